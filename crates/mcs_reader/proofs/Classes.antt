@@ -1,0 +1,101 @@
+-- What the class of a byte says of it.
+use Rattle.std.proofs.Common.{◌≡◌, ℕ, ◌==◌, Bool, true, false, cond, List, [], ◌∷◌, refl, sym, ◌∙◌, arith}
+use Rattle.std.proofs.lemmas.Bool.Decides.{nat_tests}
+use Rattle.mcs_reader.specs.Byte.{class_of, is_gap, is_name_byte}
+use Rattle.mcs_reader.specs.declared.byte.Class.{Class}
+use Rattle.mcs_reader.specs.declared.byte.Class.TheVariants.{Gap, Name, Open, Close, Period, Other}
+use Rattle.mcs_reader.specs.Pieces.{is_word}
+
+-- both halves of a test made by `if`
+pub both : (x y : Bool) → cond x y false ≡ true → (x ≡ true) × (y ≡ true)
+both true y h = (refl, h)
+both false y h = absurd (cc)
+
+-- a choice between classes, seen from the class that it gave
+last_choice : (opens closes ends : Bool) → cond opens Open (cond closes Close (cond ends Period Other)) ≡ Name → ⊥
+last_choice true closes ends h = cc
+last_choice false true ends h = cc
+last_choice false false true h = cc
+last_choice false false false h = cc
+
+first_choices : (gap name opens closes ends : Bool) → cond gap Gap (cond name Name (cond opens Open (cond closes Close (cond ends Period Other)))) ≡ Name → name ≡ true
+first_choices true name opens closes ends h = absurd (cc)
+first_choices false true opens closes ends h = refl
+first_choices false false opens closes ends h = absurd (last_choice opens closes ends h)
+
+pub class-is_name : (b : ℕ) → class_of b ≡ Name → is_name_byte b ≡ true
+unfolding class_of
+class-is_name b h = first_choices (is_gap b) (is_name_byte b) (b == 40) (b == 41) (b == 46) h
+
+pub name_is_no_gap : (b : ℕ) → is_name_byte b ≡ true → is_gap b ≡ false
+name_is_no_gap b h = grind (arith, nat_tests)
+
+pub class_of-name : (b : ℕ) → is_name_byte b ≡ true → class_of b ≡ Name
+unfolding class_of
+class_of-name b h = let no_gap = name_is_no_gap b h in rw (no_gap, h) refl
+
+-- no other class is a name's
+pub not_name : (b : ℕ) (class : Class) → class_of b ≡ class → (class ≡ Name → ⊥) → is_name_byte b ≡ false
+not_name b class is other = by_test (is_name_byte b) refl where
+  by_test : (t : Bool) → is_name_byte b ≡ t → is_name_byte b ≡ false
+  by_test true e = absurd (other (sym is ∙ class_of-name b e))
+  by_test false e = e
+
+pub first_of_word : (test : ℕ → Bool) (b : ℕ) (w : List ℕ) → is_word test (b ∷ w) ≡ true → test b ≡ true
+first_of_word test b [] h = h
+first_of_word test b (c ∷ w) h = (both (test b) (is_word test (c ∷ w)) h).0
+
+eqb_is : (b n : ℕ) → (b == n) ≡ true → b ≡ n
+eqb_is b n h = grind (arith, nat_tests)
+
+open_chosen : (gap name opens closes ends : Bool) → cond gap Gap (cond name Name (cond opens Open (cond closes Close (cond ends Period Other)))) ≡ Open → opens ≡ true
+open_chosen true name opens closes ends h = absurd (cc)
+open_chosen false true opens closes ends h = absurd (cc)
+open_chosen false false true closes ends h = refl
+open_chosen false false false true ends h = absurd (cc)
+open_chosen false false false false true h = absurd (cc)
+open_chosen false false false false false h = absurd (cc)
+
+close_chosen : (gap name opens closes ends : Bool) → cond gap Gap (cond name Name (cond opens Open (cond closes Close (cond ends Period Other)))) ≡ Close → closes ≡ true
+close_chosen true name opens closes ends h = absurd (cc)
+close_chosen false true opens closes ends h = absurd (cc)
+close_chosen false false true closes ends h = absurd (cc)
+close_chosen false false false true ends h = refl
+close_chosen false false false false true h = absurd (cc)
+close_chosen false false false false false h = absurd (cc)
+
+period_chosen : (gap name opens closes ends : Bool) → cond gap Gap (cond name Name (cond opens Open (cond closes Close (cond ends Period Other)))) ≡ Period → ends ≡ true
+period_chosen true name opens closes ends h = absurd (cc)
+period_chosen false true opens closes ends h = absurd (cc)
+period_chosen false false true closes ends h = absurd (cc)
+period_chosen false false false true ends h = absurd (cc)
+period_chosen false false false false true h = refl
+period_chosen false false false false false h = absurd (cc)
+
+pub class-is_open : (b : ℕ) → class_of b ≡ Open → b ≡ 40
+unfolding class_of
+class-is_open b h = eqb_is b 40 (open_chosen (is_gap b) (is_name_byte b) (b == 40) (b == 41) (b == 46) h)
+
+pub class-is_close : (b : ℕ) → class_of b ≡ Close → b ≡ 41
+unfolding class_of
+class-is_close b h = eqb_is b 41 (close_chosen (is_gap b) (is_name_byte b) (b == 40) (b == 41) (b == 46) h)
+
+pub class-is_period : (b : ℕ) → class_of b ≡ Period → b ≡ 46
+unfolding class_of
+class-is_period b h = eqb_is b 46 (period_chosen (is_gap b) (is_name_byte b) (b == 40) (b == 41) (b == 46) h)
+
+pub class_of-41 : class_of 41 ≡ Close
+unfolding class_of
+class_of-41 = refl
+
+pub class_of-40 : class_of 40 ≡ Open
+unfolding class_of
+class_of-40 = refl
+
+pub class_of-46 : class_of 46 ≡ Period
+unfolding class_of
+class_of-46 = refl
+
+pub class_of-43 : class_of 43 ≡ Other
+unfolding class_of
+class_of-43 = refl

@@ -1,0 +1,111 @@
+-- Short sources with their readings or their first faults: theorems about the definitions alone, so that
+-- a reader sees them mean what they should.
+use Rattle.std.proofs.Common.{◌≡◌, ℕ, ◌≤◌, List, [], ◌∷◌, length, Some, Ok, Err, codes, inr, refl, arith}
+use Rattle.mcs_reader.specs.Byte.{class_of}
+use Rattle.mcs_reader.specs.Id.{padded}
+use Rattle.mcs_reader.specs.Line.{text_of}
+use Rattle.mcs_reader.specs.OperandText.{OperandText}
+use Rattle.mcs_reader.specs.Place.{verb_at}
+use Rattle.mcs_reader.specs.ReadLines.{read_lines, read_text}
+use Rattle.mcs_reader.specs.Reading.{most_bytes, IsReading, IsFirstFault}
+use Rattle.mcs_reader.specs.Scan.{scan}
+use Rattle.mcs_reader.specs.Verb.{verb_named}
+use Rattle.mcs_reader.specs.declared.fault.McsFault.{McsFault}
+use Rattle.mcs_reader.specs.declared.fault.McsFault.TheVariants.{NoPeriod, BadVerbSubject, Unbalanced, BadByte}
+use Rattle.mcs_reader.specs.declared.statement.Statement.{Statement}
+use Rattle.mcs_reader.specs.declared.statement.Verb.TheVariants.{Hold}
+use Rattle.mcs_reader.proofs.Outcomes.{IsReading-from_read, IsStoppedSource-from_read}
+
+abbrev hold : ℕ → List ℕ → List OperandText → Statement
+hold line subject operands = record { verb = Hold; subject = Some (padded subject); operands = operands; line = line }
+
+abbrev operand : List ℕ → List (List ℕ) → OperandText
+operand name values = record { name = name; values = values }
+
+-- the machine computes, and what it computes is the reading or the first fault
+
+reads : (source : List ℕ) (statements : List Statement) → length source ≤ most_bytes → read_text (text_of source) ≡ Ok statements → IsReading source statements
+reads source statements fits read = IsReading-from_read source statements fits read
+
+fails : (source : List ℕ) (fault : McsFault) → length source ≤ most_bytes → read_text (text_of source) ≡ Err fault → IsFirstFault source fault
+fails source fault fits read = inr (IsStoppedSource-from_read source fault fits read)
+
+-- an empty source has no statement
+pub empty : IsReading [] []
+unfolding text_of read_lines
+empty = reads [] [] (omega arith) refl
+
+-- a hold in one line
+pub one_line : IsReading (codes "++HOLD(UA10001) ERROR REASON(AA20002).") (hold 1 (codes "UA10001") (operand (codes "ERROR") [] ∷ operand (codes "REASON") (codes "AA20002" ∷ []) ∷ []) ∷ [])
+unfolding text_of read_lines scan verb_at verb_named class_of
+one_line = reads (codes "++HOLD(UA10001) ERROR REASON(AA20002).") _ (omega arith) refl
+
+-- a statement over two lines, the first of which has a sequence number from column 73 on
+pub sequence_numbers : IsReading (codes "++HOLD(A) USER REASON(B)                                                00010000\r\n CLASS(C).\r\n")
+    (hold 1 (codes "A") (operand (codes "USER") [] ∷ operand (codes "REASON") (codes "B" ∷ []) ∷ operand (codes "CLASS") (codes "C" ∷ []) ∷ []) ∷ [])
+unfolding text_of read_lines scan verb_at verb_named class_of
+sequence_numbers = reads (codes "++HOLD(A) USER REASON(B)                                                00010000\r\n CLASS(C).\r\n") _ (omega arith) refl
+
+-- lines between statements, another verb's statement and what stands behind a period are skipped
+pub skipped_lines : IsReading (codes "HOLDDATA\n++PTF(X)\n) ; (\n++ hold(A) . )))\n") (hold 4 (codes "A") [] ∷ [])
+unfolding text_of read_lines scan verb_at verb_named class_of
+skipped_lines = reads (codes "HOLDDATA\n++PTF(X)\n) ; (\n++ hold(A) . )))\n") _ (omega arith) refl
+
+-- values at any depth of a list, and ++ at a line's beginning in a list
+pub nested_lists : IsReading (codes "++HOLD(A) X ((B,C D)E(\n++HOLD)).") (hold 1 (codes "A") (operand (codes "X") (codes "B" ∷ codes "C" ∷ codes "D" ∷ codes "E" ∷ codes "++HOLD" ∷ []) ∷ []) ∷ [])
+unfolding text_of read_lines scan verb_at verb_named class_of
+nested_lists = reads (codes "++HOLD(A) X ((B,C D)E(\n++HOLD)).") _ (omega arith) refl
+
+-- the text ends before the period
+pub no_period : IsFirstFault (codes "++HOLD(UA10001) ERROR REASON(AA20002)") (NoPeriod 1)
+unfolding text_of read_lines scan verb_at verb_named class_of
+no_period = fails (codes "++HOLD(UA10001) ERROR REASON(AA20002)") (NoPeriod 1) (omega arith) refl
+
+-- the next statement begins before the period
+pub no_period_before_statement : IsFirstFault (codes "\n++HOLD(A)\n++HOLD(B).") (NoPeriod 2)
+unfolding text_of read_lines scan verb_at verb_named class_of
+no_period_before_statement = fails (codes "\n++HOLD(A)\n++HOLD(B).") (NoPeriod 2) (omega arith) refl
+
+-- no list behind the verb
+pub no_subject : IsFirstFault (codes "++HOLD UA10001 ERROR REASON(AA1).") (BadVerbSubject 1)
+unfolding text_of read_lines scan verb_at verb_named class_of
+no_subject = fails (codes "++HOLD UA10001 ERROR REASON(AA1).") (BadVerbSubject 1) (omega arith) refl
+
+-- two values, or no id, behind the verb
+pub two_subjects : IsFirstFault (codes "++HOLD(A,B).") (BadVerbSubject 1)
+unfolding text_of read_lines scan verb_at verb_named class_of
+two_subjects = fails (codes "++HOLD(A,B).") (BadVerbSubject 1) (omega arith) refl
+
+pub subject_no_id : IsFirstFault (codes "++HOLD(UA100012).") (BadVerbSubject 1)
+unfolding text_of read_lines scan verb_at verb_named class_of
+subject_no_id = fails (codes "++HOLD(UA100012).") (BadVerbSubject 1) (omega arith) refl
+
+-- the text ends in a list
+pub unclosed : IsFirstFault (codes "++HOLD(UA10001 ERROR.") (Unbalanced 1)
+unfolding text_of read_lines scan verb_at verb_named class_of
+unclosed = fails (codes "++HOLD(UA10001 ERROR.") (Unbalanced 1) (omega arith) refl
+
+-- a closing parenthesis that nothing opened
+pub unopened : IsFirstFault (codes "++HOLD(A) ).") (Unbalanced 1)
+unfolding text_of read_lines scan verb_at verb_named class_of
+unopened = fails (codes "++HOLD(A) ).") (Unbalanced 1) (omega arith) refl
+
+-- a second list, which belongs to no name
+pub second_list : IsFirstFault (codes "++HOLD(A)(B).") (BadByte 1)
+unfolding text_of read_lines scan verb_at verb_named class_of
+second_list = fails (codes "++HOLD(A)(B).") (BadByte 1) (omega arith) refl
+
+-- a byte that can't stand outside lists comes before a subject that is missing
+pub byte_before_subject : IsFirstFault (codes "++HOLD ERROR ; .") (BadByte 1)
+unfolding text_of read_lines scan verb_at verb_named class_of
+byte_before_subject = fails (codes "++HOLD ERROR ; .") (BadByte 1) (omega arith) refl
+
+-- ++ within a line is no statement's beginning
+pub pluses_in_a_line : IsFirstFault (codes "++HOLD(A) ++HOLD(B).") (BadByte 1)
+unfolding text_of read_lines scan verb_at verb_named class_of
+pluses_in_a_line = fails (codes "++HOLD(A) ++HOLD(B).") (BadByte 1) (omega arith) refl
+
+-- the first statement with a fault decides
+pub first_statement : IsFirstFault (codes "++HOLD(A) X(.\n++HOLD(B) ;.") (Unbalanced 1)
+unfolding text_of read_lines scan verb_at verb_named class_of
+first_statement = fails (codes "++HOLD(A) X(.\n++HOLD(B) ;.") (Unbalanced 1) (omega arith) refl

@@ -1,0 +1,122 @@
+-- The longest run of bytes of a kind, and what stands behind it; lines of a text.
+use Rattle.std.proofs.Common.{◌≡◌, ℕ, ◌+◌, ◌==◌, ◌&&◌, not, Bool, true, false, cond, List, [], ◌∷◌, ◌++◌, refl, ◌∙◌, ap, arith}
+use Rattle.std.proofs.lemmas.Bool.Decides.{nat_tests}
+use Rattle.std.specs.List.{list_all}
+use Rattle.mcs_reader.specs.Byte.{line_end}
+use Rattle.mcs_reader.specs.Line.{line_ends, begins_statement}
+use Rattle.mcs_reader.specs.Verb.{begins_with}
+use Rattle.mcs_reader.specs.Segment.{IsLine}
+use Rattle.mcs_reader.specs.Place.{run, behind_run, after_line}
+
+pub run-append-behind_run : (test : ℕ → Bool) (text : List ℕ) → run test text ++ behind_run test text ≡ text
+run-append-behind_run test [] = refl
+run-append-behind_run test (b ∷ text) = by_test (test b) (run-append-behind_run test text) where
+  by_test : (t : Bool) → run test text ++ behind_run test text ≡ text → cond t (b ∷ run test text) [] ++ cond t (behind_run test text) (b ∷ text) ≡ b ∷ text
+  by_test true whole = ap (λ t. b ∷ t) whole
+  by_test false whole = refl
+
+pub all-run : (test : ℕ → Bool) (text : List ℕ) → list_all test (run test text) ≡ true
+all-run test [] = refl
+all-run test (b ∷ text) = by_test (test b) refl (all-run test text) where
+  by_test : (t : Bool) → test b ≡ t → list_all test (run test text) ≡ true → list_all test (cond t (b ∷ run test text) []) ≡ true
+  by_test true e all = ap (λ t. t && list_all test (run test text)) e ∙ all
+  by_test false e all = refl
+
+pub begins_with-behind_run : (test : ℕ → Bool) (text : List ℕ) → begins_with test (behind_run test text) ≡ false
+begins_with-behind_run test [] = refl
+begins_with-behind_run test (b ∷ text) = by_test (test b) refl (begins_with-behind_run test text) where
+  by_test : (t : Bool) → test b ≡ t → begins_with test (behind_run test text) ≡ false → begins_with test (cond t (behind_run test text) (b ∷ text)) ≡ false
+  by_test true e behind = behind
+  by_test false e behind = e
+
+pub and_parts : (x y : Bool) → (x && y) ≡ true → (x ≡ true) × (y ≡ true)
+and_parts true y h = (refl, h)
+and_parts false y h = absurd (cc)
+
+pub run_is : (test : ℕ → Bool) (front text : List ℕ) → list_all test front ≡ true → begins_with test text ≡ false → run test (front ++ text) ≡ front
+run_is test [] [] all ends = refl
+run_is test [] (b ∷ text) all ends = ap (λ t. cond t (b ∷ run test text) []) ends
+run_is test (b ∷ front) text all ends =
+    let parts = and_parts (test b) (list_all test front) all in
+    ap (λ t. cond t (b ∷ run test (front ++ text)) []) parts.0 ∙ ap (λ t. b ∷ t) (run_is test front text parts.1 ends)
+
+pub behind_run_is : (test : ℕ → Bool) (front text : List ℕ) → list_all test front ≡ true → begins_with test text ≡ false → behind_run test (front ++ text) ≡ text
+behind_run_is test [] [] all ends = refl
+behind_run_is test [] (b ∷ text) all ends = ap (λ t. cond t (behind_run test text) (b ∷ text)) ends
+behind_run_is test (b ∷ front) text all ends =
+    let parts = and_parts (test b) (list_all test front) all in
+    ap (λ t. cond t (behind_run test (front ++ text)) (b ∷ (front ++ text))) parts.0 ∙ behind_run_is test front text parts.1 ends
+
+pub begins_with-front : (test : ℕ → Bool) (front text : List ℕ) → begins_with test (front ++ text) ≡ false → begins_with test front ≡ false
+begins_with-front test [] text h = refl
+begins_with-front test (b ∷ front) text h = h
+
+pub begins_with-append : (test : ℕ → Bool) (front text : List ℕ) → begins_with test front ≡ false → begins_with test text ≡ false → begins_with test (front ++ text) ≡ false
+begins_with-append test [] text none ends = ends
+begins_with-append test (b ∷ front) text none ends = none
+
+-- lines
+
+abbrev pub in_line : ℕ → Bool
+in_line b = not (b == line_end)
+
+-- each line of the text ends
+abbrev pub IsLines : List ℕ → Type 0
+IsLines [] = Unit {0}
+IsLines (b ∷ []) = b ≡ line_end
+IsLines (b ∷ c ∷ text) = IsLines (c ∷ text)
+
+pub IsLines-behind : (front text : List ℕ) → IsLines (front ++ text) → IsLines text
+IsLines-behind [] text h = h
+IsLines-behind (b ∷ []) [] h = tt
+IsLines-behind (b ∷ []) (c ∷ text) h = h
+IsLines-behind (b ∷ c ∷ front) text h = IsLines-behind (c ∷ front) text h
+
+pub after_line-line : (line text : List ℕ) → IsLine line → after_line (line ++ line_end ∷ text) ≡ text
+after_line-line [] text is = refl
+after_line-line (b ∷ line) text is =
+    let parts = and_parts (in_line b) (list_all in_line line) is in
+    let no_end : (b == line_end) ≡ false = grind (arith, nat_tests) in
+    ap (λ t. cond t (line ++ line_end ∷ text) (after_line (line ++ line_end ∷ text))) no_end ∙ after_line-line line text parts.1
+
+pub IsLine-append : (a b : List ℕ) → IsLine a → IsLine b → IsLine (a ++ b)
+IsLine-append [] b one two = two
+IsLine-append (x ∷ a) b one two =
+    let parts = and_parts (in_line x) (list_all in_line a) one in
+    ap (λ t. t && list_all in_line (a ++ b)) parts.0 ∙ IsLine-append a b parts.1 two
+
+pub IsLine-of : (test : ℕ → Bool) (text : List ℕ) → ((b : ℕ) → test b ≡ true → in_line b ≡ true) → list_all test text ≡ true → IsLine text
+IsLine-of test [] imply all = refl
+IsLine-of test (b ∷ text) imply all =
+    let parts = and_parts (test b) (list_all test text) all in
+    ap (λ t. t && list_all in_line text) (imply b parts.0) ∙ IsLine-of test text imply parts.1
+
+-- the first line of a text whose lines end
+pub first_line : (b : ℕ) (text : List ℕ) → IsLines (b ∷ text) → (line : List ℕ) × (rest : List ℕ) × IsLine line × (b ∷ text ≡ line ++ line_end ∷ rest)
+first_line b [] ends = ([], [], refl, ap (λ n. n ∷ []) ends)
+first_line b (c ∷ text) ends = by_test (b == line_end) refl (first_line c text ends) where
+  by_test : (t : Bool) → (b == line_end) ≡ t → (line : List ℕ) × (rest : List ℕ) × IsLine line × (c ∷ text ≡ line ++ line_end ∷ rest)
+      → (line : List ℕ) × (rest : List ℕ) × IsLine line × (b ∷ c ∷ text ≡ line ++ line_end ∷ rest)
+  by_test true e r = ([], c ∷ text, refl, ap (λ n. n ∷ c ∷ text) (grind (arith, nat_tests)))
+  by_test false e r = (b ∷ r.0, r.1, ap (λ t. not t && list_all in_line r.0) e ∙ r.2, ap (λ t. b ∷ t) r.3)
+
+pub line_ends-append : (a b : List ℕ) → line_ends (a ++ b) ≡ line_ends a + line_ends b
+line_ends-append [] b = omega arith
+line_ends-append (x ∷ a) b = omega (arith, line_ends-append a b)
+
+pub line_ends-line : (line : List ℕ) → IsLine line → line_ends line ≡ 0
+line_ends-line [] is = refl
+line_ends-line (b ∷ line) is =
+    let parts = and_parts (in_line b) (list_all in_line line) is in
+    let not_end : (b == line_end) ≡ false = grind (arith, nat_tests) in
+    ap (λ t. cond t 1 0 + line_ends line) not_end ∙ omega (arith, line_ends-line line parts.1)
+
+-- where a line ends, it begins a statement only by its own bytes
+pub begins_statement-line : (line text : List ℕ) → begins_statement (line ++ line_end ∷ text) ≡ begins_statement line
+begins_statement-line [] [] = refl
+begins_statement-line [] (b ∷ text) = refl
+begins_statement-line (b ∷ []) text = by_test (b == 43) where
+  by_test : (t : Bool) → cond t false false ≡ false
+  by_test true = refl
+  by_test false = refl
+begins_statement-line (b ∷ c ∷ line) text = refl

@@ -1,0 +1,43 @@
+use Rattle.std.proofs.Common.{ℕ, ◌<◌, List, false, Some, length, sym, ◌∙◌, ap, subst}
+use Rattle.mcs_reader.specs.Scan.{scan}
+use Rattle.mcs_reader.specs.Line.{begins_statement}
+use Rattle.mcs_reader.proofs.ScanPlaces.{IsBehind-trans, outside_gap, outside_line, outside_statement, outside_last}
+use Rattle.mcs_reader.proofs.operand.skip_gap.Goals as goal
+use Rattle.mcs_reader.proofs.operand.skip_gap.Goals.{then-not-next_line-via-then-not-next_line, then-not-next_line-via-else-not-next_line+then-begins_statement}
+
+pub returns-then-not-next_line-clause-err : goal.returns-then-not-next_line-clause-err
+returns-then-not-next_line-clause-err c = λ named.
+    c.gap.invariant.found named
+    ∙ elim c.then-not-next_line.branch [
+      | then-not-next_line-via-then-not-next_line w ↦ outside_last c.args.line named c.gap.cursor.text c.in_default.ensures w.if-not-next_line.ensures.end
+      | then-not-next_line-via-else-not-next_line+then-begins_statement w ↦
+          let moved = w.if-not-next_line.ensures in
+          let P : List ℕ → Type 0 = λ t. 0 < length t in
+          outside_statement c.args.line named c.gap.cursor.text c.in_default.ensures (subst P moved.text moved.more)
+          (ap begins_statement (sym moved.text) ∙ sym w.if-begins_statement.ensures)
+    ]
+
+pub gap-preserved-in_default : goal.gap-preserved-in_default
+gap-preserved-in_default c =
+    let loop = c.gap in
+    let moved = c.if-not-next_line.ensures in
+    let P : List ℕ → Type 0 = λ t. 0 < length t in
+    record {
+      found = λ named.
+          loop.invariant.found named
+          ∙ outside_line c.args.line named loop.cursor.text c.in_default.ensures (subst P moved.text moved.more)
+          (ap begins_statement (sym moved.text) ∙ sym c.if-begins_statement.ensures)
+          ∙ ap (scan c.args.line 0 named false) (sym moved.text);
+      behind = IsBehind-trans c.next_line.new.self loop.cursor c.args.cursor.now moved.behind loop.invariant.behind;
+    }
+
+pub gap-preserved : goal.gap-preserved
+gap-preserved c =
+    let loop = c.gap in
+    record {
+      found = λ named.
+          loop.invariant.found named
+          ∙ outside_gap c.args.line named loop.cursor.text (ap (λ k. Some k) (sym c.in-Gap.is) ∙ c.in-Some.ensures)
+          ∙ ap (scan c.args.line 0 named false) (sym c.advance.ensures.text);
+      behind = IsBehind-trans c.advance.new.self loop.cursor c.args.cursor.now c.advance.ensures.behind loop.invariant.behind;
+    }

@@ -1,0 +1,17 @@
+pub mod Byte
+pub mod Bytes
+pub mod Id
+pub mod Line
+pub mod Lists
+pub mod McsFault
+pub mod Operand
+pub mod OperandText
+pub mod Pieces
+pub mod Place
+pub mod ReadLines
+pub mod Reading
+pub mod Scan
+pub mod Segment
+pub mod StatementText
+pub mod Stop
+pub mod Verb

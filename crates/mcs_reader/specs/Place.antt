@@ -1,0 +1,49 @@
+-- No part of what is promised: the place where the reader stands in the text, of which private contracts
+-- speak.
+use Rattle.std.specs.Prelude.{◌≡◌, ℕ, ◌+◌, ◌≤◌, ◌==◌, Bool, List, [], ◌∷◌, length, drop, Option, Some, None, option_map, if◌then◌else◌}
+use Rattle.mcs_reader.specs.Byte.{class_of, is_blank, is_name_byte, line_end}
+use Rattle.mcs_reader.specs.declared.byte.Class.{Class}
+use Rattle.mcs_reader.specs.Line.{line_ends, begins_statement}
+use Rattle.mcs_reader.specs.Verb.{verb_named}
+use Rattle.mcs_reader.specs.declared.statement.Verb.{Verb}
+
+-- the text from a place on, and the line that the place lies on
+pub record Place : Type 0 where
+  pub text : List ℕ
+  pub line : ℕ
+
+-- one place stands behind another, or is it: the lines passed and the line ends ahead keep their sum
+pub record IsBehind (now before : Place) : Type 0 where
+  pub text : length now.text ≤ length before.text
+  pub lines : now.line + line_ends now.text ≡ before.line + line_ends before.text
+  pub passed : before.line ≤ now.line
+
+-- the class of the first byte, within its line
+abbrev pub class_at : List ℕ → Option Class
+class_at [] = None
+class_at (b ∷ text) = if b == line_end then None else Some (class_of b)
+
+-- the longest run of bytes of a kind, and what stands behind it
+abbrev pub run : (ℕ → Bool) → List ℕ → List ℕ
+run test [] = []
+run test (b ∷ text) = if test b then b ∷ run test text else []
+
+abbrev pub behind_run : (ℕ → Bool) → List ℕ → List ℕ
+behind_run test [] = []
+behind_run test (b ∷ text) = if test b then behind_run test text else b ∷ text
+
+-- what stands behind the first line
+abbrev pub after_line : List ℕ → List ℕ
+after_line [] = []
+after_line (b ∷ text) = if b == line_end then text else after_line text
+
+-- behind ++: the name, and what stands behind it
+abbrev pub name_behind : List ℕ → List ℕ
+name_behind text = run is_name_byte (behind_run is_blank text)
+
+abbrev pub text_behind : List ℕ → List ℕ
+text_behind text = behind_run is_name_byte (behind_run is_blank text)
+
+-- the verb that a line's head names, and what stands behind the head
+unfoldable pub verb_at : List ℕ → Option (Verb × List ℕ)
+verb_at text = if begins_statement text then option_map (λ verb. (verb, text_behind (drop 2 text))) (verb_named (name_behind (drop 2 text))) else None

@@ -1,0 +1,35 @@
+-- No part of what is promised: a plain machine that reads a text line by line: a statement where a line's head names a verb, and
+-- else the line is passed over. The first argument bounds how many of these steps it takes.
+use Rattle.std.specs.Prelude.{ℕ, zero, suc, ◌+◌, ◌-◌, true, false, List, [], ◌∷◌, ◌++◌, length, Option, Some, None, Result, Ok, Err}
+use Rattle.mcs_reader.specs.Line.{line_ends}
+use Rattle.mcs_reader.specs.declared.fault.McsFault.{McsFault}
+use Rattle.mcs_reader.specs.declared.statement.Verb.{Verb}
+use Rattle.mcs_reader.specs.declared.statement.Statement.{Statement}
+use Rattle.mcs_reader.specs.Scan.{scan, Stated, stated}
+use Rattle.mcs_reader.specs.Place.{after_line, verb_at}
+
+abbrev pub Read : Type 0
+Read = Result (List Statement) McsFault
+
+abbrev pub with_statements : List Statement → Read → Read
+with_statements front (Ok statements) = Ok (front ++ statements)
+with_statements front (Err fault) = Err fault
+
+-- what comes behind a statement
+abbrev pub go_on : (ℕ → List ℕ → Read) → ℕ → List ℕ → Stated → Read
+go_on next line text (Err fault) = Err fault
+go_on next line text (Ok (statement, rest)) = with_statements (statement ∷ []) (next (line + (line_ends text - line_ends (after_line rest))) (after_line rest))
+
+-- one step, at a line's beginning
+abbrev pub at_verb : (ℕ → List ℕ → Read) → ℕ → List ℕ → Option (Verb × List ℕ) → Read
+at_verb next line text None = next (line + 1) (after_line text)
+at_verb next line text (Some (verb, behind)) = go_on next line text (stated verb line (scan line zero true false behind))
+
+unfoldable pub read_lines : ℕ → ℕ → List ℕ → Read
+read_lines zero line text = Ok []
+read_lines (suc n) line [] = Ok []
+read_lines (suc n) line (b ∷ text) = at_verb (read_lines n) line (b ∷ text) (verb_at (b ∷ text))
+
+-- what the machine makes of a whole text
+abbrev pub read_text : List ℕ → Read
+read_text text = read_lines (length text) 1 text

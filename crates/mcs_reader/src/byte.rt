@@ -1,0 +1,60 @@
+//! What each byte may do in a statement.
+ghost use Rattle.std.specs.Prelude.{◌≡◌};
+ghost use Rattle.mcs_reader.specs.Byte.{class_of as class_of_byte, is_blank, is_name_byte, belongs_to_value};
+ghost use Rattle.mcs_reader.specs.Pieces.{is_value_byte};
+
+/// What a byte does in a statement (SMP/E Reference, "MCS coding rules").
+#[derive(Clone, Copy, Debug, PartialEq, Eq)]
+pub(crate) enum Class {
+    /// A blank, a tab, a comma or a line's end: it stands between names, values and lists.
+    Gap,
+    /// A letter, a digit, `@`, `#` or `$`.
+    Name,
+    /// `(`
+    Open,
+    /// `)`
+    Close,
+    /// `.`
+    Period,
+    /// Any other byte. Only a list has them, in its values.
+    Other,
+}
+
+#[inline]
+#[tactic(auto, unfolding(crate::specs::Byte::class_of))]
+pub(crate) fn class_of(b: u8) -> Class
+    ensures { result ≡ class_of_byte b }
+{
+    match b {
+        b' ' | b'\t' | b',' | b'\n' => Class::Gap,
+        b'A'..=b'Z' | b'a'..=b'z' | b'0'..=b'9' | b'@' | b'#' | b'$' => Class::Name,
+        b'(' => Class::Open,
+        b')' => Class::Close,
+        b'.' => Class::Period,
+        _ => Class::Other,
+    }
+}
+
+#[inline]
+pub(crate) fn is_blank_byte(b: u8) -> bool
+    ensures { result ≡ is_blank b }
+{
+    matches!(b, b' ' | b'\t')
+}
+
+#[inline]
+pub(crate) fn stands_in_name(b: u8) -> bool
+    ensures { result ≡ is_name_byte b }
+{
+    matches!(b, b'A'..=b'Z' | b'a'..=b'z' | b'0'..=b'9' | b'@' | b'#' | b'$')
+}
+
+#[inline]
+pub(crate) fn stands_in_value(b: u8) -> bool
+    ensures { result ≡ is_value_byte b }
+{
+    match class_of(b) {
+        Class::Gap | Class::Open | Class::Close => false,
+        Class::Name | Class::Period | Class::Other => true,
+    }
+}

@@ -1,0 +1,226 @@
+//! A place in the text of a source: the joined columns of its lines.
+ghost use Rattle.std.specs.Prelude.{◌≡◌, ◌+◌, ◌^◌, ◌<◌, ◌≤◌, [], ◌∷◌, None, Some, IsSome, MatchOption, length, drop};
+ghost use Rattle.std.specs.Bool.{OnTrue, OnFalse};
+ghost use Rattle.std.specs.List.{prefix_len};
+ghost use Rattle.mcs_reader.specs.Byte.{is_blank, is_name_byte, line_end};
+ghost use Rattle.mcs_reader.specs.Line.{begins_statement as begins_statement_at, line_ends, text_of};
+ghost use Rattle.mcs_reader.specs.Pieces.{is_value_byte};
+ghost use Rattle.mcs_reader.specs.Place.{IsBehind, after_line, behind_run, class_at, run, verb_at};
+ghost use Rattle.mcs_reader.specs.Verb.{verb_named};
+
+use crate::Verb;
+use crate::byte::{Class, class_of, is_blank_byte, stands_in_name, stands_in_value};
+use crate::line::{columns, split_line};
+use std::marker::Model;
+
+/// A contract sees the text from the place on, in which a line end stands behind each line's columns,
+/// and the line's number. The first line is line 1; before it stands a line end of line 0.
+#[derive(Drop)]
+pub(crate) struct Cursor<'a> {
+    /// What is left of the line's columns.
+    card: &'a [u8],
+    /// The lines behind, as they stand in the source.
+    behind: &'a [u8],
+    line: u32,
+}
+
+impl<'a> Model for Cursor<'a> {
+    ghost use Rattle.std.specs.Prelude.{◌∷◌, ◌++◌};
+    ghost use Rattle.mcs_reader.specs.Byte.{line_end};
+    ghost use Rattle.mcs_reader.specs.Line.{text_of};
+    ghost use Rattle.mcs_reader.specs.Place.{Place};
+    ghost use Rattle.mcs_reader.specs.Segment.{IsLine};
+
+    ghost Value = { Place };
+
+    ghost view = { λ c. record { text = c.card.now ++ line_end ∷ text_of c.behind.now; line = c.line } };
+
+    ghost invariant = { λ c. IsLine c.card.now };
+}
+
+impl<'a> Cursor<'a> {
+    /// Before the first line.
+    pub(crate) fn new(source: &'a [u8]) -> Self
+        ensures text { result.text ≡ line_end ∷ text_of source.now }
+        ensures line { result.line ≡ 0 }
+    {
+        Cursor {
+            card: &[],
+            behind: source,
+            line: 0,
+        }
+    }
+
+    /// The number of the line, counted from 1.
+    pub(crate) fn line(&self) -> u32
+        ensures { result ≡ self.now.line }
+    {
+        self.line
+    }
+
+    /// Goes to the beginning of the next line, if there is one.
+    #[inline]
+    pub(crate) fn next_line(&mut self) -> bool
+        requires room { self.old.line + line_ends self.old.text < 2 ^ 32 }
+        ensures text { OnTrue result (self.new.text ≡ after_line self.old.text) }
+        ensures line { OnTrue result (self.new.line ≡ self.old.line + 1) }
+        ensures more { OnTrue result (0 < length self.new.text) }
+        ensures shorter { OnTrue result (length self.new.text < length self.old.text) }
+        ensures end { OnFalse result (after_line self.old.text ≡ []) }
+        ensures behind { IsBehind self.new self.old }
+    {
+        if self.behind.is_empty() {
+            return false;
+        }
+        let (line, behind) = split_line(self.behind);
+        self.card = columns(line);
+        self.behind = behind;
+        self.line += 1;
+        true
+    }
+
+    /// The class of the next byte, or `None` at the line's end.
+    #[inline]
+    pub(crate) fn class(&self) -> Option<Class>
+        ensures { result ≡ class_at self.now.text }
+    {
+        match self.card.first() {
+            Some(b) => Some(class_of(*b)),
+            None => None,
+        }
+    }
+
+    /// Passes the next byte.
+    #[inline]
+    pub(crate) fn advance(&mut self)
+        requires { IsSome (class_at self.old.text) }
+        ensures text { self.new.text ≡ drop 1 self.old.text }
+        ensures behind { IsBehind self.new self.old }
+    {
+        let (_, rest) = self.card.split_at(1);
+        self.card = rest;
+    }
+
+    /// Passes the name bytes from here on, and gives them.
+    #[inline]
+    pub(crate) fn name(&mut self) -> &'a [u8]
+        ensures name { result.now ≡ run is_name_byte self.old.text }
+        ensures text { self.new.text ≡ behind_run is_name_byte self.old.text }
+        ensures behind { IsBehind self.new self.old }
+    {
+        let (name, rest) = split_name(self.card);
+        self.card = rest;
+        name
+    }
+
+    /// Passes the bytes of a value from here on, and gives them.
+    #[inline]
+    pub(crate) fn value(&mut self) -> &'a [u8]
+        ensures value { result.now ≡ run is_value_byte self.old.text }
+        ensures text { self.new.text ≡ behind_run is_value_byte self.old.text }
+        ensures behind { IsBehind self.new self.old }
+    {
+        let (value, rest) = split_value(self.card);
+        self.card = rest;
+        value
+    }
+
+    /// Whether `++` stands here.
+    #[inline]
+    pub(crate) fn begins_statement(&self) -> bool
+        ensures { result ≡ begins_statement_at self.now.text }
+    {
+        has_pluses(self.card)
+    }
+
+    /// Passes `++`, blanks and a verb that is known, at a line's beginning.
+    #[inline]
+    pub(crate) fn verb(&mut self) -> Option<Verb>
+        ensures verb { MatchOption result (verb_at self.old.text ≡ None) (λ verb. verb_at self.old.text ≡ Some (verb, self.new.text)) }
+        ensures unmoved { MatchOption result (self.new ≡ self.old) (λ _. self.new.line ≡ self.old.line) }
+        ensures behind { IsBehind self.new self.old }
+    {
+        match split_verb(self.card) {
+            Some((verb, rest)) => {
+                self.card = rest;
+                Some(verb)
+            }
+            None => None,
+        }
+    }
+}
+
+/// `++`, blanks and a verb that is known: the verb, and what stands behind it.
+#[inline]
+#[tactic(auto, unfolding(crate::specs::Place::verb_at))]
+fn split_verb(card: &[u8]) -> Option<(Verb, &[u8])>
+    ensures { MatchOption result (verb_at card.now ≡ None) (λ found. verb_at card.now ≡ Some (found.0, found.1.now)) }
+{
+    if !has_pluses(card) {
+        return None;
+    }
+    let (_, head) = card.split_at(2);
+    let (name, rest) = split_name(behind_blanks(head));
+    match Verb::named(name) {
+        Some(verb) => Some((verb, rest)),
+        None => None,
+    }
+}
+
+#[inline]
+fn has_pluses(card: &[u8]) -> bool
+    ensures { result ≡ begins_statement_at card.now }
+{
+    card.len() >= 2 && card[0] == b'+' && card[1] == b'+'
+}
+
+#[inline]
+#[tactic(auto, using(crate::proofs::PlaceFacts::take_run, crate::proofs::PlaceFacts::drop_run))]
+fn behind_blanks(card: &[u8]) -> &[u8]
+    ensures { result.now ≡ behind_run is_blank card.now }
+{
+    let (_, rest) = card.split_at(blank_len(card));
+    rest
+}
+
+#[inline]
+#[tactic(auto, using(crate::proofs::PlaceFacts::take_run, crate::proofs::PlaceFacts::drop_run))]
+fn split_name(card: &[u8]) -> (&[u8], &[u8])
+    ensures name { result.0.now ≡ run is_name_byte card.now }
+    ensures rest { result.1.now ≡ behind_run is_name_byte card.now }
+{
+    card.split_at(name_len(card))
+}
+
+#[inline]
+#[tactic(auto, using(crate::proofs::PlaceFacts::take_run, crate::proofs::PlaceFacts::drop_run))]
+fn split_value(card: &[u8]) -> (&[u8], &[u8])
+    ensures value { result.0.now ≡ run is_value_byte card.now }
+    ensures rest { result.1.now ≡ behind_run is_value_byte card.now }
+{
+    card.split_at(value_len(card))
+}
+
+#[inline]
+fn blank_len(card: &[u8]) -> usize
+    ensures run { result ≡ prefix_len is_blank card.now }
+    ensures within { result ≤ length card.now }
+{
+    card.iter().take_while(|b| is_blank_byte(**b)).count()
+}
+
+#[inline]
+fn name_len(card: &[u8]) -> usize
+    ensures run { result ≡ prefix_len is_name_byte card.now }
+    ensures within { result ≤ length card.now }
+{
+    card.iter().take_while(|b| stands_in_name(**b)).count()
+}
+
+#[inline]
+fn value_len(card: &[u8]) -> usize
+    ensures run { result ≡ prefix_len is_value_byte card.now }
+    ensures within { result ≤ length card.now }
+{
+    card.iter().take_while(|b| stands_in_value(**b)).count()
+}

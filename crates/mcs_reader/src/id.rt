@@ -1,0 +1,151 @@
+//! `Id`.
+ghost use Rattle.std.specs.Prelude.{◌≡◌, ◌==◌, ◌↔◌, not, IsAscii, IsTrue, IsSome, IfSome};
+ghost use Rattle.std.specs.List.{list_all, prefix_len};
+ghost use Rattle.mcs_reader.specs.Id.{id_of, is_id_byte, is_id_text, padded, text_of};
+
+use std::marker::Model;
+use std::{fmt, str};
+
+/// The name of a SYSMOD, an FMID, a reason, a class, a zone or a caller: 1 to 7 of the characters
+/// `A` to `Z`, `0` to `9`, `@`, `#` and `$`.
+///
+/// Ids are ordered by the ASCII codes of their texts, padded with blanks to seven characters.
+/// A contract sees an id as these seven bytes.
+#[derive(Clone, Copy, Debug, PartialEq, Eq, PartialOrd, Ord, Hash)]
+pub struct Id {
+    bytes: [u8; 7],
+}
+
+impl Model for Id {
+    ghost use Rattle.std.specs.Prelude.{List, ℕ};
+    ghost use Rattle.mcs_reader.specs.Id.{IsId};
+
+    ghost Value = { List ℕ };
+
+    ghost view = { λ id. id.bytes };
+
+    ghost invariant = { λ id. IsId id.bytes };
+
+    ghost inverse = { λ bytes. record { bytes = bytes } };
+}
+
+impl Id {
+    /// The id with this text, or `None` where the bytes are no id's text.
+    pub fn new(bytes: &[u8]) -> Option<Self>
+        ensures value { result ≡ id_of bytes.now }
+        ensures allowed { IsSome result ↔ IsTrue (is_id_text bytes.now) }
+        ensures text { IfSome result (λ id. text_of id ≡ bytes.now) }
+    {
+        if !is_text(bytes) {
+            return None;
+        }
+        let mut padded = [b' '; 7];
+        padded[..bytes.len()].copy_from_slice(bytes);
+        Some(Id { bytes: padded })
+    }
+
+    /// The text, which is 1 to 7 characters long and has no blanks.
+    #[tactic(auto, using(crate::proofs::IdFacts::text_begins, crate::proofs::IdFacts::text_fits, crate::proofs::IdFacts::ascii_id_text))]
+    pub fn text(&self) -> &str
+        ensures value { result.now ≡ text_of self.now }
+        ensures allowed { IsTrue (is_id_text result.now) }
+        ensures whole { self.now ≡ padded result.now }
+    {
+        let (text, _) = self.bytes.split_at(text_len(&self.bytes));
+        ascii_str(text)
+    }
+}
+
+impl fmt::Display for Id {
+    ghost use Rattle.std.specs.Prelude.{Some};
+    ghost use Rattle.std.specs.Fmt.{styled_text};
+    ghost use Rattle.mcs_reader.specs.Id.{text_of};
+
+    ghost output = { λ id. Some (text_of id) };
+
+    ghost styled_output = { λ id spec. Some (styled_text spec (text_of id)) };
+
+    fn fmt<W: fmt::Write>(&self, f: &mut fmt::Formatter<W>) -> fmt::Result {
+        f.pad(self.text())
+    }
+}
+
+// Whether an id may have this text.
+#[tactic(auto, using(crate::proofs::IdFacts::id_text_in_range, crate::proofs::IdFacts::id_text_out_of_range))]
+fn is_text(bytes: &[u8]) -> bool
+    ensures { result ≡ is_id_text bytes.now }
+{
+    matches!(bytes.len(), 1..=7) && are_text_bytes(bytes)
+}
+
+fn are_text_bytes(bytes: &[u8]) -> bool
+    ensures { result ≡ list_all is_id_byte bytes.now }
+{
+    bytes.iter().all(|b| is_text_byte(*b))
+}
+
+fn is_text_byte(b: u8) -> bool
+    ensures { result ≡ is_id_byte b }
+{
+    matches!(b, b'A'..=b'Z' | b'0'..=b'9' | b'@' | b'#' | b'$')
+}
+
+// The length of the text: where the blanks begin.
+fn text_len(bytes: &[u8]) -> usize
+    ensures { result ≡ prefix_len (λ b. not (b == 32)) bytes.now }
+{
+    bytes.iter().take_while(|b| **b != b' ').count()
+}
+
+fn ascii_str(bytes: &[u8]) -> &str
+    requires { IsAscii bytes.now }
+    ensures { result.now ≡ bytes.now }
+{
+    match str::from_utf8(bytes) {
+        Ok(text) => text,
+        Err(_) => unreachable!(),
+    }
+}
+
+#[cfg(test)]
+mod tests {
+    use super::*;
+    use std::test::Fail;
+
+    #[test]
+    fn ids_have_one_to_seven_allowed_characters(rt: HostRuntime) {
+        let accepted: [&[u8]; 6] = [b"A", b"UA10001", b"HBB7790", b"@#$", b"0", b"Z9"];
+        for text in accepted {
+            assert!(rt; Id::new(text).is_some());
+        }
+        let refused: [&[u8]; 8] = [
+            b"",
+            b"UA100012",
+            b"ua10001",
+            b"UA 1",
+            b"UA1 ",
+            b"A.B",
+            b"*",
+            b"\xC3\x84",
+        ];
+        for text in refused {
+            assert!(rt; Id::new(text).is_none());
+        }
+    }
+
+    #[test]
+    fn an_id_keeps_its_text_and_its_order(rt: HostRuntime) -> Result<(), Fail> {
+        let short = Id::new(b"UA1").ok_or("an id")?;
+        let long = Id::new(b"UA10001").ok_or("an id")?;
+        assert_eq!(rt; short.text(), "UA1");
+        assert_eq!(rt; long.text(), "UA10001");
+        assert!(rt; short < long);
+        assert!(rt; long == Id::new(b"UA10001").ok_or("an id")?);
+        let mut ids = vec![in rt.alloc(); long, short]?;
+        ids.sort()?;
+        assert!(rt; ids.as_slice() == [short, long].as_slice());
+        let line = format!(in rt.alloc(); "{short:<8}|{long}")?;
+        assert_eq!(rt; line.as_str(), "UA1     |UA10001");
+        Ok(())
+    }
+}

@@ -1,0 +1,98 @@
+//! The lists of a statement: values between matching parentheses, at any depth.
+ghost use Rattle.std.specs.Prelude.{◌≡◌, ◌≢◌, ◌+◌, ◌^◌, ◌<◌, ◌≤◌, [], ◌∷◌, false, Err, Some, None, IfOk, IfErr, MatchOption, length, option_map};
+ghost use Rattle.mcs_reader.specs.Line.{line_ends};
+ghost use Rattle.mcs_reader.specs.Place.{IsBehind};
+ghost use Rattle.mcs_reader.specs.Scan.{on_found, scan, with_list, with_values};
+ghost use Rattle.mcs_reader.specs.Lists.{GivesValue, HasSoleValue};
+ghost use Rattle.mcs_reader.specs.declared.fault.McsFault.TheVariants.{Memory};
+
+use crate::byte::Class;
+use crate::cursor::Cursor;
+use crate::{McsFault, Values};
+use std::alloc::Global;
+
+/// The next value of the list, or `None` behind the parenthesis that closes it. `depth` counts the
+/// parentheses that are open.
+pub(crate) fn next_value<'a>(
+    cursor: &mut Cursor<'a>,
+    depth: &mut usize,
+    line: u32,
+) -> Result<Option<&'a [u8]>, McsFault>
+    requires open { 0 < depth.old }
+    requires depth_room { depth.old + length cursor.old.text < 2 ^ 64 }
+    requires line_room { cursor.old.line + line_ends cursor.old.text < 2 ^ 32 }
+
+    ensures ok { IfOk result (λ next. MatchOption next
+        (scan line depth.old false false cursor.old.text ≡ on_found (with_list []) (scan line 0 false false cursor.new.text))
+        (λ value. GivesValue line depth.old cursor.old.text value.now depth.new cursor.new.text)) }
+    ensures err { IfErr result (λ fault. scan line depth.old false false cursor.old.text ≡ Err fault) }
+    ensures behind { IsBehind cursor.new cursor.old }
+{
+    'bytes: loop {
+        let Some(class) = cursor.class() else {
+            if cursor.next_line() {
+                continue;
+            }
+            return Err(McsFault::Unbalanced(line));
+        };
+        match class {
+            Class::Gap => cursor.advance(),
+            Class::Open => {
+                cursor.advance();
+                *depth += 1;
+            }
+            Class::Close => {
+                cursor.advance();
+                *depth -= 1;
+                if *depth == 0 {
+                    return Ok(None);
+                }
+            }
+            _ => return Ok(Some(cursor.value())),
+        }
+    }
+}
+
+/// The values of the list whose opening parenthesis was passed, up to the one that closes it.
+pub(crate) fn values<'a>(
+    alloc: Global,
+    cursor: &mut Cursor<'a>,
+    line: u32,
+) -> Result<Values<'a>, McsFault>
+    requires depth_room { length cursor.old.text < 2 ^ 63 }
+    requires line_room { cursor.old.line + line_ends cursor.old.text < 2 ^ 32 }
+
+    ensures ok { IfOk result (λ values. scan line 1 false false cursor.old.text ≡ on_found (with_list values) (scan line 0 false false cursor.new.text)) }
+    ensures err { IfErr result (λ fault. fault ≢ Memory → scan line 1 false false cursor.old.text ≡ Err fault) }
+    ensures behind { IsBehind cursor.new cursor.old }
+{
+    let mut values = Vec::new(alloc);
+    let mut depth = 1;
+    'values: while let Some(value) = next_value(cursor, &mut depth, line)? {
+        values.push(value)?;
+    }
+    Ok(Values::from_vec(values))
+}
+
+/// The value of the list whose opening parenthesis was passed, where it has just one.
+pub(crate) fn sole_value<'a>(
+    cursor: &mut Cursor<'a>,
+    line: u32,
+) -> Result<Option<&'a [u8]>, McsFault>
+    requires depth_room { length cursor.old.text < 2 ^ 63 }
+    requires line_room { cursor.old.line + line_ends cursor.old.text < 2 ^ 32 }
+
+    ensures ok { IfOk result (λ value. HasSoleValue line cursor.old.text (option_map (λ v. v.now) value) cursor.new.text) }
+    ensures err { IfErr result (λ fault. scan line 1 false false cursor.old.text ≡ Err fault) }
+    ensures behind { IsBehind cursor.new cursor.old }
+{
+    let mut depth = 1;
+    let Some(first) = next_value(cursor, &mut depth, line)? else {
+        return Ok(None);
+    };
+    let mut alone = true;
+    'others: while let Some(_) = next_value(cursor, &mut depth, line)? {
+        alone = false;
+    }
+    Ok(alone.then_some(first))
+}

@@ -1,0 +1,131 @@
+//! The operands of a statement: names, each with the list that may follow it.
+ghost use Rattle.std.specs.Prelude.{◌≡◌, ◌≢◌, ◌+◌, ◌^◌, ◌<◌, [], ◌∷◌, true, false, Bool, Ok, Err, Some, None, IfOk, IfErr, OnOk, length, option_map};
+ghost use Rattle.mcs_reader.specs.Id.{id_of};
+ghost use Rattle.mcs_reader.specs.Line.{line_ends};
+ghost use Rattle.mcs_reader.specs.Lists.{HasSubject};
+ghost use Rattle.mcs_reader.specs.Operand.{operand_text};
+ghost use Rattle.mcs_reader.specs.Place.{IsBehind, class_at};
+ghost use Rattle.mcs_reader.specs.Scan.{on_found, scan, with_list_behind, with_operands};
+ghost use Rattle.mcs_reader.specs.declared.byte.Class.TheVariants.{Gap, Name};
+ghost use Rattle.mcs_reader.specs.declared.fault.McsFault.TheVariants.{Memory};
+
+use crate::byte::Class;
+use crate::cursor::Cursor;
+use crate::list::{sole_value, values};
+use crate::{Id, McsFault, Operand, Operands, Values};
+use std::alloc::Global;
+
+/// Goes to the next byte that is no gap, and gives its class.
+fn skip_gap(cursor: &mut Cursor<'_>, line: u32) -> Result<Class, McsFault>
+    requires line_room { cursor.old.line + line_ends cursor.old.text < 2 ^ 32 }
+
+    ensures class { IfOk result (λ class. class_at cursor.new.text ≡ Some class) }
+    ensures no_gap { IfOk result (λ class. class ≢ Gap) }
+    ensures ok { OnOk result ((named : Bool) → scan line 0 named false cursor.old.text ≡ scan line 0 named false cursor.new.text) }
+    ensures err { IfErr result (λ fault. (named : Bool) → scan line 0 named false cursor.old.text ≡ Err fault) }
+    ensures behind { IsBehind cursor.new cursor.old }
+{
+    'gap: loop {
+        let Some(class) = cursor.class() else {
+            if !cursor.next_line() || cursor.begins_statement() {
+                return Err(McsFault::NoPeriod(line));
+            }
+            continue;
+        };
+        match class {
+            Class::Gap => cursor.advance(),
+            _ => return Ok(class),
+        }
+    }
+}
+
+/// The list that follows a name, gaps aside, if one does.
+fn list_behind<'a>(
+    alloc: Global,
+    cursor: &mut Cursor<'a>,
+    line: u32,
+) -> Result<Option<Values<'a>>, McsFault>
+    requires depth_room { length cursor.old.text < 2 ^ 63 }
+    requires line_room { cursor.old.line + line_ends cursor.old.text < 2 ^ 32 }
+
+    ensures ok { IfOk result (λ list. scan line 0 true false cursor.old.text ≡ with_list_behind list (scan line 0 false false cursor.new.text)) }
+    ensures err { IfErr result (λ fault. fault ≢ Memory → scan line 0 true false cursor.old.text ≡ Err fault) }
+    ensures behind { IsBehind cursor.new cursor.old }
+{
+    match skip_gap(cursor, line)? {
+        Class::Open => {
+            cursor.advance();
+            Ok(Some(values(alloc, cursor, line)?))
+        }
+        _ => Ok(None),
+    }
+}
+
+/// The subject that the list behind a verb gives, where the list has just one value, an id.
+pub(crate) fn subject(cursor: &mut Cursor<'_>, line: u32) -> Result<Option<Id>, McsFault>
+    requires depth_room { length cursor.old.text < 2 ^ 63 }
+    requires line_room { cursor.old.line + line_ends cursor.old.text < 2 ^ 32 }
+
+    ensures ok { IfOk result (λ subject. HasSubject line cursor.old.text subject cursor.new.text) }
+    ensures err { IfErr result (λ fault. scan line 0 true false cursor.old.text ≡ Err fault) }
+    ensures behind { IsBehind cursor.new cursor.old }
+{
+    match skip_gap(cursor, line)? {
+        Class::Open => {
+            cursor.advance();
+            match sole_value(cursor, line)? {
+                Some(value) => Ok(Id::new(value)),
+                None => Ok(None),
+            }
+        }
+        _ => Ok(None),
+    }
+}
+
+/// The operand whose name begins here.
+fn operand<'a>(alloc: Global, cursor: &mut Cursor<'a>, line: u32) -> Result<Operand<'a>, McsFault>
+    requires name { class_at cursor.old.text ≡ Some Name }
+    requires depth_room { length cursor.old.text < 2 ^ 63 }
+    requires line_room { cursor.old.line + line_ends cursor.old.text < 2 ^ 32 }
+
+    ensures ok { IfOk result (λ operand. scan line 0 false false cursor.old.text
+        ≡ on_found (with_operands (operand_text operand ∷ [])) (scan line 0 false false cursor.new.text)) }
+    ensures shorter { OnOk result (length cursor.new.text < length cursor.old.text) }
+    ensures err { IfErr result (λ fault. fault ≢ Memory → scan line 0 false false cursor.old.text ≡ Err fault) }
+    ensures behind { IsBehind cursor.new cursor.old }
+{
+    let name = cursor.name();
+    let values = match list_behind(alloc, cursor, line)? {
+        Some(values) => values,
+        None => Values::from_vec(Vec::new(alloc)),
+    };
+    Ok(Operand { name, values })
+}
+
+/// The operands up to the period, which is passed.
+pub(crate) fn operands<'a>(
+    alloc: Global,
+    cursor: &mut Cursor<'a>,
+    line: u32,
+) -> Result<Operands<'a>, McsFault>
+    requires depth_room { length cursor.old.text < 2 ^ 63 }
+    requires line_room { cursor.old.line + line_ends cursor.old.text < 2 ^ 32 }
+
+    ensures ok { IfOk result (λ operands. scan line 0 false false cursor.old.text
+        ≡ Ok (record { values = None; operands = operands; rest = cursor.new.text })) }
+    ensures err { IfErr result (λ fault. fault ≢ Memory → scan line 0 false false cursor.old.text ≡ Err fault) }
+    ensures behind { IsBehind cursor.new cursor.old }
+{
+    let mut operands = Vec::new(alloc);
+    'names: loop {
+        match skip_gap(cursor, line)? {
+            Class::Name => operands.push(operand(alloc, cursor, line)?)?,
+            Class::Period => {
+                cursor.advance();
+                return Ok(Operands::from_vec(operands));
+            }
+            Class::Close => return Err(McsFault::Unbalanced(line)),
+            _ => return Err(McsFault::BadByte(line)),
+        }
+    }
+}

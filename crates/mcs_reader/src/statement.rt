@@ -1,0 +1,122 @@
+ghost use Rattle.std.specs.Prelude.{◌≡◌};
+ghost use Rattle.mcs_reader.specs.Bytes.{bytes_of_each};
+
+use crate::Id;
+use std::marker::Model;
+
+/// What a statement does: the name behind its `++`.
+#[derive(Clone, Copy, Debug, PartialEq, Eq, PartialOrd, Ord, Hash)]
+pub enum Verb {
+    /// `++HOLD` puts a SYSMOD in exception status.
+    Hold,
+}
+
+impl Verb {
+    ghost use Rattle.mcs_reader.specs.Verb.{verb_named};
+
+    /// The verb of this name, without regard to ASCII case.
+    #[tactic(auto, unfolding(crate::specs::Verb::verb_named))]
+    pub(crate) fn named(name: &[u8]) -> Option<Verb>
+        ensures { result ≡ verb_named name.now }
+    {
+        if name.eq_ignore_ascii_case(b"HOLD") {
+            Some(Verb::Hold)
+        } else {
+            None
+        }
+    }
+}
+
+/// The values of one list, in order. A contract sees the list of their bytes.
+#[derive(Debug, Drop)]
+pub struct Values<'a> {
+    items: Vec<&'a [u8]>,
+}
+
+impl<'a> Model for Values<'a> {
+    ghost use Rattle.std.specs.Prelude.{ℕ, List};
+    ghost use Rattle.mcs_reader.specs.Bytes.{bytes_of_each};
+
+    ghost Value = { List (List ℕ) };
+
+    ghost view = { λ v. bytes_of_each v.items.items };
+}
+
+impl<'a> Values<'a> {
+    pub fn from_vec(items: Vec<&'a [u8]>) -> Self
+        ensures { result ≡ bytes_of_each items.entry.items }
+    {
+        Values { items }
+    }
+
+    pub fn as_slice(&self) -> &[&'a [u8]]
+        ensures { bytes_of_each result.now ≡ self.now }
+    {
+        self.items.as_slice()
+    }
+
+    pub fn into_vec(self) -> Vec<&'a [u8]>
+        ensures { bytes_of_each result.items ≡ self.entry }
+    {
+        self.items
+    }
+}
+
+/// One operand of a statement. Both parts are slices of the source.
+#[derive(Debug, Drop)]
+pub struct Operand<'a> {
+    /// The operand's name as it was written; names are compared without regard to ASCII case.
+    pub name: &'a [u8],
+    /// The values of the operand's list, none where it has no list.
+    pub values: Values<'a>,
+}
+
+/// The operands of one statement, in order. A contract sees each as its name and its values.
+#[derive(Debug, Drop)]
+pub struct Operands<'a> {
+    items: Vec<Operand<'a>>,
+}
+
+impl<'a> Model for Operands<'a> {
+    ghost use Rattle.std.specs.Prelude.{List};
+    ghost use Rattle.mcs_reader.specs.OperandText.{OperandText};
+
+    ghost Value = { List OperandText };
+
+    ghost use Rattle.mcs_reader.specs.Operand.{operand_texts};
+
+    ghost view = { λ v. operand_texts v.items.items };
+}
+
+impl<'a> Operands<'a> {
+    ghost use Rattle.mcs_reader.specs.Operand.{operand_texts};
+
+    pub fn from_vec(items: Vec<Operand<'a>>) -> Self
+        ensures { result ≡ operand_texts items.entry.items }
+    {
+        Operands { items }
+    }
+
+    pub fn as_slice(&self) -> &[Operand<'a>]
+        ensures { operand_texts result.now ≡ self.now }
+    {
+        self.items.as_slice()
+    }
+
+    pub fn into_vec(self) -> Vec<Operand<'a>>
+        ensures { operand_texts result.items ≡ self.entry }
+    {
+        self.items
+    }
+}
+
+/// One statement of a source (SMP/E Reference, "MCS coding rules").
+#[derive(Debug, Drop)]
+pub struct Statement<'a> {
+    pub verb: Verb,
+    /// The one value of the list behind the verb.
+    pub subject: Option<Id>,
+    pub operands: Operands<'a>,
+    /// The line, counted from 1, on which the statement begins.
+    pub line: u32,
+}

@@ -1,0 +1,169 @@
+use crate::{McsFault, Operand, Statement, Verb, read};
+use std::process::Abort;
+use std::test::Fail;
+
+/// A statement in one line: its line, its subject, and each operand with its values.
+fn shown<R: AllocGlobal>(rt: &R, statement: &Statement) -> Result<String, Fail> {
+    let mut text = format!(in rt.alloc(); "{}", statement.line)?;
+    if let Some(id) = statement.subject {
+        text.push_str(" ")?;
+        text.push_str(id.text())?;
+    }
+    for operand in statement.operands.as_slice() {
+        text.push_str(" ")?;
+        push_operand(&mut text, operand)?;
+    }
+    Ok(text)
+}
+
+fn push_operand(text: &mut String, operand: &Operand) -> Result<(), Fail> {
+    push_bytes(text, operand.name)?;
+    for value in operand.values.as_slice() {
+        text.push_str("=")?;
+        push_bytes(text, value)?;
+    }
+    Ok(())
+}
+
+fn push_bytes(text: &mut String, bytes: &[u8]) -> Result<(), Fail> {
+    for b in bytes {
+        text.push(char::from(*b))?;
+    }
+    Ok(())
+}
+
+fn assert_reads<R: Abort + AllocGlobal>(
+    rt: &R,
+    source: &[u8],
+    expected: &[&str],
+) -> Result<(), Fail> {
+    let statements = read(rt.alloc(), source)?;
+    assert_eq!(rt; statements.len(), expected.len());
+    for (statement, line) in statements.iter().zip(expected) {
+        assert_eq!(rt; statement.verb, Verb::Hold);
+        let text = shown(rt, statement)?;
+        assert_eq!(rt; text.as_str(), *line);
+    }
+    Ok(())
+}
+
+fn assert_refused(rt: &impl Abort, found: Result<Vec<Statement>, McsFault>, fault: McsFault) {
+    match found {
+        Ok(_) => assert!(rt; false, "read, and not refused"),
+        Err(other) => assert!(rt; other == fault, "{other}"),
+    }
+}
+
+#[test]
+fn statements_are_read(rt: HostRuntime) -> Result<(), Fail> {
+    assert_reads(&rt, b"", &[])?;
+    let numbered =
+        b"++HOLD(UA10001) ERROR FMID(HBB7790)                                     00010000\n REASON(AA20002) CLASS(PE) DATE(12045).                                 00020000\n";
+    assert_reads(
+        &rt,
+        numbered,
+        &["1 UA10001 ERROR FMID=HBB7790 REASON=AA20002 CLASS=PE DATE=12045"],
+    )?;
+    // Verbs are compared without regard to case, and so far HOLD alone is read.
+    assert_reads(
+        &rt,
+        b"between\r\n++PTF(UA1)\r\n( ;\r\n++ hold\t(A)\r\n,USER . ( ) ++\r\n++HOLD(B).\r\n",
+        &["4 A USER", "6 B"],
+    )?;
+    // A list in a list, a list over lines, and ++ in a list.
+    assert_reads(
+        &rt,
+        b"++HOLD(A) X((B,C D)E) Y (\n++HOLD(\n)) Z.",
+        &["1 A X=B=C=D=E Y=++HOLD Z"],
+    )?;
+    // So far a comment is no comment: in a list it belongs to a value.
+    assert_reads(&rt, b"++HOLD(A) X(/*B*/).", &["1 A X=/*B*/"])
+}
+
+#[test]
+fn the_first_fault_is_told(rt: HostRuntime) -> Result<(), Fail> {
+    let table: [(&[u8], McsFault); 16] = [
+        (
+            b"++HOLD(UA10001) ERROR REASON(AA20002)",
+            McsFault::NoPeriod(1),
+        ),
+        (b"\n++HOLD(A) ERROR\n++HOLD(B).", McsFault::NoPeriod(2)),
+        (
+            b"++HOLD UA10001 ERROR REASON(AA1).",
+            McsFault::BadVerbSubject(1),
+        ),
+        (b"++HOLD.", McsFault::BadVerbSubject(1)),
+        (b"++HOLD().", McsFault::BadVerbSubject(1)),
+        (b"++HOLD(A,B).", McsFault::BadVerbSubject(1)),
+        (b"++HOLD(a).", McsFault::BadVerbSubject(1)),
+        (b"++HOLD(UA100012).", McsFault::BadVerbSubject(1)),
+        (b"++HOLD(UA10001 ERROR.", McsFault::Unbalanced(1)),
+        (b"++HOLD(A)).", McsFault::Unbalanced(1)),
+        (b"++HOLD(A) X(()\n.", McsFault::Unbalanced(1)),
+        (
+            b"++HOLD(UA10001) ERROR REASON(AA20002) ; .",
+            McsFault::BadByte(1),
+        ),
+        (b"++HOLD(A)(B).", McsFault::BadByte(1)),
+        (b"++HOLD(A) /* ERROR", McsFault::BadByte(1)),
+        (b"++HOLD(A) ++HOLD(B).", McsFault::BadByte(1)),
+        // The subject's fault comes after the others, and the first statement's before the second's.
+        (b"++HOLD() X ;.\n++HOLD(A)", McsFault::BadByte(1)),
+    ];
+    for (source, fault) in table {
+        assert_refused(&rt, read(rt.alloc(), source), fault);
+    }
+    Ok(())
+}
+
+#[test]
+fn a_source_has_at_most_64_mebibytes(rt: HostRuntime) -> Result<(), Fail> {
+    let source = vec![in rt.alloc(); b' '; crate::MOST_BYTES + 1]?;
+    assert_refused(&rt, read(rt.alloc(), &source), McsFault::TooLong);
+    let (most, _) = source.as_slice().split_at(crate::MOST_BYTES);
+    let statements = read(rt.alloc(), most)?;
+    assert_eq!(rt; statements.len(), 0);
+    Ok(())
+}
+
+/// `++HOLD(A) X`, a unit many times, and a period.
+fn repeated<R: AllocGlobal>(rt: &R, unit: &[u8], times: u32, end: &[u8]) -> Result<Vec<u8>, Fail> {
+    let mut source = b"++HOLD(A) X".to_vec(rt.alloc())?;
+    for _ in 0..times {
+        source.extend_from_slice(unit)?;
+    }
+    source.extend_from_slice(end)?;
+    Ok(source)
+}
+
+#[test]
+fn depth_and_length_cost_no_stack(rt: HostRuntime) -> Result<(), Fail> {
+    let deep = repeated(&rt, b"\n(", 20_000, b"B")?;
+    assert_refused(&rt, read(rt.alloc(), &deep), McsFault::Unbalanced(1));
+    let mut closed = repeated(&rt, b"\n(", 20_000, b"B")?;
+    for _ in 0..20_000 {
+        closed.extend_from_slice(b"\n)")?;
+    }
+    closed.extend_from_slice(b".")?;
+    assert_reads(&rt, &closed, &["1 A X=B"])?;
+    let many = repeated(&rt, b" ()\nX", 20_000, b".")?;
+    let statements = read(rt.alloc(), &many)?;
+    assert_eq!(rt; statements.len(), 1);
+    Ok(())
+}
+
+#[test]
+fn faults_have_numbers_and_lines(rt: HostRuntime) {
+    let table = [
+        (McsFault::NoPeriod(7), 1, Some(7)),
+        (McsFault::BadVerbSubject(7), 2, Some(7)),
+        (McsFault::Unbalanced(7), 3, Some(7)),
+        (McsFault::BadByte(7), 4, Some(7)),
+        (McsFault::TooLong, 5, None),
+        (McsFault::Memory, 6, None),
+    ];
+    for (fault, number, line) in table {
+        assert_eq!(rt; fault.number(), number);
+        assert_eq!(rt; fault.line(), line);
+    }
+}
