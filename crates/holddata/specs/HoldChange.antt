@@ -1,0 +1,26 @@
+-- What a statement does to the holds, and what a list of such changes leaves.
+use Rattle.std.specs.Prelude.{Bool, List, Option, Some, None, find, reverse, option_and_then}
+use Rattle.std.specs.BTreeMap.{is_at}
+use Rattle.holddata.specs.declared.key.HoldKey.{HoldKey}
+use Rattle.holddata.specs.declared.hold.Hold.{Hold}
+use Rattle.holddata.specs.declared.hold.HoldChange.{HoldChange}
+use Rattle.holddata.specs.declared.hold.HoldChange.TheVariants.{Put, Release}
+use Rattle.holddata.specs.HoldKey.{key_cmp}
+
+-- the key that a change names
+abbrev pub key_of : HoldChange → HoldKey
+key_of (Put hold) = hold.key
+key_of (Release key) = key
+
+-- the hold that a change puts, if it is a put
+abbrev pub hold_put : HoldChange → Option Hold
+hold_put (Put hold) = Some hold
+hold_put (Release key) = None
+
+-- whether a change names the key
+abbrev pub names : HoldKey → HoldChange → Bool
+names key change = is_at (key_cmp (key_of change)) key
+
+-- the hold that a list of changes leaves under a key: what the last change that names the key puts
+abbrev pub hold_left : List HoldChange → HoldKey → Option Hold
+hold_left changes key = option_and_then hold_put (find (names key) (reverse changes))

@@ -1,0 +1,31 @@
+-- What a hold is known by: the SYSMOD, the kind of hold and the reason.
+use Rattle.std.specs.Prelude.{ℕ, List, codes}
+use Rattle.std.specs.declared.cmp.Ordering.{Ordering}
+use Rattle.std.specs.Ordering.{nat_cmp, ordering_then}
+use Rattle.std.specs.Cmp.Lexicographic.{slice_cmp}
+use Rattle.holddata.specs.declared.key.Kind.{Kind}
+use Rattle.holddata.specs.declared.key.Kind.TheVariants.{ErrorHold, SystemHold, UserHold, FixcatHold}
+use Rattle.holddata.specs.declared.key.HoldKey.{HoldKey}
+
+-- a kind's name in print
+abbrev pub kind_name : Kind → List ℕ
+kind_name ErrorHold = codes "ERROR"
+kind_name SystemHold = codes "SYSTEM"
+kind_name UserHold = codes "USER"
+kind_name FixcatHold = codes "FIXCAT"
+
+-- a kind's place in the order of kinds
+abbrev pub kind_place : Kind → ℕ
+kind_place ErrorHold = 0
+kind_place SystemHold = 1
+kind_place UserHold = 2
+kind_place FixcatHold = 3
+
+abbrev pub kind_cmp : Kind → Kind → Ordering
+kind_cmp a b = nat_cmp (kind_place a) (kind_place b)
+
+-- by SYSMOD, then by kind, then by reason; ids by their bytes
+abbrev pub key_cmp : HoldKey → HoldKey → Ordering
+key_cmp a b =
+    ordering_then (slice_cmp nat_cmp a.sysmod b.sysmod)
+    (ordering_then (kind_cmp a.kind b.kind) (slice_cmp nat_cmp a.reason b.reason))

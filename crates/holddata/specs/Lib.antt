@@ -1,0 +1,12 @@
+pub mod Date
+pub mod Categories
+pub mod HoldKey
+pub mod HoldFault
+pub mod Operands
+pub mod Given
+pub mod HoldChange
+pub mod Statements
+pub mod HoldBook
+pub mod Table
+pub mod BookText
+mod Examples

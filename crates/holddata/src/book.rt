@@ -1,0 +1,171 @@
+//! The hold book.
+ghost use Rattle.std.specs.Prelude.{◌≡◌, ◌++◌, [], ◌∷◌, List, IfOk, OnOk, OnErr, IsOk, if◌then◌else◌};
+ghost use Rattle.std.specs.Option.{option_copied};
+ghost use Rattle.std.specs.Map.Iter.{ShowsInOrder, deref};
+ghost use Rattle.holddata.specs.declared.key.HoldKey.{HoldKey};
+ghost use Rattle.holddata.specs.declared.hold.Hold.{Hold};
+ghost use Rattle.holddata.specs.declared.hold.HoldChange.{HoldChange};
+ghost use Rattle.std.specs.BTreeMap.{get, is_at, IsOrdered};
+ghost use Rattle.holddata.specs.HoldKey.{key_cmp};
+ghost use Rattle.holddata.specs.HoldChange.{hold_put, names};
+ghost use Rattle.holddata.specs.HoldBook.{hold_under, IsInKeyOrder, IsKeyed, IsLeft, book_of};
+ghost use Rattle.holddata.specs.BookText.{book_text};
+
+use crate::print::{push_heading, push_hold};
+use crate::table::push_count;
+use crate::{Hold, HoldChange, HoldKey};
+use std::alloc::{AllocError, Global};
+use std::collections::BTreeMap;
+use std::collections::btree_map::Values;
+use std::marker::Model;
+
+/// The holds that are in force, one for a key. A contract sees them in the order of their keys.
+#[derive(Drop)]
+pub struct HoldBook {
+    alloc: Global,
+    holds: BTreeMap<HoldKey, Hold>,
+}
+
+impl Model for HoldBook {
+    ghost use Rattle.std.specs.Prelude.{List};
+    ghost use Rattle.std.specs.BTreeMap.{IsOrdered};
+    ghost use Rattle.std.specs.Map.{values_of};
+    ghost use Rattle.holddata.specs.declared.hold.Hold.{Hold};
+    ghost use Rattle.holddata.specs.HoldKey.{key_cmp};
+    ghost use Rattle.holddata.specs.HoldBook.{IsKeyed};
+
+    ghost Value = { List Hold };
+
+    ghost view = { λ book. values_of book.holds.entries };
+
+    ghost invariant = { λ book. record {
+      ordered : IsOrdered key_cmp book.holds;
+      keyed : IsKeyed book.holds.entries;
+    } };
+}
+
+impl HoldBook {
+    /// A book without holds. It takes no memory.
+    pub fn new(alloc: Global) -> Self
+        ensures { result ≡ [] }
+    {
+        HoldBook {
+            alloc,
+            holds: BTreeMap::new(alloc),
+        }
+    }
+
+    /// The hold under a key. It takes no memory.
+    pub fn get(&self, key: &HoldKey) -> Option<&Hold>
+        ensures { option_copied result ≡ hold_under self.now key.now }
+    {
+        self.holds.get(key)
+    }
+
+    /// The holds in the order of their keys. It takes no memory.
+    pub fn iter(&self) -> Values<'_, HoldKey, Hold>
+        ensures holds { result ≡ self.now }
+        ensures runs { ShowsInOrder (deref {X = Hold}) }
+        ensures in_key_order { IsInKeyOrder self.now }
+    {
+        self.holds.values()
+    }
+
+    /// The same book once more.
+    pub fn copy(&self) -> Result<Self, AllocError>
+        ensures { IfOk result (λ copy. copy ≡ self.now) }
+    {
+        Ok(HoldBook {
+            alloc: self.alloc,
+            holds: copied(&self.holds)?,
+        })
+    }
+
+    /// Makes one change. A put replaces the hold of its key whole; a release takes its key away,
+    /// whatever the FMID, and does nothing where there is no such hold. Where memory runs out, which
+    /// a release never meets, the book is as it was.
+    pub fn apply(&mut self, change: HoldChange) -> Result<(), AllocError>
+        ensures holds { OnOk result ((key : HoldKey) →
+            hold_under self.new key ≡ (if names key change then hold_put change else hold_under self.old key)) }
+        ensures in_key_order { IsInKeyOrder self.new }
+        ensures book { OnOk result ((changes : List HoldChange) →
+            self.old ≡ book_of changes → self.new ≡ book_of (changes ++ change ∷ [])) }
+        ensures err { OnErr result (self.new ≡ self.old) }
+        ensures release { hold_put change ≡ None → IsOk result }
+    {
+        changed(&mut self.holds, change)
+    }
+
+    /// The book in print: a heading, a row for each hold in the order of the keys, and their count.
+    /// Each line ends with LF. A field that is absent is `-`.
+    pub fn text(&self) -> Result<Vec<u8>, AllocError>
+        ensures { IfOk result (λ text. text.items ≡ book_text self.now) }
+    {
+        let mut text = Vec::new(self.alloc);
+        let mut joined = Vec::new(self.alloc);
+        push_heading(&mut text)?;
+        for hold in self.holds.values() {
+            push_hold(&mut text, &mut joined, hold)?;
+        }
+        push_count(&mut text, self.holds.len())?;
+        Ok(text)
+    }
+}
+
+/// The book that the changes leave: under each key what the last change that names the key puts, and
+/// nothing where that is a release or where none names it.
+pub fn book_left(alloc: Global, changes: Vec<HoldChange>) -> Result<HoldBook, AllocError>
+    ensures book { IfOk result (λ book. book ≡ book_of changes.items) }
+    ensures left { IsLeft changes.items (book_of changes.items) }
+    ensures only { (book : List Hold) → IsLeft changes.items book → book ≡ book_of changes.items }
+{
+    let mut book = HoldBook::new(alloc);
+    for change in changes {
+        book.apply(change)?;
+    }
+    Ok(book)
+}
+
+fn copied(holds: &BTreeMap<HoldKey, Hold>) -> Result<BTreeMap<HoldKey, Hold>, AllocError>
+    ensures { IfOk result (λ copy. copy.entries ≡ holds.now.entries) }
+{
+    holds.clone()
+}
+
+// Makes one change in the map.
+fn changed(holds: &mut BTreeMap<HoldKey, Hold>, change: HoldChange) -> Result<(), AllocError>
+    ensures updates { OnOk result ((key : HoldKey) →
+        get key_cmp holds.new key ≡ (if names key change then hold_put change else get key_cmp holds.old key)) }
+    ensures ordered { IsOrdered key_cmp holds.new }
+    ensures keyed { IsKeyed holds.old.entries → IsKeyed holds.new.entries }
+    ensures err { OnErr result (holds.new.entries ≡ holds.old.entries) }
+    ensures release { hold_put change ≡ None → IsOk result }
+{
+    match change {
+        HoldChange::Put(hold) => put(holds, hold),
+        HoldChange::Release(key) => {
+            release(holds, key);
+            Ok(())
+        }
+    }
+}
+
+fn put(holds: &mut BTreeMap<HoldKey, Hold>, hold: Hold) -> Result<(), AllocError>
+    ensures updates { OnOk result ((key : HoldKey) →
+        get key_cmp holds.new key ≡ (if is_at (key_cmp hold.key) key then Some hold else get key_cmp holds.old key)) }
+    ensures ordered { IsOrdered key_cmp holds.new }
+    ensures keyed { IsKeyed holds.old.entries → IsKeyed holds.new.entries }
+    ensures err { OnErr result (holds.new.entries ≡ holds.old.entries) }
+{
+    holds.insert(hold.key, hold)?;
+    Ok(())
+}
+
+fn release(holds: &mut BTreeMap<HoldKey, Hold>, key: HoldKey)
+    ensures updates { (q : HoldKey) →
+        get key_cmp holds.new q ≡ (if is_at (key_cmp key) q then None else get key_cmp holds.old q) }
+    ensures ordered { IsOrdered key_cmp holds.new }
+    ensures keyed { IsKeyed holds.old.entries → IsKeyed holds.new.entries }
+{
+    holds.remove(&key);
+}

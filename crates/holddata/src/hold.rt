@@ -1,0 +1,59 @@
+//! A hold, and what a statement does to the holds.
+ghost use Rattle.std.specs.Prelude.{◌≡◌, IfOk};
+
+use crate::{Categories, Date, HoldKey};
+use mcs_reader::Id;
+use std::alloc::AllocError;
+
+/// A hold: a SYSMOD is in exception status (IBM z/OS SMP/E Reference, `++HOLD`).
+///
+/// The types of the fields keep what the standard asks of a date and of categories.
+#[derive(Debug, Drop)]
+pub struct Hold {
+    pub key: HoldKey,
+    /// The function to which the held SYSMOD belongs.
+    pub fmid: Option<Id>,
+    /// What the hold means for those who install the SYSMOD, as `PE` or `HIPER`.
+    pub class: Option<Id>,
+    /// The SYSMOD that resolves a FIXCAT hold.
+    pub resolver: Option<Id>,
+    /// When the hold was put.
+    pub dated: Option<Date>,
+    /// The categories of the fix that the SYSMOD lacks.
+    pub categories: Categories,
+}
+
+impl Hold {
+    /// The same hold once more.
+    pub fn copy(&self) -> Result<Self, AllocError>
+        ensures { IfOk result (λ copy. copy ≡ self.now) }
+    {
+        Ok(Hold {
+            key: self.key,
+            fmid: self.fmid,
+            class: self.class,
+            resolver: self.resolver,
+            dated: self.dated,
+            categories: self.categories.copy()?,
+        })
+    }
+}
+
+impl Clone for Hold {
+    ghost use Rattle.std.specs.Prelude.{◌≡◌};
+
+    ghost is_clone = { λ hold copy. copy ≡ hold };
+
+    fn clone(&self) -> Result<Self, AllocError> {
+        self.copy()
+    }
+}
+
+/// What one statement does to the holds.
+#[derive(Debug, Drop)]
+pub enum HoldChange {
+    /// The hold is there from now on, in place of one with the same key.
+    Put(Hold),
+    /// No hold has this key from now on.
+    Release(HoldKey),
+}

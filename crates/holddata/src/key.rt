@@ -1,0 +1,42 @@
+//! What a hold is known by.
+ghost use Rattle.std.specs.Prelude.{◌≡◌};
+ghost use Rattle.holddata.specs.HoldKey.{kind_name};
+
+use mcs_reader::Id;
+
+/// Why a SYSMOD is held (IBM z/OS SMP/E Reference, `++HOLD`). The kinds are ordered as they stand.
+#[derive(Clone, Copy, Debug, PartialEq, Eq, PartialOrd, Ord, Hash)]
+pub enum Kind {
+    /// An APAR reports an error in the SYSMOD.
+    ErrorHold,
+    /// Something has to be done outside SMP/E before the SYSMOD is installed.
+    SystemHold,
+    /// The installation asked for the hold.
+    UserHold,
+    /// The SYSMOD lacks a fix of a category.
+    FixcatHold,
+}
+
+impl Kind {
+    /// The kind's name in print: `ERROR`, `SYSTEM`, `USER` or `FIXCAT`.
+    pub fn name(self) -> &'static str
+        ensures { result.now ≡ kind_name self }
+    {
+        match self {
+            Kind::ErrorHold => "ERROR",
+            Kind::SystemHold => "SYSTEM",
+            Kind::UserHold => "USER",
+            Kind::FixcatHold => "FIXCAT",
+        }
+    }
+}
+
+/// What a hold is known by. Keys are ordered by SYSMOD, then by kind, then by reason.
+#[derive(Clone, Copy, Debug, PartialEq, Eq, PartialOrd, Ord, Hash)]
+pub struct HoldKey {
+    /// The SYSMOD that is held.
+    pub sysmod: Id,
+    pub kind: Kind,
+    /// Why: of an ERROR or FIXCAT hold the APAR, of the others a word.
+    pub reason: Id,
+}

@@ -1,0 +1,115 @@
+//! The hold book in print.
+ghost use Rattle.std.specs.Prelude.{◌≡◌, ◌++◌, ℕ, Option, OnOk};
+ghost use Rattle.std.specs.List.{join_with_byte};
+ghost use Rattle.std.specs.Option.{option_copied, option_map};
+ghost use Rattle.mcs_reader.specs.Bytes.{bytes_of_each};
+ghost use Rattle.holddata.specs.declared.hold.Hold.{Hold};
+ghost use Rattle.holddata.specs.Categories.{texts_of};
+ghost use Rattle.holddata.specs.HoldKey.{kind_name};
+ghost use Rattle.holddata.specs.Table.{row_of, heading_of};
+ghost use Rattle.holddata.specs.BookText.{hold_columns, hold_fields, id_field, date_field, category_field};
+ghost use Rattle.holddata.specs.Date.{date_digits};
+
+use crate::table::push_row;
+use crate::{Date, Hold, Kind};
+use mcs_reader::Id;
+use std::alloc::AllocError;
+
+// How wide each column is. The last field isn't padded.
+const WIDTHS: [u8; 8] = [9, 8, 9, 9, 9, 7, 9, 0];
+
+// What stands for an absent field.
+const ABSENT: &[u8] = b"-";
+
+/// Puts the heading of the hold book behind a text.
+pub(crate) fn push_heading(text: &mut Vec<u8>) -> Result<(), AllocError>
+    ensures { OnOk result (text.new.items ≡ text.old.items ++ heading_of hold_columns) }
+{
+    push_row(
+        text,
+        &WIDTHS,
+        &[
+            b"SYSMOD",
+            b"KIND",
+            b"REASON",
+            b"FMID",
+            b"CLASS",
+            b"DATE",
+            b"RESOLVER",
+            b"CATEGORY",
+        ],
+    )
+}
+
+/// Puts the row of a hold behind a text. `joined` is room for its categories.
+pub(crate) fn push_hold(
+    text: &mut Vec<u8>,
+    joined: &mut Vec<u8>,
+    hold: &Hold,
+) -> Result<(), AllocError>
+    ensures { OnOk result (text.new.items ≡ text.old.items ++ row_of hold_columns (hold_fields hold.now)) }
+{
+    join_categories(joined, hold.categories.as_slice())?;
+    let digits = hold.dated.map(Date::digits);
+    let fields = fields_of(hold, date_field(&digits), joined.as_slice());
+    push_row(text, &WIDTHS, &fields)
+}
+
+// What stands in the columns.
+fn fields_of<'a>(hold: &'a Hold, date: &'a [u8], categories: &'a [u8]) -> [&'a [u8]; 8]
+    ensures { date.now ≡ date_field hold.now.dated → categories.now ≡ category_field hold.now.categories →
+        bytes_of_each result ≡ hold_fields hold.now }
+{
+    [
+        hold.key.sysmod.text().as_bytes(),
+        kind_field(&hold.key.kind),
+        hold.key.reason.text().as_bytes(),
+        id_field(&hold.fmid),
+        id_field(&hold.class),
+        date,
+        id_field(&hold.resolver),
+        categories,
+    ]
+}
+
+fn kind_field(kind: &Kind) -> &[u8]
+    ensures { result.now ≡ kind_name kind.now }
+{
+    kind.name().as_bytes()
+}
+
+fn id_field(id: &Option<Id>) -> &[u8]
+    ensures { result.now ≡ id_field id.now }
+{
+    match id {
+        Some(id) => id.text().as_bytes(),
+        None => ABSENT,
+    }
+}
+
+fn date_field(digits: &Option<[u8; 5]>) -> &[u8]
+    ensures { (date : Option ℕ) → digits.now ≡ option_map date_digits date → result.now ≡ date_field date }
+{
+    match digits {
+        Some(digits) => digits,
+        None => ABSENT,
+    }
+}
+
+// Leaves the categories with commas between in `joined`, or what stands for none.
+#[tactic(auto, using(crate::proofs::TextLemmas::join_is))]
+fn join_categories(joined: &mut Vec<u8>, categories: &[Vec<u8>]) -> Result<(), AllocError>
+    ensures { OnOk result (joined.new.items ≡ category_field (texts_of categories.now)) }
+{
+    joined.clear();
+    let Some((first, rest)) = categories.split_first() else {
+        joined.extend_from_slice(ABSENT)?;
+        return Ok(());
+    };
+    joined.extend_from_slice(first)?;
+    for category in rest {
+        joined.push(b',')?;
+        joined.extend_from_slice(category)?;
+    }
+    Ok(())
+}

@@ -1,0 +1,127 @@
+//! From statements to hold changes.
+ghost use Rattle.std.specs.Prelude.{◌≡◌, ◌≢◌, ◌↔◌, ℕ, true, false, List, [], ◌∷◌, codes, IfOk, OnOk, IfErr, OnErr, IsSome};
+ghost use Rattle.mcs_reader.specs.Operand.{operand_texts};
+ghost use Rattle.holddata.specs.Operands.{kinds_of, the_kind, values_of, is_bad_id, is_bad_date, the_id, the_date};
+ghost use Rattle.holddata.specs.Given.{Shows};
+ghost use Rattle.holddata.specs.Statements.{key_named, hold_of, kind_faults, key_faults, faults_of, first_of, first_fault, changes_of};
+ghost use Rattle.mcs_reader.specs.declared.statement.Statement.{Statement};
+ghost use Rattle.mcs_reader.specs.declared.statement.Verb.TheVariants as verb;
+ghost use Rattle.holddata.specs.declared.fault.HoldFault.TheVariants.{NoReason, BadId, BadDate, Memory};
+
+use crate::operands::{Given, kinds_given, values_given};
+use crate::{Categories, Date, Hold, HoldChange, HoldFault, HoldKey, Kind};
+use mcs_reader::{Id, Operand, Statement, Verb};
+use std::alloc::Global;
+
+/// What the statements do to the holds, in order (IBM z/OS SMP/E Reference, `++HOLD`).
+///
+/// The first statement with a fault decides, and in it the fault with the lowest number. Want of
+/// memory is [`HoldFault::Memory`].
+#[tactic(auto, using(crate::proofs::StatementLemmas::first_of_longer))]
+pub fn changes(alloc: Global, statements: &[Statement]) -> Result<Vec<HoldChange>, HoldFault>
+    ensures changes { IfOk result (λ changes. changes.items ≡ changes_of statements.now) }
+    ensures no_fault { OnOk result (first_fault statements.now ≡ None) }
+    ensures fault { IfErr result (λ fault. fault ≢ Memory → first_fault statements.now ≡ Some fault) }
+
+    // No change is lost: a statement without a fault names a key.
+    ensures named { (statement : Statement) → key_faults statement ≡ [] → IsSome (key_named statement) }
+{
+    let mut changes = Vec::with_capacity(alloc, statements.len())?;
+    for statement in statements {
+        match statement.verb {
+            Verb::Hold => changes.push(HoldChange::Put(hold_by(alloc, statement)?))?,
+        }
+    }
+    Ok(changes)
+}
+
+// The hold that a `++HOLD` statement puts.
+#[tactic(auto, using(crate::proofs::StatementLemmas::first_of_longer))]
+fn hold_by(alloc: Global, statement: &Statement) -> Result<Hold, HoldFault>
+    requires { statement.now.verb ≡ verb.Hold }
+    ensures hold { IfOk result (λ hold. hold_of statement.now ≡ Some hold) }
+    ensures no_fault { OnOk result (faults_of statement.now ≡ []) }
+    ensures fault { IfErr result (λ fault. first_of (faults_of statement.now) ≡ Some fault) }
+{
+    let key = key_by(statement)?;
+    let line = statement.line;
+    let operands = statement.operands.as_slice();
+    let fmid = optional_id(line, values_given(operands, b"FMID"))?;
+    let class = optional_id(line, values_given(operands, b"CLASS"))?;
+    let dated = optional_date(line, values_given(operands, b"DATE"))?;
+    Ok(Hold {
+        key,
+        fmid,
+        class,
+        resolver: None,
+        dated,
+        categories: Categories::new(alloc),
+    })
+}
+
+// The key that a statement names.
+fn key_by(statement: &Statement) -> Result<HoldKey, HoldFault>
+    ensures key { IfOk result (λ key. key_named statement.now ≡ Some key) }
+    ensures no_fault { OnOk result (key_faults statement.now ≡ []) }
+    ensures fault { IfErr result (λ fault. first_of (key_faults statement.now) ≡ Some fault) }
+{
+    let line = statement.line;
+    let operands = statement.operands.as_slice();
+    let kind = kind_in(line, operands)?;
+    let reason = reason_in(line, operands)?;
+    let sysmod = statement.subject.ok_or(HoldFault::BadId(line))?;
+    Ok(HoldKey {
+        sysmod,
+        kind,
+        reason,
+    })
+}
+
+// The kind that operands name.
+fn kind_in(line: u32, operands: &[Operand]) -> Result<Kind, HoldFault>
+    ensures kind { IfOk result (λ kind. the_kind (kinds_of (operand_texts operands.now)) ≡ Some kind) }
+    ensures no_fault { OnOk result (kind_faults line (kinds_of (operand_texts operands.now)) ≡ []) }
+    ensures fault { IfErr result (λ fault. kind_faults line (kinds_of (operand_texts operands.now)) ≡ fault ∷ []) }
+{
+    match kinds_given(operands) {
+        Given::Nothing => Err(HoldFault::NoKind(line)),
+        Given::One(kind) => Ok(kind),
+        Given::Several => Err(HoldFault::TwoKinds(line)),
+    }
+}
+
+// The one id that the operand REASON gives.
+fn reason_in(line: u32, operands: &[Operand]) -> Result<Id, HoldFault>
+    ensures reason { IfOk result (λ reason. the_id (values_of (codes "REASON") (operand_texts operands.now)) ≡ Some reason) }
+    ensures missing { (result ≡ Err (NoReason line)) ↔ (values_of (codes "REASON") (operand_texts operands.now) ≡ []) }
+    ensures bad { OnErr result (values_of (codes "REASON") (operand_texts operands.now) ≢ [] → (result ≡ Err (BadId line)) × (is_bad_id (values_of (codes "REASON") (operand_texts operands.now)) ≡ true)) }
+{
+    let id = optional_id(line, values_given(operands, b"REASON"))?;
+    id.ok_or(HoldFault::NoReason(line))
+}
+
+// The id that values give, if they give any.
+fn optional_id(line: u32, given: Given<&[u8]>) -> Result<Option<Id>, HoldFault>
+    ensures id { (values : List (List ℕ)) → Shows given.entry values → IfOk result (λ id. the_id values ≡ id) }
+    ensures good { (values : List (List ℕ)) → Shows given.entry values → OnOk result (is_bad_id values ≡ false) }
+    ensures bad { (values : List (List ℕ)) → Shows given.entry values → IfErr result (λ fault. (fault ≡ BadId line) × (is_bad_id values ≡ true)) }
+{
+    match given {
+        Given::Nothing => Ok(None),
+        Given::One(value) => Ok(Some(Id::new(value).ok_or(HoldFault::BadId(line))?)),
+        Given::Several => Err(HoldFault::BadId(line)),
+    }
+}
+
+// The date that values give, if they give any.
+fn optional_date(line: u32, given: Given<&[u8]>) -> Result<Option<Date>, HoldFault>
+    ensures date { (values : List (List ℕ)) → Shows given.entry values → IfOk result (λ date. the_date values ≡ date) }
+    ensures good { (values : List (List ℕ)) → Shows given.entry values → OnOk result (is_bad_date values ≡ false) }
+    ensures bad { (values : List (List ℕ)) → Shows given.entry values → IfErr result (λ fault. (fault ≡ BadDate line) × (is_bad_date values ≡ true)) }
+{
+    match given {
+        Given::Nothing => Ok(None),
+        Given::One(value) => Ok(Some(Date::from_text(value).ok_or(HoldFault::BadDate(line))?)),
+        Given::Several => Err(HoldFault::BadDate(line)),
+    }
+}

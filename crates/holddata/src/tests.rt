@@ -1,0 +1,244 @@
+use crate::{
+    Categories, Date, Hold, HoldBook, HoldChange, HoldFault, HoldKey, Kind, book_left, changes,
+    push_count, push_row,
+};
+use mcs_reader::{Id, Operand, Operands, Statement, Values, Verb};
+use std::alloc::Global;
+use std::test::Fail;
+
+const HEADING: &str = "SYSMOD   KIND    REASON   FMID     CLASS    DATE   RESOLVER CATEGORY\n";
+
+// An operand with at most one value: an empty text stands for none.
+type Given<'a> = (&'a [u8], &'a [u8]);
+
+const IN_ERROR: [Given<'static>; 5] = [
+    (b"ERROR", b""),
+    (b"FMID", b"HBB7790"),
+    (b"REASON", b"AA20002"),
+    (b"CLASS", b"PE"),
+    (b"DATE", b"12045"),
+];
+
+// `++HOLD(UA10001)` with these operands.
+fn statement<'a>(alloc: Global, line: u32, given: &[Given<'a>]) -> Result<Statement<'a>, Fail> {
+    let mut operands = Vec::new(alloc);
+    for (name, value) in given {
+        let mut values = Vec::new(alloc);
+        if !value.is_empty() {
+            values.push(*value)?;
+        }
+        operands.push(Operand {
+            name: *name,
+            values: Values::from_vec(values),
+        })?;
+    }
+    Ok(Statement {
+        verb: Verb::Hold,
+        subject: Id::new(b"UA10001"),
+        operands: Operands::from_vec(operands),
+        line,
+    })
+}
+
+fn book_by(alloc: Global, statements: &[Statement]) -> Result<HoldBook, Fail> {
+    Ok(book_left(alloc, changes(alloc, statements)?)?)
+}
+
+fn key(kind: Kind) -> Option<HoldKey> {
+    Some(HoldKey {
+        sysmod: Id::new(b"UA10001")?,
+        kind,
+        reason: Id::new(b"AA20002")?,
+    })
+}
+
+#[test]
+fn a_book_prints_its_rows(rt: HostRuntime) -> Result<(), Fail> {
+    let alloc = rt.alloc();
+    let none = book_by(alloc, &[])?.text()?;
+    assert_eq!(rt; none, format!(in alloc; "{HEADING}ROWS 0\n")?.into_bytes());
+    let one = book_by(alloc, &[statement(alloc, 1, &IN_ERROR)?])?.text()?;
+    let row = "UA10001  ERROR   AA20002  HBB7790  PE       12045  -        -";
+    assert_eq!(rt;
+        one,
+        format!(in alloc; "{HEADING}{row}\nROWS 1\n")?.into_bytes()
+    );
+    Ok(())
+}
+
+#[test]
+fn a_statement_with_a_fault_is_refused(rt: HostRuntime) -> Result<(), Fail> {
+    let alloc = rt.alloc();
+    let cases: [(&[Given], u8); 9] = [
+        (&[(b"REASON", b"AA20002")], 11),
+        (
+            &[(b"ERROR", b""), (b"SYSTEM", b""), (b"REASON", b"AA20002")],
+            12,
+        ),
+        (&[(b"ERROR", b"")], 13),
+        (
+            &[(b"ERROR", b""), (b"REASON", b""), (b"FMID", b"hbb7790")],
+            13,
+        ),
+        (&[(b"ERROR", b""), (b"REASON", b"A"), (b"REASON", b"A")], 14),
+        (
+            &[(b"ERROR", b""), (b"REASON", b"A"), (b"FMID", b"HBB77901")],
+            14,
+        ),
+        (
+            &[(b"ERROR", b""), (b"REASON", b"A"), (b"CLASS", b"PE,")],
+            14,
+        ),
+        (
+            &[(b"ERROR", b""), (b"REASON", b"A"), (b"DATE", b"12367")],
+            15,
+        ),
+        (
+            &[(b"ERROR", b""), (b"REASON", b"A"), (b"DATE", b"012366")],
+            15,
+        ),
+    ];
+    for (given, number) in cases {
+        let statements = [statement(alloc, 1, &IN_ERROR)?, statement(alloc, 3, given)?];
+        let fault = changes(alloc, &statements).err().ok_or("a fault")?;
+        assert_eq!(rt; fault.number(), number);
+        assert_eq!(rt; fault.line(), Some(3));
+    }
+    let text = format!(in alloc; "{}", HoldFault::NoKind(3))?;
+    assert_eq!(rt; text.as_str(), "line 3: the hold has no kind");
+    assert_eq!(rt; HoldFault::Memory.number(), 17);
+    assert_eq!(rt; HoldFault::Memory.line(), None);
+    Ok(())
+}
+
+#[test]
+fn other_spellings_are_accepted(rt: HostRuntime) -> Result<(), Fail> {
+    let alloc = rt.alloc();
+    let cases: [(&[Given], Kind, Option<u32>); 3] = [
+        (
+            &[(b"reason", b"AA20002"), (b"Err", b""), (b"error", b"X")],
+            Kind::ErrorHold,
+            None,
+        ),
+        (
+            &[(b"SYS", b""), (b"Date", b"12366"), (b"REASON", b"AA20002")],
+            Kind::SystemHold,
+            Some(12366),
+        ),
+        (
+            &[
+                (b"FIXCAT", b""),
+                (b"REASON", b"AA20002"),
+                (b"RESOLVER", b"ua"),
+                (b"CATEGORY", b"A'B"),
+            ],
+            Kind::FixcatHold,
+            None,
+        ),
+    ];
+    for (given, kind, dated) in cases {
+        let book = book_by(alloc, &[statement(alloc, 1, given)?])?;
+        let hold = book.get(&key(kind).ok_or("a key")?).ok_or("a hold")?;
+        assert_eq!(rt; hold.dated.map(Date::number), dated);
+        assert!(rt; hold.resolver.is_none());
+        assert!(rt; hold.categories.as_slice().is_empty());
+    }
+    Ok(())
+}
+
+#[test]
+fn the_last_change_of_a_key_decides(rt: HostRuntime) -> Result<(), Fail> {
+    let alloc = rt.alloc();
+    let first = statement(alloc, 1, &IN_ERROR)?;
+    let user = statement(alloc, 2, &[(b"USER", b""), (b"REASON", b"AA20002")])?;
+    let last = statement(
+        alloc,
+        3,
+        &[
+            (b"ERROR", b""),
+            (b"REASON", b"AA20002"),
+            (b"CLASS", b"HIPER"),
+        ],
+    )?;
+    let in_error = key(Kind::ErrorHold).ok_or("a key")?;
+    let mut book = book_by(alloc, &[user, first])?;
+    assert_eq!(rt; book.iter().count(), 2);
+    book.apply(HoldChange::Release(in_error))?;
+    book.apply(HoldChange::Release(in_error))?;
+    assert!(rt; book.get(&in_error).is_none());
+    assert!(rt; book.get(&key(Kind::UserHold).ok_or("a key")?).is_some());
+    for change in changes(alloc, &[last])? {
+        book.apply(change)?;
+    }
+    let rows =
+        "UA10001  ERROR   AA20002  -        HIPER    -      -        -\nUA10001  USER    AA20002  -        -        -      -        -";
+    assert_eq!(rt;
+        book.text()?,
+        format!(in alloc; "{HEADING}{rows}\nROWS 2\n")?.into_bytes()
+    );
+    assert_eq!(rt; book.copy()?.text()?, book.text()?);
+    Ok(())
+}
+
+#[test]
+fn a_hold_keeps_its_categories(rt: HostRuntime) -> Result<(), Fail> {
+    let alloc = rt.alloc();
+    let device = b"IBM.Device".to_vec(alloc)?;
+    let server = b"IBM.Device.Server".to_vec(alloc)?;
+    let categories = Categories::from_vec(vec![in alloc; device, server]?).ok_or("categories")?;
+    let hold = Hold {
+        key: HoldKey {
+            sysmod: Id::new(b"HBB7790").ok_or("an id")?,
+            kind: Kind::FixcatHold,
+            reason: Id::new(b"AA40001").ok_or("an id")?,
+        },
+        fmid: Id::new(b"HBB7790"),
+        class: None,
+        resolver: Id::new(b"UA10009"),
+        dated: Date::new(1001),
+        categories,
+    };
+    let copy = hold.copy()?;
+    assert_eq!(rt; copy.categories.as_slice(), hold.categories.as_slice());
+    let mut book = HoldBook::new(alloc);
+    book.apply(HoldChange::Put(hold))?;
+    let row =
+        "HBB7790  FIXCAT  AA40001  HBB7790  -        01001  UA10009  IBM.Device,IBM.Device.Server";
+    assert_eq!(rt;
+        book.text()?,
+        format!(in alloc; "{HEADING}{row}\nROWS 1\n")?.into_bytes()
+    );
+    assert_eq!(rt; copy.categories.into_vec().len(), 2);
+    Ok(())
+}
+
+#[test]
+fn categories_ascend_and_are_allowed(rt: HostRuntime) -> Result<(), Fail> {
+    let alloc = rt.alloc();
+    let refused: [&[&[u8]]; 5] = [&[b""], &[b"A'B"], &[b"A B"], &[b"B", b"A"], &[b"A", b"A"]];
+    for texts in refused {
+        let mut items = Vec::new(alloc);
+        for text in texts {
+            items.push(text.to_vec(alloc)?)?;
+        }
+        assert!(rt; Categories::from_vec(items).is_none());
+    }
+    for (len, accepted) in [(64, true), (65, false)] {
+        let mut items = Vec::new(alloc);
+        items.push(vec![in alloc; b'x'; len]?)?;
+        assert_eq!(rt; Categories::from_vec(items).is_some(), accepted);
+    }
+    assert!(rt; Categories::new(alloc).into_vec().is_empty());
+    Ok(())
+}
+
+#[test]
+fn a_table_has_its_columns(rt: HostRuntime) -> Result<(), Fail> {
+    let mut text = Vec::new(rt.alloc());
+    push_row(&mut text, &[10, 0], &[b"ZONE", b"SYSMODS"])?;
+    push_row(&mut text, &[10, 0], &[b"TGT1", b"2"])?;
+    push_count(&mut text, 1)?;
+    let want: &[u8] = b"ZONE      SYSMODS\nTGT1      2\nROWS 1\n";
+    assert_eq!(rt; text.as_slice(), want);
+    Ok(())
+}
