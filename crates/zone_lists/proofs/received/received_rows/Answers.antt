@@ -1,0 +1,10 @@
+use Rattle.std.proofs.Common.{rules}
+use Rattle.zone_lists.specs.Lists.{records_of}
+use Rattle.zone_lists.proofs.KeyFacts.{each_received}
+use Rattle.zone_lists.proofs.received.received_rows.Goals as goal
+
+pub returns-clause-rows : goal.returns-clause-rows
+returns-clause-rows c = search rules
+
+pub returns-clause-each : goal.returns-clause-each
+returns-clause-each c = each_received (records_of c.args.text.now) c.in_ok-rows.rows.items (returns-clause-rows c)

@@ -1,0 +1,5 @@
+pub mod Fields
+pub mod Lists
+pub mod Pattern
+pub mod Reader
+pub mod Kinds

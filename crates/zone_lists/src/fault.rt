@@ -1,0 +1,69 @@
+//! What is wrong with a list.
+use std::alloc::{AllocError, AllocFailed};
+use thiserror::Error;
+
+/// There was no memory for a copy.
+pub use std::alloc::AllocError as NoMemory;
+
+/// The first fault of a list. A number is that of the record, counted from 1 behind the header.
+#[derive(Clone, Copy, Debug, PartialEq, Eq, Hash, Error)]
+pub enum ListFault {
+    /// The first record is not the list's header, or there is no record at all.
+    #[error("the header is missing or another one")]
+    Header,
+    /// The record has too few or too many fields.
+    #[error("record {0}: wrong number of fields")]
+    BadRecord(u32),
+    /// The first field is no id.
+    #[error("record {0}: no id of a SYSMOD")]
+    BadId(u32),
+    /// The state is none of `APPLIED`, `ACCEPTED` and `SUPERSEDED`.
+    #[error("record {0}: no state")]
+    BadState(u32),
+    /// The field is no category and no beginning of one with a final `*`, or has over 64 bytes.
+    #[error("record {0}: no category or pattern")]
+    BadPattern(u32),
+    /// The SYSMOD came before with another state.
+    #[error("record {0}: the SYSMOD came before with another state")]
+    Repeated(u32),
+    /// The list has more records than it may have.
+    #[error("too many records")]
+    TooMany,
+    /// There was no memory to read the list.
+    #[error("out of memory")]
+    Memory,
+}
+
+// A reader of bytes that lie in memory refuses nothing but to grow.
+impl From<csv::Error> for ListFault {
+    ghost use Rattle.std.specs.Prelude.{◌≡◌};
+    ghost use Rattle.zone_lists.specs.declared.fault.ListFault.TheVariants.{Memory};
+
+    ghost from_gives = { λ _ fault. fault ≡ Memory };
+
+    fn from(_error: csv::Error) -> ListFault {
+        ListFault::Memory
+    }
+}
+
+impl From<AllocError> for ListFault {
+    ghost use Rattle.std.specs.Prelude.{◌≡◌};
+    ghost use Rattle.zone_lists.specs.declared.fault.ListFault.TheVariants.{Memory};
+
+    ghost from_gives = { λ _ fault. fault ≡ Memory };
+
+    fn from(_error: AllocError) -> ListFault {
+        ListFault::Memory
+    }
+}
+
+impl<T: Drop> From<AllocFailed<T>> for ListFault {
+    ghost use Rattle.std.specs.Prelude.{◌≡◌};
+    ghost use Rattle.zone_lists.specs.declared.fault.ListFault.TheVariants.{Memory};
+
+    ghost from_gives = { λ _ fault. fault ≡ Memory };
+
+    fn from(_error: AllocFailed<T>) -> ListFault {
+        ListFault::Memory
+    }
+}

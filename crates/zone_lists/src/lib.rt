@@ -1,0 +1,31 @@
+//! The lists that a client sends as CSV: the SYSMODs of a zone, the SYSMODs that it has received,
+//! and the fix categories that it asks for.
+//!
+//! A list is read as RFC 4180 has it, by `csv`, after a UTF-8 mark at its very beginning. Spaces
+//! and tabs at both ends of a field are no part of it, also inside quotes. The first record is the
+//! header. The records behind it are numbered from 1, and an empty line is no record. An answer
+//! ascends and has each entry once.
+//!
+//! - [`zone_rows`]: the SYSMODs of a zone and their states, as [`ZoneRow`] and [`ZoneState`]
+//! - [`received_rows`]: SYSMODs
+//! - [`patterns`]: fix categories, or beginnings of some, as [`Pattern`]
+//! - [`ListFault`]: what is wrong with a list, by its first fault; [`NoMemory`]
+//! - [`ZONE_RECORDS`], [`RECEIVED_RECORDS`], [`PATTERN_RECORDS`]: how long a list may be
+#![tactic(auto)]
+
+mod categories;
+mod fault;
+mod fields;
+mod pattern;
+mod received;
+mod records;
+mod zones;
+
+pub use categories::{PATTERN_RECORDS, patterns};
+pub use fault::{ListFault, NoMemory};
+pub use pattern::Pattern;
+pub use received::{RECEIVED_RECORDS, received_rows};
+pub use zones::{ZONE_RECORDS, ZoneRow, ZoneState, zone_rows};
+
+#[cfg(test)]
+mod tests;

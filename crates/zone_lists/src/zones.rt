@@ -1,0 +1,145 @@
+//! The SYSMODs of a zone.
+ghost use Rattle.std.specs.Prelude.{◌≡◌, ◌⊎◌, map, true, false, Some, Ok, Err, IfOk, IfErr, OnOk, Contains, ◌↔◌};
+ghost use Rattle.std.specs.BTreeMap.{Updates, get, insert_entry};
+ghost use Rattle.std.specs.Cmp.Lexicographic.{slice_cmp};
+ghost use Rattle.std.specs.List.Sorted.{IsStrictlySortedBy};
+ghost use Rattle.std.specs.Map.{keys_of};
+ghost use Rattle.std.specs.Ordering.{nat_cmp};
+ghost use Rattle.csv.specs.Records.{fields_of};
+ghost use Rattle.zone_lists.specs.Fields as Spec;
+ghost use Rattle.zone_lists.specs.Kinds.{RowsAscend, are_zone_names, has_other_state, row_of, same_state, state_of, zone_fields, zone_list, zone_rows_of};
+ghost use Rattle.zone_lists.specs.Lists.{IsListed, at_number, records_of};
+ghost use Rattle.zone_lists.specs.declared.zones.ZoneRow.{ZoneRow};
+
+use crate::fault::ListFault;
+use crate::fields::two_fields;
+use crate::records::Records;
+use csv::ByteRecord;
+use mcs_reader::Id;
+use std::alloc::{AllocError, Global};
+use std::collections::BTreeMap;
+
+/// How many records a zone's list may have behind its header.
+pub const ZONE_RECORDS: u32 = 20_000;
+
+/// How a SYSMOD stands in a zone.
+#[derive(Clone, Copy, Debug, PartialEq, Eq, PartialOrd, Ord, Hash)]
+pub enum ZoneState {
+    /// Installed in a target zone.
+    Applied,
+    /// Installed in a distribution zone.
+    Accepted,
+    /// Not installed itself; an installed SYSMOD supersedes it.
+    Superseded,
+}
+
+/// A SYSMOD of a zone with its state.
+#[derive(Clone, Copy, Debug, PartialEq, Eq, PartialOrd, Ord, Hash)]
+pub struct ZoneRow {
+    pub sysmod: Id,
+    pub state: ZoneState,
+}
+
+/// The rows of a zone's list, of which the header is `SYSMOD,STATE` and each record an id and
+/// `APPLIED`, `ACCEPTED` or `SUPERSEDED`: ascending by SYSMOD, each once.
+///
+/// # Errors
+///
+/// The first fault of the list, by record, and in a record in this order: `TooMany` at record
+/// [`ZONE_RECORDS`] + 1, `BadRecord` where it has not two fields, `BadId`, `BadState`, `Repeated`.
+/// `Header` comes first of all. `Memory` may come in place of any answer.
+pub fn zone_rows(alloc: Global, text: &[u8]) -> Result<Vec<ZoneRow>, ListFault>
+    ensures rows { IfOk result (λ rows. zone_rows_of text.now ≡ Ok rows.items) }
+    ensures fault { IfErr result (λ fault. (fault ≡ ListFault.Memory) ⊎ (zone_rows_of text.now ≡ Err fault)) }
+    ensures ascending { IfOk result (λ rows. RowsAscend rows.items) }
+    ensures each { IfOk result (λ rows. (row : ZoneRow) → Contains rows.items row ↔ IsListed zone_list (records_of text.now) row) }
+{
+    let states = zone_states(alloc, text)?;
+    let rows = rows_of(alloc, states)?;
+    Ok(rows)
+}
+
+// The entries of a map as rows.
+fn rows_of(alloc: Global, states: BTreeMap<Id, ZoneState>) -> Result<Vec<ZoneRow>, AllocError>
+    ensures rows { IfOk result (λ rows. rows.items ≡ map row_of states.entries) }
+    ensures ascending { OnOk result (IsStrictlySortedBy (slice_cmp nat_cmp) (keys_of states.entries)) }
+{
+    states
+        .into_iter()
+        .map(|(sysmod, state)| ZoneRow { sysmod, state })
+        .collect(alloc)
+}
+
+// The states of the SYSMODs of a zone's list.
+fn zone_states(alloc: Global, text: &[u8]) -> Result<BTreeMap<Id, ZoneState>, ListFault>
+    ensures rows { IfOk result (λ states. zone_rows_of text.now ≡ Ok (map row_of states.entries)) }
+    ensures fault { IfErr result (λ fault. (fault ≡ ListFault.Memory) ⊎ (zone_rows_of text.now ≡ Err fault)) }
+{
+    let mut records = Records::open(alloc, text, ZONE_RECORDS)?;
+    if !is_header(records.row()) {
+        return Err(ListFault::Header);
+    }
+    let mut states = BTreeMap::new(alloc);
+    while let Some(n) = records.next()? {
+        let row = zone_row(records.row(), n)?;
+        add_row(&mut states, row, n)?;
+    }
+    Ok(states)
+}
+
+fn is_header(row: &ByteRecord) -> bool
+    ensures { result ≡ are_zone_names (Spec.two_fields (fields_of row.now)) }
+{
+    match two_fields(row) {
+        Some((first, second)) => first == b"SYSMOD".as_slice() && second == b"STATE".as_slice(),
+        None => false,
+    }
+}
+
+// The row that a record stands for by itself.
+fn zone_row(row: &ByteRecord, n: u32) -> Result<ZoneRow, ListFault>
+    ensures { result ≡ at_number n (zone_fields (Spec.two_fields (fields_of row.now))) }
+{
+    let Some((sysmod, state)) = two_fields(row) else {
+        return Err(ListFault::BadRecord(n));
+    };
+    let Some(sysmod) = Id::new(sysmod) else {
+        return Err(ListFault::BadId(n));
+    };
+    let Some(state) = ZoneState::named(state) else {
+        return Err(ListFault::BadState(n));
+    };
+    Ok(ZoneRow { sysmod, state })
+}
+
+impl ZoneState {
+    // The state with this name.
+    fn named(name: &[u8]) -> Option<ZoneState>
+        ensures { result ≡ state_of name.now }
+    {
+        if name == b"APPLIED".as_slice() {
+            Some(ZoneState::Applied)
+        } else if name == b"ACCEPTED".as_slice() {
+            Some(ZoneState::Accepted)
+        } else if name == b"SUPERSEDED".as_slice() {
+            Some(ZoneState::Superseded)
+        } else {
+            None
+        }
+    }
+}
+
+// Adds a row to those before it, unless its SYSMOD came before with another state.
+fn add_row(states: &mut BTreeMap<Id, ZoneState>, row: ZoneRow, n: u32) -> Result<(), ListFault>
+    ensures added { OnOk result (states.new.entries ≡ insert_entry (slice_cmp nat_cmp) states.old.entries row.sysmod row.state) }
+    ensures found { OnOk result (Updates (slice_cmp nat_cmp) states.old states.new row.sysmod (Some row.state)) }
+    ensures same { OnOk result (has_other_state row.state (get (slice_cmp nat_cmp) states.old row.sysmod) ≡ false) }
+    ensures repeated { IfErr result (λ fault. (fault ≡ ListFault.Memory)
+        ⊎ ((fault ≡ ListFault.Repeated n) × (has_other_state row.state (get (slice_cmp nat_cmp) states.old row.sysmod) ≡ true))) }
+{
+    let before = states.insert(row.sysmod, row.state)?;
+    match before {
+        Some(state) if state != row.state => Err(ListFault::Repeated(n)),
+        _ => Ok(()),
+    }
+}
