@@ -1,10 +1,10 @@
 -- What the class of a byte says of it.
-use Rattle.std.proofs.Common.{◌≡◌, ℕ, ◌==◌, Bool, true, false, cond, List, [], ◌∷◌, refl, sym, ◌∙◌, arith}
+use Rattle.std.proofs.Common.{◌≡◌, ℕ, ◌==◌, ◌||◌, not, Bool, true, false, cond, List, [], ◌∷◌, refl, sym, ◌∙◌, arith}
 use Rattle.std.proofs.lemmas.Bool.Decides.{nat_tests}
-use Rattle.mcs_reader.specs.Byte.{class_of, is_gap, is_name_byte}
+use Rattle.mcs_reader.specs.Byte.{class_of, is_gap, is_name_byte, belongs_to_value}
 use Rattle.mcs_reader.specs.declared.byte.Class.{Class}
 use Rattle.mcs_reader.specs.declared.byte.Class.TheVariants.{Gap, Name, Open, Close, Period, Other}
-use Rattle.mcs_reader.specs.Pieces.{is_word}
+use Rattle.mcs_reader.specs.Pieces.{is_word, is_value_byte}
 
 -- both halves of a test made by `if`
 pub both : (x y : Bool) → cond x y false ≡ true → (x ≡ true) × (y ≡ true)
@@ -99,3 +99,20 @@ class_of-46 = refl
 pub class_of-43 : class_of 43 ≡ Other
 unfolding class_of
 class_of-43 = refl
+
+belongs_by_tests : (gap name opens closes ends : Bool) → (name ≡ true → (opens ≡ false) × (closes ≡ false))
+  → belongs_to_value (cond gap Gap (cond name Name (cond opens Open (cond closes Close (cond ends Period Other))))) ≡ not (gap || opens || closes)
+belongs_by_tests true name opens closes ends apart = refl
+belongs_by_tests false true opens closes ends apart = let alone = apart refl in rw (alone.0, alone.1) refl
+belongs_by_tests false false true closes ends apart = refl
+belongs_by_tests false false false true ends apart = refl
+belongs_by_tests false false false false true apart = refl
+belongs_by_tests false false false false false apart = refl
+
+name_apart : (b : ℕ) → is_name_byte b ≡ true → ((b == 40) ≡ false) × ((b == 41) ≡ false)
+name_apart b h = (grind (arith, nat_tests), grind (arith, nat_tests))
+
+-- a byte belongs to a value unless it is one of six
+pub value_byte_by_exclusion : (b : ℕ) → is_value_byte b ≡ not (is_gap b || b == 40 || b == 41)
+unfolding class_of
+value_byte_by_exclusion b = belongs_by_tests (is_gap b) (is_name_byte b) (b == 40) (b == 41) (b == 46) (name_apart b)

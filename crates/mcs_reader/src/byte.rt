@@ -1,6 +1,6 @@
 //! What each byte may do in a statement.
 ghost use Rattle.std.specs.Prelude.{◌≡◌};
-ghost use Rattle.mcs_reader.specs.Byte.{class_of as class_of_byte, is_blank, is_name_byte, belongs_to_value};
+ghost use Rattle.mcs_reader.specs.Byte.{class_of as class_of_byte, is_blank, is_gap, is_name_byte, belongs_to_value};
 ghost use Rattle.mcs_reader.specs.Pieces.{is_value_byte};
 
 /// What a byte does in a statement (SMP/E Reference, "MCS coding rules").
@@ -50,11 +50,16 @@ pub(crate) fn stands_in_name(b: u8) -> bool
 }
 
 #[inline]
+fn stands_between(b: u8) -> bool
+    ensures { result ≡ is_gap b }
+{
+    matches!(b, b' ' | b'\t' | b',' | b'\n')
+}
+
+#[inline]
+#[tactic(auto, using(crate::proofs::Classes::value_byte_by_exclusion))]
 pub(crate) fn stands_in_value(b: u8) -> bool
     ensures { result ≡ is_value_byte b }
 {
-    match class_of(b) {
-        Class::Gap | Class::Open | Class::Close => false,
-        Class::Name | Class::Period | Class::Other => true,
-    }
+    !(stands_between(b) || b == b'(' || b == b')')
 }
