@@ -1,4 +1,5 @@
--- Text in columns, as the reports print it.
+-- Text in columns, as the reports print it. A table's columns are pairs: the place where one begins, counted
+-- from 1, and its heading.
 use Rattle.std.specs.Prelude.{ℕ, ◌-◌, List, [], ◌∷◌, ◌++◌, length, replicate, map, codes, decimal}
 use Rattle.std.specs.List.{flat_map}
 
@@ -12,7 +13,7 @@ fields_in widths [] = []
 fields_in [] (field ∷ fields) = field ++ fields_in [] fields
 fields_in (width ∷ widths) (field ∷ fields) = in_width width field ++ fields_in widths fields
 
--- the widths of columns: each goes as far as the next begins, and the last isn't padded. A table's columns are where each begins, counted from 1, and its heading
+-- how wide each column is: it goes as far as the next begins, and nothing is padded in the last
 abbrev pub widths_of : List (ℕ × List ℕ) → List ℕ
 widths_of [] = []
 widths_of (column ∷ []) = 0 ∷ []

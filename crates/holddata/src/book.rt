@@ -1,5 +1,5 @@
 //! The hold book.
-ghost use Rattle.std.specs.Prelude.{◌≡◌, ◌++◌, [], ◌∷◌, List, IfOk, OnOk, OnErr, IsOk, if◌then◌else◌};
+ghost use Rattle.std.specs.Prelude.{◌≡◌, ◌↔◌, length, IsTrue, ◌++◌, [], ◌∷◌, List, IfOk, OnOk, OnErr, IsOk, if◌then◌else◌};
 ghost use Rattle.std.specs.Option.{option_copied};
 ghost use Rattle.std.specs.Map.Iter.{ShowsInOrder, deref};
 ghost use Rattle.holddata.specs.declared.key.HoldKey.{HoldKey};
@@ -69,6 +69,19 @@ impl HoldBook {
         ensures in_key_order { IsInKeyOrder self.now }
     {
         self.holds.values()
+    }
+
+    /// How many holds there are.
+    pub fn len(&self) -> usize
+        ensures { result ≡ length self.now }
+    {
+        self.holds.len()
+    }
+
+    pub fn is_empty(&self) -> bool
+        ensures { IsTrue result ↔ (self.now ≡ []) }
+    {
+        self.holds.is_empty()
     }
 
     /// The same book once more.

@@ -57,3 +57,15 @@ pub enum HoldChange {
     /// No hold has this key from now on.
     Release(HoldKey),
 }
+
+impl HoldChange {
+    /// The same change once more.
+    pub fn copy(&self) -> Result<Self, AllocError>
+        ensures { IfOk result (λ copy. copy ≡ self.now) }
+    {
+        match self {
+            HoldChange::Put(hold) => Ok(HoldChange::Put(hold.copy()?)),
+            HoldChange::Release(key) => Ok(HoldChange::Release(*key)),
+        }
+    }
+}

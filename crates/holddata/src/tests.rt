@@ -163,8 +163,11 @@ fn the_last_change_of_a_key_decides(rt: HostRuntime) -> Result<(), Fail> {
     let in_error = key(Kind::ErrorHold).ok_or("a key")?;
     let mut book = book_by(alloc, &[user, first])?;
     assert_eq!(rt; book.iter().count(), 2);
-    book.apply(HoldChange::Release(in_error))?;
-    book.apply(HoldChange::Release(in_error))?;
+    let release = HoldChange::Release(in_error);
+    book.apply(release.copy()?)?;
+    book.apply(release)?;
+    assert_eq!(rt; book.len(), 1);
+    assert!(rt; !book.is_empty());
     assert!(rt; book.get(&in_error).is_none());
     assert!(rt; book.get(&key(Kind::UserHold).ok_or("a key")?).is_some());
     for change in changes(alloc, &[last])? {

@@ -8,7 +8,7 @@ use Rattle.std.specs.declared.cmp.Ordering.TheVariants.{Less, Equal, Greater}
 use Rattle.std.proofs.lemmas.Bool.{cases_Bool, or_parts}
 use Rattle.std.proofs.lemmas.List.Elements.{Contains-append_cases, Contains-append_left, Contains-append_right, Contains-push, Contains-push_cases}
 use Rattle.zone_lists.specs.Fields.{Record}
-use Rattle.zone_lists.specs.Lists.{IsAmong, IsListed, ListKind, Numbered, answer, in_order}
+use Rattle.zone_lists.specs.Lists.{AnyStandsFor, IsListed, ListKind, Numbered, answer, in_order}
 use Rattle.zone_lists.specs.declared.fault.ListFault.{ListFault}
 use Rattle.zone_lists.proofs.ListFacts.{answer_behind, answer_read, behind, go_on, in_order_more, next_entry}
 
@@ -128,9 +128,9 @@ module _ {Entry : Type 0} (kind : ListKind Entry) where
   )
 
   each_step : IsExact → (earlier : List Entry) (fields : Record) (rest : List Record) (all : List Entry) → Same earlier
-      → ((earlier : List Entry) → Same earlier → answer_behind kind earlier rest ≡ Ok all → (x : Entry) → (In all x → In earlier x ⊎ IsAmong kind rest x) × (In earlier x ⊎ IsAmong kind rest x → In all x))
+      → ((earlier : List Entry) → Same earlier → answer_behind kind earlier rest ≡ Ok all → (x : Entry) → (In all x → In earlier x ⊎ AnyStandsFor kind rest x) × (In earlier x ⊎ AnyStandsFor kind rest x → In all x))
       → (o : Result Entry ListFault) → next_entry kind earlier fields ≡ o → go_on kind (λ entry. answer_behind kind (earlier ++ entry ∷ []) rest) o ≡ Ok all
-      → (x : Entry) → (In all x → In earlier x ⊎ IsAmong kind (fields ∷ rest) x) × (In earlier x ⊎ IsAmong kind (fields ∷ rest) x → In all x)
+      → (x : Entry) → (In all x → In earlier x ⊎ AnyStandsFor kind (fields ∷ rest) x) × (In earlier x ⊎ AnyStandsFor kind (fields ∷ rest) x → In all x)
   each_step exact earlier fields rest all same more (Err fault) next answers x = absurd (cc answers)
   each_step exact earlier fields rest all same more (Ok entry) next answers x =
       let (is, none) = next_ok earlier fields entry next in
@@ -149,7 +149,7 @@ module _ {Entry : Type 0} (kind : ListKind Entry) where
       )
 
   each_behind : IsExact → (earlier : List Entry) (records : List Record) (all : List Entry) → Same earlier → answer_behind kind earlier records ≡ Ok all
-      → (x : Entry) → (In all x → In earlier x ⊎ IsAmong kind records x) × (In earlier x ⊎ IsAmong kind records x → In all x)
+      → (x : Entry) → (In all x → In earlier x ⊎ AnyStandsFor kind records x) × (In earlier x ⊎ AnyStandsFor kind records x → In all x)
   each_behind exact earlier [] all same answers x =
       let is : in_order kind earlier ≡ all = cc answers in
       (λ h. inl ((same x).0 (rw is h)), λ h. elim h [ inl old ↦ rw (← is) ((same x).1 old) | inr none ↦ absurd none ])

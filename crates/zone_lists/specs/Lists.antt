@@ -1,6 +1,6 @@
 -- How a client's list is read: the entries that its records stand for, or its first fault.
-use Rattle.std.specs.Prelude.{◌≡◌, ◌⊎◌, ℕ, ◌+◌, Bool, List, [], ◌∷◌, ◌++◌, length, nat_le, Option, Some, None, Result, Ok, Err, if◌then◌else◌}
-use Rattle.std.specs.List.{filter_map, fold, list_any}
+use Rattle.std.specs.Prelude.{◌≡◌, ◌⊎◌, ◌↔◌, ℕ, ◌+◌, Bool, List, [], ◌∷◌, ◌++◌, length, nat_le, Option, Some, None, Result, Ok, Err, if◌then◌else◌}
+use Rattle.std.specs.List.{Contains, filter_map, fold, list_any}
 use Rattle.std.specs.Option.{option_or}
 use Rattle.std.specs.Result.{result_ok}
 use Rattle.std.specs.BTreeSet.{insert_key}
@@ -8,7 +8,7 @@ use Rattle.std.specs.declared.cmp.Ordering.{Ordering}
 use Rattle.csv.specs.Reading.{default_config, records, strip_bom}
 use Rattle.zone_lists.specs.Fields.{Record}
 use Rattle.zone_lists.specs.declared.fault.ListFault.{ListFault}
-use Rattle.zone_lists.specs.declared.fault.ListFault.TheVariants.{Header, Repeated, TooMany}
+use Rattle.zone_lists.specs.declared.fault.ListFault.TheVariants.{Header, Memory, Repeated, TooMany}
 
 -- the records of a text, the header among them, as RFC 4180 has it, after a UTF-8 mark at its very beginning
 abbrev pub records_of : List ℕ → List Record
@@ -35,6 +35,10 @@ pub record ListKind (Entry : Type 0) : Type 0 where
 abbrev pub at_number : {Entry : Type 0} → ℕ → Result Entry Numbered → Result Entry ListFault
 at_number n (Ok entry) = Ok entry
 at_number n (Err fault) = Err (fault n)
+
+-- a refusal tells the fault that an answer has, or that memory was wanting
+abbrev pub IsRefusal : {Entry : Type 0} → Result Entry ListFault → ListFault → Type 0
+IsRefusal answer fault = (fault ≡ Memory) ⊎ (answer ≡ Err fault)
 
 module _ {Entry : Type 0} (kind : ListKind Entry) where
   -- the entries that records stand for
@@ -72,11 +76,15 @@ module _ {Entry : Type 0} (kind : ListKind Entry) where
   answer (header ∷ rest) = if kind.is_header header then unless (first_fault [] rest) (entries rest) else Err Header
 
   -- one of these records stands for an entry
-  abbrev pub IsAmong : List Record → Entry → Type 0
-  IsAmong [] entry = ⊥
-  IsAmong (fields ∷ rest) entry = (kind.entry fields ≡ Ok entry) ⊎ IsAmong rest entry
+  abbrev pub AnyStandsFor : List Record → Entry → Type 0
+  AnyStandsFor [] entry = ⊥
+  AnyStandsFor (fields ∷ rest) entry = (kind.entry fields ≡ Ok entry) ⊎ AnyStandsFor rest entry
 
   -- a record behind the header stands for an entry
   abbrev pub IsListed : List Record → Entry → Type 0
   IsListed [] entry = ⊥
-  IsListed (header ∷ rest) entry = IsAmong rest entry
+  IsListed (header ∷ rest) entry = AnyStandsFor rest entry
+
+  -- these entries are those that the records of a text stand for
+  abbrev pub HasEach : List ℕ → List Entry → Type 0
+  HasEach text all = (entry : Entry) → Contains all entry ↔ IsListed (records_of text) entry

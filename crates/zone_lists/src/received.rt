@@ -1,12 +1,12 @@
 //! The SYSMODs that were received.
-ghost use Rattle.std.specs.Prelude.{◌≡◌, ◌⊎◌, ◌↔◌, ℕ, List, Ok, Err, IfOk, IfErr, Contains};
+ghost use Rattle.std.specs.Prelude.{◌≡◌, Ok, IfOk, IfErr};
 ghost use Rattle.std.specs.Cmp.Lexicographic.{slice_cmp};
 ghost use Rattle.std.specs.List.Sorted.{IsStrictlySortedBy};
 ghost use Rattle.std.specs.Ordering.{nat_cmp};
 ghost use Rattle.csv.specs.Records.{fields_of};
 ghost use Rattle.zone_lists.specs.Fields as Spec;
 ghost use Rattle.zone_lists.specs.Kinds.{received_field, received_list, received_rows_of};
-ghost use Rattle.zone_lists.specs.Lists.{IsListed, at_number, records_of};
+ghost use Rattle.zone_lists.specs.Lists.{HasEach, IsRefusal, at_number};
 
 use crate::fault::ListFault;
 use crate::fields::{is_header, one_field};
@@ -29,9 +29,9 @@ pub const RECEIVED_RECORDS: u32 = 20_000;
 /// of all. `Memory` may come in place of any answer.
 pub fn received_rows(alloc: Global, text: &[u8]) -> Result<Vec<Id>, ListFault>
     ensures rows { IfOk result (λ ids. received_rows_of text.now ≡ Ok ids.items) }
-    ensures fault { IfErr result (λ fault. (fault ≡ ListFault.Memory) ⊎ (received_rows_of text.now ≡ Err fault)) }
+    ensures fault { IfErr result (λ fault. IsRefusal (received_rows_of text.now) fault) }
     ensures ascending { IfOk result (λ ids. IsStrictlySortedBy (slice_cmp nat_cmp) ids.items) }
-    ensures each { IfOk result (λ ids. (id : List ℕ) → Contains ids.items id ↔ IsListed received_list (records_of text.now) id) }
+    ensures each { IfOk result (λ ids. HasEach received_list text.now ids.items) }
 {
     let ids = received_ids(alloc, text)?;
     let rows = ids.into_iter().collect(alloc)?;
@@ -40,7 +40,7 @@ pub fn received_rows(alloc: Global, text: &[u8]) -> Result<Vec<Id>, ListFault>
 
 fn received_ids(alloc: Global, text: &[u8]) -> Result<BTreeSet<Id>, ListFault>
     ensures rows { IfOk result (λ ids. received_rows_of text.now ≡ Ok ids.keys) }
-    ensures fault { IfErr result (λ fault. (fault ≡ ListFault.Memory) ⊎ (received_rows_of text.now ≡ Err fault)) }
+    ensures fault { IfErr result (λ fault. IsRefusal (received_rows_of text.now) fault) }
 {
     let mut records = Records::open(alloc, text, RECEIVED_RECORDS)?;
     if !is_header(records.row(), b"SYSMOD") {

@@ -185,3 +185,14 @@ fn a_pattern_matches_without_regard_to_case(rt: HostRuntime) -> Result<(), Fail>
     }
     Ok(())
 }
+
+#[test]
+fn a_fault_tells_its_record(rt: HostRuntime) -> Result<(), Fail> {
+    let fault = ListFault::Repeated(2);
+    let line = format!(in rt.alloc(); "{fault}")?;
+    assert_eq!(rt;
+        line.as_str(),
+        "record 2: the SYSMOD came before with another state"
+    );
+    Ok(())
+}

@@ -1,5 +1,5 @@
 //! The SYSMODs of a zone.
-ghost use Rattle.std.specs.Prelude.{◌≡◌, ◌⊎◌, map, true, false, Some, Ok, Err, IfOk, IfErr, OnOk, Contains, ◌↔◌};
+ghost use Rattle.std.specs.Prelude.{◌≡◌, ◌⊎◌, map, true, false, Some, Ok, IfOk, IfErr, OnOk};
 ghost use Rattle.std.specs.BTreeMap.{Updates, get, insert_entry};
 ghost use Rattle.std.specs.Cmp.Lexicographic.{slice_cmp};
 ghost use Rattle.std.specs.List.Sorted.{IsStrictlySortedBy};
@@ -8,8 +8,7 @@ ghost use Rattle.std.specs.Ordering.{nat_cmp};
 ghost use Rattle.csv.specs.Records.{fields_of};
 ghost use Rattle.zone_lists.specs.Fields as Spec;
 ghost use Rattle.zone_lists.specs.Kinds.{RowsAscend, are_zone_names, has_other_state, row_of, same_state, state_of, zone_fields, zone_list, zone_rows_of};
-ghost use Rattle.zone_lists.specs.Lists.{IsListed, at_number, records_of};
-ghost use Rattle.zone_lists.specs.declared.zones.ZoneRow.{ZoneRow};
+ghost use Rattle.zone_lists.specs.Lists.{HasEach, IsRefusal, at_number};
 
 use crate::fault::ListFault;
 use crate::fields::two_fields;
@@ -50,9 +49,9 @@ pub struct ZoneRow {
 /// `Header` comes first of all. `Memory` may come in place of any answer.
 pub fn zone_rows(alloc: Global, text: &[u8]) -> Result<Vec<ZoneRow>, ListFault>
     ensures rows { IfOk result (λ rows. zone_rows_of text.now ≡ Ok rows.items) }
-    ensures fault { IfErr result (λ fault. (fault ≡ ListFault.Memory) ⊎ (zone_rows_of text.now ≡ Err fault)) }
+    ensures fault { IfErr result (λ fault. IsRefusal (zone_rows_of text.now) fault) }
     ensures ascending { IfOk result (λ rows. RowsAscend rows.items) }
-    ensures each { IfOk result (λ rows. (row : ZoneRow) → Contains rows.items row ↔ IsListed zone_list (records_of text.now) row) }
+    ensures each { IfOk result (λ rows. HasEach zone_list text.now rows.items) }
 {
     let states = zone_states(alloc, text)?;
     let rows = rows_of(alloc, states)?;
@@ -73,7 +72,7 @@ fn rows_of(alloc: Global, states: BTreeMap<Id, ZoneState>) -> Result<Vec<ZoneRow
 // The states of the SYSMODs of a zone's list.
 fn zone_states(alloc: Global, text: &[u8]) -> Result<BTreeMap<Id, ZoneState>, ListFault>
     ensures rows { IfOk result (λ states. zone_rows_of text.now ≡ Ok (map row_of states.entries)) }
-    ensures fault { IfErr result (λ fault. (fault ≡ ListFault.Memory) ⊎ (zone_rows_of text.now ≡ Err fault)) }
+    ensures fault { IfErr result (λ fault. IsRefusal (zone_rows_of text.now) fault) }
 {
     let mut records = Records::open(alloc, text, ZONE_RECORDS)?;
     if !is_header(records.row()) {

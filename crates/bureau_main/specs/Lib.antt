@@ -1,0 +1,4 @@
+pub mod Holds
+pub mod Line
+pub mod ProgramFault
+pub mod Transfer

@@ -1,0 +1,16 @@
+//! The programs of the bureau: what a command line asks for, from bytes to bytes.
+#![tactic(auto)]
+
+mod fault;
+mod holds;
+mod line;
+mod program;
+#[cfg(test)]
+mod tests;
+mod transfer;
+
+use std::process::ExitCode;
+
+fn main(rt: HostRuntime) -> ExitCode {
+    ExitCode::from(program::run(&rt))
+}

@@ -1,0 +1,281 @@
+//! Worked sources through `run_holds`, and readers and writers that fail.
+use crate::holds::{MOST_READ, run_holds};
+use crate::line::{Line, LineFault, line_of};
+use std::alloc::{AllocError, Global};
+use std::io::{self, ErrorKind, Read, Write};
+use std::test::Fail;
+
+const HEADING: &str = "SYSMOD   KIND    REASON   FMID     CLASS    DATE   RESOLVER CATEGORY\n";
+
+const SOURCE: &str =
+    "++HOLD(UA10001) ERROR FMID(HBB7790)                                     00010000
+ REASON(AA20002) CLASS(PE) DATE(12045).                                 00020000
+";
+
+const ROW: &str = "UA10001  ERROR   AA20002  HBB7790  PE       12045  -        -\n";
+
+// A reader of bytes, a piece at a time. It is interrupted so often first, and fails at the end where
+// it isn't whole.
+#[derive(Drop)]
+struct Pieces<'a> {
+    rest: &'a [u8],
+    piece: usize,
+    interruptions: u32,
+    is_whole: bool,
+}
+
+impl Read for Pieces<'_> {
+    fn read(&mut self, buf: &mut [u8]) -> io::Result<usize> {
+        if self.interruptions > 0 {
+            self.interruptions -= 1;
+            return Err(io::Error::from(ErrorKind::Interrupted));
+        }
+        if self.rest.is_empty() && !self.is_whole {
+            return Err(io::Error::from(ErrorKind::TimedOut));
+        }
+        let count = self.piece.min(self.rest.len()).min(buf.len());
+        let (front, rest) = self.rest.split_at(count);
+        buf[..count].copy_from_slice(front);
+        self.rest = rest;
+        Ok(count)
+    }
+}
+
+// A writer that takes a piece at a time, is interrupted so often first, and fails or takes no byte
+// once it has no room.
+#[derive(Drop)]
+struct Slow {
+    taken: Vec<u8>,
+    piece: usize,
+    interruptions: u32,
+    room: usize,
+    is_failing: bool,
+}
+
+impl Write for Slow {
+    fn write(&mut self, buf: &[u8]) -> io::Result<usize> {
+        if self.interruptions > 0 {
+            self.interruptions -= 1;
+            return Err(io::Error::from(ErrorKind::Interrupted));
+        }
+        if self.room == 0 && self.is_failing {
+            return Err(io::Error::from(ErrorKind::StorageFull));
+        }
+        let count = self.piece.min(self.room).min(buf.len());
+        self.taken.extend_from_slice(&buf[..count])?;
+        self.room -= count;
+        Ok(count)
+    }
+
+    fn flush(&mut self) -> io::Result<()> {
+        Ok(())
+    }
+}
+
+fn reader_of(text: &str, piece: usize, interruptions: u32, is_whole: bool) -> Pieces<'_> {
+    let rest = text.as_bytes();
+    Pieces {
+        rest,
+        piece,
+        interruptions,
+        is_whole,
+    }
+}
+
+// What a run gives: the status, standard output and standard error.
+#[derive(Drop)]
+struct Run {
+    status: u8,
+    output: Vec<u8>,
+    errors: Vec<u8>,
+}
+
+fn run_of<R: Read>(alloc: Global, reader: &mut R) -> Run {
+    let (mut output, mut errors) = (Vec::new(alloc), Vec::new(alloc));
+    let status = run_holds(alloc, reader, &mut output, &mut errors);
+    Run {
+        status,
+        output,
+        errors,
+    }
+}
+
+#[test]
+fn worked_sources(rt: HostRuntime) -> Result<(), Fail> {
+    let empty = format!(in rt.alloc(); "{HEADING}ROWS 0\n")?;
+    let one = format!(in rt.alloc(); "{HEADING}{ROW}ROWS 1\n")?;
+    let classless = format!(in rt.alloc();
+        "{HEADING}UA10001  ERROR   AA20002  -        -        12366  -        -\nROWS 1\n"
+    )?;
+    let rows: [(&str, u8, &str, &str); 9] = [
+        ("", 0, empty.as_str(), ""),
+        (SOURCE, 0, one.as_str(), ""),
+        (
+            "++HOLD(UA10001) ERROR REASON(AA20002) DATE(12366).",
+            0,
+            classless.as_str(),
+            "",
+        ),
+        (
+            "++HOLD(UA10001) ERROR REASON(AA20002)",
+            1,
+            "",
+            "FAULT 1 1\n",
+        ),
+        ("++HOLD(UA10001) REASON(AA20002).", 1, "", "FAULT 11 1\n"),
+        (
+            "++HOLD(UA10001) ERROR SYSTEM REASON(AA20002).",
+            1,
+            "",
+            "FAULT 12 1\n",
+        ),
+        ("++HOLD(UA10001) ERROR.", 1, "", "FAULT 13 1\n"),
+        (
+            "\n++HOLD(UA10001) ERROR REASON(AA20002)\n DATE(12367).",
+            1,
+            "",
+            "FAULT 15 2\n",
+        ),
+        ("++HOLD(UA10001 ERROR.", 1, "", "FAULT 3 1\n"),
+    ];
+    for (source, status, output, errors) in rows {
+        let run = run_of(rt.alloc(), &mut source.as_bytes());
+        assert_eq!(rt; run.status, status, "{source}");
+        assert!(rt; run.output.as_slice() == output.as_bytes(), "{source}");
+        assert!(rt; run.errors.as_slice() == errors.as_bytes(), "{source}");
+    }
+    Ok(())
+}
+
+#[test]
+fn a_source_that_is_too_long_has_a_fault_of_the_text(rt: HostRuntime) -> Result<(), Fail> {
+    let blanks = vec![in rt.alloc(); b' '; MOST_READ]?;
+    let run = run_of(rt.alloc(), &mut blanks.as_slice());
+    assert_eq!(rt; run.status, 1);
+    assert!(rt; run.output.is_empty() && run.errors.as_slice() == b"FAULT 5\n".as_slice());
+    Ok(())
+}
+
+#[test]
+fn readers_that_are_interrupted_or_fail(rt: HostRuntime) -> Result<(), Fail> {
+    let whole = format!(in rt.alloc(); "{HEADING}{ROW}ROWS 1\n")?;
+    let rows: [(usize, u32, bool, u8, &str, &str); 5] = [
+        (7, 0, true, 0, whole.as_str(), ""),
+        (1000, 64, true, 0, whole.as_str(), ""),
+        (1000, 65, true, 3, "", "FAULT 71\n"),
+        (1000, 0, false, 3, "", "FAULT 71\n"),
+        (7, 3, false, 3, "", "FAULT 71\n"),
+    ];
+    for (piece, interruptions, is_whole, status, output, errors) in rows {
+        let run = run_of(
+            rt.alloc(),
+            &mut reader_of(SOURCE, piece, interruptions, is_whole),
+        );
+        assert_eq!(rt; run.status, status, "{piece} {interruptions}");
+        assert!(rt;
+            run.output.as_slice() == output.as_bytes(),
+            "{piece} {interruptions}"
+        );
+        assert!(rt;
+            run.errors.as_slice() == errors.as_bytes(),
+            "{piece} {interruptions}"
+        );
+    }
+    Ok(())
+}
+
+#[test]
+fn writers_that_are_interrupted_or_fail(rt: HostRuntime) -> Result<(), Fail> {
+    let whole = format!(in rt.alloc(); "{HEADING}{ROW}ROWS 1\n")?;
+    let rows: [(usize, u32, usize, bool, u8, usize, &str); 6] = [
+        (1, 0, 1000, true, 0, 138, ""),
+        (1000, 64, 1000, true, 0, 138, ""),
+        (1000, 65, 1000, true, 3, 0, "FAULT 72\n"),
+        (10, 0, 25, true, 3, 25, "FAULT 72\n"),
+        (10, 0, 25, false, 3, 25, "FAULT 72\n"),
+        (0, 0, 1000, false, 3, 0, "FAULT 72\n"),
+    ];
+    for (piece, interruptions, room, is_failing, status, taken, errors) in rows {
+        let mut writer = Slow {
+            taken: Vec::new(rt.alloc()),
+            piece,
+            interruptions,
+            room,
+            is_failing,
+        };
+        let mut told = Vec::new(rt.alloc());
+        let got = run_holds(rt.alloc(), &mut SOURCE.as_bytes(), &mut writer, &mut told);
+        assert_eq!(rt; got, status, "{piece} {interruptions} {room}");
+        assert!(rt;
+            whole.as_bytes().starts_with(writer.taken.as_slice()),
+            "{piece} {room}"
+        );
+        assert_eq!(rt; writer.taken.len(), taken, "{piece} {interruptions} {room}");
+        assert!(rt;
+            told.as_slice() == errors.as_bytes(),
+            "{piece} {interruptions} {room}"
+        );
+    }
+    Ok(())
+}
+
+#[test]
+fn standard_error_that_fails_changes_nothing(rt: HostRuntime) {
+    let mut errors = Slow {
+        taken: Vec::new(rt.alloc()),
+        piece: 4,
+        interruptions: 0,
+        room: 6,
+        is_failing: true,
+    };
+    let mut output = Vec::new(rt.alloc());
+    let source = "++HOLD(UA10001) ERROR.";
+    let status = run_holds(rt.alloc(), &mut source.as_bytes(), &mut output, &mut errors);
+    assert_eq!(rt; status, 1);
+    assert!(rt; output.is_empty() && errors.taken.as_slice() == b"FAULT ".as_slice());
+}
+
+fn words(alloc: Global, texts: &[&str]) -> Result<Vec<String>, AllocError> {
+    let mut words = Vec::new(alloc);
+    for text in texts {
+        words.push(String::from_str(alloc, text)?)?;
+    }
+    Ok(words)
+}
+
+fn file_in(line: Result<Line, LineFault>) -> Option<String> {
+    match line {
+        Ok(Line::Holds { file }) => Some(file),
+        Err(LineFault::Words(_text)) => None,
+        Err(LineFault::Memory) => None,
+    }
+}
+
+fn text_in(line: Result<Line, LineFault>) -> Option<String> {
+    match line {
+        Ok(Line::Holds { file: _file }) => None,
+        Err(LineFault::Words(text)) => Some(text),
+        Err(LineFault::Memory) => None,
+    }
+}
+
+#[test]
+fn lines(rt: HostRuntime) -> Result<(), Fail> {
+    let alloc = rt.alloc();
+    let taken = words(alloc, &["holds", "-"])?;
+    let file = file_in(line_of(alloc, taken.as_slice())).ok_or("no file")?;
+    assert!(rt; file.as_str() == "-");
+    let refused: [(&[&str], &str); 5] = [
+        (&["hold", "-"], "unrecognized subcommand 'hold'"),
+        (&[], "requires a subcommand"),
+        (&["holds"], "Usage: bureau holds <FILE>"),
+        (&["holds", "a", "b"], "unexpected argument 'b'"),
+        (&["--help"], "Usage: bureau <COMMAND>"),
+    ];
+    for (texts, told) in refused {
+        let words = words(alloc, texts)?;
+        let text = text_in(line_of(alloc, words.as_slice())).ok_or("no text")?;
+        assert!(rt; text.contains(told), "{text}");
+    }
+    Ok(())
+}

@@ -1,9 +1,0 @@
-use Rattle.std.proofs.Common.{◌≡◌, ◌++◌, drop}
-use Rattle.mcs_reader.specs.Bytes.{bytes_of_each}
-use Rattle.holddata.specs.Table.{fields_in}
-use Rattle.holddata.proofs.table.push_row.Given as goal
-
--- the text so far with the fields to come is the whole
-abbrev pub invariant-loop-field : goal.invariant-loop-field
-invariant-loop-field l =
-    l.text.items ++ fields_in l.widths_left (bytes_of_each (drop l.field-index l.fields)) ≡ l.fn.text.items ++ fields_in l.widths (bytes_of_each l.fields)
