@@ -101,7 +101,7 @@ unfolding class_of
 class_of-43 = refl
 
 belongs_by_tests : (gap name opens closes ends : Bool) → (name ≡ true → (opens ≡ false) × (closes ≡ false))
-  → belongs_to_value (cond gap Gap (cond name Name (cond opens Open (cond closes Close (cond ends Period Other))))) ≡ not (gap || opens || closes)
+    → belongs_to_value (cond gap Gap (cond name Name (cond opens Open (cond closes Close (cond ends Period Other))))) ≡ not (gap || opens || closes)
 belongs_by_tests true name opens closes ends apart = refl
 belongs_by_tests false true opens closes ends apart = let alone = apart refl in rw (alone.0, alone.1) refl
 belongs_by_tests false false true closes ends apart = refl
