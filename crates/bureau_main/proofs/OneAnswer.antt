@@ -4,20 +4,19 @@ use Rattle.mcs_reader.specs.Reading.{HasOneOutcome}
 use Rattle.holddata.specs.BookText.{book_text}
 use Rattle.holddata.specs.HoldBook.{book_of}
 use Rattle.holddata.specs.Statements.{changes_of, first_fault}
-use Rattle.holddata.specs.declared.hold.HoldChange.{HoldChange}
+use Rattle.holddata.specs.declared.hold.Hold.{Hold}
 use Rattle.holddata.specs.declared.fault.HoldFault.{HoldFault}
 use Rattle.bureau_main.specs.declared.fault.ProgramFault.{ProgramFault}
 use Rattle.bureau_main.specs.declared.fault.ProgramFault.TheVariants.{Statements, Holds, NotRead, NotWritten, Memory}
-use Rattle.bureau_main.specs.Holds.{HasOneAnswer, IsBookText, IsChanged, IsSourceFault}
+use Rattle.bureau_main.specs.Holds.{HasOneAnswer, IsBook, IsBookText, IsSourceFault}
 
 module _ (source : List ℕ) (one : HasOneOutcome source) where
-  one_change : (a b : List HoldChange) → IsChanged source a → IsChanged source b → a ≡ b
-  one_change a b x y =
-      x.changes_are ∙ ap changes_of (one.one_reading x.statements y.statements x.reading y.reading) ∙ sym y.changes_are
+  one_book : (a b : List Hold) → IsBook source a → IsBook source b → a ≡ b
+  one_book a b x y =
+      x.book_is ∙ ap (λ statements. book_of (changes_of statements)) (one.one_reading x.statements y.statements x.reading y.reading) ∙ sym y.book_is
 
   one_text : (a b : List ℕ) → IsBookText source a → IsBookText source b → a ≡ b
-  one_text a b x y =
-      x.text_is ∙ ap (λ changes. book_text (book_of changes)) (one_change x.changes y.changes x.changed y.changed) ∙ sym y.text_is
+  one_text a b x y = x.text_is ∙ ap book_text (one_book x.book y.book x.left y.left) ∙ sym y.text_is
 
   same_fault : (f g : HoldFault) → Some f ≡ Some g → f ≡ g
   same_fault f g e = cc
@@ -42,9 +41,9 @@ module _ (source : List ℕ) (one : HasOneOutcome source) where
   no_fault f e = cc
 
   not_both : (a : List ℕ) (f : ProgramFault) → IsBookText source a → IsSourceFault source f → ⊥
-  not_both a (Statements f) x p = one.not_both x.changed.statements f x.changed.reading p
+  not_both a (Statements f) x p = one.not_both x.left.statements f x.left.reading p
   not_both a (Holds f) x (again, reading, first) =
-      no_fault f (sym x.changed.faultless ∙ ap first_fault (one.one_reading x.changed.statements again x.changed.reading reading) ∙ first)
+      no_fault f (sym x.left.faultless ∙ ap first_fault (one.one_reading x.left.statements again x.left.reading reading) ∙ first)
   not_both a NotRead x p = p
   not_both a NotWritten x p = p
   not_both a Memory x p = p

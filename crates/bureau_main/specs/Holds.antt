@@ -7,7 +7,7 @@ use Rattle.mcs_reader.specs.declared.fault.McsFault.TheVariants as mcs
 use Rattle.holddata.specs.BookText.{book_text}
 use Rattle.holddata.specs.HoldBook.{book_of}
 use Rattle.holddata.specs.Statements.{changes_of, first_fault}
-use Rattle.holddata.specs.declared.hold.HoldChange.{HoldChange}
+use Rattle.holddata.specs.declared.hold.Hold.{Hold}
 use Rattle.holddata.specs.declared.fault.HoldFault.TheVariants as hold
 use Rattle.bureau_main.specs.ProgramFault.{fault_status, fault_text}
 use Rattle.bureau_main.specs.Transfer.{AppendsFront}
@@ -15,18 +15,18 @@ use Rattle.bureau_main.specs.declared.fault.ProgramFault.{ProgramFault}
 use Rattle.bureau_main.specs.declared.fault.ProgramFault.TheVariants.{Statements, Holds, NotRead, NotWritten, Memory}
 use Rattle.bureau_main.specs.declared.holds.TheConstants.{MOST_READ}
 
--- the source is read as statements without a fault, and this is what they do to the holds
-pub record IsChanged (source : List ℕ) (changes : List HoldChange) : Type 0 where
+-- the source is read as statements without a fault, and this is the hold book that they leave
+pub record IsBook (source : List ℕ) (book : List Hold) : Type 0 where
   pub statements : List Statement
   pub reading : IsReading source statements
   pub faultless : first_fault statements ≡ None
-  pub changes_are : changes ≡ changes_of statements
+  pub book_is : book ≡ book_of (changes_of statements)
 
 -- the text is that of the hold book that the source's statements leave
 pub record IsBookText (source text : List ℕ) : Type 0 where
-  pub changes : List HoldChange
-  pub changed : IsChanged source changes
-  pub text_is : text ≡ book_text (book_of changes)
+  pub book : List Hold
+  pub left : IsBook source book
+  pub text_is : text ≡ book_text book
 
 -- the fault of a source: it isn't read as statements, or the statements that it is read as have a fault
 abbrev pub IsSourceFault : List ℕ → ProgramFault → Type 0

@@ -1,11 +1,11 @@
 //! `holds`: from the bytes of HOLDDATA to the hold book in print.
 ghost use Rattle.std.specs.Prelude.{◌≡◌, ◌⊎◌, IfOk, IfErr};
-ghost use Rattle.bureau_main.specs.Holds.{fault_in, HasOneAnswer, IsBookText, IsChanged, IsHoldsRun, IsMemory, IsPrinted, IsSourceFault};
+ghost use Rattle.bureau_main.specs.Holds.{fault_in, HasOneAnswer, IsBook, IsBookText, IsHoldsRun, IsMemory, IsPrinted, IsSourceFault};
 
 use crate::fault::{ProgramFault, report};
 use crate::transfer::{RETRIES, read_source, write_text};
-use holddata::{HoldChange, book_left, changes};
-use mcs_reader::read;
+use holddata::HoldBook;
+use mcs_reader::Statements;
 use std::alloc::Global;
 use std::io::{Read, Write};
 
@@ -58,16 +58,23 @@ pub fn hold_book_text(alloc: Global, source: &[u8]) -> Result<Vec<u8>, ProgramFa
     // A source has one of the two, and one alone.
     ensures one_answer { HasOneAnswer source.now }
 {
-    let book = book_left(alloc, changes_in(alloc, source)?)?;
-    Ok(book.text()?)
+    Ok(book_in(alloc, source)?.text()?)
 }
 
-// What the statements of a source do to the holds.
-fn changes_in(alloc: Global, source: &[u8]) -> Result<Vec<HoldChange>, ProgramFault>
-    ensures changes { IfOk result (λ changes. IsChanged source.now changes.items) }
+// The hold book that the statements of a source leave. No statement is kept, and what is behind the first
+// that has a fault as a hold is read too, since a fault of the text itself comes before it.
+fn book_in(alloc: Global, source: &[u8]) -> Result<HoldBook, ProgramFault>
+    ensures book { IfOk result (λ book. IsBook source.now book) }
     ensures fault { IfErr result (λ fault. IsMemory fault ⊎ IsSourceFault source.now fault) }
     ensures one_answer { HasOneAnswer source.now }
 {
-    let statements = read(alloc, source)?;
-    Ok(changes(alloc, statements.as_slice())?)
+    let mut statements = Statements::new(alloc, source)?;
+    let mut book = HoldBook::new(alloc);
+    'statements: while let Some(statement) = statements.next()? {
+        if let Err(fault) = book.apply_statement(&statement) {
+            statements.finish()?;
+            return Err(ProgramFault::Holds(fault));
+        }
+    }
+    Ok(book)
 }

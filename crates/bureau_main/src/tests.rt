@@ -107,7 +107,7 @@ fn worked_sources(rt: HostRuntime) -> Result<(), Fail> {
     let classless = format!(in rt.alloc();
         "{HEADING}UA10001  ERROR   AA20002  -        -        12366  -        -\nROWS 1\n"
     )?;
-    let rows: [(&str, u8, &str, &str); 9] = [
+    let rows: [(&str, u8, &str, &str); 11] = [
         ("", 0, empty.as_str(), ""),
         (SOURCE, 0, one.as_str(), ""),
         (
@@ -137,6 +137,19 @@ fn worked_sources(rt: HostRuntime) -> Result<(), Fail> {
             "FAULT 15 2\n",
         ),
         ("++HOLD(UA10001 ERROR.", 1, "", "FAULT 3 1\n"),
+        // A fault of the text comes before those of its holds, and of the latter the first.
+        (
+            "++HOLD(UA10001) ERROR.\n++HOLD(UA10002) ERROR",
+            1,
+            "",
+            "FAULT 1 2\n",
+        ),
+        (
+            "++HOLD(UA10001) ERROR.\n++HOLD(UA10002) REASON(A).",
+            1,
+            "",
+            "FAULT 13 1\n",
+        ),
     ];
     for (source, status, output, errors) in rows {
         let run = run_of(rt.alloc(), &mut source.as_bytes());

@@ -1,5 +1,5 @@
 //! The hold book.
-ghost use Rattle.std.specs.Prelude.{◌≡◌, ◌↔◌, length, IsTrue, ◌++◌, [], ◌∷◌, List, IfOk, OnOk, OnErr, IsOk, if◌then◌else◌};
+ghost use Rattle.std.specs.Prelude.{◌≡◌, ◌≢◌, ◌↔◌, length, IsTrue, ◌++◌, [], ◌∷◌, List, IfOk, IfErr, OnOk, OnErr, IsOk, Some, None, if◌then◌else◌};
 ghost use Rattle.std.specs.Option.{option_copied};
 ghost use Rattle.std.specs.Map.Iter.{ShowsInOrder, deref};
 ghost use Rattle.holddata.specs.declared.key.HoldKey.{HoldKey};
@@ -10,11 +10,15 @@ ghost use Rattle.holddata.specs.HoldKey.{key_cmp};
 ghost use Rattle.holddata.specs.HoldChange.{hold_put, names};
 ghost use Rattle.holddata.specs.HoldBook.{hold_under, IsInKeyOrder, IsKeyed, IsLeft, book_of};
 ghost use Rattle.holddata.specs.BookText.{book_text};
+ghost use Rattle.holddata.specs.Statements.{changes_of, faults_of, first_of};
+ghost use Rattle.holddata.specs.declared.fault.HoldFault.TheVariants.{Memory};
+ghost use Rattle.mcs_reader.specs.declared.statement.Statement.{Statement};
 
 use crate::print::{push_heading, push_hold};
 use crate::table::push_count;
-use crate::{Hold, HoldChange, HoldKey};
-use std::alloc::{AllocError, Global};
+use crate::{Hold, HoldChange, HoldFault, HoldKey, NoMemory, change};
+use mcs_reader::Statement;
+use std::alloc::Global;
 use std::collections::BTreeMap;
 use std::collections::btree_map::Values;
 use std::marker::Model;
@@ -85,7 +89,7 @@ impl HoldBook {
     }
 
     /// The same book once more.
-    pub fn copy(&self) -> Result<Self, AllocError>
+    pub fn copy(&self) -> Result<Self, NoMemory>
         ensures { IfOk result (λ copy. copy ≡ self.now) }
     {
         Ok(HoldBook {
@@ -97,7 +101,7 @@ impl HoldBook {
     /// Makes one change. A put replaces the hold of its key whole; a release takes its key away,
     /// whatever the FMID, and does nothing where there is no such hold. Where memory runs out, which
     /// a release never meets, the book is as it was.
-    pub fn apply(&mut self, change: HoldChange) -> Result<(), AllocError>
+    pub fn apply(&mut self, change: HoldChange) -> Result<(), NoMemory>
         ensures holds { OnOk result ((key : HoldKey) →
             hold_under self.new key ≡ (if names key change then hold_put change else hold_under self.old key)) }
         ensures in_key_order { IsInKeyOrder self.new }
@@ -109,9 +113,24 @@ impl HoldBook {
         changed(&mut self.holds, change)
     }
 
+    /// Does to the holds what one statement does (see [`change`]). Where it is refused, or memory runs
+    /// out, the book is as it was.
+    pub fn apply_statement(&mut self, statement: &Statement) -> Result<(), HoldFault>
+        ensures book { OnOk result ((statements : List Statement) →
+            self.old ≡ book_of (changes_of statements) → self.new ≡ book_of (changes_of (statements ++ statement.now ∷ []))) }
+        ensures no_fault { OnOk result (faults_of statement.now ≡ []) }
+        ensures fault { IfErr result (λ fault. fault ≢ Memory → first_of (faults_of statement.now) ≡ Some fault) }
+        ensures err { OnErr result (self.new ≡ self.old) }
+    {
+        if let Some(change) = change(self.alloc, statement)? {
+            self.apply(change)?;
+        }
+        Ok(())
+    }
+
     /// The book in print: a heading, a row for each hold in the order of the keys, and their count.
     /// Each line ends with LF. A field that is absent is `-`.
-    pub fn text(&self) -> Result<Vec<u8>, AllocError>
+    pub fn text(&self) -> Result<Vec<u8>, NoMemory>
         ensures { IfOk result (λ text. text.items ≡ book_text self.now) }
     {
         let mut text = Vec::new(self.alloc);
@@ -127,7 +146,7 @@ impl HoldBook {
 
 /// The book that the changes leave: under each key what the last change that names the key puts, and
 /// nothing where that is a release or where none names it.
-pub fn book_left(alloc: Global, changes: Vec<HoldChange>) -> Result<HoldBook, AllocError>
+pub fn book_left(alloc: Global, changes: Vec<HoldChange>) -> Result<HoldBook, NoMemory>
     ensures book { IfOk result (λ book. book ≡ book_of changes.items) }
     ensures left { IsLeft changes.items (book_of changes.items) }
     ensures only { (book : List Hold) → IsLeft changes.items book → book ≡ book_of changes.items }
@@ -139,14 +158,14 @@ pub fn book_left(alloc: Global, changes: Vec<HoldChange>) -> Result<HoldBook, Al
     Ok(book)
 }
 
-fn copied(holds: &BTreeMap<HoldKey, Hold>) -> Result<BTreeMap<HoldKey, Hold>, AllocError>
+fn copied(holds: &BTreeMap<HoldKey, Hold>) -> Result<BTreeMap<HoldKey, Hold>, NoMemory>
     ensures { IfOk result (λ copy. copy.entries ≡ holds.now.entries) }
 {
     holds.clone()
 }
 
 // Makes one change in the map.
-fn changed(holds: &mut BTreeMap<HoldKey, Hold>, change: HoldChange) -> Result<(), AllocError>
+fn changed(holds: &mut BTreeMap<HoldKey, Hold>, change: HoldChange) -> Result<(), NoMemory>
     ensures updates { OnOk result ((key : HoldKey) →
         get key_cmp holds.new key ≡ (if names key change then hold_put change else get key_cmp holds.old key)) }
     ensures ordered { IsOrdered key_cmp holds.new }
@@ -163,7 +182,7 @@ fn changed(holds: &mut BTreeMap<HoldKey, Hold>, change: HoldChange) -> Result<()
     }
 }
 
-fn put(holds: &mut BTreeMap<HoldKey, Hold>, hold: Hold) -> Result<(), AllocError>
+fn put(holds: &mut BTreeMap<HoldKey, Hold>, hold: Hold) -> Result<(), NoMemory>
     ensures updates { OnOk result ((key : HoldKey) →
         get key_cmp holds.new key ≡ (if is_at (key_cmp hold.key) key then Some hold else get key_cmp holds.old key)) }
     ensures ordered { IsOrdered key_cmp holds.new }

@@ -3,7 +3,8 @@ ghost use Rattle.std.specs.Prelude.{◌≡◌, ◌&&◌, [], IfOk, IsTrue, if◌
 ghost use Rattle.std.specs.List.{list_all};
 ghost use Rattle.holddata.specs.Categories.{is_category, is_category_byte, are_categories, ascends, texts_of};
 
-use std::alloc::{AllocError, Global};
+use crate::NoMemory;
+use std::alloc::Global;
 use std::cmp::Ordering;
 use std::marker::Model;
 
@@ -63,7 +64,7 @@ impl Categories {
     }
 
     /// The same categories once more.
-    pub fn copy(&self) -> Result<Self, AllocError>
+    pub fn copy(&self) -> Result<Self, NoMemory>
         ensures { IfOk result (λ copy. copy ≡ self.now) }
     {
         Ok(Categories {
@@ -72,7 +73,7 @@ impl Categories {
     }
 }
 
-fn copied(alloc: Global, items: &[Vec<u8>]) -> Result<Vec<Vec<u8>>, AllocError>
+fn copied(alloc: Global, items: &[Vec<u8>]) -> Result<Vec<Vec<u8>>, NoMemory>
     ensures { IfOk result (λ copy. texts_of copy.items ≡ texts_of items.now) }
 {
     let mut copy = Vec::with_capacity(alloc, items.len())?;

@@ -1,9 +1,8 @@
 //! A hold, and what a statement does to the holds.
 ghost use Rattle.std.specs.Prelude.{◌≡◌, IfOk};
 
-use crate::{Categories, Date, HoldKey};
+use crate::{Categories, Date, HoldKey, NoMemory};
 use mcs_reader::Id;
-use std::alloc::AllocError;
 
 /// A hold: a SYSMOD is in exception status (IBM z/OS SMP/E Reference, `++HOLD`).
 ///
@@ -25,7 +24,7 @@ pub struct Hold {
 
 impl Hold {
     /// The same hold once more.
-    pub fn copy(&self) -> Result<Self, AllocError>
+    pub fn copy(&self) -> Result<Self, NoMemory>
         ensures { IfOk result (λ copy. copy ≡ self.now) }
     {
         Ok(Hold {
@@ -44,7 +43,7 @@ impl Clone for Hold {
 
     ghost is_clone = { λ hold copy. copy ≡ hold };
 
-    fn clone(&self) -> Result<Self, AllocError> {
+    fn clone(&self) -> Result<Self, NoMemory> {
         self.copy()
     }
 }
@@ -60,7 +59,7 @@ pub enum HoldChange {
 
 impl HoldChange {
     /// The same change once more.
-    pub fn copy(&self) -> Result<Self, AllocError>
+    pub fn copy(&self) -> Result<Self, NoMemory>
         ensures { IfOk result (λ copy. copy ≡ self.now) }
     {
         match self {

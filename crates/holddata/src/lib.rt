@@ -20,5 +20,6 @@ pub use date::Date;
 pub use fault::HoldFault;
 pub use hold::{Hold, HoldChange};
 pub use key::{HoldKey, Kind};
-pub use reading::changes;
+pub use mcs_reader::NoMemory;
+pub use reading::{change, changes};
 pub use table::{push_count, push_row};

@@ -11,9 +11,8 @@ ghost use Rattle.holddata.specs.BookText.{hold_columns, hold_fields, id_field, d
 ghost use Rattle.holddata.specs.Date.{date_digits};
 
 use crate::table::push_row;
-use crate::{Date, Hold, Kind};
+use crate::{Date, Hold, Kind, NoMemory};
 use mcs_reader::Id;
-use std::alloc::AllocError;
 
 // How wide each column is. The last field isn't padded.
 const WIDTHS: [u8; 8] = [9, 8, 9, 9, 9, 7, 9, 0];
@@ -22,7 +21,7 @@ const WIDTHS: [u8; 8] = [9, 8, 9, 9, 9, 7, 9, 0];
 const ABSENT: &[u8] = b"-";
 
 /// Puts the heading of the hold book behind a text.
-pub(crate) fn push_heading(text: &mut Vec<u8>) -> Result<(), AllocError>
+pub(crate) fn push_heading(text: &mut Vec<u8>) -> Result<(), NoMemory>
     ensures { OnOk result (text.new.items ≡ text.old.items ++ heading_of hold_columns) }
 {
     push_row(
@@ -46,7 +45,7 @@ pub(crate) fn push_hold(
     text: &mut Vec<u8>,
     joined: &mut Vec<u8>,
     hold: &Hold,
-) -> Result<(), AllocError>
+) -> Result<(), NoMemory>
     ensures { OnOk result (text.new.items ≡ text.old.items ++ row_of hold_columns (hold_fields hold.now)) }
 {
     join_categories(joined, hold.categories.as_slice())?;
@@ -61,9 +60,9 @@ fn fields_of<'a>(hold: &'a Hold, date: &'a [u8], categories: &'a [u8]) -> [&'a [
         bytes_of_each result ≡ hold_fields hold.now }
 {
     [
-        hold.key.sysmod.text().as_bytes(),
+        hold.key.sysmod.as_bytes(),
         kind_field(&hold.key.kind),
-        hold.key.reason.text().as_bytes(),
+        hold.key.reason.as_bytes(),
         id_field(&hold.fmid),
         id_field(&hold.class),
         date,
@@ -82,7 +81,7 @@ fn id_field(id: &Option<Id>) -> &[u8]
     ensures { result.now ≡ id_field id.now }
 {
     match id {
-        Some(id) => id.text().as_bytes(),
+        Some(id) => id.as_bytes(),
         None => ABSENT,
     }
 }
@@ -98,7 +97,7 @@ fn date_field(digits: &Option<[u8; 5]>) -> &[u8]
 
 // Leaves the categories with commas between in `joined`, or what stands for none.
 #[tactic(auto, using(crate::proofs::TextLemmas::join_is))]
-fn join_categories(joined: &mut Vec<u8>, categories: &[Vec<u8>]) -> Result<(), AllocError>
+fn join_categories(joined: &mut Vec<u8>, categories: &[Vec<u8>]) -> Result<(), NoMemory>
     ensures { OnOk result (joined.new.items ≡ category_field (texts_of categories.now)) }
 {
     joined.clear();

@@ -3,7 +3,7 @@ ghost use Rattle.std.specs.Prelude.{◌≡◌, ◌≢◌, ◌↔◌, ℕ, true, 
 ghost use Rattle.mcs_reader.specs.Operand.{operand_texts};
 ghost use Rattle.holddata.specs.Operands.{kinds_of, the_kind, values_of, is_bad_id, is_bad_date, the_id, the_date};
 ghost use Rattle.holddata.specs.Given.{Shows};
-ghost use Rattle.holddata.specs.Statements.{key_named, hold_of, kind_faults, key_faults, faults_of, first_of, first_fault, changes_of};
+ghost use Rattle.holddata.specs.Statements.{key_named, hold_of, kind_faults, key_faults, faults_of, first_of, first_fault, change_of, changes_of};
 ghost use Rattle.mcs_reader.specs.declared.statement.Statement.{Statement};
 ghost use Rattle.mcs_reader.specs.declared.statement.Verb.TheVariants as verb;
 ghost use Rattle.holddata.specs.declared.fault.HoldFault.TheVariants.{NoReason, BadId, BadDate, Memory};
@@ -28,11 +28,22 @@ pub fn changes(alloc: Global, statements: &[Statement]) -> Result<Vec<HoldChange
 {
     let mut changes = Vec::with_capacity(alloc, statements.len())?;
     for statement in statements {
-        match statement.verb {
-            Verb::Hold => changes.push(HoldChange::Put(hold_by(alloc, statement)?))?,
+        if let Some(change) = change(alloc, statement)? {
+            changes.push(change)?;
         }
     }
     Ok(changes)
+}
+
+/// What one statement does to the holds, or `None` where it does nothing to them.
+pub fn change(alloc: Global, statement: &Statement) -> Result<Option<HoldChange>, HoldFault>
+    ensures change { IfOk result (λ change. change ≡ change_of statement.now) }
+    ensures no_fault { OnOk result (faults_of statement.now ≡ []) }
+    ensures fault { IfErr result (λ fault. fault ≢ Memory → first_of (faults_of statement.now) ≡ Some fault) }
+{
+    match statement.verb {
+        Verb::Hold => Ok(Some(HoldChange::Put(hold_by(alloc, statement)?))),
+    }
 }
 
 // The hold that a `++HOLD` statement puts.

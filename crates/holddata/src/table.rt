@@ -3,13 +3,13 @@ ghost use Rattle.std.specs.Prelude.{◌≡◌, ◌++◌, ◌∷◌, [], ℕ, Lis
 ghost use Rattle.mcs_reader.specs.Bytes.{bytes_of_each};
 ghost use Rattle.holddata.specs.Table.{in_width, fields_in, count_of};
 
+use crate::NoMemory;
 use itoa::Buffer;
-use std::alloc::AllocError;
 
 /// Puts a line of a table behind a text: each field with blanks up to its width, and a line end. A
 /// field without a width, or longer than that, stands as it is. Where memory runs out, the text is as
 /// it was.
-pub fn push_row(text: &mut Vec<u8>, widths: &[u8], fields: &[&[u8]]) -> Result<(), AllocError>
+pub fn push_row(text: &mut Vec<u8>, widths: &[u8], fields: &[&[u8]]) -> Result<(), NoMemory>
     ensures ok { OnOk result (text.new.items ≡ text.old.items ++ (fields_in widths.now (bytes_of_each fields.now) ++ 10 ∷ [])) }
     ensures err { OnErr result (text.new.items ≡ text.old.items) }
 {
@@ -22,7 +22,7 @@ pub fn push_row(text: &mut Vec<u8>, widths: &[u8], fields: &[&[u8]]) -> Result<(
 }
 
 /// Puts the line that counts the rows behind a text. Where memory runs out, the text is as it was.
-pub fn push_count(text: &mut Vec<u8>, rows: usize) -> Result<(), AllocError>
+pub fn push_count(text: &mut Vec<u8>, rows: usize) -> Result<(), NoMemory>
     ensures ok { OnOk result (text.new.items ≡ text.old.items ++ count_of rows) }
     ensures err { OnErr result (text.new.items ≡ text.old.items) }
 {
@@ -31,7 +31,7 @@ pub fn push_count(text: &mut Vec<u8>, rows: usize) -> Result<(), AllocError>
 }
 
 // The same, but where memory runs out a part of the line may stand behind the text.
-fn push_line(text: &mut Vec<u8>, widths: &[u8], fields: &[&[u8]]) -> Result<(), AllocError>
+fn push_line(text: &mut Vec<u8>, widths: &[u8], fields: &[&[u8]]) -> Result<(), NoMemory>
     ensures ok { OnOk result (text.new.items ≡ text.old.items ++ (fields_in widths.now (bytes_of_each fields.now) ++ 10 ∷ [])) }
     ensures kept { take (length text.old.items) text.new.items ≡ text.old.items }
 {
@@ -69,7 +69,7 @@ fn first_width(widths: &[u8]) -> (u8, &[u8])
     }
 }
 
-fn push_field(text: &mut Vec<u8>, width: u8, field: &[u8]) -> Result<(), AllocError>
+fn push_field(text: &mut Vec<u8>, width: u8, field: &[u8]) -> Result<(), NoMemory>
     ensures ok { OnOk result (text.new.items ≡ text.old.items ++ in_width width field.now) }
     ensures kept { (before : List ℕ) → take (length before) text.old.items ≡ before → take (length before) text.new.items ≡ before }
 {

@@ -184,6 +184,18 @@ fn the_last_change_of_a_key_decides(rt: HostRuntime) -> Result<(), Fail> {
 }
 
 #[test]
+fn a_book_takes_one_statement_after_the_other(rt: HostRuntime) -> Result<(), Fail> {
+    let alloc = rt.alloc();
+    let in_error = statement(alloc, 1, &IN_ERROR)?;
+    let kindless = statement(alloc, 2, &[(b"REASON", b"AA20002")])?;
+    let mut book = HoldBook::new(alloc);
+    book.apply_statement(&in_error)?;
+    assert!(rt; book.apply_statement(&kindless) == Err(HoldFault::NoKind(2)));
+    assert_eq!(rt; book.text()?, book_by(alloc, &[in_error])?.text()?);
+    Ok(())
+}
+
+#[test]
 fn a_hold_keeps_its_categories(rt: HostRuntime) -> Result<(), Fail> {
     let alloc = rt.alloc();
     let device = b"IBM.Device".to_vec(alloc)?;

@@ -14,5 +14,6 @@ pub mod PlaceFacts
 pub mod ScanPlaces
 pub mod Alone
 pub mod Outside
+pub mod AnySteps
 pub mod SourceSteps
 pub mod Examples

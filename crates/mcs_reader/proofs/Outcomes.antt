@@ -9,7 +9,8 @@ use Rattle.mcs_reader.specs.Reading.{most_bytes, IsReading, IsStoppedSource, IsF
 use Rattle.mcs_reader.specs.declared.fault.McsFault.{McsFault}
 use Rattle.mcs_reader.specs.declared.statement.Statement.{Statement}
 use Rattle.mcs_reader.proofs.Runs.{IsLines}
-use Rattle.mcs_reader.specs.ReadLines.{Read, read_lines, read_text, with_statements}
+use Rattle.mcs_reader.specs.ReadLines.{read_lines, read_text}
+use Rattle.mcs_reader.specs.Unread.{Read, with_statements}
 use Rattle.mcs_reader.proofs.ReadSteps.{read_lines-end}
 use Rattle.mcs_reader.proofs.Segments.{read_row, read_stopped}
 use Rattle.mcs_reader.proofs.Cut.{Cut, Ending, at_end, stopped, spell_ending, IsEnding, cut_all}

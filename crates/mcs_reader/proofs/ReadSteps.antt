@@ -1,7 +1,8 @@
 -- One step of the machine that reads line by line.
 use Rattle.std.proofs.Common.{◌≡◌, ℕ, zero, suc, List, [], ◌∷◌, ◌++◌, Ok, Err, refl, sym, ap, append_assoc}
 use Rattle.mcs_reader.specs.Place.{verb_at}
-use Rattle.mcs_reader.specs.ReadLines.{Read, at_verb, read_lines, with_statements}
+use Rattle.mcs_reader.specs.ReadLines.{at_verb, read_lines}
+use Rattle.mcs_reader.specs.Unread.{Read, with_statements}
 use Rattle.mcs_reader.specs.declared.statement.Statement.{Statement}
 
 pub read_lines-end : (n line : ℕ) → read_lines n line [] ≡ Ok []

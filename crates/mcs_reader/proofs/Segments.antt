@@ -15,7 +15,8 @@ use Rattle.mcs_reader.specs.Scan.{scan, Found, begins_name, stated, with_subject
 use Rattle.mcs_reader.specs.Place.{after_line, verb_at}
 use Rattle.mcs_reader.proofs.ScanPieces.{scan-statement, scan-fault, scan-stop, no_name_behind, IsFlaw}
 use Rattle.mcs_reader.proofs.Runs.{begins_with-append, after_line-line, IsLine-append, line_ends-append, line_ends-line}
-use Rattle.mcs_reader.specs.ReadLines.{go_on, at_verb, read_lines, with_statements}
+use Rattle.mcs_reader.specs.ReadLines.{go_on, at_verb, read_lines}
+use Rattle.mcs_reader.specs.Unread.{with_statements}
 use Rattle.mcs_reader.proofs.ReadSteps.{with_statements-append, with_statements-none}
 use Rattle.mcs_reader.proofs.Rows.{verb_at-head, verb_at-statement, IsLine-head, step, step-passed, steps-passed}
 

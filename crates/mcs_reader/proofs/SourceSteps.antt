@@ -3,14 +3,15 @@ use Rattle.std.proofs.Common.{◌≡◌, ℕ, suc, ◌+◌, ◌-◌, ◌==◌, �
 use Rattle.mcs_reader.specs.Byte.{line_end}
 use Rattle.mcs_reader.specs.Line.{with_front, lines, without_return, columns_1_to_72, text_of, text_of_lines, line_ends}
 use Rattle.mcs_reader.specs.Place.{Place, IsBehind, after_line, verb_at}
-use Rattle.mcs_reader.specs.ReadLines.{at_verb, go_on, read_lines, with_statements}
+use Rattle.mcs_reader.specs.ReadLines.{at_verb, go_on, read_behind, read_lines}
+use Rattle.mcs_reader.specs.Unread.{with_statements}
 use Rattle.mcs_reader.specs.Scan.{scan, stated}
 use Rattle.mcs_reader.specs.declared.fault.McsFault.{McsFault}
 use Rattle.mcs_reader.specs.declared.statement.Statement.{Statement}
 use Rattle.mcs_reader.specs.declared.statement.Verb.{Verb}
 use Rattle.mcs_reader.proofs.ReadSteps.{read_lines-end}
 use Rattle.mcs_reader.proofs.Rows.{step}
-use Rattle.mcs_reader.proofs.ScanPlaces.{shorter_after_line}
+use Rattle.mcs_reader.proofs.AnySteps.{any_steps, fits_behind}
 
 -- the size of a text
 
@@ -103,45 +104,57 @@ next_lines m line_before line_now before now (b ∷ behind) at sums passed =
     let ends : line_ends now ≡ 1 + line_ends (b ∷ behind) = line_ends-after_line now some ∙ ap (λ t. 1 + line_ends t) at in
     ap (λ l. read_lines m l (b ∷ behind)) (omega (arith, sums, ends, passed))
 
-fits_behind : (now behind : List ℕ) (m : ℕ) → after_line now ≡ behind → length now ≤ suc m → length behind ≤ m
-fits_behind now [] m at fits = omega arith
-fits_behind now (b ∷ behind) m at fits =
-    let P : List ℕ → Type 0 = λ t. 0 < length t in
-    let some : 0 < length (after_line now) = subst P (sym at) (omega arith) in
-    let less = shorter_after_line now some in
-    let size = ap length at in
-    omega arith
+-- What is left to read at the beginning of a line, and behind it.
 
--- a line that is passed over
-pub passed_line : (n line : ℕ) (text : List ℕ) → 0 < length text → length text ≤ n → verb_at text ≡ None
-    → (m : ℕ) × (read_lines n line text ≡ read_lines m (line + 1) (after_line text)) × (length (after_line text) ≤ m)
-passed_line n line text some fits none =
-    let once = step n line text some fits in
-    (once.0, once.2 ∙ ap (at_verb (read_lines once.0) line text) none, fits_behind text (after_line text) once.0 refl (omega (arith, once.1)))
+-- one place begins the line behind another
+pub record Begins (now last : Place) : Type 0 where
+  pub text : now.text ≡ after_line last.text
+  pub line : now.line ≡ last.line + 1
+  pub more : 0 < length now.text
 
--- a statement
-pub statement_line : (n line : ℕ) (text : List ℕ) (verb : Verb) (behind : List ℕ) (statement : Statement) (now : Place)
-    → 0 < length text → length text ≤ n → verb_at text ≡ Some (verb, behind)
-    → stated verb line (scan line 0 true false behind) ≡ Ok (statement, now.text)
-    → IsBehind now (record { text = text; line = line })
-    → (m : ℕ) × (read_lines n line text ≡ with_statements (statement ∷ []) (read_lines m (now.line + 1) (after_line now.text))) × (length (after_line now.text) ≤ m)
-statement_line n line text verb behind statement now some fits verb_is read is =
-    let once = step n line text some fits in
-    let shorter = is.text in (
+-- the step at the beginning of the line, with more steps behind it than are needed
+abbrev Step : Place → Place → Type 0
+Step last now = (m : ℕ) × (length now.text ≤ suc m) × (read_behind last ≡ at_verb (read_lines m) now.line now.text (verb_at now.text))
+
+step_at : (last now : Place) → Begins now last → Step last now
+step_at last now at =
+    let once = step (length now.text) now.line now.text at.more (omega arith) in (
       once.0,
-      once.2
-          ∙ ap (at_verb (read_lines once.0) line text) verb_is
-          ∙ ap (go_on (read_lines once.0) line text) read
-          ∙ ap (with_statements (statement ∷ [])) (next_lines once.0 line now.line text now.text (after_line now.text) refl is.lines is.passed),
-      fits_behind now.text (after_line now.text) once.0 refl (omega (arith, once.1, shorter)),
+      omega (arith, once.1),
+      ap (λ t. read_lines (length t) (last.line + 1) t) (sym at.text) ∙ ap (λ l. read_lines (length now.text) l now.text) (sym at.line) ∙ once.2,
     )
 
--- a statement that is refused
-pub refused_line : (n line : ℕ) (text : List ℕ) (verb : Verb) (behind : List ℕ) (fault : McsFault)
-    → 0 < length text → length text ≤ n → verb_at text ≡ Some (verb, behind)
-    → stated verb line (scan line 0 true false behind) ≡ Err fault → read_lines n line text ≡ Err fault
-refused_line n line text verb behind fault some fits verb_is refused =
-    let once = step n line text some fits in
+-- a line that is passed over
+pub passed_line : (last now : Place) → Begins now last → verb_at now.text ≡ None → read_behind last ≡ read_behind now
+passed_line last now at none =
+    let once = step_at last now at in
     once.2
-    ∙ ap (at_verb (read_lines once.0) line text) verb_is
-    ∙ ap (go_on (read_lines once.0) line text) refused
+    ∙ ap (at_verb (read_lines once.0) now.line now.text) none
+    ∙ any_steps once.0 (length (after_line now.text)) (now.line + 1) (after_line now.text) (fits_behind now.text (after_line now.text) once.0 refl once.1) (omega arith)
+
+-- a statement
+pub statement_line : (last now end : Place) (verb : Verb) (behind : List ℕ) (statement : Statement) → Begins now last → verb_at now.text ≡ Some (verb, behind)
+    → stated verb now.line (scan now.line 0 true false behind) ≡ Ok (statement, end.text) → IsBehind end now
+    → read_behind last ≡ with_statements (statement ∷ []) (read_behind end)
+statement_line last now end verb behind statement at verb_is read is =
+    let once = step_at last now at in
+    let shorter = is.text in
+    once.2
+    ∙ ap (at_verb (read_lines once.0) now.line now.text) verb_is
+    ∙ ap (go_on (read_lines once.0) now.line now.text) read
+    ∙ ap (with_statements (statement ∷ []))
+    (next_lines once.0 now.line end.line now.text end.text (after_line end.text) refl is.lines is.passed
+    ∙ any_steps once.0 (length (after_line end.text)) (end.line + 1) (after_line end.text) (fits_behind end.text (after_line end.text) once.0 refl (omega (arith, once.1, shorter))) (omega arith))
+
+-- a statement that is refused
+pub refused_line : (last now : Place) (verb : Verb) (behind : List ℕ) (fault : McsFault) → Begins now last → verb_at now.text ≡ Some (verb, behind)
+    → stated verb now.line (scan now.line 0 true false behind) ≡ Err fault → read_behind last ≡ Err fault
+refused_line last now verb behind fault at verb_is refused =
+    let once = step_at last now at in
+    once.2
+    ∙ ap (at_verb (read_lines once.0) now.line now.text) verb_is
+    ∙ ap (go_on (read_lines once.0) now.line now.text) refused
+
+-- the end of the text
+pub no_line : (last : Place) → after_line last.text ≡ [] → read_behind last ≡ Ok []
+no_line last end = ap (λ t. read_lines (length t) (last.line + 1) t) end ∙ read_lines-end 0 (last.line + 1)

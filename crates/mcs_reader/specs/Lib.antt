@@ -1,5 +1,6 @@
 pub mod Byte
 pub mod Bytes
+pub mod Held
 pub mod Id
 pub mod Line
 pub mod Lists
@@ -14,4 +15,5 @@ pub mod Scan
 pub mod Segment
 pub mod StatementText
 pub mod Stop
+pub mod Unread
 pub mod Verb

@@ -1,19 +1,12 @@
 -- No part of what is promised: a plain machine that reads a text line by line: a statement where a line's head names a verb, and
 -- else the line is passed over. The first argument bounds how many of these steps it takes.
-use Rattle.std.specs.Prelude.{ℕ, zero, suc, ◌+◌, ◌-◌, true, false, List, [], ◌∷◌, ◌++◌, length, Option, Some, None, Result, Ok, Err}
+use Rattle.std.specs.Prelude.{◌≡◌, ℕ, zero, suc, ◌+◌, ◌-◌, ◌<◌, true, false, List, [], ◌∷◌, length, Option, Some, None, Ok, Err}
 use Rattle.mcs_reader.specs.Line.{line_ends}
-use Rattle.mcs_reader.specs.declared.fault.McsFault.{McsFault}
-use Rattle.mcs_reader.specs.declared.statement.Verb.{Verb}
 use Rattle.mcs_reader.specs.declared.statement.Statement.{Statement}
+use Rattle.mcs_reader.specs.declared.statement.Verb.{Verb}
 use Rattle.mcs_reader.specs.Scan.{scan, Stated, stated}
-use Rattle.mcs_reader.specs.Place.{after_line, verb_at}
-
-abbrev pub Read : Type 0
-Read = Result (List Statement) McsFault
-
-abbrev pub with_statements : List Statement → Read → Read
-with_statements front (Ok statements) = Ok (front ++ statements)
-with_statements front (Err fault) = Err fault
+use Rattle.mcs_reader.specs.Place.{Place, after_line, verb_at}
+use Rattle.mcs_reader.specs.Unread.{Read, with_statements}
 
 -- what comes behind a statement
 abbrev pub go_on : (ℕ → List ℕ → Read) → ℕ → List ℕ → Stated → Read
@@ -33,3 +26,12 @@ read_lines (suc n) line (b ∷ text) = at_verb (read_lines n) line (b ∷ text) 
 -- what the machine makes of a whole text
 abbrev pub read_text : List ℕ → Read
 read_text text = read_lines (length text) 1 text
+
+-- what the machine makes of the lines behind the one on which a place lies
+abbrev pub read_behind : Place → Read
+read_behind place = read_lines (length (after_line place.text)) (place.line + 1) (after_line place.text)
+
+-- the statement is the first behind one place, and another place, further on, stands behind it
+pub record GivesNext (before : Place) (statement : Statement) (now : Place) : Type 0 where
+  pub first : read_behind before ≡ with_statements (statement ∷ []) (read_behind now)
+  pub further : length now.text < length before.text

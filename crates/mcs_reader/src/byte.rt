@@ -46,7 +46,7 @@ pub(crate) fn is_blank_byte(b: u8) -> bool
 pub(crate) fn stands_in_name(b: u8) -> bool
     ensures { result ≡ is_name_byte b }
 {
-    matches!(b, b'A'..=b'Z' | b'a'..=b'z' | b'0'..=b'9' | b'@' | b'#' | b'$')
+    b.is_ascii_alphanumeric() || matches!(b, b'@' | b'#' | b'$')
 }
 
 #[inline]

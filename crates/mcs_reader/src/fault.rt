@@ -4,6 +4,9 @@ ghost use Rattle.mcs_reader.specs.declared.fault.McsFault.TheVariants.{Memory};
 use std::alloc::{AllocError, AllocFailed};
 use thiserror::Error;
 
+/// Memory ran out.
+pub use std::alloc::AllocError as NoMemory;
+
 /// Why a source isn't read. Lines are numbered from 1, and each line here is the one on which the
 /// statement with the fault begins.
 #[derive(Clone, Copy, Debug, PartialEq, Eq, Error)]

@@ -45,14 +45,24 @@ impl Id {
     }
 
     /// The text, which is 1 to 7 characters long and has no blanks.
-    #[tactic(auto, using(crate::proofs::IdFacts::text_begins, crate::proofs::IdFacts::text_fits, crate::proofs::IdFacts::ascii_id_text))]
+    #[tactic(auto, using(crate::proofs::IdFacts::ascii_id_text))]
     pub fn text(&self) -> &str
         ensures value { result.now ≡ text_of self.now }
         ensures allowed { IsTrue (is_id_text result.now) }
         ensures whole { self.now ≡ padded result.now }
     {
+        ascii_str(self.as_bytes())
+    }
+
+    /// The text as ASCII.
+    #[tactic(auto, using(crate::proofs::IdFacts::text_begins, crate::proofs::IdFacts::text_fits))]
+    pub fn as_bytes(&self) -> &[u8]
+        ensures value { result.now ≡ text_of self.now }
+        ensures allowed { IsTrue (is_id_text result.now) }
+        ensures whole { self.now ≡ padded result.now }
+    {
         let (text, _) = self.bytes.split_at(text_len(&self.bytes));
-        ascii_str(text)
+        text
     }
 }
 

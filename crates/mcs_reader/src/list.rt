@@ -9,10 +9,10 @@ ghost use Rattle.mcs_reader.specs.declared.fault.McsFault.TheVariants.{Memory};
 use crate::byte::Class;
 use crate::cursor::Cursor;
 use crate::{McsFault, Values};
-use std::alloc::Global;
 
 /// The next value of the list, or `None` behind the parenthesis that closes it. `depth` counts the
 /// parentheses that are open.
+#[inline(always)]
 pub(crate) fn next_value<'a>(
     cursor: &mut Cursor<'a>,
     depth: &mut usize,
@@ -55,8 +55,8 @@ pub(crate) fn next_value<'a>(
 
 /// The values of the list whose opening parenthesis was passed, up to the one that closes it.
 pub(crate) fn values<'a>(
-    alloc: Global,
     cursor: &mut Cursor<'a>,
+    room: &mut Vec<&'a [u8]>,
     line: u32,
 ) -> Result<Values<'a>, McsFault>
     requires depth_room { length cursor.old.text < 2 ^ 63 }
@@ -66,12 +66,12 @@ pub(crate) fn values<'a>(
     ensures err { IfErr result (λ fault. fault ≢ Memory → scan line 1 false false cursor.old.text ≡ Err fault) }
     ensures behind { IsBehind cursor.new cursor.old }
 {
-    let mut values = Vec::new(alloc);
+    room.clear();
     let mut depth = 1;
     'values: while let Some(value) = next_value(cursor, &mut depth, line)? {
-        values.push(value)?;
+        room.push(value)?;
     }
-    Ok(Values::from_vec(values))
+    Ok(Values::gathered(room)?)
 }
 
 /// The value of the list whose opening parenthesis was passed, where it has just one.

@@ -12,8 +12,8 @@ ghost use Rattle.mcs_reader.specs.declared.fault.McsFault.TheVariants.{Memory};
 use crate::byte::Class;
 use crate::cursor::Cursor;
 use crate::list::{sole_value, values};
+use crate::room::{Room, taken};
 use crate::{Id, McsFault, Operand, Operands, Values};
-use std::alloc::Global;
 
 /// Goes to the next byte that is no gap, and gives its class.
 fn skip_gap(cursor: &mut Cursor<'_>, line: u32) -> Result<Class, McsFault>
@@ -41,8 +41,8 @@ fn skip_gap(cursor: &mut Cursor<'_>, line: u32) -> Result<Class, McsFault>
 
 /// The list that follows a name, gaps aside, if one does.
 fn list_behind<'a>(
-    alloc: Global,
     cursor: &mut Cursor<'a>,
+    room: &mut Vec<&'a [u8]>,
     line: u32,
 ) -> Result<Option<Values<'a>>, McsFault>
     requires depth_room { length cursor.old.text < 2 ^ 63 }
@@ -55,7 +55,7 @@ fn list_behind<'a>(
     match skip_gap(cursor, line)? {
         Class::Open => {
             cursor.advance();
-            Ok(Some(values(alloc, cursor, line)?))
+            Ok(Some(values(cursor, room, line)?))
         }
         _ => Ok(None),
     }
@@ -83,7 +83,11 @@ pub(crate) fn subject(cursor: &mut Cursor<'_>, line: u32) -> Result<Option<Id>, 
 }
 
 /// The operand whose name begins here.
-fn operand<'a>(alloc: Global, cursor: &mut Cursor<'a>, line: u32) -> Result<Operand<'a>, McsFault>
+fn operand<'a>(
+    cursor: &mut Cursor<'a>,
+    room: &mut Vec<&'a [u8]>,
+    line: u32,
+) -> Result<Operand<'a>, McsFault>
     requires name { class_at cursor.old.text ≡ Some Name }
     requires depth_room { length cursor.old.text < 2 ^ 63 }
     requires line_room { cursor.old.line + line_ends cursor.old.text < 2 ^ 32 }
@@ -95,17 +99,17 @@ fn operand<'a>(alloc: Global, cursor: &mut Cursor<'a>, line: u32) -> Result<Oper
     ensures behind { IsBehind cursor.new cursor.old }
 {
     let name = cursor.name();
-    let values = match list_behind(alloc, cursor, line)? {
+    let values = match list_behind(cursor, room, line)? {
         Some(values) => values,
-        None => Values::from_vec(Vec::new(alloc)),
+        None => Values::from_vec(Vec::new(*room.allocator())),
     };
     Ok(Operand { name, values })
 }
 
 /// The operands up to the period, which is passed.
 pub(crate) fn operands<'a>(
-    alloc: Global,
     cursor: &mut Cursor<'a>,
+    room: &mut Room<'a>,
     line: u32,
 ) -> Result<Operands<'a>, McsFault>
     requires depth_room { length cursor.old.text < 2 ^ 63 }
@@ -116,13 +120,16 @@ pub(crate) fn operands<'a>(
     ensures err { IfErr result (λ fault. fault ≢ Memory → scan line 0 false false cursor.old.text ≡ Err fault) }
     ensures behind { IsBehind cursor.new cursor.old }
 {
-    let mut operands = Vec::new(alloc);
+    room.operands.clear();
     'names: loop {
         match skip_gap(cursor, line)? {
-            Class::Name => operands.push(operand(alloc, cursor, line)?)?,
+            Class::Name => {
+                let operand = operand(cursor, &mut room.values, line)?;
+                room.operands.push(operand)?;
+            }
             Class::Period => {
                 cursor.advance();
-                return Ok(Operands::from_vec(operands));
+                return Ok(Operands::from_vec(taken(&mut room.operands)?));
             }
             Class::Close => return Err(McsFault::Unbalanced(line)),
             _ => return Err(McsFault::BadByte(line)),

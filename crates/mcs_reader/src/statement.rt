@@ -1,8 +1,10 @@
-ghost use Rattle.std.specs.Prelude.{◌≡◌};
+ghost use Rattle.std.specs.Prelude.{◌≡◌, [], ◌∷◌, IfOk};
 ghost use Rattle.mcs_reader.specs.Bytes.{bytes_of_each};
 
-use crate::Id;
+use crate::room::taken;
+use crate::{Id, NoMemory};
 use std::marker::Model;
+use std::slice;
 
 /// What a statement does: the name behind its `++`.
 #[derive(Clone, Copy, Debug, PartialEq, Eq, PartialOrd, Ord, Hash)]
@@ -27,38 +29,57 @@ impl Verb {
     }
 }
 
-/// The values of one list, in order. A contract sees the list of their bytes.
+/// The values of one list, in order. A contract sees the list of their bytes. A value that stands alone
+/// takes no memory.
 #[derive(Debug, Drop)]
 pub struct Values<'a> {
-    items: Vec<&'a [u8]>,
+    held: Held<'a>,
+}
+
+// Most lists have one value.
+#[derive(Debug, Drop)]
+enum Held<'a> {
+    One(&'a [u8]),
+    Any(Vec<&'a [u8]>),
 }
 
 impl<'a> Model for Values<'a> {
     ghost use Rattle.std.specs.Prelude.{ℕ, List};
-    ghost use Rattle.mcs_reader.specs.Bytes.{bytes_of_each};
+    ghost use Rattle.mcs_reader.specs.Held.{bytes_held};
 
     ghost Value = { List (List ℕ) };
 
-    ghost view = { λ v. bytes_of_each v.items.items };
+    ghost view = { λ v. bytes_held v.held };
 }
 
 impl<'a> Values<'a> {
     pub fn from_vec(items: Vec<&'a [u8]>) -> Self
         ensures { result ≡ bytes_of_each items.entry.items }
     {
-        Values { items }
+        Values {
+            held: Held::Any(items),
+        }
+    }
+
+    // The values that were gathered.
+    pub(crate) fn gathered(room: &mut Vec<&'a [u8]>) -> Result<Self, NoMemory>
+        ensures { IfOk result (λ values. values ≡ bytes_of_each room.old.items) }
+    {
+        if let [value] = room.as_slice() {
+            return Ok(Values {
+                held: Held::One(value),
+            });
+        }
+        Ok(Values::from_vec(taken(room)?))
     }
 
     pub fn as_slice(&self) -> &[&'a [u8]]
         ensures { bytes_of_each result.now ≡ self.now }
     {
-        self.items.as_slice()
-    }
-
-    pub fn into_vec(self) -> Vec<&'a [u8]>
-        ensures { bytes_of_each result.items ≡ self.entry }
-    {
-        self.items
+        match &self.held {
+            Held::One(value) => slice::from_ref(value),
+            Held::Any(items) => items.as_slice(),
+        }
     }
 }
 

@@ -1,4 +1,4 @@
-use crate::{McsFault, Operand, Statement, Verb, read};
+use crate::{McsFault, Operand, Statement, Statements, Verb, read};
 use std::process::Abort;
 use std::test::Fail;
 
@@ -113,6 +113,43 @@ fn the_first_fault_is_told(rt: HostRuntime) -> Result<(), Fail> {
     for (source, fault) in table {
         assert_refused(&rt, read(rt.alloc(), source), fault);
     }
+    Ok(())
+}
+
+#[test]
+fn statements_come_one_at_a_time(rt: HostRuntime) -> Result<(), Fail> {
+    let source: &[u8] = b"++HOLD(A) X(B C).\n++HOLD(B).\n between\n++HOLD(C) ;.\n++HOLD(D).";
+    let mut statements = Statements::new(rt.alloc(), source)?;
+    for text in ["1 A X=B=C", "2 B"] {
+        let statement = statements.next()?.ok_or("a statement")?;
+        assert_eq!(rt; shown(&rt, &statement)?.as_str(), text);
+    }
+    assert_eq!(rt; statements.next().err(), Some(McsFault::BadByte(4)));
+    let all = Statements::new(rt.alloc(), source)?;
+    assert_eq!(rt; all.finish(), Err(McsFault::BadByte(4)));
+
+    let mut last = Statements::new(rt.alloc(), b"++HOLD(A).")?;
+    assert!(rt; last.next()?.is_some());
+    assert!(rt; last.next()?.is_none() && last.next()?.is_none());
+    assert_eq!(rt; last.finish(), Ok(()));
+    Ok(())
+}
+
+// More values than are copied, and a short list behind the long one.
+#[test]
+fn a_list_may_be_long(rt: HostRuntime) -> Result<(), Fail> {
+    let mut text = b"++HOLD(A) LONG(\n".to_vec(rt.alloc())?;
+    for _ in 0..100 {
+        text.extend_from_slice(b"B\n")?;
+    }
+    text.extend_from_slice(b") NONE() ONE(C) TWO(D E).")?;
+    let mut lens = Vec::new(rt.alloc());
+    for statement in read(rt.alloc(), &text)? {
+        for operand in statement.operands.as_slice() {
+            lens.push(operand.values.as_slice().len())?;
+        }
+    }
+    assert!(rt; lens.as_slice() == [100, 0, 1, 2].as_slice());
     Ok(())
 }
 

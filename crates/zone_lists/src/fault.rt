@@ -1,9 +1,7 @@
 //! What is wrong with a list.
+pub use mcs_reader::NoMemory;
 use std::alloc::{AllocError, AllocFailed};
 use thiserror::Error;
-
-/// There was no memory for a copy.
-pub use std::alloc::AllocError as NoMemory;
 
 /// The first fault of a list. A number is that of the record, counted from 1 behind the header.
 #[derive(Clone, Copy, Debug, PartialEq, Eq, Hash, Error)]

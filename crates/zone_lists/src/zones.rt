@@ -10,12 +10,12 @@ ghost use Rattle.zone_lists.specs.Fields as Spec;
 ghost use Rattle.zone_lists.specs.Kinds.{RowsAscend, are_zone_names, has_other_state, row_of, same_state, state_of, zone_fields, zone_list, zone_rows_of};
 ghost use Rattle.zone_lists.specs.Lists.{HasEach, IsRefusal, at_number};
 
-use crate::fault::ListFault;
+use crate::fault::{ListFault, NoMemory};
 use crate::fields::two_fields;
 use crate::records::Records;
 use csv::ByteRecord;
 use mcs_reader::Id;
-use std::alloc::{AllocError, Global};
+use std::alloc::Global;
 use std::collections::BTreeMap;
 
 /// How many records a zone's list may have behind its header.
@@ -59,7 +59,7 @@ pub fn zone_rows(alloc: Global, text: &[u8]) -> Result<Vec<ZoneRow>, ListFault>
 }
 
 // The entries of a map as rows.
-fn rows_of(alloc: Global, states: BTreeMap<Id, ZoneState>) -> Result<Vec<ZoneRow>, AllocError>
+fn rows_of(alloc: Global, states: BTreeMap<Id, ZoneState>) -> Result<Vec<ZoneRow>, NoMemory>
     ensures rows { IfOk result (λ rows. rows.items ≡ map row_of states.entries) }
     ensures ascending { OnOk result (IsStrictlySortedBy (slice_cmp nat_cmp) (keys_of states.entries)) }
 {

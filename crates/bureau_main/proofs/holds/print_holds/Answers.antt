@@ -1,7 +1,7 @@
 use Rattle.std.proofs.Common.{◌⊎◌, subst}
 use Rattle.std.proofs.lemmas.Result.{err_from_is_err_and}
 use Rattle.std.specs.Io.KnownBytes.{Appends}
-use Rattle.bureau_main.specs.Holds.{IsBookText, IsMemory, IsSourceFault, IsPrinted, fault_in}
+use Rattle.bureau_main.specs.Holds.{IsBookText, IsMemory, IsSourceFault}
 use Rattle.bureau_main.specs.Transfer.{AppendsFront}
 use Rattle.bureau_main.proofs.Output.{unread, unmade}
 use Rattle.bureau_main.proofs.holds.print_holds.Goals as goal

@@ -1,16 +1,18 @@
-use Rattle.std.proofs.Common.{◌≡◌, ◌∷◌, Some, rules, sym, ◌∙◌, ap, drop, suc, drop-cons}
+use Rattle.std.proofs.Common.{◌≡◌, ◌≢◌, ◌∷◌, Some, rules, sym, ◌∙◌, ap, drop, suc, drop-cons}
 use Rattle.std.specs.List.{flat_map}
+use Rattle.holddata.specs.declared.fault.HoldFault.TheVariants.{Memory}
 use Rattle.holddata.specs.Statements.{faults_of, first_fault}
 use Rattle.holddata.proofs.StatementLemmas.{first_of_longer}
 use Rattle.holddata.proofs.reading.changes.Goals as goal
 
-pub returns-in_err-hold_by-clause-fault : goal.returns-in_err-hold_by-clause-fault
-returns-in_err-hold_by-clause-fault c =
+pub returns-in_err-change-clause-fault : goal.returns-in_err-change-clause-fault
+returns-in_err-change-clause-fault c =
     let statements = c.args.statements.now in
     let i = c.loop-statement.statement-index in
     let x = c.statement-item.result in
     let here : drop i statements ≡ x ∷ drop (suc i) statements =
     drop-cons statements i x c.loop-statement-test.true ∙ ap (λ y. y ∷ drop (suc i) statements) (sym c.statement-item.is) in
-    let e : first_fault statements ≡ Some c.in_err-hold_by.field-0.0 =
-    sym c.loop-statement.invariant.fault ∙ ap first_fault here ∙ first_of_longer (faults_of x) (flat_map faults_of (drop (suc i) statements)) _ c.in_err-hold_by.ensures.fault in
+    let e : c.in_err-change.field-0.0 ≢ Memory → first_fault statements ≡ Some c.in_err-change.field-0.0 = λ other.
+    sym c.loop-statement.invariant.fault ∙ ap first_fault here
+    ∙ first_of_longer (faults_of x) (flat_map faults_of (drop (suc i) statements)) _ (c.in_err-change.ensures.fault other) in
     search rules

@@ -1,0 +1,42 @@
+use Rattle.std.proofs.Common.{◌≡◌, ◌+◌, ◌≤◌, ◌∷◌, List, ℕ, length, inr, Ok, Err, sym, ◌∙◌, ap, arith}
+use Rattle.mcs_reader.specs.Byte.{line_end}
+use Rattle.mcs_reader.specs.Line.{line_ends, text_of}
+use Rattle.mcs_reader.specs.Place.{Place, after_line}
+use Rattle.mcs_reader.specs.ReadLines.{read_behind, read_lines, read_text}
+use Rattle.mcs_reader.specs.Reading.{most_bytes}
+use Rattle.mcs_reader.specs.Unread.{IsRead, Read}
+use Rattle.mcs_reader.proofs.Outcomes.{IsReading-from_read, IsStoppedSource-from_read, has_one_outcome}
+use Rattle.mcs_reader.proofs.SourceSteps.{length-text_of, line_ends-le-length}
+use Rattle.mcs_reader.proofs.statements.Statements.new.Goals as goal
+
+-- what the machine makes of a source is what it is read as
+is_read : (source : List ℕ) (reading : Read) → length source ≤ most_bytes → read_text (text_of source) ≡ reading → IsRead source reading
+is_read source (Ok statements) fits e = IsReading-from_read source statements fits e
+is_read source (Err fault) fits e = inr (IsStoppedSource-from_read source fault fits e)
+
+-- before the first line, the whole text is left
+before_first : (source : List ℕ) (place : Place) → place.text ≡ line_end ∷ text_of source → place.line ≡ 0 → read_text (text_of source) ≡ read_behind place
+before_first source place text line =
+    ap (λ l. read_lines (length (text_of source)) (l + 1) (text_of source)) (sym line)
+    ∙ ap (λ t. read_lines (length (after_line t)) (place.line + 1) (after_line t)) (sym text)
+
+pub invariant_of-result : goal.invariant_of-result
+invariant_of-result c =
+    let source = c.args.source.now in
+    let size = ap length c.new.ensures.text in
+    let ends = ap line_ends c.new.ensures.text in
+    let number = c.new.ensures.line in
+    let fits = c.if-source-gt-MOST_BYTES.false in
+    let most = line_ends-le-length (text_of source) in
+    record {
+      depth_room = omega (arith, size, fits, length-text_of source);
+      line_room = omega (arith, number, ends, fits, most, length-text_of source);
+    }
+
+pub returns-clause-reading : goal.returns-clause-reading
+returns-clause-reading c =
+    is_read c.args.source.now (read_behind c.new.result) c.if-source-gt-MOST_BYTES.false
+    (before_first c.args.source.now c.new.result c.new.ensures.text c.new.ensures.line)
+
+pub returns-clause-one_outcome : goal.returns-clause-one_outcome
+returns-clause-one_outcome c = has_one_outcome c.args.source.now

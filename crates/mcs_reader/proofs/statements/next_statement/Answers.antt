@@ -1,0 +1,63 @@
+use Rattle.std.proofs.Common.{◌≡◌, ◌+◌, ◌<◌, length, true, false, Ok, Err, sym, ◌∙◌, ap, subst, arith}
+use Rattle.std.proofs.lemmas.Result.{err_from_is_err_and}
+use Rattle.mcs_reader.specs.Place.{Place, IsBehind, after_line}
+use Rattle.mcs_reader.specs.ReadLines.{read_behind}
+use Rattle.mcs_reader.specs.Scan.{Stated, scan, stated}
+use Rattle.mcs_reader.specs.declared.statement.Verb.{Verb}
+use Rattle.mcs_reader.proofs.ScanPlaces.{IsBehind-trans}
+use Rattle.mcs_reader.proofs.SourceSteps.{Begins, no_line, passed_line, refused_line, statement_line}
+use Rattle.mcs_reader.proofs.statements.next_statement.Goals as goal
+
+-- a verb moves nothing but the text
+same_line : (verb : Verb) (now moved : Place) (found : Stated) → moved.line ≡ now.line → stated verb moved.line (scan moved.line 0 true false moved.text) ≡ found
+    → stated verb now.line (scan now.line 0 true false moved.text) ≡ found
+same_line verb now moved found unmoved is = ap (λ l. stated verb l (scan l 0 true false moved.text)) (sym unmoved) ∙ is
+
+begins : (now last : Place) → now.text ≡ after_line last.text → now.line ≡ last.line + 1 → 0 < length now.text → Begins now last
+begins now last text line more = record { text = text; line = line; more = more }
+
+pub returns-in_err-statement-clause-err : goal.returns-in_err-statement-clause-err
+returns-in_err-statement-clause-err c =
+    let p = err_from_is_err_and c.from_residual.result c.from_residual.ensures.1 in
+    let last = c.lines.cursor in
+    let now = c.next_line.new.self in
+    let moved = c.verb.new.self in
+    let fault = c.in_err-statement.field-0.0 in
+    rw (p.1, p.2) (λ other.
+    c.lines.invariant.read
+    ∙ refused_line last now c.in-Some.verb moved.text fault (begins now last c.lines-test.ensures.text c.lines-test.ensures.line c.lines-test.ensures.more) c.in-Some.ensures.verb
+    (same_line c.in-Some.verb now moved (Err fault) c.in-Some.ensures.unmoved (c.in_err-statement.ensures.err other)))
+
+pub returns-in-Some-clause-ok : goal.returns-in-Some-clause-ok
+returns-in-Some-clause-ok c =
+    let last = c.lines.cursor in
+    let now = c.next_line.new.self in
+    let moved = c.verb.new.self in
+    let end = c.statement.new.cursor in
+    let statement = c.in_ok-statement.field-0 in
+    let behind = IsBehind-trans end moved now c.in_ok-statement.ensures.behind c.in-Some.ensures.behind in
+    let shorter = c.lines-test.ensures.shorter in
+    record {
+      first =
+          c.lines.invariant.read
+          ∙ statement_line last now end c.in-Some.verb moved.text statement (begins now last c.lines-test.ensures.text c.lines-test.ensures.line c.lines-test.ensures.more) c.in-Some.ensures.verb
+          (same_line c.in-Some.verb now moved (Ok (statement, end.text)) c.in-Some.ensures.unmoved c.in_ok-statement.ensures.ok) behind;
+      further = omega (arith, behind.text, shorter, c.lines.invariant.behind.text);
+    }
+
+pub lines-preserved : goal.lines-preserved
+lines-preserved c =
+    let last = c.lines.cursor in
+    let now = c.next_line.new.self in
+    let start = c.args.cursor.now in
+    let P : Place → Type 0 = λ place. record { read : read_behind start ≡ read_behind place; behind : IsBehind place start } in
+    let here : P now = record {
+      read =
+          c.lines.invariant.read
+          ∙ passed_line last now (begins now last c.lines-test.ensures.text c.lines-test.ensures.line c.lines-test.ensures.more) c.in_default.ensures.verb;
+      behind = IsBehind-trans now last start c.lines-test.ensures.behind c.lines.invariant.behind;
+    } in
+    subst P (sym c.in_default.ensures.unmoved) here
+
+pub returns-clause-ok : goal.returns-clause-ok
+returns-clause-ok c = c.lines.invariant.read ∙ no_line c.lines.cursor c.lines-test.ensures.end

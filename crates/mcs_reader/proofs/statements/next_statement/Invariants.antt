@@ -1,0 +1,14 @@
+use Rattle.std.proofs.Common.{◌≡◌, length}
+use Rattle.mcs_reader.specs.Place.{IsBehind}
+use Rattle.mcs_reader.specs.ReadLines.{read_behind}
+use Rattle.mcs_reader.proofs.statements.next_statement.Given as goal
+
+-- the lines so far were passed over
+abbrev pub invariant-lines : goal.invariant-lines
+invariant-lines l = record {
+  read : read_behind l.initial.cursor ≡ read_behind l.cursor;
+  behind : IsBehind l.cursor l.initial.cursor;
+}
+
+abbrev pub decreases-lines : goal.decreases-lines
+decreases-lines l = length l.cursor.text

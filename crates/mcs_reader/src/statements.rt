@@ -1,0 +1,135 @@
+//! A source, statement by statement.
+ghost use Rattle.std.specs.Prelude.{◌≡◌, ◌≢◌, ◌+◌, ◌^◌, ◌<◌, true, false, [], Ok, Err, IfOk, IfErr, OnOk, IsOk, MatchOption, length};
+ghost use Rattle.mcs_reader.specs.Line.{line_ends};
+ghost use Rattle.mcs_reader.specs.Place.{IsBehind};
+ghost use Rattle.mcs_reader.specs.ReadLines.{GivesNext, read_behind};
+ghost use Rattle.mcs_reader.specs.Reading.{HasOneOutcome, IsFirstFault};
+ghost use Rattle.mcs_reader.specs.Scan.{scan, stated};
+ghost use Rattle.mcs_reader.specs.Unread.{GivesStatement, IsRead};
+ghost use Rattle.mcs_reader.specs.declared.fault.McsFault.TheVariants.{Memory};
+
+use crate::cursor::Cursor;
+use crate::operand::{operands, subject};
+use crate::room::Room;
+use crate::source::MOST_BYTES;
+use crate::{McsFault, Statement, Verb};
+use std::alloc::Global;
+use std::marker::Model;
+
+/// The statements of a source, one after the other, of which none is kept.
+///
+/// A contract sees what the part that is left is read as, and of how many bytes it is. So a source is
+/// read as [`read`](crate::read) reads it just if its end is reached: where a statement has a fault,
+/// those before it were no reading of the source.
+#[derive(Drop)]
+pub struct Statements<'a> {
+    cursor: Cursor<'a>,
+    room: Room<'a>,
+}
+
+impl<'a> Model for Statements<'a> {
+    ghost use Rattle.std.specs.Prelude.{◌+◌, ◌^◌, ◌<◌, length};
+    ghost use Rattle.mcs_reader.specs.Line.{line_ends};
+    ghost use Rattle.mcs_reader.specs.ReadLines.{read_behind};
+    ghost use Rattle.mcs_reader.specs.Unread.{Unread};
+
+    ghost Value = { Unread };
+
+    ghost view = { λ s. record { reading = read_behind s.cursor; bytes = length s.cursor.text } };
+
+    ghost invariant = { λ s. record {
+      depth_room : length s.cursor.text < 2 ^ 63;
+      line_room : s.cursor.line + line_ends s.cursor.text < 2 ^ 32;
+    } };
+}
+
+impl<'a> Statements<'a> {
+    /// All statements of a source, or [`McsFault::TooLong`]. It takes no memory.
+    pub fn new(alloc: Global, source: &'a [u8]) -> Result<Self, McsFault>
+        ensures reading { IfOk result (λ statements. IsRead source.now statements.reading) }
+        ensures fault { IfErr result (λ fault. IsFirstFault source.now fault) }
+        ensures one_outcome { HasOneOutcome source.now }
+    {
+        if source.len() > MOST_BYTES {
+            return Err(McsFault::TooLong);
+        }
+        Ok(Statements {
+            cursor: Cursor::new(source),
+            room: Room::new(alloc),
+        })
+    }
+
+    /// The next statement, or `None` at the end of the source. Where it is refused, what is left means
+    /// nothing any more.
+    pub fn next(&mut self) -> Result<Option<Statement<'a>>, McsFault>
+        ensures next { IfOk result (λ next. MatchOption next
+            (self.old.reading ≡ Ok [])
+            (λ statement. GivesStatement self.old statement self.new)) }
+        ensures fault { IfErr result (λ fault. fault ≢ Memory → self.old.reading ≡ Err fault) }
+    {
+        next_statement(&mut self.cursor, &mut self.room)
+    }
+
+    /// Reads what is left, keeps none of it, and says whether any of it is refused.
+    pub fn finish(self) -> Result<(), McsFault>
+        ensures ok { OnOk result (IsOk self.entry.reading) }
+        ensures fault { IfErr result (λ fault. fault ≢ Memory → self.entry.reading ≡ Err fault) }
+    {
+        let mut left = self;
+        'left: while let Some(_) = left.next()? {}
+        Ok(())
+    }
+}
+
+/// The statement that begins on the next line that names a verb, if one does.
+fn next_statement<'a>(
+    cursor: &mut Cursor<'a>,
+    room: &mut Room<'a>,
+) -> Result<Option<Statement<'a>>, McsFault>
+    requires depth_room { length cursor.old.text < 2 ^ 63 }
+    requires line_room { cursor.old.line + line_ends cursor.old.text < 2 ^ 32 }
+
+    ensures ok { IfOk result (λ next. MatchOption next
+        (read_behind cursor.old ≡ Ok [])
+        (λ statement. GivesNext cursor.old statement cursor.new)) }
+    ensures err { IfErr result (λ fault. fault ≢ Memory → read_behind cursor.old ≡ Err fault) }
+    ensures behind { IsBehind cursor.new cursor.old }
+{
+    'lines: while cursor.next_line() {
+        if let Some(verb) = cursor.verb() {
+            return Ok(Some(statement(cursor, room, verb)?));
+        }
+    }
+    Ok(None)
+}
+
+/// The statement whose verb was passed, up to its period.
+fn statement<'a>(
+    cursor: &mut Cursor<'a>,
+    room: &mut Room<'a>,
+    verb: Verb,
+) -> Result<Statement<'a>, McsFault>
+    requires depth_room { length cursor.old.text < 2 ^ 63 }
+    requires line_room { cursor.old.line + line_ends cursor.old.text < 2 ^ 32 }
+
+    ensures ok { IfOk result (λ statement. stated verb cursor.old.line (scan cursor.old.line 0 true false cursor.old.text)
+        ≡ Ok (statement, cursor.new.text)) }
+    ensures err { IfErr result (λ fault. fault ≢ Memory
+        → stated verb cursor.old.line (scan cursor.old.line 0 true false cursor.old.text) ≡ Err fault) }
+    ensures behind { IsBehind cursor.new cursor.old }
+{
+    let line = cursor.line();
+    let subject = match verb {
+        Verb::Hold => subject(cursor, line)?,
+    };
+    let operands = operands(cursor, room, line)?;
+    if subject.is_none() {
+        return Err(McsFault::BadVerbSubject(line));
+    }
+    Ok(Statement {
+        verb,
+        subject,
+        operands,
+        line,
+    })
+}
