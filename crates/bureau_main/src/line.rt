@@ -1,8 +1,9 @@
 //! The words of a command line, read with `clap`.
-ghost use Rattle.std.specs.Prelude.{◌≡◌, false, [], map, string_bytes, IfOk, OnOk};
+ghost use Rattle.std.specs.Prelude.{◌≡◌, ◌≢◌, false, [], map, string_bytes, IfOk, IfErr, OnOk};
 ghost use Rattle.clap.specs.Words.{app_of, fault_of, kind_of, subcommand_rows_of};
 ghost use Rattle.clap.specs.declared.builder.command.Command.TheViews.{out-Command as fields_of};
 ghost use Rattle.bureau_main.specs.Line.{bureau_app, holds_app, IsLineIn, IsLineOf};
+ghost use Rattle.bureau_main.specs.declared.line.Line.{Line};
 ghost use Rattle.bureau_main.specs.declared.line.LineFault.TheVariants.{Memory};
 
 use clap::error::ErrorKind;
@@ -37,6 +38,10 @@ impl From<AllocError> for LineFault {
 pub fn line_of(alloc: Global, words: &[String]) -> Result<Line, LineFault>
     ensures line { IfOk result (λ line. IsLineOf (map string_bytes words.now) line) }
     ensures understood { OnOk result (fault_of bureau_app (map string_bytes words.now) ≡ []) }
+
+    // Words that clap understands, and whose matches are a line's, are refused for want of memory alone.
+    ensures refused { IfErr result (λ fault. fault ≢ Memory → (line : Line) → IsLineOf (map string_bytes words.now) line
+        → fault_of bureau_app (map string_bytes words.now) ≢ []) }
 {
     match command(alloc)?.try_get_matches_from(words) {
         Ok(matches) => line_in(alloc, &matches),
@@ -46,7 +51,8 @@ pub fn line_of(alloc: Global, words: &[String]) -> Result<Line, LineFault>
 
 // The line that matches give.
 fn line_in(alloc: Global, matches: &ArgMatches) -> Result<Line, LineFault>
-    ensures { IfOk result (IsLineIn (subcommand_rows_of matches.now)) }
+    ensures line { IfOk result (IsLineIn (subcommand_rows_of matches.now)) }
+    ensures none { IfErr result (λ fault. fault ≢ Memory → (line : Line) → IsLineIn (subcommand_rows_of matches.now) line → ⊥) }
 {
     if let Some((name, matches)) = matches.subcommand() {
         if name == "holds" {
