@@ -61,7 +61,7 @@ impl<'a> Values<'a> {
         }
     }
 
-    // The values that were gathered.
+    /// The values that were gathered.
     pub(crate) fn gathered(room: &mut Vec<&'a [u8]>) -> Result<Self, NoMemory>
         ensures { IfOk result (λ values. values ≡ bytes_of_each room.old.items) }
     {
