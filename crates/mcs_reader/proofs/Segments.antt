@@ -11,7 +11,7 @@ use Rattle.mcs_reader.specs.Segment.{Segment, passed, skipped, stated as stated_
 use Rattle.mcs_reader.specs.declared.fault.McsFault.TheVariants.{BadVerbSubject}
 use Rattle.mcs_reader.specs.declared.statement.Verb.{Verb}
 use Rattle.mcs_reader.specs.declared.statement.Statement.{Statement}
-use Rattle.mcs_reader.specs.Scan.{scan, Found, begins_name, stated, with_subject}
+use Rattle.mcs_reader.specs.Scan.{scan, Found, Stated, begins_name, stated, with_subject}
 use Rattle.mcs_reader.specs.Place.{after_line, verb_at}
 use Rattle.mcs_reader.proofs.ScanPieces.{scan-statement, scan-fault, scan-stop, no_name_behind, IsFlaw}
 use Rattle.mcs_reader.proofs.Runs.{begins_with-append, after_line-line, IsLine-append, line_ends-append, line_ends-line}
@@ -38,6 +38,18 @@ read_passed n line between text is fits =
       ap (read_lines n line) assoc ∙ once.2 ∙ ap (λ k. read_lines once.0 (line + k) text) (sym ends)
           ∙ sym (with_statements-none (read_lines once.0 (line + line_ends (between ++ line_end ∷ [])) text)),
     )
+
+skipped_steps : (n m k line last ends : ℕ) (whole at behind text : List ℕ) → whole ≡ at → read_lines n line at ≡ at_verb (read_lines m) line at (verb_at at) → verb_at at ≡ None
+    → after_line at ≡ behind → read_lines m (line + 1) behind ≡ read_lines k last text → last ≡ line + ends
+    → read_lines n line whole ≡ with_statements [] (read_lines k (line + ends) text)
+skipped_steps n m k line last ends whole at behind text same once none next others ends_are =
+    ap (read_lines n line) same
+    ∙ once
+    ∙ ap (at_verb (read_lines m) line at) none
+    ∙ ap (read_lines m (line + 1)) next
+    ∙ others
+    ∙ ap (λ l. read_lines k l text) ends_are
+    ∙ sym (with_statements-none (read_lines k (line + ends) text))
 
 read_skipped : (n line : ℕ) (head : Head) (rest : List ℕ) (lines : List (List ℕ)) (text : List ℕ)
     → IsHead head rest → verb_named head.name ≡ None → IsLine rest → AllPassed lines
@@ -69,13 +81,8 @@ read_skipped n line head rest lines text is unknown one_line all fits =
     ap line_ends by_lines ∙ line_ends-append first (line_end ∷ spell_lines lines) ∙ ap (λ k. k + (1 + line_ends (spell_lines lines))) (line_ends-line first line_is) ∙ zero-add (1 + line_ends (spell_lines lines)) in (
       others.0,
       others.1,
-      ap (read_lines n line) (by_head ∙ by_line)
-          ∙ once.2
-          ∙ ap (at_verb (read_lines once.0) line (first ++ line_end ∷ behind)) no_verb
-          ∙ ap (read_lines once.0 (line + 1)) (after_line-line first behind line_is)
-          ∙ others.2
-          ∙ ap (λ l. read_lines others.0 l text) (omega (arith, ends))
-          ∙ sym (with_statements-none (read_lines others.0 (line + line_ends (spell_head head ++ (rest ++ line_end ∷ spell_lines lines))) text)),
+      skipped_steps n once.0 others.0 line (line + 1 + line_ends (spell_lines lines)) (line_ends (spell_head head ++ (rest ++ line_end ∷ spell_lines lines))) _ (first ++ line_end ∷ behind) behind text (by_head ∙ by_line) once.2 no_verb
+          (after_line-line first behind line_is) others.2 (omega (arith, ends)),
     )
 
 -- what stands at a statement's verb
@@ -86,6 +93,16 @@ at_statement : (n line : ℕ) (text : StatementText) (behind : List ℕ) → IsS
 at_statement n line text behind is no_name fits =
     let once = step n line (spell_statement text ++ behind) (omega arith) fits in
     (once.0, once.1, once.2 ∙ ap (at_verb (read_lines once.0) line (spell_statement text ++ behind)) (verb_at-statement text behind is no_name))
+
+stated_steps : (n m line ends : ℕ) (whole at rest behind : List ℕ) (statement : Statement) (found : Stated) → whole ≡ at → read_lines n line at ≡ go_on (read_lines m) line at found
+    → found ≡ Ok (statement, rest) → after_line rest ≡ behind → line_ends at - line_ends behind ≡ ends
+    → read_lines n line whole ≡ with_statements (statement ∷ []) (read_lines m (line + ends) behind)
+stated_steps n m line ends whole at rest behind statement found same once is next size =
+    ap (read_lines n line) same
+    ∙ once
+    ∙ ap (go_on (read_lines m) line at) is
+    ∙ ap (λ t. with_statements (statement ∷ []) (read_lines m (line + (line_ends at - line_ends t)) t)) next
+    ∙ ap (λ k. with_statements (statement ∷ []) (read_lines m (line + k) behind)) size
 
 read_stated : (n line : ℕ) (text : StatementText) (subject : Option (List ℕ)) (ignored behind : List ℕ)
     → IsStatementText text → subject_in text ≡ Some subject → IsLine ignored
@@ -113,11 +130,8 @@ read_stated n line text subject ignored behind is subject_is one_line fits =
     let smaller : length behind ≤ once.0 = omega arith in (
       once.0,
       smaller,
-      ap (read_lines n line) assoc
-          ∙ once.2
-          ∙ ap (go_on (read_lines once.0) line (spell_statement text ++ 46 ∷ rest)) scanned
-          ∙ ap (λ t. with_statements (statement_of line (stated_segment text subject ignored)) (read_lines once.0 (line + (line_ends (spell_statement text ++ 46 ∷ rest) - line_ends t)) t)) behind_is
-          ∙ ap (λ k. with_statements (statement_of line (stated_segment text subject ignored)) (read_lines once.0 (line + k) behind)) ends,
+      stated_steps n once.0 line (line_ends front) (front ++ behind) (spell_statement text ++ 46 ∷ rest) rest behind (record { verb = text.verb; subject = subject; operands = operands text.pieces; line = line }) _ assoc once.2
+          scanned behind_is ends,
     )
 
 pub read_segment : (n line : ℕ) (segment : Segment) (behind : List ℕ) → IsSegment segment behind → length (spell_segment segment ++ behind) ≤ n
