@@ -1,26 +1,23 @@
 -- One more statement that is done to a hold book.
-use Rattle.std.proofs.Common.{◌≡◌, ◌≢◌, ◌⊎◌, inl, inr, ℕ, List, [], ◌∷◌, ◌++◌, Some, Ok, Err, IsOk, refl, sym, ◌∙◌, ap, subst, append_assoc}
+use Rattle.std.proofs.Common.{◌≡◌, ◌≢◌, ◌⊎◌, inl, inr, ℕ, List, [], ◌∷◌, ◌++◌, Some, Ok, Err, IsOk, refl, ◌∙◌, ap, subst}
 use Rattle.std.proofs.lemmas.Grind.{flat_map-append}
 use Rattle.std.specs.List.{flat_map}
 use Rattle.mcs_reader.specs.Reading.{IsReading}
 use Rattle.mcs_reader.specs.Unread.{IsRead, Read, with_statements}
 use Rattle.mcs_reader.specs.declared.statement.Statement.{Statement}
+use Rattle.mcs_reader.proofs.ReadSteps.{with_statements-append}
+use Rattle.holddata.proofs.StatementLemmas.{first_of_longer}
 use Rattle.holddata.specs.Statements.{faults_of, first_fault, first_of}
 use Rattle.holddata.specs.declared.fault.HoldFault.{HoldFault}
 use Rattle.holddata.specs.declared.fault.HoldFault.TheVariants.{NoKind, TwoKinds, NoReason, BadId, BadDate, Memory}
 
 pub read_more : (done : List Statement) (statement : Statement) (whole before left : Read) → whole ≡ with_statements done before → before ≡ with_statements (statement ∷ []) left
     → whole ≡ with_statements (done ++ statement ∷ []) left
-read_more done statement whole before (Ok rest) is first = is ∙ ap (with_statements done) first ∙ ap (λ s. Ok s) (sym (append_assoc done (statement ∷ []) rest))
-read_more done statement whole before (Err fault) is first = is ∙ ap (with_statements done) first
+read_more done statement whole before left is first = is ∙ ap (with_statements done) first ∙ with_statements-append done (statement ∷ []) left
 
 pub faultless_more : (done : List Statement) (statement : Statement) → flat_map faults_of done ≡ [] → faults_of statement ≡ [] → flat_map faults_of (done ++ statement ∷ []) ≡ []
 faultless_more done statement none last =
     flat_map-append faults_of done (statement ∷ []) ∙ ap (λ faults. faults ++ flat_map faults_of (statement ∷ [])) none ∙ ap (λ faults. faults ++ []) last
-
-first_of_longer : (xs ys : List HoldFault) (fault : HoldFault) → first_of xs ≡ Some fault → first_of (xs ++ ys) ≡ Some fault
-first_of_longer [] ys fault h = cc
-first_of_longer (x ∷ xs) ys fault h = h
 
 -- the first statement with a fault decides, whatever stands behind it
 first_behind : (done rest : List Statement) (statement : Statement) (fault : HoldFault) → flat_map faults_of done ≡ [] → first_of (faults_of statement) ≡ Some fault
