@@ -82,6 +82,7 @@ impl HoldBook {
         self.holds.len()
     }
 
+    /// Whether there is no hold.
     pub fn is_empty(&self) -> bool
         ensures { IsTrue result ↔ (self.now ≡ []) }
     {

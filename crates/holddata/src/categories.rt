@@ -48,6 +48,7 @@ impl Categories {
         }
     }
 
+    /// The categories in ascending order of their bytes, each once.
     pub fn as_slice(&self) -> &[Vec<u8>]
         ensures value { texts_of result.now ≡ self.now }
         ensures allowed { IsTrue (are_categories self.now) }

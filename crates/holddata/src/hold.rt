@@ -9,6 +9,7 @@ use mcs_reader::Id;
 /// The types of the fields keep what the standard asks of a date and of categories.
 #[derive(Debug, Drop)]
 pub struct Hold {
+    /// What the hold is known by.
     pub key: HoldKey,
     /// The function to which the held SYSMOD belongs.
     pub fmid: Option<Id>,

@@ -36,6 +36,7 @@ impl Kind {
 pub struct HoldKey {
     /// The SYSMOD that is held.
     pub sysmod: Id,
+    /// What kind of hold it is.
     pub kind: Kind,
     /// Why: of an ERROR or FIXCAT hold the APAR, of the others a word.
     pub reason: Id,

@@ -53,6 +53,7 @@ impl<'a> Model for Values<'a> {
 }
 
 impl<'a> Values<'a> {
+    /// These values, as slices of one source. It takes no memory.
     pub fn from_vec(items: Vec<&'a [u8]>) -> Self
         ensures { result ≡ bytes_of_each items.entry.items }
     {
@@ -73,6 +74,7 @@ impl<'a> Values<'a> {
         Ok(Values::from_vec(taken(room)?))
     }
 
+    /// The values in order, as slices of the source.
     pub fn as_slice(&self) -> &[&'a [u8]]
         ensures { bytes_of_each result.now ≡ self.now }
     {
@@ -112,18 +114,21 @@ impl<'a> Model for Operands<'a> {
 impl<'a> Operands<'a> {
     ghost use Rattle.mcs_reader.specs.Operand.{operand_texts};
 
+    /// These operands. It takes no memory.
     pub fn from_vec(items: Vec<Operand<'a>>) -> Self
         ensures { result ≡ operand_texts items.entry.items }
     {
         Operands { items }
     }
 
+    /// The operands in the order in which they were written.
     pub fn as_slice(&self) -> &[Operand<'a>]
         ensures { operand_texts result.now ≡ self.now }
     {
         self.items.as_slice()
     }
 
+    /// The same as a list. It takes no memory.
     pub fn into_vec(self) -> Vec<Operand<'a>>
         ensures { operand_texts result.items ≡ self.entry }
     {
@@ -134,9 +139,11 @@ impl<'a> Operands<'a> {
 /// One statement of a source (SMP/E Reference, "MCS coding rules").
 #[derive(Debug, Drop)]
 pub struct Statement<'a> {
+    /// What the statement does.
     pub verb: Verb,
     /// The one value of the list behind the verb.
     pub subject: Option<Id>,
+    /// What stands behind the verb's list, up to the period.
     pub operands: Operands<'a>,
     /// The line, counted from 1, on which the statement begins.
     pub line: u32,

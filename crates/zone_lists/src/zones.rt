@@ -35,7 +35,9 @@ pub enum ZoneState {
 /// A SYSMOD of a zone with its state.
 #[derive(Clone, Copy, Debug, PartialEq, Eq, PartialOrd, Ord, Hash)]
 pub struct ZoneRow {
+    /// The SYSMOD, which stands in an answer once.
     pub sysmod: Id,
+    /// What the zone has of it.
     pub state: ZoneState,
 }
 
