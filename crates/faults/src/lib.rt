@@ -1,0 +1,23 @@
+//! What is refused, and why, in one form for all crates.
+//!
+//! - [`Fault`]: a reason to refuse something, which has a number and, where there is one, a place
+//! - [`Cause`]: whether what was given is at fault, or the machine
+//! - [`AnyFault`]: a fault of any kind, by what is told of it
+//! - [`fault_text`]: the line `FAULT number place` that tells a fault
+//! - [`NoMemory`]: memory ran out
+//!
+//! A contract says `IsRefusal memory IsFault fault` of `specs/Refusal.antt` where a call is refused: memory
+//! ran out, or the fault is the one that is told.
+#![tactic(auto)]
+
+mod any;
+mod fault;
+#[cfg(test)]
+mod tests;
+mod text;
+
+pub use any::AnyFault;
+pub use fault::{Cause, Fault};
+/// Memory ran out.
+pub use std::alloc::AllocError as NoMemory;
+pub use text::fault_text;
