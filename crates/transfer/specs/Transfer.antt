@@ -1,0 +1,27 @@
+-- What a transfer leaves where it fails.
+use Rattle.std.specs.Prelude.{◌≡◌, ℕ, List, ◌++◌, length, take, Option}
+use Rattle.std.specs.Io.KnownBytes.{Appends, Consumes}
+use Rattle.std.specs.IoError.{error_kind}
+use Rattle.std.specs.declared.io.ErrorKind.TheVariants.{Interrupted}
+use Rattle.transfer.specs.declared.fault.TransferFault.{TransferFault}
+use Rattle.transfer.specs.declared.fault.TransferFault.TheVariants.{Read, Memory}
+
+-- an interruption is the last word only where no retry is left
+abbrev pub IsGivenUp : TransferFault → ℕ → Type 0
+IsGivenUp (Read error) retries = error_kind error ≡ Interrupted → retries ≡ 0
+IsGivenUp Memory retries = Unit {0}
+
+-- some of the known bytes were read, from their front
+abbrev pub ConsumesSome : Option (List ℕ) → Option (List ℕ) → Type 0
+ConsumesSome old new = (bytes : List ℕ) × Consumes old new bytes
+
+-- the known bytes grew by a front part of a text
+abbrev pub AppendsFront : Option (List ℕ) → Option (List ℕ) → List ℕ → Type 0
+AppendsFront old new text = (n : ℕ) × Appends old new (take n text)
+
+-- a list grew by n bytes at its end, which were read from the front of the known bytes
+pub record TakesIn (old new : List ℕ) (before after : Option (List ℕ)) (n : ℕ) : Type 0 where
+  pub bytes : List ℕ
+  pub count : length bytes ≡ n
+  pub grown : new ≡ old ++ bytes
+  pub consumed : Consumes before after bytes

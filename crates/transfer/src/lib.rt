@@ -1,0 +1,23 @@
+//! Bytes in and out, over any reader and any writer.
+//!
+//! - [`read_source`]: all that a reader has, up to a limit
+//! - [`Intake`]: bytes that come in piece by piece, and are taken off at the front
+//! - [`read_some`]: one read
+//! - [`write_whole`]: a whole text, written and flushed
+//! - [`TransferFault`]: why bytes aren't there; [`RETRIES`]: how often an interrupted call is made again
+//!
+//! A call that is interrupted is made again while a retry is left, so each transfer ends, whatever its
+//! reader or writer does. Nothing but an interruption is tried again.
+#![tactic(auto)]
+
+mod fault;
+mod intake;
+mod reading;
+#[cfg(test)]
+mod tests;
+mod writing;
+
+pub use fault::TransferFault;
+pub use intake::Intake;
+pub use reading::{RETRIES, read_some, read_source};
+pub use writing::write_whole;

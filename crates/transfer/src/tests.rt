@@ -1,0 +1,166 @@
+//! Readers and writers that give and take a piece at a time, are interrupted, or fail.
+use crate::{Intake, RETRIES, TransferFault, read_source, write_whole};
+use std::alloc::{AllocError, Global};
+use std::io::{self, ErrorKind, Read, Write};
+use std::test::Fail;
+
+// A reader that gives a piece at a time, or fails in one way so often before each.
+#[derive(Drop)]
+struct Pieces<'a> {
+    rest: &'a [u8],
+    piece: usize,
+    failures: u32,
+    kind: ErrorKind,
+}
+
+impl Read for Pieces<'_> {
+    fn read(&mut self, buf: &mut [u8]) -> io::Result<usize> {
+        if self.failures > 0 {
+            self.failures -= 1;
+            return Err(io::Error::from(self.kind));
+        }
+        let count = self.piece.min(self.rest.len()).min(buf.len());
+        let (front, rest) = self.rest.split_at(count);
+        buf[..count].copy_from_slice(front);
+        self.rest = rest;
+        Ok(count)
+    }
+}
+
+// A writer that takes a piece at a time while it has room, and whose flush fails in one way so often.
+#[derive(Drop)]
+struct Slow {
+    taken: Vec<u8>,
+    piece: usize,
+    room: usize,
+    flush_failures: u32,
+    kind: ErrorKind,
+}
+
+impl Write for Slow {
+    fn write(&mut self, buf: &[u8]) -> io::Result<usize> {
+        let count = self.piece.min(self.room).min(buf.len());
+        self.taken.extend_from_slice(&buf[..count])?;
+        self.room -= count;
+        Ok(count)
+    }
+
+    fn flush(&mut self) -> io::Result<()> {
+        if self.flush_failures > 0 {
+            self.flush_failures -= 1;
+            return Err(io::Error::from(self.kind));
+        }
+        Ok(())
+    }
+}
+
+// 70,000 bytes, more than are read at once, no two neighbours the same.
+fn long_text(alloc: Global) -> Result<Vec<u8>, AllocError> {
+    let mut text = Vec::new(alloc);
+    let mut byte = 0u8;
+    for _ in 0..70_000u32 {
+        byte = byte.wrapping_add(7);
+        text.push(byte)?;
+    }
+    Ok(text)
+}
+
+#[test]
+fn sources(rt: HostRuntime) -> Result<(), Fail> {
+    let text = long_text(rt.alloc())?;
+    let interrupted = ErrorKind::Interrupted;
+    // piece, limit, failures, their kind, bytes read, retries left
+    let rows: [(usize, usize, u32, ErrorKind, Option<usize>, u32); 8] = [
+        (100_000, 100_000, 0, interrupted, Some(70_000), 64),
+        (999, 100_000, 0, interrupted, Some(70_000), 64),
+        (100_000, 69_999, 0, interrupted, Some(69_999), 64),
+        (100_000, 0, 1, interrupted, Some(0), 64),
+        (100_000, 100_000, 64, interrupted, Some(70_000), 0),
+        (100_000, 100_000, 65, interrupted, None, 0),
+        (100_000, 100_000, 1, ErrorKind::TimedOut, None, 64),
+        (100_000, 100_000, 1, ErrorKind::WouldBlock, None, 64),
+    ];
+    for (piece, limit, failures, kind, count, left) in rows {
+        let mut retries = RETRIES;
+        let mut reader = Pieces {
+            rest: text.as_slice(),
+            piece,
+            failures,
+            kind,
+        };
+        let read = match read_source(rt.alloc(), &mut reader, limit, &mut retries) {
+            Ok(source) => {
+                assert!(rt;
+                    text.starts_with(source.as_slice()),
+                    "{piece} {limit} {failures}"
+                );
+                Some(source.len())
+            }
+            Err(TransferFault::Read(_)) => None,
+            Err(TransferFault::Memory) => return Err("no memory".into()),
+        };
+        assert_eq!(rt; read, count, "{piece} {limit} {failures}");
+        assert_eq!(rt; retries, left, "{piece} {limit} {failures}");
+    }
+    Ok(())
+}
+
+#[test]
+fn bytes_are_taken_off_while_more_come_in(rt: HostRuntime) -> Result<(), Fail> {
+    let text = long_text(rt.alloc())?;
+    let mut reader = text.as_slice();
+    let mut intake = Intake::new(rt.alloc());
+    let mut taken = 0usize;
+    for count in [1usize, 10, 4000, 65_000, 30_000] {
+        let read = intake.read_more(&mut reader, count, &mut { RETRIES })?;
+        assert!(rt; read <= count && 0 < read, "{count}");
+        assert!(rt;
+            text[taken.min(text.len())..].starts_with(intake.bytes()),
+            "{count}"
+        );
+        let off = intake.len() / 2 + 1;
+        assert!(rt; off <= intake.len(), "{count}");
+        intake.take_off(off);
+        taken = taken.saturating_add(off);
+    }
+    let rest = intake.into_vec();
+    assert!(rt; text[taken.min(text.len())..].starts_with(rest.as_slice()));
+    Ok(())
+}
+
+#[test]
+fn texts(rt: HostRuntime) -> Result<(), Fail> {
+    let text = b"EXCEPTION SYSMOD REPORT";
+    let interrupted = ErrorKind::Interrupted;
+    // piece, room, flushes that fail, their kind, bytes taken, whether all is well
+    let rows: [(usize, usize, u32, ErrorKind, usize, bool); 6] = [
+        (100, 100, 0, interrupted, 23, true),
+        (2, 100, 64, interrupted, 23, true),
+        (2, 100, 65, interrupted, 23, false),
+        (2, 100, 1, ErrorKind::StorageFull, 23, false),
+        (2, 5, 0, interrupted, 5, false),
+        (0, 100, 0, interrupted, 0, false),
+    ];
+    for (piece, room, flush_failures, kind, count, is_written) in rows {
+        let mut writer = Slow {
+            taken: Vec::new(rt.alloc()),
+            piece,
+            room,
+            flush_failures,
+            kind,
+        };
+        let written = write_whole(&mut writer, text, &mut { RETRIES });
+        assert_eq!(rt;
+            written.is_ok(),
+            is_written,
+            "{piece} {room} {flush_failures}"
+        );
+        assert_eq!(rt;
+            writer.taken.len(),
+            count,
+            "{piece} {room} {flush_failures}"
+        );
+        assert!(rt; text.starts_with(writer.taken.as_slice()), "{piece} {room}");
+    }
+    Ok(())
+}
