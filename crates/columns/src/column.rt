@@ -1,0 +1,10 @@
+//! A column.
+
+/// A column of a text.
+#[derive(Clone, Copy, Debug, PartialEq, Eq)]
+pub struct Column {
+    /// Where the column begins, counted from 1.
+    pub place: u16,
+    /// The column's name, which stands in the heading.
+    pub name: &'static [u8],
+}

@@ -1,0 +1,98 @@
+//! The lines of a text in columns.
+ghost use Rattle.std.specs.Prelude.{◌≡◌, ◌++◌, ◌∷◌, [], ℕ, List, length, drop, take, OnOk};
+ghost use Rattle.std.specs.Option.{option_copied};
+ghost use Rattle.columns.specs.Columns.{columns_of, texts_of, in_width, width_of, fields_in, row_of, heading_of, title_line, count_line};
+
+use crate::{Column, NoMemory};
+use itoa::Buffer;
+
+/// Puts the title's line after a text, where there is a title.
+pub(crate) fn push_title(text: &mut Vec<u8>, title: Option<&[u8]>) -> Result<(), NoMemory>
+    ensures { OnOk result (text.new.items ≡ text.old.items ++ title_line (option_copied title.entry)) }
+{
+    if let Some(title) = title {
+        text.extend_from_slice(title)?;
+        text.push(b'\n')?;
+    }
+    Ok(())
+}
+
+/// Puts the line with the columns' names after a text.
+pub(crate) fn push_heading(text: &mut Vec<u8>, columns: &[Column]) -> Result<(), NoMemory>
+    ensures { OnOk result (text.new.items ≡ text.old.items ++ heading_of (columns_of columns.now)) }
+{
+    let mut columns_left = columns;
+    for column in columns {
+        push_field(text, width(columns_left), column.name)?;
+        columns_left = after_first(columns_left);
+    }
+    text.push(b'\n')?;
+    Ok(())
+}
+
+/// Puts a row after a text: each field with blanks up to where the next column begins, and a line end.
+/// Where memory runs out, a part of the line may stand there.
+pub(crate) fn push_row(
+    text: &mut Vec<u8>,
+    columns: &[Column],
+    fields: &[&[u8]],
+) -> Result<(), NoMemory>
+    ensures ok { OnOk result (text.new.items ≡ text.old.items ++ row_of (columns_of columns.now) (texts_of fields.now)) }
+    ensures kept { take (length text.old.items) text.new.items ≡ text.old.items }
+{
+    text.reserve(row_len(columns, fields))?;
+    let mut columns_left = columns;
+    for field in fields {
+        push_field(text, width(columns_left), field)?;
+        columns_left = after_first(columns_left);
+    }
+    text.push(b'\n')?;
+    Ok(())
+}
+
+/// Puts the line that counts the rows after a text.
+pub(crate) fn push_count(text: &mut Vec<u8>, rows: usize) -> Result<(), NoMemory>
+    ensures { OnOk result (text.new.items ≡ text.old.items ++ count_line rows) }
+{
+    let mut digits = Buffer::new();
+    text.extend_from_slice(b"ROWS ")?;
+    text.extend_from_slice(digits.format(rows).as_bytes())?;
+    text.push(b'\n')?;
+    Ok(())
+}
+
+// How long a row is whose fields fit their columns, with its line end, so that it takes one growth.
+fn row_len(columns: &[Column], fields: &[&[u8]]) -> usize {
+    let before_last = columns.last().map_or(0, |column| usize::from(column.place));
+    let last = fields.last().map_or(0, |field| field.len());
+    before_last.saturating_add(last).saturating_add(1)
+}
+
+// How wide the first of these columns is. The last one has no width.
+fn width(columns: &[Column]) -> u16
+    ensures { result ≡ width_of (columns_of columns.now) }
+{
+    match columns {
+        [column, next, ..] => next.place.saturating_sub(column.place),
+        _ => 0,
+    }
+}
+
+fn after_first(columns: &[Column]) -> &[Column]
+    ensures { result.now ≡ drop 1 columns.now }
+{
+    match columns.split_first() {
+        Some((_, rest)) => rest,
+        None => columns,
+    }
+}
+
+fn push_field(text: &mut Vec<u8>, width: u16, field: &[u8]) -> Result<(), NoMemory>
+    ensures ok { OnOk result (text.new.items ≡ text.old.items ++ in_width width field.now) }
+    ensures kept { (before : List ℕ) → take (length before) text.old.items ≡ before → take (length before) text.new.items ≡ before }
+{
+    text.extend_from_slice(field)?;
+    let blanks = usize::from(width).saturating_sub(field.len());
+    text.resize(text.len() + blanks, b' ')?;
+    Ok(())
+}
