@@ -2,7 +2,7 @@
 use Rattle.std.proofs.Common.{◌≡◌, ℕ, Bool, true, false, List, [], ◌∷◌, ◌++◌, Some, None, option_map, Ok, Err, refl, sym, ap, append-nil}
 use Rattle.std.specs.Bool.{then_some}
 use Rattle.std.specs.Borrow.{Bor}
-use Rattle.mcs_reader.specs.Lists.{sole}
+use Rattle.mcs_reader.specs.StatementText.{sole}
 use Rattle.mcs_reader.specs.Scan.{Outcome, on_found, with_list, with_values}
 
 abbrev pub is_nil : List (List ℕ) → Bool

@@ -1,12 +1,15 @@
 -- A statement ends within its text, and so any number of steps that is enough reads the same.
-use Rattle.std.proofs.Common.{◌≡◌, ℕ, zero, suc, ◌+◌, ◌-◌, ◌<◌, ◌≤◌, ◌==◌, Bool, true, false, cond, List, [], ◌∷◌, length, drop, Option, Some, None, option_map, Ok, Err, refl, sym, ◌∙◌, ap, subst, arith, length-append}
-use Rattle.mcs_reader.specs.Byte.{class_of, is_blank, is_name_byte, line_end}
+use Rattle.std.proofs.Common.{◌≡◌, ℕ, zero, suc, ◌+◌, ◌-◌, ◌<◌, ◌≤◌, ◌==◌, Bool, true, false, cond, List, [], ◌∷◌, length, drop, Option, Some, None, option_map, Result, Ok, Err, refl, sym, ◌∙◌, ap, subst, arith, length-append}
+use Rattle.mcs_reader.specs.Byte.{is_blank, is_name_byte, line_end}
 use Rattle.mcs_reader.specs.declared.byte.Class.{Class}
-use Rattle.mcs_reader.specs.declared.byte.Class.TheVariants.{Gap, Name, Open, Close, Period, Other}
+use Rattle.mcs_reader.specs.declared.byte.Class.TheVariants.{Gap, Comment, Name, Open, Close, Period, Other}
 use Rattle.mcs_reader.specs.Line.{begins_statement, line_ends}
-use Rattle.mcs_reader.specs.Place.{after_line, behind_run, name_behind, run, text_behind, verb_at}
+use Rattle.mcs_reader.specs.Place.{after_line, name_behind, text_behind, verb_at}
+use Rattle.mcs_reader.specs.Run.{run, behind_run, value_run}
 use Rattle.mcs_reader.specs.ReadLines.{at_verb, go_on, read_lines}
-use Rattle.mcs_reader.specs.Scan.{Outcome, Stated, begins_name, begins_value, closing, scan, stated, with_name_byte, with_subject, with_value_byte}
+use Rattle.mcs_reader.specs.Comment.{class_here}
+use Rattle.mcs_reader.specs.Pieces.{Before, no_name, a_name, name_comment, before_behind}
+use Rattle.mcs_reader.specs.Scan.{behind_comment, behind_raw, Found, on_found, opening, Outcome, pass, past, past_raw, Stated, closing, scan, stated, with_list, with_name, with_subject, with_values}
 use Rattle.mcs_reader.specs.StatementText.{subject_of}
 use Rattle.mcs_reader.specs.Unread.{with_statements}
 use Rattle.mcs_reader.specs.Verb.{verb_named}
@@ -15,6 +18,7 @@ use Rattle.mcs_reader.specs.declared.statement.Verb.{Verb}
 use Rattle.mcs_reader.proofs.ReadSteps.{read_lines-end, read_lines-step}
 use Rattle.mcs_reader.proofs.Runs.{run-append-behind_run}
 use Rattle.mcs_reader.proofs.ScanPlaces.{shorter_after_line}
+use Rattle.mcs_reader.proofs.ScanSteps.{skip-step}
 
 -- what is behind the statement is no longer than this
 abbrev Within : ℕ → Outcome → Type 0
@@ -30,59 +34,80 @@ within_closing n zero (Ok found) is = is
 within_closing n zero (Err fault) is = tt
 within_closing n (suc depth) outcome is = is
 
-within_name : (n b : ℕ) (longer : Bool) (outcome : Outcome) → Within n outcome → Within n (with_name_byte b longer outcome)
-within_name n b true (Ok found) is = is
-within_name n b true (Err fault) is = tt
-within_name n b false (Ok found) is = is
-within_name n b false (Err fault) is = tt
+within_found : (n : ℕ) (change : Found → Found) (outcome : Outcome) → ((found : Found) → (change found).rest ≡ found.rest) → Within n outcome → Within n (on_found change outcome)
+within_found n change (Ok found) same is = let size = ap length (same found) in omega arith
+within_found n change (Err fault) same is = tt
 
-within_value : (n b : ℕ) (longer : Bool) (outcome : Outcome) → Within n outcome → Within n (with_value_byte b longer outcome)
-within_value n b true (Ok found) is = is
-within_value n b true (Err fault) is = tt
-within_value n b false (Ok found) is = is
-within_value n b false (Err fault) is = tt
+within_past : (n line : ℕ) (text : List ℕ) (o : Option (List ℕ)) (next : ℕ → Outcome) → ((skip : ℕ) → Within n (next skip)) → Within n (past line text o next)
+within_past n line text None next is = tt
+within_past n line text (Some rest) next is = is (length text - length rest)
+
+within_past_raw : (n line : ℕ) (text : List ℕ) (o : Result (List ℕ) ℕ) (next : ℕ → Outcome) → ((skip : ℕ) → Within n (next skip)) → Within n (past_raw line text o next)
+within_past_raw n line text (Err depth) next is = tt
+within_past_raw n line text (Ok rest) next is = within_found n (with_list []) (next (length text - length rest)) (λ found. refl) (is (length text - length rest))
+
+within_opening : (n line : ℕ) (before : Before) (text : List ℕ) (inside : Outcome) (next : ℕ → Outcome) → Within n inside → ((skip : ℕ) → Within n (next skip)) → Within n (opening line before text inside next)
+within_opening n line no_name text inside next is more = tt
+within_opening n line a_name text inside next is more = is
+within_opening n line name_comment text inside next is more = within_past_raw n line text (behind_raw zero text) next more
 
 -- no statement goes over the end of its text
-within : (line depth : ℕ) (named begun : Bool) (text : List ℕ) → Within (length text) (scan line depth named begun text)
-unfolding scan
-within line zero named begun [] = tt
-within line (suc depth) named begun [] = tt
-within line zero named begun (b ∷ text) = by (class_of b) refl (λ named begun. within_more (length text) (length (b ∷ text)) (scan line zero named begun text) (omega arith) (within line zero named begun text)) (within_more (length text) (length (b ∷ text)) (scan line 1 false false text) (omega arith) (within line 1 false false text))
+within : (line skip depth : ℕ) (before : Before) (begun : Bool) (text : List ℕ) → Within (length text) (pass line skip depth before begun text)
+unfolding pass
+within line skip zero before begun [] = tt
+within line skip (suc depth) before begun [] = tt
+within line (suc skip) depth before begun (b ∷ text) =
+    let P : Outcome → Type 0 = λ o. Within (length (b ∷ text)) o in
+    subst P (sym (skip-step line skip depth before begun b text)) (within_more (length text) (length (b ∷ text)) (pass line skip depth before begun text) (omega arith) (within line skip depth before begun text))
+within line zero depth before begun (b ∷ text) =
+    at depth (λ skip depth before begun. within_more (length text) (length (b ∷ text)) (pass line skip depth before begun text) (omega arith) (within line skip depth before begun text))
   where
-    open_list : (named : Bool) → Within (length (b ∷ text)) (scan line 1 false false text) → class_of b ≡ Open → Within (length (b ∷ text)) (scan line zero named begun (b ∷ text))
-    open_list true inside is = rw (is, scan) inside
-    open_list false inside is = rw (is, scan) tt
+    Behind : Type 0
+    Behind = (skip depth : ℕ) (before : Before) (begun : Bool) → Within (length (b ∷ text)) (pass line skip depth before begun text)
 
-    by : (class : Class) → class_of b ≡ class → ((named begun : Bool) → Within (length (b ∷ text)) (scan line zero named begun text)) → Within (length (b ∷ text)) (scan line 1 false false text) → Within (length (b ∷ text)) (scan line zero named begun (b ∷ text))
-    by Gap is outside inside = rw (is, scan) (outside named (b == line_end))
-    by Name is outside inside = rw (is, scan) (within_name (length (b ∷ text)) b (begins_name text) (scan line zero true false text) (outside true false))
-    by Open is outside inside = open_list named inside is
-    by Close is outside inside = rw (is, scan) tt
-    by Period is outside inside = rw (is, scan) (omega arith)
-    by Other is outside inside = rw (is, scan) tt
-within line (suc depth) named begun (b ∷ text) =
-    by (class_of b) refl (λ depth. within_more (length text) (length (b ∷ text)) (scan line depth false false text) (omega arith) (within line depth false false text))
-  where
-    value : ((depth : ℕ) → Within (length (b ∷ text)) (scan line depth false false text)) → Within (length (b ∷ text)) (with_value_byte b (begins_value text) (scan line (suc depth) false false text))
-    value inside = within_value (length (b ∷ text)) b (begins_value text) (scan line (suc depth) false false text) (inside (suc depth))
+    outside : (class : Class) → class_here b text ≡ class → Behind → Within (length (b ∷ text)) (pass line zero zero before begun (b ∷ text))
+    outside Gap is behind = rw (is, pass) (behind zero zero before (b == line_end))
+    outside Comment is behind = rw (is, pass) (within_past (length (b ∷ text)) line text (behind_comment (drop 1 text)) (λ skip. pass line skip zero before false text) (λ skip. behind skip zero before false))
+    outside Name is behind =
+        rw (is, pass)
+        (within_found (length (b ∷ text)) (with_name (run is_name_byte (b ∷ text)))
+        (pass line (length (run is_name_byte text)) zero (before_behind (run is_name_byte (b ∷ text))) false text) (λ found. refl)
+        (behind (length (run is_name_byte text)) zero (before_behind (run is_name_byte (b ∷ text))) false))
+    outside Open is behind =
+        rw (is, pass)
+        (within_opening (length (b ∷ text)) line before text (pass line zero 1 no_name false text) (λ skip. pass line skip zero no_name false text) (behind zero 1 no_name false) (λ skip. behind skip zero no_name false))
+    outside Close is behind = rw (is, pass) tt
+    outside Period is behind = rw (is, pass) (omega arith)
+    outside Other is behind = rw (is, pass) tt
 
-    by : (class : Class) → class_of b ≡ class → ((depth : ℕ) → Within (length (b ∷ text)) (scan line depth false false text)) → Within (length (b ∷ text)) (scan line (suc depth) named begun (b ∷ text))
-    by Gap is inside = rw (is, scan) (inside (suc depth))
-    by Open is inside = rw (is, scan) (inside (suc (suc depth)))
-    by Close is inside = rw (is, scan) (within_closing (length (b ∷ text)) depth (scan line depth false false text) (inside depth))
-    by Name is inside = rw (is, scan) (value inside)
-    by Period is inside = rw (is, scan) (value inside)
-    by Other is inside = rw (is, scan) (value inside)
+    value : (depth : ℕ) → Behind → Within (length (b ∷ text)) (on_found (with_values (value_run (b ∷ text) ∷ [])) (pass line (length (value_run text)) (suc depth) no_name false text))
+    value depth behind =
+        within_found (length (b ∷ text)) (with_values (value_run (b ∷ text) ∷ [])) (pass line (length (value_run text)) (suc depth) no_name false text) (λ found. refl)
+        (behind (length (value_run text)) (suc depth) no_name false)
+
+    inside : (depth : ℕ) (class : Class) → class_here b text ≡ class → Behind → Within (length (b ∷ text)) (pass line zero (suc depth) before begun (b ∷ text))
+    inside depth Gap is behind = rw (is, pass) (behind zero (suc depth) no_name false)
+    inside depth Comment is behind =
+        rw (is, pass) (within_past (length (b ∷ text)) line text (behind_comment (drop 1 text)) (λ skip. pass line skip (suc depth) no_name false text) (λ skip. behind skip (suc depth) no_name false))
+    inside depth Open is behind = rw (is, pass) (behind zero (suc (suc depth)) no_name false)
+    inside depth Close is behind = rw (is, pass) (within_closing (length (b ∷ text)) depth (pass line zero depth no_name false text) (behind zero depth no_name false))
+    inside depth Name is behind = rw (is, pass) (value depth behind)
+    inside depth Period is behind = rw (is, pass) (value depth behind)
+    inside depth Other is behind = rw (is, pass) (value depth behind)
+
+    at : (depth : ℕ) → Behind → Within (length (b ∷ text)) (pass line zero depth before begun (b ∷ text))
+    at zero behind = outside (class_here b text) refl behind
+    at (suc depth) behind = inside depth (class_here b text) refl behind
 
 abbrev rest_of : Stated → List ℕ
 rest_of (Ok (statement, rest)) = rest
 rest_of (Err fault) = []
 
 -- nor does what is behind a statement that has a subject
-stated_within : (n line : ℕ) (verb : Verb) (outcome : Outcome) (statement : Statement) (rest : List ℕ) → Within n outcome → stated verb line outcome ≡ Ok (statement, rest) → length rest ≤ n
-stated_within n line verb (Err fault) statement rest is e = absurd (cc)
-stated_within n line verb (Ok found) statement rest is e = by (subject_of verb found.values) e where
-  by : (subject : Option (Option (List ℕ))) → with_subject verb line found subject ≡ Ok (statement, rest) → length rest ≤ n
+stated_within : (n line : ℕ) (what : Verb) (outcome : Outcome) (statement : Statement) (rest : List ℕ) → Within n outcome → stated what line outcome ≡ Ok (statement, rest) → length rest ≤ n
+stated_within n line what (Err fault) statement rest is e = absurd (cc)
+stated_within n line what (Ok found) statement rest is e = by (subject_of what found.values) e where
+  by : (subject : Option (Option (List ℕ))) → with_subject what line found subject ≡ Ok (statement, rest) → length rest ≤ n
   by None never = absurd (cc)
   by (Some subject) same = let size : length found.rest ≡ length rest = ap (λ s. length (rest_of s)) same in omega arith
 
@@ -98,16 +123,16 @@ length-drop_2 (a ∷ b ∷ text) = omega arith
 
 abbrev behind_of : Option (Verb × List ℕ) → List ℕ
 behind_of None = []
-behind_of (Some (verb, behind)) = behind
+behind_of (Some (what, behind)) = behind
 
 -- what is behind a line's head
-verb_within : (text : List ℕ) (verb : Verb) (behind : List ℕ) → verb_at text ≡ Some (verb, behind) → length behind ≤ length text
+verb_within : (text : List ℕ) (what : Verb) (behind : List ℕ) → verb_at text ≡ Some (what, behind) → length behind ≤ length text
 unfolding verb_at
-verb_within text verb behind e = by (begins_statement text) (verb_named (name_behind (drop 2 text))) e where
+verb_within text what behind e = by (begins_statement text) (verb_named (name_behind (drop 2 text))) e where
   with_behind : Verb → Verb × List ℕ
-  with_behind verb = (verb, text_behind (drop 2 text))
+  with_behind what = (what, text_behind (drop 2 text))
 
-  by : (t : Bool) (found : Option Verb) → cond t (option_map with_behind found) None ≡ Some (verb, behind) → length behind ≤ length text
+  by : (t : Bool) (found : Option Verb) → cond t (option_map with_behind found) None ≡ Some (what, behind) → length behind ≤ length text
   by false found never = absurd (cc)
   by true None never = absurd (cc)
   by true (Some found) same =
@@ -128,12 +153,12 @@ alike : (n m line : ℕ) (text : List ℕ) → length text ≤ suc n → length 
     → ((line : ℕ) (behind : List ℕ) → length behind ≤ n → length behind ≤ m → read_lines n line behind ≡ read_lines m line behind)
     → (at : Option (Verb × List ℕ)) → verb_at text ≡ at → at_verb (read_lines n) line text at ≡ at_verb (read_lines m) line text at
 alike n m line text fits_n fits_m next None e = next (line + 1) (after_line text) (fits_behind text (after_line text) n refl fits_n) (fits_behind text (after_line text) m refl fits_m)
-alike n m line text fits_n fits_m next (Some (verb, behind)) e = by (stated verb line (scan line zero true false behind)) refl where
-  by : (s : Stated) → stated verb line (scan line zero true false behind) ≡ s → go_on (read_lines n) line text s ≡ go_on (read_lines m) line text s
+alike n m line text fits_n fits_m next (Some (what, behind)) e = by (stated what line (scan line zero a_name false behind)) refl where
+  by : (s : Stated) → stated what line (scan line zero a_name false behind) ≡ s → go_on (read_lines n) line text s ≡ go_on (read_lines m) line text s
   by (Err fault) is = refl
   by (Ok (statement, rest)) is =
-      let less = verb_within text verb behind e in
-      let least = stated_within (length behind) line verb (scan line zero true false behind) statement rest (within line zero true false behind) is in
+      let less = verb_within text what behind e in
+      let least = stated_within (length behind) line what (scan line zero a_name false behind) statement rest (within line zero zero a_name false behind) is in
       ap (with_statements (statement ∷ []))
       (next (line + (line_ends text - line_ends (after_line rest))) (after_line rest)
       (fits_behind rest (after_line rest) n refl (omega (arith, less, least))) (fits_behind rest (after_line rest) m refl (omega (arith, less, least))))

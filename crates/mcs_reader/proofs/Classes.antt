@@ -3,7 +3,7 @@ use Rattle.std.proofs.Common.{◌≡◌, ℕ, ◌==◌, ◌||◌, not, Bool, tru
 use Rattle.std.proofs.lemmas.Bool.Decides.{nat_tests}
 use Rattle.mcs_reader.specs.Byte.{class_of, is_gap, is_name_byte, belongs_to_value}
 use Rattle.mcs_reader.specs.declared.byte.Class.{Class}
-use Rattle.mcs_reader.specs.declared.byte.Class.TheVariants.{Gap, Name, Open, Close, Period, Other}
+use Rattle.mcs_reader.specs.declared.byte.Class.TheVariants.{Gap, Comment, Name, Open, Close, Period, Other}
 use Rattle.mcs_reader.specs.Pieces.{is_word, is_value_byte}
 
 -- both halves of a test made by `if`
@@ -99,6 +99,27 @@ class_of-46 = refl
 pub class_of-43 : class_of 43 ≡ Other
 unfolding class_of
 class_of-43 = refl
+
+pub class_of-42 : class_of 42 ≡ Other
+unfolding class_of
+class_of-42 = refl
+
+pub class_of-47 : class_of 47 ≡ Other
+unfolding class_of
+class_of-47 = refl
+
+no_comment_chosen : (gap name opens closes ends : Bool) → cond gap Gap (cond name Name (cond opens Open (cond closes Close (cond ends Period Other)))) ≡ Comment → ⊥
+no_comment_chosen true name opens closes ends h = cc
+no_comment_chosen false true opens closes ends h = cc
+no_comment_chosen false false true closes ends h = cc
+no_comment_chosen false false false true ends h = cc
+no_comment_chosen false false false false true h = cc
+no_comment_chosen false false false false false h = cc
+
+-- no byte alone begins a comment
+pub never_comment : (b : ℕ) → class_of b ≡ Comment → ⊥
+unfolding class_of
+never_comment b h = no_comment_chosen (is_gap b) (is_name_byte b) (b == 40) (b == 41) (b == 46) h
 
 belongs_by_tests : (gap name opens closes ends : Bool) → (name ≡ true → (opens ≡ false) × (closes ≡ false))
     → belongs_to_value (cond gap Gap (cond name Name (cond opens Open (cond closes Close (cond ends Period Other))))) ≡ not (gap || opens || closes)

@@ -6,14 +6,14 @@ use Rattle.std.specs.List.{list_all}
 use Rattle.mcs_reader.specs.Byte.{is_blank, is_name_byte, line_end}
 use Rattle.mcs_reader.specs.Line.{begins_statement}
 use Rattle.mcs_reader.specs.Verb.{Head, spell_head, IsHead, verb_named, begins_with}
-use Rattle.mcs_reader.specs.Pieces.{spell, ends_named, ends_line}
+use Rattle.mcs_reader.specs.Pieces.{a_name, spell, ends_with, ends_line}
 use Rattle.mcs_reader.specs.StatementText.{StatementText, IsStatementText, spell_statement, subject_in}
-use Rattle.mcs_reader.specs.Stop.{Stop, text_ends, statement_begins, stray_close, stray_byte, nameless_list, open_list, bad_subject, spell_stop, IsStop, IsStopped, HasNoSubject}
+use Rattle.mcs_reader.specs.Stop.{Stop, text_ends, statement_begins, stray_close, stray_byte, nameless_list, open_comment, open_list, open_raw, bad_subject, spell_stop, IsStop, IsStopped, HasNoSubject}
 use Rattle.mcs_reader.specs.Segment.{Segment, passed, skipped, stated, IsLine, IsPassed, AllPassed, spell_lines, spell_segment, IsSegment, spell_row, IsRow, ends_or_begins_statement}
 use Rattle.mcs_reader.specs.declared.statement.Verb.{Verb}
 use Rattle.mcs_reader.proofs.Decompose.{decomposed}
 use Rattle.mcs_reader.proofs.Rows.{IsLine-head}
-use Rattle.mcs_reader.specs.Place.{run, behind_run}
+use Rattle.mcs_reader.specs.Run.{run, behind_run}
 use Rattle.mcs_reader.proofs.Runs.{run-append-behind_run, all-run, begins_with-behind_run, begins_with-front, and_parts, IsLines, IsLines-behind, first_line, in_line, begins_statement-line}
 
 -- what a text ends in behind its row: nothing, or a statement that something stops
@@ -152,12 +152,12 @@ pub record Begun (text : List ℕ) : Type 0 where
   pub statement : StatementText
   pub stop : Stop
   pub is : IsStatementText statement
-  pub stops : IsStop (ends_named true statement.pieces) (ends_line false statement.pieces) stop
+  pub stops : IsStop (ends_with a_name statement.pieces) (ends_line false statement.pieces) stop
   pub whole : text ≡ spell_statement statement ++ spell_stop stop
 
 pub begun : (text : List ℕ) (h : Headed text) (verb : Verb) → verb_named h.head.name ≡ Some verb → Begun (43 ∷ 43 ∷ text)
 begun text h verb verb_is =
-    let outer = decomposed zero true false h.behind in
+    let outer = decomposed zero zero a_name false h.behind in
     record {
       statement = record { head = h.head; verb = verb; pieces = outer.pieces };
       stop = outer.stop;
@@ -225,7 +225,9 @@ cut_begun n text below b fits lines = by_stop b.stop refl where
   by_stop (stray_close more) e = flaw_of (stray_close more) e tt
   by_stop (stray_byte c more) e = flaw_of (stray_byte c more) e tt
   by_stop (nameless_list more) e = flaw_of (nameless_list more) e tt
-  by_stop (open_list pieces deeper) e = flaw_of (open_list pieces deeper) e tt
+  by_stop (open_comment body) e = flaw_of (open_comment body) e tt
+  by_stop (open_list pieces deeper end) e = flaw_of (open_list pieces deeper end) e tt
+  by_stop (open_raw raw deeper) e = flaw_of (open_raw raw deeper) e tt
   by_stop (bad_subject rest) e = cut_period n text b.statement rest below b.is (whole_of (bad_subject rest) e) fits lines (subject_in b.statement) refl
 
 -- a line has no line end, so it is no text whose lines end

@@ -1,20 +1,28 @@
 -- Every text is pieces and what stops them: a total function that cuts a text so.
-use Rattle.std.proofs.Common.{◌≡◌, ℕ, zero, suc, ◌==◌, ◌&&◌, ◌⊎◌, inl, inr, Bool, true, false, cond, List, [], ◌∷◌, ◌++◌, refl, sym, ◌∙◌, ap, subst, arith, append_assoc}
+use Rattle.std.proofs.Common.{◌≡◌, ℕ, zero, suc, ◌==◌, ◌&&◌, ◌⊎◌, inl, inr, Bool, true, false, cond, List, [], ◌∷◌, ◌++◌, length, drop, Option, Some, None, refl, sym, ◌∙◌, ap, subst, arith, append_assoc}
+use Rattle.std.proofs.Math.Seq.{drop-append_seam}
 use Rattle.std.proofs.lemmas.Bool.Decides.{nat_tests}
 use Rattle.mcs_reader.specs.Byte.{class_of, is_name_byte, belongs_to_value}
+use Rattle.mcs_reader.specs.Comment.{class_here, begins_comment, somewhere, IsCommentText}
 use Rattle.mcs_reader.specs.declared.byte.Class.{Class}
-use Rattle.mcs_reader.specs.declared.byte.Class.TheVariants.{Gap, Name, Open, Close, Period, Other}
+use Rattle.mcs_reader.specs.declared.byte.Class.TheVariants.{Gap, Comment, Name, Open, Close, Period, Other}
 use Rattle.mcs_reader.specs.Line.{begins_statement}
-use Rattle.mcs_reader.specs.Pieces.{Pieces, nothing, gap, word, list, spell, is_word, is_value_byte, IsInside, IsOutside, ends_named, ends_line}
-use Rattle.mcs_reader.specs.Stop.{Stop, text_ends, statement_begins, stray_close, stray_byte, nameless_list, open_list, bad_subject, spell_open, AllInside, spell_stop, IsStop}
-use Rattle.mcs_reader.proofs.Classes.{class-is_name, class-is_open, class-is_close, class-is_period}
+use Rattle.mcs_reader.specs.Pieces.{Before, no_name, a_name, name_comment, before_behind, Pieces, nothing, gap, comment, word, list, raw_list, spell, begins_word, is_word, is_value_byte, IsInside, IsOutside, ends_with, ends_line}
+use Rattle.mcs_reader.specs.Raw.{spell_raw}
+use Rattle.mcs_reader.specs.Run.{run, behind_run, begins_value}
+use Rattle.mcs_reader.specs.Stop.{Stop, text_ends, statement_begins, stray_close, stray_byte, nameless_list, open_comment, open_list, open_raw, bad_subject, spell_end, IsEnd, spell_open, AllInside, spell_stop, IsStop}
+use Rattle.mcs_reader.specs.Verb.{begins_with}
+use Rattle.mcs_reader.proofs.Classes.{class-is_name, class-is_open, class-is_close, class-is_period, first_of_word}
+use Rattle.mcs_reader.proofs.Comments.{plain, comment_at, CommentAt, Ended, comment_cut, value_here}
+use Rattle.mcs_reader.proofs.Raws.{RawAt, raw_cut}
+use Rattle.mcs_reader.proofs.Runs.{run-append-behind_run, begins_with-behind_run, is_word-run}
 
 -- outside lists: pieces, and a stop or the period
-pub record Outer (named begun : Bool) (text : List ℕ) : Type 0 where
+pub record Outer (before : Before) (begun : Bool) (text : List ℕ) : Type 0 where
   pub pieces : Pieces
   pub stop : Stop
-  pub outside : IsOutside named pieces
-  pub stops : IsStop (ends_named named pieces) (ends_line begun pieces) stop
+  pub outside : IsOutside before pieces
+  pub stops : IsStop (ends_with before pieces) (ends_line begun pieces) stop
   pub whole : text ≡ spell pieces ++ spell_stop stop
 
 -- in a list: pieces up to its closing parenthesis, behind which P holds
@@ -29,68 +37,134 @@ pub record Closes (P : List ℕ → Type 0) (text : List ℕ) : Type 0 where
 pub record Unclosed (text : List ℕ) : Type 0 where
   pub pieces : Pieces
   pub deeper : List Pieces
+  pub end : Option (List ℕ)
   pub inside : IsInside pieces
   pub all : AllInside deeper
-  pub whole : text ≡ spell_open pieces deeper
+  pub ends : IsEnd end
+  pub whole : text ≡ spell_open pieces deeper end
 
-abbrev pub At : ℕ → Bool → Bool → List ℕ → Type 0
-At zero named begun text = Outer named begun text
-At (suc depth) named begun text = Closes (At depth false false) text ⊎ Unclosed text
+abbrev pub At : ℕ → Before → Bool → List ℕ → Type 0
+At zero before begun text = Outer before begun text
+At (suc depth) before begun text = Closes (At depth no_name false) text ⊎ Unclosed text
 
--- a name byte in front of the pieces
-name_in_front : (b : ℕ) (pieces : Pieces) (begun named : Bool) → is_name_byte b ≡ true → IsOutside true pieces →
-    (more : Pieces) × IsOutside named more × (ends_named named more ≡ ends_named true pieces) × (ends_line begun more ≡ ends_line false pieces) × (spell more ≡ b ∷ spell pieces)
-name_in_front b nothing begun named name is = (word (b ∷ []) nothing, (name, refl, tt), refl, refl, refl)
-name_in_front b (gap c rest) begun named name is = (word (b ∷ []) (gap c rest), (name, refl, is), refl, refl, refl)
-name_in_front b (list inside rest) begun named name is = (word (b ∷ []) (list inside rest), (name, refl, is), refl, refl, refl)
-name_in_front b (word [] rest) begun named name is = absurd (let h : false ≡ true = is.0 in cc)
-name_in_front b (word (c ∷ w) rest) begun named name is =
-    (word (b ∷ c ∷ w) rest, (ap (λ t. cond t (is_word is_name_byte (c ∷ w)) false) name ∙ is.0, is.1, is.2), refl, refl, refl)
+-- what holds at every place further on, holds behind a front
+at_rest : (P : List ℕ → Type 0) (text front rest : List ℕ) → text ≡ front ++ rest → ((skip : ℕ) → P (drop skip text)) → P rest
+at_rest P text front rest whole behind = subst P (ap (drop (length front)) whole ∙ drop-append_seam front rest) (behind (length front))
+
+-- pieces don't begin with a word where no name byte stands
+no_word : (before : Before) (pieces : Pieces) (tail : List ℕ) → IsOutside before pieces → begins_with is_name_byte (spell pieces ++ tail) ≡ false → begins_word pieces ≡ false
+no_word before nothing tail is none = refl
+no_word before (gap b rest) tail is none = refl
+no_word before (comment body rest) tail is none = refl
+no_word before (word [] rest) tail is none = absurd (let h : false ≡ true = is.0 in cc)
+no_word before (word (b ∷ w) rest) tail is none = absurd (let name = first_of_word is_name_byte b w is.0 in cc)
+no_word before (list inside rest) tail is none = refl
+no_word before (raw_list raw rest) tail is none = refl
+
+lone : (b : ℕ) → somewhere begins_comment (b ∷ []) ≡ false
+lone b = by_test (b == 47) where
+  by_test : (t : Bool) → cond (cond t false false) true false ≡ false
+  by_test true = refl
+  by_test false = refl
 
 -- a byte of a value in front of the pieces
-value_in_front : (b : ℕ) (pieces : Pieces) → is_value_byte b ≡ true → IsInside pieces → (more : Pieces) × IsInside more × (spell more ≡ b ∷ spell pieces)
-value_in_front b nothing value is = (word (b ∷ []) nothing, (value, refl, tt), refl)
-value_in_front b (gap c rest) value is = (word (b ∷ []) (gap c rest), (value, refl, is), refl)
-value_in_front b (list inside rest) value is = (word (b ∷ []) (list inside rest), (value, refl, is), refl)
-value_in_front b (word [] rest) value is = absurd (let h : false ≡ true = is.0 in cc)
-value_in_front b (word (c ∷ w) rest) value is =
-    (word (b ∷ c ∷ w) rest, (ap (λ t. cond t (is_word is_value_byte (c ∷ w)) false) value ∙ is.0, is.1, is.2), refl)
+value_in_front : (b : ℕ) (pieces : Pieces) (tail : List ℕ) → is_value_byte b ≡ true → begins_comment (b ∷ (spell pieces ++ tail)) ≡ false → IsInside pieces
+    → (more : Pieces) × IsInside more × (spell more ≡ b ∷ spell pieces)
+value_in_front b nothing tail value none is = (word (b ∷ []) nothing, (value, lone b, refl, tt), refl)
+value_in_front b (gap c rest) tail value none is = (word (b ∷ []) (gap c rest), (value, lone b, refl, is), refl)
+value_in_front b (comment body rest) tail value none is = (word (b ∷ []) (comment body rest), (value, lone b, refl, is), refl)
+value_in_front b (list inside rest) tail value none is = (word (b ∷ []) (list inside rest), (value, lone b, refl, is), refl)
+value_in_front b (raw_list raw rest) tail value none is = absurd is
+value_in_front b (word [] rest) tail value none is = absurd (let h : false ≡ true = is.0 in cc)
+value_in_front b (word (c ∷ w) rest) tail value none is = (
+  word (b ∷ c ∷ w) rest,
+  (
+    ap (λ t. cond t (is_word is_value_byte (c ∷ w)) false) value ∙ is.0,
+    ap (λ t. cond t true (somewhere begins_comment (c ∷ w))) none ∙ is.1,
+    is.2,
+    is.3,
+  ),
+  refl,
+)
 
 -- pieces that spell one byte more do so before an open parenthesis too
-open_in_front : (b : ℕ) (pieces more : Pieces) (deeper : List Pieces) → spell more ≡ b ∷ spell pieces → spell_open more deeper ≡ b ∷ spell_open pieces deeper
-open_in_front b pieces more [] e = e
-open_in_front b pieces more (inner ∷ deeper) e = ap (λ t. t ++ 40 ∷ spell_open inner deeper) e
+open_in_front : (b : ℕ) (pieces more : Pieces) (deeper : List Pieces) (end : Option (List ℕ)) → spell more ≡ b ∷ spell pieces → spell_open more deeper end ≡ b ∷ spell_open pieces deeper end
+open_in_front b pieces more [] end e = ap (λ t. t ++ spell_end end) e
+open_in_front b pieces more (inner ∷ deeper) end e = ap (λ t. t ++ 40 ∷ spell_open inner deeper end) e
 
-open_list_in_front : (inside rest : Pieces) (deeper : List Pieces) → spell_open (list inside rest) deeper ≡ 40 ∷ (spell inside ++ 41 ∷ spell_open rest deeper)
-open_list_in_front inside rest [] = refl
-open_list_in_front inside rest (inner ∷ deeper) = ap (λ t. 40 ∷ t) (append_assoc (spell inside) (41 ∷ spell rest) (40 ∷ spell_open inner deeper))
+open_list_in_front : (inside rest : Pieces) (deeper : List Pieces) (end : Option (List ℕ)) → spell_open (list inside rest) deeper end ≡ 40 ∷ (spell inside ++ 41 ∷ spell_open rest deeper end)
+open_list_in_front inside rest [] end = ap (λ t. 40 ∷ t) (append_assoc (spell inside) (41 ∷ spell rest) (spell_end end))
+open_list_in_front inside rest (inner ∷ deeper) end = ap (λ t. 40 ∷ t) (append_assoc (spell inside) (41 ∷ spell rest) (40 ∷ spell_open inner deeper end))
+
+open_comment_in_front : (body : List ℕ) (rest : Pieces) (deeper : List Pieces) (end : Option (List ℕ))
+    → spell_open (comment body rest) deeper end ≡ 47 ∷ 42 ∷ (body ++ 42 ∷ 47 ∷ spell_open rest deeper end)
+open_comment_in_front body rest [] end = ap (λ t. 47 ∷ 42 ∷ t) (append_assoc body (42 ∷ 47 ∷ spell rest) (spell_end end))
+open_comment_in_front body rest (inner ∷ deeper) end = ap (λ t. 47 ∷ 42 ∷ t) (append_assoc body (42 ∷ 47 ∷ spell rest) (40 ∷ spell_open inner deeper end))
+
+-- what stands behind the pieces of a list in which the text ends
+tail_of : (pieces : Pieces) (deeper : List Pieces) (end : Option (List ℕ)) → (tail : List ℕ) × (spell_open pieces deeper end ≡ spell pieces ++ tail)
+tail_of pieces [] end = (spell_end end, refl)
+tail_of pieces (inner ∷ deeper) end = (40 ∷ spell_open inner deeper end, refl)
 
 -- outside lists, by the class of the first byte
 
-outer_gap : (named begun : Bool) (b : ℕ) (text : List ℕ) → class_of b ≡ Gap → Outer named (b == 10) text → Outer named begun (b ∷ text)
-outer_gap named begun b text is r = record {
+outer_gap : (before : Before) (begun : Bool) (b : ℕ) (text : List ℕ) → class_here b text ≡ Gap → Outer before (b == 10) text → Outer before begun (b ∷ text)
+outer_gap before begun b text is r = record {
   pieces = gap b r.pieces;
   stop = r.stop;
-  outside = (is, r.outside);
+  outside = ((plain b text Gap is (λ e. cc)).class_is, r.outside);
   stops = r.stops;
   whole = ap (λ t. b ∷ t) r.whole;
 }
 
-outer_name : (named begun : Bool) (b : ℕ) (text : List ℕ) → class_of b ≡ Name → Outer true false text → Outer named begun (b ∷ text)
-outer_name named begun b text is r =
-    let more = name_in_front b r.pieces begun named (class-is_name b is) r.outside in
+-- where a comment begins
+comment_begins : (b : ℕ) (text : List ℕ) (at : CommentAt b text) → b ∷ text ≡ 47 ∷ 42 ∷ at.rest
+comment_begins b text at = ap (λ n. n ∷ text) at.byte_is ∙ ap (λ t. 47 ∷ t) at.whole
+
+-- what stands behind a comment, as a place further on
+behind_ended : (b : ℕ) (text : List ℕ) (at : CommentAt b text) (c : Ended at.rest) → text ≡ (42 ∷ (c.body ++ 42 ∷ 47 ∷ [])) ++ c.rest
+behind_ended b text at c = at.whole ∙ ap (λ t. 42 ∷ t) (c.whole ∙ sym (append_assoc c.body (42 ∷ 47 ∷ []) c.rest))
+
+outer_comment : (before : Before) (begun : Bool) (b : ℕ) (text : List ℕ) (at : CommentAt b text) → ((skip : ℕ) → Outer before false (drop skip text)) → Ended at.rest ⊎ IsCommentText at.rest
+    → Outer before begun (b ∷ text)
+outer_comment before begun b text at behind (inl c) =
+    let r = at_rest (Outer before false) text (42 ∷ (c.body ++ 42 ∷ 47 ∷ [])) c.rest (behind_ended b text at c) behind in
     record {
-      pieces = more.0;
+      pieces = comment c.body r.pieces;
       stop = r.stop;
-      outside = more.1;
-      stops =
-          let P : Bool → Type 0 = λ n. IsStop n (ends_line begun more.0) r.stop in
-          let Q : Bool → Type 0 = λ l. IsStop (ends_named true r.pieces) l r.stop in
-          subst P (sym more.2) (subst Q (sym more.3) r.stops);
-      whole = ap (λ t. b ∷ t) r.whole ∙ ap (λ t. t ++ spell_stop r.stop) (sym more.4);
+      outside = (c.is, r.outside);
+      stops = r.stops;
+      whole =
+          comment_begins b text at
+          ∙ ap (λ t. 47 ∷ 42 ∷ t) (c.whole ∙ ap (λ t. c.body ++ 42 ∷ 47 ∷ t) r.whole ∙ sym (append_assoc c.body (42 ∷ 47 ∷ spell r.pieces) (spell_stop r.stop)));
+    }
+outer_comment before begun b text at behind (inr unclosed) =
+    record { pieces = nothing; stop = open_comment at.rest; outside = tt; stops = unclosed; whole = comment_begins b text at }
+
+outer_name : (before : Before) (begun : Bool) (b : ℕ) (text : List ℕ) → class_of b ≡ Name → Outer (before_behind (b ∷ run is_name_byte text)) false (behind_run is_name_byte text)
+    → Outer before begun (b ∷ text)
+outer_name before begun b text is r =
+    let w : List ℕ = b ∷ run is_name_byte text in
+    let name : is_name_byte b ≡ true = class-is_name b is in
+    let P : List ℕ → Type 0 = λ t. begins_with is_name_byte t ≡ false in
+    let Q : List ℕ → Type 0 = λ t. is_word is_name_byte t ≡ true in
+    let cut : run is_name_byte (b ∷ text) ≡ w = ap (λ t. cond t w []) name in
+    record {
+      pieces = word w r.pieces;
+      stop = r.stop;
+      outside = (
+        subst Q cut (is_word-run is_name_byte b text name),
+        no_word (before_behind w) r.pieces (spell_stop r.stop) r.outside (subst P r.whole (begins_with-behind_run is_name_byte text)),
+        r.outside,
+      );
+      stops = r.stops;
+      whole =
+          ap (λ t. b ∷ t) (sym (run-append-behind_run is_name_byte text))
+          ∙ ap (λ t. w ++ t) r.whole
+          ∙ sym (append_assoc w (spell r.pieces) (spell_stop r.stop));
     }
 
-outer_list : (begun : Bool) (text : List ℕ) → At 1 false false text → Outer true begun (40 ∷ text)
+outer_list : (begun : Bool) (text : List ℕ) → At 1 no_name false text → Outer a_name begun (40 ∷ text)
 outer_list begun text (inl c) = record {
   pieces = list c.pieces c.behind.pieces;
   stop = c.behind.stop;
@@ -102,15 +176,36 @@ outer_list begun text (inl c) = record {
 }
 outer_list begun text (inr u) = record {
   pieces = nothing;
-  stop = open_list u.pieces u.deeper;
+  stop = open_list u.pieces u.deeper u.end;
   outside = tt;
-  stops = (refl, u.inside, u.all);
+  stops = (refl, u.inside, u.all, u.ends);
   whole = ap (λ t. 40 ∷ t) u.whole;
 }
 
-outer_open : (named begun : Bool) (text : List ℕ) → At 1 false false text → Outer named begun (40 ∷ text)
-outer_open true begun text r = outer_list begun text r
-outer_open false begun text r = record { pieces = nothing; stop = nameless_list text; outside = tt; stops = refl; whole = refl }
+outer_raw : (begun : Bool) (text : List ℕ) → ((skip : ℕ) → Outer no_name false (drop skip text)) → RawAt 1 text → Outer name_comment begun (40 ∷ text)
+outer_raw begun text behind (inl c) =
+    let r = at_rest (Outer no_name false) text (spell_raw c.raw ++ 41 ∷ []) c.rest (c.whole ∙ sym (append_assoc (spell_raw c.raw) (41 ∷ []) c.rest)) behind in
+    record {
+      pieces = raw_list c.raw r.pieces;
+      stop = r.stop;
+      outside = (refl, c.is, r.outside);
+      stops = r.stops;
+      whole =
+          ap (λ t. 40 ∷ t) (c.whole ∙ ap (λ t. spell_raw c.raw ++ 41 ∷ t) r.whole)
+          ∙ ap (λ t. 40 ∷ t) (sym (append_assoc (spell_raw c.raw) (41 ∷ spell r.pieces) (spell_stop r.stop)));
+    }
+outer_raw begun text behind (inr u) = record {
+  pieces = nothing;
+  stop = open_raw u.raw u.deeper;
+  outside = tt;
+  stops = (refl, u.is, u.all);
+  whole = ap (λ t. 40 ∷ t) u.whole;
+}
+
+outer_open : (before : Before) (begun : Bool) (text : List ℕ) → At 1 no_name false text → ((skip : ℕ) → Outer no_name false (drop skip text)) → Outer before begun (40 ∷ text)
+outer_open a_name begun text r behind = outer_list begun text r
+outer_open name_comment begun text r behind = outer_raw begun text behind (raw_cut 1 text)
+outer_open no_name begun text r behind = record { pieces = nothing; stop = nameless_list text; outside = tt; stops = refl; whole = refl }
 
 -- a line that begins with ++
 pluses : (begun : Bool) (b : ℕ) (text : List ℕ) → (begun && begins_statement (b ∷ text)) ≡ true → (begun ≡ true) × (rest : List ℕ) × (b ∷ text ≡ 43 ∷ 43 ∷ rest)
@@ -125,9 +220,9 @@ pluses true b (c ∷ text) h = by_first (b == 43) refl where
       (refl, text, cc)
   by_first false e = absurd (let no : false ≡ true = sym (ap (λ t. cond t (c == 43) false) e) ∙ h in cc)
 
-outer_other : (named begun : Bool) (b : ℕ) (text : List ℕ) → class_of b ≡ Other → Outer named begun (b ∷ text)
-outer_other named begun b text is = by_test (begun && begins_statement (b ∷ text)) refl where
-  by_test : (t : Bool) → (begun && begins_statement (b ∷ text)) ≡ t → Outer named begun (b ∷ text)
+outer_other : (before : Before) (begun : Bool) (b : ℕ) (text : List ℕ) → class_here b text ≡ Other → Outer before begun (b ∷ text)
+outer_other before begun b text is = by_test (begun && begins_statement (b ∷ text)) refl where
+  by_test : (t : Bool) → (begun && begins_statement (b ∷ text)) ≡ t → Outer before begun (b ∷ text)
   by_test true e =
       let found = pluses begun b text e in
       record { pieces = nothing; stop = statement_begins found.1; outside = tt; stops = found.0; whole = found.2 }
@@ -140,24 +235,61 @@ inner_gap P b text is (inl c) = inl (record { pieces = gap b c.pieces; rest = c.
 inner_gap P b text is (inr u) = inr (record {
   pieces = gap b u.pieces;
   deeper = u.deeper;
+  end = u.end;
   inside = (is, u.inside);
   all = u.all;
-  whole = ap (λ t. b ∷ t) u.whole ∙ sym (open_in_front b u.pieces (gap b u.pieces) u.deeper refl);
+  ends = u.ends;
+  whole = ap (λ t. b ∷ t) u.whole ∙ sym (open_in_front b u.pieces (gap b u.pieces) u.deeper u.end refl);
 })
 
-inner_value : (P : List ℕ → Type 0) (b : ℕ) (text : List ℕ) → is_value_byte b ≡ true → Closes P text ⊎ Unclosed text → Closes P (b ∷ text) ⊎ Unclosed (b ∷ text)
+inner_value : (P : List ℕ → Type 0) (b : ℕ) (text : List ℕ) → begins_value (b ∷ text) ≡ true → Closes P text ⊎ Unclosed text → Closes P (b ∷ text) ⊎ Unclosed (b ∷ text)
 inner_value P b text is (inl c) =
-    let more = value_in_front b c.pieces is c.inside in
+    let here = value_here b text is in
+    let more = value_in_front b c.pieces (41 ∷ c.rest) here.0 (ap (λ t. begins_comment (b ∷ t)) (sym c.whole) ∙ here.1) c.inside in
     inl (record { pieces = more.0; rest = c.rest; inside = more.1; whole = ap (λ t. b ∷ t) c.whole ∙ ap (λ t. t ++ 41 ∷ c.rest) (sym more.2); behind = c.behind })
 inner_value P b text is (inr u) =
-    let more = value_in_front b u.pieces is u.inside in
+    let here = value_here b text is in
+    let tail = tail_of u.pieces u.deeper u.end in
+    let more = value_in_front b u.pieces tail.0 here.0 (ap (λ t. begins_comment (b ∷ t)) (sym (u.whole ∙ tail.1)) ∙ here.1) u.inside in
     inr (record {
       pieces = more.0;
       deeper = u.deeper;
+      end = u.end;
       inside = more.1;
       all = u.all;
-      whole = ap (λ t. b ∷ t) u.whole ∙ sym (open_in_front b u.pieces more.0 u.deeper more.2);
+      ends = u.ends;
+      whole = ap (λ t. b ∷ t) u.whole ∙ sym (open_in_front b u.pieces more.0 u.deeper u.end more.2);
     })
+
+comment_then : (P : List ℕ → Type 0) (b : ℕ) (text : List ℕ) (at : CommentAt b text) (c : Ended at.rest) → Closes P c.rest ⊎ Unclosed c.rest → Closes P (b ∷ text) ⊎ Unclosed (b ∷ text)
+comment_then P b text at c (inl r) = inl (record {
+  pieces = comment c.body r.pieces;
+  rest = r.rest;
+  inside = (c.is, r.inside);
+  whole =
+      comment_begins b text at
+      ∙ ap (λ t. 47 ∷ 42 ∷ t) (c.whole ∙ ap (λ t. c.body ++ 42 ∷ 47 ∷ t) r.whole ∙ sym (append_assoc c.body (42 ∷ 47 ∷ spell r.pieces) (41 ∷ r.rest)));
+  behind = r.behind;
+})
+comment_then P b text at c (inr u) = inr (record {
+  pieces = comment c.body u.pieces;
+  deeper = u.deeper;
+  end = u.end;
+  inside = (c.is, u.inside);
+  all = u.all;
+  ends = u.ends;
+  whole =
+      comment_begins b text at
+      ∙ ap (λ t. 47 ∷ 42 ∷ t) (c.whole ∙ ap (λ t. c.body ++ 42 ∷ 47 ∷ t) u.whole)
+      ∙ sym (open_comment_in_front c.body u.pieces u.deeper u.end);
+})
+
+inner_comment : (P : List ℕ → Type 0) (b : ℕ) (text : List ℕ) (at : CommentAt b text) → ((skip : ℕ) → Closes P (drop skip text) ⊎ Unclosed (drop skip text)) → Ended at.rest ⊎ IsCommentText at.rest
+    → Closes P (b ∷ text) ⊎ Unclosed (b ∷ text)
+inner_comment P b text at behind (inl c) =
+    comment_then P b text at c (at_rest (λ t. Closes P t ⊎ Unclosed t) text (42 ∷ (c.body ++ 42 ∷ 47 ∷ [])) c.rest (behind_ended b text at c) behind)
+inner_comment P b text at behind (inr unclosed) =
+    inr (record { pieces = nothing; deeper = []; end = Some at.rest; inside = tt; all = tt; ends = unclosed; whole = comment_begins b text at })
 
 -- what follows a list within a list
 list_then : (P : List ℕ → Type 0) (pieces : Pieces) (text rest : List ℕ) → IsInside pieces → text ≡ spell pieces ++ 41 ∷ rest → Closes P rest ⊎ Unclosed rest → Closes P (40 ∷ text) ⊎ Unclosed (40 ∷ text)
@@ -173,46 +305,69 @@ list_then P pieces text rest is whole (inl c) = inl (record {
 list_then P pieces text rest is whole (inr u) = inr (record {
   pieces = list pieces u.pieces;
   deeper = u.deeper;
+  end = u.end;
   inside = (is, u.inside);
   all = u.all;
-  whole = ap (λ t. 40 ∷ t) (whole ∙ ap (λ t. spell pieces ++ 41 ∷ t) u.whole) ∙ sym (open_list_in_front pieces u.pieces u.deeper);
+  ends = u.ends;
+  whole = ap (λ t. 40 ∷ t) (whole ∙ ap (λ t. spell pieces ++ 41 ∷ t) u.whole) ∙ sym (open_list_in_front pieces u.pieces u.deeper u.end);
 })
 
-inner_open : (depth : ℕ) (text : List ℕ) → At (suc (suc depth)) false false text → At (suc depth) false false (40 ∷ text)
-inner_open depth text (inl c) = list_then (At depth false false) c.pieces text c.rest c.inside c.whole c.behind
+inner_open : (depth : ℕ) (text : List ℕ) → At (suc (suc depth)) no_name false text → At (suc depth) no_name false (40 ∷ text)
+inner_open depth text (inl c) = list_then (At depth no_name false) c.pieces text c.rest c.inside c.whole c.behind
 inner_open depth text (inr u) = inr (record {
   pieces = nothing;
   deeper = u.pieces ∷ u.deeper;
+  end = u.end;
   inside = tt;
   all = (u.inside, u.all);
+  ends = u.ends;
   whole = ap (λ t. 40 ∷ t) u.whole;
 })
 
-pub decomposed : (depth : ℕ) (named begun : Bool) (text : List ℕ) → At depth named begun text
-decomposed zero named begun [] = record { pieces = nothing; stop = text_ends; outside = tt; stops = tt; whole = refl }
-decomposed (suc depth) named begun [] = inr (record { pieces = nothing; deeper = []; inside = tt; all = tt; whole = refl })
-decomposed zero named begun (b ∷ text) =
-    outer (class_of b) refl (decomposed zero named (b == 10) text) (decomposed zero true false text) (decomposed 1 false false text) where
-      outer : (class : Class) → class_of b ≡ class → Outer named (b == 10) text → Outer true false text → At 1 false false text → Outer named begun (b ∷ text)
-      outer Gap is behind_gap behind_name behind_open = outer_gap named begun b text is behind_gap
-      outer Name is behind_gap behind_name behind_open = outer_name named begun b text is behind_name
-      outer Open is behind_gap behind_name behind_open =
-          let P : ℕ → Type 0 = λ n. Outer named begun (n ∷ text) in
-          subst P (sym (class-is_open b is)) (outer_open named begun text behind_open)
-      outer Close is behind_gap behind_name behind_open =
-          record { pieces = nothing; stop = stray_close text; outside = tt; stops = tt; whole = ap (λ n. n ∷ text) (class-is_close b is) }
-      outer Period is behind_gap behind_name behind_open =
-          record { pieces = nothing; stop = bad_subject text; outside = tt; stops = tt; whole = ap (λ n. n ∷ text) (class-is_period b is) }
-      outer Other is behind_gap behind_name behind_open = outer_other named begun b text is
-decomposed (suc depth) named begun (b ∷ text) =
-    inner (class_of b) refl (decomposed (suc depth) false false text) (decomposed (suc (suc depth)) false false text) (decomposed depth false false text) where
-      inner : (class : Class) → class_of b ≡ class → At (suc depth) false false text → At (suc (suc depth)) false false text → At depth false false text → At (suc depth) named begun (b ∷ text)
-      inner Gap is here behind_open behind_close = inner_gap (At depth false false) b text is here
-      inner Name is here behind_open behind_close = inner_value (At depth false false) b text (ap belongs_to_value is) here
-      inner Open is here behind_open behind_close =
-          let P : ℕ → Type 0 = λ n. At (suc depth) false false (n ∷ text) in
-          subst P (sym (class-is_open b is)) (inner_open depth text behind_open)
-      inner Close is here behind_open behind_close =
-          inl (record { pieces = nothing; rest = text; inside = tt; whole = ap (λ n. n ∷ text) (class-is_close b is); behind = behind_close })
-      inner Period is here behind_open behind_close = inner_value (At depth false false) b text (ap belongs_to_value is) here
-      inner Other is here behind_open behind_close = inner_value (At depth false false) b text (ap belongs_to_value is) here
+-- at the end of the text
+at_end : (depth : ℕ) (before : Before) (begun : Bool) → At depth before begun []
+at_end zero before begun = record { pieces = nothing; stop = text_ends; outside = tt; stops = tt; whole = refl }
+at_end (suc depth) before begun = inr (record { pieces = nothing; deeper = []; end = None; inside = tt; all = tt; ends = tt; whole = refl })
+
+-- from the cuts at every place further on, that at a place
+abbrev Behind : List ℕ → Type 0
+Behind text = (skip depth : ℕ) (before : Before) (begun : Bool) → At depth before begun (drop skip text)
+
+outer : (before : Before) (begun : Bool) (b : ℕ) (text : List ℕ) (class : Class) → class_here b text ≡ class → Behind text → Outer before begun (b ∷ text)
+outer before begun b text Gap is behind = outer_gap before begun b text is (behind zero zero before (b == 10))
+outer before begun b text Comment is behind =
+    let at = comment_at b text is in
+    outer_comment before begun b text at (λ skip. behind skip zero before false) (comment_cut at.rest)
+outer before begun b text Name is behind =
+    outer_name before begun b text (plain b text Name is (λ e. cc)).class_is
+    (at_rest (Outer (before_behind (b ∷ run is_name_byte text)) false) text (run is_name_byte text) (behind_run is_name_byte text) (sym (run-append-behind_run is_name_byte text))
+    (λ skip. behind skip zero (before_behind (b ∷ run is_name_byte text)) false))
+outer before begun b text Open is behind =
+    let P : ℕ → Type 0 = λ n. Outer before begun (n ∷ text) in
+    subst P (sym (class-is_open b (plain b text Open is (λ e. cc)).class_is)) (outer_open before begun text (behind zero 1 no_name false) (λ skip. behind skip zero no_name false))
+outer before begun b text Close is behind =
+    record { pieces = nothing; stop = stray_close text; outside = tt; stops = tt; whole = ap (λ n. n ∷ text) (class-is_close b (plain b text Close is (λ e. cc)).class_is) }
+outer before begun b text Period is behind =
+    record { pieces = nothing; stop = bad_subject text; outside = tt; stops = tt; whole = ap (λ n. n ∷ text) (class-is_period b (plain b text Period is (λ e. cc)).class_is) }
+outer before begun b text Other is behind = outer_other before begun b text is
+
+inner : (depth : ℕ) (before : Before) (begun : Bool) (b : ℕ) (text : List ℕ) (class : Class) → class_here b text ≡ class → Behind text → At (suc depth) before begun (b ∷ text)
+inner depth before begun b text Gap is behind = inner_gap (At depth no_name false) b text (plain b text Gap is (λ e. cc)).class_is (behind zero (suc depth) no_name false)
+inner depth before begun b text Comment is behind =
+    let at = comment_at b text is in
+    inner_comment (At depth no_name false) b text at (λ skip. behind skip (suc depth) no_name false) (comment_cut at.rest)
+inner depth before begun b text Name is behind = inner_value (At depth no_name false) b text (ap belongs_to_value is) (behind zero (suc depth) no_name false)
+inner depth before begun b text Open is behind =
+    let P : ℕ → Type 0 = λ n. At (suc depth) no_name false (n ∷ text) in
+    subst P (sym (class-is_open b (plain b text Open is (λ e. cc)).class_is)) (inner_open depth text (behind zero (suc (suc depth)) no_name false))
+inner depth before begun b text Close is behind =
+    inl (record { pieces = nothing; rest = text; inside = tt; whole = ap (λ n. n ∷ text) (class-is_close b (plain b text Close is (λ e. cc)).class_is); behind = behind zero depth no_name false })
+inner depth before begun b text Period is behind = inner_value (At depth no_name false) b text (ap belongs_to_value is) (behind zero (suc depth) no_name false)
+inner depth before begun b text Other is behind = inner_value (At depth no_name false) b text (ap belongs_to_value is) (behind zero (suc depth) no_name false)
+
+pub decomposed : (skip depth : ℕ) (before : Before) (begun : Bool) (text : List ℕ) → At depth before begun (drop skip text)
+decomposed zero depth before begun [] = at_end depth before begun
+decomposed (suc skip) depth before begun [] = at_end depth before begun
+decomposed (suc skip) depth before begun (b ∷ text) = decomposed skip depth before begun text
+decomposed zero zero before begun (b ∷ text) = outer before begun b text (class_here b text) refl (λ skip depth before begun. decomposed skip depth before begun text)
+decomposed zero (suc depth) before begun (b ∷ text) = inner depth before begun b text (class_here b text) refl (λ skip depth before begun. decomposed skip depth before begun text)

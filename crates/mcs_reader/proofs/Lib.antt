@@ -1,4 +1,6 @@
 pub mod IdFacts
+pub mod Comments
+pub mod Raws
 pub mod ScanSteps
 pub mod Classes
 pub mod ScanPieces
@@ -11,6 +13,7 @@ pub mod Cut
 pub mod Outcomes
 pub mod LineFacts
 pub mod PlaceFacts
+pub mod PassFacts
 pub mod ScanPlaces
 pub mod Alone
 pub mod Outside

@@ -1,5 +1,6 @@
 -- What the machine makes of a source is its one reading or its first fault.
-use Rattle.std.proofs.Common.{◌≡◌, ℕ, ◌+◌, ◌≤◌, inl, inr, List, [], ◌∷◌, ◌++◌, length, Ok, Err, refl, sym, ◌∙◌, ap, subst, arith, append_assoc, append-nil}
+use Rattle.std.proofs.Common.{◌≡◌, ℕ, ◌+◌, ◌≤◌, ◌<◌, Bool, true, false, cond, nat_le, inl, inr, List, [], ◌∷◌, ◌++◌, length, Ok, Err, refl, sym, ◌∙◌, ap, subst, arith, append_assoc, append-nil}
+use Rattle.std.proofs.lemmas.Bool.Decides.{nat_tests}
 use Rattle.mcs_reader.specs.Byte.{line_end}
 use Rattle.mcs_reader.specs.Line.{lines, text_of, text_of_lines, columns_1_to_72, line_ends}
 use Rattle.mcs_reader.specs.StatementText.{StatementText, spell_statement}
@@ -7,10 +8,12 @@ use Rattle.mcs_reader.specs.Stop.{Stop, spell_stop, IsStopped, fault_of}
 use Rattle.mcs_reader.specs.Segment.{Segment, IsRow, spell_row, statements_of}
 use Rattle.mcs_reader.specs.Reading.{most_bytes, IsReading, IsStoppedSource, IsFirstFault, HasOneOutcome}
 use Rattle.mcs_reader.specs.declared.fault.McsFault.{McsFault}
+use Rattle.mcs_reader.specs.declared.fault.McsFault.TheVariants.{TooLong}
 use Rattle.mcs_reader.specs.declared.statement.Statement.{Statement}
 use Rattle.mcs_reader.proofs.Runs.{IsLines}
 use Rattle.mcs_reader.specs.ReadLines.{read_lines, read_text}
-use Rattle.mcs_reader.specs.Unread.{Read, with_statements}
+use Rattle.mcs_reader.specs.ReadingOf.{reading_of}
+use Rattle.mcs_reader.specs.Unread.{IsRead, Read, with_statements}
 use Rattle.mcs_reader.proofs.ReadSteps.{read_lines-end}
 use Rattle.mcs_reader.proofs.Segments.{read_row, read_stopped}
 use Rattle.mcs_reader.proofs.Cut.{Cut, Ending, at_end, stopped, spell_ending, IsEnding, cut_all}
@@ -134,3 +137,22 @@ not_both source a f reading (inr is) =
 
 pub has_one_outcome : (source : List ℕ) → HasOneOutcome source
 has_one_outcome source = record { one_reading = one_reading source; one_fault = one_fault source; not_both = not_both source }
+
+-- what the machine makes of a source is what the source is read as
+pub is_read_as : (source : List ℕ) (reading : Read) → length source ≤ most_bytes → read_text (text_of source) ≡ reading → IsRead source reading
+is_read_as source (Ok statements) fits e = IsReading-from_read source statements fits e
+is_read_as source (Err fault) fits e = inr (IsStoppedSource-from_read source fault fits e)
+
+pub reading_of-fits : (source : List ℕ) → length source ≤ most_bytes → reading_of source ≡ read_text (text_of source)
+unfolding reading_of
+reading_of-fits source fits = let test : nat_le (length source) most_bytes ≡ true = grind (arith, nat_tests) in ap (λ t. cond t (read_text (text_of source)) (Err TooLong)) test
+
+pub reading_of-too_long : (source : List ℕ) → most_bytes < length source → reading_of source ≡ Err TooLong
+unfolding reading_of
+reading_of-too_long source long = let test : nat_le (length source) most_bytes ≡ false = grind (arith, nat_tests) in ap (λ t. cond t (read_text (text_of source)) (Err TooLong)) test
+
+pub has_outcome : (source : List ℕ) → IsRead source (reading_of source)
+has_outcome source = by_test (nat_le (length source) most_bytes) refl where
+  by_test : (t : Bool) → nat_le (length source) most_bytes ≡ t → IsRead source (reading_of source)
+  by_test true e = let fits : length source ≤ most_bytes = grind (arith, nat_tests) in is_read_as source (reading_of source) fits (sym (reading_of-fits source fits))
+  by_test false e = let long : most_bytes < length source = grind (arith, nat_tests) in subst (IsRead source) (sym (reading_of-too_long source long)) (inl (long, refl))

@@ -1,61 +1,66 @@
 -- What the machine does outside lists, at a place of each class.
-use Rattle.std.proofs.Common.{◌≡◌, ◌≢◌, ℕ, zero, ◌==◌, ◌<◌, Bool, true, false, List, [], ◌∷◌, length, drop, Option, Some, None, option_map, unwrap_or, Ok, Err, refl, sym, ◌∙◌, ap, subst}
-use Rattle.mcs_reader.specs.Byte.{class_of, is_name_byte}
+use Rattle.std.proofs.Common.{◌≡◌, ◌≢◌, ℕ, zero, suc, ◌-◌, ◌==◌, ◌<◌, inl, inr, Bool, true, false, List, [], ◌∷◌, length, drop, Option, Some, None, unwrap_or, Result, Ok, Err, IsErr, refl, sym, ◌∙◌, ap, subst}
+use Rattle.mcs_reader.specs.Byte.{is_name_byte}
+use Rattle.mcs_reader.specs.Comment.{class_here}
 use Rattle.mcs_reader.specs.declared.byte.Class.{Class}
-use Rattle.mcs_reader.specs.declared.byte.Class.TheVariants.{Gap, Name, Open, Close, Period, Other}
-use Rattle.mcs_reader.specs.declared.fault.McsFault.TheVariants.{Unbalanced, BadByte}
-use Rattle.mcs_reader.specs.Id.{id_of}
-use Rattle.mcs_reader.specs.Lists.{sole}
-use Rattle.mcs_reader.specs.Place.{class_at, run, behind_run}
-use Rattle.mcs_reader.specs.StatementText.{subject_of}
-use Rattle.mcs_reader.specs.declared.statement.Verb.TheVariants.{Hold}
-use Rattle.mcs_reader.specs.Scan.{scan, Found, Outcome, on_found, with_name, with_longer_name, with_list_behind, with_operands, stray}
-use Rattle.mcs_reader.proofs.Classes.{class-is_name}
-use Rattle.mcs_reader.proofs.Runs.{run-append-behind_run, begins_with-behind_run}
-use Rattle.mcs_reader.proofs.ScanSteps.{scan-gap, scan-open, scan-nameless, scan-close, scan-period, scan-other, scan-end}
-use Rattle.mcs_reader.proofs.ScanPieces.{scan-word}
-use Rattle.mcs_reader.proofs.ScanPlaces.{here, is_word-run, shorter_behind_run}
+use Rattle.mcs_reader.specs.declared.byte.Class.TheVariants.{Gap, Comment, Name, Open, Close, Period, Other}
+use Rattle.mcs_reader.specs.declared.fault.McsFault.TheVariants.{NoPeriod, Unbalanced, BadByte}
+use Rattle.mcs_reader.specs.Pieces.{Before, no_name, a_name, name_comment, before_behind}
+use Rattle.mcs_reader.specs.Place.{class_at}
+use Rattle.mcs_reader.specs.Run.{run, behind_run}
+use Rattle.mcs_reader.specs.Scan.{pass, scan, Found, Outcome, on_found, with_name, with_list, with_list_behind, with_operands, stray, behind_comment, behind_raw, past}
+use Rattle.mcs_reader.proofs.Classes.{class-is_name, class-is_open}
+use Rattle.mcs_reader.proofs.Comments.{plain}
+use Rattle.mcs_reader.proofs.Raws.{RawAt, raw_cut, behind_raw-ends, behind_raw-open}
+use Rattle.mcs_reader.proofs.Runs.{run-append-behind_run, begins_with-behind_run, is_word-run}
+use Rattle.mcs_reader.proofs.ScanSteps.{skip-step, scan-gap, scan-comment_step, scan-name_step, scan-open, scan-close, scan-period, scan-other}
+use Rattle.mcs_reader.proofs.ScanPieces.{scan-word, scan-raw_list, scan-open_raw}
+use Rattle.mcs_reader.proofs.ScanPlaces.{here, shorter_behind_run}
 
 -- without a name before it, no list comes before the next name
 
 abbrev pub without_values : Found → Found
 without_values found = record { values = None; operands = found.operands; rest = found.rest }
 
-without-longer_name : (b : ℕ) (r : Outcome) → on_found without_values r ≡ r → on_found without_values (on_found (with_longer_name b) r) ≡ on_found (with_longer_name b) r
-without-longer_name b r h =
-    let P : Outcome → Type 0 = λ o. on_found without_values (on_found (with_longer_name b) o) ≡ on_found (with_longer_name b) o in
-    subst P h (by_case r) where
-      by_case : (o : Outcome) → on_found without_values (on_found (with_longer_name b) (on_found without_values o)) ≡ on_found (with_longer_name b) (on_found without_values o)
-      by_case (Ok found) = refl
-      by_case (Err fault) = refl
-
 without-name : (name : List ℕ) (r : Outcome) → on_found without_values (on_found (with_name name) r) ≡ on_found (with_name name) r
 without-name name (Ok found) = refl
 without-name name (Err fault) = refl
 
-name_first : (line : ℕ) (named begun : Bool) (b : ℕ) (text : List ℕ) → class_of b ≡ Name
-    → scan line zero named begun (b ∷ text) ≡ on_found (with_name (run is_name_byte (b ∷ text))) (scan line zero true false (behind_run is_name_byte (b ∷ text)))
-name_first line named begun b text is =
-    let name : is_name_byte b ≡ true = class-is_name b is in
-    ap (scan line zero named begun) (sym (run-append-behind_run is_name_byte (b ∷ text)))
-    ∙ scan-word line named begun (run is_name_byte (b ∷ text)) (behind_run is_name_byte (b ∷ text)) (is_word-run is_name_byte b text name) (begins_with-behind_run is_name_byte (b ∷ text))
+without-past : (line : ℕ) (text : List ℕ) (o : Option (List ℕ)) (next : ℕ → Outcome) → ((skip : ℕ) → on_found without_values (next skip) ≡ next skip)
+    → on_found without_values (past line text o next) ≡ past line text o next
+without-past line text None next same = refl
+without-past line text (Some rest) next same = same (length text - length rest)
 
-pub no_list_unnamed : (line : ℕ) (begun : Bool) (text : List ℕ) → on_found without_values (scan line zero false begun text) ≡ scan line zero false begun text
-no_list_unnamed line begun [] = ap (on_found without_values) (scan-end line false begun) ∙ sym (scan-end line false begun)
-no_list_unnamed line begun (b ∷ text) = by_class (class_of b) refl (no_list_unnamed line (b == 10) text) where
-  from : (r : Outcome) → scan line zero false begun (b ∷ text) ≡ r → on_found without_values r ≡ r → on_found without_values (scan line zero false begun (b ∷ text)) ≡ scan line zero false begun (b ∷ text)
+pass-end : (line skip : ℕ) (begun : Bool) → pass line skip zero no_name begun [] ≡ Err (NoPeriod line)
+unfolding pass
+pass-end line skip begun = refl
+
+unnamed : (line skip : ℕ) (begun : Bool) (text : List ℕ) → on_found without_values (pass line skip zero no_name begun text) ≡ pass line skip zero no_name begun text
+unnamed line skip begun [] = ap (on_found without_values) (pass-end line skip begun) ∙ sym (pass-end line skip begun)
+unnamed line (suc skip) begun (b ∷ text) =
+    let step = skip-step line skip zero no_name begun b text in
+    ap (on_found without_values) step ∙ unnamed line skip begun text ∙ sym step
+unnamed line zero begun (b ∷ text) = by_class (class_here b text) refl (λ skip begun. unnamed line skip begun text) where
+  from : (r : Outcome) → scan line zero no_name begun (b ∷ text) ≡ r → on_found without_values r ≡ r → on_found without_values (scan line zero no_name begun (b ∷ text)) ≡ scan line zero no_name begun (b ∷ text)
   from r is same = ap (on_found without_values) is ∙ same ∙ sym is
 
-  by_class : (class : Class) → class_of b ≡ class → on_found without_values (scan line zero false (b == 10) text) ≡ scan line zero false (b == 10) text
-      → on_found without_values (scan line zero false begun (b ∷ text)) ≡ scan line zero false begun (b ∷ text)
-  by_class Gap is behind = from (scan line zero false (b == 10) text) (scan-gap line false begun b text is) behind
+  by_class : (class : Class) → class_here b text ≡ class → ((skip : ℕ) (begun : Bool) → on_found without_values (pass line skip zero no_name begun text) ≡ pass line skip zero no_name begun text)
+      → on_found without_values (scan line zero no_name begun (b ∷ text)) ≡ scan line zero no_name begun (b ∷ text)
+  by_class Gap is behind = from (scan line zero no_name (b == 10) text) (scan-gap line no_name begun b text is) (behind zero (b == 10))
+  by_class Comment is behind =
+      let o = behind_comment (drop 1 text) in
+      let next : ℕ → Outcome = λ skip. pass line skip zero no_name false text in
+      from (past line text o next) (scan-comment_step line no_name begun b text is) (without-past line text o next (λ skip. behind skip false))
   by_class Name is behind =
-      let r = scan line zero true false (behind_run is_name_byte (b ∷ text)) in
-      from (on_found (with_name (run is_name_byte (b ∷ text))) r) (name_first line false begun b text is) (without-name (run is_name_byte (b ∷ text)) r)
-  by_class Open is behind = from (Err (BadByte line)) (scan-nameless line begun b text is) refl
-  by_class Close is behind = from (Err (Unbalanced line)) (scan-close line false begun b text is) refl
-  by_class Period is behind = from (Ok (record { values = None; operands = []; rest = text })) (scan-period line false begun b text is) refl
-  by_class Other is behind = from (Err (stray line begun (b ∷ text))) (scan-other line false begun b text is) refl
+      let r = pass line (length (run is_name_byte text)) zero (before_behind (run is_name_byte (b ∷ text))) false text in
+      from (on_found (with_name (run is_name_byte (b ∷ text))) r) (scan-name_step line no_name begun b text is) (without-name (run is_name_byte (b ∷ text)) r)
+  by_class Open is behind = from (Err (BadByte line)) (scan-open line no_name begun b text is) refl
+  by_class Close is behind = from (Err (Unbalanced line)) (scan-close line no_name begun b text is) refl
+  by_class Period is behind = from (Ok (record { values = None; operands = []; rest = text })) (scan-period line no_name begun b text is) refl
+  by_class Other is behind = from (Err (stray line begun (b ∷ text))) (scan-other line no_name begun b text is) refl
+
+pub no_list_unnamed : (line : ℕ) (begun : Bool) (text : List ℕ) → on_found without_values (scan line zero no_name begun text) ≡ scan line zero no_name begun text
+no_list_unnamed line begun text = unnamed line zero begun text
 
 -- a name, and the list behind it, are one operand
 
@@ -73,73 +78,115 @@ operand_found name list values r h is =
 
 -- places outside lists
 
-pub outside_open : (line : ℕ) (text : List ℕ) → class_at text ≡ Some Open → scan line zero true false text ≡ scan line 1 false false (drop 1 text)
-outside_open line text h =
+pub outside_open : (line : ℕ) (before : Before) (text : List ℕ) → before ≡ a_name → class_at text ≡ Some Open → scan line zero before false text ≡ scan line 1 no_name false (drop 1 text)
+outside_open line before text named h =
     let at = here text Open (sym h) in
-    ap (scan line zero true false) at.whole
-    ∙ scan-open line false at.byte at.rest at.class_is
-    ∙ ap (λ t. scan line 1 false false (drop 1 t)) (sym at.whole)
+    ap (λ n. scan line zero n false text) named
+    ∙ ap (scan line zero a_name false) at.whole
+    ∙ scan-open line a_name false at.byte at.rest at.class_is
+    ∙ ap (λ t. scan line 1 no_name false (drop 1 t)) (sym at.whole)
 
-unnamed_same : (line : ℕ) (b : ℕ) (text : List ℕ) (class : Class) → class_of b ≡ class → class ≢ Gap → class ≢ Open → scan line zero true false (b ∷ text) ≡ scan line zero false false (b ∷ text)
-unfolding scan
-unnamed_same line b text Gap is no_gap no_open = absurd (no_gap refl)
-unnamed_same line b text Name is no_gap no_open = rw (is, scan) refl
-unnamed_same line b text Open is no_gap no_open = absurd (no_open refl)
-unnamed_same line b text Close is no_gap no_open = rw (is, scan) refl
-unnamed_same line b text Period is no_gap no_open = rw (is, scan) refl
-unnamed_same line b text Other is no_gap no_open = rw (is, scan) refl
+-- a list of COMMENT
+
+open_byte : (b : ℕ) (text : List ℕ) → class_here b text ≡ Open → b ≡ 40
+open_byte b text is = class-is_open b (plain b text Open is (λ e. cc)).class_is
+
+pub outside_raw : (line : ℕ) (before : Before) (text rest : List ℕ) → before ≡ name_comment → class_at text ≡ Some Open → behind_raw zero (drop 1 text) ≡ Ok rest
+    → scan line zero before false text ≡ on_found (with_list []) (scan line zero no_name false rest)
+outside_raw line before text rest named h behind =
+    let at = here text Open (sym h) in
+    let behind_is : behind_raw zero at.rest ≡ Ok rest = ap (λ t. behind_raw zero (drop 1 t)) (sym at.whole) ∙ behind in
+    ap (λ n. scan line zero n false text) named
+    ∙ ap (scan line zero name_comment false) (at.whole ∙ ap (λ n. n ∷ at.rest) (open_byte at.byte at.rest at.class_is))
+    ∙ by_cut at.rest behind_is (raw_cut 1 at.rest)
+  where
+    by_cut : (more : List ℕ) → behind_raw zero more ≡ Ok rest → RawAt 1 more → scan line zero name_comment false (40 ∷ more) ≡ on_found (with_list []) (scan line zero no_name false rest)
+    by_cut more is (inl c) =
+        let same : c.rest ≡ rest = let both = sym (behind_raw-ends c.raw c.rest c.is) ∙ ap (behind_raw zero) (sym c.whole) ∙ is in cc in
+        ap (λ t. scan line zero name_comment false (40 ∷ t)) c.whole
+        ∙ scan-raw_list line false c.raw c.rest c.is
+        ∙ ap (λ t. on_found (with_list []) (scan line zero no_name false t)) same
+    by_cut more is (inr u) = absurd (let never = sym (behind_raw-open zero u.raw u.deeper u.is u.all).1 ∙ ap (behind_raw zero) (sym u.whole) ∙ is in cc)
+
+not_ok : (r : Result (List ℕ) ℕ) (rest : List ℕ) → IsErr r → r ≡ Ok rest → ⊥
+not_ok (Ok found) rest err e = cc
+not_ok (Err depth) rest err e = cc
+
+pub outside_open_raw : (line : ℕ) (before : Before) (text : List ℕ) → before ≡ name_comment → class_at text ≡ Some Open → IsErr (behind_raw zero (drop 1 text))
+    → scan line zero before false text ≡ Err (Unbalanced line)
+outside_open_raw line before text named h never =
+    let at = here text Open (sym h) in
+    let P : List ℕ → Type 0 = λ t. IsErr (behind_raw zero (drop 1 t)) in
+    ap (λ n. scan line zero n false text) named
+    ∙ ap (scan line zero name_comment false) (at.whole ∙ ap (λ n. n ∷ at.rest) (open_byte at.byte at.rest at.class_is))
+    ∙ by_cut at.rest (subst P at.whole never) (raw_cut 1 at.rest)
+  where
+    by_cut : (more : List ℕ) → IsErr (behind_raw zero more) → RawAt 1 more → scan line zero name_comment false (40 ∷ more) ≡ Err (Unbalanced line)
+    by_cut more err (inl c) = absurd (not_ok (behind_raw zero more) c.rest err (ap (behind_raw zero) c.whole ∙ behind_raw-ends c.raw c.rest c.is))
+    by_cut more err (inr u) = ap (λ t. scan line zero name_comment false (40 ∷ t)) u.whole ∙ scan-open_raw line false u.raw u.deeper u.is u.all
 
 -- where no list follows a name, the name makes no difference
-pub outside_no_list : (line : ℕ) (text : List ℕ) (class : Class) → class_at text ≡ Some class → class ≢ Gap → class ≢ Open → scan line zero true false text ≡ scan line zero false false text
-outside_no_list line text class h no_gap no_open =
-    let at = here text class (sym h) in
-    ap (scan line zero true false) at.whole ∙ unnamed_same line at.byte at.rest class at.class_is no_gap no_open ∙ ap (scan line zero false false) (sym at.whole)
 
-pub outside_name : (line : ℕ) (named : Bool) (text : List ℕ) → class_at text ≡ Some Name
-    → (scan line zero named false text ≡ on_found (with_name (run is_name_byte text)) (scan line zero true false (behind_run is_name_byte text)))
+unnamed_same : (line : ℕ) (before : Before) (b : ℕ) (text : List ℕ) (class : Class) → class_here b text ≡ class → class ≢ Gap → class ≢ Comment → class ≢ Open
+    → scan line zero before false (b ∷ text) ≡ scan line zero no_name false (b ∷ text)
+unfolding pass
+unnamed_same line before b text Gap is no_gap no_comment no_open = absurd (no_gap refl)
+unnamed_same line before b text Comment is no_gap no_comment no_open = absurd (no_comment refl)
+unnamed_same line before b text Name is no_gap no_comment no_open = rw (is, pass) refl
+unnamed_same line before b text Open is no_gap no_comment no_open = absurd (no_open refl)
+unnamed_same line before b text Close is no_gap no_comment no_open = rw (is, pass) refl
+unnamed_same line before b text Period is no_gap no_comment no_open = rw (is, pass) refl
+unnamed_same line before b text Other is no_gap no_comment no_open = rw (is, pass) refl
+
+pub outside_no_list : (line : ℕ) (before : Before) (text : List ℕ) (class : Class) → class_at text ≡ Some class → class ≢ Gap → class ≢ Comment → class ≢ Open
+    → scan line zero before false text ≡ scan line zero no_name false text
+outside_no_list line before text class h no_gap no_comment no_open =
+    let at = here text class (sym h) in
+    ap (scan line zero before false) at.whole ∙ unnamed_same line before at.byte at.rest class at.class_is no_gap no_comment no_open ∙ ap (scan line zero no_name false) (sym at.whole)
+
+name_first : (line : ℕ) (before : Before) (b : ℕ) (text : List ℕ) → is_name_byte b ≡ true
+    → scan line zero before false (b ∷ text)
+    ≡ on_found (with_name (run is_name_byte (b ∷ text))) (scan line zero (before_behind (run is_name_byte (b ∷ text))) false (behind_run is_name_byte (b ∷ text)))
+name_first line before b text name =
+    ap (scan line zero before false) (sym (run-append-behind_run is_name_byte (b ∷ text)))
+    ∙ scan-word line before false (run is_name_byte (b ∷ text)) (behind_run is_name_byte (b ∷ text)) (is_word-run is_name_byte b text name) (begins_with-behind_run is_name_byte (b ∷ text))
+
+pub outside_name : (line : ℕ) (before : Before) (text : List ℕ) → class_at text ≡ Some Name
+    → (scan line zero before false text ≡ on_found (with_name (run is_name_byte text)) (scan line zero (before_behind (run is_name_byte text)) false (behind_run is_name_byte text)))
     × (length (behind_run is_name_byte text) < length text)
-outside_name line named text h =
+outside_name line before text h =
     let at = here text Name (sym h) in
+    let name : is_name_byte at.byte ≡ true = class-is_name at.byte (plain at.byte at.rest Name at.class_is (λ e. cc)).class_is in
     let P : List ℕ → Type 0 = λ t.
-    (scan line zero named false t ≡ on_found (with_name (run is_name_byte t)) (scan line zero true false (behind_run is_name_byte t)))
+    (scan line zero before false t ≡ on_found (with_name (run is_name_byte t)) (scan line zero (before_behind (run is_name_byte t)) false (behind_run is_name_byte t)))
     × (length (behind_run is_name_byte t) < length t) in
-    let found : P (at.byte ∷ at.rest) =
-    (name_first line named false at.byte at.rest at.class_is, shorter_behind_run is_name_byte at.byte at.rest (class-is_name at.byte at.class_is)) in
+    let found : P (at.byte ∷ at.rest) = (name_first line before at.byte at.rest name, shorter_behind_run is_name_byte at.byte at.rest name) in
     subst P (sym at.whole) found
 
-pub outside_period : (line : ℕ) (named : Bool) (text : List ℕ) → class_at text ≡ Some Period → scan line zero named false text ≡ Ok (record { values = None; operands = []; rest = drop 1 text })
-outside_period line named text h =
+pub outside_period : (line : ℕ) (before : Before) (text : List ℕ) → class_at text ≡ Some Period → scan line zero before false text ≡ Ok (record { values = None; operands = []; rest = drop 1 text })
+outside_period line before text h =
     let at = here text Period (sym h) in
-    ap (scan line zero named false) at.whole
-    ∙ scan-period line named false at.byte at.rest at.class_is
+    ap (scan line zero before false) at.whole
+    ∙ scan-period line before false at.byte at.rest at.class_is
     ∙ ap (λ t. Ok (record { values = None; operands = []; rest = drop 1 t })) (sym at.whole)
 
-pub outside_close : (line : ℕ) (named : Bool) (text : List ℕ) → class_at text ≡ Some Close → scan line zero named false text ≡ Err (Unbalanced line)
-outside_close line named text h =
+pub outside_close : (line : ℕ) (before : Before) (text : List ℕ) → class_at text ≡ Some Close → scan line zero before false text ≡ Err (Unbalanced line)
+outside_close line before text h =
     let at = here text Close (sym h) in
-    ap (scan line zero named false) at.whole ∙ scan-close line named false at.byte at.rest at.class_is
+    ap (scan line zero before false) at.whole ∙ scan-close line before false at.byte at.rest at.class_is
 
-no_operand : (line : ℕ) (b : ℕ) (text : List ℕ) (class : Class) → class_of b ≡ class → class ≢ Gap → class ≢ Name → class ≢ Close → class ≢ Period → scan line zero false false (b ∷ text) ≡ Err (BadByte line)
-no_operand line b text Gap is no_gap no_name no_close no_period = absurd (no_gap refl)
-no_operand line b text Name is no_gap no_name no_close no_period = absurd (no_name refl)
-no_operand line b text Open is no_gap no_name no_close no_period = scan-nameless line false b text is
-no_operand line b text Close is no_gap no_name no_close no_period = absurd (no_close refl)
-no_operand line b text Period is no_gap no_name no_close no_period = absurd (no_period refl)
-no_operand line b text Other is no_gap no_name no_close no_period = scan-other line false false b text is
+no_operand : (line : ℕ) (b : ℕ) (text : List ℕ) (class : Class) → class_here b text ≡ class → class ≢ Gap → class ≢ Comment → class ≢ Name → class ≢ Close → class ≢ Period
+    → scan line zero no_name false (b ∷ text) ≡ Err (BadByte line)
+no_operand line b text Gap is no_gap no_comment not_named no_close no_period = absurd (no_gap refl)
+no_operand line b text Comment is no_gap no_comment not_named no_close no_period = absurd (no_comment refl)
+no_operand line b text Name is no_gap no_comment not_named no_close no_period = absurd (not_named refl)
+no_operand line b text Open is no_gap no_comment not_named no_close no_period = scan-open line no_name false b text is
+no_operand line b text Close is no_gap no_comment not_named no_close no_period = absurd (no_close refl)
+no_operand line b text Period is no_gap no_comment not_named no_close no_period = absurd (no_period refl)
+no_operand line b text Other is no_gap no_comment not_named no_close no_period = scan-other line no_name false b text is
 
-pub outside_else : (line : ℕ) (text : List ℕ) (class : Class) → class_at text ≡ Some class → class ≢ Gap → class ≢ Name → class ≢ Close → class ≢ Period → scan line zero false false text ≡ Err (BadByte line)
-outside_else line text class h no_gap no_name no_close no_period =
+pub outside_else : (line : ℕ) (text : List ℕ) (class : Class) → class_at text ≡ Some class → class ≢ Gap → class ≢ Comment → class ≢ Name → class ≢ Close → class ≢ Period
+    → scan line zero no_name false text ≡ Err (BadByte line)
+outside_else line text class h no_gap no_comment not_named no_close no_period =
     let at = here text class (sym h) in
-    ap (scan line zero false false) at.whole ∙ no_operand line at.byte at.rest class at.class_is no_gap no_name no_close no_period
-
--- the subject of a list
-
-pub subject-sole : (values : List (List ℕ)) (value : List ℕ) → Some value ≡ sole values → option_map Some (id_of value) ≡ subject_of Hold (Some values)
-subject-sole [] value h = absurd (cc)
-subject-sole (first ∷ []) value h = let same : value ≡ first = cc in ap (λ v. option_map Some (id_of v)) same
-subject-sole (first ∷ second ∷ more) value h = absurd (cc)
-
-pub subject-none : (values : List (List ℕ)) → None ≡ sole values → None ≡ subject_of Hold (Some values)
-subject-none [] h = refl
-subject-none (first ∷ []) h = absurd (cc)
-subject-none (first ∷ second ∷ more) h = refl
+    ap (scan line zero no_name false) at.whole ∙ no_operand line at.byte at.rest class at.class_is no_gap no_comment not_named no_close no_period

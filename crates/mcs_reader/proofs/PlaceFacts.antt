@@ -4,7 +4,8 @@ use Rattle.std.specs.List.{list_all, prefix_len}
 use Rattle.mcs_reader.specs.Byte.{is_blank, is_name_byte, line_end}
 use Rattle.mcs_reader.specs.Line.{line_ends, begins_statement}
 use Rattle.mcs_reader.specs.Pieces.{is_value_byte}
-use Rattle.mcs_reader.specs.Place.{Place, IsBehind, run, behind_run, name_behind, text_behind, verb_at}
+use Rattle.mcs_reader.specs.Place.{Place, IsBehind, name_behind, text_behind, verb_at}
+use Rattle.mcs_reader.specs.Run.{run, behind_run}
 use Rattle.mcs_reader.specs.Segment.{IsLine}
 use Rattle.mcs_reader.specs.Verb.{verb_named}
 use Rattle.mcs_reader.specs.declared.statement.Verb.{Verb}
@@ -50,7 +51,7 @@ no_value_at_end = refl
 pub line_ends-at : (line text : List ℕ) → IsLine line → line_ends (line ++ line_end ∷ text) ≡ 1 + line_ends text
 line_ends-at line text is = line_ends-append line (line_end ∷ text) ∙ (let none = line_ends-line line is in omega arith)
 
-IsLine-rest : (front rest : List ℕ) → IsLine (front ++ rest) → IsLine rest
+pub IsLine-rest : (front rest : List ℕ) → IsLine (front ++ rest) → IsLine rest
 IsLine-rest [] rest is = is
 IsLine-rest (b ∷ front) rest is = IsLine-rest front rest (and_parts (in_line b) (list_all in_line (front ++ rest)) is).1
 
@@ -100,10 +101,10 @@ abbrev pub with_text_behind : List ℕ → Option (Verb × List ℕ) → Option 
 with_text_behind text None = None
 with_text_behind text (Some found) = Some (found.0, found.1 ++ line_end ∷ text)
 
-verb_with : (verb : Option Verb) (rest text : List ℕ)
-    → option_map (λ (v : Verb). (v, rest ++ line_end ∷ text)) verb ≡ with_text_behind text (option_map (λ (v : Verb). (v, rest)) verb)
+verb_with : (what : Option Verb) (rest text : List ℕ)
+    → option_map (λ (v : Verb). (v, rest ++ line_end ∷ text)) what ≡ with_text_behind text (option_map (λ (v : Verb). (v, rest)) what)
 verb_with None rest text = refl
-verb_with (Some verb) rest text = refl
+verb_with (Some what) rest text = refl
 
 name_behind-line : (head text : List ℕ) → name_behind (head ++ line_end ∷ text) ≡ name_behind head
 name_behind-line head text =
@@ -140,25 +141,25 @@ abbrev rest_in : Option (Verb × List ℕ) → List ℕ
 rest_in None = []
 rest_in (Some found) = found.1
 
-named_rest : (name : Option Verb) (rest : List ℕ) (verb : Verb) (found : List ℕ) → option_map {U = Verb × List ℕ} (λ v. (v, rest)) name ≡ Some (verb, found) → rest ≡ found
-named_rest None rest verb found h = absurd (cc)
-named_rest (Some other) rest verb found h = ap rest_in h
+named_rest : (name : Option Verb) (rest : List ℕ) (what : Verb) (found : List ℕ) → option_map {U = Verb × List ℕ} (λ v. (v, rest)) name ≡ Some (what, found) → rest ≡ found
+named_rest None rest what found h = absurd (cc)
+named_rest (Some other) rest what found h = ap rest_in h
 
 -- a verb's head is the front of its line
-pub verb_at-rest : (line : List ℕ) (verb : Verb) (rest : List ℕ) → verb_at line ≡ Some (verb, rest) → (front : List ℕ) × (line ≡ front ++ rest)
+pub verb_at-rest : (line : List ℕ) (what : Verb) (rest : List ℕ) → verb_at line ≡ Some (what, rest) → (front : List ℕ) × (line ≡ front ++ rest)
 unfolding verb_at
-verb_at-rest [] verb rest h = absurd (cc)
-verb_at-rest (b ∷ []) verb rest h = absurd (cc)
-verb_at-rest (b ∷ c ∷ line) verb rest h = by_test (begins_statement (b ∷ c ∷ line)) h where
-  by_test : (t : Bool) → cond t (option_map {U = Verb × List ℕ} (λ v. (v, text_behind line)) (verb_named (name_behind line))) None ≡ Some (verb, rest) → (front : List ℕ) × (b ∷ c ∷ line ≡ front ++ rest)
+verb_at-rest [] what rest h = absurd (cc)
+verb_at-rest (b ∷ []) what rest h = absurd (cc)
+verb_at-rest (b ∷ c ∷ line) what rest h = by_test (begins_statement (b ∷ c ∷ line)) h where
+  by_test : (t : Bool) → cond t (option_map {U = Verb × List ℕ} (λ v. (v, text_behind line)) (verb_named (name_behind line))) None ≡ Some (what, rest) → (front : List ℕ) × (b ∷ c ∷ line ≡ front ++ rest)
   by_test true e =
       let cut = text_behind-rest line in
-      let rest_is = named_rest (verb_named (name_behind line)) (text_behind line) verb rest e in
+      let rest_is = named_rest (verb_named (name_behind line)) (text_behind line) what rest e in
       (b ∷ c ∷ cut.0, ap (λ t. b ∷ c ∷ t) (cut.1 ∙ ap (λ t. cut.0 ++ t) rest_is))
   by_test false e = absurd (cc)
 
-pub IsLine-verb : (line : List ℕ) (verb : Verb) (rest : List ℕ) → IsLine line → verb_at line ≡ Some (verb, rest) → IsLine rest
-IsLine-verb line verb rest is h =
-    let cut = verb_at-rest line verb rest h in
+pub IsLine-verb : (line : List ℕ) (what : Verb) (rest : List ℕ) → IsLine line → verb_at line ≡ Some (what, rest) → IsLine rest
+IsLine-verb line what rest is h =
+    let cut = verb_at-rest line what rest h in
     let P : List ℕ → Type 0 = λ t. IsLine t in
     IsLine-rest cut.0 rest (subst P cut.1 is)

@@ -10,7 +10,8 @@ use Rattle.mcs_reader.specs.Pieces.{spell}
 use Rattle.mcs_reader.specs.StatementText.{StatementText, IsStatementText, spell_statement}
 use Rattle.mcs_reader.specs.Segment.{IsLine, IsPassed, AllPassed, spell_lines}
 use Rattle.mcs_reader.specs.declared.statement.Verb.{Verb}
-use Rattle.mcs_reader.specs.Place.{run, behind_run, name_behind, text_behind, verb_at}
+use Rattle.mcs_reader.specs.Place.{name_behind, text_behind, verb_at}
+use Rattle.mcs_reader.specs.Run.{run, behind_run}
 use Rattle.mcs_reader.proofs.Runs.{run_is, behind_run_is, begins_with-append, after_line-line, IsLine-append, IsLine-of, in_line, line_ends-append, line_ends-line, begins_statement-line}
 use Rattle.mcs_reader.specs.ReadLines.{at_verb, read_lines}
 use Rattle.mcs_reader.proofs.ReadSteps.{read_lines-step}
@@ -19,7 +20,7 @@ use Rattle.mcs_reader.proofs.ReadSteps.{read_lines-step}
 
 pub verb_at-head : (head : Head) (behind : List ℕ) → list_all is_blank head.blanks ≡ true → list_all is_name_byte head.name ≡ true
     → begins_with is_blank (head.name ++ behind) ≡ false → begins_with is_name_byte behind ≡ false
-    → verb_at (spell_head head ++ behind) ≡ option_map (λ verb. (verb, behind)) (verb_named head.name)
+    → verb_at (spell_head head ++ behind) ≡ option_map (λ what. (what, behind)) (verb_named head.name)
 unfolding verb_at
 verb_at-head head behind blanks name no_blank no_name =
     let assoc : (head.blanks ++ head.name) ++ behind ≡ head.blanks ++ (head.name ++ behind) = append_assoc head.blanks head.name behind in
@@ -29,17 +30,17 @@ verb_at-head head behind blanks name no_blank no_name =
     ap (run is_name_byte) behind_blanks ∙ run_is is_name_byte head.name behind name no_name in
     let text_is : text_behind ((head.blanks ++ head.name) ++ behind) ≡ behind =
     ap (behind_run is_name_byte) behind_blanks ∙ behind_run_is is_name_byte head.name behind name no_name in
-    ap (λ t. option_map (λ (verb : Verb). (verb, t)) (verb_named (name_behind ((head.blanks ++ head.name) ++ behind)))) text_is
-    ∙ ap (λ n. option_map (λ (verb : Verb). (verb, behind)) (verb_named n)) name_is
+    ap (λ t. option_map (λ (what : Verb). (what, t)) (verb_named (name_behind ((head.blanks ++ head.name) ++ behind)))) text_is
+    ∙ ap (λ n. option_map (λ (what : Verb). (what, behind)) (verb_named n)) name_is
 
 pub verb_at-no_statement : (text : List ℕ) → begins_statement text ≡ false → verb_at text ≡ None
 unfolding verb_at
-verb_at-no_statement text none = ap (λ t. cond t (option_map (λ (verb : Verb). (verb, text_behind (drop 2 text))) (verb_named (name_behind (drop 2 text)))) None) none
+verb_at-no_statement text none = ap (λ t. cond t (option_map (λ (what : Verb). (what, text_behind (drop 2 text))) (verb_named (name_behind (drop 2 text)))) None) none
 
 -- a verb's name is not empty
-pub no_empty_verb : (verb : Verb) → verb_named [] ≡ Some verb → ⊥
+pub no_empty_verb : (what : Verb) → verb_named [] ≡ Some what → ⊥
 unfolding verb_named
-no_empty_verb verb h = cc
+no_empty_verb what h = cc
 
 blank_in_line : (b : ℕ) → is_blank b ≡ true → in_line b ≡ true
 blank_in_line b h = grind (arith, nat_tests)
@@ -59,11 +60,11 @@ verb_at-statement text behind is no_name =
     ∙ verb_at-head text.head (spell text.pieces ++ behind) is.head.blanks is.head.name
     (not_blank text.head.name is.verb is.head.all_blanks)
     (begins_with-append is_name_byte (spell text.pieces) behind is.head.all_name no_name)
-    ∙ ap (option_map (λ verb. (verb, spell text.pieces ++ behind))) is.verb where
+    ∙ ap (option_map (λ what. (what, spell text.pieces ++ behind))) is.verb where
       not_blank : (name : List ℕ) → verb_named name ≡ Some text.verb → begins_with is_blank (name ++ spell text.pieces) ≡ false
           → begins_with is_blank (name ++ (spell text.pieces ++ behind)) ≡ false
-      not_blank [] verb none = absurd (no_empty_verb text.verb verb)
-      not_blank (b ∷ name) verb none = none
+      not_blank [] what none = absurd (no_empty_verb text.verb what)
+      not_blank (b ∷ name) what none = none
 
 -- one step at a text that isn't empty
 

@@ -1,12 +1,14 @@
 -- The longest run of bytes of a kind, and what stands behind it; lines of a text.
-use Rattle.std.proofs.Common.{◌≡◌, ℕ, ◌+◌, ◌==◌, ◌&&◌, not, Bool, true, false, cond, List, [], ◌∷◌, ◌++◌, refl, ◌∙◌, ap, arith}
+use Rattle.std.proofs.Common.{◌≡◌, ℕ, ◌+◌, ◌==◌, ◌&&◌, not, Bool, true, false, cond, List, [], ◌∷◌, ◌++◌, refl, ◌∙◌, ap, subst, arith}
 use Rattle.std.proofs.lemmas.Bool.Decides.{nat_tests}
 use Rattle.std.specs.List.{list_all}
 use Rattle.mcs_reader.specs.Byte.{line_end}
 use Rattle.mcs_reader.specs.Line.{line_ends, begins_statement}
 use Rattle.mcs_reader.specs.Verb.{begins_with}
 use Rattle.mcs_reader.specs.Segment.{IsLine}
-use Rattle.mcs_reader.specs.Place.{run, behind_run, after_line}
+use Rattle.mcs_reader.specs.Pieces.{is_word}
+use Rattle.mcs_reader.specs.Place.{after_line}
+use Rattle.mcs_reader.specs.Run.{run, behind_run}
 
 pub run-append-behind_run : (test : ℕ → Bool) (text : List ℕ) → run test text ++ behind_run test text ≡ text
 run-append-behind_run test [] = refl
@@ -54,6 +56,19 @@ begins_with-front test (b ∷ front) text h = h
 pub begins_with-append : (test : ℕ → Bool) (front text : List ℕ) → begins_with test front ≡ false → begins_with test text ≡ false → begins_with test (front ++ text) ≡ false
 begins_with-append test [] text none ends = ends
 begins_with-append test (b ∷ front) text none ends = none
+
+pub is_word-all : (test : ℕ → Bool) (b : ℕ) (w : List ℕ) → list_all test (b ∷ w) ≡ true → is_word test (b ∷ w) ≡ true
+is_word-all test b [] all = (and_parts (test b) true all).0
+is_word-all test b (c ∷ w) all =
+    let parts = and_parts (test b) (list_all test (c ∷ w)) all in
+    ap (λ t. cond t (is_word test (c ∷ w)) false) parts.0 ∙ is_word-all test c w parts.1
+
+-- a run that isn't empty is a word
+pub is_word-run : (test : ℕ → Bool) (b : ℕ) (text : List ℕ) → test b ≡ true → is_word test (run test (b ∷ text)) ≡ true
+is_word-run test b text h =
+    let P : List ℕ → Type 0 = λ l. list_all test l ≡ true in
+    let cut : run test (b ∷ text) ≡ b ∷ run test text = ap (λ t. cond t (b ∷ run test text) []) h in
+    ap (is_word test) cut ∙ is_word-all test b (run test text) (subst P cut (all-run test (b ∷ text)))
 
 -- lines
 

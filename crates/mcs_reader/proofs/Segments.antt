@@ -1,19 +1,19 @@
 -- Each segment, and so a row, is read as its statements; and a statement that something stops as its
 -- fault.
-use Rattle.std.proofs.Common.{◌≡◌, ℕ, zero, suc, ◌+◌, ◌-◌, ◌≤◌, true, false, List, [], ◌∷◌, ◌++◌, length, Option, Some, None, option_map, Ok, Err, refl, sym, ◌∙◌, ap, subst, arith, append_assoc, length-append, zero-add}
+use Rattle.std.proofs.Common.{◌≡◌, ℕ, zero, suc, ◌+◌, ◌-◌, ◌≤◌, false, List, [], ◌∷◌, ◌++◌, length, Option, Some, None, option_map, Ok, Err, refl, sym, ◌∙◌, ap, subst, arith, append_assoc, length-append, zero-add}
 use Rattle.mcs_reader.specs.Byte.{is_blank, is_name_byte, line_end}
 use Rattle.mcs_reader.specs.Line.{line_ends}
 use Rattle.mcs_reader.specs.Verb.{Head, spell_head, IsHead, verb_named, begins_with}
-use Rattle.mcs_reader.specs.Pieces.{spell, ends_named, ends_line, list_behind, operands}
+use Rattle.mcs_reader.specs.Pieces.{a_name, spell, ends_with, ends_line, list_behind, operands}
 use Rattle.mcs_reader.specs.StatementText.{StatementText, IsStatementText, spell_statement, subject_in}
-use Rattle.mcs_reader.specs.Stop.{Stop, text_ends, statement_begins, stray_close, stray_byte, nameless_list, open_list, bad_subject, spell_stop, IsStopped, fault_of}
+use Rattle.mcs_reader.specs.Stop.{Stop, text_ends, statement_begins, stray_close, stray_byte, nameless_list, open_comment, open_list, open_raw, bad_subject, spell_stop, IsStopped, fault_of}
 use Rattle.mcs_reader.specs.Segment.{Segment, passed, skipped, stated as stated_segment, IsLine, IsPassed, AllPassed, spell_lines, spell_segment, IsSegment, spell_row, IsRow, statement_of, statements_of}
 use Rattle.mcs_reader.specs.declared.fault.McsFault.TheVariants.{BadVerbSubject}
 use Rattle.mcs_reader.specs.declared.statement.Verb.{Verb}
 use Rattle.mcs_reader.specs.declared.statement.Statement.{Statement}
-use Rattle.mcs_reader.specs.Scan.{scan, Found, Stated, begins_name, stated, with_subject}
+use Rattle.mcs_reader.specs.Scan.{scan, Found, Stated, stated, with_subject}
 use Rattle.mcs_reader.specs.Place.{after_line, verb_at}
-use Rattle.mcs_reader.proofs.ScanPieces.{scan-statement, scan-fault, scan-stop, no_name_behind, IsFlaw}
+use Rattle.mcs_reader.proofs.ScanPieces.{begins_name, scan-statement, scan-fault, scan-stop, no_name_behind, IsFlaw}
 use Rattle.mcs_reader.proofs.Runs.{begins_with-append, after_line-line, IsLine-append, line_ends-append, line_ends-line}
 use Rattle.mcs_reader.specs.ReadLines.{go_on, at_verb, read_lines}
 use Rattle.mcs_reader.specs.Unread.{with_statements}
@@ -89,7 +89,7 @@ read_skipped n line head rest lines text is unknown one_line all fits =
 at_statement : (n line : ℕ) (text : StatementText) (behind : List ℕ) → IsStatementText text → begins_name behind ≡ false
     → length (spell_statement text ++ behind) ≤ n
     → (m : ℕ) × (n ≡ suc m) × (read_lines n line (spell_statement text ++ behind)
-    ≡ go_on (read_lines m) line (spell_statement text ++ behind) (stated text.verb line (scan line zero true false (spell text.pieces ++ behind))))
+    ≡ go_on (read_lines m) line (spell_statement text ++ behind) (stated text.verb line (scan line zero a_name false (spell text.pieces ++ behind))))
 at_statement n line text behind is no_name fits =
     let once = step n line (spell_statement text ++ behind) (omega arith) fits in
     (once.0, once.1, once.2 ∙ ap (at_verb (read_lines once.0) line (spell_statement text ++ behind)) (verb_at-statement text behind is no_name))
@@ -119,8 +119,8 @@ read_stated n line text subject ignored behind is subject_is one_line fits =
     let room : length (spell_statement text ++ 46 ∷ rest) ≤ n = subst P assoc fits in
     let once = at_statement n line text (46 ∷ rest) is refl room in
     let found : Found = record { values = list_behind text.pieces; operands = operands text.pieces; rest = rest } in
-    let scanned : stated text.verb line (scan line zero true false (spell text.pieces ++ 46 ∷ rest)) ≡ Ok (record { verb = text.verb; subject = subject; operands = operands text.pieces; line = line }, rest) =
-    ap (stated text.verb line) (scan-statement line true false text.pieces rest is.pieces)
+    let scanned : stated text.verb line (scan line zero a_name false (spell text.pieces ++ 46 ∷ rest)) ≡ Ok (record { verb = text.verb; subject = subject; operands = operands text.pieces; line = line }, rest) =
+    ap (stated text.verb line) (scan-statement line a_name false text.pieces rest is.pieces)
     ∙ ap (with_subject text.verb line found) subject_is in
     let size = length-append front behind in
     let size_front = length-append (spell_statement text) (46 ∷ (ignored ++ line_end ∷ [])) in
@@ -163,12 +163,12 @@ read_row n line (segment ∷ row) behind is fits =
 flawed : (n line : ℕ) (text : StatementText) (stop : Stop) → IsStopped text stop → IsFlaw stop → length (spell_statement text ++ spell_stop stop) ≤ n
     → read_lines n line (spell_statement text ++ spell_stop stop) ≡ Err (fault_of stop line)
 flawed n line text stop is flaw fits =
-    let no_name = no_name_behind (ends_named true text.pieces) (ends_line false text.pieces) stop is.stops in
+    let no_name = no_name_behind (ends_with a_name text.pieces) (ends_line false text.pieces) stop is.stops in
     let once = at_statement n line text (spell_stop stop) is.statement no_name fits in
     once.2
     ∙ ap (λ r. go_on (read_lines once.0) line (spell_statement text ++ spell_stop stop) (stated text.verb line r))
-    (scan-fault line true false text.pieces (spell_stop stop) (fault_of stop line) is.statement.pieces no_name
-    (scan-stop line (ends_named true text.pieces) (ends_line false text.pieces) stop is.stops flaw))
+    (scan-fault line a_name false text.pieces (spell_stop stop) (fault_of stop line) is.statement.pieces no_name
+    (scan-stop line (ends_with a_name text.pieces) (ends_line false text.pieces) stop is.stops flaw))
 
 without_subject : (n line : ℕ) (text : StatementText) (ignored : List ℕ) → IsStopped text (bad_subject ignored) → length (spell_statement text ++ 46 ∷ ignored) ≤ n
     → read_lines n line (spell_statement text ++ 46 ∷ ignored) ≡ Err (BadVerbSubject line)
@@ -176,7 +176,7 @@ without_subject n line text ignored is fits =
     let once = at_statement n line text (46 ∷ ignored) is.statement refl fits in
     let found : Found = record { values = list_behind text.pieces; operands = operands text.pieces; rest = ignored } in
     once.2
-    ∙ ap (λ r. go_on (read_lines once.0) line (spell_statement text ++ 46 ∷ ignored) (stated text.verb line r)) (scan-statement line true false text.pieces ignored is.statement.pieces)
+    ∙ ap (λ r. go_on (read_lines once.0) line (spell_statement text ++ 46 ∷ ignored) (stated text.verb line r)) (scan-statement line a_name false text.pieces ignored is.statement.pieces)
     ∙ ap (λ s. go_on (read_lines once.0) line (spell_statement text ++ 46 ∷ ignored) (with_subject text.verb line found s)) is.subject
 
 pub read_stopped : (n line : ℕ) (text : StatementText) (stop : Stop) → IsStopped text stop → length (spell_statement text ++ spell_stop stop) ≤ n
@@ -186,5 +186,7 @@ read_stopped n line text (statement_begins more) is fits = flawed n line text (s
 read_stopped n line text (stray_close more) is fits = flawed n line text (stray_close more) is tt fits
 read_stopped n line text (stray_byte b more) is fits = flawed n line text (stray_byte b more) is tt fits
 read_stopped n line text (nameless_list more) is fits = flawed n line text (nameless_list more) is tt fits
-read_stopped n line text (open_list pieces deeper) is fits = flawed n line text (open_list pieces deeper) is tt fits
+read_stopped n line text (open_comment body) is fits = flawed n line text (open_comment body) is tt fits
+read_stopped n line text (open_list pieces deeper end) is fits = flawed n line text (open_list pieces deeper end) is tt fits
+read_stopped n line text (open_raw raw deeper) is fits = flawed n line text (open_raw raw deeper) is tt fits
 read_stopped n line text (bad_subject ignored) is fits = without_subject n line text ignored is fits

@@ -2,6 +2,7 @@
 use Rattle.std.proofs.Common.{◌≡◌, ℕ, suc, ◌+◌, ◌-◌, ◌==◌, ◌≤◌, ◌<◌, Bool, true, false, cond, List, [], ◌∷◌, ◌++◌, length, Some, None, Ok, Err, refl, sym, ◌∙◌, ap, subst, arith, length-append, length-take}
 use Rattle.mcs_reader.specs.Byte.{line_end}
 use Rattle.mcs_reader.specs.Line.{with_front, lines, without_return, columns_1_to_72, text_of, text_of_lines, line_ends}
+use Rattle.mcs_reader.specs.Pieces.{a_name}
 use Rattle.mcs_reader.specs.Place.{Place, IsBehind, after_line, verb_at}
 use Rattle.mcs_reader.specs.ReadLines.{at_verb, go_on, read_behind, read_lines}
 use Rattle.mcs_reader.specs.Unread.{with_statements}
@@ -133,10 +134,10 @@ passed_line last now at none =
     ∙ any_steps once.0 (length (after_line now.text)) (now.line + 1) (after_line now.text) (fits_behind now.text (after_line now.text) once.0 refl once.1) (omega arith)
 
 -- a statement
-pub statement_line : (last now end : Place) (verb : Verb) (behind : List ℕ) (statement : Statement) → Begins now last → verb_at now.text ≡ Some (verb, behind)
-    → stated verb now.line (scan now.line 0 true false behind) ≡ Ok (statement, end.text) → IsBehind end now
+pub statement_line : (last now end : Place) (what : Verb) (behind : List ℕ) (statement : Statement) → Begins now last → verb_at now.text ≡ Some (what, behind)
+    → stated what now.line (scan now.line 0 a_name false behind) ≡ Ok (statement, end.text) → IsBehind end now
     → read_behind last ≡ with_statements (statement ∷ []) (read_behind end)
-statement_line last now end verb behind statement at verb_is read is =
+statement_line last now end what behind statement at verb_is read is =
     let once = step_at last now at in
     let shorter = is.text in
     once.2
@@ -147,9 +148,9 @@ statement_line last now end verb behind statement at verb_is read is =
     ∙ any_steps once.0 (length (after_line end.text)) (end.line + 1) (after_line end.text) (fits_behind end.text (after_line end.text) once.0 refl (omega (arith, once.1, shorter))) (omega arith))
 
 -- a statement that is refused
-pub refused_line : (last now : Place) (verb : Verb) (behind : List ℕ) (fault : McsFault) → Begins now last → verb_at now.text ≡ Some (verb, behind)
-    → stated verb now.line (scan now.line 0 true false behind) ≡ Err fault → read_behind last ≡ Err fault
-refused_line last now verb behind fault at verb_is refused =
+pub refused_line : (last now : Place) (what : Verb) (behind : List ℕ) (fault : McsFault) → Begins now last → verb_at now.text ≡ Some (what, behind)
+    → stated what now.line (scan now.line 0 a_name false behind) ≡ Err fault → read_behind last ≡ Err fault
+refused_line last now what behind fault at verb_is refused =
     let once = step_at last now at in
     once.2
     ∙ ap (at_verb (read_lines once.0) now.line now.text) verb_is

@@ -1,7 +1,7 @@
 -- What each byte may do in a statement (SMP/E Reference, "MCS coding rules").
 use Rattle.std.specs.Prelude.{ℕ, Bool, true, false, ◌==◌, ◌||◌, ◌&&◌, nat_le, if◌then◌else◌}
 use Rattle.mcs_reader.specs.declared.byte.Class.{Class}
-use Rattle.mcs_reader.specs.declared.byte.Class.TheVariants.{Gap, Name, Open, Close, Period, Other}
+use Rattle.mcs_reader.specs.declared.byte.Class.TheVariants.{Gap, Comment, Name, Open, Close, Period, Other}
 
 -- LF, which ends a line
 abbrev pub line_end : ℕ
@@ -22,6 +22,7 @@ is_letter b = (nat_le 65 b && nat_le b 90) || (nat_le 97 b && nat_le b 122)
 abbrev pub is_name_byte : ℕ → Bool
 is_name_byte b = is_letter b || (nat_le 48 b && nat_le b 57) || b == 64 || b == 35 || b == 36
 
+-- by itself no byte begins a comment (see Comment)
 unfoldable pub class_of : ℕ → Class
 class_of b =
     if is_gap b then Gap
@@ -34,6 +35,7 @@ class_of b =
 -- in a list, whatever is no gap and no parenthesis belongs to a value
 abbrev pub belongs_to_value : Class → Bool
 belongs_to_value Gap = false
+belongs_to_value Comment = false
 belongs_to_value Open = false
 belongs_to_value Close = false
 belongs_to_value Name = true

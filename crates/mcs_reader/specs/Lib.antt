@@ -1,5 +1,7 @@
 pub mod Byte
 pub mod Bytes
+pub mod Category
+pub mod Comment
 pub mod Held
 pub mod Id
 pub mod Line
@@ -9,8 +11,11 @@ pub mod Operand
 pub mod OperandText
 pub mod Pieces
 pub mod Place
+pub mod Raw
 pub mod ReadLines
 pub mod Reading
+pub mod ReadingOf
+pub mod Run
 pub mod Scan
 pub mod Segment
 pub mod StatementText

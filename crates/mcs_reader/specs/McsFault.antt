@@ -1,5 +1,7 @@
 -- Why a source isn't read.
 use Rattle.std.specs.Prelude.{ℕ, Option, Some, None}
+use Rattle.faults.specs.declared.fault.Cause.{Cause}
+use Rattle.faults.specs.declared.fault.Cause.TheVariants.{Input, Machine}
 use Rattle.mcs_reader.specs.declared.fault.McsFault.{McsFault}
 use Rattle.mcs_reader.specs.declared.fault.McsFault.TheVariants.{NoPeriod, BadVerbSubject, Unbalanced, BadByte, TooLong, Memory}
 
@@ -20,3 +22,12 @@ fault_line (Unbalanced line) = Some line
 fault_line (BadByte line) = Some line
 fault_line TooLong = None
 fault_line Memory = None
+
+-- what is at fault: the source, or the machine
+abbrev pub fault_cause : McsFault → Cause
+fault_cause (NoPeriod line) = Input
+fault_cause (BadVerbSubject line) = Input
+fault_cause (Unbalanced line) = Input
+fault_cause (BadByte line) = Input
+fault_cause TooLong = Input
+fault_cause Memory = Machine

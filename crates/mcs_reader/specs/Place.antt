@@ -1,7 +1,9 @@
 -- No part of what is promised: the place where the reader stands in the text, of which private contracts
 -- speak.
-use Rattle.std.specs.Prelude.{◌≡◌, ℕ, ◌+◌, ◌≤◌, ◌==◌, Bool, List, [], ◌∷◌, length, drop, Option, Some, None, option_map, if◌then◌else◌}
-use Rattle.mcs_reader.specs.Byte.{class_of, is_blank, is_name_byte, line_end}
+use Rattle.std.specs.Prelude.{◌≡◌, ℕ, ◌+◌, ◌≤◌, ◌==◌, List, [], ◌∷◌, length, drop, Option, Some, None, option_map, if◌then◌else◌}
+use Rattle.mcs_reader.specs.Byte.{is_blank, is_name_byte, line_end}
+use Rattle.mcs_reader.specs.Comment.{class_here}
+use Rattle.mcs_reader.specs.Run.{run, behind_run}
 use Rattle.mcs_reader.specs.declared.byte.Class.{Class}
 use Rattle.mcs_reader.specs.Line.{line_ends, begins_statement}
 use Rattle.mcs_reader.specs.Verb.{verb_named}
@@ -18,19 +20,10 @@ pub record IsBehind (now before : Place) : Type 0 where
   pub lines : now.line + line_ends now.text ≡ before.line + line_ends before.text
   pub passed : before.line ≤ now.line
 
--- the class of the first byte, within its line
+-- what the first byte does, within its line
 abbrev pub class_at : List ℕ → Option Class
 class_at [] = None
-class_at (b ∷ text) = if b == line_end then None else Some (class_of b)
-
--- the longest run of bytes of a kind, and what stands behind it
-abbrev pub run : (ℕ → Bool) → List ℕ → List ℕ
-run test [] = []
-run test (b ∷ text) = if test b then b ∷ run test text else []
-
-abbrev pub behind_run : (ℕ → Bool) → List ℕ → List ℕ
-behind_run test [] = []
-behind_run test (b ∷ text) = if test b then behind_run test text else b ∷ text
+class_at (b ∷ text) = if b == line_end then None else Some (class_here b text)
 
 -- what stands behind the first line
 abbrev pub after_line : List ℕ → List ℕ
@@ -46,4 +39,4 @@ text_behind text = behind_run is_name_byte (behind_run is_blank text)
 
 -- the verb that a line's head names, and what stands behind the head
 unfoldable pub verb_at : List ℕ → Option (Verb × List ℕ)
-verb_at text = if begins_statement text then option_map (λ verb. (verb, text_behind (drop 2 text))) (verb_named (name_behind (drop 2 text))) else None
+verb_at text = if begins_statement text then option_map (λ what. (what, text_behind (drop 2 text))) (verb_named (name_behind (drop 2 text))) else None

@@ -1,9 +1,10 @@
 -- No part of what is promised: a plain machine that reads a text line by line: a statement where a line's head names a verb, and
 -- else the line is passed over. The first argument bounds how many of these steps it takes.
-use Rattle.std.specs.Prelude.{◌≡◌, ℕ, zero, suc, ◌+◌, ◌-◌, ◌<◌, true, false, List, [], ◌∷◌, length, Option, Some, None, Ok, Err}
+use Rattle.std.specs.Prelude.{◌≡◌, ℕ, zero, suc, ◌+◌, ◌-◌, ◌<◌, false, List, [], ◌∷◌, length, Option, Some, None, Ok, Err}
 use Rattle.mcs_reader.specs.Line.{line_ends}
 use Rattle.mcs_reader.specs.declared.statement.Statement.{Statement}
 use Rattle.mcs_reader.specs.declared.statement.Verb.{Verb}
+use Rattle.mcs_reader.specs.Pieces.{a_name}
 use Rattle.mcs_reader.specs.Scan.{scan, Stated, stated}
 use Rattle.mcs_reader.specs.Place.{Place, after_line, verb_at}
 use Rattle.mcs_reader.specs.Unread.{Read, with_statements}
@@ -16,7 +17,7 @@ go_on next line text (Ok (statement, rest)) = with_statements (statement ∷ [])
 -- one step, at a line's beginning
 abbrev pub at_verb : (ℕ → List ℕ → Read) → ℕ → List ℕ → Option (Verb × List ℕ) → Read
 at_verb next line text None = next (line + 1) (after_line text)
-at_verb next line text (Some (verb, behind)) = go_on next line text (stated verb line (scan line zero true false behind))
+at_verb next line text (Some (what, behind)) = go_on next line text (stated what line (scan line zero a_name false behind))
 
 unfoldable pub read_lines : ℕ → ℕ → List ℕ → Read
 read_lines zero line text = Ok []

@@ -1,13 +1,13 @@
--- No part of what is promised: a plain machine that goes over a statement's text once, byte by byte,
--- with a count of open parentheses. The contracts of private functions say that the code does what it
--- does; proofs/ shows that it does what Pieces and Stop say.
-use Rattle.std.specs.Prelude.{ℕ, zero, suc, ◌==◌, ◌&&◌, Bool, true, false, if◌then◌else◌, List, [], ◌∷◌, ◌++◌, Option, Some, None, Result, Ok, Err, option_map, unwrap_or}
-use Rattle.mcs_reader.specs.Byte.{class_of, line_end}
-use Rattle.mcs_reader.specs.declared.byte.Class.TheVariants.{Gap, Name, Open, Close, Period, Other}
+-- No part of what is promised: a plain machine that goes over a statement's text once, with a count of
+-- open parentheses. The contracts of private functions say that the code does what it does; proofs/
+-- shows that it does what Pieces and Stop say.
+use Rattle.std.specs.Prelude.{ℕ, zero, suc, ◌-◌, ◌==◌, ◌&&◌, Bool, false, if◌then◌else◌, List, [], ◌∷◌, ◌++◌, length, drop, Option, Some, None, Result, Ok, Err, option_map, unwrap_or}
+use Rattle.mcs_reader.specs.Byte.{is_name_byte, line_end}
+use Rattle.mcs_reader.specs.Comment.{class_here, ends_comment}
+use Rattle.mcs_reader.specs.declared.byte.Class.TheVariants.{Gap, Comment, Name, Open, Close, Period, Other}
 use Rattle.mcs_reader.specs.Line.{begins_statement}
-use Rattle.mcs_reader.specs.Verb.{begins_with}
-use Rattle.mcs_reader.specs.Byte.{is_name_byte}
-use Rattle.mcs_reader.specs.Pieces.{is_value_byte}
+use Rattle.mcs_reader.specs.Pieces.{Before, no_name, a_name, name_comment, before_behind}
+use Rattle.mcs_reader.specs.Run.{run, value_run}
 use Rattle.mcs_reader.specs.OperandText.{OperandText}
 use Rattle.mcs_reader.specs.declared.fault.McsFault.{McsFault}
 use Rattle.mcs_reader.specs.declared.fault.McsFault.TheVariants.{NoPeriod, BadVerbSubject, Unbalanced, BadByte}
@@ -38,32 +38,9 @@ with_name name found = record {
   rest = found.rest;
 }
 
-abbrev pub longer_name : ℕ → List OperandText → List OperandText
-longer_name b [] = []
-longer_name b (operand ∷ operands) = record { name = b ∷ operand.name; values = operand.values } ∷ operands
-
--- a byte in front of the first operand's name
-abbrev pub with_longer_name : ℕ → Found → Found
-with_longer_name b found = record { values = found.values; operands = longer_name b found.operands; rest = found.rest }
-
-abbrev pub with_name_byte : ℕ → Bool → Outcome → Outcome
-with_name_byte b true outcome = on_found (with_longer_name b) outcome
-with_name_byte b false outcome = on_found (with_name (b ∷ [])) outcome
-
 -- values in front of those of the open list
 abbrev pub with_values : List (List ℕ) → Found → Found
 with_values vs found = record { values = option_map (λ more. vs ++ more) found.values; operands = found.operands; rest = found.rest }
-
-abbrev pub longer_value : ℕ → List (List ℕ) → List (List ℕ)
-longer_value b [] = (b ∷ []) ∷ []
-longer_value b (v ∷ vs) = (b ∷ v) ∷ vs
-
-abbrev pub with_longer_value : ℕ → Found → Found
-with_longer_value b found = record { values = option_map (longer_value b) found.values; operands = found.operands; rest = found.rest }
-
-abbrev pub with_value_byte : ℕ → Bool → Outcome → Outcome
-with_value_byte b true outcome = on_found (with_longer_value b) outcome
-with_value_byte b false outcome = on_found (with_values ((b ∷ []) ∷ [])) outcome
 
 -- the list that ends here
 abbrev pub with_list : List (List ℕ) → Found → Found
@@ -78,45 +55,73 @@ closing (suc depth) outcome = outcome
 abbrev pub stray : ℕ → Bool → List ℕ → McsFault
 stray line begun text = if begun && begins_statement text then NoPeriod line else BadByte line
 
-abbrev pub begins_name : List ℕ → Bool
-begins_name text = begins_with is_name_byte text
+-- what stands behind the first */, if there is one
+abbrev pub behind_comment : List ℕ → Option (List ℕ)
+behind_comment [] = None
+behind_comment (b ∷ text) = if ends_comment (b ∷ text) then Some (drop 1 text) else behind_comment text
 
-abbrev pub begins_value : List ℕ → Bool
-begins_value text = begins_with is_value_byte text
+-- What stands behind the parenthesis that closes a list of COMMENT, in which this many more are open; or
+-- how many are open at the text's end.
+abbrev pub behind_raw : ℕ → List ℕ → Result (List ℕ) ℕ
+behind_raw depth [] = Err depth
+behind_raw zero (b ∷ text) = if b == 40 then behind_raw 1 text else if b == 41 then Ok text else behind_raw zero text
+behind_raw (suc depth) (b ∷ text) = if b == 40 then behind_raw (suc (suc depth)) text else if b == 41 then behind_raw depth text else behind_raw (suc depth) text
 
--- The statement that begins on `line`, from a place at this depth on. Outside lists `named` says whether
--- a name stands before the place, and `begun` whether the place begins a line.
-unfoldable pub scan : ℕ → ℕ → Bool → Bool → List ℕ → Outcome
-scan line zero named begun [] = Err (NoPeriod line)
-scan line (suc depth) named begun [] = Err (Unbalanced line)
-scan line zero named begun (b ∷ text) = elim (class_of b) [
-  | Gap ↦ scan line zero named (b == line_end) text
-  | Name ↦ with_name_byte b (begins_name text) (scan line zero true false text)
-  | Open ↦ if named then scan line 1 false false text else Err (BadByte line)
+-- behind a comment or a list of COMMENT, if it ends: how many bytes are passed to there
+abbrev pub past : ℕ → List ℕ → Option (List ℕ) → (ℕ → Outcome) → Outcome
+past line text None next = Err (Unbalanced line)
+past line text (Some rest) next = next (length text - length rest)
+
+abbrev pub past_raw : ℕ → List ℕ → Result (List ℕ) ℕ → (ℕ → Outcome) → Outcome
+past_raw line text (Err depth) next = Err (Unbalanced line)
+past_raw line text (Ok rest) next = on_found (with_list []) (next (length text - length rest))
+
+-- an opening parenthesis outside lists, by what stands before it
+abbrev pub opening : ℕ → Before → List ℕ → Outcome → (ℕ → Outcome) → Outcome
+opening line no_name text inside next = Err (BadByte line)
+opening line a_name text inside next = inside
+opening line name_comment text inside next = past_raw line text (behind_raw zero text) next
+
+-- The statement that begins on `line`, from a place on that lies `skip` bytes further, at this depth.
+-- Outside lists `before` says what stands before the place, and `begun` whether the place begins a line.
+unfoldable pub pass : ℕ → ℕ → ℕ → Before → Bool → List ℕ → Outcome
+pass line skip zero before begun [] = Err (NoPeriod line)
+pass line skip (suc depth) before begun [] = Err (Unbalanced line)
+pass line (suc skip) depth before begun (b ∷ text) = pass line skip depth before begun text
+pass line zero zero before begun (b ∷ text) = elim (class_here b text) [
+  | Gap ↦ pass line zero zero before (b == line_end) text
+  | Comment ↦ past line text (behind_comment (drop 1 text)) (λ skip. pass line skip zero before false text)
+  | Name ↦ on_found (with_name (run is_name_byte (b ∷ text))) (pass line (length (run is_name_byte text)) zero (before_behind (run is_name_byte (b ∷ text))) false text)
+  | Open ↦ opening line before text (pass line zero 1 no_name false text) (λ skip. pass line skip zero no_name false text)
   | Close ↦ Err (Unbalanced line)
   | Period ↦ Ok (record { values = None; operands = []; rest = text })
   | Other ↦ Err (stray line begun (b ∷ text))
 ]
-scan line (suc depth) named begun (b ∷ text) = elim (class_of b) [
-  | Gap ↦ scan line (suc depth) false false text
-  | Open ↦ scan line (suc (suc depth)) false false text
-  | Close ↦ closing depth (scan line depth false false text)
-  | Name ↦ with_value_byte b (begins_value text) (scan line (suc depth) false false text)
-  | Period ↦ with_value_byte b (begins_value text) (scan line (suc depth) false false text)
-  | Other ↦ with_value_byte b (begins_value text) (scan line (suc depth) false false text)
+pass line zero (suc depth) before begun (b ∷ text) = elim (class_here b text) [
+  | Gap ↦ pass line zero (suc depth) no_name false text
+  | Comment ↦ past line text (behind_comment (drop 1 text)) (λ skip. pass line skip (suc depth) no_name false text)
+  | Open ↦ pass line zero (suc (suc depth)) no_name false text
+  | Close ↦ closing depth (pass line zero depth no_name false text)
+  | Name ↦ on_found (with_values (value_run (b ∷ text) ∷ [])) (pass line (length (value_run text)) (suc depth) no_name false text)
+  | Period ↦ on_found (with_values (value_run (b ∷ text) ∷ [])) (pass line (length (value_run text)) (suc depth) no_name false text)
+  | Other ↦ on_found (with_values (value_run (b ∷ text) ∷ [])) (pass line (length (value_run text)) (suc depth) no_name false text)
 ]
+
+-- from this place on
+abbrev pub scan : ℕ → ℕ → Before → Bool → List ℕ → Outcome
+scan line depth before begun text = pass line zero depth before begun text
 
 abbrev pub Stated : Type 0
 Stated = Result (Statement × List ℕ) McsFault
 
 abbrev pub with_subject : Verb → ℕ → Found → Option (Option (List ℕ)) → Stated
-with_subject verb line found None = Err (BadVerbSubject line)
-with_subject verb line found (Some subject) = Ok (record { verb = verb; subject = subject; operands = found.operands; line = line }, found.rest)
+with_subject what line found None = Err (BadVerbSubject line)
+with_subject what line found (Some subject) = Ok (record { verb = what; subject = subject; operands = found.operands; line = line }, found.rest)
 
 -- the statement that was found, and the text behind its period
 abbrev pub stated : Verb → ℕ → Outcome → Stated
-stated verb line (Err fault) = Err fault
-stated verb line (Ok found) = with_subject verb line found (subject_of verb found.values)
+stated what line (Err fault) = Err fault
+stated what line (Ok found) = with_subject what line found (subject_of what found.values)
 
 -- operands in front of those that were found
 abbrev pub with_operands : List OperandText → Found → Found

@@ -1,10 +1,10 @@
 -- One statement's text up to its period: its head, which names the verb, and the pieces behind.
-use Rattle.std.specs.Prelude.{◌≡◌, ℕ, true, List, [], ◌∷◌, ◌++◌, Option, Some, None, option_map}
+use Rattle.std.specs.Prelude.{◌≡◌, ℕ, List, [], ◌∷◌, ◌++◌, Option, Some, None, option_map, option_and_then}
 use Rattle.mcs_reader.specs.Verb.{Head, spell_head, IsHead, verb_named}
-use Rattle.mcs_reader.specs.Pieces.{Pieces, spell, IsOutside, list_behind}
+use Rattle.mcs_reader.specs.Pieces.{Pieces, a_name, spell, IsOutside, list_behind}
 use Rattle.mcs_reader.specs.Id.{id_of}
 use Rattle.mcs_reader.specs.declared.statement.Verb.{Verb}
-use Rattle.mcs_reader.specs.declared.statement.Verb.TheVariants.{Hold}
+use Rattle.mcs_reader.specs.declared.statement.Verb.TheVariants.{Hold, Release, Func, Ptf, Apar, Usermod, Ver}
 
 pub record StatementText : Type 0 where
   pub head : Head
@@ -14,20 +14,37 @@ pub record StatementText : Type 0 where
 abbrev pub spell_statement : StatementText → List ℕ
 spell_statement text = spell_head text.head ++ spell text.pieces
 
--- The head names the verb, and behind it stand names and lists. The verb is a name too: the first list
--- may belong to it.
+-- The head names the verb, and behind it stand names and lists. The verb is a name too, and not COMMENT:
+-- the first list may belong to it.
 pub record IsStatementText (text : StatementText) : Type 0 where
   pub head : IsHead text.head (spell text.pieces)
   pub verb : verb_named text.head.name ≡ Some text.verb
-  pub pieces : IsOutside true text.pieces
+  pub pieces : IsOutside a_name text.pieces
 
--- The subject that a verb's list gives, where the list is as the verb wants it: for HOLD just one value,
--- an id.
+-- the value of a list that has just one
+abbrev pub sole : List (List ℕ) → Option (List ℕ)
+sole [] = None
+sole (value ∷ []) = Some value
+sole (value ∷ other ∷ more) = None
+
+-- the id that a list of just one value is, if the value is one
+abbrev pub the_id : List (List ℕ) → Option (Option (List ℕ))
+the_id values = option_map Some (option_and_then id_of (sole values))
+
+-- The subject that the values of a verb's list give, where they are as the verb wants them: just one, an
+-- id. VER takes any, and none of them is its subject.
+abbrev pub subject_by : Verb → List (List ℕ) → Option (Option (List ℕ))
+subject_by Hold values = the_id values
+subject_by Release values = the_id values
+subject_by Func values = the_id values
+subject_by Ptf values = the_id values
+subject_by Apar values = the_id values
+subject_by Usermod values = the_id values
+subject_by Ver values = Some None
+
+-- each verb wants a list
 abbrev pub subject_of : Verb → Option (List (List ℕ)) → Option (Option (List ℕ))
-subject_of Hold None = None
-subject_of Hold (Some []) = None
-subject_of Hold (Some (value ∷ [])) = option_map Some (id_of value)
-subject_of Hold (Some (value ∷ other ∷ more)) = None
+subject_of what list = option_and_then (subject_by what) list
 
 abbrev pub subject_in : StatementText → Option (Option (List ℕ))
 subject_in text = subject_of text.verb (list_behind text.pieces)

@@ -4,11 +4,19 @@ use Rattle.std.specs.List.{list_all}
 use Rattle.std.specs.Str.{str_eq_ignore_ascii_case}
 use Rattle.mcs_reader.specs.Byte.{is_blank, is_name_byte}
 use Rattle.mcs_reader.specs.declared.statement.Verb.{Verb}
-use Rattle.mcs_reader.specs.declared.statement.Verb.TheVariants.{Hold}
+use Rattle.mcs_reader.specs.declared.statement.Verb.TheVariants.{Hold, Release, Func, Ptf, Apar, Usermod, Ver}
 
 -- The verb of this name, without regard to ASCII case. A statement with any other name is skipped.
 unfoldable pub verb_named : List ℕ → Option Verb
-verb_named name = if str_eq_ignore_ascii_case name (codes "HOLD") then Some Hold else None
+verb_named name =
+    if str_eq_ignore_ascii_case name (codes "HOLD") then Some Hold
+    else if str_eq_ignore_ascii_case name (codes "RELEASE") then Some Release
+    else if str_eq_ignore_ascii_case name (codes "FUNCTION") then Some Func
+    else if str_eq_ignore_ascii_case name (codes "PTF") then Some Ptf
+    else if str_eq_ignore_ascii_case name (codes "APAR") then Some Apar
+    else if str_eq_ignore_ascii_case name (codes "USERMOD") then Some Usermod
+    else if str_eq_ignore_ascii_case name (codes "VER") then Some Ver
+    else None
 
 -- whether a text begins with such a byte
 abbrev pub begins_with : (ℕ → Bool) → List ℕ → Bool

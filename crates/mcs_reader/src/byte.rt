@@ -8,6 +8,8 @@ ghost use Rattle.mcs_reader.specs.Pieces.{is_value_byte};
 pub(crate) enum Class {
     /// A blank, a tab, a comma or a line's end: it stands between names, values and lists.
     Gap,
+    /// `/` and `*`, with which a comment begins.
+    Comment,
     /// A letter, a digit, `@`, `#` or `$`.
     Name,
     /// `(`
@@ -20,6 +22,7 @@ pub(crate) enum Class {
     Other,
 }
 
+/// What a byte does where no comment begins.
 #[inline]
 #[tactic(auto, unfolding(crate::specs::Byte::class_of))]
 pub(crate) fn class_of(b: u8) -> Class

@@ -1,11 +1,14 @@
 //! A place in the text of a source: the joined columns of its lines.
-ghost use Rattle.std.specs.Prelude.{◌≡◌, ◌+◌, ◌^◌, ◌<◌, ◌≤◌, [], ◌∷◌, None, Some, IsSome, MatchOption, length, drop};
+ghost use Rattle.std.specs.Prelude.{◌≡◌, ◌+◌, ◌^◌, ◌<◌, ◌≤◌, [], ◌∷◌, None, Some, Ok, Err, IsSome, IfErr, MatchOption, MatchResult, length, take, drop};
 ghost use Rattle.std.specs.Bool.{OnTrue, OnFalse};
 ghost use Rattle.std.specs.List.{prefix_len};
 ghost use Rattle.mcs_reader.specs.Byte.{is_blank, is_name_byte, line_end};
 ghost use Rattle.mcs_reader.specs.Line.{begins_statement as begins_statement_at, line_ends, text_of};
-ghost use Rattle.mcs_reader.specs.Pieces.{is_value_byte};
-ghost use Rattle.mcs_reader.specs.Place.{IsBehind, after_line, behind_run, class_at, run, verb_at};
+ghost use Rattle.mcs_reader.specs.Comment.{next_is};
+ghost use Rattle.mcs_reader.specs.Place.{IsBehind, after_line, class_at, verb_at};
+ghost use Rattle.mcs_reader.specs.Run.{begins_value, behind_run, behind_value, run, value_run};
+ghost use Rattle.mcs_reader.specs.Scan.{behind_comment, behind_raw};
+ghost use Rattle.mcs_reader.specs.Segment.{IsLine};
 ghost use Rattle.mcs_reader.specs.Verb.{verb_named};
 
 use crate::Verb;
@@ -51,6 +54,17 @@ impl<'a> Cursor<'a> {
         }
     }
 
+    /// The same place once more.
+    pub(crate) fn copy(&self) -> Self
+        ensures { result ≡ self.now }
+    {
+        Cursor {
+            card: self.card,
+            behind: self.behind,
+            line: self.line,
+        }
+    }
+
     /// The number of the line, counted from 1.
     pub(crate) fn line(&self) -> u32
         ensures { result ≡ self.now.line }
@@ -84,10 +98,7 @@ impl<'a> Cursor<'a> {
     pub(crate) fn class(&self) -> Option<Class>
         ensures { result ≡ class_at self.now.text }
     {
-        match self.card.first() {
-            Some(b) => Some(class_of(*b)),
-            None => None,
-        }
+        class_in(self.card)
     }
 
     /// Passes the next byte.
@@ -116,13 +127,51 @@ impl<'a> Cursor<'a> {
     /// Passes the bytes of a value from here on, and gives them.
     #[inline]
     pub(crate) fn value(&mut self) -> &'a [u8]
-        ensures value { result.now ≡ run is_value_byte self.old.text }
-        ensures text { self.new.text ≡ behind_run is_value_byte self.old.text }
+        ensures value { result.now ≡ value_run self.old.text }
+        ensures text { self.new.text ≡ behind_value self.old.text }
         ensures behind { IsBehind self.new self.old }
     {
         let (value, rest) = split_value(self.card);
         self.card = rest;
         value
+    }
+
+    /// Goes behind the `*/` that ends a comment, if the line has one. Else nothing moves.
+    pub(crate) fn end_comment(&mut self) -> bool
+        ensures text { OnTrue result (behind_comment self.old.text ≡ Some self.new.text) }
+        ensures none { OnFalse result (behind_comment self.old.text ≡ behind_comment (after_line self.old.text)) }
+        ensures unmoved { OnFalse result (self.new ≡ self.old) }
+        ensures behind { IsBehind self.new self.old }
+    {
+        match behind_comment_in(self.card) {
+            Some(rest) => {
+                self.card = rest;
+                true
+            }
+            None => false,
+        }
+    }
+
+    /// Goes behind the parenthesis that closes a list of COMMENT, if the line has it. Else only `depth`
+    /// changes, which counts the parentheses that are open within the list.
+    pub(crate) fn end_raw_list(&mut self, depth: &mut usize) -> bool
+        requires depth_room { depth.old + length self.old.text < 2 ^ 64 }
+        ensures text { OnTrue result (behind_raw depth.old self.old.text ≡ Ok self.new.text) }
+        ensures none { OnFalse result (behind_raw depth.old self.old.text ≡ behind_raw depth.new (after_line self.old.text)) }
+        ensures unmoved { OnFalse result (self.new ≡ self.old) }
+        ensures no_deeper { OnFalse result (depth.new + length (after_line self.old.text) ≤ depth.old + length self.old.text) }
+        ensures behind { IsBehind self.new self.old }
+    {
+        match behind_raw_in(self.card, *depth) {
+            Ok(rest) => {
+                self.card = rest;
+                true
+            }
+            Err(unclosed) => {
+                *depth = unclosed;
+                false
+            }
+        }
     }
 
     /// Whether `++` stands here.
@@ -193,12 +242,71 @@ fn split_name(card: &[u8]) -> (&[u8], &[u8])
 }
 
 #[inline]
-#[tactic(auto, using(crate::proofs::PlaceFacts::take_run, crate::proofs::PlaceFacts::drop_run))]
 fn split_value(card: &[u8]) -> (&[u8], &[u8])
-    ensures value { result.0.now ≡ run is_value_byte card.now }
-    ensures rest { result.1.now ≡ behind_run is_value_byte card.now }
+    ensures value { result.0.now ≡ value_run card.now }
+    ensures rest { result.1.now ≡ behind_value card.now }
 {
     card.split_at(value_len(card))
+}
+
+/// What the first byte of a line's rest does.
+#[inline]
+fn class_in(card: &[u8]) -> Option<Class>
+    requires { IsLine card.now }
+    ensures { result ≡ class_at card.now }
+{
+    let (first, rest) = card.split_first()?;
+    if *first == b'/' && begins_with(rest, b'*') {
+        return Some(Class::Comment);
+    }
+    Some(class_of(*first))
+}
+
+#[inline]
+fn begins_with(card: &[u8], b: u8) -> bool
+    ensures { result ≡ next_is b card.now }
+{
+    !card.is_empty() && card[0] == b
+}
+
+/// What stands behind the first `*/`.
+fn behind_comment_in(card: &[u8]) -> Option<&[u8]>
+    ensures { MatchOption result (behind_comment card.now ≡ None) (λ rest. behind_comment card.now ≡ Some rest.now) }
+{
+    let mut left = card;
+    'bytes: while let Some((first, rest)) = left.split_first() {
+        if *first == b'*' && begins_with(rest, b'/') {
+            let (_, behind) = rest.split_at(1);
+            return Some(behind);
+        }
+        left = rest;
+    }
+    None
+}
+
+/// What stands behind the parenthesis that closes a list of COMMENT, in which `depth` more are open; or
+/// how many are open at the line's end.
+fn behind_raw_in(card: &[u8], depth: usize) -> Result<&[u8], usize>
+    requires { depth + length card.now < 2 ^ 64 }
+    ensures behind { MatchResult result (λ rest. behind_raw depth card.now ≡ Ok rest.now) (λ unclosed. behind_raw depth card.now ≡ Err unclosed) }
+    ensures no_deeper { IfErr result (λ unclosed. unclosed ≤ depth + length card.now) }
+{
+    let mut left = card;
+    let mut depth = depth;
+    'bytes: while let Some((first, rest)) = left.split_first() {
+        left = rest;
+        match *first {
+            b'(' => depth += 1,
+            b')' => {
+                if depth == 0 {
+                    return Ok(rest);
+                }
+                depth -= 1;
+            }
+            _ => {}
+        }
+    }
+    Err(depth)
 }
 
 #[inline]
@@ -217,10 +325,26 @@ fn name_len(card: &[u8]) -> usize
     card.iter().take_while(|b| stands_in_name(**b)).count()
 }
 
+/// How many bytes of a value stand at the beginning. A comment ends a value.
 #[inline]
 fn value_len(card: &[u8]) -> usize
-    ensures run { result ≡ prefix_len is_value_byte card.now }
+    ensures value { take result card.now ≡ value_run card.now }
+    ensures rest { drop result card.now ≡ behind_value card.now }
     ensures within { result ≤ length card.now }
 {
-    card.iter().take_while(|b| stands_in_value(**b)).count()
+    let mut len = 0;
+    'bytes: while len < card.len() && goes_on(card, len) {
+        len += 1;
+    }
+    len
+}
+
+/// Whether a value has the byte at this place.
+#[inline]
+fn goes_on(card: &[u8], at: usize) -> bool
+    requires { at < length card.now }
+    ensures { result ≡ begins_value (drop at card.now) }
+{
+    let (_, rest) = card.split_at(at);
+    stands_in_value(rest[0]) && !(rest[0] == b'/' && rest.len() > 1 && rest[1] == b'*')
 }

@@ -1,26 +1,28 @@
 ghost use Rattle.std.specs.Prelude.{◌≡◌};
 ghost use Rattle.mcs_reader.specs.declared.fault.McsFault.TheVariants.{Memory};
 
+pub use faults::NoMemory;
+use faults::{Cause, Fault};
 use std::alloc::{AllocError, AllocFailed};
 use thiserror::Error;
-
-/// Memory ran out.
-pub use std::alloc::AllocError as NoMemory;
 
 /// Why a source isn't read. Lines are numbered from 1, and each line here is the one on which the
 /// statement with the fault begins.
 #[derive(Clone, Copy, Debug, PartialEq, Eq, Error)]
 pub enum McsFault {
-    /// Outside lists the text ends before the statement's period, or a line begins with `++`.
+    /// Outside lists and comments the text ends before the statement's period, or a line begins with
+    /// `++`.
     #[error("line {0}: no period ends the statement")]
     NoPeriod(u32),
-    /// The list behind the verb is missing, or holds anything but one value, an [`Id`](crate::Id).
+    /// The list behind the verb is missing, or holds anything but one value, an [`Id`](crate::Id), where
+    /// the verb isn't VER.
     #[error("line {0}: the list behind the verb is not one id")]
     BadVerbSubject(u32),
-    /// The text ends inside parentheses, or `)` stands outside them.
+    /// The text ends inside parentheses or a comment, or `)` stands outside them.
     #[error("line {0}: the parentheses do not match")]
     Unbalanced(u32),
-    /// Outside lists stands a byte that can't stand there, or a `(` before which no name stands.
+    /// Outside lists and comments stands a byte that can't stand there, or a `(` before which, gaps and
+    /// comments aside, no name stands.
     #[error("line {0}: a character stands where it cannot")]
     BadByte(u32),
     /// The source has over 67,108,864 bytes.
@@ -59,6 +61,39 @@ impl McsFault {
             | McsFault::Unbalanced(line)
             | McsFault::BadByte(line) => Some(line),
             McsFault::TooLong | McsFault::Memory => None,
+        }
+    }
+}
+
+impl Fault for McsFault {
+    ghost use Rattle.mcs_reader.specs.McsFault.{fault_cause, fault_line, fault_number};
+    ghost use Rattle.std.proofs.Common.{rules};
+    ghost use Rattle.mcs_reader.specs.declared.fault.McsFault.TheVariants.{NoPeriod, BadVerbSubject, Unbalanced, BadByte, TooLong, Memory};
+
+    ghost number = { fault_number };
+
+    ghost place = { fault_line };
+
+    ghost cause = { fault_cause };
+
+    ghost numbers = { elim [ NoPeriod _ ↦ Prim.search rules | BadVerbSubject _ ↦ Prim.search rules | Unbalanced _ ↦ Prim.search rules | BadByte _ ↦ Prim.search rules | TooLong ↦ Prim.search rules | Memory ↦ Prim.search rules ] };
+
+    fn number(self) -> u8 {
+        self.number()
+    }
+
+    fn place(self) -> Option<u32> {
+        self.line()
+    }
+
+    fn cause(self) -> Cause {
+        match self {
+            McsFault::NoPeriod(_)
+            | McsFault::BadVerbSubject(_)
+            | McsFault::Unbalanced(_)
+            | McsFault::BadByte(_)
+            | McsFault::TooLong => Cause::Input,
+            McsFault::Memory => Cause::Machine,
         }
     }
 }

@@ -2,17 +2,19 @@
 //!
 //! [`read`] gives the statements of a source in order, or its first fault, and [`Statements`] the same one
 //! statement at a time. [`Id`] is a name of the
-//! field: a SYSMOD, an FMID, a reason, a class. `specs/` says what a statement is, apart from any
-//! code: begin with its `Reading`.
+//! field: a SYSMOD, an FMID, a reason, a class. [`is_category`] says which texts are fix categories.
+//! `specs/` says what a statement is, apart from any code: begin with its `Reading`.
 #![tactic(auto)]
 
 mod byte;
+mod category;
 mod cursor;
 mod fault;
 mod id;
 mod line;
 mod list;
 mod operand;
+mod passing;
 mod room;
 mod source;
 mod statement;
@@ -20,6 +22,7 @@ mod statements;
 #[cfg(test)]
 mod tests;
 
+pub use category::{is_category, is_category_byte};
 pub use fault::{McsFault, NoMemory};
 pub use id::Id;
 pub use source::{MOST_BYTES, read};

@@ -1,6 +1,7 @@
 //! The lists of a statement: values between matching parentheses, at any depth.
 ghost use Rattle.std.specs.Prelude.{◌≡◌, ◌≢◌, ◌+◌, ◌^◌, ◌<◌, ◌≤◌, [], ◌∷◌, false, Err, Some, None, IfOk, IfErr, MatchOption, length, option_map};
 ghost use Rattle.mcs_reader.specs.Line.{line_ends};
+ghost use Rattle.mcs_reader.specs.Pieces.{no_name};
 ghost use Rattle.mcs_reader.specs.Place.{IsBehind};
 ghost use Rattle.mcs_reader.specs.Scan.{on_found, scan, with_list, with_values};
 ghost use Rattle.mcs_reader.specs.Lists.{GivesValue, HasSoleValue};
@@ -8,6 +9,7 @@ ghost use Rattle.mcs_reader.specs.declared.fault.McsFault.TheVariants.{Memory};
 
 use crate::byte::Class;
 use crate::cursor::Cursor;
+use crate::passing::pass_comment;
 use crate::{McsFault, Values};
 
 /// The next value of the list, or `None` behind the parenthesis that closes it. `depth` counts the
@@ -23,9 +25,9 @@ pub(crate) fn next_value<'a>(
     requires line_room { cursor.old.line + line_ends cursor.old.text < 2 ^ 32 }
 
     ensures ok { IfOk result (λ next. MatchOption next
-        (scan line depth.old false false cursor.old.text ≡ on_found (with_list []) (scan line 0 false false cursor.new.text))
+        (scan line depth.old no_name false cursor.old.text ≡ on_found (with_list []) (scan line 0 no_name false cursor.new.text))
         (λ value. GivesValue line depth.old cursor.old.text value.now depth.new cursor.new.text)) }
-    ensures err { IfErr result (λ fault. scan line depth.old false false cursor.old.text ≡ Err fault) }
+    ensures err { IfErr result (λ fault. scan line depth.old no_name false cursor.old.text ≡ Err fault) }
     ensures behind { IsBehind cursor.new cursor.old }
 {
     'bytes: loop {
@@ -37,6 +39,7 @@ pub(crate) fn next_value<'a>(
         };
         match class {
             Class::Gap => cursor.advance(),
+            Class::Comment => pass_comment(cursor, line)?,
             Class::Open => {
                 cursor.advance();
                 *depth += 1;
@@ -62,8 +65,8 @@ pub(crate) fn values<'a>(
     requires depth_room { length cursor.old.text < 2 ^ 63 }
     requires line_room { cursor.old.line + line_ends cursor.old.text < 2 ^ 32 }
 
-    ensures ok { IfOk result (λ values. scan line 1 false false cursor.old.text ≡ on_found (with_list values) (scan line 0 false false cursor.new.text)) }
-    ensures err { IfErr result (λ fault. fault ≢ Memory → scan line 1 false false cursor.old.text ≡ Err fault) }
+    ensures ok { IfOk result (λ values. scan line 1 no_name false cursor.old.text ≡ on_found (with_list values) (scan line 0 no_name false cursor.new.text)) }
+    ensures err { IfErr result (λ fault. fault ≢ Memory → scan line 1 no_name false cursor.old.text ≡ Err fault) }
     ensures behind { IsBehind cursor.new cursor.old }
 {
     room.clear();
@@ -83,7 +86,7 @@ pub(crate) fn sole_value<'a>(
     requires line_room { cursor.old.line + line_ends cursor.old.text < 2 ^ 32 }
 
     ensures ok { IfOk result (λ value. HasSoleValue line cursor.old.text (option_map (λ v. v.now) value) cursor.new.text) }
-    ensures err { IfErr result (λ fault. scan line 1 false false cursor.old.text ≡ Err fault) }
+    ensures err { IfErr result (λ fault. scan line 1 no_name false cursor.old.text ≡ Err fault) }
     ensures behind { IsBehind cursor.new cursor.old }
 {
     let mut depth = 1;

@@ -1,28 +1,31 @@
 //! The operands of a statement: names, each with the list that may follow it.
-ghost use Rattle.std.specs.Prelude.{◌≡◌, ◌≢◌, ◌+◌, ◌^◌, ◌<◌, [], ◌∷◌, true, false, Bool, Ok, Err, Some, None, IfOk, IfErr, OnOk, length, option_map};
-ghost use Rattle.mcs_reader.specs.Id.{id_of};
+ghost use Rattle.std.specs.Prelude.{◌≡◌, ◌≢◌, ◌+◌, ◌^◌, ◌<◌, [], ◌∷◌, ℕ, List, false, Ok, Err, Some, None, IfOk, IfErr, OnOk, length, option_map};
 ghost use Rattle.mcs_reader.specs.Line.{line_ends};
 ghost use Rattle.mcs_reader.specs.Lists.{HasSubject};
 ghost use Rattle.mcs_reader.specs.Operand.{operand_text};
+ghost use Rattle.mcs_reader.specs.Pieces.{Before, a_name, before_behind, is_comment_name, no_name};
 ghost use Rattle.mcs_reader.specs.Place.{IsBehind, class_at};
 ghost use Rattle.mcs_reader.specs.Scan.{on_found, scan, with_list_behind, with_operands};
-ghost use Rattle.mcs_reader.specs.declared.byte.Class.TheVariants.{Gap, Name};
+ghost use Rattle.mcs_reader.specs.StatementText.{sole, subject_by as subject_by_list};
+ghost use Rattle.mcs_reader.specs.declared.byte.Class.TheVariants.{Gap, Comment, Name};
 ghost use Rattle.mcs_reader.specs.declared.fault.McsFault.TheVariants.{Memory};
 
 use crate::byte::Class;
 use crate::cursor::Cursor;
 use crate::list::{sole_value, values};
+use crate::passing::{pass_comment, pass_raw_list};
 use crate::room::{Room, taken};
-use crate::{Id, McsFault, Operand, Operands, Values};
+use crate::{Id, McsFault, Operand, Operands, Values, Verb};
 
-/// Goes to the next byte that is no gap, and gives its class.
+/// Goes to the next byte behind gaps and comments, and gives its class.
 fn skip_gap(cursor: &mut Cursor<'_>, line: u32) -> Result<Class, McsFault>
     requires line_room { cursor.old.line + line_ends cursor.old.text < 2 ^ 32 }
 
     ensures class { IfOk result (λ class. class_at cursor.new.text ≡ Some class) }
     ensures no_gap { IfOk result (λ class. class ≢ Gap) }
-    ensures ok { OnOk result ((named : Bool) → scan line 0 named false cursor.old.text ≡ scan line 0 named false cursor.new.text) }
-    ensures err { IfErr result (λ fault. (named : Bool) → scan line 0 named false cursor.old.text ≡ Err fault) }
+    ensures no_comment { IfOk result (λ class. class ≢ Comment) }
+    ensures ok { OnOk result ((before : Before) → scan line 0 before false cursor.old.text ≡ scan line 0 before false cursor.new.text) }
+    ensures err { IfErr result (λ fault. (before : Before) → scan line 0 before false cursor.old.text ≡ Err fault) }
     ensures behind { IsBehind cursor.new cursor.old }
 {
     'gap: loop {
@@ -34,51 +37,80 @@ fn skip_gap(cursor: &mut Cursor<'_>, line: u32) -> Result<Class, McsFault>
         };
         match class {
             Class::Gap => cursor.advance(),
+            Class::Comment => pass_comment(cursor, line)?,
             _ => return Ok(class),
         }
     }
 }
 
-/// The list that follows a name, gaps aside, if one does.
+/// The list that follows a name, gaps and comments aside, if one does.
 fn list_behind<'a>(
     cursor: &mut Cursor<'a>,
     room: &mut Vec<&'a [u8]>,
+    name: &[u8],
     line: u32,
 ) -> Result<Option<Values<'a>>, McsFault>
     requires depth_room { length cursor.old.text < 2 ^ 63 }
     requires line_room { cursor.old.line + line_ends cursor.old.text < 2 ^ 32 }
 
-    ensures ok { IfOk result (λ list. scan line 0 true false cursor.old.text ≡ with_list_behind list (scan line 0 false false cursor.new.text)) }
-    ensures err { IfErr result (λ fault. fault ≢ Memory → scan line 0 true false cursor.old.text ≡ Err fault) }
+    ensures ok { IfOk result (λ list. scan line 0 (before_behind name.now) false cursor.old.text ≡ with_list_behind list (scan line 0 no_name false cursor.new.text)) }
+    ensures err { IfErr result (λ fault. fault ≢ Memory → scan line 0 (before_behind name.now) false cursor.old.text ≡ Err fault) }
     ensures behind { IsBehind cursor.new cursor.old }
 {
     match skip_gap(cursor, line)? {
         Class::Open => {
             cursor.advance();
-            Ok(Some(values(cursor, room, line)?))
+            if is_comment(name) {
+                pass_raw_list(cursor, line)?;
+                Ok(Some(Values::from_vec(Vec::new(*room.allocator()))))
+            } else {
+                Ok(Some(values(cursor, room, line)?))
+            }
         }
         _ => Ok(None),
     }
 }
 
-/// The subject that the list behind a verb gives, where the list has just one value, an id.
-pub(crate) fn subject(cursor: &mut Cursor<'_>, line: u32) -> Result<Option<Id>, McsFault>
+/// Whether an operand of this name is a COMMENT.
+#[tactic(auto, unfolding(crate::specs::Pieces::is_comment_name))]
+fn is_comment(name: &[u8]) -> bool
+    ensures { result ≡ is_comment_name name.now }
+{
+    name.eq_ignore_ascii_case(b"COMMENT")
+}
+
+/// The subject that a verb has by the list behind it, if the list is as the verb wants it.
+pub(crate) fn subject(
+    cursor: &mut Cursor<'_>,
+    verb: Verb,
+    line: u32,
+) -> Result<Option<Option<Id>>, McsFault>
     requires depth_room { length cursor.old.text < 2 ^ 63 }
     requires line_room { cursor.old.line + line_ends cursor.old.text < 2 ^ 32 }
 
-    ensures ok { IfOk result (λ subject. HasSubject line cursor.old.text subject cursor.new.text) }
-    ensures err { IfErr result (λ fault. scan line 0 true false cursor.old.text ≡ Err fault) }
+    ensures ok { IfOk result (λ subject. HasSubject verb line cursor.old.text subject cursor.new.text) }
+    ensures err { IfErr result (λ fault. scan line 0 a_name false cursor.old.text ≡ Err fault) }
     ensures behind { IsBehind cursor.new cursor.old }
 {
     match skip_gap(cursor, line)? {
         Class::Open => {
             cursor.advance();
-            match sole_value(cursor, line)? {
-                Some(value) => Ok(Id::new(value)),
-                None => Ok(None),
-            }
+            let value = sole_value(cursor, line)?;
+            Ok(subject_by(verb, value))
         }
         _ => Ok(None),
+    }
+}
+
+/// The subject by a list that has this value alone, or none or several.
+fn subject_by(verb: Verb, value: Option<&[u8]>) -> Option<Option<Id>>
+    ensures { (values : List (List ℕ)) → option_map (λ v. v.now) value.entry ≡ sole values → result ≡ subject_by_list verb values }
+{
+    match verb {
+        Verb::Hold | Verb::Release | Verb::Func | Verb::Ptf | Verb::Apar | Verb::Usermod => {
+            Some(Some(Id::new(value?)?))
+        }
+        Verb::Ver => Some(None),
     }
 }
 
@@ -92,14 +124,14 @@ fn operand<'a>(
     requires depth_room { length cursor.old.text < 2 ^ 63 }
     requires line_room { cursor.old.line + line_ends cursor.old.text < 2 ^ 32 }
 
-    ensures ok { IfOk result (λ operand. scan line 0 false false cursor.old.text
-        ≡ on_found (with_operands (operand_text operand ∷ [])) (scan line 0 false false cursor.new.text)) }
+    ensures ok { IfOk result (λ operand. scan line 0 no_name false cursor.old.text
+        ≡ on_found (with_operands (operand_text operand ∷ [])) (scan line 0 no_name false cursor.new.text)) }
     ensures shorter { OnOk result (length cursor.new.text < length cursor.old.text) }
-    ensures err { IfErr result (λ fault. fault ≢ Memory → scan line 0 false false cursor.old.text ≡ Err fault) }
+    ensures err { IfErr result (λ fault. fault ≢ Memory → scan line 0 no_name false cursor.old.text ≡ Err fault) }
     ensures behind { IsBehind cursor.new cursor.old }
 {
     let name = cursor.name();
-    let values = match list_behind(cursor, room, line)? {
+    let values = match list_behind(cursor, room, name, line)? {
         Some(values) => values,
         None => Values::from_vec(Vec::new(*room.allocator())),
     };
@@ -115,9 +147,9 @@ pub(crate) fn operands<'a>(
     requires depth_room { length cursor.old.text < 2 ^ 63 }
     requires line_room { cursor.old.line + line_ends cursor.old.text < 2 ^ 32 }
 
-    ensures ok { IfOk result (λ operands. scan line 0 false false cursor.old.text
+    ensures ok { IfOk result (λ operands. scan line 0 no_name false cursor.old.text
         ≡ Ok (record { values = None; operands = operands; rest = cursor.new.text })) }
-    ensures err { IfErr result (λ fault. fault ≢ Memory → scan line 0 false false cursor.old.text ≡ Err fault) }
+    ensures err { IfErr result (λ fault. fault ≢ Memory → scan line 0 no_name false cursor.old.text ≡ Err fault) }
     ensures behind { IsBehind cursor.new cursor.old }
 {
     room.operands.clear();

@@ -1,6 +1,8 @@
 //! A source, read whole.
 ghost use Rattle.std.specs.Prelude.{◌≡◌, ◌≢◌, Ok, Err, IfOk, IfErr, IsErrAnd, MatchResult, List};
 ghost use Rattle.mcs_reader.specs.Reading.{HasOneOutcome, IsFirstFault, IsReading};
+ghost use Rattle.mcs_reader.specs.ReadingOf.{reading_of};
+ghost use Rattle.mcs_reader.specs.Unread.{IsRead};
 ghost use Rattle.mcs_reader.specs.declared.fault.McsFault.{McsFault};
 ghost use Rattle.mcs_reader.specs.declared.fault.McsFault.TheVariants.{Memory};
 ghost use Rattle.mcs_reader.specs.declared.statement.Statement.{Statement};
@@ -16,7 +18,8 @@ pub const MOST_BYTES: usize = 67_108_864;
 /// Lines are cut at LF, a carriage return before it is taken off, and only columns 1 to 72 are read. A
 /// line with `++` in columns 1 and 2 begins a statement, which ends with a period. Lines between
 /// statements are skipped, and so is a statement whose verb isn't a [`Verb`](crate::Verb), up to the
-/// next line that begins with `++`. Names and values are slices of the source. Nothing is returned of a
+/// next line that begins with `++`. Comments are passed over, and so is the list of an operand COMMENT, in
+/// which only parentheses count. Names and values are slices of the source. Nothing is returned of a
 /// source in which any statement has a fault: the first one that has one decides, and in it the first
 /// place at which the text can't go on, or else its subject (SMP/E Reference, "MCS coding rules").
 pub fn read(alloc: Global, source: &[u8]) -> Result<Vec<Statement<'_>>, McsFault>
@@ -30,6 +33,11 @@ pub fn read(alloc: Global, source: &[u8]) -> Result<Vec<Statement<'_>>, McsFault
     ensures refused { (first : McsFault) → IsFirstFault source.now first
         → IsErrAnd result (λ fault. fault ≢ Memory → fault ≡ first) }
     ensures one_outcome { HasOneOutcome source.now }
+
+    // Each source has an outcome, and it is what is returned.
+    ensures outcome { IsRead source.now (reading_of source.now) }
+    ensures ok { IfOk result (λ statements. reading_of source.now ≡ Ok statements.items) }
+    ensures err { IfErr result (λ fault. fault ≢ Memory → reading_of source.now ≡ Err fault) }
 {
     collect(alloc, Statements::new(alloc, source)?)
 }

@@ -11,6 +11,18 @@ use std::slice;
 pub enum Verb {
     /// `++HOLD` puts a SYSMOD in exception status.
     Hold,
+    /// `++RELEASE` takes a hold away.
+    Release,
+    /// `++FUNCTION` begins a function.
+    Func,
+    /// `++PTF` begins a program temporary fix.
+    Ptf,
+    /// `++APAR` begins a corrective fix.
+    Apar,
+    /// `++USERMOD` begins a modification of the user's own.
+    Usermod,
+    /// `++VER` says of the SYSMOD before it where it applies and what it needs.
+    Ver,
 }
 
 impl Verb {
@@ -23,6 +35,18 @@ impl Verb {
     {
         if name.eq_ignore_ascii_case(b"HOLD") {
             Some(Verb::Hold)
+        } else if name.eq_ignore_ascii_case(b"RELEASE") {
+            Some(Verb::Release)
+        } else if name.eq_ignore_ascii_case(b"FUNCTION") {
+            Some(Verb::Func)
+        } else if name.eq_ignore_ascii_case(b"PTF") {
+            Some(Verb::Ptf)
+        } else if name.eq_ignore_ascii_case(b"APAR") {
+            Some(Verb::Apar)
+        } else if name.eq_ignore_ascii_case(b"USERMOD") {
+            Some(Verb::Usermod)
+        } else if name.eq_ignore_ascii_case(b"VER") {
+            Some(Verb::Ver)
         } else {
             None
         }
@@ -141,7 +165,7 @@ impl<'a> Operands<'a> {
 pub struct Statement<'a> {
     /// What the statement does.
     pub verb: Verb,
-    /// The one value of the list behind the verb.
+    /// The one value of the list behind the verb; none for `++VER`, whose list isn't used.
     pub subject: Option<Id>,
     /// What stands behind the verb's list, up to the period.
     pub operands: Operands<'a>,

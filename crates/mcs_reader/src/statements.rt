@@ -1,9 +1,11 @@
 //! A source, statement by statement.
-ghost use Rattle.std.specs.Prelude.{◌≡◌, ◌≢◌, ◌+◌, ◌^◌, ◌<◌, true, false, [], Ok, Err, IfOk, IfErr, OnOk, IsOk, MatchOption, length};
+ghost use Rattle.std.specs.Prelude.{◌≡◌, ◌≢◌, ◌+◌, ◌^◌, ◌<◌, false, [], Ok, Err, IfOk, IfErr, OnOk, OnErr, IsOk, MatchOption, length};
 ghost use Rattle.mcs_reader.specs.Line.{line_ends};
+ghost use Rattle.mcs_reader.specs.Pieces.{a_name};
 ghost use Rattle.mcs_reader.specs.Place.{IsBehind};
 ghost use Rattle.mcs_reader.specs.ReadLines.{GivesNext, read_behind};
 ghost use Rattle.mcs_reader.specs.Reading.{HasOneOutcome, IsFirstFault};
+ghost use Rattle.mcs_reader.specs.ReadingOf.{reading_of};
 ghost use Rattle.mcs_reader.specs.Scan.{scan, stated};
 ghost use Rattle.mcs_reader.specs.Unread.{GivesStatement, IsRead};
 ghost use Rattle.mcs_reader.specs.declared.fault.McsFault.TheVariants.{Memory};
@@ -49,6 +51,9 @@ impl<'a> Statements<'a> {
         ensures reading { IfOk result (λ statements. IsRead source.now statements.reading) }
         ensures fault { IfErr result (λ fault. IsFirstFault source.now fault) }
         ensures one_outcome { HasOneOutcome source.now }
+        ensures outcome { IsRead source.now (reading_of source.now) }
+        ensures ok { IfOk result (λ statements. statements.reading ≡ reading_of source.now) }
+        ensures err { IfErr result (λ fault. reading_of source.now ≡ Err fault) }
     {
         if source.len() > MOST_BYTES {
             return Err(McsFault::TooLong);
@@ -59,15 +64,22 @@ impl<'a> Statements<'a> {
         })
     }
 
-    /// The next statement, or `None` at the end of the source. Where it is refused, what is left means
-    /// nothing any more.
+    /// The next statement, or `None` at the end of the source. At the end, and where the statement is
+    /// refused, what is left stays as it was: so the next call answers the same.
     pub fn next(&mut self) -> Result<Option<Statement<'a>>, McsFault>
         ensures next { IfOk result (λ next. MatchOption next
             (self.old.reading ≡ Ok [])
             (λ statement. GivesStatement self.old statement self.new)) }
         ensures fault { IfErr result (λ fault. fault ≢ Memory → self.old.reading ≡ Err fault) }
+        ensures end { IfOk result (λ next. MatchOption next (self.new ≡ self.old) (λ _. Unit)) }
+        ensures err { OnErr result (self.new ≡ self.old) }
     {
-        next_statement(&mut self.cursor, &mut self.room)
+        let mut cursor = self.cursor.copy();
+        let next = next_statement(&mut cursor, &mut self.room)?;
+        if next.is_some() {
+            self.cursor = cursor;
+        }
+        Ok(next)
     }
 
     /// Reads what is left, keeps none of it, and says whether any of it is refused.
@@ -112,20 +124,18 @@ fn statement<'a>(
     requires depth_room { length cursor.old.text < 2 ^ 63 }
     requires line_room { cursor.old.line + line_ends cursor.old.text < 2 ^ 32 }
 
-    ensures ok { IfOk result (λ statement. stated verb cursor.old.line (scan cursor.old.line 0 true false cursor.old.text)
+    ensures ok { IfOk result (λ statement. stated verb cursor.old.line (scan cursor.old.line 0 a_name false cursor.old.text)
         ≡ Ok (statement, cursor.new.text)) }
     ensures err { IfErr result (λ fault. fault ≢ Memory
-        → stated verb cursor.old.line (scan cursor.old.line 0 true false cursor.old.text) ≡ Err fault) }
+        → stated verb cursor.old.line (scan cursor.old.line 0 a_name false cursor.old.text) ≡ Err fault) }
     ensures behind { IsBehind cursor.new cursor.old }
 {
     let line = cursor.line();
-    let subject = match verb {
-        Verb::Hold => subject(cursor, line)?,
-    };
+    let subject = subject(cursor, verb, line)?;
     let operands = operands(cursor, room, line)?;
-    if subject.is_none() {
+    let Some(subject) = subject else {
         return Err(McsFault::BadVerbSubject(line));
-    }
+    };
     Ok(Statement {
         verb,
         subject,

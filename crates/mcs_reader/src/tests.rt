@@ -64,10 +64,10 @@ fn statements_are_read(rt: HostRuntime) -> Result<(), Fail> {
         numbered,
         &["1 UA10001 ERROR FMID=HBB7790 REASON=AA20002 CLASS=PE DATE=12045"],
     )?;
-    // Verbs are compared without regard to case, and so far HOLD alone is read.
+    // Verbs are compared without regard to case, and a statement with another one is skipped.
     assert_reads(
         &rt,
-        b"between\r\n++PTF(UA1)\r\n( ;\r\n++ hold\t(A)\r\n,USER . ( ) ++\r\n++HOLD(B).\r\n",
+        b"between\r\n++JCLIN(UA1)\r\n( ;\r\n++ hold\t(A)\r\n,USER . ( ) ++\r\n++HOLD(B).\r\n",
         &["4 A USER", "6 B"],
     )?;
     // A list in a list, a list over lines, and ++ in a list.
@@ -76,13 +76,55 @@ fn statements_are_read(rt: HostRuntime) -> Result<(), Fail> {
         b"++HOLD(A) X((B,C D)E) Y (\n++HOLD(\n)) Z.",
         &["1 A X=B=C=D=E Y=++HOLD Z"],
     )?;
-    // So far a comment is no comment: in a list it belongs to a value.
-    assert_reads(&rt, b"++HOLD(A) X(/*B*/).", &["1 A X=/*B*/"])
+    // A list of COMMENT is passed over by its parentheses, and nothing of it is a value.
+    assert_reads(
+        &rt,
+        b"++HOLD(A) comment /*)*/ ((a) /* b,\n++HOLD(C).) COMMENTS(D).",
+        &["1 A comment COMMENTS=D"],
+    )
+}
+
+#[test]
+fn comments_are_passed_over(rt: HostRuntime) -> Result<(), Fail> {
+    let table: [(&[u8], &str); 6] = [
+        (b"++HOLD(A) X(/*B*/).", "1 A X"),
+        (b"++HOLD(A)/**/ERROR/*/*/USER.", "1 A ERROR USER"),
+        (b"++HOLD(A) X(B/*,*/C D/E*F G/).", "1 A X=B=C=D/E*F=G/"),
+        (b"++HOLD/* (\n++HOLD(B).\n .*/(A) X/* ) */(C).", "1 A X=C"),
+        (b"++HOLD(/* A */B/***/) /* * / . */.", "1 B"),
+        (b"++HOLD(A) . /*\nbetween", "1 A"),
+    ];
+    for (source, text) in table {
+        assert_reads(&rt, source, &[text])?;
+    }
+    Ok(())
+}
+
+#[test]
+fn each_verb_is_read(rt: HostRuntime) -> Result<(), Fail> {
+    let source: &[u8] =
+        b"++FUNCTION(A).\n++Ptf(A).\n++APAR(A).\n++usermod(A).\n++VER(Z038 Z\xFF).\n++HOLD(A).\n++RELEASE(A) ERROR.";
+    let verbs = [
+        Verb::Func,
+        Verb::Ptf,
+        Verb::Apar,
+        Verb::Usermod,
+        Verb::Ver,
+        Verb::Hold,
+        Verb::Release,
+    ];
+    let statements = read(rt.alloc(), source)?;
+    assert_eq!(rt; statements.len(), verbs.len());
+    for (statement, verb) in statements.iter().zip(verbs) {
+        assert_eq!(rt; statement.verb, verb);
+        assert_eq!(rt; statement.subject.is_none(), verb == Verb::Ver);
+    }
+    Ok(())
 }
 
 #[test]
 fn the_first_fault_is_told(rt: HostRuntime) -> Result<(), Fail> {
-    let table: [(&[u8], McsFault); 16] = [
+    let table: [(&[u8], McsFault); 25] = [
         (
             b"++HOLD(UA10001) ERROR REASON(AA20002)",
             McsFault::NoPeriod(1),
@@ -105,7 +147,21 @@ fn the_first_fault_is_told(rt: HostRuntime) -> Result<(), Fail> {
             McsFault::BadByte(1),
         ),
         (b"++HOLD(A)(B).", McsFault::BadByte(1)),
-        (b"++HOLD(A) /* ERROR", McsFault::BadByte(1)),
+        (b"++HOLD(A) / ERROR .", McsFault::BadByte(1)),
+        // A comment that doesn't end, outside a list and in one, and `/*/`, which ends none.
+        (b"++HOLD(A) /* ERROR", McsFault::Unbalanced(1)),
+        (b"++HOLD(A) X(B /* ) .", McsFault::Unbalanced(1)),
+        (b"\n++HOLD(A)\n/*/ .", McsFault::Unbalanced(2)),
+        (b"++HOLD(A) /* * / .", McsFault::Unbalanced(1)),
+        // In a list of COMMENT parentheses alone count.
+        (b"++HOLD(A) COMMENT(/*)", McsFault::NoPeriod(1)),
+        (
+            b"++HOLD(A) COMMENT( ( .\n++HOLD(B).",
+            McsFault::Unbalanced(1),
+        ),
+        (b"++VER.", McsFault::BadVerbSubject(1)),
+        (b"++PTF(UA10001)", McsFault::NoPeriod(1)),
+        (b"++RELEASE(A B) ERROR.", McsFault::BadVerbSubject(1)),
         (b"++HOLD(A) ++HOLD(B).", McsFault::BadByte(1)),
         // The subject's fault comes after the others, and the first statement's before the second's.
         (b"++HOLD() X ;.\n++HOLD(A)", McsFault::BadByte(1)),

@@ -1,8 +1,9 @@
-use Rattle.std.proofs.Common.{◌+◌, ◌-◌, [], ◌∷◌, false, Some, length, sym, ◌∙◌, ap, arith}
-use Rattle.mcs_reader.specs.Pieces.{is_value_byte}
-use Rattle.mcs_reader.specs.Place.{behind_run}
+use Rattle.std.proofs.lemmas.Result.{err_from_is_err_and}
+use Rattle.std.proofs.Common.{◌+◌, ◌-◌, [], ◌∷◌, false, Some, Err, length, sym, ◌∙◌, ap, arith}
+use Rattle.mcs_reader.specs.Pieces.{no_name}
+use Rattle.mcs_reader.specs.Run.{behind_value}
 use Rattle.mcs_reader.specs.Scan.{on_found, scan, with_list, with_values}
-use Rattle.mcs_reader.proofs.ScanPlaces.{inside_end, inside_last, inside_gap, inside_open, inside_close_last, inside_close, inside_value, shorter_at, IsBehind-trans, else_value}
+use Rattle.mcs_reader.proofs.ScanPlaces.{inside_end, inside_last, inside_gap, inside_comment, inside_open_comment, inside_open, inside_close_last, inside_close, inside_value, shorter_at, IsBehind-trans, else_value}
 use Rattle.mcs_reader.proofs.list.next_value.Goals as goal
 
 pub bytes-preserved-then-next_line : goal.bytes-preserved-then-next_line
@@ -13,7 +14,7 @@ bytes-preserved-then-next_line c =
       found =
           loop.invariant.found
           ∙ inside_end c.args.line loop.depth loop.cursor.text loop.invariant.still_open c.in_default.ensures
-          ∙ ap (scan c.args.line loop.depth false false) (sym moved.text);
+          ∙ ap (scan c.args.line loop.depth no_name false) (sym moved.text);
       still_open = loop.invariant.still_open;
       no_deeper = omega (arith, loop.invariant.no_deeper, c.next_line.ensures.behind.text);
       behind = IsBehind-trans c.next_line.new.self loop.cursor c.args.cursor.now c.next_line.ensures.behind loop.invariant.behind;
@@ -31,7 +32,7 @@ bytes-preserved-in-Gap c =
       found =
           loop.invariant.found
           ∙ inside_gap c.args.line loop.depth loop.cursor.text loop.invariant.still_open (ap (λ k. Some k) (sym c.in-Gap.is) ∙ c.in-Some.ensures)
-          ∙ ap (scan c.args.line loop.depth false false) (sym c.advance.ensures.text);
+          ∙ ap (scan c.args.line loop.depth no_name false) (sym c.advance.ensures.text);
       still_open = loop.invariant.still_open;
       no_deeper = omega (arith, loop.invariant.no_deeper, c.advance.ensures.behind.text);
       behind = IsBehind-trans c.advance.new.self loop.cursor c.args.cursor.now c.advance.ensures.behind loop.invariant.behind;
@@ -47,7 +48,7 @@ bytes-preserved-in-Open c =
       found =
           loop.invariant.found
           ∙ inside_open c.args.line loop.depth loop.cursor.text loop.invariant.still_open (ap (λ k. Some k) (sym c.in-Open.is) ∙ c.in-Some.ensures)
-          ∙ ap (scan c.args.line (loop.depth + 1) false false) (sym now.ensures.text);
+          ∙ ap (scan c.args.line (loop.depth + 1) no_name false) (sym now.ensures.text);
       still_open = omega arith;
       no_deeper = omega (arith, loop.invariant.no_deeper, less, size);
       behind = IsBehind-trans now.new.self loop.cursor c.args.cursor.now now.ensures.behind loop.invariant.behind;
@@ -57,7 +58,7 @@ pub returns-then-depth-eq0-clause-ok : goal.returns-then-depth-eq0-clause-ok
 returns-then-depth-eq0-clause-ok c =
     c.bytes.invariant.found
     ∙ inside_close_last c.args.line c.bytes.depth c.bytes.cursor.text c.bytes.invariant.still_open (ap (λ k. Some k) (sym c.in-Close.is) ∙ c.in-Some.ensures) c.if-depth-eq0.true
-    ∙ ap (λ t. on_found (with_list []) (scan c.args.line 0 false false t)) (sym c.advance-in-Close.ensures.text)
+    ∙ ap (λ t. on_found (with_list []) (scan c.args.line 0 no_name false t)) (sym c.advance-in-Close.ensures.text)
 
 pub bytes-preserved : goal.bytes-preserved
 bytes-preserved c =
@@ -67,7 +68,7 @@ bytes-preserved c =
       found =
           loop.invariant.found
           ∙ inside_close c.args.line loop.depth loop.cursor.text loop.invariant.still_open (ap (λ k. Some k) (sym c.in-Close.is) ∙ c.in-Some.ensures) c.if-depth-eq0.false
-          ∙ ap (scan c.args.line (loop.depth - 1) false false) (sym now.ensures.text);
+          ∙ ap (scan c.args.line (loop.depth - 1) no_name false) (sym now.ensures.text);
       still_open = omega (arith, c.if-depth-eq0.false);
       no_deeper = omega (arith, loop.invariant.no_deeper, now.ensures.behind.text);
       behind = IsBehind-trans now.new.self loop.cursor c.args.cursor.now now.ensures.behind loop.invariant.behind;
@@ -79,15 +80,39 @@ returns-in_default-class-clause-ok c =
     let here = c.in_default-class in
     let value =
     inside_value c.args.line loop.depth loop.cursor.text c.in-Some.class loop.invariant.still_open c.in-Some.ensures
-    (else_value c.in-Some.class here.not-Gap here.not-Open here.not-Close) in
+    (else_value c.in-Some.class here.not-Gap here.not-Comment here.not-Open here.not-Close) in
     let size = ap length c.value.ensures.text in
     record {
       found =
           loop.invariant.found
           ∙ value.0
-          ∙ ap (λ w. on_found (with_values (w ∷ [])) (scan c.args.line loop.depth false false (behind_run is_value_byte loop.cursor.text))) (sym c.value.ensures.value)
-          ∙ ap (λ t. on_found (with_values (c.value.result.now ∷ [])) (scan c.args.line loop.depth false false t)) (sym c.value.ensures.text);
+          ∙ ap (λ w. on_found (with_values (w ∷ [])) (scan c.args.line loop.depth no_name false (behind_value loop.cursor.text))) (sym c.value.ensures.value)
+          ∙ ap (λ t. on_found (with_values (c.value.result.now ∷ [])) (scan c.args.line loop.depth no_name false t)) (sym c.value.ensures.text);
       still_open = loop.invariant.still_open;
       no_deeper = omega (arith, loop.invariant.no_deeper, c.value.ensures.behind.text);
       shorter = omega (arith, value.1, size, loop.invariant.behind.text);
     }
+
+pub bytes-preserved-in-Continue-1 : goal.bytes-preserved-in-Continue-1
+bytes-preserved-in-Continue-1 c =
+    let loop = c.bytes in
+    let passed = c.in_ok-pass_comment-in-Comment.ensures in
+    record {
+      found =
+          loop.invariant.found
+          ∙ inside_comment c.args.line loop.depth loop.cursor.text c.pass_comment.new.cursor.text loop.invariant.still_open
+          (sym (ap (λ k. Some k) (sym c.in-Comment.is) ∙ c.in-Some.ensures)) passed.ok;
+      still_open = loop.invariant.still_open;
+      no_deeper = omega (arith, loop.invariant.no_deeper, passed.behind.text);
+      behind = IsBehind-trans c.pass_comment.new.cursor loop.cursor c.args.cursor.now passed.behind loop.invariant.behind;
+    }
+
+pub returns-in_err-pass_comment-in-Comment-clause-err : goal.returns-in_err-pass_comment-in-Comment-clause-err
+returns-in_err-pass_comment-in-Comment-clause-err c =
+    let loop = c.bytes in
+    let p = err_from_is_err_and c.from_residual.result c.from_residual.ensures.1 in
+    let unclosed = c.in_err-pass_comment-in-Comment.ensures.err in
+    rw (p.1, p.2)
+    (loop.invariant.found
+    ∙ inside_open_comment c.args.line loop.depth loop.cursor.text loop.invariant.still_open (sym (ap (λ k. Some k) (sym c.in-Comment.is) ∙ c.in-Some.ensures)) unclosed.1
+    ∙ ap (λ f. Err f) (sym unclosed.0))

@@ -1,4 +1,5 @@
 use Rattle.std.proofs.Common.{[], ◌∷◌, ◌++◌, false, option_map, ◌∙◌, ap, arith}
+use Rattle.mcs_reader.specs.Pieces.{no_name}
 use Rattle.mcs_reader.specs.Scan.{on_found, scan, with_values}
 use Rattle.mcs_reader.proofs.Alone.{not_nil, on_found-list, sole_first}
 use Rattle.mcs_reader.proofs.ScanPieces.{on_found-values}
@@ -17,7 +18,7 @@ others-preserved c =
         found =
             kept.found
             ∙ ap (on_found (with_values (c.in-Some.first.now ∷ others))) given.found
-            ∙ on_found-values (c.in-Some.first.now ∷ others) (value ∷ []) (scan c.args.line now.depth false false now.cursor.text);
+            ∙ on_found-values (c.in-Some.first.now ∷ others) (value ∷ []) (scan c.args.line now.depth no_name false now.cursor.text);
         alone_is = not_nil others value;
         still_open = given.still_open;
         no_deeper = omega (arith, kept.no_deeper, given.no_deeper);
@@ -36,6 +37,6 @@ returns-clause-ok c =
       found =
           kept.found
           ∙ ap (on_found (with_values (first.now ∷ others))) closed
-          ∙ on_found-list (first.now ∷ others) (scan c.args.line 0 false false c.next_value-in-others.new.cursor.text);
+          ∙ on_found-list (first.now ∷ others) (scan c.args.line 0 no_name false c.next_value-in-others.new.cursor.text);
       value_is = ap (option_map (λ v. v.now)) c.then_some.ensures ∙ sole_first c.others.alone first others kept.alone_is;
     }

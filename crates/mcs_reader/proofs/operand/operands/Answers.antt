@@ -1,4 +1,5 @@
-use Rattle.std.proofs.Common.{false, Ok, Some, None, drop, sym, ◌∙◌, ap}
+use Rattle.std.proofs.Common.{Ok, Some, None, drop, sym, ◌∙◌, ap}
+use Rattle.mcs_reader.specs.Pieces.{no_name}
 use Rattle.mcs_reader.specs.Scan.{on_found, with_operands}
 use Rattle.mcs_reader.proofs.Outside.{outside_period, outside_close, outside_else}
 use Rattle.std.proofs.Common.{append-nil}
@@ -10,8 +11,8 @@ returns-in-Period-clause-ok c =
     let seen = operand_texts c.names.room.operands.items in
     c.names.invariant.found
     ∙ ap (on_found (with_operands seen))
-    (c.in_ok-skip_gap.ensures.ok false
-    ∙ outside_period c.args.line false c.skip_gap.new.cursor.text (c.in_ok-skip_gap.ensures.class ∙ ap (λ k. Some k) c.in-Period.is))
+    (c.in_ok-skip_gap.ensures.ok no_name
+    ∙ outside_period c.args.line no_name c.skip_gap.new.cursor.text (c.in_ok-skip_gap.ensures.class ∙ ap (λ k. Some k) c.in-Period.is))
     ∙ ap (λ all. Ok (record { values = None; operands = all; rest = drop 1 c.skip_gap.new.cursor.text })) (append-nil seen ∙ ap operand_texts (sym c.in_ok-taken-in-Period.ensures) ∙ sym c.from_vec.ensures)
     ∙ ap (λ rest. Ok (record { values = None; operands = c.from_vec.result; rest = rest })) (sym c.advance.ensures.text)
 
@@ -19,13 +20,13 @@ pub returns-in-Close-clause-err : goal.returns-in-Close-clause-err
 returns-in-Close-clause-err c = λ other.
     c.names.invariant.found
     ∙ ap (on_found (with_operands (operand_texts c.names.room.operands.items)))
-    (c.in_ok-skip_gap.ensures.ok false
-    ∙ outside_close c.args.line false c.skip_gap.new.cursor.text (c.in_ok-skip_gap.ensures.class ∙ ap (λ k. Some k) c.in-Close.is))
+    (c.in_ok-skip_gap.ensures.ok no_name
+    ∙ outside_close c.args.line no_name c.skip_gap.new.cursor.text (c.in_ok-skip_gap.ensures.class ∙ ap (λ k. Some k) c.in-Close.is))
 
 pub returns-in_default-clause-err : goal.returns-in_default-clause-err
 returns-in_default-clause-err c = λ other.
     c.names.invariant.found
     ∙ ap (on_found (with_operands (operand_texts c.names.room.operands.items)))
-    (c.in_ok-skip_gap.ensures.ok false
-    ∙ outside_else c.args.line c.skip_gap.new.cursor.text c.in_ok-skip_gap.field-0 c.in_ok-skip_gap.ensures.class c.in_ok-skip_gap.ensures.no_gap
+    (c.in_ok-skip_gap.ensures.ok no_name
+    ∙ outside_else c.args.line c.skip_gap.new.cursor.text c.in_ok-skip_gap.field-0 c.in_ok-skip_gap.ensures.class c.in_ok-skip_gap.ensures.no_gap c.in_ok-skip_gap.ensures.no_comment
     c.in_default.not-Name c.in_default.not-Close c.in_default.not-Period)

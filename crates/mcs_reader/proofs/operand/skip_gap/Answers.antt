@@ -1,19 +1,20 @@
-use Rattle.std.proofs.Common.{ℕ, ◌<◌, List, false, Some, length, sym, ◌∙◌, ap, subst}
+use Rattle.std.proofs.lemmas.Result.{err_from_is_err_and}
+use Rattle.std.proofs.Common.{ℕ, ◌<◌, List, false, Some, Err, length, sym, ◌∙◌, ap, subst}
 use Rattle.mcs_reader.specs.Scan.{scan}
 use Rattle.mcs_reader.specs.Line.{begins_statement}
-use Rattle.mcs_reader.proofs.ScanPlaces.{IsBehind-trans, outside_gap, outside_line, outside_statement, outside_last}
+use Rattle.mcs_reader.proofs.ScanPlaces.{IsBehind-trans, outside_gap, outside_comment, outside_open_comment, outside_line, outside_statement, outside_last}
 use Rattle.mcs_reader.proofs.operand.skip_gap.Goals as goal
 use Rattle.mcs_reader.proofs.operand.skip_gap.Goals.{then-not-next_line-via-then-not-next_line, then-not-next_line-via-else-not-next_line+then-begins_statement}
 
 pub returns-then-not-next_line-clause-err : goal.returns-then-not-next_line-clause-err
-returns-then-not-next_line-clause-err c = λ named.
-    c.gap.invariant.found named
+returns-then-not-next_line-clause-err c = λ before.
+    c.gap.invariant.found before
     ∙ elim c.then-not-next_line.branch [
-      | then-not-next_line-via-then-not-next_line w ↦ outside_last c.args.line named c.gap.cursor.text c.in_default.ensures w.if-not-next_line.ensures.end
+      | then-not-next_line-via-then-not-next_line w ↦ outside_last c.args.line before c.gap.cursor.text c.in_default.ensures w.if-not-next_line.ensures.end
       | then-not-next_line-via-else-not-next_line+then-begins_statement w ↦
           let moved = w.if-not-next_line.ensures in
           let P : List ℕ → Type 0 = λ t. 0 < length t in
-          outside_statement c.args.line named c.gap.cursor.text c.in_default.ensures (subst P moved.text moved.more)
+          outside_statement c.args.line before c.gap.cursor.text c.in_default.ensures (subst P moved.text moved.more)
           (ap begins_statement (sym moved.text) ∙ sym w.if-begins_statement.ensures)
     ]
 
@@ -23,21 +24,42 @@ gap-preserved-in_default c =
     let moved = c.if-not-next_line.ensures in
     let P : List ℕ → Type 0 = λ t. 0 < length t in
     record {
-      found = λ named.
-          loop.invariant.found named
-          ∙ outside_line c.args.line named loop.cursor.text c.in_default.ensures (subst P moved.text moved.more)
+      found = λ before.
+          loop.invariant.found before
+          ∙ outside_line c.args.line before loop.cursor.text c.in_default.ensures (subst P moved.text moved.more)
           (ap begins_statement (sym moved.text) ∙ sym c.if-begins_statement.ensures)
-          ∙ ap (scan c.args.line 0 named false) (sym moved.text);
+          ∙ ap (scan c.args.line 0 before false) (sym moved.text);
       behind = IsBehind-trans c.next_line.new.self loop.cursor c.args.cursor.now moved.behind loop.invariant.behind;
+    }
+
+pub gap-preserved-in-Gap : goal.gap-preserved-in-Gap
+gap-preserved-in-Gap c =
+    let loop = c.gap in
+    record {
+      found = λ before.
+          loop.invariant.found before
+          ∙ outside_gap c.args.line before loop.cursor.text (ap (λ k. Some k) (sym c.in-Gap.is) ∙ c.in-Some.ensures)
+          ∙ ap (scan c.args.line 0 before false) (sym c.advance.ensures.text);
+      behind = IsBehind-trans c.advance.new.self loop.cursor c.args.cursor.now c.advance.ensures.behind loop.invariant.behind;
     }
 
 pub gap-preserved : goal.gap-preserved
 gap-preserved c =
     let loop = c.gap in
+    let passed = c.in_ok-pass_comment-in-Comment.ensures in
     record {
-      found = λ named.
-          loop.invariant.found named
-          ∙ outside_gap c.args.line named loop.cursor.text (ap (λ k. Some k) (sym c.in-Gap.is) ∙ c.in-Some.ensures)
-          ∙ ap (scan c.args.line 0 named false) (sym c.advance.ensures.text);
-      behind = IsBehind-trans c.advance.new.self loop.cursor c.args.cursor.now c.advance.ensures.behind loop.invariant.behind;
+      found = λ before.
+          loop.invariant.found before
+          ∙ outside_comment c.args.line before loop.cursor.text c.pass_comment.new.cursor.text (sym (ap (λ k. Some k) (sym c.in-Comment.is) ∙ c.in-Some.ensures)) passed.ok;
+      behind = IsBehind-trans c.pass_comment.new.cursor loop.cursor c.args.cursor.now passed.behind loop.invariant.behind;
     }
+
+pub returns-in_err-pass_comment-in-Comment-clause-err : goal.returns-in_err-pass_comment-in-Comment-clause-err
+returns-in_err-pass_comment-in-Comment-clause-err c =
+    let loop = c.gap in
+    let p = err_from_is_err_and c.from_residual.result c.from_residual.ensures.1 in
+    let unclosed = c.in_err-pass_comment-in-Comment.ensures.err in
+    rw (p.1, p.2) (λ before.
+    loop.invariant.found before
+    ∙ outside_open_comment c.args.line before loop.cursor.text (sym (ap (λ k. Some k) (sym c.in-Comment.is) ∙ c.in-Some.ensures)) unclosed.1
+    ∙ ap (λ f. Err f) (sym unclosed.0))

@@ -1,4 +1,5 @@
-use Rattle.std.proofs.Common.{◌≡◌, Bool, false, length}
+use Rattle.std.proofs.Common.{◌≡◌, false, length}
+use Rattle.mcs_reader.specs.Pieces.{Before}
 use Rattle.mcs_reader.specs.Place.{IsBehind}
 use Rattle.mcs_reader.specs.Scan.{scan}
 use Rattle.mcs_reader.proofs.operand.skip_gap.Given as goal
@@ -6,7 +7,7 @@ use Rattle.mcs_reader.proofs.operand.skip_gap.Given as goal
 -- gaps change nothing of what is found
 abbrev pub invariant-gap : goal.invariant-gap
 invariant-gap l = record {
-  found : (named : Bool) → scan l.fn.line 0 named false l.fn.cursor.text ≡ scan l.fn.line 0 named false l.cursor.text;
+  found : (before : Before) → scan l.fn.line 0 before false l.fn.cursor.text ≡ scan l.fn.line 0 before false l.cursor.text;
   behind : IsBehind l.cursor l.fn.cursor;
 }
 

@@ -1,5 +1,6 @@
-use Rattle.std.proofs.Common.{◌≡◌, ◌+◌, ◌<◌, length, true, false, Ok, Err, sym, ◌∙◌, ap, subst, arith}
+use Rattle.std.proofs.Common.{◌≡◌, ◌+◌, ◌<◌, length, false, Ok, Err, sym, ◌∙◌, ap, subst, arith}
 use Rattle.std.proofs.lemmas.Result.{err_from_is_err_and}
+use Rattle.mcs_reader.specs.Pieces.{a_name}
 use Rattle.mcs_reader.specs.Place.{Place, IsBehind, after_line}
 use Rattle.mcs_reader.specs.ReadLines.{read_behind}
 use Rattle.mcs_reader.specs.Scan.{Stated, scan, stated}
@@ -9,9 +10,9 @@ use Rattle.mcs_reader.proofs.SourceSteps.{Begins, no_line, passed_line, refused_
 use Rattle.mcs_reader.proofs.statements.next_statement.Goals as goal
 
 -- a verb moves nothing but the text
-same_line : (verb : Verb) (now moved : Place) (found : Stated) → moved.line ≡ now.line → stated verb moved.line (scan moved.line 0 true false moved.text) ≡ found
-    → stated verb now.line (scan now.line 0 true false moved.text) ≡ found
-same_line verb now moved found unmoved is = ap (λ l. stated verb l (scan l 0 true false moved.text)) (sym unmoved) ∙ is
+same_line : (verb : Verb) (now moved : Place) (found : Stated) → moved.line ≡ now.line → stated verb moved.line (scan moved.line 0 a_name false moved.text) ≡ found
+    → stated verb now.line (scan now.line 0 a_name false moved.text) ≡ found
+same_line verb now moved found unmoved is = ap (λ l. stated verb l (scan l 0 a_name false moved.text)) (sym unmoved) ∙ is
 
 begins : (now last : Place) → now.text ≡ after_line last.text → now.line ≡ last.line + 1 → 0 < length now.text → Begins now last
 begins now last text line more = record { text = text; line = line; more = more }

@@ -1,7 +1,8 @@
 use Rattle.std.proofs.Common.{List, ℕ, ◌∷◌, ◌++◌, refl, sym, ◌∙◌, ap, subst}
 use Rattle.mcs_reader.specs.Byte.{is_name_byte, line_end}
 use Rattle.mcs_reader.specs.Line.{text_of}
-use Rattle.mcs_reader.specs.Place.{Place, run, behind_run}
+use Rattle.mcs_reader.specs.Place.{Place}
+use Rattle.mcs_reader.specs.Run.{run, behind_run}
 use Rattle.mcs_reader.specs.Segment.{IsLine}
 use Rattle.mcs_reader.proofs.Runs.{run-append-behind_run}
 use Rattle.mcs_reader.proofs.PlaceFacts.{run-line, behind_run-line, IsBehind-card, IsLine-behind_run}

@@ -1,32 +1,34 @@
 use Rattle.std.proofs.Common.{List, ℕ, ◌∷◌, ◌++◌, sym, ◌∙◌, ap, subst}
 use Rattle.mcs_reader.specs.Byte.{line_end}
 use Rattle.mcs_reader.specs.Line.{text_of}
-use Rattle.mcs_reader.specs.Pieces.{is_value_byte}
-use Rattle.mcs_reader.specs.Place.{Place, run, behind_run}
+use Rattle.mcs_reader.specs.Place.{Place}
+use Rattle.mcs_reader.specs.Run.{value_run, behind_value}
 use Rattle.mcs_reader.specs.Segment.{IsLine}
-use Rattle.mcs_reader.proofs.Runs.{run-append-behind_run}
-use Rattle.mcs_reader.proofs.PlaceFacts.{run-line, behind_run-line, IsBehind-card, IsLine-behind_run, no_value_at_end}
+use Rattle.mcs_reader.proofs.Comments.{value_run-append-behind_value}
+use Rattle.mcs_reader.proofs.PassFacts.{value_run-line, behind_value-line}
+use Rattle.mcs_reader.proofs.PlaceFacts.{IsBehind-card, IsLine-rest}
 use Rattle.mcs_reader.proofs.cursor.Cursor.value.Goals as goal
 
 pub invariant_of-self : goal.invariant_of-self
 invariant_of-self c =
     let P : List ℕ → Type 0 = λ t. IsLine t in
-    subst P (sym c.split_value.ensures.rest) (IsLine-behind_run is_value_byte c.self.inside.card.now c.self.invariant)
+    let card = c.self.inside.card.now in
+    subst P (sym c.split_value.ensures.rest) (IsLine-rest (value_run card) (behind_value card) (subst P (sym (value_run-append-behind_value card)) c.self.invariant))
 
 pub returns-clause-value : goal.returns-clause-value
 returns-clause-value c =
     c.split_value.ensures.value
-    ∙ sym (run-line is_value_byte c.self.inside.card.now (text_of c.self.inside.behind.now) no_value_at_end)
-    ∙ ap (λ (place : Place). run is_value_byte place.text) c.self.view_is
+    ∙ sym (value_run-line c.self.inside.card.now (text_of c.self.inside.behind.now))
+    ∙ ap (λ (place : Place). value_run place.text) c.self.view_is
 
 pub returns-clause-text : goal.returns-clause-text
 returns-clause-text c =
     ap (λ rest. rest ++ line_end ∷ text_of c.self.inside.behind.now) c.split_value.ensures.rest
-    ∙ sym (behind_run-line is_value_byte c.self.inside.card.now (text_of c.self.inside.behind.now) no_value_at_end)
-    ∙ ap (λ (place : Place). behind_run is_value_byte place.text) c.self.view_is
+    ∙ sym (behind_value-line c.self.inside.card.now (text_of c.self.inside.behind.now))
+    ∙ ap (λ (place : Place). behind_value place.text) c.self.view_is
 
 pub returns-clause-behind : goal.returns-clause-behind
 returns-clause-behind c =
     let card = c.self.inside.card.now in
-    IsBehind-card c.self.inside.line card (run is_value_byte card) c.split_value.result.1.now (text_of c.self.inside.behind.now) c.args.self.now c.self.invariant
-    (sym (run-append-behind_run is_value_byte card) ∙ ap (λ t. run is_value_byte card ++ t) (sym c.split_value.ensures.rest)) c.self.view_is
+    IsBehind-card c.self.inside.line card (value_run card) c.split_value.result.1.now (text_of c.self.inside.behind.now) c.args.self.now c.self.invariant
+    (sym (value_run-append-behind_value card) ∙ ap (λ t. value_run card ++ t) (sym c.split_value.ensures.rest)) c.self.view_is

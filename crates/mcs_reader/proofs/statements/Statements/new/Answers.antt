@@ -1,18 +1,11 @@
-use Rattle.std.proofs.Common.{◌≡◌, ◌+◌, ◌≤◌, ◌∷◌, List, ℕ, length, inr, Ok, Err, sym, ◌∙◌, ap, arith}
+use Rattle.std.proofs.Common.{◌≡◌, ◌+◌, ◌∷◌, List, ℕ, length, sym, ◌∙◌, ap, arith}
 use Rattle.mcs_reader.specs.Byte.{line_end}
 use Rattle.mcs_reader.specs.Line.{line_ends, text_of}
 use Rattle.mcs_reader.specs.Place.{Place, after_line}
 use Rattle.mcs_reader.specs.ReadLines.{read_behind, read_lines, read_text}
-use Rattle.mcs_reader.specs.Reading.{most_bytes}
-use Rattle.mcs_reader.specs.Unread.{IsRead, Read}
-use Rattle.mcs_reader.proofs.Outcomes.{IsReading-from_read, IsStoppedSource-from_read, has_one_outcome}
+use Rattle.mcs_reader.proofs.Outcomes.{has_one_outcome, has_outcome, is_read_as, reading_of-fits, reading_of-too_long}
 use Rattle.mcs_reader.proofs.SourceSteps.{length-text_of, line_ends-le-length}
 use Rattle.mcs_reader.proofs.statements.Statements.new.Goals as goal
-
--- what the machine makes of a source is what it is read as
-is_read : (source : List ℕ) (reading : Read) → length source ≤ most_bytes → read_text (text_of source) ≡ reading → IsRead source reading
-is_read source (Ok statements) fits e = IsReading-from_read source statements fits e
-is_read source (Err fault) fits e = inr (IsStoppedSource-from_read source fault fits e)
 
 -- before the first line, the whole text is left
 before_first : (source : List ℕ) (place : Place) → place.text ≡ line_end ∷ text_of source → place.line ≡ 0 → read_text (text_of source) ≡ read_behind place
@@ -35,8 +28,24 @@ invariant_of-result c =
 
 pub returns-clause-reading : goal.returns-clause-reading
 returns-clause-reading c =
-    is_read c.args.source.now (read_behind c.new.result) c.if-source-gt-MOST_BYTES.false
+    is_read_as c.args.source.now (read_behind c.new.result) c.if-source-gt-MOST_BYTES.false
     (before_first c.args.source.now c.new.result c.new.ensures.text c.new.ensures.line)
 
 pub returns-clause-one_outcome : goal.returns-clause-one_outcome
 returns-clause-one_outcome c = has_one_outcome c.args.source.now
+
+pub returns-clause-outcome : goal.returns-clause-outcome
+returns-clause-outcome c = has_outcome c.args.source.now
+
+pub returns-clause-ok : goal.returns-clause-ok
+returns-clause-ok c =
+    sym (reading_of-fits c.args.source.now c.if-source-gt-MOST_BYTES.false ∙ before_first c.args.source.now c.new.result c.new.ensures.text c.new.ensures.line)
+
+pub returns-then-source-gt-MOST_BYTES-clause-one_outcome : goal.returns-then-source-gt-MOST_BYTES-clause-one_outcome
+returns-then-source-gt-MOST_BYTES-clause-one_outcome c = has_one_outcome c.args.source.now
+
+pub returns-then-source-gt-MOST_BYTES-clause-outcome : goal.returns-then-source-gt-MOST_BYTES-clause-outcome
+returns-then-source-gt-MOST_BYTES-clause-outcome c = has_outcome c.args.source.now
+
+pub returns-then-source-gt-MOST_BYTES-clause-err : goal.returns-then-source-gt-MOST_BYTES-clause-err
+returns-then-source-gt-MOST_BYTES-clause-err c = reading_of-too_long c.args.source.now c.if-source-gt-MOST_BYTES.true

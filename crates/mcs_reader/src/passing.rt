@@ -1,0 +1,52 @@
+//! What a statement passes over: comments, and the lists of operands COMMENT.
+ghost use Rattle.std.specs.Prelude.{◌≡◌, ◌+◌, ◌^◌, ◌<◌, Ok, Some, None, OnOk, IfErr, IsErr, length, drop};
+ghost use Rattle.mcs_reader.specs.Line.{line_ends};
+ghost use Rattle.mcs_reader.specs.Place.{IsBehind, class_at};
+ghost use Rattle.mcs_reader.specs.Scan.{behind_comment, behind_raw};
+ghost use Rattle.mcs_reader.specs.declared.byte.Class.TheVariants.{Comment};
+ghost use Rattle.mcs_reader.specs.declared.fault.McsFault.TheVariants.{Unbalanced};
+
+use crate::McsFault;
+use crate::cursor::Cursor;
+
+/// Goes behind the comment that begins here.
+pub(crate) fn pass_comment(cursor: &mut Cursor<'_>, line: u32) -> Result<(), McsFault>
+    requires begins { class_at cursor.old.text ≡ Some Comment }
+    requires line_room { cursor.old.line + line_ends cursor.old.text < 2 ^ 32 }
+
+    ensures ok { OnOk result (behind_comment (drop 2 cursor.old.text) ≡ Some cursor.new.text) }
+    ensures shorter { OnOk result (length cursor.new.text < length cursor.old.text) }
+    ensures err { IfErr result (λ fault. (fault ≡ Unbalanced line) × (behind_comment (drop 2 cursor.old.text) ≡ None)) }
+    ensures behind { IsBehind cursor.new cursor.old }
+{
+    cursor.advance();
+    cursor.advance(); // The star too: `/*/` ends no comment.
+    'lines: loop {
+        if cursor.end_comment() {
+            return Ok(());
+        }
+        if !cursor.next_line() {
+            return Err(McsFault::Unbalanced(line));
+        }
+    }
+}
+
+/// Goes behind the list of COMMENT whose opening parenthesis was passed. Only its parentheses count.
+pub(crate) fn pass_raw_list(cursor: &mut Cursor<'_>, line: u32) -> Result<(), McsFault>
+    requires depth_room { length cursor.old.text < 2 ^ 63 }
+    requires line_room { cursor.old.line + line_ends cursor.old.text < 2 ^ 32 }
+
+    ensures ok { OnOk result (behind_raw 0 cursor.old.text ≡ Ok cursor.new.text) }
+    ensures err { IfErr result (λ fault. (fault ≡ Unbalanced line) × IsErr (behind_raw 0 cursor.old.text)) }
+    ensures behind { IsBehind cursor.new cursor.old }
+{
+    let mut depth = 0;
+    'lines: loop {
+        if cursor.end_raw_list(&mut depth) {
+            return Ok(());
+        }
+        if !cursor.next_line() {
+            return Err(McsFault::Unbalanced(line));
+        }
+    }
+}
