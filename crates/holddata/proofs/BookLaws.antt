@@ -1,91 +1,31 @@
 -- The book that changes leave is determined, and `book_of` computes it.
 use Rattle.std.proofs.Common.{◌≡◌, Bool, true, false, ◌||◌, cond, List, [], ◌∷◌, ◌++◌, refl, sym, ◌∙◌, ap, subst}
 use Rattle.std.specs.Option.{option_or}
-use Rattle.std.specs.Prelude.{find, reverse, Option, Some, None, option_and_then, if◌then◌else◌}
+use Rattle.std.specs.Prelude.{find, reverse, Option, Some, None, option_and_then}
 use Rattle.std.specs.declared.cmp.Ordering.{Ordering}
 use Rattle.std.specs.declared.cmp.Ordering.TheVariants.{Less, Equal, Greater}
-use Rattle.std.specs.Ordering.{match_ordering, ordering_reverse, is_eq}
-use Rattle.std.specs.Cmp.{eq_by_cmp_equiv}
+use Rattle.std.specs.Ordering.{is_eq}
 use Rattle.std.specs.List.{list_any, filter_map, cons_option, AllByRecursion}
 use Rattle.std.specs.List.Sorted.{IsStrictlySortedBy}
-use Rattle.std.specs.BTreeMap.{is_at}
-use Rattle.std.specs.BTreeSet.{insert_key}
-use Rattle.std.proofs.lemmas.Cmp.{tied_itself}
 use Rattle.std.proofs.lemmas.List.{reverse-append}
 use Rattle.std.proofs.lemmas.List.Folds.{find-append}
 use Rattle.holddata.specs.declared.key.HoldKey.{HoldKey}
 use Rattle.holddata.specs.declared.hold.Hold.{Hold}
 use Rattle.holddata.specs.declared.hold.HoldChange.{HoldChange}
 use Rattle.holddata.specs.declared.hold.HoldChange.TheVariants.{Put, Release}
-use Rattle.holddata.specs.HoldKey.{key_cmp}
+use Rattle.holddata.specs.HoldKey.{key_cmp, is_same_key}
 use Rattle.holddata.specs.HoldChange.{key_of, names, hold_put, hold_left}
-use Rattle.holddata.specs.HoldBook.{keys_in, hold_under, keys_named, book_of, IsLeft, IsInKeyOrder}
-use Rattle.holddata.proofs.KeyOrder.{exact_keys, keys_total}
-use Rattle.holddata.proofs.BookLemmas.{left_more}
-
--- keys that are found to be equal are one
-same_key : (a b : HoldKey) → is_at (key_cmp a) b ≡ true → a ≡ b
-same_key a b h = by (key_cmp a b) refl h
-  where
-    by : (o : Ordering) → key_cmp a b ≡ o → is_eq o ≡ true → a ≡ b
-    by Less is h = cc
-    by Equal is h = exact_keys a b is
-    by Greater is h = cc
-
-itself : (a : HoldKey) → is_at (key_cmp a) a ≡ true
-itself a = ap is_eq (tied_itself keys_total a)
+use Rattle.holddata.specs.HoldBook.{keys_in, hold_under, keys_named, book_of, IsChanged, IsLeft, IsInKeyOrder}
+use Rattle.holddata.proofs.KeyOrder.{exact_keys, keys_total, same_is, same_key, itself, turned_same}
+use Rattle.holddata.proofs.InsertLemmas.{any_insert, all_below, sorted_insert, turned}
+use Rattle.holddata.proofs.BookLemmas.{left_more, under_each}
 
 -- ---- keys in order
-
-any_insert : (test : HoldKey → Bool) (ks : List HoldKey) (k : HoldKey) → list_any test (insert_key key_cmp ks k) ≡ (test k || list_any test ks)
-any_insert test [] k = refl
-any_insert test (x ∷ xs) k = by (any_insert test xs k) (key_cmp k x) refl
-  where
-    twice : (a b : Bool) → (a || b) ≡ (a || (a || b))
-    twice true b = refl
-    twice false b = refl
-
-    swap : (a b c : Bool) → (a || (b || c)) ≡ (b || (a || c))
-    swap true true c = refl
-    swap true false c = refl
-    swap false true c = refl
-    swap false false c = refl
-
-    by : list_any test (insert_key key_cmp xs k) ≡ (test k || list_any test xs) → (o : Ordering) → key_cmp k x ≡ o → list_any test (match_ordering o (k ∷ x ∷ xs) (x ∷ xs) (x ∷ insert_key key_cmp xs k)) ≡ (test k || (test x || list_any test xs))
-    by rest Less is = refl
-    by rest Equal is = twice (test x) (list_any test xs) ∙ ap (λ y. test y || (test x || list_any test xs)) (sym (exact_keys k x is))
-    by rest Greater is = ap (λ b. test x || b) rest ∙ swap (test x) (test k) (list_any test xs)
-
-all_insert : (P : HoldKey → Type 0) (ks : List HoldKey) (k : HoldKey) → AllByRecursion P ks → P k → AllByRecursion P (insert_key key_cmp ks k)
-all_insert P [] k h p = (p, tt)
-all_insert P (x ∷ xs) k h p = by (all_insert P xs k h.1 p) (key_cmp k x)
-  where
-    by : AllByRecursion P (insert_key key_cmp xs k) → (o : Ordering) → AllByRecursion P (match_ordering o (k ∷ x ∷ xs) (x ∷ xs) (x ∷ insert_key key_cmp xs k))
-    by rest Less = (p, h)
-    by rest Equal = h
-    by rest Greater = (h.0, rest)
-
-all_below : (k x : HoldKey) (xs : List HoldKey) → key_cmp k x ≡ Less → AllByRecursion (λ y. key_cmp x y ≡ Less) xs → AllByRecursion (λ y. key_cmp k y ≡ Less) xs
-all_below k x [] h g = tt
-all_below k x (y ∷ ys) h g = (keys_total.trans k x y h g.0, all_below k x ys h g.1)
-
-turned : (a b : HoldKey) → key_cmp a b ≡ Greater → key_cmp b a ≡ Less
-turned a b h = keys_total.antisymm b a ∙ ap ordering_reverse h
-
-sorted_insert : (ks : List HoldKey) (k : HoldKey) → IsStrictlySortedBy key_cmp ks → IsStrictlySortedBy key_cmp (insert_key key_cmp ks k)
-unfolding IsStrictlySortedBy
-sorted_insert [] k h = (tt, tt)
-sorted_insert (x ∷ xs) k h = by (sorted_insert xs k h.1) (key_cmp k x) refl
-  where
-    by : IsStrictlySortedBy key_cmp (insert_key key_cmp xs k) → (o : Ordering) → key_cmp k x ≡ o → IsStrictlySortedBy key_cmp (match_ordering o (k ∷ x ∷ xs) (x ∷ xs) (x ∷ insert_key key_cmp xs k))
-    by rest Less is = ((is, all_below k x xs is h.0), h)
-    by rest Equal is = h
-    by rest Greater is = (all_insert (λ y. key_cmp x y ≡ Less) xs k h.0 (turned k x is), rest)
 
 named_in_order : (changes : List HoldChange) → IsStrictlySortedBy key_cmp (keys_named changes)
 unfolding IsStrictlySortedBy
 named_in_order [] = tt
-named_in_order (change ∷ changes) = sorted_insert (keys_named changes) (key_of change) (named_in_order changes)
+named_in_order (change ∷ changes) = sorted_insert key_cmp keys_total (keys_named changes) (key_of change) (named_in_order changes)
 
 -- ---- the holds under keys in order
 
@@ -110,22 +50,22 @@ sorted_kept f own (k ∷ ks) h = by (sorted_kept f own ks h.1) (f k) refl
     by rest None is = rest
     by rest (Some hold) is = (subst (λ x. AllByRecursion (λ y. key_cmp x y ≡ Less) (keys_in (filter_map f ks))) (sym (own k hold is)) (all_kept (λ y. key_cmp k y ≡ Less) f own ks h.0), rest)
 
-under_kept : (f : HoldKey → Option Hold) → IsOwn f → (ks : List HoldKey) (key : HoldKey) → hold_under (filter_map f ks) key ≡ cond (list_any (is_at (key_cmp key)) ks) (f key) None
+under_kept : (f : HoldKey → Option Hold) → IsOwn f → (ks : List HoldKey) (key : HoldKey) → hold_under (filter_map f ks) key ≡ cond (list_any (is_same_key key) ks) (f key) None
 under_kept f own [] key = refl
-under_kept f own (k ∷ ks) key = by (under_kept f own ks key) (f k) refl (is_at (key_cmp key) k) refl
+under_kept f own (k ∷ ks) key = by (under_kept f own ks key) (f k) refl (is_same_key key k) refl
   where
-    by : hold_under (filter_map f ks) key ≡ cond (list_any (is_at (key_cmp key)) ks) (f key) None → (o : Option Hold) → f k ≡ o → (b : Bool) → is_at (key_cmp key) k ≡ b → hold_under (cons_option o (filter_map f ks)) key ≡ cond (b || list_any (is_at (key_cmp key)) ks) (f key) None
-    by rest None is true at = rest ∙ none (list_any (is_at (key_cmp key)) ks) (ap f (same_key key k at) ∙ is)
+    by : hold_under (filter_map f ks) key ≡ cond (list_any (is_same_key key) ks) (f key) None → (o : Option Hold) → f k ≡ o → (b : Bool) → is_same_key key k ≡ b → hold_under (cons_option o (filter_map f ks)) key ≡ cond (b || list_any (is_same_key key) ks) (f key) None
+    by rest None is true at = rest ∙ none (list_any (is_same_key key) ks) (ap f (same_key key k at) ∙ is)
       where
         none : (b : Bool) → f key ≡ None → cond b (f key) None ≡ f key
         none true h = refl
         none false h = sym h
     by rest None is false at = rest
     by rest (Some hold) is true at =
-        ap (λ b. cond b (Some hold) (hold_under (filter_map f ks) key)) (ap (λ x. is_at (key_cmp key) x) (own k hold is) ∙ at)
+        ap (λ b. cond b (Some hold) (hold_under (filter_map f ks) key)) (ap (λ x. is_same_key key x) (own k hold is) ∙ at)
         ∙ sym (ap f (same_key key k at) ∙ is)
     by rest (Some hold) is false at =
-        ap (λ b. cond b (Some hold) (hold_under (filter_map f ks) key)) (ap (λ x. is_at (key_cmp key) x) (own k hold is) ∙ at)
+        ap (λ b. cond b (Some hold) (hold_under (filter_map f ks) key)) (ap (λ x. is_same_key key x) (own k hold is) ∙ at)
         ∙ rest
 
 -- ---- what changes leave
@@ -145,11 +85,11 @@ found_own key hold (change ∷ changes) h = by (found_own key hold changes) (nam
 left_own : (changes : List HoldChange) → IsOwn (hold_left changes)
 left_own changes key hold h = found_own key hold (reverse changes) h
 
-any_named : (changes : List HoldChange) (key : HoldKey) → list_any (is_at (key_cmp key)) (keys_named changes) ≡ list_any (names key) changes
+any_named : (changes : List HoldChange) (key : HoldKey) → list_any (is_same_key key) (keys_named changes) ≡ list_any (names key) changes
 any_named [] key = refl
 any_named (change ∷ changes) key =
-    any_insert (is_at (key_cmp key)) (keys_named changes) (key_of change)
-    ∙ ap (λ b. b || list_any (is_at (key_cmp key)) (keys_named changes)) ((eq_by_cmp_equiv keys_total).symm key (key_of change))
+    any_insert key_cmp exact_keys (is_same_key key) (keys_named changes) (key_of change)
+    ∙ ap (λ b. b || list_any (is_same_key key) (keys_named changes)) (turned_same key (key_of change))
     ∙ ap (λ b. names key change || b) (any_named changes key)
 
 none_found : (test : HoldChange → Bool) (changes : List HoldChange) → list_any test changes ≡ false → find test (reverse changes) ≡ None
@@ -182,7 +122,7 @@ book_of_is_left changes =
 
 none_under : (key : HoldKey) (book : List Hold) → AllByRecursion (λ y. key_cmp key y ≡ Less) (keys_in book) → hold_under book key ≡ None
 none_under key [] h = refl
-none_under key (hold ∷ book) h = ap (λ o. cond (is_eq o) (Some hold) (hold_under book key)) h.0 ∙ none_under key book h.1
+none_under key (hold ∷ book) h = ap (λ b. cond b (Some hold) (hold_under book key)) (sym (same_is key hold.key) ∙ ap is_eq h.0) ∙ none_under key book h.1
 
 under_head : (hold : Hold) (book : List Hold) → hold_under (hold ∷ book) hold.key ≡ Some hold
 under_head hold book = ap (λ b. cond b (Some hold) (hold_under book hold.key)) (itself hold.key)
@@ -196,7 +136,7 @@ same_book (x ∷ a) (y ∷ b) s t h = by (key_cmp x.key y.key) refl (same_book a
   where
     below : (u v : Hold) (us vs : List Hold) → key_cmp u.key v.key ≡ Less → AllByRecursion (λ k. key_cmp v.key k ≡ Less) (keys_in vs) → hold_under (u ∷ us) u.key ≡ hold_under (v ∷ vs) u.key → ⊥
     below u v us vs less rest e =
-        let none : hold_under (v ∷ vs) u.key ≡ None = none_under u.key (v ∷ vs) (less, all_below u.key v.key (keys_in vs) less rest) in
+        let none : hold_under (v ∷ vs) u.key ≡ None = none_under u.key (v ∷ vs) (less, all_below keys_total u.key v.key (keys_in vs) less rest) in
         let some : hold_under (u ∷ us) u.key ≡ Some u = under_head u us in
         let f : Some u ≡ None = sym some ∙ e ∙ none in cc
 
@@ -204,21 +144,21 @@ same_book (x ∷ a) (y ∷ b) s t h = by (key_cmp x.key y.key) refl (same_book a
     heads e =
         let f : Some x ≡ Some y = sym (under_head x a) ∙ h x.key ∙ ap (hold_under (y ∷ b)) e ∙ under_head y b in cc
 
-    tails : x ≡ y → (key : HoldKey) (o : Bool) → is_at (key_cmp key) x.key ≡ o → hold_under a key ≡ hold_under b key
+    tails : x ≡ y → (key : HoldKey) (o : Bool) → is_same_key key x.key ≡ o → hold_under a key ≡ hold_under b key
     tails e key true at =
         let k : key ≡ x.key = same_key key x.key at in
         ap (hold_under a) k ∙ none_under x.key a s.0
         ∙ sym (ap (hold_under b) (k ∙ ap (λ (z : Hold). z.key) e) ∙ none_under y.key b t.0)
     tails e key false at =
         ap (λ o. cond o (Some x) (hold_under a key)) (sym at) ∙ h key
-        ∙ ap (λ o. cond o (Some y) (hold_under b key)) (ap (λ (z : Hold). is_at (key_cmp key) z.key) (sym e) ∙ at)
+        ∙ ap (λ o. cond o (Some y) (hold_under b key)) (ap (λ (z : Hold). is_same_key key z.key) (sym e) ∙ at)
 
     by : (o : Ordering) → key_cmp x.key y.key ≡ o → (((key : HoldKey) → hold_under a key ≡ hold_under b key) → a ≡ b) → x ∷ a ≡ y ∷ b
     by Less is rest = absurd (below x y a b is t.0 (h x.key))
-    by Greater is rest = absurd (below y x b a (turned x.key y.key is) s.0 (sym (h y.key)))
+    by Greater is rest = absurd (below y x b a (turned keys_total x.key y.key is) s.0 (sym (h y.key)))
     by Equal is rest =
         let e : x ≡ y = heads (exact_keys x.key y.key is) in
-        let f : a ≡ b = rest (λ key. tails e key (is_at (key_cmp key) x.key) refl) in cc
+        let f : a ≡ b = rest (λ key. tails e key (is_same_key key x.key) refl) in cc
 
 -- any book that the changes leave is the computed one
 pub book_of_only : (changes : List HoldChange) (book : List Hold) → IsLeft changes book → book ≡ book_of changes
@@ -227,6 +167,9 @@ book_of_only changes book left =
     same_book book (book_of changes) left.in_key_order computed.in_key_order (λ key. left.holds key ∙ sym (computed.holds key))
 
 -- one more change
-pub book_of_more : (old new : List Hold) (change : HoldChange) → IsInKeyOrder new → ((key : HoldKey) → hold_under new key ≡ (if names key change then hold_put change else hold_under old key)) → (changes : List HoldChange) → old ≡ book_of changes → new ≡ book_of (changes ++ change ∷ [])
-book_of_more old new change ordered holds changes was =
-    book_of_only (changes ++ change ∷ []) new (left_more old new change ordered holds changes (subst (IsLeft changes) (sym was) (book_of_is_left changes)))
+pub left_after : (old new : List Hold) (change : HoldChange) → IsChanged change old new → (changes : List HoldChange) → IsLeft changes old → IsLeft (changes ++ change ∷ []) new
+left_after old new change is changes left = left_more old new change is.in_key_order (under_each old new change is.named is.others) changes left
+
+pub book_of_more : (old new : List Hold) (change : HoldChange) → IsChanged change old new → (changes : List HoldChange) → old ≡ book_of changes → new ≡ book_of (changes ++ change ∷ [])
+book_of_more old new change is changes was =
+    book_of_only (changes ++ change ∷ []) new (left_after old new change is changes (subst (IsLeft changes) (sym was) (book_of_is_left changes)))

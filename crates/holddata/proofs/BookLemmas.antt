@@ -1,54 +1,103 @@
--- The entries of the book's map, each under the key of its hold.
-use Rattle.std.proofs.Common.{◌≡◌, Bool, true, false, List, [], ◌∷◌, ◌++◌, refl, sym, ◌∙◌, ap, subst, cond}
+-- The entries of the book's map, each at the place of its hold's key.
+use Rattle.std.proofs.Common.{◌≡◌, ◌≢◌, Bool, true, false, List, [], ◌∷◌, ◌++◌, refl, sym, ◌∙◌, ap, subst, cond}
 use Rattle.std.proofs.lemmas.List.{reverse-append}
-use Rattle.std.specs.Prelude.{find, reverse, Option, Some, option_and_then, if◌then◌else◌}
+use Rattle.std.specs.Prelude.{ℕ, find, reverse, Option, Some, option_and_then, if◌then◌else◌}
 use Rattle.std.specs.declared.cmp.Ordering.{Ordering}
 use Rattle.std.specs.declared.cmp.Ordering.TheVariants.{Less, Equal, Greater}
+use Rattle.std.specs.declared.ops.Bound.TheVariants.{Included, Excluded}
 use Rattle.std.specs.Ordering.{match_ordering}
+use Rattle.std.specs.Str.{bytes_eq}
+use Rattle.std.specs.List.{filter}
 use Rattle.std.specs.List.Sorted.{IsStrictlySortedBy}
 use Rattle.std.specs.BTreeMap.{is_at, insert_entry}
+use Rattle.std.specs.BTreeMap.Range.{range_contains}
 use Rattle.std.specs.Map.{lookup, remove_entry, keys_of, values_of}
 use Rattle.holddata.specs.declared.key.HoldKey.{HoldKey}
 use Rattle.holddata.specs.declared.hold.Hold.{Hold}
 use Rattle.holddata.specs.declared.hold.HoldChange.{HoldChange}
-use Rattle.holddata.specs.HoldKey.{key_cmp}
-use Rattle.holddata.specs.HoldChange.{names, hold_put, hold_left}
-use Rattle.holddata.specs.HoldBook.{hold_under, IsKeyed, IsLeft, IsInKeyOrder}
-use Rattle.holddata.proofs.KeyOrder.{exact_keys}
+use Rattle.holddata.specs.declared.place.BookPlace.{BookPlace}
+use Rattle.holddata.specs.HoldKey.{is_same_key}
+use Rattle.holddata.specs.HoldChange.{key_of, names, hold_put, hold_left}
+use Rattle.holddata.specs.HoldBook.{keys_in, hold_under, holds_on, IsChanged, IsLeft, IsInKeyOrder}
+use Rattle.holddata.specs.BookPlace.{place_of, place_cmp, before_all, after_all, IsPlaced}
+use Rattle.holddata.proofs.KeyOrder.{exact_keys, same_key, itself, differ, others_differ}
+use Rattle.holddata.proofs.PlaceOrder.{at_place, place_order, keys_in_order, around}
 
-pub keyed_tail : (e : HoldKey × Hold) (es : List (HoldKey × Hold)) → IsKeyed (e ∷ es) → IsKeyed es
-keyed_tail e es h = cc
+pub placed_tail : (e : BookPlace × Hold) (es : List (BookPlace × Hold)) → IsPlaced (e ∷ es) → IsPlaced es
+placed_tail e es h = cc
 
-pub keyed_head : (e : HoldKey × Hold) (es : List (HoldKey × Hold)) → IsKeyed (e ∷ es) → e.1.key ≡ e.0
-keyed_head e es h = cc
+pub placed_head : (e : BookPlace × Hold) (es : List (BookPlace × Hold)) → IsPlaced (e ∷ es) → place_of e.1.key ≡ e.0
+placed_head e es h = cc
 
-pub keyed_cons : (e : HoldKey × Hold) (es : List (HoldKey × Hold)) → e.1.key ≡ e.0 → IsKeyed es → IsKeyed (e ∷ es)
-keyed_cons e es h g = cc
+pub placed_cons : (e : BookPlace × Hold) (es : List (BookPlace × Hold)) → place_of e.1.key ≡ e.0 → IsPlaced es → IsPlaced (e ∷ es)
+placed_cons e es h g = cc
 
--- what the map has under a key is what the book has
-pub hold_under_is : (es : List (HoldKey × Hold)) (key : HoldKey) → IsKeyed es → hold_under (values_of es) key ≡ lookup (is_at (key_cmp key)) es
+-- what the map has at the place of a key is what the book has under the key
+pub hold_under_is : (es : List (BookPlace × Hold)) (key : HoldKey) → IsPlaced es → lookup (is_at (place_cmp (place_of key))) es ≡ hold_under (values_of es) key
 hold_under_is [] key h = refl
 hold_under_is (e ∷ es) key h =
-    ap (λ k. cond (is_at (key_cmp key) k) (Some e.1) (hold_under (values_of es) key)) (keyed_head e es h)
-    ∙ ap (cond (is_at (key_cmp key) e.0) (Some e.1)) (hold_under_is es key (keyed_tail e es h))
+    let rest = lookup (is_at (place_cmp (place_of key))) es in
+    ap (λ place. cond (is_at (place_cmp (place_of key)) place) (Some e.1) rest) (sym (placed_head e es h))
+    ∙ ap (λ same. cond same (Some e.1) rest) (at_place key e.1.key)
+    ∙ ap (cond (is_same_key key e.1.key) (Some e.1)) (hold_under_is es key (placed_tail e es h))
 
--- after a put and after a release each hold stands under its key still
-pub keyed_insert : (es : List (HoldKey × Hold)) (hold : Hold) → IsKeyed es → IsKeyed (insert_entry key_cmp es hold.key hold)
-keyed_insert [] hold h = refl
-keyed_insert (e ∷ es) hold h = by (keyed_insert es hold (keyed_tail e es h)) (key_cmp hold.key e.0) refl
+-- the entries around a SYSMOD are the holds on it
+pub holds_between : (es : List (BookPlace × Hold)) (sysmod : List ℕ) → IsPlaced es → values_of (filter (λ (e : BookPlace × Hold). range_contains place_cmp (Included (before_all sysmod)) (Excluded (after_all sysmod)) e.0) es) ≡ holds_on (values_of es) sysmod
+holds_between [] sysmod h = refl
+holds_between (e ∷ es) sysmod h =
+    let lies = λ (place : BookPlace). range_contains place_cmp (Included (before_all sysmod)) (Excluded (after_all sysmod)) place in
+    let rest = filter (λ (x : BookPlace × Hold). lies x.0) es in
+    values (lies e.0) rest
+    ∙ ap (λ place. cond (lies place) (e.1 ∷ values_of rest) (values_of rest)) (sym (placed_head e es h))
+    ∙ ap (λ b. cond b (e.1 ∷ values_of rest) (values_of rest)) (around sysmod e.1.key)
+    ∙ ap (λ hs. cond (bytes_eq sysmod e.1.key.sysmod) (e.1 ∷ hs) hs) (holds_between es sysmod (placed_tail e es h))
   where
-    by : IsKeyed (insert_entry key_cmp es hold.key hold) → (o : Ordering) → key_cmp hold.key e.0 ≡ o → IsKeyed (match_ordering o ((hold.key, hold) ∷ e ∷ es) ((e.0, hold) ∷ es) (e ∷ insert_entry key_cmp es hold.key hold))
-    by rest Less is = keyed_cons (hold.key, hold) (e ∷ es) refl h
-    by rest Equal is = keyed_cons (e.0, hold) es (exact_keys hold.key e.0 is) (keyed_tail e es h)
-    by rest Greater is = keyed_cons e (insert_entry key_cmp es hold.key hold) (keyed_head e es h) rest
+    values : (b : Bool) (fs : List (BookPlace × Hold)) → values_of (cond b (e ∷ fs) fs) ≡ cond b (e.1 ∷ values_of fs) (values_of fs)
+    values true fs = refl
+    values false fs = refl
 
-pub keyed_remove : (test : HoldKey → Bool) (es : List (HoldKey × Hold)) → IsKeyed es → IsKeyed (remove_entry test es)
-keyed_remove test [] h = refl
-keyed_remove test (e ∷ es) h = by (keyed_remove test es (keyed_tail e es h)) (test e.0)
+-- after a put and after a release each hold stands at the place of its key still
+pub placed_insert : (es : List (BookPlace × Hold)) (hold : Hold) → IsPlaced es → IsPlaced (insert_entry place_cmp es (place_of hold.key) hold)
+placed_insert [] hold h = refl
+placed_insert (e ∷ es) hold h = by (placed_insert es hold (placed_tail e es h)) (place_cmp (place_of hold.key) e.0) refl
   where
-    by : IsKeyed (remove_entry test es) → (b : Bool) → IsKeyed (cond b es (e ∷ remove_entry test es))
-    by rest true = keyed_tail e es h
-    by rest false = keyed_cons e (remove_entry test es) (keyed_head e es h) rest
+    same : place_cmp (place_of hold.key) e.0 ≡ Equal → place_of hold.key ≡ e.0
+    same is =
+        let head = placed_head e es h in
+        ap place_of (exact_keys hold.key e.1.key (sym (place_order hold.key e.1.key) ∙ ap (place_cmp (place_of hold.key)) head ∙ is)) ∙ head
+
+    by : IsPlaced (insert_entry place_cmp es (place_of hold.key) hold) → (o : Ordering) → place_cmp (place_of hold.key) e.0 ≡ o → IsPlaced (match_ordering o ((place_of hold.key, hold) ∷ e ∷ es) ((e.0, hold) ∷ es) (e ∷ insert_entry place_cmp es (place_of hold.key) hold))
+    by rest Less is = placed_cons (place_of hold.key, hold) (e ∷ es) refl h
+    by rest Equal is = placed_cons (e.0, hold) es (same is) (placed_tail e es h)
+    by rest Greater is = placed_cons e (insert_entry place_cmp es (place_of hold.key) hold) (placed_head e es h) rest
+
+pub placed_remove : (test : BookPlace → Bool) (es : List (BookPlace × Hold)) → IsPlaced es → IsPlaced (remove_entry test es)
+placed_remove test [] h = refl
+placed_remove test (e ∷ es) h = by (placed_remove test es (placed_tail e es h)) (test e.0)
+  where
+    by : IsPlaced (remove_entry test es) → (b : Bool) → IsPlaced (cond b es (e ∷ remove_entry test es))
+    by rest true = placed_tail e es h
+    by rest false = placed_cons e (remove_entry test es) (placed_head e es h) rest
+
+-- from what the map has at each place to what the book has under each key
+pub under_updated : (old new : List (BookPlace × Hold)) (key : HoldKey) (left : Option Hold) → IsPlaced old → IsPlaced new → ((place : BookPlace) → lookup (is_at (place_cmp place)) new ≡ cond (is_at (place_cmp (place_of key)) place) left (lookup (is_at (place_cmp place)) old)) → (other : HoldKey) → hold_under (values_of new) other ≡ (if is_same_key key other then left else hold_under (values_of old) other)
+under_updated old new key left was is updates other =
+    sym (hold_under_is new other is)
+    ∙ updates (place_of other)
+    ∙ ap (λ same. cond same left (lookup (is_at (place_cmp (place_of other))) old)) (at_place key other)
+    ∙ ap (cond (is_same_key key other) left) (hold_under_is old other was)
+
+-- the holds are in the order of their keys
+pub holds_in_order : (es : List (BookPlace × Hold)) → IsPlaced es → IsStrictlySortedBy place_cmp (keys_of es) → IsInKeyOrder (values_of es)
+holds_in_order es placed ordered = keys_in_order (keys_in (values_of es)) (subst (IsStrictlySortedBy place_cmp) (sym placed) ordered)
+
+pub is_changed : (old new : List (BookPlace × Hold)) (change : HoldChange) → IsPlaced new → IsStrictlySortedBy place_cmp (keys_of new) → ((key : HoldKey) → hold_under (values_of new) key ≡ (if is_same_key (key_of change) key then hold_put change else hold_under (values_of old) key)) → IsChanged change (values_of old) (values_of new)
+is_changed old new change placed ordered updates =
+    record {
+      in_key_order = holds_in_order new placed ordered;
+      named = updates (key_of change) ∙ ap (λ same. cond same (hold_put change) (hold_under (values_of old) (key_of change))) (itself (key_of change));
+      others = λ key other. updates key ∙ ap (λ same. cond same (hold_put change) (hold_under (values_of old) key)) (differ (key_of change) key other);
+    }
 
 -- the last change decides, where it names the key
 pub hold_left_more : (changes : List HoldChange) (change : HoldChange) (key : HoldKey) → hold_left (changes ++ change ∷ []) key ≡ (if names key change then hold_put change else hold_left changes key)
@@ -58,6 +107,14 @@ hold_left_more changes change key =
     by : (b : Bool) → option_and_then hold_put (cond b (Some change) (find (names key) (reverse changes))) ≡ (if b then hold_put change else hold_left changes key)
     by true = refl
     by false = refl
+
+-- under each key, from what is under the key that a change names and under others
+pub under_each : (old new : List Hold) (change : HoldChange) → hold_under new (key_of change) ≡ hold_put change → ((key : HoldKey) → key ≢ key_of change → hold_under new key ≡ hold_under old key) → (key : HoldKey) → hold_under new key ≡ (if names key change then hold_put change else hold_under old key)
+under_each old new change named others key = by (names key change) refl
+  where
+    by : (b : Bool) → names key change ≡ b → hold_under new key ≡ (if b then hold_put change else hold_under old key)
+    by true is = ap (hold_under new) (sym (same_key (key_of change) key is)) ∙ named
+    by false is = others key (others_differ (key_of change) key is)
 
 -- one more change
 pub left_more : (old new : List Hold) (change : HoldChange) → IsInKeyOrder new → ((key : HoldKey) → hold_under new key ≡ (if names key change then hold_put change else hold_under old key)) → (changes : List HoldChange) → IsLeft changes old → IsLeft (changes ++ change ∷ []) new
@@ -69,14 +126,3 @@ left_more old new change ordered holds changes left =
           ∙ ap (λ (o : Option Hold). if names key change then hold_put change else o) (left.holds key)
           ∙ sym (hold_left_more changes change key);
     }
-
--- from what the map has under a key to what the book has
-pub holds_changed : (old new : List (HoldKey × Hold)) (change : HoldChange) → IsKeyed old → IsKeyed new → ((key : HoldKey) → lookup (is_at (key_cmp key)) new ≡ (if names key change then hold_put change else lookup (is_at (key_cmp key)) old)) → (key : HoldKey) → hold_under (values_of new) key ≡ (if names key change then hold_put change else hold_under (values_of old) key)
-holds_changed old new change was is updates key =
-    hold_under_is new key is
-    ∙ updates key
-    ∙ ap (λ (o : Option Hold). if names key change then hold_put change else o) (sym (hold_under_is old key was))
-
--- the holds are in the order of the map's keys
-pub holds_in_order : (es : List (HoldKey × Hold)) → IsKeyed es → IsStrictlySortedBy key_cmp (keys_of es) → IsInKeyOrder (values_of es)
-holds_in_order es keyed ordered = subst (IsStrictlySortedBy key_cmp) (sym keyed) ordered

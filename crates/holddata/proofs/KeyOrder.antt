@@ -1,16 +1,18 @@
 -- The order of keys is total, and keys that compare alike are one.
-use Rattle.std.proofs.Common.{◌≡◌, ℕ, zero, suc, List, refl, sym, ◌∙◌, ap}
-use Rattle.std.specs.Cmp.{IsTotalOrder, nat_cmp_total}
+use Rattle.std.proofs.Common.{◌≡◌, ◌≢◌, ℕ, zero, suc, List, Bool, true, false, ◌&&◌, refl, sym, ◌∙◌, ap}
+use Rattle.std.specs.declared.cmp.Ordering.{Ordering}
+use Rattle.std.specs.declared.cmp.Ordering.TheVariants.{Less, Equal, Greater}
+use Rattle.std.specs.Cmp.{IsTotalOrder, nat_cmp_total, eq_by_cmp_equiv, unsigned_tied}
 use Rattle.std.specs.Cmp.Lexicographic.{slice_cmp, nat_list_cmp_total}
-use Rattle.std.specs.Ordering.{nat_cmp, ordering_then}
-use Rattle.std.proofs.lemmas.Cmp.{on_total, then_total}
+use Rattle.std.specs.Str.{bytes_eq}
+use Rattle.std.specs.Ordering.{nat_cmp, ordering_then, is_eq}
+use Rattle.std.proofs.lemmas.Cmp.{on_total, then_total, tied_itself}
+use Rattle.std.proofs.lemmas.Map.Text.{is_eq-slice_cmp}
 use Rattle.std.proofs.lemmas.Map.Lookups.{CmpEqualImpliesEq, exact_unsigned, exact_bytes, exact_pairs}
 use Rattle.holddata.specs.declared.key.Kind.{Kind}
 use Rattle.holddata.specs.declared.key.Kind.TheVariants.{ErrorHold, SystemHold, UserHold, FixcatHold}
 use Rattle.holddata.specs.declared.key.HoldKey.{HoldKey}
-use Rattle.holddata.specs.contracts.key.KindOrd.TheImpl as kinds
-use Rattle.holddata.specs.contracts.key.HoldKeyOrd.TheImpl as keys
-use Rattle.holddata.specs.HoldKey.{kind_place, kind_cmp, key_cmp}
+use Rattle.holddata.specs.HoldKey.{kind_place, kind_cmp, key_cmp, is_same_kind, is_same_key}
 
 -- the kind at a place
 kind_at : ℕ → Kind
@@ -41,27 +43,44 @@ keys_total =
     then_total (on_total (λ (k : HoldKey). k.sysmod) nat_list_cmp_total)
     (then_total (on_total (λ (k : HoldKey). kind_place k.kind) nat_cmp_total) (on_total (λ (k : HoldKey). k.reason) nat_list_cmp_total))
 
-derived_kinds : (a b : Kind) → kinds.cmp-value.it a b ≡ kind_cmp a b
-derived_kinds ErrorHold ErrorHold = refl
-derived_kinds ErrorHold SystemHold = refl
-derived_kinds ErrorHold UserHold = refl
-derived_kinds ErrorHold FixcatHold = refl
-derived_kinds SystemHold ErrorHold = refl
-derived_kinds SystemHold SystemHold = refl
-derived_kinds SystemHold UserHold = refl
-derived_kinds SystemHold FixcatHold = refl
-derived_kinds UserHold ErrorHold = refl
-derived_kinds UserHold SystemHold = refl
-derived_kinds UserHold UserHold = refl
-derived_kinds UserHold FixcatHold = refl
-derived_kinds FixcatHold ErrorHold = refl
-derived_kinds FixcatHold SystemHold = refl
-derived_kinds FixcatHold UserHold = refl
-derived_kinds FixcatHold FixcatHold = refl
+-- ---- the comparison decides whether keys are one
 
--- the order that the key's type derives is the stated one
-pub derived_keys : (a b : HoldKey) → keys.cmp-value.it a b ≡ key_cmp a b
-derived_keys a b = ap (λ o. ordering_then (slice_cmp nat_cmp a.sysmod b.sysmod) (ordering_then o (slice_cmp nat_cmp a.reason b.reason))) (derived_kinds a.kind b.kind)
+then_eq : (a b : Ordering) → is_eq (ordering_then a b) ≡ (is_eq a && is_eq b)
+then_eq Less b = refl
+then_eq Equal b = refl
+then_eq Greater b = refl
 
-pub derived_order : keys.cmp-value.it ≡ key_cmp
-derived_order = λ i a b. derived_keys a b i
+pub same_is : (a b : HoldKey) → is_eq (key_cmp a b) ≡ is_same_key a b
+same_is a b =
+    let sysmods = slice_cmp nat_cmp a.sysmod b.sysmod in
+    let kinds = kind_cmp a.kind b.kind in
+    let reasons = slice_cmp nat_cmp a.reason b.reason in
+    then_eq sysmods (ordering_then kinds reasons)
+    ∙ ap (λ e. e && is_eq (ordering_then kinds reasons)) (is_eq-slice_cmp a.sysmod b.sysmod)
+    ∙ ap (λ e. bytes_eq a.sysmod b.sysmod && e) (then_eq kinds reasons)
+    ∙ ap (λ e. bytes_eq a.sysmod b.sysmod && (e && is_eq reasons)) (unsigned_tied (kind_place a.kind) (kind_place b.kind))
+    ∙ ap (λ e. bytes_eq a.sysmod b.sysmod && (is_same_kind a.kind b.kind && e)) (is_eq-slice_cmp a.reason b.reason)
+
+pub same_key : (a b : HoldKey) → is_same_key a b ≡ true → a ≡ b
+same_key a b h = by (key_cmp a b) refl (same_is a b ∙ h)
+  where
+    by : (o : Ordering) → key_cmp a b ≡ o → is_eq o ≡ true → a ≡ b
+    by Less is h = cc
+    by Equal is h = exact_keys a b is
+    by Greater is h = cc
+
+pub itself : (a : HoldKey) → is_same_key a a ≡ true
+itself a = sym (same_is a a) ∙ ap is_eq (tied_itself keys_total a)
+
+pub turned_same : (a b : HoldKey) → is_same_key a b ≡ is_same_key b a
+turned_same a b = sym (same_is a b) ∙ (eq_by_cmp_equiv keys_total).symm a b ∙ same_is b a
+
+pub others_differ : (a b : HoldKey) → is_same_key a b ≡ false → b ≢ a
+others_differ a b h e = let f : true ≡ false = sym (itself a) ∙ ap (is_same_key a) (sym e) ∙ h in cc
+
+pub differ : (a b : HoldKey) → b ≢ a → is_same_key a b ≡ false
+differ a b h = by (is_same_key a b) refl
+  where
+    by : (same : Bool) → is_same_key a b ≡ same → is_same_key a b ≡ false
+    by true is = absurd (h (sym (same_key a b is)))
+    by false is = is

@@ -1,12 +1,12 @@
 -- The hold book in print.
-use Rattle.std.specs.Prelude.{ℕ, List, [], ◌∷◌, codes, map, Option}
+use Rattle.std.specs.Prelude.{ℕ, List, [], ◌∷◌, codes, map, Option, None}
 use Rattle.std.specs.Option.{option_map_or}
 use Rattle.std.specs.List.{join_with_byte}
 use Rattle.mcs_reader.specs.Id.{text_of}
 use Rattle.holddata.specs.declared.hold.Hold.{Hold}
 use Rattle.holddata.specs.HoldKey.{kind_name}
 use Rattle.holddata.specs.Date.{date_digits}
-use Rattle.holddata.specs.Table.{table_of}
+use Rattle.columns.specs.Columns.{text_of as text_in}
 
 -- where each column begins, and its heading
 abbrev pub hold_columns : List (ℕ × List ℕ)
@@ -34,4 +34,4 @@ hold_fields hold =
 
 -- the text of a book: a row for each hold, in the order of the keys
 abbrev pub book_text : List Hold → List ℕ
-book_text book = table_of hold_columns (map hold_fields book)
+book_text book = text_in hold_columns None (map hold_fields book)

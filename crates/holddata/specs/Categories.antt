@@ -1,17 +1,11 @@
 -- Fix categories (IBM z/OS SMP/E Reference, `++HOLD`, operand CATEGORY).
-use Rattle.std.specs.Prelude.{ℕ, ◌==◌, ◌&&◌, ◌||◌, not, Bool, true, List, [], ◌∷◌, length, map, nat_le, Vec}
+use Rattle.std.specs.Prelude.{◌≡◌, ℕ, ◌&&◌, Bool, true, IsTrue, List, [], ◌∷◌, map, bytes_eq, Vec}
 use Rattle.std.specs.declared.alloc.Global.{Global}
-use Rattle.std.specs.List.{list_all}
+use Rattle.std.specs.BTreeSet.{insert_key}
+use Rattle.std.specs.List.{list_all, list_any}
 use Rattle.std.specs.Ordering.{nat_cmp, is_lt}
 use Rattle.std.specs.Cmp.Lexicographic.{slice_cmp}
-
--- a printable ASCII character but the blank, the apostrophe, the parentheses and the comma
-abbrev pub is_category_byte : ℕ → Bool
-is_category_byte b = nat_le 33 b && nat_le b 126 && not (b == 39 || b == 40 || b == 41 || b == 44)
-
--- 1 to 64 such bytes
-abbrev pub is_category : List ℕ → Bool
-is_category text = nat_le 1 (length text) && nat_le (length text) 64 && list_all is_category_byte text
+use Rattle.mcs_reader.specs.Category.{is_category}
 
 -- each text is below the next, byte by byte
 abbrev pub ascends : List (List ℕ) → Bool
@@ -22,6 +16,20 @@ ascends (x ∷ y ∷ rest) = is_lt (slice_cmp nat_cmp x y) && ascends (y ∷ res
 -- categories in ascending order, each once
 abbrev pub are_categories : List (List ℕ) → Bool
 are_categories texts = list_all is_category texts && ascends texts
+
+-- texts in ascending order, with more put at their places, unless they are there
+abbrev pub with_each : List (List ℕ) → List (List ℕ) → List (List ℕ)
+with_each kept [] = kept
+with_each kept (text ∷ texts) = with_each (insert_key (slice_cmp nat_cmp) kept text) texts
+
+-- texts in ascending order, each once
+abbrev pub in_order : List (List ℕ) → List (List ℕ)
+in_order texts = with_each [] texts
+
+-- what that means: the list ascends and has the same texts
+pub record IsInOrder (texts kept : List (List ℕ)) : Type 0 where
+  pub ascending : IsTrue (ascends kept)
+  pub same : (text : List ℕ) → list_any (bytes_eq text) kept ≡ list_any (bytes_eq text) texts
 
 -- the bytes of each
 abbrev pub texts_of : List (Vec ℕ Global) → List (List ℕ)

@@ -9,10 +9,10 @@ use Rattle.holddata.specs.declared.key.Kind.TheVariants.{ErrorHold, FixcatHold}
 use Rattle.holddata.specs.declared.key.HoldKey.{HoldKey}
 use Rattle.holddata.specs.declared.hold.Hold.{Hold}
 use Rattle.holddata.specs.declared.hold.HoldChange.TheVariants.{Put, Release}
-use Rattle.holddata.specs.declared.fault.HoldFault.TheVariants.{NoKind, TwoKinds, NoReason, BadId}
+use Rattle.holddata.specs.declared.fault.HoldFault.TheVariants.{NoKind, TwoKinds, NoReason, BadId, BadDate, BadCategory}
 use Rattle.holddata.specs.Date.{date_of, date_digits}
-use Rattle.holddata.specs.Categories.{are_categories}
-use Rattle.holddata.specs.HoldBook.{book_of}
+use Rattle.holddata.specs.Categories.{are_categories, in_order}
+use Rattle.holddata.specs.HoldBook.{book_of, holds_on}
 use Rattle.holddata.specs.BookText.{book_text}
 use Rattle.holddata.specs.Statements.{first_fault, changes_of}
 
@@ -109,3 +109,37 @@ ascending = refl
 
 pub repeated : are_categories (codes "IBM.Device" ∷ codes "IBM.Device" ∷ []) ≡ false
 repeated = refl
+
+-- ---- releases, resolvers and categories
+
+abbrev release_at : ℕ → List OperandText → Statement
+release_at line operands = record (hold_at line operands) { verb = verb.Release }
+
+-- the hold goes, though the release names another function
+pub released_by_key : book_of (changes_of (hold_at 1 in_error ∷ release_at 2 (bare (codes "ERR") ∷ one (codes "REASON") (codes "AA20002") ∷ one (codes "FMID") (codes "HXX0001") ∷ []) ∷ [])) ≡ []
+released_by_key = refl
+
+-- a release of what isn't held does nothing
+pub nothing_released : book_of (changes_of (hold_at 1 in_error ∷ release_at 2 (bare (codes "USER") ∷ one (codes "REASON") (codes "AA20002") ∷ []) ∷ [])) ≡ book_of (changes_of (hold_at 1 in_error ∷ []))
+nothing_released = refl
+
+-- of a release the kind, REASON and FMID alone are read
+pub release_skips : first_fault (release_at 1 (bare (codes "ERROR") ∷ one (codes "REASON") (codes "AA20002") ∷ one (codes "DATE") (codes "1") ∷ one (codes "RESOLVER") (codes "?") ∷ one (codes "CATEGORY") (codes "A'B") ∷ []) ∷ []) ≡ None
+release_skips = refl
+
+pub release_of_no_function : first_fault (release_at 1 (bare (codes "ERROR") ∷ one (codes "REASON") (codes "AA20002") ∷ one (codes "FMID") (codes "hxx") ∷ []) ∷ []) ≡ Some (BadId 1)
+release_of_no_function = refl
+
+pub no_category : first_fault (hold_at 1 (bare (codes "ERROR") ∷ one (codes "REASON") (codes "AA20002") ∷ one (codes "CATEGORY") (codes "A'B") ∷ []) ∷ []) ≡ Some (BadCategory 1)
+no_category = refl
+
+-- the fault with the lowest number is told
+pub date_before_category : first_fault (hold_at 1 (bare (codes "ERROR") ∷ one (codes "REASON") (codes "AA20002") ∷ one (codes "CATEGORY") (codes "A'B") ∷ one (codes "DATE") (codes "12367") ∷ []) ∷ []) ≡ Some (BadDate 1)
+date_before_category = refl
+
+-- categories ascend, each once
+pub ordered : in_order (codes "B" ∷ codes "a" ∷ codes "B" ∷ codes "A.B" ∷ codes "A" ∷ []) ≡ codes "A" ∷ codes "A.B" ∷ codes "B" ∷ codes "a" ∷ []
+ordered = refl
+
+pub on_one_sysmod : holds_on (book_of (changes_of (hold_at 1 in_error ∷ []))) (padded (codes "UA10002")) ≡ []
+on_one_sysmod = refl

@@ -1,4 +1,4 @@
--- What the code keeps of what operands give.
+-- Serves private contracts alone: what the code keeps of what operands give.
 use Rattle.std.specs.Prelude.{◌≡◌, ℕ, ◌≤◌, false, List, [], ◌∷◌, length, Some, None}
 use Rattle.std.specs.Borrow.{Bor}
 use Rattle.holddata.specs.declared.key.Kind.{Kind}

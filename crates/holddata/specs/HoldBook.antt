@@ -1,15 +1,13 @@
 -- The hold book: holds in the order of their keys.
-use Rattle.std.specs.Prelude.{◌≡◌, List, [], ◌∷◌, Option, find, map}
-use Rattle.std.specs.BTreeMap.{is_at}
+use Rattle.std.specs.Prelude.{◌≡◌, ◌≢◌, ℕ, List, [], ◌∷◌, Option, find, map, bytes_eq}
 use Rattle.std.specs.BTreeSet.{insert_key}
-use Rattle.std.specs.List.{filter_map}
+use Rattle.std.specs.List.{filter, filter_map}
 use Rattle.std.specs.List.Sorted.{IsStrictlySortedBy}
-use Rattle.std.specs.Map.{keys_of, values_of}
 use Rattle.holddata.specs.declared.key.HoldKey.{HoldKey}
 use Rattle.holddata.specs.declared.hold.Hold.{Hold}
 use Rattle.holddata.specs.declared.hold.HoldChange.{HoldChange}
-use Rattle.holddata.specs.HoldKey.{key_cmp}
-use Rattle.holddata.specs.HoldChange.{key_of, hold_left}
+use Rattle.holddata.specs.HoldKey.{key_cmp, is_same_key}
+use Rattle.holddata.specs.HoldChange.{key_of, hold_put, hold_left}
 
 abbrev pub keys_in : List Hold → List HoldKey
 keys_in book = map (λ hold. hold.key) book
@@ -20,7 +18,18 @@ IsInKeyOrder book = IsStrictlySortedBy key_cmp (keys_in book)
 
 -- the hold under a key
 abbrev pub hold_under : List Hold → HoldKey → Option Hold
-hold_under book key = find (λ hold. is_at (key_cmp key) hold.key) book
+hold_under book key = find (λ hold. is_same_key key hold.key) book
+
+-- the holds on a SYSMOD, in the order of their keys
+abbrev pub holds_on : List Hold → List ℕ → List Hold
+holds_on book sysmod = filter (λ hold. bytes_eq sysmod hold.key.sysmod) book
+
+-- the book that one change makes of another: under the key that it names stands what it puts, or nothing where
+-- it is a release, and under every other key what stood there
+pub record IsChanged (change : HoldChange) (old new : List Hold) : Type 0 where
+  pub in_key_order : IsInKeyOrder new
+  pub named : hold_under new (key_of change) ≡ hold_put change
+  pub others : (key : HoldKey) → key ≢ key_of change → hold_under new key ≡ hold_under old key
 
 -- the book that a list of changes leaves: under each key what the last change that names the key puts,
 -- and nothing where that is a release or where no change names it
@@ -36,7 +45,3 @@ keys_named (change ∷ changes) = insert_key key_cmp (keys_named changes) (key_o
 -- the same book, computed: what is left under each key that is named, in order
 abbrev pub book_of : List HoldChange → List Hold
 book_of changes = filter_map (hold_left changes) (keys_named changes)
-
--- each hold of a map stands under its own key
-abbrev pub IsKeyed : List (HoldKey × Hold) → Type 0
-IsKeyed entries = keys_in (values_of entries) ≡ keys_of entries

@@ -1,11 +1,10 @@
 -- What a statement does to the holds, and what a list of such changes leaves.
 use Rattle.std.specs.Prelude.{Bool, List, Option, Some, None, find, reverse, option_and_then}
-use Rattle.std.specs.BTreeMap.{is_at}
 use Rattle.holddata.specs.declared.key.HoldKey.{HoldKey}
 use Rattle.holddata.specs.declared.hold.Hold.{Hold}
 use Rattle.holddata.specs.declared.hold.HoldChange.{HoldChange}
 use Rattle.holddata.specs.declared.hold.HoldChange.TheVariants.{Put, Release}
-use Rattle.holddata.specs.HoldKey.{key_cmp}
+use Rattle.holddata.specs.HoldKey.{is_same_key}
 
 -- the key that a change names
 abbrev pub key_of : HoldChange → HoldKey
@@ -19,7 +18,7 @@ hold_put (Release key) = None
 
 -- whether a change names the key
 abbrev pub names : HoldKey → HoldChange → Bool
-names key change = is_at (key_cmp (key_of change)) key
+names key change = is_same_key (key_of change) key
 
 -- the hold that a list of changes leaves under a key: what the last change that names the key puts
 abbrev pub hold_left : List HoldChange → HoldKey → Option Hold

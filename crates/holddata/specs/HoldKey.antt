@@ -1,5 +1,5 @@
 -- What a hold is known by: the SYSMOD, the kind of hold and the reason.
-use Rattle.std.specs.Prelude.{ℕ, List, codes}
+use Rattle.std.specs.Prelude.{ℕ, ◌==◌, ◌&&◌, Bool, List, codes, bytes_eq}
 use Rattle.std.specs.declared.cmp.Ordering.{Ordering}
 use Rattle.std.specs.Ordering.{nat_cmp, ordering_then}
 use Rattle.std.specs.Cmp.Lexicographic.{slice_cmp}
@@ -20,6 +20,13 @@ kind_place ErrorHold = 0
 kind_place SystemHold = 1
 kind_place UserHold = 2
 kind_place FixcatHold = 3
+
+abbrev pub is_same_kind : Kind → Kind → Bool
+is_same_kind a b = kind_place a == kind_place b
+
+-- whether two keys are one: the same SYSMOD, kind and reason
+abbrev pub is_same_key : HoldKey → HoldKey → Bool
+is_same_key a b = bytes_eq a.sysmod b.sysmod && (is_same_kind a.kind b.kind && bytes_eq a.reason b.reason)
 
 abbrev pub kind_cmp : Kind → Kind → Ordering
 kind_cmp a b = nat_cmp (kind_place a) (kind_place b)

@@ -7,6 +7,6 @@ pub mod Given
 pub mod HoldChange
 pub mod Statements
 pub mod HoldBook
-pub mod Table
+pub mod BookPlace
 pub mod BookText
 mod Examples

@@ -1,12 +1,12 @@
 -- What the operands of a statement say of a hold.
-use Rattle.std.specs.Prelude.{ℕ, ◌==◌, ◌&&◌, ◌||◌, not, Bool, true, false, List, [], ◌∷◌, codes, Option, Some, None, is_none, if◌then◌else◌}
+use Rattle.std.specs.Prelude.{ℕ, ◌&&◌, ◌||◌, not, Bool, true, false, List, [], ◌∷◌, codes, Option, Some, None, is_none, if◌then◌else◌}
 use Rattle.std.specs.List.{list_all, filter_map, flat_map}
 use Rattle.std.specs.Str.{str_eq_ignore_ascii_case}
 use Rattle.mcs_reader.specs.OperandText.{OperandText}
 use Rattle.mcs_reader.specs.Id.{id_of}
 use Rattle.holddata.specs.declared.key.Kind.{Kind}
 use Rattle.holddata.specs.declared.key.Kind.TheVariants.{ErrorHold, SystemHold, UserHold, FixcatHold}
-use Rattle.holddata.specs.HoldKey.{kind_place}
+use Rattle.holddata.specs.HoldKey.{is_same_kind}
 use Rattle.holddata.specs.Date.{date_of}
 
 -- whether a name is one of two, which are in capitals; names are compared without regard to case
@@ -26,17 +26,18 @@ kind_named name =
 abbrev pub kinds_of : List OperandText → List Kind
 kinds_of operands = filter_map (λ operand. kind_named operand.name) operands
 
-abbrev pub is_same_kind : Kind → Kind → Bool
-is_same_kind a b = kind_place a == kind_place b
-
 -- the one kind that is named, once or more often
 abbrev pub the_kind : List Kind → Option Kind
 the_kind [] = None
 the_kind (kind ∷ kinds) = if list_all (is_same_kind kind) kinds then Some kind else None
 
+-- the values of an operand, if it has this name
+abbrev pub named_values : List ℕ → OperandText → List (List ℕ)
+named_values name operand = if str_eq_ignore_ascii_case operand.name name then operand.values else []
+
 -- the values of the operands of this name, in order: an operand that comes twice has its values joined
 abbrev pub values_of : List ℕ → List OperandText → List (List ℕ)
-values_of name operands = flat_map (λ operand. if str_eq_ignore_ascii_case operand.name name then operand.values else []) operands
+values_of name operands = flat_map (named_values name) operands
 
 abbrev pub is_nothing : {A : Type 0} → List A → Bool
 is_nothing [] = true

@@ -1,7 +1,9 @@
--- What statements do to the holds, and the faults that they may have (IBM z/OS SMP/E Reference, `++HOLD`).
+-- What statements do to the holds, and the faults that they may have (IBM z/OS SMP/E Reference, `++HOLD` and
+-- `++RELEASE`).
 use Rattle.std.specs.Prelude.{◌&&◌, ◌++◌, ℕ, not, Bool, List, [], ◌∷◌, codes, Option, Some, None, is_none, option_and_then, if◌then◌else◌}
 use Rattle.std.specs.Option.{option_map}
-use Rattle.std.specs.List.{filter_map, flat_map}
+use Rattle.std.specs.List.{filter_map, flat_map, list_all}
+use Rattle.mcs_reader.specs.Category.{is_category}
 use Rattle.mcs_reader.specs.declared.statement.Statement.{Statement}
 use Rattle.mcs_reader.specs.declared.statement.Verb.{Verb}
 use Rattle.mcs_reader.specs.declared.statement.Verb.TheVariants as verb
@@ -9,9 +11,10 @@ use Rattle.holddata.specs.declared.key.HoldKey.{HoldKey}
 use Rattle.holddata.specs.declared.key.Kind.{Kind}
 use Rattle.holddata.specs.declared.hold.Hold.{Hold}
 use Rattle.holddata.specs.declared.hold.HoldChange.{HoldChange}
-use Rattle.holddata.specs.declared.hold.HoldChange.TheVariants.{Put}
+use Rattle.holddata.specs.declared.hold.HoldChange.TheVariants.{Put, Release}
 use Rattle.holddata.specs.declared.fault.HoldFault.{HoldFault}
-use Rattle.holddata.specs.declared.fault.HoldFault.TheVariants.{NoKind, TwoKinds, NoReason, BadId, BadDate}
+use Rattle.holddata.specs.declared.fault.HoldFault.TheVariants.{NoKind, TwoKinds, NoReason, BadId, BadDate, BadCategory}
+use Rattle.holddata.specs.Categories.{in_order}
 use Rattle.holddata.specs.Operands.{kinds_of, the_kind, values_of, is_nothing, the_id, the_date, is_bad_id, is_bad_date}
 
 -- the values that a statement gives for an operand
@@ -34,14 +37,21 @@ hold_of statement =
       key = key;
       fmid = the_id (given statement (codes "FMID"));
       class = the_id (given statement (codes "CLASS"));
-      resolver = None;
+      resolver = the_id (given statement (codes "RESOLVER"));
       dated = the_date (given statement (codes "DATE"));
-      categories = [];
+      categories = in_order (given statement (codes "CATEGORY"));
     }) (key_named statement)
 
--- what a statement does to the holds
+-- what a statement does to the holds: HOLD puts one, RELEASE takes one away whatever its FMID is, and the other
+-- verbs do nothing to them
 abbrev pub change_by : Verb → Statement → Option HoldChange
 change_by verb.Hold statement = option_map Put (hold_of statement)
+change_by verb.Release statement = option_map Release (key_named statement)
+change_by verb.Func statement = None
+change_by verb.Ptf statement = None
+change_by verb.Apar statement = None
+change_by verb.Usermod statement = None
+change_by verb.Ver statement = None
 
 abbrev pub change_of : Statement → Option HoldChange
 change_of statement = change_by statement.verb statement
@@ -68,11 +78,23 @@ abbrev pub hold_faults : Statement → List HoldFault
 hold_faults statement =
     fault_if (is_bad_id (given statement (codes "FMID"))) (BadId statement.line)
     ++ fault_if (is_bad_id (given statement (codes "CLASS"))) (BadId statement.line)
+    ++ fault_if (is_bad_id (given statement (codes "RESOLVER"))) (BadId statement.line)
     ++ fault_if (is_bad_date (given statement (codes "DATE"))) (BadDate statement.line)
+    ++ fault_if (not (list_all is_category (given statement (codes "CATEGORY")))) (BadCategory statement.line)
+
+-- the faults of the other operands of a release that are read: FMID alone
+abbrev pub release_faults : Statement → List HoldFault
+release_faults statement = fault_if (is_bad_id (given statement (codes "FMID"))) (BadId statement.line)
 
 -- the faults of a statement, in the order of their numbers
 abbrev pub faults_by : Verb → Statement → List HoldFault
 faults_by verb.Hold statement = key_faults statement ++ hold_faults statement
+faults_by verb.Release statement = key_faults statement ++ release_faults statement
+faults_by verb.Func statement = []
+faults_by verb.Ptf statement = []
+faults_by verb.Apar statement = []
+faults_by verb.Usermod statement = []
+faults_by verb.Ver statement = []
 
 abbrev pub faults_of : Statement → List HoldFault
 faults_of statement = faults_by statement.verb statement

@@ -5,21 +5,19 @@ ghost use Rattle.std.specs.Map.Iter.{ShowsInOrder, deref};
 ghost use Rattle.holddata.specs.declared.key.HoldKey.{HoldKey};
 ghost use Rattle.holddata.specs.declared.hold.Hold.{Hold};
 ghost use Rattle.holddata.specs.declared.hold.HoldChange.{HoldChange};
-ghost use Rattle.std.specs.BTreeMap.{get, is_at, IsOrdered};
-ghost use Rattle.holddata.specs.HoldKey.{key_cmp};
-ghost use Rattle.holddata.specs.HoldChange.{hold_put, names};
-ghost use Rattle.holddata.specs.HoldBook.{hold_under, IsInKeyOrder, IsKeyed, IsLeft, book_of};
+ghost use Rattle.holddata.specs.HoldChange.{hold_put};
+ghost use Rattle.holddata.specs.HoldBook.{hold_under, holds_on, IsInKeyOrder, IsChanged, IsLeft, book_of};
 ghost use Rattle.holddata.specs.BookText.{book_text};
-ghost use Rattle.holddata.specs.Statements.{changes_of, faults_of, first_of};
+ghost use Rattle.holddata.specs.Statements.{change_of, changes_of, faults_of, first_of};
 ghost use Rattle.holddata.specs.declared.fault.HoldFault.TheVariants.{Memory};
 ghost use Rattle.mcs_reader.specs.declared.statement.Statement.{Statement};
+ghost use Rattle.faults.specs.Refusal.{IsRefusal};
 
-use crate::print::{push_heading, push_hold};
-use crate::table::push_count;
-use crate::{Hold, HoldChange, HoldFault, HoldKey, NoMemory, change};
-use mcs_reader::Statement;
+use crate::map::{HoldMap, copied, hold_at, holds_around, make_change};
+use crate::print::{hold_table, push_hold};
+use crate::{BookPlace, Hold, HoldChange, HoldFault, HoldKey, NoMemory, change};
+use mcs_reader::{Id, Statement};
 use std::alloc::Global;
-use std::collections::BTreeMap;
 use std::collections::btree_map::Values;
 use std::marker::Model;
 
@@ -27,7 +25,7 @@ use std::marker::Model;
 #[derive(Drop)]
 pub struct HoldBook {
     alloc: Global,
-    holds: BTreeMap<HoldKey, Hold>,
+    holds: HoldMap,
 }
 
 impl Model for HoldBook {
@@ -35,16 +33,15 @@ impl Model for HoldBook {
     ghost use Rattle.std.specs.BTreeMap.{IsOrdered};
     ghost use Rattle.std.specs.Map.{values_of};
     ghost use Rattle.holddata.specs.declared.hold.Hold.{Hold};
-    ghost use Rattle.holddata.specs.HoldKey.{key_cmp};
-    ghost use Rattle.holddata.specs.HoldBook.{IsKeyed};
+    ghost use Rattle.holddata.specs.BookPlace.{place_cmp, IsPlaced};
 
     ghost Value = { List Hold };
 
     ghost view = { λ book. values_of book.holds.entries };
 
     ghost invariant = { λ book. record {
-      ordered : IsOrdered key_cmp book.holds;
-      keyed : IsKeyed book.holds.entries;
+      ordered : IsOrdered place_cmp book.holds;
+      placed : IsPlaced book.holds.entries;
     } };
 }
 
@@ -55,7 +52,7 @@ impl HoldBook {
     {
         HoldBook {
             alloc,
-            holds: BTreeMap::new(alloc),
+            holds: HoldMap::new(alloc),
         }
     }
 
@@ -63,16 +60,27 @@ impl HoldBook {
     pub fn get(&self, key: &HoldKey) -> Option<&Hold>
         ensures { option_copied result ≡ hold_under self.now key.now }
     {
-        self.holds.get(key)
+        hold_at(&self.holds, key)
     }
 
     /// The holds in the order of their keys. It takes no memory.
-    pub fn iter(&self) -> Values<'_, HoldKey, Hold>
+    pub fn iter(&self) -> Values<'_, BookPlace, Hold>
         ensures holds { result ≡ self.now }
         ensures runs { ShowsInOrder (deref {X = Hold}) }
         ensures in_key_order { IsInKeyOrder self.now }
     {
         self.holds.values()
+    }
+
+    /// The holds on a SYSMOD, in the order of their keys. It looks at no other holds.
+    pub fn holds_on(&self, sysmod: &Id) -> Result<Vec<Hold>, NoMemory>
+        ensures { IfOk result (λ holds. holds.items ≡ holds_on self.now sysmod.now) }
+    {
+        let mut holds = Vec::new(self.alloc);
+        for (_, hold) in holds_around(&self.holds, sysmod) {
+            holds.push(hold.copy()?)?;
+        }
+        Ok(holds)
     }
 
     /// How many holds there are.
@@ -103,24 +111,29 @@ impl HoldBook {
     /// whatever the FMID, and does nothing where there is no such hold. Where memory runs out, which
     /// a release never meets, the book is as it was.
     pub fn apply(&mut self, change: HoldChange) -> Result<(), NoMemory>
-        ensures holds { OnOk result ((key : HoldKey) →
-            hold_under self.new key ≡ (if names key change then hold_put change else hold_under self.old key)) }
-        ensures in_key_order { IsInKeyOrder self.new }
+        ensures changed { OnOk result (IsChanged change self.old self.new) }
+        ensures left { OnOk result ((changes : List HoldChange) →
+            IsLeft changes self.old → IsLeft (changes ++ change ∷ []) self.new) }
         ensures book { OnOk result ((changes : List HoldChange) →
             self.old ≡ book_of changes → self.new ≡ book_of (changes ++ change ∷ [])) }
         ensures err { OnErr result (self.new ≡ self.old) }
         ensures release { hold_put change ≡ None → IsOk result }
+        ensures in_key_order { IsInKeyOrder self.new }
     {
-        changed(&mut self.holds, change)
+        make_change(&mut self.holds, change)
     }
 
     /// Does to the holds what one statement does (see [`change`]). Where it is refused, or memory runs
     /// out, the book is as it was.
     pub fn apply_statement(&mut self, statement: &Statement) -> Result<(), HoldFault>
+        ensures changed { OnOk result ((change : HoldChange) → change_of statement.now ≡ Some change → IsChanged change self.old self.new) }
+        ensures same { change_of statement.now ≡ None → self.new ≡ self.old }
+        ensures left { OnOk result ((statements : List Statement) →
+            IsLeft (changes_of statements) self.old → IsLeft (changes_of (statements ++ statement.now ∷ [])) self.new) }
         ensures book { OnOk result ((statements : List Statement) →
             self.old ≡ book_of (changes_of statements) → self.new ≡ book_of (changes_of (statements ++ statement.now ∷ []))) }
         ensures no_fault { OnOk result (faults_of statement.now ≡ []) }
-        ensures fault { IfErr result (λ fault. fault ≢ Memory → first_of (faults_of statement.now) ≡ Some fault) }
+        ensures fault { IfErr result (IsRefusal Memory (λ fault. first_of (faults_of statement.now) ≡ Some fault)) }
         ensures err { OnErr result (self.new ≡ self.old) }
     {
         if let Some(change) = change(self.alloc, statement)? {
@@ -134,14 +147,12 @@ impl HoldBook {
     pub fn text(&self) -> Result<Vec<u8>, NoMemory>
         ensures { IfOk result (λ text. text.items ≡ book_text self.now) }
     {
-        let mut text = Vec::new(self.alloc);
+        let mut table = hold_table(self.alloc)?;
         let mut joined = Vec::new(self.alloc);
-        push_heading(&mut text)?;
         for hold in self.holds.values() {
-            push_hold(&mut text, &mut joined, hold)?;
+            push_hold(&mut table, &mut joined, hold)?;
         }
-        push_count(&mut text, self.holds.len())?;
-        Ok(text)
+        table.finish()
     }
 }
 
@@ -157,48 +168,4 @@ pub fn book_left(alloc: Global, changes: Vec<HoldChange>) -> Result<HoldBook, No
         book.apply(change)?;
     }
     Ok(book)
-}
-
-fn copied(holds: &BTreeMap<HoldKey, Hold>) -> Result<BTreeMap<HoldKey, Hold>, NoMemory>
-    ensures { IfOk result (λ copy. copy.entries ≡ holds.now.entries) }
-{
-    holds.clone()
-}
-
-// Makes one change in the map.
-fn changed(holds: &mut BTreeMap<HoldKey, Hold>, change: HoldChange) -> Result<(), NoMemory>
-    ensures updates { OnOk result ((key : HoldKey) →
-        get key_cmp holds.new key ≡ (if names key change then hold_put change else get key_cmp holds.old key)) }
-    ensures ordered { IsOrdered key_cmp holds.new }
-    ensures keyed { IsKeyed holds.old.entries → IsKeyed holds.new.entries }
-    ensures err { OnErr result (holds.new.entries ≡ holds.old.entries) }
-    ensures release { hold_put change ≡ None → IsOk result }
-{
-    match change {
-        HoldChange::Put(hold) => put(holds, hold),
-        HoldChange::Release(key) => {
-            release(holds, key);
-            Ok(())
-        }
-    }
-}
-
-fn put(holds: &mut BTreeMap<HoldKey, Hold>, hold: Hold) -> Result<(), NoMemory>
-    ensures updates { OnOk result ((key : HoldKey) →
-        get key_cmp holds.new key ≡ (if is_at (key_cmp hold.key) key then Some hold else get key_cmp holds.old key)) }
-    ensures ordered { IsOrdered key_cmp holds.new }
-    ensures keyed { IsKeyed holds.old.entries → IsKeyed holds.new.entries }
-    ensures err { OnErr result (holds.new.entries ≡ holds.old.entries) }
-{
-    holds.insert(hold.key, hold)?;
-    Ok(())
-}
-
-fn release(holds: &mut BTreeMap<HoldKey, Hold>, key: HoldKey)
-    ensures updates { (q : HoldKey) →
-        get key_cmp holds.new q ≡ (if is_at (key_cmp key) q then None else get key_cmp holds.old q) }
-    ensures ordered { IsOrdered key_cmp holds.new }
-    ensures keyed { IsKeyed holds.old.entries → IsKeyed holds.new.entries }
-{
-    holds.remove(&key);
 }

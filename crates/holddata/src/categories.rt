@@ -1,11 +1,15 @@
 //! The fix categories of a hold.
 ghost use Rattle.std.specs.Prelude.{◌≡◌, ◌&&◌, [], IfOk, IsTrue, if◌then◌else◌};
 ghost use Rattle.std.specs.List.{list_all};
-ghost use Rattle.holddata.specs.Categories.{is_category, is_category_byte, are_categories, ascends, texts_of};
+ghost use Rattle.mcs_reader.specs.Bytes.{bytes_of_each};
+ghost use Rattle.mcs_reader.specs.Category.{is_category};
+ghost use Rattle.holddata.specs.Categories.{are_categories, ascends, texts_of};
 
 use crate::NoMemory;
+use mcs_reader::is_category;
 use std::alloc::Global;
 use std::cmp::Ordering;
+use std::collections::BTreeSet;
 use std::marker::Model;
 
 /// The fix categories of a hold (IBM z/OS SMP/E Reference, `++HOLD`, operand CATEGORY), in
@@ -46,6 +50,18 @@ impl Categories {
         } else {
             None
         }
+    }
+
+    // The categories of a set.
+    pub(crate) fn from_set(alloc: Global, texts: &BTreeSet<&[u8]>) -> Result<Self, NoMemory>
+        requires { IsTrue (are_categories (bytes_of_each texts.now.keys)) }
+        ensures { IfOk result (λ categories. categories ≡ bytes_of_each texts.now.keys) }
+    {
+        let mut items = Vec::with_capacity(alloc, texts.len())?;
+        for text in texts {
+            items.push(Vec::from_slice(alloc, text)?)?;
+        }
+        Ok(Categories { items })
     }
 
     /// The categories in ascending order of their bytes, each once.
@@ -94,26 +110,7 @@ fn are_in_order(items: &[Vec<u8>]) -> bool
 fn are_allowed(items: &[Vec<u8>]) -> bool
     ensures { result ≡ list_all (λ item. is_category item.items) items.now }
 {
-    items.iter().all(|item| is_allowed(item))
-}
-
-// Whether a category may have this text.
-fn is_allowed(text: &[u8]) -> bool
-    ensures { result ≡ is_category text.now }
-{
-    matches!(text.len(), 1..=64) && are_allowed_bytes(text)
-}
-
-fn are_allowed_bytes(text: &[u8]) -> bool
-    ensures { result ≡ list_all is_category_byte text.now }
-{
-    text.iter().all(|b| is_allowed_byte(*b))
-}
-
-fn is_allowed_byte(b: u8) -> bool
-    ensures { result ≡ is_category_byte b }
-{
-    matches!(b, b'!'..=b'~') && !matches!(b, b'\'' | b'(' | b')' | b',')
+    items.iter().all(|item| is_category(item))
 }
 
 fn are_ascending(items: &[Vec<u8>]) -> bool

@@ -3,6 +3,7 @@ ghost use Rattle.std.specs.Prelude.{◌≡◌};
 ghost use Rattle.holddata.specs.HoldFault.{fault_number, fault_line};
 ghost use Rattle.holddata.specs.declared.fault.HoldFault.TheVariants.{Memory};
 
+use faults::{Cause, Fault};
 use std::alloc::{AllocError, AllocFailed};
 use thiserror::Error;
 
@@ -25,6 +26,9 @@ pub enum HoldFault {
     /// The operand DATE has a value that is no date, or more than one.
     #[error("line {0}: the date is not one of five digits, the last three 001 to 366")]
     BadDate(u32),
+    /// The operand CATEGORY has a value that is no fix category.
+    #[error("line {0}: a category is not one of 1 to 64 printable characters without ' ( ) and ,")]
+    BadCategory(u32),
     /// Memory ran out.
     #[error("memory ran out")]
     Memory,
@@ -41,6 +45,7 @@ impl HoldFault {
             HoldFault::NoReason(_) => 13,
             HoldFault::BadId(_) => 14,
             HoldFault::BadDate(_) => 15,
+            HoldFault::BadCategory(_) => 16,
             HoldFault::Memory => 17,
         }
     }
@@ -54,8 +59,43 @@ impl HoldFault {
             | HoldFault::TwoKinds(line)
             | HoldFault::NoReason(line)
             | HoldFault::BadId(line)
-            | HoldFault::BadDate(line) => Some(line),
+            | HoldFault::BadDate(line)
+            | HoldFault::BadCategory(line) => Some(line),
             HoldFault::Memory => None,
+        }
+    }
+}
+
+impl Fault for HoldFault {
+    ghost use Rattle.holddata.specs.HoldFault.{fault_cause, fault_line, fault_number};
+    ghost use Rattle.std.proofs.Common.{rules};
+    ghost use Rattle.holddata.specs.declared.fault.HoldFault.TheVariants.{NoKind, TwoKinds, NoReason, BadId, BadDate, BadCategory, Memory};
+
+    ghost number = { fault_number };
+
+    ghost place = { fault_line };
+
+    ghost cause = { fault_cause };
+
+    ghost numbers = { elim [ NoKind _ ↦ Prim.search rules | TwoKinds _ ↦ Prim.search rules | NoReason _ ↦ Prim.search rules | BadId _ ↦ Prim.search rules | BadDate _ ↦ Prim.search rules | BadCategory _ ↦ Prim.search rules | Memory ↦ Prim.search rules ] };
+
+    fn number(self) -> u8 {
+        self.number()
+    }
+
+    fn place(self) -> Option<u32> {
+        self.line()
+    }
+
+    fn cause(self) -> Cause {
+        match self {
+            HoldFault::NoKind(_)
+            | HoldFault::TwoKinds(_)
+            | HoldFault::NoReason(_)
+            | HoldFault::BadId(_)
+            | HoldFault::BadDate(_)
+            | HoldFault::BadCategory(_) => Cause::Input,
+            HoldFault::Memory => Cause::Machine,
         }
     }
 }

@@ -110,8 +110,8 @@ fn is_either(name: &[u8], long: &[u8], short: &[u8]) -> bool
     is_named(name, long) || is_named(name, short)
 }
 
-// Whether the names are the same but for ASCII case.
-fn is_named(name: &[u8], wanted: &[u8]) -> bool
+/// Whether the names are the same but for ASCII case.
+pub(crate) fn is_named(name: &[u8], wanted: &[u8]) -> bool
     ensures { result ≡ str_eq_ignore_ascii_case name.now wanted.now }
 {
     name.eq_ignore_ascii_case(wanted)

@@ -1,57 +1,79 @@
 //! The hold book in print.
-ghost use Rattle.std.specs.Prelude.{◌≡◌, ◌++◌, ℕ, Option, OnOk};
+ghost use Rattle.std.specs.Prelude.{◌≡◌, ◌++◌, ◌∷◌, [], ℕ, List, map, Option, OnOk, IfOk};
 ghost use Rattle.std.specs.List.{join_with_byte};
 ghost use Rattle.std.specs.Option.{option_copied, option_map};
 ghost use Rattle.mcs_reader.specs.Bytes.{bytes_of_each};
 ghost use Rattle.holddata.specs.declared.hold.Hold.{Hold};
 ghost use Rattle.holddata.specs.Categories.{texts_of};
 ghost use Rattle.holddata.specs.HoldKey.{kind_name};
-ghost use Rattle.holddata.specs.Table.{row_of, heading_of};
+ghost use Rattle.columns.specs.Table.{table_with};
 ghost use Rattle.holddata.specs.BookText.{hold_columns, hold_fields, id_field, date_field, category_field};
 ghost use Rattle.holddata.specs.Date.{date_digits};
 
-use crate::table::push_row;
 use crate::{Date, Hold, Kind, NoMemory};
+use columns::{Column, Table};
 use mcs_reader::Id;
+use std::alloc::Global;
 
-// How wide each column is. The last field isn't padded.
-const WIDTHS: [u8; 8] = [9, 8, 9, 9, 9, 7, 9, 0];
+// Where each column begins, and its name.
+const COLUMNS: [Column; 8] = [
+    Column {
+        place: 1,
+        name: b"SYSMOD",
+    },
+    Column {
+        place: 10,
+        name: b"KIND",
+    },
+    Column {
+        place: 18,
+        name: b"REASON",
+    },
+    Column {
+        place: 27,
+        name: b"FMID",
+    },
+    Column {
+        place: 36,
+        name: b"CLASS",
+    },
+    Column {
+        place: 45,
+        name: b"DATE",
+    },
+    Column {
+        place: 52,
+        name: b"RESOLVER",
+    },
+    Column {
+        place: 61,
+        name: b"CATEGORY",
+    },
+];
 
 // What stands for an absent field.
 const ABSENT: &[u8] = b"-";
 
-/// Puts the heading of the hold book behind a text.
-pub(crate) fn push_heading(text: &mut Vec<u8>) -> Result<(), NoMemory>
-    ensures { OnOk result (text.new.items ≡ text.old.items ++ heading_of hold_columns) }
+/// A table for holds.
+pub(crate) fn hold_table(alloc: Global) -> Result<Table<'static>, NoMemory>
+    ensures { IfOk result (λ table. table ≡ table_with hold_columns None []) }
 {
-    push_row(
-        text,
-        &WIDTHS,
-        &[
-            b"SYSMOD",
-            b"KIND",
-            b"REASON",
-            b"FMID",
-            b"CLASS",
-            b"DATE",
-            b"RESOLVER",
-            b"CATEGORY",
-        ],
-    )
+    Table::new(alloc, &COLUMNS, None)
 }
 
-/// Puts the row of a hold behind a text. `joined` is room for its categories.
+/// Puts the row of a hold under those of others. `joined` is room for its categories.
 pub(crate) fn push_hold(
-    text: &mut Vec<u8>,
+    table: &mut Table,
     joined: &mut Vec<u8>,
     hold: &Hold,
 ) -> Result<(), NoMemory>
-    ensures { OnOk result (text.new.items ≡ text.old.items ++ row_of hold_columns (hold_fields hold.now)) }
+    ensures { (holds : List Hold) → table.old ≡ table_with hold_columns None (map hold_fields holds) →
+        OnOk result (table.new ≡ table_with hold_columns None (map hold_fields (holds ++ hold.now ∷ []))) }
 {
     join_categories(joined, hold.categories.as_slice())?;
     let digits = hold.dated.map(Date::digits);
     let fields = fields_of(hold, date_field(&digits), joined.as_slice());
-    push_row(text, &WIDTHS, &fields)
+    table.push(&fields)
 }
 
 // What stands in the columns.

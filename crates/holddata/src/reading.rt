@@ -6,14 +6,19 @@ ghost use Rattle.holddata.specs.Given.{Shows};
 ghost use Rattle.holddata.specs.Statements.{key_named, hold_of, kind_faults, key_faults, faults_of, first_of, first_fault, change_of, changes_of};
 ghost use Rattle.mcs_reader.specs.declared.statement.Statement.{Statement};
 ghost use Rattle.mcs_reader.specs.declared.statement.Verb.TheVariants as verb;
-ghost use Rattle.holddata.specs.declared.fault.HoldFault.TheVariants.{NoReason, BadId, BadDate, Memory};
+ghost use Rattle.holddata.specs.declared.fault.HoldFault.TheVariants.{NoReason, BadId, BadDate, BadCategory, Memory};
+ghost use Rattle.faults.specs.Refusal.{IsRefusal};
+ghost use Rattle.std.specs.List.{list_all};
+ghost use Rattle.mcs_reader.specs.Category.{is_category};
+ghost use Rattle.holddata.specs.Categories.{in_order, IsInOrder};
 
+use crate::category_values::{are_categories_given, category_set};
 use crate::operands::{Given, kinds_given, values_given};
 use crate::{Categories, Date, Hold, HoldChange, HoldFault, HoldKey, Kind};
 use mcs_reader::{Id, Operand, Statement, Verb};
 use std::alloc::Global;
 
-/// What the statements do to the holds, in order (IBM z/OS SMP/E Reference, `++HOLD`).
+/// What the statements do to the holds, in order (IBM z/OS SMP/E Reference, `++HOLD`, `++RELEASE`).
 ///
 /// The first statement with a fault decides, and in it the fault with the lowest number. Want of
 /// memory is [`HoldFault::Memory`].
@@ -21,7 +26,10 @@ use std::alloc::Global;
 pub fn changes(alloc: Global, statements: &[Statement]) -> Result<Vec<HoldChange>, HoldFault>
     ensures changes { IfOk result (λ changes. changes.items ≡ changes_of statements.now) }
     ensures no_fault { OnOk result (first_fault statements.now ≡ None) }
-    ensures fault { IfErr result (λ fault. fault ≢ Memory → first_fault statements.now ≡ Some fault) }
+    ensures fault { IfErr result (IsRefusal Memory (λ fault. first_fault statements.now ≡ Some fault)) }
+
+    // The categories of a hold are those that its statement gives.
+    ensures in_order { (texts : List (List ℕ)) → IsInOrder texts (in_order texts) }
 
     // No change is lost: a statement without a fault names a key.
     ensures named { (statement : Statement) → key_faults statement ≡ [] → IsSome (key_named statement) }
@@ -39,10 +47,12 @@ pub fn changes(alloc: Global, statements: &[Statement]) -> Result<Vec<HoldChange
 pub fn change(alloc: Global, statement: &Statement) -> Result<Option<HoldChange>, HoldFault>
     ensures change { IfOk result (λ change. change ≡ change_of statement.now) }
     ensures no_fault { OnOk result (faults_of statement.now ≡ []) }
-    ensures fault { IfErr result (λ fault. fault ≢ Memory → first_of (faults_of statement.now) ≡ Some fault) }
+    ensures fault { IfErr result (IsRefusal Memory (λ fault. first_of (faults_of statement.now) ≡ Some fault)) }
 {
     match statement.verb {
         Verb::Hold => Ok(Some(HoldChange::Put(hold_by(alloc, statement)?))),
+        Verb::Release => Ok(Some(HoldChange::Release(released_by(statement)?))),
+        Verb::Func | Verb::Ptf | Verb::Apar | Verb::Usermod | Verb::Ver => Ok(None),
     }
 }
 
@@ -52,22 +62,56 @@ fn hold_by(alloc: Global, statement: &Statement) -> Result<Hold, HoldFault>
     requires { statement.now.verb ≡ verb.Hold }
     ensures hold { IfOk result (λ hold. hold_of statement.now ≡ Some hold) }
     ensures no_fault { OnOk result (faults_of statement.now ≡ []) }
-    ensures fault { IfErr result (λ fault. first_of (faults_of statement.now) ≡ Some fault) }
+    ensures fault { IfErr result (IsRefusal Memory (λ fault. first_of (faults_of statement.now) ≡ Some fault)) }
 {
     let key = key_by(statement)?;
     let line = statement.line;
     let operands = statement.operands.as_slice();
     let fmid = optional_id(line, values_given(operands, b"FMID"))?;
     let class = optional_id(line, values_given(operands, b"CLASS"))?;
+    let resolver = optional_id(line, values_given(operands, b"RESOLVER"))?;
     let dated = optional_date(line, values_given(operands, b"DATE"))?;
+    let categories = categories_in(alloc, line, operands)?;
     Ok(Hold {
         key,
         fmid,
         class,
-        resolver: None,
+        resolver,
         dated,
-        categories: Categories::new(alloc),
+        categories,
     })
+}
+
+// The key of the hold that a `++RELEASE` statement takes away. The FMID plays no role in that, but has to be
+// an id where it is given.
+#[tactic(auto, using(crate::proofs::StatementLemmas::first_of_longer))]
+fn released_by(statement: &Statement) -> Result<HoldKey, HoldFault>
+    requires { statement.now.verb ≡ verb.Release }
+    ensures key { IfOk result (λ key. key_named statement.now ≡ Some key) }
+    ensures no_fault { OnOk result (faults_of statement.now ≡ []) }
+    ensures fault { IfErr result (λ fault. first_of (faults_of statement.now) ≡ Some fault) }
+{
+    let key = key_by(statement)?;
+    optional_id(
+        statement.line,
+        values_given(statement.operands.as_slice(), b"FMID"),
+    )?;
+    Ok(key)
+}
+
+// The categories that operands give, in ascending order, each once.
+#[tactic(auto, using(crate::proofs::CategoryLemmas::in_order_allowed))]
+fn categories_in(alloc: Global, line: u32, operands: &[Operand]) -> Result<Categories, HoldFault>
+    ensures categories { IfOk result (λ categories. categories ≡ in_order (values_of (codes "CATEGORY") (operand_texts operands.now))) }
+    ensures good { OnOk result (list_all is_category (values_of (codes "CATEGORY") (operand_texts operands.now)) ≡ true) }
+    ensures bad { IfErr result (IsRefusal Memory (λ fault.
+        (fault ≡ BadCategory line) × (list_all is_category (values_of (codes "CATEGORY") (operand_texts operands.now)) ≡ false))) }
+{
+    if !are_categories_given(operands) {
+        return Err(HoldFault::BadCategory(line));
+    }
+    let texts = category_set(alloc, operands)?;
+    Ok(Categories::from_set(alloc, &texts)?)
 }
 
 // The key that a statement names.

@@ -1,8 +1,7 @@
 use crate::{
     Categories, Date, Hold, HoldBook, HoldChange, HoldFault, HoldKey, Kind, book_left, changes,
-    push_count, push_row,
 };
-use mcs_reader::{Id, Operand, Operands, Statement, Values, Verb};
+use mcs_reader::{Id, Operand, Operands, Statement, Values, Verb, read};
 use std::alloc::Global;
 use std::test::Fail;
 
@@ -69,7 +68,7 @@ fn a_book_prints_its_rows(rt: HostRuntime) -> Result<(), Fail> {
 #[test]
 fn a_statement_with_a_fault_is_refused(rt: HostRuntime) -> Result<(), Fail> {
     let alloc = rt.alloc();
-    let cases: [(&[Given], u8); 9] = [
+    let cases: [(&[Given], u8); 14] = [
         (&[(b"REASON", b"AA20002")], 11),
         (
             &[(b"ERROR", b""), (b"SYSTEM", b""), (b"REASON", b"AA20002")],
@@ -96,6 +95,41 @@ fn a_statement_with_a_fault_is_refused(rt: HostRuntime) -> Result<(), Fail> {
         (
             &[(b"ERROR", b""), (b"REASON", b"A"), (b"DATE", b"012366")],
             15,
+        ),
+        (
+            &[(b"ERROR", b""), (b"REASON", b"A"), (b"RESOLVER", b"ua1")],
+            14,
+        ),
+        (
+            &[
+                (b"ERROR", b""),
+                (b"REASON", b"A"),
+                (b"RESOLVER", b"UA1"),
+                (b"RESOLVER", b"UA1"),
+            ],
+            14,
+        ),
+        (
+            &[(b"ERROR", b""), (b"REASON", b"A"), (b"CATEGORY", b"A'B")],
+            16,
+        ),
+        (
+            &[
+                (b"ERROR", b""),
+                (b"REASON", b"A"),
+                (b"CATEGORY", b"A'B"),
+                (b"DATE", b"1"),
+            ],
+            15,
+        ),
+        (
+            &[
+                (b"ERROR", b""),
+                (b"REASON", b"A"),
+                (b"CATEGORY", b"A'B"),
+                (b"FMID", b"a"),
+            ],
+            14,
         ),
     ];
     for (given, number) in cases {
@@ -129,8 +163,8 @@ fn other_spellings_are_accepted(rt: HostRuntime) -> Result<(), Fail> {
             &[
                 (b"FIXCAT", b""),
                 (b"REASON", b"AA20002"),
-                (b"RESOLVER", b"ua"),
-                (b"CATEGORY", b"A'B"),
+                (b"SMPTLIB", b"ua"),
+                (b"COMMENT", b"A'B"),
             ],
             Kind::FixcatHold,
             None,
@@ -142,6 +176,98 @@ fn other_spellings_are_accepted(rt: HostRuntime) -> Result<(), Fail> {
         assert_eq!(rt; hold.dated.map(Date::number), dated);
         assert!(rt; hold.resolver.is_none());
         assert!(rt; hold.categories.as_slice().is_empty());
+    }
+    Ok(())
+}
+
+// The book of a source in print, or the number and the place of the fault of its holds.
+fn print_of(alloc: Global, source: &[u8]) -> Result<Result<Vec<u8>, (u8, Option<u32>)>, Fail> {
+    let statements = read(alloc, source)?;
+    match changes(alloc, &statements) {
+        Ok(changes) => Ok(Ok(book_left(alloc, changes)?.text()?)),
+        Err(fault) => Ok(Err((fault.number(), fault.line()))),
+    }
+}
+
+#[test]
+fn sources_and_their_books(rt: HostRuntime) -> Result<(), Fail> {
+    let alloc = rt.alloc();
+    let cases: [(&[u8], &str); 7] = [
+        (
+            b"++HOLD(HBB7790) FIXCAT FMID(HBB7790) REASON(AA40001)\n RESOLVER(UA10009) COMMENT(SEE (2.1). AND /* TOO)\n CATEGORY(IBM.Device.Server,IBM.Device).\n",
+            "HBB7790  FIXCAT  AA40001  HBB7790  -        -      UA10009  IBM.Device,IBM.Device.Server\nROWS 1\n",
+        ),
+        (
+            b"++HOLD(UA10001) ERR FMID(HBB7790) REASON(AA20002) CLASS(PE).\n++RELEASE(UA10001) ERROR FMID(HXX0001) REASON(AA20002).\n++ HOLD(UA10001) ERROR FMID(HBB7790) REASON(AA20002) CLASS(HIPER).\n",
+            "UA10001  ERROR   AA20002  HBB7790  HIPER    -      -        -\nROWS 1\n",
+        ),
+        (
+            b"++HOLD(UA10001) ERR REASON(AA20002).\n++RELEASE(UA10001) ERROR REASON(AA20002) RESOLVER(x y)\n CATEGORY(A'B) DATE(1) CLASS(a).\n",
+            "ROWS 0\n",
+        ),
+        (
+            b"++HOLD(UA10001) ERR REASON(AA20002).\n++RELEASE(UA10001) SYSTEM REASON(AA20002).\n++RELEASE(UA10002) ERROR REASON(AA20002).\n",
+            "UA10001  ERROR   AA20002  -        -        -      -        -\nROWS 1\n",
+        ),
+        (
+            b"++HOLD(UA10001) USER REASON(A) CATEGORY(B,a B)\n RESOLVER(UA2) CATEGORY((C)B,A).\n",
+            "UA10001  USER    A        -        -        -      UA2      A,B,C,a\nROWS 1\n",
+        ),
+        (b"++VER(Z038).\n", "ROWS 0\n"),
+        (
+            b"++PTF(UA10001) REWORK(2012).\n++VER(Z038) PRE(a).\n",
+            "ROWS 0\n",
+        ),
+    ];
+    for (source, rows) in cases {
+        let want = format!(in alloc; "{HEADING}{rows}")?.into_bytes();
+        assert!(rt; print_of(alloc, source)? == Ok(want));
+    }
+    let refused: [(&[u8], u8, u32); 4] = [
+        (
+            b"++HOLD(UA10001) ERROR REASON(AA20002)\n CATEGORY(A'B).\n",
+            16,
+            1,
+        ),
+        (
+            b"++RELEASE(UA10001) ERROR REASON(AA20002) FMID(a).\n",
+            14,
+            1,
+        ),
+        (b"\n++RELEASE(UA10001) REASON(AA20002).\n", 11, 2),
+        (b"++RELEASE(UA10001) ERROR CLASS(a b).\n", 13, 1),
+    ];
+    for (source, number, line) in refused {
+        assert!(rt; print_of(alloc, source)? == Err((number, Some(line))));
+    }
+    Ok(())
+}
+
+#[test]
+fn the_holds_on_one_sysmod(rt: HostRuntime) -> Result<(), Fail> {
+    let alloc = rt.alloc();
+    let source =
+        b"++HOLD(B) USER REASON(Z).\n++HOLD(A) ERR REASON(Z).\n++HOLD(B) ERR REASON(Z).\n++HOLD(B) ERR REASON(#).\n++HOLD(B) FIXCAT REASON(ZZZZZZZ).\n++HOLD(BA) ERR REASON(A).\n++HOLD(C) ERR REASON(A).\n";
+    let statements = read(alloc, source)?;
+    let book = book_left(alloc, changes(alloc, &statements)?)?;
+    for (sysmod, count) in [
+        (b"A" as &[u8], 1),
+        (b"B", 4),
+        (b"BA", 1),
+        (b"AZ", 0),
+        (b"D", 0),
+    ] {
+        let id = Id::new(sysmod).ok_or("an id")?;
+        let holds = book.holds_on(&id)?;
+        assert_eq!(rt; holds.len(), count);
+        for hold in &holds {
+            assert!(rt; hold.key.sysmod == id);
+        }
+    }
+    let holds = book.holds_on(&Id::new(b"B").ok_or("an id")?)?;
+    let reasons: [&str; 4] = ["#", "Z", "Z", "ZZZZZZZ"];
+    for (hold, reason) in holds.iter().zip(reasons) {
+        assert_eq!(rt; hold.key.reason.text(), reason);
     }
     Ok(())
 }
@@ -244,16 +370,5 @@ fn categories_ascend_and_are_allowed(rt: HostRuntime) -> Result<(), Fail> {
         assert_eq!(rt; Categories::from_vec(items).is_some(), accepted);
     }
     assert!(rt; Categories::new(alloc).into_vec().is_empty());
-    Ok(())
-}
-
-#[test]
-fn a_table_has_its_columns(rt: HostRuntime) -> Result<(), Fail> {
-    let mut text = Vec::new(rt.alloc());
-    push_row(&mut text, &[10, 0], &[b"ZONE", b"SYSMODS"])?;
-    push_row(&mut text, &[10, 0], &[b"TGT1", b"2"])?;
-    push_count(&mut text, 1)?;
-    let want: &[u8] = b"ZONE      SYSMODS\nTGT1      2\nROWS 1\n";
-    assert_eq!(rt; text.as_slice(), want);
     Ok(())
 }

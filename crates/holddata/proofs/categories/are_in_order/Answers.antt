@@ -1,6 +1,6 @@
 use Rattle.std.proofs.Common.{ℕ, Vec, Global}
 use Rattle.std.proofs.lemmas.List.Folds.{list_all-map}
-use Rattle.holddata.specs.Categories.{is_category}
+use Rattle.mcs_reader.specs.Category.{is_category}
 use Rattle.holddata.proofs.categories.are_in_order.Goals as goal
 
 pub returns-then-are_allowed : goal.returns-then-are_allowed
