@@ -10,7 +10,7 @@ use Rattle.std.proofs.lemmas.List.Elements.{Contains-append_cases, Contains-appe
 use Rattle.zone_lists.specs.Fields.{Record}
 use Rattle.zone_lists.specs.Lists.{AnyStandsFor, IsListed, ListKind, Numbered, answer, in_order}
 use Rattle.zone_lists.specs.declared.fault.ListFault.{ListFault}
-use Rattle.zone_lists.proofs.ListFacts.{answer_behind, answer_read, behind, go_on, in_order_more, next_entry}
+use Rattle.zone_lists.proofs.ListFacts.{answer_after, answer_read, after, go_on, in_order_more, next_entry}
 
 -- an element of a list, element by element
 abbrev In : {X : Type 0} → List X → X → Type 0
@@ -86,10 +86,10 @@ none_passes test (y ∷ ys) x none (inl same) = rw (← same) ((or_parts (test y
 none_passes test (y ∷ ys) x none (inr later) = none_passes test ys x ((or_parts (test y) (list_any test ys) none).1) later
 
 module _ {Entry : Type 0} (kind : ListKind Entry) where
-  -- what an entry behind others tells: it stands there by itself, and contradicts none
-  behind_ok : (earlier : List Entry) (r : Result Entry Numbered) (entry : Entry) → behind kind earlier r ≡ Ok entry → (r ≡ Ok entry) × (list_any (kind.contradicts entry) earlier ≡ false)
-  behind_ok earlier (Err fault) entry h = absurd (cc)
-  behind_ok earlier (Ok e) entry h =
+  -- what an entry after others tells: it stands there by itself, and contradicts none
+  after_ok : (earlier : List Entry) (r : Result Entry Numbered) (entry : Entry) → after kind earlier r ≡ Ok entry → (r ≡ Ok entry) × (list_any (kind.contradicts entry) earlier ≡ false)
+  after_ok earlier (Err fault) entry h = absurd (cc)
+  after_ok earlier (Ok e) entry h =
       elim (cases_Bool (list_any (kind.contradicts e) earlier)) [
         | inl some ↦ absurd (let g = rw some at h in cc g)
         | inr none ↦ let g = rw none at h in let same : e ≡ entry = cc g in (ap (λ v. Ok v) same, rw (← same) none)
@@ -100,7 +100,7 @@ module _ {Entry : Type 0} (kind : ListKind Entry) where
   next_ok earlier fields entry h =
       elim (cases_Bool (nat_le kind.limit (length earlier))) [
         | inl full ↦ absurd (let g = rw full at h in cc g)
-        | inr room ↦ behind_ok earlier (kind.entry fields) entry (rw room at h)
+        | inr room ↦ after_ok earlier (kind.entry fields) entry (rw room at h)
       ]
 
   -- the entries of earlier records, put in order, are these entries
@@ -128,8 +128,8 @@ module _ {Entry : Type 0} (kind : ListKind Entry) where
   )
 
   each_step : IsExact → (earlier : List Entry) (fields : Record) (rest : List Record) (all : List Entry) → Same earlier
-      → ((earlier : List Entry) → Same earlier → answer_behind kind earlier rest ≡ Ok all → (x : Entry) → (In all x → In earlier x ⊎ AnyStandsFor kind rest x) × (In earlier x ⊎ AnyStandsFor kind rest x → In all x))
-      → (o : Result Entry ListFault) → next_entry kind earlier fields ≡ o → go_on kind (λ entry. answer_behind kind (earlier ++ entry ∷ []) rest) o ≡ Ok all
+      → ((earlier : List Entry) → Same earlier → answer_after kind earlier rest ≡ Ok all → (x : Entry) → (In all x → In earlier x ⊎ AnyStandsFor kind rest x) × (In earlier x ⊎ AnyStandsFor kind rest x → In all x))
+      → (o : Result Entry ListFault) → next_entry kind earlier fields ≡ o → go_on kind (λ entry. answer_after kind (earlier ++ entry ∷ []) rest) o ≡ Ok all
       → (x : Entry) → (In all x → In earlier x ⊎ AnyStandsFor kind (fields ∷ rest) x) × (In earlier x ⊎ AnyStandsFor kind (fields ∷ rest) x → In all x)
   each_step exact earlier fields rest all same more (Err fault) next answers x = absurd (cc answers)
   each_step exact earlier fields rest all same more (Ok entry) next answers x =
@@ -148,25 +148,25 @@ module _ {Entry : Type 0} (kind : ListKind Entry) where
         ],
       )
 
-  each_behind : IsExact → (earlier : List Entry) (records : List Record) (all : List Entry) → Same earlier → answer_behind kind earlier records ≡ Ok all
+  each_after : IsExact → (earlier : List Entry) (records : List Record) (all : List Entry) → Same earlier → answer_after kind earlier records ≡ Ok all
       → (x : Entry) → (In all x → In earlier x ⊎ AnyStandsFor kind records x) × (In earlier x ⊎ AnyStandsFor kind records x → In all x)
-  each_behind exact earlier [] all same answers x =
+  each_after exact earlier [] all same answers x =
       let is : in_order kind earlier ≡ all = cc answers in
       (λ h. inl ((same x).0 (rw is h)), λ h. elim h [ inl old ↦ rw (← is) ((same x).1 old) | inr none ↦ absurd none ])
-  each_behind exact earlier (fields ∷ rest) all same answers x =
-      each_step exact earlier fields rest all same (λ before same2 answers2 y. each_behind exact before rest all same2 answers2 y) (next_entry kind earlier fields) refl answers x
+  each_after exact earlier (fields ∷ rest) all same answers x =
+      each_step exact earlier fields rest all same (λ before same2 answers2 y. each_after exact before rest all same2 answers2 y) (next_entry kind earlier fields) refl answers x
 
   each_from : IsExact → (records : List Record) (all : List Entry) → answer kind records ≡ Ok all → (x : Entry) → (In all x → IsListed kind records x) × (IsListed kind records x → In all x)
   each_from exact [] all answers x = absurd (cc answers)
   each_from exact (header ∷ rest) all answers x =
       elim (cases_Bool (kind.is_header header)) [
         | inl is ↦
-            let found = each_behind exact [] rest all (λ y. (λ h. h, λ h. h)) (sym (answer_read kind header rest is) ∙ answers) x in
+            let found = each_after exact [] rest all (λ y. (λ h. h, λ h. h)) (sym (answer_read kind header rest is) ∙ answers) x in
             (λ h. elim (found.0 h) [ inl none ↦ absurd none | inr later ↦ later ], λ h. found.1 (inr h))
         | inr other ↦ absurd (let g = rw other at answers in cc g)
       ]
 
-  -- the entries of an answer are those that the records behind the header stand for
+  -- the entries of an answer are those that the records after the header stand for
   pub each : IsExact → (records : List Record) (all : List Entry) → answer kind records ≡ Ok all → (x : Entry) → Contains all x ↔ IsListed kind records x
   each exact records all answers x =
       let found = each_from exact records all answers x in

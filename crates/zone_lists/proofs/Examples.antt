@@ -1,7 +1,10 @@
 -- Worked examples of the definitions: what lists stand for, and their first faults.
 use Rattle.std.proofs.Common.{◌≡◌, true, false, [], ◌∷◌, Ok, Err, codes, refl}
 use Rattle.csv.proofs.OnLiterals.{csv_on_literals}
-use Rattle.zone_lists.specs.Kinds.{patterns_of, received_rows_of, row_of, zone_rows_of}
+use Rattle.zone_lists.specs.Gathered.{row_of}
+use Rattle.zone_lists.specs.PatternList.{patterns_of}
+use Rattle.zone_lists.specs.ReceivedList.{received_rows_of}
+use Rattle.zone_lists.specs.ZoneList.{zone_rows_of}
 use Rattle.zone_lists.specs.Pattern.{does_match, is_pattern}
 use Rattle.zone_lists.specs.declared.fault.ListFault.TheVariants.{Header, BadRecord, BadId, BadState, BadPattern, Repeated}
 use Rattle.zone_lists.specs.declared.zones.ZoneState.TheVariants.{Applied, Superseded}
@@ -40,9 +43,9 @@ three_fields : zone_rows_of (codes "SYSMOD,STATE\nUA10001,APPLIED,X\n") ≡ Err 
 unfolding csv_on_literals
 three_fields = refl
 
-behind_an_empty_line : zone_rows_of (codes "SYSMOD,STATE\n\nua10001,APPLIED\n") ≡ Err (BadId 1)
+after_an_empty_line : zone_rows_of (codes "SYSMOD,STATE\n\nua10001,APPLIED\n") ≡ Err (BadId 1)
 unfolding csv_on_literals
-behind_an_empty_line = refl
+after_an_empty_line = refl
 
 small_state : zone_rows_of (codes "SYSMOD,STATE\nUA10001,applied\n") ≡ Err (BadState 1)
 unfolding csv_on_literals

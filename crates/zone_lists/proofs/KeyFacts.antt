@@ -1,5 +1,5 @@
--- The entries of a list of one column that were read so far, and the set that keeps them.
-use Rattle.std.proofs.Common.{◌≡◌, ℕ, ◌+◌, ◌<◌, ◌∙◌, ◌↔◌, false, List, [], ◌∷◌, ◌++◌, length, Result, Ok, refl, sym, ap, length-append}
+-- A set of the entries of a list of one column.
+use Rattle.std.proofs.Common.{◌≡◌, ℕ, ◌∙◌, ◌↔◌, false, List, [], ◌∷◌, ◌++◌, Ok, refl, sym, ap}
 use Rattle.std.specs.BTreeSet.{insert_key}
 use Rattle.std.specs.Cmp.Lexicographic.{slice_cmp}
 use Rattle.std.specs.List.{Contains, list_any}
@@ -8,38 +8,20 @@ use Rattle.std.specs.declared.cmp.Ordering.TheVariants.{Equal}
 use Rattle.std.proofs.lemmas.Map.Text.{is_eq-slice_cmp}
 use Rattle.std.proofs.lemmas.Slice.Eq.{bytes_eq-Decides}
 use Rattle.zone_lists.specs.Fields.{Record}
-use Rattle.zone_lists.specs.Kinds.{never, pattern_list, received_list}
-use Rattle.zone_lists.specs.Lists.{IsListed, ListKind, answer, in_order}
-use Rattle.zone_lists.specs.declared.fault.ListFault.{ListFault}
+use Rattle.zone_lists.specs.Lists.{IsListed, ListKind, answer, in_order, never}
+use Rattle.zone_lists.specs.PatternList.{pattern_list}
+use Rattle.zone_lists.specs.ReceivedList.{received_list}
 use Rattle.zone_lists.proofs.EachFacts.{each}
-use Rattle.zone_lists.proofs.ListFacts.{answer_behind, in_order_more, taken}
+use Rattle.zone_lists.proofs.ListFacts.{in_order_more}
 
--- n records stand behind the header up to here; a set has their entries, and the records left decide the answer
-pub record ReadsKeys (kind : ListKind (List ℕ)) (answer : Result (List (List ℕ)) ListFault) (n : ℕ) (left : List Record) (keys : List (List ℕ)) : Type 0 where
-  pub seen : List (List ℕ)
-  pub count : length seen ≡ n
-  pub placed : keys ≡ in_order kind seen
-  pub answers : answer ≡ answer_behind kind seen left
+pub calm : {Entry : Type 0} (entry : Entry) (came : List Entry) → list_any (never entry) came ≡ false
+calm entry [] = refl
+calm entry (x ∷ xs) = calm entry xs
 
--- at the header
-pub keys_begin : (kind : ListKind (List ℕ)) (answer : Result (List (List ℕ)) ListFault) (n : ℕ) (left : List Record) (keys : List (List ℕ))
-    → answer ≡ answer_behind kind [] left → n ≡ 0 → keys ≡ [] → ReadsKeys kind answer n left keys
-keys_begin kind answer n left keys answers zero none = record { seen = []; count = sym zero; placed = none; answers = answers }
-
-calm : (key : List ℕ) (seen : List (List ℕ)) → list_any (never key) seen ≡ false
-calm key [] = refl
-calm key (x ∷ xs) = calm key xs
-
--- one more entry, which contradicts none
-pub key_added : (kind : ListKind (List ℕ)) (answer : Result (List (List ℕ)) ListFault) (n : ℕ) (fields : Record) (left : List Record) (keys keys2 : List (List ℕ)) (key : List ℕ)
-    → kind.contradicts ≡ never → ReadsKeys kind answer n (fields ∷ left) keys → n < kind.limit → kind.entry fields ≡ Ok key
-    → keys2 ≡ insert_key kind.order keys key → ReadsKeys kind answer (n + 1) left keys2
-key_added kind answer n fields left keys keys2 key free rows below is added = record {
-  seen = rows.seen ++ key ∷ [];
-  count = length-append rows.seen (key ∷ []) ∙ ap (λ k. k + 1) rows.count;
-  placed = added ∙ ap (λ placed. insert_key kind.order placed key) rows.placed ∙ sym (in_order_more kind rows.seen key);
-  answers = rows.answers ∙ taken kind rows.seen fields left key (rw rows.count below) is (rw free (calm key rows.seen));
-}
+-- one more entry, put in its place in a set
+pub key_added : (kind : ListKind (List ℕ)) (came keys keys2 : List (List ℕ)) (key : List ℕ) → keys ≡ in_order kind came → keys2 ≡ insert_key kind.order keys key
+    → keys2 ≡ in_order kind (came ++ key ∷ [])
+key_added kind came keys keys2 key placed added = added ∙ ap (λ places. insert_key kind.order places key) placed ∙ sym (in_order_more kind came key)
 
 -- ---- keys as entries of a list
 

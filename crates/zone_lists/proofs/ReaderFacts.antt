@@ -35,11 +35,11 @@ none_at_end cfg zero = refl
 none_at_end cfg (suc n) = refl
 
 -- a text has the same records, however many more are asked for than it has bytes
-same_behind : (cfg : Config) (m n : ℕ) (bytes : List ℕ)
+same_after : (cfg : Config) (m n : ℕ) (bytes : List ℕ)
     → ((s : State) (rest : List ℕ) → length rest < m → length rest < n → records_from cfg m s rest ≡ records_from cfg n s rest)
     → length bytes < suc m → length bytes < suc n → (o : Option Read) → Takes bytes o → records_next (records_from cfg m) o ≡ records_next (records_from cfg n) o
-same_behind cfg m n bytes same below also None takes = refl
-same_behind cfg m n bytes same below also (Some p) takes =
+same_after cfg m n bytes same below also None takes = refl
+same_after cfg m n bytes same below also (Some p) takes =
     elim takes [
       | inl less ↦ ap (λ more. p.0 ∷ more) (same p.1 p.2 (omega arith) (omega arith))
       | inr last ↦ ap (λ more. p.0 ∷ more) (rw (last.0, last.1) (none_at_end cfg m ∙ sym (none_at_end cfg n)))
@@ -50,9 +50,9 @@ unfolding records_from
 same_records cfg zero n s bytes below also = absurd (omega arith)
 same_records cfg (suc m) zero s bytes below also = absurd (omega arith)
 same_records cfg (suc m) (suc n) s bytes below also =
-    same_behind cfg m n bytes (λ s2 rest. same_records cfg m n s2 rest) below also (next_record cfg s [] [] bytes) (read_takes cfg s [] [] bytes)
+    same_after cfg m n bytes (λ s2 rest. same_records cfg m n s2 rest) below also (next_record cfg s [] [] bytes) (read_takes cfg s [] [] bytes)
 
--- the records of a text are the one that a read gives, and those of the bytes behind it
+-- the records of a text are the one that a read gives, and those of the bytes after it
 read_leaves : (cfg : Config) (bytes rest : List ℕ) (o : Option Read) (found : Bool) (fields : Record) (s : State) → Takes bytes o → NextIs o found fields s rest
     → records_next (records_from cfg (length bytes)) o ≡ (if found then fields ∷ records_from cfg (length rest + 1) s rest else [])
 read_leaves cfg bytes rest None found fields s takes is = rw is refl

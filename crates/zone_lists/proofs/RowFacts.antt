@@ -1,11 +1,11 @@
--- The rows of a zone that were read so far, and the map that keeps them.
-use Rattle.std.proofs.Common.{◌≡◌, ℕ, ◌+◌, ◌<◌, ◌∙◌, ◌↔◌, Option, Some, ◌||◌, Bool, true, false, not, cond, List, [], ◌∷◌, ◌++◌, length, map, Option, Some, Result, Ok, inl, inr, refl, sym, ap, length-append}
+-- The rows of a zone, and the map that keeps them.
+use Rattle.std.proofs.Common.{◌≡◌, ℕ, ◌∙◌, ◌↔◌, Some, ◌||◌, Bool, true, false, not, cond, List, [], ◌∷◌, ◌++◌, map, Some, Ok, inl, inr, refl, sym, ap}
 use Rattle.std.specs.BTreeMap.{insert_entry, is_at}
 use Rattle.std.specs.BTreeSet.{insert_key}
 use Rattle.std.specs.Cmp.Lexicographic.{slice_cmp}
 use Rattle.std.specs.List.{Contains, list_any}
 use Rattle.std.specs.List.Sorted.{IsStrictlySortedBy}
-use Rattle.std.specs.Map.{keys_of, lookup}
+use Rattle.std.specs.Map.{keys_of}
 use Rattle.std.specs.Ordering.{is_eq, match_ordering, nat_cmp}
 use Rattle.std.specs.Str.{bytes_eq}
 use Rattle.std.specs.declared.cmp.Ordering.{Ordering}
@@ -17,37 +17,18 @@ use Rattle.std.proofs.lemmas.List.Folds.{list_any-append}
 use Rattle.std.proofs.lemmas.Map.Text.{is_eq-slice_cmp}
 use Rattle.std.proofs.lemmas.Slice.Eq.{bytes_eq-Decides}
 use Rattle.zone_lists.specs.Fields.{Record}
-use Rattle.zone_lists.specs.Kinds.{has_other_state, other_state, row_of, row_order, same_state, zone_list}
-use Rattle.zone_lists.specs.Lists.{IsListed, answer, in_order}
-use Rattle.zone_lists.specs.declared.fault.ListFault.{ListFault}
+use Rattle.zone_lists.specs.Gathered.{HasRows, has_other_state, row_of, state_at}
+use Rattle.zone_lists.specs.ZoneList.{other_state, row_order, same_state, zone_list}
+use Rattle.zone_lists.specs.Lists.{IsListed, answer}
 use Rattle.zone_lists.specs.declared.zones.ZoneRow.{ZoneRow}
 use Rattle.zone_lists.specs.declared.zones.ZoneState.{ZoneState}
 use Rattle.zone_lists.specs.declared.zones.ZoneState.TheVariants.{Applied, Accepted, Superseded}
 use Rattle.zone_lists.proofs.EachFacts.{IsExact, each}
-use Rattle.zone_lists.proofs.ListFacts.{answer_behind, in_order_more, taken}
+use Rattle.zone_lists.proofs.ListFacts.{in_order_more}
 
--- what a map has at an id
-abbrev state_at : List ℕ → List (List ℕ × ZoneState) → Option ZoneState
-state_at id entries = lookup (is_at (slice_cmp nat_cmp id)) entries
-
--- n records stand behind the header up to here; a map has their rows, and the records left decide the answer
-pub record ReadsRows (answer : Result (List ZoneRow) ListFault) (n : ℕ) (left : List Record) (entries : List (List ℕ × ZoneState)) : Type 0 where
-  pub seen : List ZoneRow
-  pub count : length seen ≡ n
-  pub placed : map row_of entries ≡ in_order zone_list seen
-  pub agrees : (row : ZoneRow) → list_any (other_state row) seen ≡ has_other_state row.state (state_at row.sysmod entries)
-  pub answers : answer ≡ answer_behind zone_list seen left
-
--- at the header
-pub rows_begin : (answer : Result (List ZoneRow) ListFault) (n : ℕ) (left : List Record) (entries : List (List ℕ × ZoneState))
-    → answer ≡ answer_behind zone_list [] left → n ≡ 0 → entries ≡ [] → ReadsRows answer n left entries
-rows_begin answer n left entries answers zero none = record {
-  seen = [];
-  count = sym zero;
-  placed = rw none refl;
-  agrees = λ row. rw none refl;
-  answers = answers;
-}
+-- no rows
+pub no_rows : (entries : List (List ℕ × ZoneState)) → entries ≡ [] → HasRows entries []
+no_rows entries none = record { placed = rw none refl; agrees = λ row. rw none refl }
 
 same_state-is : (a b : ZoneState) → same_state a b ≡ true → a ≡ b
 same_state-is Applied Applied same = refl
@@ -64,14 +45,14 @@ not_false : (b : Bool) → not b ≡ false → b ≡ true
 not_false true h = refl
 not_false false h = sym h
 
--- a row at its place, behind a comparison of its SYSMOD with that of an entry
+-- a row at its place, after a comparison of its SYSMOD with that of an entry
 place : (e : List ℕ × ZoneState) (es : List (List ℕ × ZoneState)) (row : ZoneRow) (o : Ordering) → has_other_state row.state (cond (is_eq o) (Some e.1) (state_at row.sysmod es)) ≡ false
     → (has_other_state row.state (state_at row.sysmod es) ≡ false → map row_of (insert_entry (slice_cmp nat_cmp) es row.sysmod row.state) ≡ insert_key row_order (map row_of es) row)
     → map row_of (match_ordering o ((row.sysmod, row.state) ∷ e ∷ es) ((e.0, row.state) ∷ es) (e ∷ insert_entry (slice_cmp nat_cmp) es row.sysmod row.state))
     ≡ match_ordering o (row ∷ row_of e ∷ map row_of es) (row_of e ∷ map row_of es) (row_of e ∷ insert_key row_order (map row_of es) row)
-place e es row Less same behind = refl
-place e es row Equal same behind = ap (λ state. row_of (e.0, state) ∷ map row_of es) (same_state-is row.state e.1 (not_false (same_state row.state e.1) same))
-place e es row Greater same behind = ap (λ rows. row_of e ∷ rows) (behind same)
+place e es row Less same later = refl
+place e es row Equal same later = ap (λ state. row_of (e.0, state) ∷ map row_of es) (same_state-is row.state e.1 (not_false (same_state row.state e.1) same))
+place e es row Greater same later = ap (λ rows. row_of e ∷ rows) (later same)
 
 -- a row whose SYSMOD has no other state in the map is put in its place among the rows
 placed_more : (entries : List (List ℕ × ZoneState)) (row : ZoneRow) → has_other_state row.state (state_at row.sysmod entries) ≡ false
@@ -83,7 +64,7 @@ placed_more (e ∷ es) row same = place e es row (slice_cmp nat_cmp row.sysmod e
 contradicts_more : (other row : ZoneRow) (seen : List ZoneRow) → list_any (other_state other) (seen ++ row ∷ []) ≡ (list_any (other_state other) seen || other_state other row)
 contradicts_more other row seen = list_any-append (other_state other) seen (row ∷ []) ∙ ap (λ b. list_any (other_state other) seen || b) (or-false (other_state other row))
 
--- what the map has at an id behind a row
+-- what the map has at an id after a row
 at_same : (row : ZoneRow) (id : List ℕ) → is_at (slice_cmp nat_cmp row.sysmod) id ≡ bytes_eq id row.sysmod
 at_same row id = is_eq-slice_cmp row.sysmod id ∙ nat_list_eq_equiv.symm row.sysmod id
 
@@ -107,19 +88,14 @@ agrees_more seen entries entries2 row agrees updates same other =
     )
 
 -- one more row
-pub row_added : (answer : Result (List ZoneRow) ListFault) (n : ℕ) (fields : Record) (left : List Record) (entries entries2 : List (List ℕ × ZoneState)) (row : ZoneRow)
-    → ReadsRows answer n (fields ∷ left) entries → n < zone_list.limit → zone_list.entry fields ≡ Ok row
+pub row_added : (came : List ZoneRow) (entries entries2 : List (List ℕ × ZoneState)) (row : ZoneRow) → HasRows entries came
     → entries2 ≡ insert_entry (slice_cmp nat_cmp) entries row.sysmod row.state
     → ((id : List ℕ) → state_at id entries2 ≡ cond (is_at (slice_cmp nat_cmp row.sysmod) id) (Some row.state) (state_at id entries))
     → has_other_state row.state (state_at row.sysmod entries) ≡ false
-    → ReadsRows answer (n + 1) left entries2
-row_added answer n fields left entries entries2 row rows below is added updates same = record {
-  seen = rows.seen ++ row ∷ [];
-  count = length-append rows.seen (row ∷ []) ∙ ap (λ k. k + 1) rows.count;
-  placed = ap (λ es. map row_of es) added ∙ placed_more entries row same ∙ ap (λ placed. insert_key row_order placed row) rows.placed ∙ sym (in_order_more zone_list rows.seen row);
-  agrees = agrees_more rows.seen entries entries2 row rows.agrees updates same;
-  answers = rows.answers
-      ∙ taken zone_list rows.seen fields left row (rw rows.count below) is (rows.agrees row ∙ same);
+    → HasRows entries2 (came ++ row ∷ [])
+row_added came entries entries2 row rows added updates same = record {
+  placed = ap (λ es. map row_of es) added ∙ placed_more entries row same ∙ ap (λ placed. insert_key row_order placed row) rows.placed ∙ sym (in_order_more zone_list came row);
+  agrees = agrees_more came entries entries2 row rows.agrees updates same;
 }
 
 -- rows ascend where a map's keys do

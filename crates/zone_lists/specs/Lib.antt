@@ -1,5 +1,12 @@
 pub mod Fields
+pub mod FirstFault
+pub mod Gathered
+pub mod Header
+pub mod Installed
+pub mod ListFault
 pub mod Lists
 pub mod Pattern
+pub mod PatternList
 pub mod Reader
-pub mod Kinds
+pub mod ReceivedList
+pub mod ZoneList

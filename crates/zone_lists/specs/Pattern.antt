@@ -1,23 +1,18 @@
--- Patterns of fix categories.
-use Rattle.std.specs.Prelude.{ℕ, ◌-◌, ◌==◌, ◌&&◌, Bool, not, List, [], ◌∷◌, map, length, take, drop, nat_eq, nat_le, Option, Some, None, unwrap_or, if◌then◌else◌}
+-- Patterns of fix categories: a category, or the beginning of some, perhaps empty, and a final `*`.
+use Rattle.std.specs.Prelude.{ℕ, ◌-◌, ◌==◌, ◌&&◌, Bool, not, List, [], ◌∷◌, map, length, take, drop, nat_eq, Option, Some, None, if◌then◌else◌}
 use Rattle.std.specs.Char.{to_ascii_lowercase}
-use Rattle.std.specs.List.{list_all, starts_with}
+use Rattle.std.specs.List.{list_any, starts_with}
 use Rattle.std.specs.Str.{bytes_eq}
-use Rattle.zone_lists.specs.declared.pattern.TheConstants.{LONGEST}
-
--- a byte of a category, other than `*`: 0x21 to 0x7E, but no apostrophe, parenthesis or comma
-abbrev pub is_pattern_byte : ℕ → Bool
-is_pattern_byte b =
-    nat_le 0x21 b && nat_le b 0x7E && not (b == 0x27) && not (b == 0x28) && not (b == 0x29) && not (b == 0x2C) && not (b == 0x2A)
+use Rattle.mcs_reader.specs.Category.{is_category}
 
 -- what stands before the final `*` of a text, if it ends so
 abbrev pub open_stem : List ℕ → Option (List ℕ)
 open_stem text =
     if bytes_eq (drop (length text - 1) text) (0x2A ∷ []) then Some (take (length text - 1) text) else None
 
--- a category, or the beginning of one and a final `*`, of 1 to 64 bytes in all
+-- a text that a category may have, with no `*` but at the end
 abbrev pub is_pattern : List ℕ → Bool
-is_pattern text = nat_le 1 (length text) && nat_le (length text) LONGEST && list_all is_pattern_byte (unwrap_or (open_stem text) text)
+is_pattern text = is_category text && not (list_any (λ b. b == 0x2A) (take (length text - 1) text))
 
 -- the pattern with a text, if it is one
 abbrev pub pattern_of : List ℕ → Option (List ℕ)

@@ -3,12 +3,12 @@ ghost use Rattle.std.specs.Prelude.{◌≡◌, ◌-◌, take, drop, length, opti
 ghost use Rattle.std.specs.List.{prefix_len, suffix_len};
 ghost use Rattle.csv.specs.Records.{fields_of};
 ghost use Rattle.zone_lists.specs.Fields as Spec;
-ghost use Rattle.zone_lists.specs.Kinds.{is_name};
+ghost use Rattle.zone_lists.specs.Header;
 
 use csv::ByteRecord;
 
-/// The field of a record of one field.
-pub(crate) fn one_field(row: &ByteRecord) -> Option<&[u8]>
+/// The field of a record of one field, without the blanks and tabs at both ends.
+pub fn one_field(row: &ByteRecord) -> Option<&[u8]>
     ensures { option_map (λ field. field.now) result ≡ Spec.one_field (fields_of row.now) }
 {
     if row.len() != 1 {
@@ -20,8 +20,8 @@ pub(crate) fn one_field(row: &ByteRecord) -> Option<&[u8]>
     Some(trimmed(field))
 }
 
-/// The fields of a record of two fields.
-pub(crate) fn two_fields(row: &ByteRecord) -> Option<(&[u8], &[u8])>
+/// The fields of a record of two fields, each without the blanks and tabs at both ends.
+pub fn two_fields(row: &ByteRecord) -> Option<(&[u8], &[u8])>
     ensures { option_map (λ fields. (fields.0.now, fields.1.now)) result ≡ Spec.two_fields (fields_of row.now) }
 {
     if row.len() != 2 {
@@ -37,11 +37,21 @@ pub(crate) fn two_fields(row: &ByteRecord) -> Option<(&[u8], &[u8])>
 }
 
 /// Whether a record is the header of one column with this name.
-pub(crate) fn is_header(row: &ByteRecord, name: &[u8]) -> bool
-    ensures { result ≡ is_name name.now (Spec.one_field (fields_of row.now)) }
+pub fn is_name(row: &ByteRecord, name: &[u8]) -> bool
+    ensures { result ≡ Header.is_name name.now (Spec.one_field (fields_of row.now)) }
 {
     match one_field(row) {
         Some(field) => field == name,
+        None => false,
+    }
+}
+
+/// Whether a record is the header of two columns with these names.
+pub fn are_names(row: &ByteRecord, first: &[u8], second: &[u8]) -> bool
+    ensures { result ≡ Header.are_names first.now second.now (Spec.two_fields (fields_of row.now)) }
+{
+    match two_fields(row) {
+        Some(fields) => fields.0 == first && fields.1 == second,
         None => false,
     }
 }
@@ -65,7 +75,7 @@ fn trim_start(field: &[u8]) -> &[u8]
 fn trim_end(field: &[u8]) -> &[u8]
     ensures { result.now ≡ Spec.trim_end field.now }
 {
-    let (rest, _) = field.split_at(field.len() - blanks_behind(field));
+    let (rest, _) = field.split_at(field.len() - blanks_after(field));
     rest
 }
 
@@ -75,7 +85,7 @@ fn blanks_before(field: &[u8]) -> usize
     field.iter().take_while(|b| is_blank(**b)).count()
 }
 
-fn blanks_behind(field: &[u8]) -> usize
+fn blanks_after(field: &[u8]) -> usize
     ensures { result ≡ suffix_len Spec.is_blank field.now }
 {
     field.iter().rev().take_while(|b| is_blank(**b)).count()

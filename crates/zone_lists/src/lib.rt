@@ -3,26 +3,34 @@
 //!
 //! A list is read as RFC 4180 has it, by `csv`, after a UTF-8 mark at its very beginning. Spaces
 //! and tabs at both ends of a field are no part of it, also inside quotes. The first record is the
-//! header. The records behind it are numbered from 1, and an empty line is no record. An answer
+//! header. The records after it are numbered from 1, and an empty line is no record. An answer
 //! ascends and has each entry once.
 //!
 //! - [`zone_rows`]: the SYSMODs of a zone and their states, as [`ZoneRow`] and [`ZoneState`]
 //! - [`received_rows`]: SYSMODs
 //! - [`patterns`]: fix categories, or beginnings of some, as [`Pattern`]
-//! - [`ListFault`]: what is wrong with a list, by its first fault; [`NoMemory`]
+//! - [`ListFault`]: what is wrong with a list, by its first fault
 //! - [`ZONE_RECORDS`], [`RECEIVED_RECORDS`], [`PATTERN_RECORDS`]: how long a list may be
+//!
+//! A list of another kind, with columns of its own, is read by the same loop:
+//!
+//! - [`Entries`]: the entries of one kind of list, gathered from its records; [`read_list`] reads them
+//! - [`one_field`], [`two_fields`], [`is_name`], [`are_names`]: the fields of a record
 #![tactic(auto)]
 
 mod categories;
 mod fault;
 mod fields;
+mod list;
 mod pattern;
 mod received;
 mod records;
 mod zones;
 
 pub use categories::{PATTERN_RECORDS, patterns};
-pub use fault::{ListFault, NoMemory};
+pub use fault::ListFault;
+pub use fields::{are_names, is_name, one_field, two_fields};
+pub use list::{Entries, read_list};
 pub use pattern::Pattern;
 pub use received::{RECEIVED_RECORDS, received_rows};
 pub use zones::{ZONE_RECORDS, ZoneRow, ZoneState, zone_rows};

@@ -1,24 +1,21 @@
-//! `Pattern`.
-ghost use Rattle.std.specs.Prelude.{◌≡◌, nat_eq, option_map, IfOk, IsTrue, Some, refl};
+//! Patterns of fix categories.
+ghost use Rattle.std.specs.Prelude.{◌≡◌, ◌==◌, ◌-◌, length, take, nat_eq, option_map, IfOk, IsTrue, Some, refl};
 ghost use Rattle.std.specs.Cmp.{partial_equiv_from_equiv};
 ghost use Rattle.std.specs.Cmp.Lexicographic.{pointwise, slice_cmp, nat_list_eq_equiv, nat_list_cmp_total, texts_po, texts_ties};
-ghost use Rattle.std.specs.List.{list_all};
+ghost use Rattle.std.specs.List.{list_any};
 ghost use Rattle.std.specs.Ordering.{nat_cmp};
 ghost use Rattle.zone_lists.specs.Pattern as Spec;
 
-use crate::fault::NoMemory;
+use faults::NoMemory;
+use mcs_reader::is_category;
 use std::alloc::Global;
 use std::cmp::Ordering;
 use std::marker::Model;
 
-/// How many bytes a pattern may have, a final `*` among them.
-const LONGEST: usize = 64;
-
 /// A fix category, or the beginning of some, perhaps empty, and a final `*`.
 ///
-/// It has 1 to 64 bytes in all. The bytes of a category are those from `!` to `~` but for the
-/// apostrophe, the parentheses and the comma, and here but for `*` too. Patterns are ordered by
-/// their bytes.
+/// It has 1 to 64 bytes in all, of those that a category may have; `*` stands nowhere but at the end.
+/// Patterns are ordered by their bytes.
 #[derive(Debug, Drop)]
 pub struct Pattern {
     text: Vec<u8>,
@@ -78,19 +75,15 @@ impl Pattern {
 fn is_pattern(text: &[u8]) -> bool
     ensures { result ≡ Spec.is_pattern text.now }
 {
-    matches!(text.len(), 1..=LONGEST) && are_pattern_bytes(open_stem(text).unwrap_or(text))
+    is_category(text) && !has_inner_star(text)
 }
 
-fn are_pattern_bytes(bytes: &[u8]) -> bool
-    ensures { result ≡ list_all Spec.is_pattern_byte bytes.now }
+// Whether there is a `*` before the last byte.
+fn has_inner_star(text: &[u8]) -> bool
+    ensures { result ≡ list_any (λ b. b == 0x2A) (take (length text.now - 1) text.now) }
 {
-    bytes.iter().all(|b| is_pattern_byte(*b))
-}
-
-fn is_pattern_byte(b: u8) -> bool
-    ensures { result ≡ Spec.is_pattern_byte b }
-{
-    matches!(b, b'!'..=b'~') && !matches!(b, b'\'' | b'(' | b')' | b',' | b'*')
+    let (inner, _) = text.split_at(text.len().saturating_sub(1));
+    inner.contains(&b'*')
 }
 
 // What stands before a final `*`.

@@ -1,22 +1,24 @@
 //! The SYSMODs that were received.
-ghost use Rattle.std.specs.Prelude.{◌≡◌, Ok, IfOk, IfErr};
+ghost use Rattle.std.specs.Prelude.{◌≡◌, Ok, Err, IfOk, IfErr};
 ghost use Rattle.std.specs.Cmp.Lexicographic.{slice_cmp};
 ghost use Rattle.std.specs.List.Sorted.{IsStrictlySortedBy};
 ghost use Rattle.std.specs.Ordering.{nat_cmp};
 ghost use Rattle.csv.specs.Records.{fields_of};
+ghost use Rattle.faults.specs.Refusal.{IsRefusal};
 ghost use Rattle.zone_lists.specs.Fields as Spec;
-ghost use Rattle.zone_lists.specs.Kinds.{received_field, received_list, received_rows_of};
-ghost use Rattle.zone_lists.specs.Lists.{HasEach, IsRefusal, at_number};
+ghost use Rattle.zone_lists.specs.FirstFault.{IsFirstFault};
+ghost use Rattle.zone_lists.specs.Lists.{HasEach, at_number, records_of};
+ghost use Rattle.zone_lists.specs.ReceivedList.{IsReceivedFault, received_field, received_list, received_rows_of};
 
 use crate::fault::ListFault;
-use crate::fields::{is_header, one_field};
-use crate::records::Records;
+use crate::fields::{is_name, one_field};
+use crate::list::{Entries, read_list};
 use csv::ByteRecord;
 use mcs_reader::Id;
 use std::alloc::Global;
 use std::collections::BTreeSet;
 
-/// How many records a list of received SYSMODs may have behind its header.
+/// How many records a list of received SYSMODs may have after its header.
 pub const RECEIVED_RECORDS: u32 = 20_000;
 
 /// The SYSMODs of a list of which the header is `SYSMOD` and each record an id: ascending, each
@@ -29,29 +31,52 @@ pub const RECEIVED_RECORDS: u32 = 20_000;
 /// of all. `Memory` may come in place of any answer.
 pub fn received_rows(alloc: Global, text: &[u8]) -> Result<Vec<Id>, ListFault>
     ensures rows { IfOk result (λ ids. received_rows_of text.now ≡ Ok ids.items) }
-    ensures fault { IfErr result (λ fault. IsRefusal (received_rows_of text.now) fault) }
+    ensures fault { IfErr result (IsRefusal ListFault.Memory (λ fault. received_rows_of text.now ≡ Err fault)) }
     ensures ascending { IfOk result (λ ids. IsStrictlySortedBy (slice_cmp nat_cmp) ids.items) }
     ensures each { IfOk result (λ ids. HasEach received_list text.now ids.items) }
+    ensures first { IfErr result (IsRefusal ListFault.Memory (IsFirstFault received_list IsReceivedFault (records_of text.now))) }
 {
-    let ids = received_ids(alloc, text)?;
-    let rows = ids.into_iter().collect(alloc)?;
+    let list: ReceivedIds = read_list(alloc, text)?;
+    let rows = list.ids.into_iter().collect(alloc)?;
     Ok(rows)
 }
 
-fn received_ids(alloc: Global, text: &[u8]) -> Result<BTreeSet<Id>, ListFault>
-    ensures rows { IfOk result (λ ids. received_rows_of text.now ≡ Ok ids.keys) }
-    ensures fault { IfErr result (λ fault. IsRefusal (received_rows_of text.now) fault) }
-{
-    let mut records = Records::open(alloc, text, RECEIVED_RECORDS)?;
-    if !is_header(records.row(), b"SYSMOD") {
-        return Err(ListFault::Header);
+// The ids that were listed so far.
+#[derive(Drop)]
+struct ReceivedIds {
+    ids: BTreeSet<Id>,
+}
+
+impl Entries for ReceivedIds {
+    ghost use Rattle.std.specs.Prelude.{◌≡◌};
+    ghost use Rattle.zone_lists.specs.Lists.{in_order};
+    ghost use Rattle.zone_lists.specs.ReceivedList.{received_list};
+
+    type Entry = Id;
+
+    ghost kind = { received_list };
+
+    ghost Has = { λ list ids. list.ids.keys ≡ in_order received_list ids };
+
+    fn limit() -> u32 {
+        RECEIVED_RECORDS
     }
-    let mut ids = BTreeSet::new(alloc);
-    while let Some(n) = records.next()? {
-        let id = received_id(records.row(), n)?;
-        ids.insert(id)?;
+
+    fn is_header(row: &ByteRecord) -> bool {
+        is_name(row, b"SYSMOD")
     }
-    Ok(ids)
+
+    fn new(alloc: Global) -> Self {
+        ReceivedIds {
+            ids: BTreeSet::new(alloc),
+        }
+    }
+
+    fn add(&mut self, row: &ByteRecord, n: u32) -> Result<(), ListFault> {
+        let id = received_id(row, n)?;
+        self.ids.insert(id)?;
+        Ok(())
+    }
 }
 
 // The id that a record stands for by itself.

@@ -1,14 +1,12 @@
 //! Lists and patterns, as tables.
-use crate::{
-    ListFault, PATTERN_RECORDS, Pattern, RECEIVED_RECORDS, ZONE_RECORDS, ZoneRow, ZoneState,
-    patterns, received_rows, zone_rows,
-};
+use crate::{ListFault, Pattern, ZoneRow, ZoneState, patterns, received_rows, zone_rows};
+use faults::{NoMemory, fault_text};
 use mcs_reader::Id;
-use std::alloc::{AllocError, Global};
+use std::alloc::Global;
 use std::test::Fail;
 
 // A header and the same record so many times.
-fn repeated(alloc: Global, header: &[u8], row: &[u8], times: u32) -> Result<Vec<u8>, AllocError> {
+fn repeated(alloc: Global, header: &[u8], row: &[u8], times: u32) -> Result<Vec<u8>, NoMemory> {
     let mut text = Vec::from_slice(alloc, header)?;
     for _ in 0..times {
         text.extend_from_slice(row)?;
@@ -80,7 +78,7 @@ fn a_zone_has_its_first_fault(rt: HostRuntime) {
         ),
     ];
     for (text, fault) in faulty {
-        assert!(rt; zone_rows(rt.alloc(), text) == Err(fault));
+        assert!(rt; zone_rows(rt.alloc(), text) == Err(fault), "{fault}");
     }
 }
 
@@ -96,7 +94,7 @@ fn received_sysmods_ascend(rt: HostRuntime) -> Result<(), Fail> {
         (b"SYSMOD\nUA 1\n", ListFault::BadId(1)),
     ];
     for (text, fault) in faulty {
-        assert!(rt; received_rows(rt.alloc(), text) == Err(fault));
+        assert!(rt; received_rows(rt.alloc(), text) == Err(fault), "{fault}");
     }
     Ok(())
 }
@@ -118,7 +116,7 @@ fn patterns_ascend_by_their_bytes(rt: HostRuntime) -> Result<(), Fail> {
         (b"CATEGORY\n\"\"\n", ListFault::BadPattern(1)),
     ];
     for (text, fault) in faulty {
-        assert!(rt; patterns(rt.alloc(), text) == Err(fault));
+        assert!(rt; patterns(rt.alloc(), text) == Err(fault), "{fault}");
     }
     Ok(())
 }
@@ -126,26 +124,21 @@ fn patterns_ascend_by_their_bytes(rt: HostRuntime) -> Result<(), Fail> {
 #[test]
 fn lists_are_long_up_to_their_limits(rt: HostRuntime) -> Result<(), Fail> {
     let zone = b"SYSMOD,STATE\n";
-    let text = repeated(rt.alloc(), zone, b"UA10001,APPLIED\n", ZONE_RECORDS)?;
+    let text = repeated(rt.alloc(), zone, b"UA10001,APPLIED\n", 20_000)?;
     assert_eq!(rt; zone_rows(rt.alloc(), &text)?.len(), 1);
-    let text = repeated(rt.alloc(), zone, b"UA10001,APPLIED\n", ZONE_RECORDS + 1)?;
+    let text = repeated(rt.alloc(), zone, b"UA10001,APPLIED\n", 20_001)?;
     assert!(rt; zone_rows(rt.alloc(), &text) == Err(ListFault::TooMany));
 
     let received = b"SYSMOD\n";
-    let text = repeated(rt.alloc(), received, b"UA10001\n", RECEIVED_RECORDS)?;
+    let text = repeated(rt.alloc(), received, b"UA10001\n", 20_000)?;
     assert_eq!(rt; received_rows(rt.alloc(), &text)?.len(), 1);
-    let text = repeated(rt.alloc(), received, b"UA10001\n", RECEIVED_RECORDS + 1)?;
+    let text = repeated(rt.alloc(), received, b"UA10001\n", 20_001)?;
     assert!(rt; received_rows(rt.alloc(), &text) == Err(ListFault::TooMany));
 
     let categories = b"CATEGORY\n";
-    let text = repeated(rt.alloc(), categories, b"IBM.Device.*\n", PATTERN_RECORDS)?;
+    let text = repeated(rt.alloc(), categories, b"IBM.Device.*\n", 64)?;
     assert_eq!(rt; patterns(rt.alloc(), &text)?.len(), 1);
-    let text = repeated(
-        rt.alloc(),
-        categories,
-        b"IBM.Device.*\n",
-        PATTERN_RECORDS + 1,
-    )?;
+    let text = repeated(rt.alloc(), categories, b"IBM.Device.*\n", 65)?;
     assert!(rt; patterns(rt.alloc(), &text) == Err(ListFault::TooMany));
     Ok(())
 }
@@ -169,29 +162,45 @@ fn a_pattern_keeps_its_text(rt: HostRuntime) -> Result<(), Fail> {
 
 #[test]
 fn a_pattern_matches_without_regard_to_case(rt: HostRuntime) -> Result<(), Fail> {
-    let matches: [(&[u8], &[u8], bool); 8] = [
-        (b"ibm.device.*", b"IBM.Device.Server", true),
-        (b"ibm.device.*", b"IBM.Device", false),
-        (b"ibm.device.*", b"IBM.Device.", true),
-        (b"IBM.Device", b"ibm.device", true),
-        (b"IBM.Device", b"IBM.Device.Server", false),
-        (b"IBM.Device", b"IBM", false),
-        (b"*", b"IBM.Device", true),
-        (b"[A]", b"{a}", false),
+    let matches: [(&str, &str, bool); 8] = [
+        ("ibm.device.*", "IBM.Device.Server", true),
+        ("ibm.device.*", "IBM.Device", false),
+        ("ibm.device.*", "IBM.Device.", true),
+        ("IBM.Device", "ibm.device", true),
+        ("IBM.Device", "IBM.Device.Server", false),
+        ("IBM.Device", "IBM", false),
+        ("*", "IBM.Device", true),
+        ("[A]", "{a}", false),
     ];
     for (text, category, does) in matches {
-        let pattern = Pattern::new(rt.alloc(), text)?.ok_or("a pattern")?;
-        assert!(rt; pattern.matches(category) == does);
+        let pattern = Pattern::new(rt.alloc(), text.as_bytes())?.ok_or("a pattern")?;
+        assert_eq!(rt;
+            pattern.matches(category.as_bytes()),
+            does,
+            "{text} {category}"
+        );
     }
     Ok(())
 }
 
 #[test]
-fn a_fault_tells_its_record(rt: HostRuntime) -> Result<(), Fail> {
-    let fault = ListFault::Repeated(2);
-    let line = format!(in rt.alloc(); "{fault}")?;
+fn faults_have_their_numbers(rt: HostRuntime) -> Result<(), Fail> {
+    let rows = [
+        (ListFault::Header, "FAULT 31\n"),
+        (ListFault::BadRecord(1), "FAULT 32 1\n"),
+        (ListFault::BadId(20_000), "FAULT 33 20000\n"),
+        (ListFault::BadState(3), "FAULT 34 3\n"),
+        (ListFault::BadPattern(64), "FAULT 35 64\n"),
+        (ListFault::Repeated(2), "FAULT 36 2\n"),
+        (ListFault::TooMany, "FAULT 37\n"),
+        (ListFault::Memory, "FAULT 38\n"),
+    ];
+    for (fault, line) in rows {
+        assert_eq!(rt; fault_text(fault).as_str(), line);
+    }
+    let words = format!(in rt.alloc(); "{}", ListFault::Repeated(2))?;
     assert_eq!(rt;
-        line.as_str(),
+        words.as_str(),
         "record 2: the SYSMOD came before with another state"
     );
     Ok(())

@@ -1,24 +1,29 @@
 //! The SYSMODs of a zone.
-ghost use Rattle.std.specs.Prelude.{◌≡◌, ◌⊎◌, map, true, false, Some, Ok, IfOk, IfErr, OnOk};
+ghost use Rattle.std.specs.Prelude.{◌≡◌, map, true, false, Some, Ok, Err, IfOk, IfErr, OnOk};
 ghost use Rattle.std.specs.BTreeMap.{Updates, get, insert_entry};
 ghost use Rattle.std.specs.Cmp.Lexicographic.{slice_cmp};
 ghost use Rattle.std.specs.List.Sorted.{IsStrictlySortedBy};
 ghost use Rattle.std.specs.Map.{keys_of};
 ghost use Rattle.std.specs.Ordering.{nat_cmp};
 ghost use Rattle.csv.specs.Records.{fields_of};
+ghost use Rattle.faults.specs.Refusal.{IsRefusal};
 ghost use Rattle.zone_lists.specs.Fields as Spec;
-ghost use Rattle.zone_lists.specs.Kinds.{RowsAscend, are_zone_names, has_other_state, row_of, same_state, state_of, zone_fields, zone_list, zone_rows_of};
-ghost use Rattle.zone_lists.specs.Lists.{HasEach, IsRefusal, at_number};
+ghost use Rattle.zone_lists.specs.FirstFault.{IsFirstFault};
+ghost use Rattle.zone_lists.specs.Gathered.{has_other_state, row_of};
+ghost use Rattle.zone_lists.specs.Installed.{is_installed_state};
+ghost use Rattle.zone_lists.specs.Lists.{HasEach, at_number, records_of};
+ghost use Rattle.zone_lists.specs.ZoneList.{IsZoneFault, RowsAscend, state_of, zone_fields, zone_list, zone_rows_of};
 
-use crate::fault::{ListFault, NoMemory};
-use crate::fields::two_fields;
-use crate::records::Records;
+use crate::fault::ListFault;
+use crate::fields::{are_names, two_fields};
+use crate::list::{Entries, read_list};
 use csv::ByteRecord;
+use faults::NoMemory;
 use mcs_reader::Id;
 use std::alloc::Global;
 use std::collections::BTreeMap;
 
-/// How many records a zone's list may have behind its header.
+/// How many records a zone's list may have after its header.
 pub const ZONE_RECORDS: u32 = 20_000;
 
 /// How a SYSMOD stands in a zone.
@@ -51,12 +56,13 @@ pub struct ZoneRow {
 /// `Header` comes first of all. `Memory` may come in place of any answer.
 pub fn zone_rows(alloc: Global, text: &[u8]) -> Result<Vec<ZoneRow>, ListFault>
     ensures rows { IfOk result (λ rows. zone_rows_of text.now ≡ Ok rows.items) }
-    ensures fault { IfErr result (λ fault. IsRefusal (zone_rows_of text.now) fault) }
+    ensures fault { IfErr result (IsRefusal ListFault.Memory (λ fault. zone_rows_of text.now ≡ Err fault)) }
     ensures ascending { IfOk result (λ rows. RowsAscend rows.items) }
     ensures each { IfOk result (λ rows. HasEach zone_list text.now rows.items) }
+    ensures first { IfErr result (IsRefusal ListFault.Memory (IsFirstFault zone_list IsZoneFault (records_of text.now))) }
 {
-    let states = zone_states(alloc, text)?;
-    let rows = rows_of(alloc, states)?;
+    let list: ZoneStates = read_list(alloc, text)?;
+    let rows = rows_of(alloc, list.states)?;
     Ok(rows)
 }
 
@@ -71,29 +77,40 @@ fn rows_of(alloc: Global, states: BTreeMap<Id, ZoneState>) -> Result<Vec<ZoneRow
         .collect(alloc)
 }
 
-// The states of the SYSMODs of a zone's list.
-fn zone_states(alloc: Global, text: &[u8]) -> Result<BTreeMap<Id, ZoneState>, ListFault>
-    ensures rows { IfOk result (λ states. zone_rows_of text.now ≡ Ok (map row_of states.entries)) }
-    ensures fault { IfErr result (λ fault. IsRefusal (zone_rows_of text.now) fault) }
-{
-    let mut records = Records::open(alloc, text, ZONE_RECORDS)?;
-    if !is_header(records.row()) {
-        return Err(ListFault::Header);
-    }
-    let mut states = BTreeMap::new(alloc);
-    while let Some(n) = records.next()? {
-        let row = zone_row(records.row(), n)?;
-        add_row(&mut states, row, n)?;
-    }
-    Ok(states)
+// The states of the SYSMODs that were listed so far.
+#[derive(Drop)]
+struct ZoneStates {
+    states: BTreeMap<Id, ZoneState>,
 }
 
-fn is_header(row: &ByteRecord) -> bool
-    ensures { result ≡ are_zone_names (Spec.two_fields (fields_of row.now)) }
-{
-    match two_fields(row) {
-        Some((first, second)) => first == b"SYSMOD".as_slice() && second == b"STATE".as_slice(),
-        None => false,
+impl Entries for ZoneStates {
+    ghost use Rattle.zone_lists.specs.Gathered.{HasRows};
+    ghost use Rattle.zone_lists.specs.ZoneList.{zone_list};
+
+    type Entry = ZoneRow;
+
+    ghost kind = { zone_list };
+
+    ghost Has = { λ list rows. HasRows list.states.entries rows };
+
+    fn limit() -> u32 {
+        ZONE_RECORDS
+    }
+
+    fn is_header(row: &ByteRecord) -> bool {
+        are_names(row, b"SYSMOD", b"STATE")
+    }
+
+    fn new(alloc: Global) -> Self {
+        ZoneStates {
+            states: BTreeMap::new(alloc),
+        }
+    }
+
+    fn add(&mut self, row: &ByteRecord, n: u32) -> Result<(), ListFault> {
+        let row = zone_row(row, n)?;
+        add_row(&mut self.states, row, n)?;
+        Ok(())
     }
 }
 
@@ -114,6 +131,13 @@ fn zone_row(row: &ByteRecord, n: u32) -> Result<ZoneRow, ListFault>
 }
 
 impl ZoneState {
+    /// Whether it stands for a SYSMOD that is installed itself.
+    pub fn is_installed(self) -> bool
+        ensures { result ≡ is_installed_state self }
+    {
+        matches!(self, ZoneState::Applied | ZoneState::Accepted)
+    }
+
     // The state with this name.
     fn named(name: &[u8]) -> Option<ZoneState>
         ensures { result ≡ state_of name.now }
@@ -135,8 +159,7 @@ fn add_row(states: &mut BTreeMap<Id, ZoneState>, row: ZoneRow, n: u32) -> Result
     ensures added { OnOk result (states.new.entries ≡ insert_entry (slice_cmp nat_cmp) states.old.entries row.sysmod row.state) }
     ensures found { OnOk result (Updates (slice_cmp nat_cmp) states.old states.new row.sysmod (Some row.state)) }
     ensures same { OnOk result (has_other_state row.state (get (slice_cmp nat_cmp) states.old row.sysmod) ≡ false) }
-    ensures repeated { IfErr result (λ fault. (fault ≡ ListFault.Memory)
-        ⊎ ((fault ≡ ListFault.Repeated n) × (has_other_state row.state (get (slice_cmp nat_cmp) states.old row.sysmod) ≡ true))) }
+    ensures repeated { IfErr result (IsRefusal ListFault.Memory (λ fault. (fault ≡ ListFault.Repeated n) × (has_other_state row.state (get (slice_cmp nat_cmp) states.old row.sysmod) ≡ true))) }
 {
     let before = states.insert(row.sysmod, row.state)?;
     match before {

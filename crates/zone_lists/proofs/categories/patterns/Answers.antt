@@ -1,4 +1,9 @@
-use Rattle.std.proofs.Common.{rules}
+use Rattle.std.proofs.Common.{inl, inr, rules}
+use Rattle.faults.specs.Refusal.{IsRefusal}
+use Rattle.zone_lists.specs.FirstFault.{IsFirstFault}
+use Rattle.zone_lists.specs.PatternList.{IsPatternFault, pattern_list}
+use Rattle.zone_lists.specs.declared.fault.ListFault.TheVariants.{Memory}
+use Rattle.zone_lists.proofs.OwnFaults.{first_of_patterns}
 use Rattle.zone_lists.specs.Lists.{records_of}
 use Rattle.zone_lists.proofs.KeyFacts.{each_pattern}
 use Rattle.zone_lists.proofs.categories.patterns.Goals as goal
@@ -8,3 +13,9 @@ returns-clause-rows c = search rules
 
 pub returns-clause-each : goal.returns-clause-each
 returns-clause-each c = each_pattern (records_of c.args.text.now) c.in_ok-rows.rows.items (returns-clause-rows c)
+
+pub returns-in_err-list-clause-first : goal.returns-in_err-list-clause-first
+returns-in_err-list-clause-first c =
+    let told : IsRefusal Memory (IsFirstFault pattern_list IsPatternFault (records_of c.args.text.now)) c.in_err-list.field-0.0 =
+    elim c.in_err-list.ensures.fault [ inl memory ↦ inl memory | inr fault ↦ inr (first_of_patterns (records_of c.args.text.now) c.in_err-list.field-0.0 fault) ] in
+    search rules

@@ -1,14 +1,27 @@
-use Rattle.std.proofs.Common.{◌∙◌, ap, sym, Ok}
+use Rattle.std.proofs.Common.{◌∙◌, ap, inl, inr, rules, sym, Ok}
+use Rattle.faults.specs.Refusal.{IsRefusal}
+use Rattle.zone_lists.specs.FirstFault.{IsFirstFault}
+use Rattle.zone_lists.specs.ZoneList.{IsZoneFault, zone_list}
+use Rattle.zone_lists.specs.declared.fault.ListFault.TheVariants.{Memory}
+use Rattle.zone_lists.proofs.OwnFaults.{first_of_zone}
 use Rattle.zone_lists.specs.Lists.{records_of}
 use Rattle.zone_lists.proofs.RowFacts.{each_row, rows_ascend}
 use Rattle.zone_lists.proofs.zones.zone_rows.Goals as goal
 
 pub returns-clause-rows : goal.returns-clause-rows
-returns-clause-rows c = c.in_ok-states.ensures.rows ∙ ap (λ rows. Ok rows) (sym c.in_ok-rows.ensures.rows)
+returns-clause-rows c =
+    let read = c.in_ok-list.ensures.entries in
+    read.2 ∙ ap (λ rows. Ok rows) (sym (c.in_ok-rows.ensures.rows ∙ read.1.placed))
 
 pub returns-clause-ascending : goal.returns-clause-ascending
 returns-clause-ascending c =
-    rows_ascend c.in_ok-states.states.entries c.in_ok-rows.rows.items c.in_ok-rows.ensures.rows c.in_ok-rows.ensures.ascending
+    rows_ascend c.in_ok-list.list.states.entries c.in_ok-rows.rows.items c.in_ok-rows.ensures.rows c.in_ok-rows.ensures.ascending
 
 pub returns-clause-each : goal.returns-clause-each
 returns-clause-each c = each_row (records_of c.args.text.now) c.in_ok-rows.rows.items (returns-clause-rows c)
+
+pub returns-in_err-list-clause-first : goal.returns-in_err-list-clause-first
+returns-in_err-list-clause-first c =
+    let told : IsRefusal Memory (IsFirstFault zone_list IsZoneFault (records_of c.args.text.now)) c.in_err-list.field-0.0 =
+    elim c.in_err-list.ensures.fault [ inl memory ↦ inl memory | inr fault ↦ inr (first_of_zone (records_of c.args.text.now) c.in_err-list.field-0.0 fault) ] in
+    search rules
