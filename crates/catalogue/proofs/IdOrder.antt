@@ -1,0 +1,124 @@
+-- Ids that compare alike are one, and lists of them in order.
+use Rattle.std.proofs.Common.{◌≡◌, ℕ, Bool, true, false, ◌||◌, List, [], ◌∷◌, refl, sym, ◌∙◌, ap}
+use Rattle.std.specs.BTreeSet.{insert_key}
+use Rattle.std.specs.Cmp.{IsTotalOrder}
+use Rattle.std.specs.Cmp.Lexicographic.{nat_list_cmp_total, nat_list_eq_equiv}
+use Rattle.std.specs.List.{fold, list_any, AllByRecursion}
+use Rattle.std.specs.List.Sorted.{IsStrictlySortedBy}
+use Rattle.std.specs.Ordering.{match_ordering, ordering_reverse, is_eq}
+use Rattle.std.specs.Prelude.{Contains, ◌↔◌}
+use Rattle.std.specs.declared.cmp.Ordering.{Ordering}
+use Rattle.std.specs.declared.cmp.Ordering.TheVariants.{Less, Equal, Greater}
+use Rattle.std.proofs.lemmas.Map.Lookups.{CmpEqualImpliesEq, exact_bytes}
+use Rattle.std.proofs.lemmas.Map.Text.{is_eq-slice_cmp}
+use Rattle.std.proofs.lemmas.Map.Views.{Contains-from_any, list_any-from_Contains}
+use Rattle.std.proofs.lemmas.Slice.Eq.{bytes_eq-Decides}
+use Rattle.catalogue.specs.Ids.{id_cmp, same_id, Ascend, in_order}
+
+pub ids_total : IsTotalOrder id_cmp
+ids_total = nat_list_cmp_total
+
+pub exact_ids : CmpEqualImpliesEq id_cmp
+exact_ids = exact_bytes
+
+pub one_id : (a b : List ℕ) → same_id a b ≡ true → a ≡ b
+one_id a b h = (bytes_eq-Decides a b).0 h
+
+pub itself : (a : List ℕ) → same_id a a ≡ true
+itself a = (bytes_eq-Decides a a).1 refl
+
+pub same_is : (a b : List ℕ) → same_id a b ≡ is_eq (id_cmp a b)
+same_is a b = sym (is_eq-slice_cmp a b)
+
+pub same_back : (a b : List ℕ) → same_id a b ≡ same_id b a
+same_back a b = nat_list_eq_equiv.symm a b
+
+pub apart : (a b : List ℕ) → id_cmp a b ≡ Less → same_id a b ≡ false
+apart a b h = same_is a b ∙ ap is_eq h
+
+pub turned : (a b : List ℕ) → id_cmp a b ≡ Greater → id_cmp b a ≡ Less
+turned a b h = ids_total.antisymm b a ∙ ap ordering_reverse h
+
+pub apart_back : (a b : List ℕ) → id_cmp a b ≡ Less → same_id b a ≡ false
+apart_back a b h = same_is b a ∙ ap is_eq (ids_total.antisymm b a ∙ ap ordering_reverse h)
+
+-- ---- one id put in its place
+
+pub any_insert : (test : List ℕ → Bool) (ks : List (List ℕ)) (k : List ℕ) → list_any test (insert_key id_cmp ks k) ≡ (test k || list_any test ks)
+any_insert test [] k = refl
+any_insert test (x ∷ xs) k = by (any_insert test xs k) (id_cmp k x) refl
+  where
+    twice : (a b : Bool) → (a || b) ≡ (a || (a || b))
+    twice true b = refl
+    twice false b = refl
+
+    swap : (a b c : Bool) → (a || (b || c)) ≡ (b || (a || c))
+    swap true true c = refl
+    swap true false c = refl
+    swap false true c = refl
+    swap false false c = refl
+
+    by : list_any test (insert_key id_cmp xs k) ≡ (test k || list_any test xs) → (o : Ordering) → id_cmp k x ≡ o → list_any test (match_ordering o (k ∷ x ∷ xs) (x ∷ xs) (x ∷ insert_key id_cmp xs k)) ≡ (test k || (test x || list_any test xs))
+    by rest Less is = refl
+    by rest Equal is = twice (test x) (list_any test xs) ∙ ap (λ y. test y || (test x || list_any test xs)) (sym (exact_ids k x is))
+    by rest Greater is = ap (λ b. test x || b) rest ∙ swap (test x) (test k) (list_any test xs)
+
+all_insert : (P : List ℕ → Type 0) (ks : List (List ℕ)) (k : List ℕ) → AllByRecursion P ks → P k → AllByRecursion P (insert_key id_cmp ks k)
+all_insert P [] k h p = (p, tt)
+all_insert P (x ∷ xs) k h p = by (all_insert P xs k h.1 p) (id_cmp k x)
+  where
+    by : AllByRecursion P (insert_key id_cmp xs k) → (o : Ordering) → AllByRecursion P (match_ordering o (k ∷ x ∷ xs) (x ∷ xs) (x ∷ insert_key id_cmp xs k))
+    by rest Less = (p, h)
+    by rest Equal = h
+    by rest Greater = (h.0, rest)
+
+pub all_below : (k x : List ℕ) (xs : List (List ℕ)) → id_cmp k x ≡ Less → AllByRecursion (λ y. id_cmp x y ≡ Less) xs → AllByRecursion (λ y. id_cmp k y ≡ Less) xs
+all_below k x [] h g = tt
+all_below k x (y ∷ ys) h g = (ids_total.trans k x y h g.0, all_below k x ys h g.1)
+
+pub insert_ascends : (ks : List (List ℕ)) (k : List ℕ) → Ascend ks → Ascend (insert_key id_cmp ks k)
+unfolding IsStrictlySortedBy
+insert_ascends [] k h = (tt, tt)
+insert_ascends (x ∷ xs) k h = by (insert_ascends xs k h.1) (id_cmp k x) refl
+  where
+    by : Ascend (insert_key id_cmp xs k) → (o : Ordering) → id_cmp k x ≡ o → Ascend (match_ordering o (k ∷ x ∷ xs) (x ∷ xs) (x ∷ insert_key id_cmp xs k))
+    by rest Less is = ((is, all_below k x xs is h.0), h)
+    by rest Equal is = h
+    by rest Greater is = (all_insert (λ y. id_cmp x y ≡ Less) xs k h.0 (turned k x is), rest)
+
+-- ---- all ids of a list
+
+fold_ascends : (ks ids : List (List ℕ)) → Ascend ks → Ascend (fold (insert_key id_cmp) ks ids)
+fold_ascends ks [] h = h
+fold_ascends ks (id ∷ ids) h = fold_ascends (insert_key id_cmp ks id) ids (insert_ascends ks id h)
+
+fold_any : (test : List ℕ → Bool) (ks ids : List (List ℕ)) → list_any test (fold (insert_key id_cmp) ks ids) ≡ (list_any test ks || list_any test ids)
+fold_any test ks [] = plain (list_any test ks)
+  where
+    plain : (b : Bool) → b ≡ (b || false)
+    plain true = refl
+    plain false = refl
+fold_any test ks (id ∷ ids) =
+    fold_any test (insert_key id_cmp ks id) ids
+    ∙ ap (λ b. b || list_any test ids) (any_insert test ks id)
+    ∙ swap (test id) (list_any test ks) (list_any test ids)
+  where
+    swap : (a b c : Bool) → ((a || b) || c) ≡ (b || (a || c))
+    swap true true c = refl
+    swap true false c = refl
+    swap false true c = refl
+    swap false false c = refl
+
+pub in_order_ascends : (ids : List (List ℕ)) → Ascend (in_order ids)
+unfolding IsStrictlySortedBy
+in_order_ascends ids = fold_ascends [] ids tt
+
+pub in_order_any : (test : List ℕ → Bool) (ids : List (List ℕ)) → list_any test (in_order ids) ≡ list_any test ids
+in_order_any test ids = fold_any test [] ids
+
+-- the ids in order are those of the list
+pub in_order_has : (ids : List (List ℕ)) (id : List ℕ) → Contains (in_order ids) id ↔ Contains ids id
+in_order_has ids id = (
+  λ h. Contains-from_any {eq = same_id} one_id id ids (sym (in_order_any (same_id id) ids) ∙ list_any-from_Contains {eq = same_id} nat_list_eq_equiv id (in_order ids) h),
+  λ h. Contains-from_any {eq = same_id} one_id id (in_order ids) (in_order_any (same_id id) ids ∙ list_any-from_Contains {eq = same_id} nat_list_eq_equiv id ids h),
+)

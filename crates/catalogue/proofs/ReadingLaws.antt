@@ -1,0 +1,155 @@
+-- Statements that are taken one at a time give what all of them publish.
+use Rattle.std.proofs.Common.{◌≡◌, ℕ, Bool, true, false, ◌||◌, List, [], ◌∷◌, ◌++◌, refl, sym, ◌∙◌, ap, append_assoc}
+use Rattle.std.specs.Prelude.{Option, Some, None, is_none, is_some, option_map, codes}
+use Rattle.std.specs.BTreeSet.{insert_key}
+use Rattle.std.specs.List.{fold, flat_map}
+use Rattle.std.specs.Option.{option_or, option_to_list}
+use Rattle.std.proofs.lemmas.List.{append-nil}
+use Rattle.std.proofs.lemmas.List.Sums.{fold-append}
+use Rattle.mcs_reader.specs.declared.statement.Statement.{Statement}
+use Rattle.holddata.specs.Statements as holddata
+use Rattle.catalogue.specs.declared.change.Change.{Change}
+use Rattle.catalogue.specs.declared.change.Change.TheVariants.{Whole, OfHold}
+use Rattle.catalogue.specs.declared.fault.CatFault.{CatFault}
+use Rattle.catalogue.specs.declared.fault.CatFault.TheVariants.{BadId}
+use Rattle.catalogue.specs.declared.sysmod.Sysmod.{Sysmod}
+use Rattle.catalogue.specs.declared.sysmod.SysmodKind.{SysmodKind}
+use Rattle.catalogue.specs.Ids.{id_cmp, put_among}
+use Rattle.catalogue.specs.Reading.{Part, Header, More, OnHold, part_of, ids_given, vers_in, vers_in_front, record_by, changes_by, changes_of, fault_if, faults_by, faults_of, first_fault, is_header, Begun, nothing_begun, changes_in, with_ver, with_part, with_statement}
+
+-- a record with what `++VER` statements say
+abbrev pub with_vers : Sysmod → List Statement → Sysmod
+with_vers sysmod [] = sysmod
+with_vers sysmod (ver ∷ vers) = with_vers (with_ver ver sysmod) vers
+
+-- the same, list by list
+abbrev lists_with : Sysmod → List Statement → Sysmod
+lists_with sysmod vers = record {
+  id = sysmod.id;
+  kind = sysmod.kind;
+  fmids = put_among sysmod.fmids (flat_map (ids_given (codes "FMID")) vers);
+  pre = put_among sysmod.pre (flat_map (ids_given (codes "PRE")) vers);
+  req = put_among sysmod.req (flat_map (ids_given (codes "REQ")) vers);
+  sup = put_among sysmod.sup (flat_map (ids_given (codes "SUP")) vers);
+}
+
+abbrev record_with : Sysmod → List (List ℕ) → List (List ℕ) → List (List ℕ) → List (List ℕ) → Sysmod
+record_with sysmod fmids pre req sup = record { id = sysmod.id; kind = sysmod.kind; fmids = fmids; pre = pre; req = req; sup = sup }
+
+-- one more statement's ids
+put_more : (name : List ℕ) (ids : List (List ℕ)) (ver : Statement) (vers : List Statement) → put_among (put_among ids (ids_given name ver)) (flat_map (ids_given name) vers) ≡ put_among ids (flat_map (ids_given name) (ver ∷ vers))
+put_more name ids ver vers = sym (fold-append (insert_key id_cmp) ids (ids_given name ver) (flat_map (ids_given name) vers))
+
+with_vers_is : (sysmod : Sysmod) (vers : List Statement) → with_vers sysmod vers ≡ lists_with sysmod vers
+with_vers_is sysmod [] = refl
+with_vers_is sysmod (ver ∷ vers) =
+    with_vers_is (with_ver ver sysmod) vers
+    ∙ ap (λ f. record_with sysmod f (put_among (with_ver ver sysmod).pre (flat_map (ids_given (codes "PRE")) vers)) (put_among (with_ver ver sysmod).req (flat_map (ids_given (codes "REQ")) vers)) (put_among (with_ver ver sysmod).sup (flat_map (ids_given (codes "SUP")) vers))) (put_more (codes "FMID") sysmod.fmids ver vers)
+    ∙ ap (λ p. record_with sysmod (lists_with sysmod (ver ∷ vers)).fmids p (put_among (with_ver ver sysmod).req (flat_map (ids_given (codes "REQ")) vers)) (put_among (with_ver ver sysmod).sup (flat_map (ids_given (codes "SUP")) vers))) (put_more (codes "PRE") sysmod.pre ver vers)
+    ∙ ap (λ q. record_with sysmod (lists_with sysmod (ver ∷ vers)).fmids (lists_with sysmod (ver ∷ vers)).pre q (put_among (with_ver ver sysmod).sup (flat_map (ids_given (codes "SUP")) vers))) (put_more (codes "REQ") sysmod.req ver vers)
+    ∙ ap (λ s. record_with sysmod (lists_with sysmod (ver ∷ vers)).fmids (lists_with sysmod (ver ∷ vers)).pre (lists_with sysmod (ver ∷ vers)).req s) (put_more (codes "SUP") sysmod.sup ver vers)
+
+record_joined : (kind : SysmodKind) (id : List ℕ) (vers : List Statement) → with_vers (record_by kind id []) vers ≡ record_by kind id vers
+record_joined kind id vers = with_vers_is (record_by kind id []) vers
+
+-- ---- all statements
+
+-- an open record with the statements that belong to it
+abbrev opened : Option Sysmod → List Statement → List Change
+opened record_open vers = option_to_list (option_map Whole (option_map (λ sysmod. with_vers sysmod vers) record_open))
+
+-- what was read so far, and what statements make of it
+abbrev continued : Begun → List Statement → List Change
+continued begun statements = begun.before ++ (opened begun.open_record (vers_in_front statements) ++ (begun.behind ++ changes_of statements))
+
+regroup : (a o b x c : List Change) → (a ++ (o ++ b)) ++ (x ++ c) ≡ a ++ (o ++ (b ++ (x ++ c)))
+regroup a o b x c = append_assoc a (o ++ b) (x ++ c) ∙ ap (λ l. a ++ l) (append_assoc o b (x ++ c))
+
+plain : (o : Option Sysmod) → option_to_list (option_map Whole o) ≡ opened o []
+plain None = refl
+plain (Some sysmod) = refl
+
+begun_header : (kind : SysmodKind) (subject : Option (List ℕ)) (vers : List Statement)
+    → opened (option_map (λ id. record_by kind id []) subject) vers ≡ option_to_list (option_map (λ id. Whole (record_by kind id vers)) subject)
+begun_header kind None vers = refl
+begun_header kind (Some id) vers = ap (λ sysmod. Whole sysmod ∷ []) (record_joined kind id vers)
+
+one_ver : (o : Option Sysmod) (ver : Statement) (vers : List Statement) → opened (option_map (with_ver ver) o) vers ≡ opened o (ver ∷ vers)
+one_ver None ver vers = refl
+one_ver (Some sysmod) ver vers = refl
+
+one_part : (part : Part) (statement : Statement) (begun : Begun) (vers : List Statement) (rest : List Change)
+    → (with_part part statement begun).before ++ (opened (with_part part statement begun).open_record vers ++ ((with_part part statement begun).behind ++ rest))
+    ≡ begun.before ++ (opened begun.open_record (vers_in part statement vers) ++ (begun.behind ++ (changes_by part statement vers ++ rest)))
+one_part (Header kind) statement begun vers rest =
+    ap (λ l. changes_in begun ++ (l ++ rest)) (begun_header kind statement.subject vers)
+    ∙ regroup begun.before (option_to_list (option_map Whole begun.open_record)) begun.behind (changes_by (Header kind) statement vers) rest
+    ∙ ap (λ l. begun.before ++ (l ++ (begun.behind ++ (changes_by (Header kind) statement vers ++ rest)))) (plain begun.open_record)
+one_part More statement begun vers rest =
+    ap (λ l. begun.before ++ (l ++ (begun.behind ++ rest))) (one_ver begun.open_record statement vers)
+one_part OnHold statement begun vers rest =
+    ap (λ l. begun.before ++ (opened begun.open_record vers ++ l)) (append_assoc begun.behind (option_to_list (option_map OfHold (holddata.change_of statement))) rest)
+
+-- what was read so far with more statements, one at a time
+pub read_on : (begun : Begun) (statements : List Statement) → changes_in (fold with_statement begun statements) ≡ continued begun statements
+read_on begun [] =
+    ap (λ l. begun.before ++ (l ++ begun.behind)) (plain begun.open_record)
+    ∙ ap (λ l. begun.before ++ (opened begun.open_record [] ++ l)) (sym (append-nil begun.behind))
+read_on begun (statement ∷ statements) =
+    read_on (with_statement begun statement) statements
+    ∙ one_part (part_of statement) statement begun (vers_in_front statements) (changes_of statements)
+
+-- statements one at a time give what they publish
+pub read_all : (statements : List Statement) → changes_in (fold with_statement nothing_begun statements) ≡ changes_of statements
+read_all statements = read_on nothing_begun statements
+
+-- ---- faults
+
+-- a header that is read begins a record
+pub begins : (part : Part) (statement : Statement) (begun : Begun) → faults_by part (is_some begun.open_record) statement ≡ []
+    → is_some (with_part part statement begun).open_record ≡ (is_some begun.open_record || is_header part)
+begins (Header kind) statement begun none = by statement.subject none ∙ or_true (is_some begun.open_record)
+  where
+    or_true : (b : Bool) → true ≡ (b || true)
+    or_true true = refl
+    or_true false = refl
+
+    by : (subject : Option (List ℕ)) → fault_if (is_none subject) (BadId statement.line) ≡ [] → is_some (option_map (λ id. record_by kind id []) subject) ≡ true
+    by None h = cc
+    by (Some id) h = refl
+begins More statement begun none = by begun.open_record ∙ or_false (is_some begun.open_record)
+  where
+    or_false : (b : Bool) → b ≡ (b || false)
+    or_false true = refl
+    or_false false = refl
+
+    by : (o : Option Sysmod) → is_some (option_map (with_ver statement) o) ≡ is_some o
+    by None = refl
+    by (Some sysmod) = refl
+begins OnHold statement begun none = or_false (is_some begun.open_record)
+  where
+    or_false : (b : Bool) → b ≡ (b || false)
+    or_false true = refl
+    or_false false = refl
+
+-- ---- one statement of those that are left
+
+pub reads_next : (reader new all : Begun) (statement : Statement) (left rest : List Statement) → left ≡ statement ∷ rest → new ≡ with_statement reader statement
+    → fold with_statement reader left ≡ all → fold with_statement new rest ≡ all
+reads_next reader new all statement left rest at now reads =
+    ap (λ begun. fold with_statement begun rest) now ∙ ap (fold with_statement reader) (sym at) ∙ reads
+
+pub faults_next : (reader new : Begun) (first : Option CatFault) (statement : Statement) (left rest : List Statement) → left ≡ statement ∷ rest → new ≡ with_statement reader statement
+    → faults_of (is_some reader.open_record) statement ≡ []
+    → first_fault (is_some reader.open_record) left ≡ first → first_fault (is_some new.open_record) rest ≡ first
+faults_next reader new first statement left rest at now none faults =
+    let begun = is_some reader.open_record in
+    ap (λ (b : Begun). first_fault (is_some b.open_record) rest) now
+    ∙ ap (λ b. first_fault b rest) (begins (part_of statement) statement reader none)
+    ∙ sym (ap (λ fs. option_or (holddata.first_of fs) (first_fault (begun || is_header (part_of statement)) rest)) none)
+    ∙ ap (first_fault begun) (sym at) ∙ faults
+
+pub fault_here : (begun : Bool) (first : Option CatFault) (fault : CatFault) (statement : Statement) (left rest : List Statement) → left ≡ statement ∷ rest
+    → holddata.first_of (faults_of begun statement) ≡ Some fault → first_fault begun left ≡ first → first ≡ Some fault
+fault_here begun first fault statement left rest at is faults =
+    sym faults ∙ ap (first_fault begun) at ∙ ap (λ o. option_or o (first_fault (begun || is_header (part_of statement)) rest)) is

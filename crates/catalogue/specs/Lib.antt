@@ -1,0 +1,11 @@
+pub mod Ids
+pub mod Content
+pub mod Changes
+pub mod Publication
+pub mod Touched
+pub mod SourceFault
+pub mod CatFault
+pub mod Reading
+pub mod Opened
+pub mod Published
+pub mod ListPublished

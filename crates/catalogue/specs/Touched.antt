@@ -1,0 +1,37 @@
+-- What a publication touches: every id of which the record, the direct superseders or the ERROR holds may differ behind it.
+use Rattle.std.specs.Prelude.{ℕ, List, [], ◌∷◌, ◌++◌, Option, Some, None, Contains}
+use Rattle.std.specs.List.{flat_map}
+use Rattle.holddata.specs.declared.key.Kind.{Kind}
+use Rattle.holddata.specs.declared.key.Kind.TheVariants.{ErrorHold, SystemHold, UserHold, FixcatHold}
+use Rattle.holddata.specs.declared.key.HoldKey.{HoldKey}
+use Rattle.holddata.specs.HoldChange.{key_of}
+use Rattle.catalogue.specs.declared.sysmod.Sysmod.{Sysmod}
+use Rattle.catalogue.specs.declared.change.Change.{Change}
+use Rattle.catalogue.specs.declared.change.Change.TheVariants.{Whole, OfHold}
+use Rattle.catalogue.specs.Content.{Content, record_of}
+use Rattle.catalogue.specs.Ids.{in_order}
+
+-- what SUP of a record names
+abbrev pub sup_of : Option Sysmod → List (List ℕ)
+sup_of None = []
+sup_of (Some sysmod) = sysmod.sup
+
+-- a hold change touches the SYSMOD of an ERROR hold, whether it puts or releases it, and none for another kind
+abbrev pub touched_by_key : Kind → HoldKey → List (List ℕ)
+touched_by_key ErrorHold key = key.sysmod ∷ []
+touched_by_key SystemHold key = []
+touched_by_key UserHold key = []
+touched_by_key FixcatHold key = []
+
+-- the ids that one change touches: of a SYSMOD itself, what its SUP named before the publication, and what it names now
+abbrev pub touched_by : Content → Change → List (List ℕ)
+touched_by content (Whole sysmod) = sysmod.id ∷ (sup_of (record_of content sysmod.id) ++ sysmod.sup)
+touched_by content (OfHold change) = touched_by_key (key_of change).kind (key_of change)
+
+-- a publication over a content touches what one of its changes touches
+abbrev pub IsTouched : Content → List Change → List ℕ → Type 0
+IsTouched content changes id = Contains (flat_map (touched_by content) changes) id
+
+-- the touched ids, in ascending order, each once
+abbrev pub touched_ids : Content → List Change → List (List ℕ)
+touched_ids content changes = in_order (flat_map (touched_by content) changes)

@@ -1,0 +1,26 @@
+//! What a publication consists of.
+ghost use Rattle.std.specs.Prelude.{◌≡◌, IfOk};
+
+use crate::{NoMemory, Sysmod};
+use holddata::HoldChange;
+
+/// One change to what is published.
+#[derive(Debug, Drop)]
+pub enum Change {
+    /// The record stands from now on, whole, in place of one with the same id.
+    Whole(Sysmod),
+    /// A hold is put or released.
+    OfHold(HoldChange),
+}
+
+impl Change {
+    /// The same change once more.
+    pub fn copy(&self) -> Result<Self, NoMemory>
+        ensures { IfOk result (λ copy. copy ≡ self.now) }
+    {
+        match self {
+            Change::Whole(sysmod) => Ok(Change::Whole(sysmod.copy()?)),
+            Change::OfHold(change) => Ok(Change::OfHold(change.copy()?)),
+        }
+    }
+}

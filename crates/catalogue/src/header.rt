@@ -1,0 +1,145 @@
+//! A SYSMOD that was begun.
+ghost use Rattle.std.specs.Prelude.{◌≡◌, ◌≢◌, ◌++◌, ℕ, List, [], Some, true, false, IfOk, OnOk, IfErr};
+ghost use Rattle.mcs_reader.specs.Bytes.{bytes_of_each};
+ghost use Rattle.mcs_reader.specs.Id.{id_of};
+ghost use Rattle.mcs_reader.specs.Operand.{operand_text, operand_texts};
+ghost use Rattle.std.specs.List.{filter_map, list_any};
+ghost use Rattle.holddata.specs.Operands.{values_of};
+ghost use Rattle.catalogue.specs.declared.fault.CatFault.TheVariants.{BadId, Memory};
+ghost use Rattle.catalogue.specs.Ids.{put_among};
+ghost use Rattle.catalogue.specs.Opened.{sysmod_opened, values_under};
+ghost use Rattle.catalogue.specs.Reading.{has_bad_id, is_no_id, record_by, with_ver};
+
+use crate::{CatFault, Ids, NoMemory, Sysmod, SysmodKind};
+use mcs_reader::{Id, Operand, Statement};
+use std::alloc::Global;
+use std::collections::BTreeSet;
+
+/// The record of a header as far as its `++VER` statements were read.
+#[derive(Drop)]
+pub(crate) struct Open {
+    pub(crate) id: Id,
+    pub(crate) kind: SysmodKind,
+    pub(crate) fmids: BTreeSet<Id>,
+    pub(crate) pre: BTreeSet<Id>,
+    pub(crate) req: BTreeSet<Id>,
+    pub(crate) sup: BTreeSet<Id>,
+}
+
+impl Open {
+    /// The record of the header alone.
+    pub(crate) fn new(alloc: Global, id: Id, kind: SysmodKind) -> Self
+        ensures { sysmod_opened result ≡ record_by kind id [] }
+    {
+        Open {
+            id,
+            kind,
+            fmids: BTreeSet::new(alloc),
+            pre: BTreeSet::new(alloc),
+            req: BTreeSet::new(alloc),
+            sup: BTreeSet::new(alloc),
+        }
+    }
+
+    /// The record with what a `++VER` says.
+    pub(crate) fn with(self, ver: &Statement) -> Result<Self, CatFault>
+        ensures read { IfOk result (λ now. sysmod_opened now ≡ with_ver ver.now (sysmod_opened self)) }
+        ensures no_fault { OnOk result (has_bad_id ver.now ≡ false) }
+        ensures fault { IfErr result (λ fault. fault ≢ Memory → (fault ≡ BadId ver.now.line) × (has_bad_id ver.now ≡ true)) }
+    {
+        let operands = ver.operands.as_slice();
+        let line = ver.line;
+        let Open {
+            id,
+            kind,
+            mut fmids,
+            mut pre,
+            mut req,
+            mut sup,
+        } = self;
+        put_ids(&mut fmids, line, operands, b"FMID")?;
+        put_ids(&mut pre, line, operands, b"PRE")?;
+        put_ids(&mut req, line, operands, b"REQ")?;
+        put_ids(&mut sup, line, operands, b"SUP")?;
+        Ok(Open {
+            id,
+            kind,
+            fmids,
+            pre,
+            req,
+            sup,
+        })
+    }
+
+    /// The record as it is published.
+    pub(crate) fn record(self, alloc: Global) -> Result<Sysmod, NoMemory>
+        ensures { IfOk result (λ sysmod. sysmod ≡ sysmod_opened self) }
+    {
+        let Open {
+            id,
+            kind,
+            fmids,
+            pre,
+            req,
+            sup,
+        } = self;
+        Ok(Sysmod {
+            id,
+            kind,
+            fmids: Ids::from_set(alloc, fmids)?,
+            pre: Ids::from_set(alloc, pre)?,
+            req: Ids::from_set(alloc, req)?,
+            sup: Ids::from_set(alloc, sup)?,
+        })
+    }
+}
+
+// Puts the ids that operands of a name give among the others.
+fn put_ids(
+    ids: &mut BTreeSet<Id>,
+    line: u32,
+    operands: &[Operand],
+    name: &[u8],
+) -> Result<(), CatFault>
+    ensures ids { OnOk result (ids.new.keys ≡ put_among ids.old.keys (filter_map id_of (values_of name.now (operand_texts operands.now)))) }
+    ensures no_fault { OnOk result (list_any is_no_id (values_of name.now (operand_texts operands.now)) ≡ false) }
+    ensures fault { IfErr result (λ fault. fault ≢ Memory → (fault ≡ BadId line)
+        × (list_any is_no_id (values_of name.now (operand_texts operands.now)) ≡ true)) }
+{
+    for operand in operands {
+        put_operand(ids, line, operand, name)?;
+    }
+    Ok(())
+}
+
+// Puts the ids of an operand among the others if it has the name.
+fn put_operand(
+    ids: &mut BTreeSet<Id>,
+    line: u32,
+    operand: &Operand,
+    name: &[u8],
+) -> Result<(), CatFault>
+    ensures ids { OnOk result (ids.new.keys ≡ put_among ids.old.keys (filter_map id_of (values_under name.now (operand_text operand.now)))) }
+    ensures no_fault { OnOk result (list_any is_no_id (values_under name.now (operand_text operand.now)) ≡ false) }
+    ensures fault { IfErr result (λ fault. fault ≢ Memory → (fault ≡ BadId line)
+        × (list_any is_no_id (values_under name.now (operand_text operand.now)) ≡ true)) }
+{
+    if !operand.name.eq_ignore_ascii_case(name) {
+        return Ok(());
+    }
+    put_values(ids, line, operand.values.as_slice())
+}
+
+// Puts the ids of values among the others.
+fn put_values(ids: &mut BTreeSet<Id>, line: u32, values: &[&[u8]]) -> Result<(), CatFault>
+    ensures ids { OnOk result (ids.new.keys ≡ put_among ids.old.keys (filter_map id_of (bytes_of_each values.now))) }
+    ensures no_fault { OnOk result (list_any is_no_id (bytes_of_each values.now) ≡ false) }
+    ensures fault { IfErr result (λ fault. fault ≢ Memory → (fault ≡ BadId line)
+        × (list_any is_no_id (bytes_of_each values.now) ≡ true)) }
+{
+    for value in values {
+        let id = Id::new(value).ok_or(CatFault::BadId(line))?;
+        ids.insert(id)?;
+    }
+    Ok(())
+}

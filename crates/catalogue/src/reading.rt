@@ -1,0 +1,173 @@
+//! From statements to changes.
+ghost use Rattle.std.specs.Prelude.{◌≡◌, ◌≢◌, ◌++◌, ℕ, Bool, true, false, List, [], Option, Some, None, is_some, codes, IfOk, OnOk, IfErr};
+ghost use Rattle.std.specs.List.{fold};
+ghost use Rattle.holddata.specs.Statements.{first_of};
+ghost use Rattle.mcs_reader.specs.declared.statement.Statement.{Statement};
+ghost use Rattle.catalogue.specs.declared.fault.CatFault.TheVariants.{Memory};
+ghost use Rattle.catalogue.specs.Opened.{record_opened};
+ghost use Rattle.catalogue.specs.Reading.{changes_of, first_fault, faults_of, faults_by, Header, More, OnHold, changes_in, nothing_begun, with_part, with_statement};
+
+use crate::header::Open;
+use crate::{CatFault, Change, NoMemory, SysmodKind};
+use mcs_reader::{Statement, Verb};
+use std::alloc::Global;
+use std::marker::Model;
+
+/// What statements publish, in order (IBM z/OS SMP/E Reference, `++FUNCTION`, `++PTF`, `++APAR`, `++USERMOD`,
+/// `++VER`): a header gives one record at its place, with the lists of all `++VER` statements up to the next
+/// header joined; holds and releases stand where they stand.
+///
+/// # Errors
+///
+/// The first statement with a fault decides, in it the fault with the lowest number: `VerOutside` where no
+/// header stands before a `++VER`, `BadId` where FMID, PRE, REQ or SUP has a value that is no id, `Held` for
+/// a fault of a hold or a release. `Memory` may come in place of any answer.
+pub fn read_changes(alloc: Global, statements: &[Statement]) -> Result<Vec<Change>, CatFault>
+    ensures changes { IfOk result (λ changes. changes.items ≡ changes_of statements.now) }
+    ensures no_fault { OnOk result (first_fault false statements.now ≡ None) }
+    ensures fault { IfErr result (λ fault. fault ≢ Memory → first_fault false statements.now ≡ Some fault) }
+{
+    let mut reader = ChangeReader::new(alloc);
+    for statement in statements {
+        reader = reader.take(statement)?;
+    }
+    Ok(reader.finish()?)
+}
+
+/// Changes of statements that are taken one at a time, of which none is kept. A contract sees what was read
+/// so far.
+#[derive(Drop)]
+pub struct ChangeReader {
+    alloc: Global,
+    before: Vec<Change>,
+    header: Option<Open>,
+    behind: Vec<Change>,
+}
+
+impl Model for ChangeReader {
+    ghost use Rattle.catalogue.specs.Reading.{Begun};
+    ghost use Rattle.catalogue.specs.Opened.{record_opened};
+
+    ghost Value = { Begun };
+
+    ghost view = { λ reader. record { before = reader.before.items; open_record = record_opened reader.header; behind = reader.behind.items } };
+}
+
+impl ChangeReader {
+    /// Nothing was read. It takes no memory.
+    pub fn new(alloc: Global) -> Self
+        ensures { result ≡ nothing_begun }
+    {
+        ChangeReader {
+            alloc,
+            before: Vec::new(alloc),
+            header: None,
+            behind: Vec::new(alloc),
+        }
+    }
+
+    /// Takes one more statement (see [`read_changes`]). Where it is refused, nothing of what was read is left.
+    pub fn take(self, statement: &Statement) -> Result<Self, CatFault>
+        ensures read { IfOk result (λ now. now ≡ with_statement self statement.now) }
+        ensures no_fault { OnOk result (faults_of (is_some self.open_record) statement.now ≡ []) }
+        ensures fault { IfErr result (λ fault. fault ≢ Memory → first_of (faults_of (is_some self.open_record) statement.now) ≡ Some fault) }
+    {
+        match statement.verb {
+            Verb::Func => self.begin(SysmodKind::Func, statement),
+            Verb::Ptf => self.begin(SysmodKind::Ptf, statement),
+            Verb::Apar => self.begin(SysmodKind::Apar, statement),
+            Verb::Usermod => self.begin(SysmodKind::Usermod, statement),
+            Verb::Ver => self.join(statement),
+            Verb::Hold | Verb::Release => self.hold(statement),
+        }
+    }
+
+    /// The changes of all statements that were taken.
+    pub fn finish(self) -> Result<Vec<Change>, NoMemory>
+        ensures changes { IfOk result (λ changes. changes.items ≡ changes_in self) }
+
+        // Statements one at a time give what all of them publish.
+        ensures law { OnOk result ((statements : List Statement) →
+            changes_in (fold with_statement nothing_begun statements) ≡ changes_of statements) }
+    {
+        Ok(closed(self.alloc, self.before, self.header, self.behind)?)
+    }
+
+    // A header ends what was read so far.
+    fn begin(self, kind: SysmodKind, statement: &Statement) -> Result<Self, CatFault>
+        ensures read { IfOk result (λ now. now ≡ with_part (Header kind) statement.now self) }
+        ensures no_fault { OnOk result (faults_by (Header kind) (is_some self.open_record) statement.now ≡ []) }
+        ensures fault { IfErr result (λ fault. fault ≢ Memory → first_of (faults_by (Header kind) (is_some self.open_record) statement.now) ≡ Some fault) }
+    {
+        let Some(id) = statement.subject else {
+            return Err(CatFault::BadId(statement.line));
+        };
+        let alloc = self.alloc;
+        Ok(ChangeReader {
+            alloc,
+            before: closed(self.alloc, self.before, self.header, self.behind)?,
+            header: Some(Open::new(alloc, id, kind)),
+            behind: Vec::new(alloc),
+        })
+    }
+
+    // A VER belongs to the last header.
+    fn join(self, ver: &Statement) -> Result<Self, CatFault>
+        ensures read { IfOk result (λ now. now ≡ with_part More ver.now self) }
+        ensures no_fault { OnOk result (faults_by More (is_some self.open_record) ver.now ≡ []) }
+        ensures fault { IfErr result (λ fault. fault ≢ Memory → first_of (faults_by More (is_some self.open_record) ver.now) ≡ Some fault) }
+    {
+        let ChangeReader {
+            alloc,
+            before,
+            header,
+            behind,
+        } = self;
+        let Some(header) = header else {
+            return Err(CatFault::VerOutside(ver.line));
+        };
+        Ok(ChangeReader {
+            alloc,
+            before,
+            header: Some(header.with(ver)?),
+            behind,
+        })
+    }
+
+    // A hold or a release stands behind what was read.
+    fn hold(self, statement: &Statement) -> Result<Self, CatFault>
+        ensures read { IfOk result (λ now. now ≡ with_part OnHold statement.now self) }
+        ensures no_fault { OnOk result (faults_by OnHold (is_some self.open_record) statement.now ≡ []) }
+        ensures fault { IfErr result (λ fault. fault ≢ Memory → first_of (faults_by OnHold (is_some self.open_record) statement.now) ≡ Some fault) }
+    {
+        let mut behind = self.behind;
+        if let Some(change) = holddata::change(self.alloc, statement)? {
+            behind.push(Change::OfHold(change))?;
+        }
+        Ok(ChangeReader {
+            alloc: self.alloc,
+            before: self.before,
+            header: self.header,
+            behind,
+        })
+    }
+}
+
+// All changes that were read, the open record in its place.
+fn closed(
+    alloc: Global,
+    before: Vec<Change>,
+    header: Option<Open>,
+    behind: Vec<Change>,
+) -> Result<Vec<Change>, NoMemory>
+    ensures { IfOk result (λ changes. changes.items
+        ≡ changes_in (record { before = before.items; open_record = record_opened header; behind = behind.items })) }
+{
+    let mut changes = before;
+    let mut behind = behind;
+    if let Some(header) = header {
+        changes.push(Change::Whole(header.record(alloc)?))?;
+    }
+    changes.append(&mut behind)?;
+    Ok(changes)
+}

@@ -1,0 +1,64 @@
+//! The record of a SYSMOD.
+ghost use Rattle.std.specs.Prelude.{◌≡◌, IfOk};
+
+use crate::{Ids, NoMemory};
+use mcs_reader::Id;
+
+/// What a SYSMOD is: the verb of its header (IBM z/OS SMP/E Reference, `++FUNCTION`, `++PTF`, `++APAR`,
+/// `++USERMOD`).
+#[derive(Clone, Copy, Debug, PartialEq, Eq, PartialOrd, Ord, Hash)]
+pub enum SysmodKind {
+    /// `++FUNCTION`: a product, or a part of one.
+    Func,
+    /// `++PTF`: service of the vendor's.
+    Ptf,
+    /// `++APAR`: a fix of the vendor's before there is a PTF.
+    Apar,
+    /// `++USERMOD`: the installation's own change.
+    Usermod,
+}
+
+/// What is published of a SYSMOD: what its header and all its `++VER` statements say together.
+///
+/// The lists ascend, each id once, by their type.
+#[derive(Debug, Drop)]
+pub struct Sysmod {
+    /// The SYSMOD.
+    pub id: Id,
+    /// Which header it has.
+    pub kind: SysmodKind,
+    /// The functions to which it applies (operand FMID).
+    pub fmids: Ids,
+    /// What has to be installed before it (operand PRE).
+    pub pre: Ids,
+    /// What has to be installed with it (operand REQ).
+    pub req: Ids,
+    /// What it supersedes: the SYSMODs that it stands for, APARs among them (operand SUP).
+    pub sup: Ids,
+}
+
+impl Sysmod {
+    /// The same record once more.
+    pub fn copy(&self) -> Result<Self, NoMemory>
+        ensures { IfOk result (λ copy. copy ≡ self.now) }
+    {
+        Ok(Sysmod {
+            id: self.id,
+            kind: self.kind,
+            fmids: self.fmids.copy()?,
+            pre: self.pre.copy()?,
+            req: self.req.copy()?,
+            sup: self.sup.copy()?,
+        })
+    }
+}
+
+impl Clone for Sysmod {
+    ghost use Rattle.std.specs.Prelude.{◌≡◌};
+
+    ghost is_clone = { λ sysmod copy. copy ≡ sysmod };
+
+    fn clone(&self) -> Result<Self, NoMemory> {
+        self.copy()
+    }
+}
