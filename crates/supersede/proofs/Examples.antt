@@ -1,0 +1,87 @@
+-- Worked examples of the definitions: what gives what, what is there, what may be installed and what it needs.
+use Rattle.std.proofs.Common.{◌≡◌, ℕ, true, false, List, [], ◌∷◌, codes, Some, None, refl}
+use Rattle.mcs_reader.specs.Id.{padded}
+use Rattle.holddata.specs.declared.key.Kind.TheVariants.{ErrorHold}
+use Rattle.zone_lists.specs.Installed.{is_installed}
+use Rattle.zone_lists.specs.declared.zones.ZoneRow.{ZoneRow}
+use Rattle.zone_lists.specs.declared.zones.ZoneState.TheVariants.{Applied, Superseded}
+use Rattle.catalogue.specs.Content.{Content}
+use Rattle.catalogue.specs.declared.sysmod.Sysmod.{Sysmod}
+use Rattle.catalogue.specs.declared.sysmod.SysmodKind.TheVariants.{Func, Ptf}
+use Rattle.supersede.specs.Giving.{gives, givers_of, is_candidate, is_there, needs_of}
+
+abbrev function : List ℕ
+function = padded (codes "HBB7790")
+
+abbrev first : List ℕ
+first = padded (codes "UA10001")
+
+abbrev second : List ℕ
+second = padded (codes "UA10002")
+
+abbrev third : List ℕ
+third = padded (codes "UA10005")
+
+abbrev apar : List ℕ
+apar = padded (codes "AA20002")
+
+-- a PTF for the function, which needs some and supersedes some
+abbrev ptf : List ℕ → List (List ℕ) → List (List ℕ) → Sysmod
+ptf id pre sup = record { id = id; kind = Ptf; fmids = function ∷ []; pre = pre; req = []; sup = sup }
+
+-- an error of the first PTF, which the second fixes; the third supersedes the second
+abbrev published : Content
+published = record {
+  sysmods = record { id = function; kind = Func; fmids = []; pre = []; req = []; sup = [] } ∷ ptf first [] [] ∷ ptf second (first ∷ []) (apar ∷ []) ∷ ptf third [] (second ∷ []) ∷ [];
+  holds = record { key = record { sysmod = first; kind = ErrorHold; reason = apar }; fmid = Some function; class = None; resolver = None; dated = None; categories = [] } ∷ [];
+}
+
+-- a zone with the function and the first PTF
+abbrev zone : List ZoneRow
+zone = record { sysmod = function; state = Applied } ∷ record { sysmod = first; state = Applied } ∷ []
+
+itself_and_through_another : givers_of published apar ≡ second ∷ third ∷ []
+itself_and_through_another = refl
+
+every_one_gives_itself : givers_of published first ≡ first ∷ []
+every_one_gives_itself = refl
+
+what_is_not_catalogued_gives_nothing : gives published apar apar ≡ false
+what_is_not_catalogued_gives_nothing = refl
+
+not_the_other_way : gives published first third ≡ false
+not_the_other_way = refl
+
+the_error_is_not_fixed : is_there published zone apar ≡ false
+the_error_is_not_fixed = refl
+
+fixed_by_one_that_is_installed : is_there published (record { sysmod = third; state = Applied } ∷ []) apar ≡ true
+fixed_by_one_that_is_installed = refl
+
+not_by_one_that_is_superseded_itself : is_there published (record { sysmod = third; state = Superseded } ∷ []) apar ≡ false
+not_by_one_that_is_superseded_itself = refl
+
+listed_in_any_state : is_there published (record { sysmod = apar; state = Superseded } ∷ []) apar ≡ true
+listed_in_any_state = refl
+
+listed_and_not_installed : is_installed (record { sysmod = apar; state = Superseded } ∷ []) apar ≡ false
+listed_and_not_installed = refl
+
+its_function_is_installed : is_candidate published zone second ≡ true
+its_function_is_installed = refl
+
+a_function_is_no_candidate : is_candidate published zone function ≡ false
+a_function_is_no_candidate = refl
+
+an_error_is_a_need : needs_of published first ≡ apar ∷ []
+an_error_is_a_need = refl
+
+a_requisite_is_a_need : needs_of published second ≡ first ∷ []
+a_requisite_is_a_need = refl
+
+-- two that supersede each other give each other, and the search ends
+abbrev ring : Content
+ring = record { sysmods = ptf first [] (second ∷ []) ∷ ptf second [] (first ∷ []) ∷ []; holds = [] }
+
+in_a_ring : givers_of ring first ≡ first ∷ second ∷ []
+in_a_ring = refl

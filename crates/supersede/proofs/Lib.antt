@@ -1,0 +1,4 @@
+mod Examples
+pub mod GivingFacts
+pub mod LeadingFacts
+pub mod ZoneFacts
