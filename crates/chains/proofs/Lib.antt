@@ -1,0 +1,3 @@
+pub mod SearchFacts
+pub mod GoodFacts
+pub mod StatusFacts

@@ -1,0 +1,3 @@
+pub mod Verdicts
+pub mod Judge
+pub mod Worlds

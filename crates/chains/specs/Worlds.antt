@@ -1,0 +1,33 @@
+-- A content and a zone as a world: what plans, picks and verdicts speak of.
+use Rattle.std.specs.Prelude.{◌≡◌, ℕ, ◌↔◌, true, List, Contains}
+use Rattle.std.specs.declared.cmp.Ordering.TheVariants.{Greater}
+use Rattle.zone_lists.specs.declared.zones.ZoneRow.{ZoneRow}
+use Rattle.catalogue.specs.Content.{Content}
+use Rattle.catalogue.specs.Ids.{id_cmp}
+use Rattle.supersede.specs.Giving.{gives, is_candidate, is_there, needs_of}
+use Rattle.requisites.specs.World.{IsGood, World}
+use Rattle.chains.specs.Judge.{status_of}
+use Rattle.chains.specs.Verdicts.{is_good, verdict_of}
+use Rattle.chains.specs.declared.verdict.Status.TheVariants as status
+
+-- the ids of a content, seen from a zone
+abbrev pub world_of : Content → List ZoneRow → World (List ℕ)
+world_of content rows = record {
+  Candidate = λ id. is_candidate content rows id ≡ true;
+  Needs = λ id need. Contains (needs_of content id) need;
+  There = λ need. is_there content rows need ≡ true;
+  Gives = λ id need. gives content id need ≡ true;
+  AtMost = λ a b. id_cmp a b ≡ Greater → ⊥;
+}
+
+-- an id is found good exactly where some plan of candidates holds it
+abbrev pub GoodIsPlanned : Type 0
+GoodIsPlanned =
+    (content : Content) (rows : List ZoneRow) (id : List ℕ) → (is_good content rows id ≡ true) ↔ IsGood (world_of content rows) id
+
+-- the verdict on an id is good exactly where a plan holds it, held exactly where it is a candidate that no plan
+-- holds, and lack exactly where it is no candidate
+pub record IsRightStatus (content : Content) (rows : List ZoneRow) (id : List ℕ) : Type 0 where
+  pub good : (status_of (verdict_of content rows id) ≡ status.Good) ↔ IsGood (world_of content rows) id
+  pub held : (status_of (verdict_of content rows id) ≡ status.Held) ↔ ((is_candidate content rows id ≡ true) × (¬ IsGood (world_of content rows) id))
+  pub lack : (status_of (verdict_of content rows id) ≡ status.Lack) ↔ (¬ (is_candidate content rows id ≡ true))

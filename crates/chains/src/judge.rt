@@ -1,0 +1,57 @@
+//! Who gives verdicts.
+ghost use Rattle.std.specs.Prelude.{◌≡◌, List, ℕ, IfOk, map};
+ghost use Rattle.catalogue.specs.Content.{Content};
+ghost use Rattle.catalogue.specs.Published.{FailsWithCause, Tells};
+ghost use Rattle.chains.specs.Judge as judge;
+ghost use Rattle.chains.specs.Verdicts.{verdict_of};
+
+use crate::{Status, Verdict};
+use catalogue::{Published, SourceFault};
+use mcs_reader::Id;
+use std::alloc::Global;
+use supersede::Zone;
+
+/// Who gives verdicts over a source of published content.
+///
+/// A judge may keep what it has found. It is right for a content where what it keeps is true of it.
+pub trait Judge<P: Published> {
+    /// What is kept is true of the content.
+    ghost is_right: { Self → Content → Type 0 };
+
+    /// The verdict on a SYSMOD in a zone.
+    fn verdict(
+        &mut self,
+        alloc: Global,
+        source: &mut P,
+        zone: &Zone,
+        id: &Id,
+    ) -> Result<Verdict, SourceFault>
+        ensures keeps { P.keeps source.old source.new }
+        ensures verdict { IfOk result (λ verdict. Tells P.is_clean P.is_ours P.is_open P.content source.old source.new
+            (λ content. is_right self.old content → judge.judged_by verdict ≡ verdict_of content zone.now id.now)) }
+        ensures right { Tells P.is_clean P.is_ours P.is_open P.content source.old source.new
+            (λ content. is_right self.old content → is_right self.new content) }
+        ensures cause { FailsWithCause P.failures source.old source.new result };
+
+    /// Forgets what is kept of these SYSMODs. It takes no memory.
+    ///
+    /// It stays right for each content for which it was, and is right for each that says the same
+    /// outside these ids: what is published before, and after.
+    fn drop_touched(&mut self, ids: &[Id])
+        ensures right { (old new : Content) → is_right self.old old → judge.AgreeOutside ids.now old new → is_right self.new new };
+
+    /// For each SYSMOD which verdict it is, in the order of the list.
+    fn statuses(
+        &mut self,
+        alloc: Global,
+        source: &mut P,
+        zone: &Zone,
+        ids: &[Id],
+    ) -> Result<Vec<Status>, SourceFault>
+        ensures keeps { P.keeps source.old source.new }
+        ensures statuses { IfOk result (λ statuses. Tells P.is_clean P.is_ours P.is_open P.content source.old source.new
+            (λ content. is_right self.old content → statuses.items ≡ map (λ id. judge.status_of (verdict_of content zone.now id)) ids.now)) }
+        ensures right { Tells P.is_clean P.is_ours P.is_open P.content source.old source.new
+            (λ content. is_right self.old content → is_right self.new content) }
+        ensures cause { FailsWithCause P.failures source.old source.new result };
+}

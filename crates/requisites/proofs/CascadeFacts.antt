@@ -1,0 +1,120 @@
+-- What falls and what closes.
+use Rattle.std.proofs.Common.{◌≡◌, ◌≢◌, ℕ, ◌+◌, ◌*◌, ◌<◌, ◌≤◌, ◌^◌, ◌⊎◌, List, [], ◌∷◌, ◌++◌, Bool, true, false, length, get_or, set, take, replicate, refl, sym, ap, ◌∙◌, subst, inl, inr, arith}
+use Rattle.std.specs.List.{Contains}
+use Rattle.std.specs.Global.{Vec}
+use Rattle.std.proofs.lemmas.Bool.{cases_eq}
+use Rattle.std.proofs.lemmas.Grind.{common_steps}
+use Rattle.std.proofs.lemmas.List.{get_or-replicate, get_or-set_other, take_all, take_more}
+use Rattle.std.proofs.lemmas.List.Elements.{Contains-push_cases}
+use Rattle.requisites.specs.Leads.{Leads}
+use Rattle.requisites.specs.World.{IsGood, IsGoodGiver}
+use Rattle.requisites.specs.Nodes.{IsMarked, Links, mark_of, row, world}
+use Rattle.requisites.specs.Good.{AreMarksLeft, AreOpen, AreReversed, AreUnmarked, CanClose, ComesNearer, HasClosedNeed, marked_count}
+use Rattle.requisites.specs.declared.nodes.Nodes.{Nodes}
+use Rattle.requisites.proofs.LeadsFacts.{leads_last}
+use Rattle.requisites.proofs.PickFacts.{unmarked}
+use Rattle.requisites.proofs.SourceFacts.{marked_inside}
+use Rattle.requisites.proofs.SweepFacts.{count_falls, mark_left, mark_stays}
+use Rattle.requisites.proofs.VerdictFacts.{good_inside}
+
+-- ---- places read one after the other
+
+pub unmarked_none : (marks : List Bool) → AreUnmarked marks []
+unmarked_none marks = record { each = λ p inside. absurd (omega (arith, inside.1)) }
+
+pub unmarked_more : (marks : List Bool) (places : List ℕ) (i : ℕ) → i < length places → AreUnmarked marks (take i places) → mark_of marks (get_or places i 0) ≡ false → AreUnmarked marks (take (i + 1) places)
+unmarked_more marks places i h a off = rw (take_more places i 0 h) (record {
+  each = λ p inside. elim (Contains-push_cases (take i places) (get_or places i 0) p inside) [
+    | inl before ↦ a.each p before
+    | inr same ↦ (let P : ℕ → Type 0 = λ k. mark_of marks k ≡ false in subst P same off)
+  ];
+})
+
+pub unmarked_all : (marks : List Bool) (places : List ℕ) (i : ℕ) → length places ≤ i → AreUnmarked marks (take i places) → AreUnmarked marks places
+unmarked_all marks places i h a = let P : List ℕ → Type 0 = λ l. AreUnmarked marks l in subst P (take_all i places h) a
+
+-- ---- what falls
+
+-- a good place has no closed need
+good_needs_open : (nodes : Nodes) (opens : List Bool) (p : ℕ) → AreOpen nodes opens → IsGood (world nodes) p → HasClosedNeed nodes opens p → ⊥
+good_needs_open nodes opens p a good closed = elim (good.plan.needs_met p closed.need good.member closed.needs) [
+  | inl there ↦ unmarked nodes.there.items closed.need closed.absent there
+  | inr given ↦ unmarked opens closed.need closed.closed (a.given closed.need given.giver (record {
+    good = record { members = good.members; plan = good.plan; member = given.member };
+    gives = given.gives;
+  }))
+]
+
+pub left_falls : (nodes : Nodes) (opens marks : List Bool) (p : ℕ) → p < length marks → AreMarksLeft nodes marks → AreOpen nodes opens → HasClosedNeed nodes opens p → AreMarksLeft nodes (set marks p false)
+left_falls nodes opens marks p h left a closed = record {
+  len = (let e : length (set marks p false) ≡ length marks = grind (arith, common_steps) in e ∙ left.len);
+  candidates = λ q marked. left.candidates q (mark_left marks p q h marked).1;
+  keep = λ q good. elim (cases_eq q p) [
+    | inl e ↦ absurd (good_needs_open nodes opens p a (let P : ℕ → Type 0 = λ k. IsGood (world nodes) k in subst P e good) closed)
+    | inr ne ↦ mark_stays marks p q ne (left.keep q good)
+  ];
+}
+
+pub left_falls_inside : (nodes : Nodes) (opens marks : List Bool) (p : ℕ) → mark_of marks p ≡ true → AreMarksLeft nodes marks → AreOpen nodes opens → HasClosedNeed nodes opens p → AreMarksLeft nodes (set marks p false)
+left_falls_inside nodes opens marks p on left a closed = left_falls nodes opens marks p (marked_inside marks p (record { is = on })) left a closed
+
+-- ---- what closes
+
+-- no good place gives what can close
+ungiven : (nodes : Nodes) (superseders : List (Vec ℕ)) (marks opens : List Bool) (p z : ℕ) → AreReversed nodes.supersedes.items (length nodes.candidates.items) superseders → AreMarksLeft nodes marks → AreOpen nodes opens → CanClose superseders marks opens p → IsGoodGiver (world nodes) p z → ⊥
+ungiven nodes superseders marks opens p z turned left a can giver = elim (leads_last giver.gives) [
+  | inl same ↦ unmarked marks p can.unmarked (left.keep p (let P : ℕ → Type 0 = λ k. IsGood (world nodes) k in subst P same giver.good))
+  | inr last ↦ unmarked opens last.before (can.above.each last.before (turned.turned last.before p last.step)) (a.given last.before z (record { good = giver.good; gives = last.leads }))
+]
+
+pub open_closes : (nodes : Nodes) (superseders : List (Vec ℕ)) (marks opens : List Bool) (p : ℕ) → AreReversed nodes.supersedes.items (length nodes.candidates.items) superseders → AreMarksLeft nodes marks → AreOpen nodes opens → CanClose superseders marks opens p → AreOpen nodes (set opens p false)
+open_closes nodes superseders marks opens p turned left a can = record {
+  given = λ r z giver. elim (cases_eq r p) [
+    | inl e ↦ absurd (ungiven nodes superseders marks opens p z turned left a can (let P : ℕ → Type 0 = λ k. IsGoodGiver (world nodes) k z in subst P e giver))
+    | inr ne ↦ mark_stays opens p r ne (a.given r z giver)
+  ];
+}
+
+-- closing brings the end nearer
+pub closing_is_nearer : (opens : List Bool) (p work work' : ℕ) → p < length opens → IsMarked opens p → ComesNearer opens (set opens p false) work work'
+closing_is_nearer opens p work work' h marked = inl (count_falls opens p h marked)
+
+pub same_is_near : (opens : List Bool) (work work' : ℕ) → work' ≤ work → ComesNearer opens opens work work'
+same_is_near opens work work' h = inr (refl, h)
+
+-- all is open at first
+pub open_begins : (nodes : Nodes) (n : ℕ) → n ≡ length nodes.candidates.items → AreOpen nodes (replicate n true)
+open_begins nodes n len = record {
+  given = λ r z giver. record { is = get_or-replicate n r true false (inside r z giver) };
+} where
+  inside : (r z : ℕ) → IsGoodGiver (world nodes) r z → r < n
+  inside r z giver = elim (leads_last giver.gives) [
+    | inl same ↦ (let h : z < length nodes.candidates.items = good_inside nodes z giver.good in omega arith)
+    | inr last ↦ omega (arith, last.step.place)
+  ]
+
+-- the measure falls where the end comes nearer
+pub nearer_falls : (old new : List Bool) (before rest after : ℕ) → ComesNearer old new rest after → rest + 1 ≡ before → after < 2 ^ 64 → marked_count new * 2 ^ 64 + after < marked_count old * 2 ^ 64 + before
+nearer_falls old new before rest after (inl fewer) e fits = omega (arith, fewer, fits, e)
+nearer_falls old new before rest after (inr same) e fits = let count : marked_count new ≡ marked_count old = same.0 in let less : after ≤ rest = same.1 in rw count (omega arith)
+
+-- what holds between two looks
+pub record AreLooked (nodes : Nodes) (old new opens : List Bool) : Type 0 where
+  pub left : AreMarksLeft nodes new
+  pub opens_left : AreOpen nodes opens
+  pub fewer : marked_count new ≤ marked_count old
+
+pub looked_more : (nodes : Nodes) (old mid new opens : List Bool) → marked_count mid ≤ marked_count old → AreMarksLeft nodes new → AreOpen nodes opens → marked_count new ≤ marked_count mid → AreLooked nodes old new opens
+looked_more nodes old mid new opens before left a after = record { left = left; opens_left = a; fewer = omega arith }
+
+-- the same, of opens read through a reference
+pub open_closes_read : (nodes : Nodes) (superseders : List (Vec ℕ)) (marks opens read : List Bool) (p : ℕ) → read ≡ opens → AreReversed nodes.supersedes.items (length nodes.candidates.items) superseders → AreMarksLeft nodes marks → AreOpen nodes opens → CanClose superseders marks read p → AreOpen nodes (set opens p false)
+open_closes_read nodes superseders marks opens read p same turned left a can =
+    open_closes nodes superseders marks opens p turned left a (let P : List Bool → Type 0 = λ o. CanClose superseders marks o p in subst P same can)
+
+pub looked_first : (nodes : Nodes) (marks opens : List Bool) → AreMarksLeft nodes marks → opens ≡ replicate (length marks) true → AreLooked nodes marks marks opens
+looked_first nodes marks opens left same = record {
+  left = left;
+  opens_left = (let P : List Bool → Type 0 = λ o. AreOpen nodes o in subst P (sym same) (open_begins nodes (length marks) left.len));
+  fewer = omega arith;
+}

@@ -1,0 +1,11 @@
+pub mod LeadsFacts
+pub mod SpreadFacts
+pub mod SourceFacts
+pub mod TestFacts
+pub mod OpenFacts
+pub mod SweepFacts
+pub mod PlanFacts
+pub mod PickFacts
+pub mod VerdictFacts
+pub mod CascadeFacts
+pub mod ReversedFacts

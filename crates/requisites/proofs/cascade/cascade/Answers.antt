@@ -1,0 +1,6 @@
+use Rattle.std.proofs.Common.{◌≡◌, length, arith, rules}
+use Rattle.requisites.proofs.CascadeFacts.{looked_first, looked_more, nearer_falls}
+use Rattle.requisites.proofs.cascade.cascade.Goals as goal
+
+pub first-init : goal.first-init
+first-init c = looked_first c.args.nodes.now c.args.marks.now c.in_ok-vec.field-0.items c.requires.left (search rules)

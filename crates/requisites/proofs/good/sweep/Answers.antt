@@ -1,0 +1,25 @@
+use Rattle.std.proofs.Common.{◌≡◌, ◌+◌, List, Bool, true, subst, sym, arith}
+use Rattle.requisites.specs.Good.{AreSwept}
+use Rattle.requisites.proofs.TestFacts.{from_true, from_false}
+use Rattle.requisites.proofs.SweepFacts.{swept_none, swept_falls, swept_stays, swept_left}
+use Rattle.requisites.proofs.good.sweep.Goals as goal
+use Rattle.requisites.proofs.good.sweep.Goals.{then-must_fall, else-must_fall}
+
+pub loop-place-init : goal.loop-place-init
+loop-place-init c = swept_none c.args.nodes.now c.args.givers.now c.args.marks.now
+
+pub loop-place-preserved : goal.loop-place-preserved
+loop-place-preserved c =
+    let nodes = c.args.nodes.now in
+    let givers = c.args.givers.now in
+    let i = c.loop-place.place in
+    let marks = c.loop-place.marks in
+    elim c.if-must_fall.branch [
+      | then-must_fall w ↦
+          (let unmet = from_true c.must_fall.result c.must_fall.ensures.yes w.if-must_fall.true in
+          swept_left nodes givers (i + 1) c.args.marks.now _ c.if-must_fall.marks true c.if-must_fall.fell w.marks-is w.fell-is
+          (swept_falls nodes givers i c.args.marks.now marks c.loop-place.fell c.loop-place.invariant (omega (arith, c.loop-place.invariant.len)) unmet.0 unmet.1))
+      | else-must_fall w ↦
+          swept_left nodes givers (i + 1) c.args.marks.now marks c.if-must_fall.marks c.loop-place.fell c.if-must_fall.fell w.marks-is w.fell-is
+          (swept_stays nodes givers i c.args.marks.now marks c.loop-place.fell c.loop-place.invariant (from_false c.must_fall.result c.must_fall.ensures.no w.if-must_fall.false))
+    ]

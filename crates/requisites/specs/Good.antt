@@ -1,0 +1,84 @@
+-- Which places are good, and what gives what.
+use Rattle.std.specs.Prelude.{◌≡◌, ◌<◌, ◌≤◌, ◌⊎◌, ℕ, List, Bool, true, false, Option, Some, None, length, Contains, sum_by, if◌then◌else◌}
+use Rattle.std.specs.Global.{Vec}
+use Rattle.requisites.specs.World.{IsGood, IsGoodGiver}
+use Rattle.requisites.specs.Nodes.{IsMarked, Links, mark_of, row, world}
+use Rattle.requisites.specs.Sources.{AreLeastSources, HasSource, source_of}
+use Rattle.requisites.specs.declared.nodes.Nodes.{Nodes}
+
+-- the marks are those of the good places, and each place's giver is the least good one
+pub record AreGood (nodes : Nodes) (good : List Bool) (givers : List (Option ℕ)) : Type 0 where
+  pub len : length good ≡ length nodes.candidates.items
+  pub marked : (p : ℕ) → IsMarked good p → IsGood (world nodes) p
+  pub unmarked : (p : ℕ) → IsGood (world nodes) p → IsMarked good p
+  pub given_by : AreLeastSources nodes.supersedes.items good givers
+
+-- one of these needs, which isn't there and has no giver
+pub record IsOpenNeed (nodes : Nodes) (givers : List (Option ℕ)) (listed : List ℕ) (r : ℕ) : Type 0 where
+  pub needs : Contains listed r
+  pub absent : mark_of nodes.there.items r ≡ false
+  pub ungiven : source_of givers r ≡ None
+
+-- each of these needs is there or has a giver
+pub record AreMet (nodes : Nodes) (givers : List (Option ℕ)) (needs : List ℕ) : Type 0 where
+  pub met : (r : ℕ) → Contains needs r → IsMarked nodes.there.items r ⊎ HasSource givers r
+
+-- the least open one of these needs
+pub record IsLeastOpen (nodes : Nodes) (givers : List (Option ℕ)) (needs : List ℕ) (r : ℕ) : Type 0 where
+  pub is_open : IsOpenNeed nodes givers needs r
+  pub least : (s : ℕ) → IsOpenNeed nodes givers needs s → r ≤ s
+
+-- how many places are marked
+abbrev pub marked_count : List Bool → ℕ
+marked_count marks = sum_by (λ b. if b then 1 else 0) marks
+
+-- p has an open need
+pub record HasOpenNeed (nodes : Nodes) (givers : List (Option ℕ)) (p : ℕ) : Type 0 where
+  pub need : ℕ
+  pub is_open : IsOpenNeed nodes givers (row nodes.needs.items p) need
+
+-- what is left when the marked places below i with an open need have lost their marks
+pub record AreSwept (nodes : Nodes) (givers : List (Option ℕ)) (i : ℕ) (old new : List Bool) (fell : Bool) : Type 0 where
+  pub len : length new ≡ length old
+  pub falls : (p : ℕ) → IsMarked new p → IsMarked old p
+  pub fell_for : (p : ℕ) → IsMarked old p → IsMarked new p ⊎ HasOpenNeed nodes givers p
+  pub at_most : marked_count new ≤ marked_count old
+  pub fewer : fell ≡ true → marked_count new < marked_count old
+  pub same : fell ≡ false → new ≡ old
+  pub met : fell ≡ false → (p : ℕ) → p < i → IsMarked old p → AreMet nodes givers (row nodes.needs.items p)
+
+-- the marks that are left: of candidates alone, and of each good place
+pub record AreMarksLeft (nodes : Nodes) (marks : List Bool) : Type 0 where
+  pub len : length marks ≡ length nodes.candidates.items
+  pub candidates : (p : ℕ) → IsMarked marks p → IsMarked nodes.candidates.items p
+  pub keep : (p : ℕ) → IsGood (world nodes) p → IsMarked marks p
+
+-- open: each place that a good one gives is
+pub record AreOpen (nodes : Nodes) (marks : List Bool) : Type 0 where
+  pub given : (r z : ℕ) → IsGoodGiver (world nodes) r z → IsMarked marks r
+
+-- the rows have, for each place, those that link to it
+pub record AreReversed (lists : List (Vec ℕ)) (n : ℕ) (reversed : List (Vec ℕ)) : Type 0 where
+  pub turned : (p q : ℕ) → Links lists n p q → Contains (row reversed q) p
+
+-- a need of p isn't there, and isn't open
+pub record HasClosedNeed (nodes : Nodes) (marks : List Bool) (p : ℕ) : Type 0 where
+  pub need : ℕ
+  pub needs : Contains (row nodes.needs.items p) need
+  pub absent : mark_of nodes.there.items need ≡ false
+  pub closed : mark_of marks need ≡ false
+
+-- none of these is marked
+pub record AreUnmarked (marks : List Bool) (places : List ℕ) : Type 0 where
+  pub each : (p : ℕ) → Contains places p → mark_of marks p ≡ false
+
+-- a place that isn't marked, and that nothing open supersedes
+pub record CanClose (superseders : List (Vec ℕ)) (marks opens : List Bool) (p : ℕ) : Type 0 where
+  pub place : p < length opens
+  pub was_open : IsMarked opens p
+  pub unmarked : mark_of marks p ≡ false
+  pub above : AreUnmarked opens (row superseders p)
+
+-- fewer are open, or there is no more work
+abbrev pub ComesNearer : List Bool → List Bool → ℕ → ℕ → Type 0
+ComesNearer old new work work' = (marked_count new < marked_count old) ⊎ ((marked_count new ≡ marked_count old) × (work' ≤ work))

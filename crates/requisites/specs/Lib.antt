@@ -1,0 +1,9 @@
+pub mod Leads
+pub mod World
+pub mod Nodes
+pub mod Sources
+pub mod Spread
+pub mod Good
+pub mod Picks
+pub mod Verdict
+pub mod Reversed

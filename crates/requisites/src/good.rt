@@ -1,0 +1,125 @@
+//! Which places are good.
+ghost use Rattle.std.specs.Prelude.{◌≡◌, ◌⊎◌, [], ◌∷◌, length, min, IfNone, IfOk, IfSome};
+ghost use Rattle.std.specs.Bool.{OnFalse, OnTrue};
+ghost use Rattle.std.specs.Option.{option_map_or};
+ghost use Rattle.requisites.specs.Good.{AreGood, AreMet, AreSwept, HasOpenNeed, IsLeastOpen, IsOpenNeed};
+ghost use Rattle.requisites.specs.Nodes.{IsMarked, mark_of, row};
+ghost use Rattle.requisites.specs.Sources.{HasSource, source_of};
+
+use crate::cascade::cascade;
+use crate::nodes::{Nodes, is_marked};
+use crate::reversed::reversed;
+use crate::sources::{least_sources, source_at};
+use std::alloc::{AllocError, Global};
+
+/// Which places are good, and what gives what.
+#[derive(Debug, Drop)]
+pub struct Resolution {
+    /// Whether some plan holds the place.
+    pub good: Vec<bool>,
+    /// The least good place that gives it.
+    pub givers: Vec<Option<usize>>,
+}
+
+impl Resolution {
+    pub(crate) fn is_good(&self, place: usize) -> bool
+        ensures { result ≡ mark_of self.now.good.items place }
+    {
+        is_marked(&self.good, place)
+    }
+
+    pub(crate) fn giver(&self, need: usize) -> Option<usize>
+        ensures { result ≡ source_of self.now.givers.items need }
+    {
+        source_at(&self.givers, need)
+    }
+}
+
+/// Finds the good places: those that are left when what has a need that isn't there, and that
+/// nothing left gives, is taken away for as long as there is any.
+pub fn resolve(alloc: Global, nodes: &Nodes) -> Result<Resolution, AllocError>
+    ensures good { IfOk result (λ found. AreGood nodes.now found.good.items found.givers.items) }
+    ensures len { IfOk result (λ found. length found.givers.items ≡ length nodes.now.candidates.items) }
+{
+    let mut good = Vec::from_slice(alloc, &nodes.candidates)?;
+    let givers = fall(alloc, nodes, &mut good)?;
+    Ok(Resolution { good, givers })
+}
+
+// Takes the marks from what isn't good, and finds what gives what among the rest.
+fn fall(alloc: Global, nodes: &Nodes, marks: &mut [bool]) -> Result<Vec<Option<usize>>, AllocError>
+    requires { marks.old ≡ nodes.now.candidates.items }
+    ensures good { IfOk result (λ givers. AreGood nodes.now marks.new givers.items) }
+    ensures len { IfOk result (λ givers. length givers.items ≡ length marks.old) }
+{
+    let len = nodes.candidates.len();
+    let superseders = reversed(alloc, &nodes.supersedes, len)?;
+    let needed_by = reversed(alloc, &nodes.needs, len)?;
+    'rounds: loop {
+        cascade(alloc, nodes, &superseders, &needed_by, marks)?;
+        let givers = least_sources(alloc, &nodes.supersedes, marks)?;
+        if !sweep(nodes, &givers, marks) {
+            return Ok(givers);
+        }
+    }
+}
+
+// Takes the mark from each place with an open need. Whether there was one.
+fn sweep(nodes: &Nodes, givers: &[Option<usize>], marks: &mut [bool]) -> bool
+    ensures { AreSwept nodes.now givers.now (length marks.old) marks.old marks.new result }
+{
+    let mut fell = false;
+    for place in 0..marks.len() {
+        if must_fall(nodes, givers, marks, place) {
+            marks[place] = false;
+            fell = true;
+        }
+    }
+    fell
+}
+
+// Whether a place is marked and has an open need.
+fn must_fall(nodes: &Nodes, givers: &[Option<usize>], marks: &[bool], place: usize) -> bool
+    ensures yes { OnTrue result (IsMarked marks.now place × HasOpenNeed nodes.now givers.now place) }
+    ensures no { OnFalse result (IsMarked marks.now place → AreMet nodes.now givers.now (row nodes.now.needs.items place)) }
+{
+    is_marked(marks, place) && least_open_need(nodes, givers, place).is_some()
+}
+
+// The least need of a place that isn't there and has no giver.
+pub(crate) fn least_open_need(
+    nodes: &Nodes,
+    givers: &[Option<usize>],
+    place: usize,
+) -> Option<usize>
+    ensures some { IfSome result (λ need. IsLeastOpen nodes.now givers.now (row nodes.now.needs.items place) need) }
+    ensures none { IfNone result (AreMet nodes.now givers.now (row nodes.now.needs.items place)) }
+{
+    let mut least = None;
+    for need in nodes.needs_of(place) {
+        if !is_met(nodes, givers, *need) {
+            least = Some(lesser(least, *need));
+        }
+    }
+    least
+}
+
+fn is_met(nodes: &Nodes, givers: &[Option<usize>], need: usize) -> bool
+    ensures yes { OnTrue result (IsMarked nodes.now.there.items need ⊎ HasSource givers.now need) }
+    ensures no { OnFalse result (IsOpenNeed nodes.now givers.now (need ∷ []) need) }
+{
+    if nodes.is_there(need) {
+        return true;
+    }
+    source_at(givers, need).is_some()
+}
+
+// The need, or the one before where that is less.
+fn lesser(least: Option<usize>, need: usize) -> usize
+    ensures { result ≡ option_map_or (λ open_need. min open_need need) least need }
+{
+    match least {
+        Some(open) => open.min(need),
+        None => need,
+    }
+}

@@ -1,0 +1,100 @@
+//! From which marked place each place is reached first.
+ghost use Rattle.std.specs.Prelude.{◌≡◌, ℕ, [], ◌∷◌, length, IfOk, OnOk, vec_len};
+ghost use Rattle.requisites.specs.Sources.{AreLeastSources, source_of};
+ghost use Rattle.requisites.specs.Spread.{AreClosed, SourcesSpread, SourcesTaken};
+
+use crate::nodes::{is_marked, row_at};
+use std::alloc::{AllocError, Global};
+
+/// For each place the least marked place from which a list of links leads to it, by way of nothing
+/// or of others, or `None` where no marked place leads there.
+///
+/// It takes time in proportion to the marks and the links.
+pub fn least_sources(
+    alloc: Global,
+    lists: &[Vec<usize>],
+    marks: &[bool],
+) -> Result<Vec<Option<usize>>, AllocError>
+    ensures sources { IfOk result (λ sources. AreLeastSources lists.now marks.now sources.items) }
+    ensures len { IfOk result (λ sources. vec_len sources ≡ length marks.now) }
+{
+    let mut sources = vec![in alloc; None; marks.len()]?;
+    spread_all(alloc, &mut sources, lists, marks)?;
+    Ok(sources)
+}
+
+fn spread_all(
+    alloc: Global,
+    sources: &mut [Option<usize>],
+    lists: &[Vec<usize>],
+    marks: &[bool],
+) -> Result<(), AllocError>
+    requires len { length sources.old ≡ length marks.now }
+    requires none { (q : ℕ) → source_of sources.old q ≡ None }
+    ensures { OnOk result (AreLeastSources lists.now marks.now sources.new) }
+{
+    let mut work = Vec::new(alloc);
+    for start in 0..marks.len() {
+        if is_marked(marks, start) {
+            spread(sources, &mut work, lists, start)?;
+        }
+    }
+    Ok(())
+}
+
+// Gives the source `start` to each place that has none yet and that a list leads to from there.
+fn spread(
+    sources: &mut [Option<usize>],
+    work: &mut Vec<usize>,
+    lists: &[Vec<usize>],
+    start: usize,
+) -> Result<(), AllocError>
+    requires closed { AreClosed lists.now sources.old work.old.items }
+    requires idle { work.old.items ≡ [] }
+    ensures spread { OnOk result (SourcesSpread lists.now start sources.old sources.new) }
+    ensures closed { OnOk result (AreClosed lists.now sources.new []) }
+    ensures idle { OnOk result (work.new.items ≡ []) }
+{
+    take_row(sources, work, &[start], start)?;
+    while let Some(place) = work.pop() {
+        take_row(sources, work, row_at(lists, place), start)?;
+    }
+    Ok(())
+}
+
+// Gives the source to each place of a row that has none yet, and puts it to the work.
+fn take_row(
+    sources: &mut [Option<usize>],
+    work: &mut Vec<usize>,
+    row: &[usize],
+    source: usize,
+) -> Result<(), AllocError>
+    ensures { OnOk result (SourcesTaken row.now source sources.old sources.new work.old.items work.new.items) }
+{
+    for place in row {
+        take_place(sources, work, *place, source)?;
+    }
+    Ok(())
+}
+
+fn take_place(
+    sources: &mut [Option<usize>],
+    work: &mut Vec<usize>,
+    place: usize,
+    source: usize,
+) -> Result<(), AllocError>
+    ensures { OnOk result (SourcesTaken (place ∷ []) source sources.old sources.new work.old.items work.new.items) }
+{
+    if place < sources.len() && source_at(sources, place).is_none() {
+        sources[place] = Some(source);
+        work.push(place)?;
+    }
+    Ok(())
+}
+
+// The source of a place, where it has one.
+pub(crate) fn source_at(sources: &[Option<usize>], place: usize) -> Option<usize>
+    ensures { result ≡ source_of sources.now place }
+{
+    sources.get(place).copied().flatten()
+}
