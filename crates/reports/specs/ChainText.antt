@@ -1,0 +1,45 @@
+-- A verdict as JSON: the compact text of an object whose keys ascend.
+use Rattle.std.specs.Prelude.{ℕ, ◌==◌, List, [], ◌∷◌, codes, filter, map}
+use Rattle.serde_json.specs.Data.{Data, Items, Members, array, item, member, no_items, no_members, object, string}
+use Rattle.serde_json.specs.Written.{compact_text}
+use Rattle.mcs_reader.specs.Id.{text_of}
+use Rattle.holddata.specs.HoldKey.{kind_place}
+use Rattle.holddata.specs.declared.key.Kind.{Kind}
+use Rattle.holddata.specs.declared.key.Kind.TheVariants.{SystemHold, UserHold}
+use Rattle.catalogue.specs.Content.{Content, holds_on}
+use Rattle.chains.specs.Verdicts.{Judged, good, held, lack}
+
+-- texts as an array
+abbrev pub texts : List (List ℕ) → Items
+texts [] = no_items
+texts (id ∷ ids) = item (string (text_of id)) (texts ids)
+
+-- the reasons of the holds of a kind on an id, which its installer is to heed; they don't bear on the verdict
+abbrev pub reasons_of : Content → Kind → List ℕ → List (List ℕ)
+reasons_of content kind id =
+    map (λ hold. hold.key.reason) (filter (λ hold. kind_place hold.key.kind == kind_place kind) (holds_on content id))
+
+-- a member of a plan
+abbrev pub plan_member : Content → List ℕ → Data
+plan_member content id =
+    object (member (codes "id") (string (text_of id))
+    (member (codes "system") (array (texts (reasons_of content SystemHold id)))
+    (member (codes "user") (array (texts (reasons_of content UserHold id))) no_members)))
+
+abbrev pub plan_items : Content → List (List ℕ) → Items
+plan_items content [] = no_items
+plan_items content (id ∷ ids) = item (plan_member content id) (plan_items content ids)
+
+-- the members that every verdict has: what it says, of which SYSMOD, in which zone
+abbrev pub verdict_members : List ℕ → List ℕ → List ℕ → Members
+verdict_members status sysmod zone =
+    member (codes "status") (string status) (member (codes "sysmod") (string (text_of sysmod)) (member (codes "zone") (string (text_of zone)) no_members))
+
+abbrev pub chain_data : Content → List ℕ → List ℕ → Judged → Data
+chain_data content zone sysmod (good plan) = object (member (codes "plan") (array (plan_items content plan)) (verdict_members (codes "GOOD") sysmod zone))
+chain_data content zone sysmod (held need) = object (member (codes "blocked") (string (text_of need)) (verdict_members (codes "HELD") sysmod zone))
+chain_data content zone sysmod lack = object (verdict_members (codes "LACK") sysmod zone)
+
+-- the text of a verdict on a SYSMOD in a zone
+abbrev pub chain_text_of : Content → List ℕ → List ℕ → Judged → List ℕ
+chain_text_of content zone sysmod judged = compact_text (chain_data content zone sysmod judged)

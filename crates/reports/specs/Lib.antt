@@ -1,0 +1,5 @@
+pub mod ChainText
+pub mod ErrRows
+pub mod MissingRows
+pub mod ReportText
+pub mod Resolvers

@@ -1,0 +1,88 @@
+-- The rows of the missing fix report (IBM z/OS SMP/E Commands, REPORT MISSINGFIX): which fixes of the chosen
+-- categories a zone lacks.
+use Rattle.std.specs.Prelude.{ℕ, ◌||◌, ◌++◌, Bool, false, not, List, [], ◌∷◌, Option, Some, None, filter, map}
+use Rattle.std.specs.BTreeSet.{insert_key}
+use Rattle.std.specs.Cmp.Lexicographic.{slice_cmp}
+use Rattle.std.specs.List.{flat_map, fold, list_any}
+use Rattle.std.specs.Ordering.{nat_cmp, ordering_then}
+use Rattle.std.specs.declared.cmp.Ordering.{Ordering}
+use Rattle.holddata.specs.HoldKey.{key_cmp}
+use Rattle.holddata.specs.declared.hold.Hold.{Hold}
+use Rattle.zone_lists.specs.Pattern.{does_match}
+use Rattle.zone_lists.specs.declared.zones.ZoneRow.{ZoneRow}
+use Rattle.catalogue.specs.Content.{Content}
+use Rattle.catalogue.specs.Ids.{in_order}
+use Rattle.supersede.specs.Giving.{is_there}
+use Rattle.reports.specs.Resolvers.{candidates_for, is_received, status_in}
+use Rattle.reports.specs.declared.rows.MissingRow.{MissingRow}
+
+-- a fix category of a hold
+pub record Missing : Type 0 where
+  pub category : List ℕ
+  pub hold : Hold
+
+-- by category, then held SYSMOD, then reason
+abbrev pub missing_cmp : Missing → Missing → Ordering
+missing_cmp a b = ordering_then (slice_cmp nat_cmp a.category b.category) (key_cmp a.hold.key b.hold.key)
+
+abbrev pub by_category : List Missing → List Missing
+by_category missing = fold (insert_key missing_cmp) [] missing
+
+-- whether a resolver is there
+abbrev pub is_resolver_there : Content → List ZoneRow → Option (List ℕ) → Bool
+is_resolver_there content rows None = false
+is_resolver_there content rows (Some resolver) = is_there content rows resolver
+
+-- whether neither the reason nor the resolver of a hold is there
+abbrev pub is_missing : Content → List ZoneRow → Hold → Bool
+is_missing content rows hold =
+    not (is_there content rows hold.key.reason || is_resolver_there content rows hold.resolver)
+
+-- the categories of a hold that a pattern matches
+abbrev pub categories_asked : List (List ℕ) → Hold → List Missing
+categories_asked patterns hold =
+    map (λ category. record { category = category; hold = hold })
+    (filter (λ category. list_any (λ pattern. does_match pattern category) patterns) hold.categories)
+
+-- what resolves a hold: its resolver, and each candidate that gives its reason or its resolver
+abbrev pub resolvers_by : Content → List ZoneRow → Option (List ℕ) → List (List ℕ)
+resolvers_by content rows None = []
+resolvers_by content rows (Some resolver) = resolver ∷ candidates_for content rows resolver
+
+abbrev pub resolvers_of : Content → List ZoneRow → Hold → List (List ℕ)
+resolvers_of content rows hold = in_order (candidates_for content rows hold.key.reason ++ resolvers_by content rows hold.resolver)
+
+abbrev pub missing_row : Content → List ZoneRow → List (List ℕ) → Missing → List ℕ → MissingRow
+missing_row content rows received missing resolver = record {
+  category = missing.category;
+  sysmod = missing.hold.key.sysmod;
+  reason = missing.hold.key.reason;
+  resolver = Some resolver;
+  status = Some (status_in content rows resolver);
+  received = Some (is_received received resolver);
+}
+
+-- the row where nothing resolves it
+abbrev pub missing_none : Missing → MissingRow
+missing_none missing = record {
+  category = missing.category;
+  sysmod = missing.hold.key.sysmod;
+  reason = missing.hold.key.reason;
+  resolver = None;
+  status = None;
+  received = None;
+}
+
+abbrev pub missing_rows_with : Content → List ZoneRow → List (List ℕ) → Missing → List (List ℕ) → List MissingRow
+missing_rows_with content rows received missing [] = missing_none missing ∷ []
+missing_rows_with content rows received missing (first ∷ more) = map (missing_row content rows received missing) (first ∷ more)
+
+abbrev pub missing_rows_of_category : Content → List ZoneRow → List (List ℕ) → Missing → List MissingRow
+missing_rows_of_category content rows received missing =
+    missing_rows_with content rows received missing (resolvers_of content rows missing.hold)
+
+-- the rows of the report, of the FIXCAT holds on SYSMODs that are installed
+abbrev pub missing_rows_of : Content → List ZoneRow → List (List ℕ) → List (List ℕ) → List Hold → List MissingRow
+missing_rows_of content rows received patterns holds =
+    flat_map (missing_rows_of_category content rows received)
+    (by_category (flat_map (categories_asked patterns) (filter (is_missing content rows) holds)))
