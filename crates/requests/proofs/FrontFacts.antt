@@ -1,0 +1,121 @@
+-- The front of a connection's bytes, from what was read of it.
+use Rattle.std.proofs.Common.{◌≡◌, ◌⊎◌, inl, inr, ℕ, ◌+◌, ◌-◌, ◌<◌, ◌≤◌, ◌==◌, Bool, true, false, List, [], ◌∷◌, ◌++◌, length, take, nat_le, Option, Some, None, IfSome, Result, Ok, Err, if◌then◌else◌, refl, sym, ap, ◌∙◌, subst, arith, append-nil, append_assoc, length-append}
+use Rattle.std.proofs.Math.Seq.{take-append-add}
+use Rattle.std.proofs.lemmas.Bool.Decides.{nat_tests}
+use Rattle.std.proofs.lemmas.List.{nil_from_length, take-append-le, take_all}
+use Rattle.std.specs.Io.KnownBytes.{Consumes, IsAtEnd, Keeps, prepend_known}
+use Rattle.std.specs.Result.{result_ok}
+use Rattle.requests.specs.HeadEnd.{empty_lines_len, front_of, front_with, head_limit, whole_len, without_end}
+use Rattle.requests.specs.Search.{ended, ends_clean, resumed, search}
+use Rattle.requests.specs.declared.front.Front.{Front}
+use Rattle.requests.specs.declared.front.Front.TheVariants.{Head, CleanEnd, EndInside, TooLarge}
+use Rattle.requests.specs.declared.head_end.Place.{Place}
+use Rattle.requests.specs.declared.head_end.Place.TheVariants.{EmptyLines, EmptyLinesReturn, Line, Feed, FeedReturn}
+use Rattle.requests.proofs.HeadEndFacts.{search_clean, search_finds}
+use Rattle.requests.proofs.SearchFacts.{search_append}
+
+pub limit_is : 16384 ≡ head_limit
+unfolding head_limit
+limit_is = refl
+
+order : (t : Bool) (a b : ℕ) → nat_le a b ≡ t → (a ≤ b) ⊎ (b ≤ a)
+order true a b h = inl (grind (arith, nat_tests))
+order false a b h = inr (grind (arith, nat_tests))
+
+-- a front of bytes that is at hand is a front of more bytes
+front_and_more : (limit : ℕ) (held more : List ℕ) → (rest : List ℕ) × (take limit (held ++ more) ≡ take limit held ++ rest)
+front_and_more limit held more = elim (order (nat_le limit (length held)) limit (length held) refl) [
+  | inl h ↦ ([], take-append-le limit held more h ∙ sym (append-nil (take limit held)))
+  | inr h ↦
+      let count : limit ≡ length held + (limit - length held) = omega arith in
+      let whole : held ≡ take limit held = sym (take_all limit held h) in (
+        take (limit - length held) more,
+        ap (λ n. take n (held ++ more)) count ∙ take-append-add held more (limit - length held)
+            ∙ ap (λ l. l ++ take (limit - length held) more) whole,
+      )
+]
+
+-- ---- what the search in the front decides
+
+settled : (n : ℕ) (first : Result ℕ Place) (m : ℕ) (more : List ℕ) → first ≡ Ok m → resumed n first more ≡ Ok m
+settled n (Ok k) m more e = e
+settled n (Err place) m more e = cc
+
+-- the end of a head was found
+pub found : (limit n : ℕ) (held more : List ℕ) → search EmptyLines (take limit held) ≡ Ok n → Head n ≡ front_of limit (held ++ more)
+found limit n held more e =
+    let whole : search EmptyLines (take limit (held ++ more)) ≡ Ok n =
+    let split = front_and_more limit held more in
+    ap (search EmptyLines) split.1 ∙ search_append EmptyLines (take limit held) split.0
+    ∙ settled (length (take limit held)) (search EmptyLines (take limit held)) n split.0 e in
+    let len : Some n ≡ whole_len (take limit (held ++ more)) =
+    sym (ap result_ok whole) ∙ search_finds (take limit (held ++ more)) EmptyLines in
+    ap (λ o. front_with o limit (held ++ more)) len
+
+-- as many bytes as a head may have are there, without its end
+pub too_large : (limit : ℕ) (held more : List ℕ) (place : Place) → search EmptyLines (take limit held) ≡ Err place → limit ≤ length held
+    → TooLarge ≡ front_of limit (held ++ more)
+too_large limit held more place e full =
+    let same : take limit held ≡ take limit (held ++ more) = sym (take-append-le limit held more full) in
+    let len : None ≡ whole_len (take limit (held ++ more)) =
+    sym (ap result_ok e) ∙ search_finds (take limit held) EmptyLines ∙ ap whole_len same in
+    let count : length (held ++ more) ≡ length held + length more = length-append held more in
+    let over : true ≡ nat_le limit (length (held ++ more)) = grind (arith, nat_tests) in
+    ap (λ t. if t then TooLarge else if empty_lines_len (held ++ more) == length (held ++ more) then CleanEnd else EndInside) over
+    ∙ ap (λ o. front_with o limit (held ++ more)) len
+
+clean_or : (place : Place) → ended place ≡ (if ends_clean (Err place) then CleanEnd else EndInside)
+clean_or EmptyLines = refl
+clean_or EmptyLinesReturn = refl
+clean_or Line = refl
+clean_or Feed = refl
+clean_or FeedReturn = refl
+
+-- the input ended before
+pub at_end : (limit : ℕ) (held : List ℕ) (place : Place) → search EmptyLines held ≡ Err place → length held < limit
+    → ended place ≡ front_of limit held
+at_end limit held place e short =
+    let all : held ≡ take limit held = sym (take_all limit held (omega arith)) in
+    let len : None ≡ whole_len (take limit held) = sym (ap result_ok e) ∙ search_finds held EmptyLines ∙ ap whole_len all in
+    let clean : ends_clean (Err place) ≡ (empty_lines_len held == length held) = sym (ap ends_clean e) ∙ search_clean held EmptyLines in
+    let under : false ≡ nat_le limit (length held) = grind (arith, nat_tests) in
+    clean_or place ∙ ap (λ t. if t then CleanEnd else EndInside) clean
+    ∙ ap (λ t. if t then TooLarge else if empty_lines_len held == length held then CleanEnd else EndInside) under
+    ∙ ap (λ o. front_with o limit held) len
+
+-- ---- the bytes that are held and those that are left to read
+
+pub told : (P : List ℕ → Type 0) (all left : Option (List ℕ)) (held : List ℕ) → Keeps all (prepend_known held left)
+    → ((more : List ℕ) → P (held ++ more)) → IfSome all P
+told P None left held kept h = tt
+told P (Some x) None held kept h = absurd kept
+told P (Some x) (Some y) held kept h = subst P kept (h y)
+
+pub told_at_end : (P : List ℕ → Type 0) (all left : Option (List ℕ)) (held : List ℕ) → Keeps all (prepend_known held left)
+    → IsAtEnd left → P held → IfSome all P
+told_at_end P None left held kept end h = tt
+told_at_end P (Some x) None held kept end h = absurd kept
+told_at_end P (Some x) (Some y) held kept end h = subst P (sym (append-nil held) ∙ ap (λ l. held ++ l) (sym end) ∙ kept) h
+
+-- a read moves bytes from what is left to what is held
+pub taken : (all before after : Option (List ℕ)) (old new bytes : List ℕ) → Keeps all (prepend_known old before) → new ≡ old ++ bytes
+    → Consumes before after bytes → Keeps all (prepend_known new after)
+taken None before after old new bytes kept grown read = tt
+taken (Some x) None after old new bytes kept grown read = absurd kept
+taken (Some x) (Some b) None old new bytes kept grown read = absurd read
+taken (Some x) (Some b) (Some a) old new bytes kept grown read =
+    ap (λ l. l ++ a) grown ∙ append_assoc old bytes a ∙ ap (λ l. old ++ l) (sym read) ∙ kept
+
+pub untaken : (all before after : Option (List ℕ)) (old new : List ℕ) → Keeps all (prepend_known old before) → new ≡ old
+    → Keeps before after → Keeps all (prepend_known new after)
+untaken None before after old new kept same unread = tt
+untaken (Some x) None after old new kept same unread = absurd kept
+untaken (Some x) (Some b) None old new kept same unread = absurd unread
+untaken (Some x) (Some b) (Some a) old new kept same unread = ap (λ l. new ++ l) unread ∙ ap (λ l. l ++ b) same ∙ kept
+
+-- a read that gave nothing at the end was made at the end
+pub ended_before : (before after : Option (List ℕ)) (bytes : List ℕ) → Consumes before after bytes → length bytes ≡ 0 → IsAtEnd after
+    → IsAtEnd before
+ended_before None after bytes read none end = tt
+ended_before (Some b) None bytes read none end = absurd read
+ended_before (Some b) (Some a) bytes read none end = read ∙ ap (λ l. l ++ a) (nil_from_length bytes none) ∙ end

@@ -1,0 +1,10 @@
+mod FrontFacts
+mod HeadEndFacts
+mod HeadFacts
+mod HeaderFacts
+mod IdFacts
+mod OrderFacts
+mod RequestFacts
+mod RouteFacts
+mod SearchFacts
+mod TextFacts

@@ -1,0 +1,67 @@
+use Rattle.std.proofs.Common.{◌≡◌, ◌<◌, ◌≤◌, ℕ, List, length, take, subst, sym, ap, ◌∙◌, arith, length-append, Err, Ok}
+use Rattle.std.proofs.KnownBytes.{Keeps-refl}
+use Rattle.std.proofs.lemmas.List.{take-take}
+use Rattle.requests.specs.HeadEnd.{front_of, head_limit}
+use Rattle.requests.specs.Search.{search}
+use Rattle.requests.specs.declared.front.Front.TheVariants.{Head, TooLarge}
+use Rattle.requests.specs.declared.head_end.Place.TheVariants.{EmptyLines}
+use Rattle.requests.proofs.FrontFacts.{at_end, ended_before, found, limit_is, told, told_at_end, too_large}
+use Rattle.requests.proofs.SearchFacts.{search_nil}
+use Rattle.requests.proofs.front.read_front.Goals as goal
+
+pub loop-count-init : goal.loop-count-init
+loop-count-init g c = record {
+  kept = Keeps-refl _;
+  within = omega arith;
+  limit = omega arith;
+  none = search_nil EmptyLines;
+  counted = omega arith;
+}
+
+pub find_on-requires-clause-seen : goal.find_on-requires-clause-seen
+find_on-requires-clause-seen g c =
+    let n = c.loop-count.seen in
+    let low : n ≤ head_limit = subst (λ m. n ≤ m) limit_is c.loop-count.invariant.limit in
+    ap (λ bytes. search EmptyLines (take n bytes)) (c.within_limit-shown.ensures.value ∙ ap (take head_limit) c.bytes.ensures)
+    ∙ ap (search EmptyLines) (take-take n head_limit c.loop-count.intake low) ∙ c.loop-count.invariant.none
+
+pub returns-in-Ok-clause-front : goal.returns-in-Ok-clause-front
+returns-in-Ok-clause-front g c =
+    let shown = c.within_limit-shown.ensures.value ∙ ap (take head_limit) c.bytes.ensures in
+    told (λ bytes. Head c.in-Ok.count ≡ front_of head_limit bytes) _ _ _ c.loop-count.invariant.kept
+    (λ more. found head_limit c.in-Ok.count c.loop-count.intake more
+    (ap (search EmptyLines) (sym shown) ∙ sym c.find_on.ensures.found ∙ c.in-Ok.is))
+
+pub returns-then-seen-eq-HEAD_LIMIT-clause-front : goal.returns-then-seen-eq-HEAD_LIMIT-clause-front
+returns-then-seen-eq-HEAD_LIMIT-clause-front g c =
+    let shown = c.within_limit-shown.ensures.value ∙ ap (take head_limit) c.bytes.ensures in
+    let count : length c.bytes.result.now ≡ length c.loop-count.intake = ap length c.bytes.ensures in
+    let full : 16384 ≤ length c.loop-count.intake = omega arith in
+    told (λ bytes. TooLarge ≡ front_of head_limit bytes) _ _ _ c.loop-count.invariant.kept
+    (λ more. too_large head_limit c.loop-count.intake more c.in-Err.next
+    (ap (search EmptyLines) (sym shown) ∙ sym c.find_on.ensures.found ∙ c.in-Err.is)
+    (subst (λ m. m ≤ length c.loop-count.intake) limit_is full))
+
+pub returns-then-branch-eq0-clause-front : goal.returns-then-branch-eq0-clause-front
+returns-then-branch-eq0-clause-front g c =
+    let less : length c.within_limit-shown.result.now < 16384 = omega arith in
+    let whole = c.within_limit-shown.ensures.all less ∙ c.bytes.ensures in
+    let count : length c.within_limit-shown.result.now ≡ length c.loop-count.intake = ap length whole in
+    let short : length c.loop-count.intake < 16384 = omega arith in
+    let read = c.in_ok-read_more.ensures.bytes in
+    told_at_end (λ bytes. c.at_end.result ≡ front_of head_limit bytes) _ _ c.loop-count.intake c.loop-count.invariant.kept
+    (ended_before _ _ read.bytes read.consumed (read.count ∙ c.if-branch-eq0.true) (c.in_ok-read_more.ensures.end c.if-branch-eq0.true))
+    (c.at_end.ensures
+    ∙ at_end head_limit c.loop-count.intake c.in-Err.next
+    (ap (search EmptyLines) (sym whole) ∙ sym c.find_on.ensures.found ∙ c.in-Err.is)
+    (subst (λ m. length c.loop-count.intake < m) limit_is short))
+
+pub loop-count-smaller : goal.loop-count-smaller
+loop-count-smaller g c =
+    let less : length c.within_limit-shown.result.now < 16384 = omega arith in
+    let whole = c.within_limit-shown.ensures.all less ∙ c.bytes.ensures in
+    let count : length c.within_limit-shown.result.now ≡ length c.loop-count.intake = ap length whole in
+    let read = c.in_ok-read_more.ensures.bytes in
+    let longer = ap length read.grown ∙ length-append c.loop-count.intake read.bytes in
+    let some = read.count in
+    omega arith

@@ -1,0 +1,11 @@
+pub mod Head
+pub mod HeadEnd
+pub mod Headers
+pub mod Order
+pub mod Refusal
+pub mod Reply
+pub mod Request
+pub mod Routes
+pub mod Search
+pub mod Status
+pub mod Text

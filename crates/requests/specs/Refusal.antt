@@ -1,0 +1,24 @@
+-- How a refusal is answered.
+use Rattle.std.specs.Prelude.{ℕ, List, codes}
+use Rattle.requests.specs.declared.refusal.Refusal.{Refusal}
+use Rattle.requests.specs.declared.status.Status.{Status}
+
+-- the status
+abbrev pub status_of : Refusal → Status
+status_of Refusal.BadRequest = Status.BadRequest
+status_of Refusal.UnknownToken = Status.Unauthorized
+status_of Refusal.NotFound = Status.NotFound
+status_of (Refusal.MethodNotAllowed resource) = Status.MethodNotAllowed
+status_of Refusal.LengthRequired = Status.LengthRequired
+status_of Refusal.TooLarge = Status.PayloadTooLarge
+status_of Refusal.HeadTooLarge = Status.HeadTooLarge
+
+-- the body
+abbrev pub text_of : Refusal → List ℕ
+text_of Refusal.BadRequest = codes "BAD REQUEST\n"
+text_of Refusal.UnknownToken = codes "UNKNOWN TOKEN\n"
+text_of Refusal.NotFound = codes "NOT FOUND\n"
+text_of (Refusal.MethodNotAllowed resource) = codes "METHOD NOT ALLOWED\n"
+text_of Refusal.LengthRequired = codes "LENGTH REQUIRED\n"
+text_of Refusal.TooLarge = codes "TOO LARGE\n"
+text_of Refusal.HeadTooLarge = codes "HEAD TOO LARGE\n"

@@ -1,0 +1,157 @@
+-- What a request asks for: what of it its bytes alone decide (RFC 9112, sections 3, 6 and 9).
+use Rattle.std.specs.Prelude.{ℕ, ◌==◌, ◌&&◌, ◌||◌, not, Bool, false, List, [], ◌∷◌, length, map, codes, nat_le, nat_lt, Option, Some, None, Result, Ok, Err, option_map, if◌then◌else◌}
+use Rattle.std.specs.List.{list_all, list_any}
+use Rattle.std.specs.Option.{option_zip}
+use Rattle.std.specs.Str.{bytes_eq}
+use Rattle.std.specs.Str.Parse.{digits_value}
+use Rattle.httparse.specs.Grammar.{RequestHead}
+use Rattle.httparse.specs.Spans.{name_and_value}
+use Rattle.mcs_reader.specs.Id.{id_of}
+use Rattle.percent_encoding.specs.Percent.{percent_decode}
+use Rattle.requests.specs.Headers.{Pair, asks_to_close, has, sole, values}
+use Rattle.requests.specs.Routes.{resource_at, verb_of}
+use Rattle.requests.specs.Text.{before, behind, is_number}
+use Rattle.requests.specs.declared.action.Action.{Action}
+use Rattle.requests.specs.declared.refusal.Refusal.{Refusal}
+use Rattle.requests.specs.declared.refusal.Refusal.TheVariants.{BadRequest, NotFound, MethodNotAllowed, LengthRequired, TooLarge}
+use Rattle.requests.specs.declared.resource.Resource.{Resource}
+use Rattle.requests.specs.declared.resource.Verb.{Verb}
+
+-- what decides of a head: its method, its target, its minor version and its fields
+pub record Parts : Type 0 where
+  pub method : List ℕ
+  pub target : List ℕ
+  pub minor : ℕ
+  pub fields : List Pair
+
+-- the parts of a head
+abbrev pub parts_of : RequestHead → Parts
+parts_of head = record {
+  method = head.method;
+  target = head.target;
+  minor = head.minor;
+  fields = map name_and_value head.fields;
+}
+
+-- ---- the target
+
+abbrev pub slash : ℕ
+slash = 47
+
+abbrev pub question_mark : ℕ
+question_mark = 63
+
+abbrev pub begins_with_slash : List ℕ → Bool
+begins_with_slash [] = false
+begins_with_slash (b ∷ rest) = b == slash
+
+-- a target in the form of a path, in ASCII
+abbrev pub is_path : List ℕ → Bool
+is_path target = begins_with_slash target && list_all (λ b. nat_lt b 128) target
+
+-- the path: what stands before the first `?`
+abbrev pub path_of : List ℕ → List ℕ
+path_of target = before question_mark target
+
+-- the id that a part of a path stands for, its escapes decoded
+abbrev pub id_in : List ℕ → Option (List ℕ)
+id_in part = id_of (percent_decode part)
+
+-- the zone that a path names: between its second and third slash
+abbrev pub zone_in : List ℕ → Option (List ℕ)
+zone_in path = id_in (before slash (behind slash (behind slash path)))
+
+-- the SYSMOD that a path names: behind its fourth slash
+abbrev pub sysmod_in : List ℕ → Option (List ℕ)
+sysmod_in path = id_in (before slash (behind slash (behind slash (behind slash (behind slash path)))))
+
+-- ---- the action
+
+-- a verb with the ids in the path, where these are ids
+abbrev pub action_at : Verb → List ℕ → Option Action
+action_at Verb.Publish path = Some Action.Publish
+action_at Verb.Counts path = Some Action.Counts
+action_at Verb.ListZones path = Some Action.ListZones
+action_at Verb.PutReceived path = Some Action.PutReceived
+action_at Verb.PutZone path = option_map Action.PutZone (zone_in path)
+action_at Verb.DropZone path = option_map Action.DropZone (zone_in path)
+action_at Verb.PutPatterns path = option_map Action.PutPatterns (zone_in path)
+action_at Verb.ErrSysmods path = option_map Action.ErrSysmods (zone_in path)
+action_at Verb.MissingFix path = option_map Action.MissingFix (zone_in path)
+action_at Verb.Chain path = option_map (λ ids. Action.Chain ids.0 ids.1) (option_zip (zone_in path) (sysmod_in path))
+
+abbrev pub action_or : Option Action → Result Action Refusal
+action_or None = Err NotFound
+action_or (Some action) = Ok action
+
+abbrev pub verb_or : Resource → Option Verb → List ℕ → Result Action Refusal
+verb_or resource None path = Err (MethodNotAllowed resource)
+verb_or resource (Some verb) path = action_or (action_at verb path)
+
+abbrev pub resource_or : Option Resource → List ℕ → List ℕ → Result Action Refusal
+resource_or None method path = Err NotFound
+resource_or (Some resource) method path = verb_or resource (verb_of resource method) path
+
+-- what a method asks for at a path: first the path, then the method, then the ids in the path
+abbrev pub asked : List ℕ → List ℕ → Result Action Refusal
+asked method path = resource_or (resource_at path) method path
+
+abbrev pub action_of : Parts → Result Action Refusal
+action_of parts = asked parts.method (path_of parts.target)
+
+-- ---- the body
+
+-- the longest body, in bytes
+unfoldable pub longest_body : ℕ
+longest_body = 67108864
+
+-- a body of this length, if it isn't too long
+abbrev pub within : ℕ → ℕ → Result ℕ Refusal
+within most n = if nat_le n most then Ok n else Err TooLarge
+
+-- PUT and POST come with a body
+abbrev pub has_body : List ℕ → Bool
+has_body method = bytes_eq method (codes "POST") || bytes_eq method (codes "PUT")
+
+-- the length that a `content-length` tells
+abbrev pub length_told : List ℕ → Result ℕ Refusal
+length_told value = if is_number value then within longest_body (digits_value 10 value) else Err BadRequest
+
+-- the length where there is none
+abbrev pub length_untold : List ℕ → Result ℕ Refusal
+length_untold method = if has_body method then Err LengthRequired else Ok 0
+
+-- the length of a body by the values of `content-length`
+abbrev pub length_by : List ℕ → List (List ℕ) → Result ℕ Refusal
+length_by method [] = length_untold method
+length_by method (value ∷ []) = length_told value
+length_by method (value ∷ other ∷ more) = Err BadRequest
+
+-- the length of a request's body, or why the request is refused without one
+abbrev pub body_len : Parts → Result ℕ Refusal
+body_len parts =
+    if not (is_path parts.target) then Err BadRequest
+    else if has (codes "transfer-encoding") parts.fields then Err LengthRequired
+    else length_by parts.method (values (codes "content-length") parts.fields)
+
+-- ---- the connection, the caller and the number
+
+-- the connection ends after the reply
+abbrev pub closes : Parts → Bool
+closes parts = parts.minor == 0 || list_any asks_to_close parts.fields
+
+-- the token of the caller, where there is just one
+abbrev pub token_of : Parts → Option (List ℕ)
+token_of parts = sole (values (codes "bureau-token") parts.fields)
+
+-- the number that 1 to 19 digits write
+abbrev pub change_number : List ℕ → Option ℕ
+change_number text = if is_number text && nat_le (length text) 19 then Some (digits_value 10 text) else None
+
+abbrev pub number_in : Option (List ℕ) → Option ℕ
+number_in None = None
+number_in (Some text) = change_number text
+
+-- the number of a change, where there is just one and it reads
+abbrev pub number_of : Parts → Option ℕ
+number_of parts = number_in (sole (values (codes "bureau-number") parts.fields))

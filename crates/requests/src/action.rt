@@ -1,0 +1,97 @@
+//! What a request asks the bureau for.
+ghost use Rattle.std.specs.Prelude.{◌≡◌};
+ghost use Rattle.requests.specs.Request as Spec;
+ghost use Rattle.requests.specs.Text as Text;
+
+use crate::resource::Verb;
+use crate::text::cut;
+use arrayvec::ArrayVec;
+use mcs_reader::Id;
+use percent_encoding::percent_decode;
+
+/// What a request asks the bureau for.
+#[derive(Clone, Copy, Debug, PartialEq, Eq)]
+pub enum Action {
+    /// Publishes the statements in the body.
+    Publish,
+    /// Tells how much is published.
+    Counts,
+    /// Lists the caller's zones.
+    ListZones,
+    /// Puts the zone in the body in the place of this one.
+    PutZone(Id),
+    /// Takes this zone away.
+    DropZone(Id),
+    /// Puts the fix categories in the body in the place of this zone's.
+    PutPatterns(Id),
+    /// Puts the received SYSMODs in the body in the place of the caller's.
+    PutReceived,
+    /// Reports the exception SYSMODs of this zone.
+    ErrSysmods(Id),
+    /// Reports the missing fixes of this zone.
+    MissingFix(Id),
+    /// Tells what to install in this zone with this SYSMOD.
+    Chain(Id, Id),
+}
+
+// A verb with the ids in the path, where these are ids.
+pub(crate) fn action_at(verb: Verb, path: &[u8]) -> Option<Action>
+    ensures { result ≡ Spec.action_at verb path.now }
+{
+    match verb {
+        Verb::Publish => Some(Action::Publish),
+        Verb::Counts => Some(Action::Counts),
+        Verb::ListZones => Some(Action::ListZones),
+        Verb::PutReceived => Some(Action::PutReceived),
+        Verb::PutZone => Some(Action::PutZone(zone_in(path)?)),
+        Verb::DropZone => Some(Action::DropZone(zone_in(path)?)),
+        Verb::PutPatterns => Some(Action::PutPatterns(zone_in(path)?)),
+        Verb::ErrSysmods => Some(Action::ErrSysmods(zone_in(path)?)),
+        Verb::MissingFix => Some(Action::MissingFix(zone_in(path)?)),
+        Verb::Chain => Some(Action::Chain(zone_in(path)?, sysmod_in(path)?)),
+    }
+}
+
+// The zone that a path names.
+fn zone_in(path: &[u8]) -> Option<Id>
+    ensures { result ≡ Spec.zone_in path.now }
+{
+    id_in(first(behind(behind(path))))
+}
+
+// The SYSMOD that a path names.
+fn sysmod_in(path: &[u8]) -> Option<Id>
+    ensures { result ≡ Spec.sysmod_in path.now }
+{
+    id_in(first(behind(behind(behind(behind(path))))))
+}
+
+// What stands before the first slash.
+fn first(path: &[u8]) -> &[u8]
+    ensures { result.now ≡ Text.before 47 path.now }
+{
+    let (segment, _) = cut(path, b'/');
+    segment
+}
+
+// What stands behind the first slash.
+fn behind(path: &[u8]) -> &[u8]
+    ensures { result.now ≡ Text.behind 47 path.now }
+{
+    let (_, rest) = cut(path, b'/');
+    rest
+}
+
+// The id that a part of a path stands for, its escapes decoded.
+fn id_in(part: &[u8]) -> Option<Id>
+    ensures { result ≡ Spec.id_in part.now }
+{
+    let mut text = ArrayVec::<u8, 7>::new();
+    for byte in percent_decode(part) {
+        if text.is_full() {
+            return None;
+        }
+        text.push(byte);
+    }
+    Id::new(&text)
+}

@@ -1,0 +1,97 @@
+//! The end of a request's head.
+ghost use Rattle.std.specs.Prelude.{◌≡◌, ◌≤◌, length, IfOk};
+ghost use Rattle.requests.specs.HeadEnd as HeadEnd;
+ghost use Rattle.requests.specs.Search.{search, behind};
+
+/// What stands before the next byte of a connection, as far as the end of a head is concerned.
+#[derive(Clone, Copy, Debug, PartialEq, Eq)]
+pub(crate) enum Place {
+    /// Empty lines, or nothing.
+    EmptyLines,
+    /// Empty lines and a CR.
+    EmptyLinesReturn,
+    /// A part of a line.
+    Line,
+    /// The LF that ends a line.
+    Feed,
+    /// That and a CR.
+    FeedReturn,
+}
+
+impl Place {
+    // The place behind a byte, or `None` where the head ends with it.
+    fn behind(self, byte: u8) -> Option<Place>
+        ensures { result ≡ behind self byte }
+    {
+        match (self, byte) {
+            (Place::Feed | Place::FeedReturn, b'\n') => None,
+            (Place::EmptyLines | Place::EmptyLinesReturn, b'\n') => Some(Place::EmptyLines),
+            (Place::Line, b'\n') => Some(Place::Feed),
+            (Place::EmptyLines, b'\r') => Some(Place::EmptyLinesReturn),
+            (Place::Feed, b'\r') => Some(Place::FeedReturn),
+            _ => Some(Place::Line),
+        }
+    }
+}
+
+/// How many bytes there are up to the end of a head, or else the place behind them all.
+pub(crate) fn find_end(start: Place, bytes: &[u8]) -> Result<usize, Place>
+    ensures found { result ≡ search start bytes.now }
+    ensures within { IfOk result (λ count. count ≤ length bytes.now) }
+{
+    let mut place = start;
+    for (i, b) in bytes.iter().enumerate() {
+        match place.behind(*b) {
+            Some(next) => place = next,
+            None => return Ok(i + 1),
+        }
+    }
+    Err(place)
+}
+
+// How many lines a head has between its first and its blank one.
+pub(crate) fn lines_between(bytes: &[u8]) -> usize
+    ensures { result ≡ HeadEnd.lines_between bytes.now }
+{
+    let (_, head) = bytes.split_at(empty_lines_len(bytes));
+    feeds(head).saturating_sub(2)
+}
+
+fn feeds(bytes: &[u8]) -> usize
+    ensures { result ≡ HeadEnd.feeds bytes.now }
+{
+    bytes.iter().filter(|b| **b == b'\n').count()
+}
+
+// How many bytes the empty lines take that the bytes begin with.
+fn empty_lines_len(bytes: &[u8]) -> usize
+    ensures value { result ≡ HeadEnd.empty_lines_len bytes.now }
+    ensures within { result ≤ length bytes.now }
+{
+    let mut len = 0;
+    let mut rest = bytes;
+    while let Some((first, behind)) = rest.split_first() {
+        if !is_in_empty_line(*first, behind) {
+            return len;
+        }
+        len += 1;
+        rest = behind;
+    }
+    len
+}
+
+// Whether a byte is one of an empty line, with these bytes behind it.
+fn is_in_empty_line(byte: u8, behind: &[u8]) -> bool
+    ensures { result ≡ HeadEnd.is_in_empty_line byte behind.now }
+{
+    byte == b'\n' || (byte == b'\r' && begins_with_feed(behind))
+}
+
+fn begins_with_feed(bytes: &[u8]) -> bool
+    ensures { result ≡ HeadEnd.begins_with_feed bytes.now }
+{
+    match bytes.split_first() {
+        Some((first, _)) => *first == b'\n',
+        None => false,
+    }
+}

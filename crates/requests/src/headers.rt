@@ -1,0 +1,66 @@
+//! The header fields of a request.
+ghost use Rattle.std.specs.Prelude.{◌≡◌, length, option_map};
+ghost use Rattle.std.specs.List.{list_any};
+ghost use Rattle.requests.specs.Headers as Spec;
+ghost use Rattle.requests.specs.Headers.{AreWithin, pairs_at};
+ghost use Rattle.httparse.specs.Spans.{header_bytes, IsHeaderWithin};
+
+use crate::text::has_word;
+use httparse::spans::HeaderSpan;
+
+// The value of the field with this name, where just one field has it.
+pub(crate) fn sole<'a>(bytes: &'a [u8], fields: &[HeaderSpan], name: &[u8]) -> Option<&'a [u8]>
+    requires { AreWithin bytes.now fields.now }
+    ensures { option_map (λ value. value.now) result ≡ Spec.sole (Spec.values name.now (pairs_at bytes.now fields.now)) }
+{
+    let mut found = None;
+    for field in fields {
+        if is_named(bytes, *field, name) {
+            if found.is_some() {
+                return None;
+            }
+            found = Some(field.value.of(bytes));
+        }
+    }
+    found
+}
+
+// Whether a field has this name.
+pub(crate) fn has(bytes: &[u8], fields: &[HeaderSpan], name: &[u8]) -> bool
+    requires { AreWithin bytes.now fields.now }
+    ensures { result ≡ Spec.has name.now (pairs_at bytes.now fields.now) }
+{
+    for field in fields {
+        if is_named(bytes, *field, name) {
+            return true;
+        }
+    }
+    false
+}
+
+// Whether a field asks to close the connection.
+pub(crate) fn asks_to_close(bytes: &[u8], fields: &[HeaderSpan]) -> bool
+    requires { AreWithin bytes.now fields.now }
+    ensures { result ≡ list_any Spec.asks_to_close (pairs_at bytes.now fields.now) }
+{
+    for field in fields {
+        if closes(bytes, *field) {
+            return true;
+        }
+    }
+    false
+}
+
+fn closes(bytes: &[u8], field: HeaderSpan) -> bool
+    requires { IsHeaderWithin (length bytes.now) field }
+    ensures { result ≡ Spec.asks_to_close (header_bytes bytes.now field) }
+{
+    is_named(bytes, field, b"connection") && has_word(field.value.of(bytes), b"close")
+}
+
+fn is_named(bytes: &[u8], field: HeaderSpan, name: &[u8]) -> bool
+    requires { IsHeaderWithin (length bytes.now) field }
+    ensures { result ≡ Spec.is_named name.now (header_bytes bytes.now field) }
+{
+    field.name.of(bytes).eq_ignore_ascii_case(name)
+}

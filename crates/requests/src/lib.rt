@@ -1,0 +1,40 @@
+//! Requests from the bytes of a connection, and the heads of replies to its bytes (RFC 9112).
+//!
+//! A connection's bytes are empty lines and heads, each with the body behind it. [`read_front`] reads
+//! as far as the end of a head, [`decide`] says what the head is and how long its body, [`read_whole`]
+//! reads the body. What came further stays in the intake, for the next request.
+//!
+//! - [`read_front`], [`Front`]: what the bytes of a connection begin with
+//! - [`decide`]: a whole [`Head`] and the length of its body, or why it is [`Refused`]
+//! - [`Head`]: the token, the number and the [`Action`] that a request asks for, by its [`Routes`]
+//! - [`read_whole`]: so many bytes, or all that there are
+//! - [`Refusal`]: why a request isn't given to the bureau, with its [`Status`] and its text
+//! - [`ReplyHead`], [`head_text`]: the head of a reply
+#![tactic(auto)]
+
+mod action;
+mod front;
+mod head;
+mod head_end;
+mod headers;
+mod order;
+mod refusal;
+mod reply;
+mod request;
+mod resource;
+mod routes;
+mod status;
+mod text;
+
+pub use action::Action;
+pub use front::{Front, read_front, read_whole};
+pub use head::Head;
+pub use order::{Refused, decide};
+pub use refusal::Refusal;
+pub use reply::{ReplyHead, head_text};
+pub use resource::Resource;
+pub use routes::Routes;
+pub use status::Status;
+
+#[cfg(test)]
+mod tests;

@@ -1,0 +1,57 @@
+//! Why a request isn't given to the bureau.
+ghost use Rattle.std.specs.Prelude.{◌≡◌};
+ghost use Rattle.requests.specs.Refusal as Spec;
+
+use crate::resource::Resource;
+use crate::status::Status;
+
+/// Why a request isn't given to the bureau.
+#[derive(Clone, Copy, Debug, PartialEq, Eq)]
+pub enum Refusal {
+    /// A head that isn't one, a target that is no path, or a `content-length` that doesn't read.
+    BadRequest,
+    /// The token is missing, twice there, or no caller's.
+    UnknownToken,
+    /// No such path, or a part of it that is no id.
+    NotFound,
+    /// The path has other methods.
+    MethodNotAllowed(Resource),
+    /// A body without a `content-length`, or in chunks.
+    LengthRequired,
+    /// A body over 67,108,864 bytes.
+    TooLarge,
+    /// A head over 16,384 bytes or 64 fields.
+    HeadTooLarge,
+}
+
+impl Refusal {
+    /// The status that it is answered with.
+    pub fn status(self) -> Status
+        ensures { result ≡ Spec.status_of self }
+    {
+        match self {
+            Refusal::BadRequest => Status::BadRequest,
+            Refusal::UnknownToken => Status::Unauthorized,
+            Refusal::NotFound => Status::NotFound,
+            Refusal::MethodNotAllowed(_) => Status::MethodNotAllowed,
+            Refusal::LengthRequired => Status::LengthRequired,
+            Refusal::TooLarge => Status::PayloadTooLarge,
+            Refusal::HeadTooLarge => Status::HeadTooLarge,
+        }
+    }
+
+    /// The body that it is answered with.
+    pub fn text(self) -> &'static [u8]
+        ensures { result.now ≡ Spec.text_of self }
+    {
+        match self {
+            Refusal::BadRequest => b"BAD REQUEST\n",
+            Refusal::UnknownToken => b"UNKNOWN TOKEN\n",
+            Refusal::NotFound => b"NOT FOUND\n",
+            Refusal::MethodNotAllowed(_) => b"METHOD NOT ALLOWED\n",
+            Refusal::LengthRequired => b"LENGTH REQUIRED\n",
+            Refusal::TooLarge => b"TOO LARGE\n",
+            Refusal::HeadTooLarge => b"HEAD TOO LARGE\n",
+        }
+    }
+}

@@ -1,0 +1,86 @@
+//! What a path names, and what a method does there.
+ghost use Rattle.std.specs.Prelude.{◌≡◌, ◌≤◌, ◌∷◌, [], length};
+ghost use Rattle.requests.specs.Routes.{allow_of, verb_of, verb_in};
+
+/// What a path names.
+#[derive(Clone, Copy, Debug, PartialEq, Eq)]
+pub enum Resource {
+    /// `/publish`
+    Publication,
+    /// `/published`
+    Catalogue,
+    /// `/zones`
+    Zones,
+    /// `/zones/{zone}`
+    Zone,
+    /// `/zones/{zone}/categories`
+    Patterns,
+    /// `/received`
+    Received,
+    /// `/zones/{zone}/errsysmods`
+    ErrSysmods,
+    /// `/zones/{zone}/missingfix`
+    MissingFix,
+    /// `/zones/{zone}/chains/{sysmod}`
+    Chain,
+}
+
+// What a method does to what a path names.
+#[derive(Clone, Copy, Debug, PartialEq, Eq)]
+pub(crate) enum Verb {
+    Publish,
+    Counts,
+    ListZones,
+    PutZone,
+    DropZone,
+    PutPatterns,
+    PutReceived,
+    ErrSysmods,
+    MissingFix,
+    Chain,
+}
+
+impl Resource {
+    /// What a method does here, or `None` where there is no such method. Methods are compared with
+    /// regard to case (RFC 9110, section 9.1).
+    pub(crate) fn verb(self, method: &[u8]) -> Option<Verb>
+        ensures { result ≡ verb_of self method.now }
+    {
+        match self {
+            Resource::Publication => only(method, b"POST", Verb::Publish),
+            Resource::Catalogue => only(method, b"GET", Verb::Counts),
+            Resource::Zones => only(method, b"GET", Verb::ListZones),
+            Resource::Zone if method == b"DELETE".as_slice() => Some(Verb::DropZone),
+            Resource::Zone => only(method, b"PUT", Verb::PutZone),
+            Resource::Patterns => only(method, b"PUT", Verb::PutPatterns),
+            Resource::Received => only(method, b"PUT", Verb::PutReceived),
+            Resource::ErrSysmods => only(method, b"GET", Verb::ErrSysmods),
+            Resource::MissingFix => only(method, b"GET", Verb::MissingFix),
+            Resource::Chain => only(method, b"GET", Verb::Chain),
+        }
+    }
+
+    /// The methods that there are here, as the line `allow` of a reply has them.
+    pub fn allow(self) -> &'static [u8]
+        ensures text { result.now ≡ allow_of self }
+        ensures len { length result.now ≤ 11 }
+    {
+        match self {
+            Resource::Publication => b"POST",
+            Resource::Zone => b"DELETE, PUT",
+            Resource::Patterns | Resource::Received => b"PUT",
+            Resource::Catalogue
+            | Resource::Zones
+            | Resource::ErrSysmods
+            | Resource::MissingFix
+            | Resource::Chain => b"GET",
+        }
+    }
+}
+
+// The verb where the method is the only one that there is.
+fn only(method: &[u8], wanted: &[u8], verb: Verb) -> Option<Verb>
+    ensures { result ≡ verb_in method.now ((wanted.now, verb) ∷ []) }
+{
+    if method == wanted { Some(verb) } else { None }
+}

@@ -1,0 +1,64 @@
+//! The paths of the bureau.
+ghost use Rattle.std.specs.Prelude.{◌≡◌, IfOk, OnOk};
+ghost use Rattle.requests.specs.Routes as Spec;
+
+use crate::resource::Resource;
+use faults::NoMemory;
+use matchit::Router;
+use std::alloc::Global;
+
+/// The paths of the bureau, as `matchit` matches them: before anything in them is decoded.
+#[derive(Drop)]
+pub struct Routes {
+    router: Router<Resource>,
+    ghost whole: { router ≡ Spec.routes },
+}
+
+impl Routes {
+    /// All paths.
+    pub fn new(alloc: Global) -> Result<Routes, NoMemory> {
+        let mut router = Router::new(alloc);
+        put(&mut router, "/publish", Resource::Publication)?;
+        put(&mut router, "/published", Resource::Catalogue)?;
+        put(&mut router, "/zones", Resource::Zones)?;
+        put(&mut router, "/zones/{zone}", Resource::Zone)?;
+        put(&mut router, "/zones/{zone}/categories", Resource::Patterns)?;
+        put(&mut router, "/received", Resource::Received)?;
+        put(
+            &mut router,
+            "/zones/{zone}/errsysmods",
+            Resource::ErrSysmods,
+        )?;
+        put(
+            &mut router,
+            "/zones/{zone}/missingfix",
+            Resource::MissingFix,
+        )?;
+        put(
+            &mut router,
+            "/zones/{zone}/chains/{sysmod}",
+            Resource::Chain,
+        )?;
+        Ok(Routes { router })
+    }
+
+    /// What a path names, or `None` where it names nothing.
+    pub fn resource(&self, path: &str) -> Option<Resource>
+        ensures { result ≡ Spec.resource_at path.now }
+    {
+        match self.router.at(path) {
+            Ok(found) => Some(*found.value),
+            Err(_) => None,
+        }
+    }
+}
+
+// One path more. The paths don't conflict, so what fails is the want of memory.
+fn put(router: &mut Router<Resource>, path: &str, resource: Resource) -> Result<(), NoMemory>
+    ensures { OnOk result (router.new ≡ Spec.with_route router.old (path.now, resource)) }
+{
+    match router.insert(path, resource) {
+        Ok(()) => Ok(()),
+        Err(_) => Err(NoMemory),
+    }
+}
