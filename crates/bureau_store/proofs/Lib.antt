@@ -1,0 +1,3 @@
+pub mod CallerFacts
+pub mod StoreFacts
+pub mod TableFacts

@@ -1,0 +1,42 @@
+-- How a client's tables are kept. No part of what is promised: private contracts cite it.
+use Rattle.std.specs.Prelude.{◌≡◌, ℕ, List}
+use Rattle.std.specs.BTreeMap.{is_at}
+use Rattle.std.specs.Cmp.Lexicographic.{slice_cmp}
+use Rattle.std.specs.List.Sorted.{IsStrictlySortedBy}
+use Rattle.std.specs.Map.{lookup}
+use Rattle.std.specs.Ordering.{nat_cmp}
+use Rattle.zone_lists.specs.ZoneList.{RowsAscend}
+use Rattle.zone_lists.specs.declared.zones.ZoneRow.{ZoneRow}
+use Rattle.catalogue.specs.Ids.{Ascend}
+use Rattle.bureau_store.specs.Effect.{Effect, zone_put, zone_dropped, received_put, patterns_put}
+use Rattle.bureau_store.specs.Tables.{Zones, patterns_of, rows_of, zone_named}
+use Rattle.bureau_store.specs.Caller.{caller_with}
+use Rattle.bureau_store.specs.declared.caller.Caller.{Caller}
+use Rattle.bureau_store.specs.declared.caller.CallerRow.{CallerRow}
+use Rattle.bureau_store.specs.declared.kept.Put.{Put}
+use Rattle.bureau_store.specs.declared.kept.Put.TheVariants as put
+
+-- what a put does to the tables
+abbrev pub effect_of : Put → Effect
+effect_of (put.Rows zone rows) = zone_put zone rows.items
+effect_of (put.NoZone zone) = zone_dropped zone
+effect_of (put.Received ids) = received_put ids.items
+effect_of (put.Patterns zone patterns) = patterns_put zone patterns.items
+
+-- what is put ascends
+abbrev pub IsFit : Put → Type 0
+IsFit (put.Rows zone rows) = RowsAscend rows.items
+IsFit (put.NoZone zone) = Unit {0}
+IsFit (put.Received ids) = Ascend ids.items
+IsFit (put.Patterns zone patterns) = IsStrictlySortedBy (slice_cmp nat_cmp) patterns.items
+
+-- what a zone has, as a map of zones finds it
+abbrev pub rows_at : List ℕ → Zones → List ZoneRow
+rows_at zone zones = rows_of (zone_named zone zones)
+
+abbrev pub patterns_at : List ℕ → Zones → List (List ℕ)
+patterns_at zone zones = patterns_of (zone_named zone zones)
+
+-- a map finds under each token the first of these rows that has it
+abbrev pub KnowsTokens : {Text : Type 0} → (Text → List ℕ) → List (Text × Caller) → List CallerRow → Type 0
+KnowsTokens text_of entries rows = (token : List ℕ) → lookup (λ text. is_at (slice_cmp nat_cmp token) (text_of text)) entries ≡ caller_with rows token

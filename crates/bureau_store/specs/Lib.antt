@@ -1,0 +1,9 @@
+pub mod Caller
+pub mod Callers
+pub mod Effect
+pub mod Gathered
+pub mod Held
+pub mod Kept
+pub mod Lists
+pub mod Store
+pub mod Tables

@@ -1,0 +1,27 @@
+-- What every store keeps to. What is said of a change is said for all tables that stand: if the store is open,
+-- it holds these.
+use Rattle.std.specs.Prelude.{◌≤◌, ℕ, Result, IsErrOf, OnErr, OnOk}
+use Rattle.catalogue.specs.Published.{HasFailed, Stands}
+use Rattle.bureau_store.specs.declared.fault.StoreFault.{StoreFault}
+use Rattle.bureau_store.specs.declared.fault.StoreFault.TheVariants.{Device}
+
+-- the greatest number that a change may have
+abbrev pub greatest_number : ℕ
+greatest_number = 9223372036854775807
+
+-- What a change makes of what the store holds, where it holds what the change asks for: done, it is changed
+-- so, and refused, it is as it was.
+pub record Makes {Store Held Done : Type 0} (is_clean is_ours is_open : Store → Type 0) (failures : Store → ℕ) (held : Store → Held) (old new : Store)
+    (answer : Result Done StoreFault) (IsAsked : Held → Type 0) (change : Held → Held) : Type 0 where
+  pub clean : is_clean new → is_clean old
+  pub ours : is_ours old → is_clean new → is_ours new
+  pub still_open : is_open new → is_open old
+  pub failures_rise : failures old ≤ failures new
+  pub done : OnOk answer (is_ours old → is_clean new → (this : Held) → IsAsked this → Stands is_open held old this → Stands is_open held new (change this))
+  -- what is told as done was done by a store that is open
+  pub acknowledged : OnOk answer (is_ours old → is_clean new → is_open new)
+  pub refused : OnErr answer (is_ours old → is_clean new → (this : Held) → Stands is_open held old this → Stands is_open held new this)
+
+-- a fault of the device is told only where one came
+abbrev pub FailsForCause : {Store Answer : Type 0} → (Store → ℕ) → Store → Store → Result Answer StoreFault → Type 0
+FailsForCause failures old new answer = IsErrOf answer Device → HasFailed failures old new

@@ -1,0 +1,81 @@
+//! Who calls.
+ghost use Rattle.std.specs.Prelude.{◌≡◌, IfOk};
+
+use faults::NoMemory;
+use mcs_reader::Id;
+use std::marker::Model;
+
+/// Who calls: the publisher of SYSMODs and holds, or a client with zones of its own.
+#[derive(Clone, Copy, Debug, PartialEq, Eq)]
+pub enum Caller {
+    /// The one on whose statements all clients' reports stand.
+    Publisher,
+    /// A client, by its name, which isn't `PUBLISH`.
+    Client(Id),
+}
+
+/// The token by which a caller is known. A contract sees its bytes.
+#[derive(Debug, Drop)]
+pub struct Token {
+    text: Vec<u8>,
+}
+
+impl Model for Token {
+    ghost use Rattle.std.specs.Prelude.{ℕ, List};
+
+    ghost Value = { List ℕ };
+
+    ghost view = { λ token. token.text.items };
+}
+
+impl Token {
+    /// The token of these bytes. It takes no memory.
+    pub fn new(bytes: Vec<u8>) -> Token
+        ensures { result ≡ bytes.items }
+    {
+        Token { text: bytes }
+    }
+
+    /// The token's bytes.
+    pub fn as_bytes(&self) -> &[u8]
+        ensures { result.now ≡ self.now }
+    {
+        self.text.as_slice()
+    }
+
+    /// Gives the bytes back. It takes no memory.
+    pub fn into_vec(self) -> Vec<u8>
+        ensures { result.items ≡ self }
+    {
+        self.text
+    }
+
+    /// The same token once more.
+    pub fn copy(&self) -> Result<Token, NoMemory>
+        ensures { IfOk result (λ copy. copy ≡ self.now) }
+    {
+        let text = self.text.clone()?;
+        Ok(Token { text })
+    }
+}
+
+/// A row of the callers file: a caller's name, of which `PUBLISH` is the publisher's, and its token.
+#[derive(Debug, Drop)]
+pub struct CallerRow {
+    /// The name.
+    pub name: Id,
+    /// The token, which no other caller has.
+    pub token: Token,
+}
+
+impl CallerRow {
+    /// The same row once more.
+    pub fn copy(&self) -> Result<CallerRow, NoMemory>
+        ensures { IfOk result (λ copy. copy ≡ self.now) }
+    {
+        Ok(CallerRow {
+            name: self.name,
+            token: self.token.copy()?,
+        })
+    }
+}

@@ -1,0 +1,297 @@
+//! What is kept for one caller.
+ghost use Rattle.std.specs.Prelude.{◌≡◌, length, IfOk, OnOk, OnErr, option_copied};
+ghost use Rattle.std.specs.Cmp.Lexicographic.{slice_cmp};
+ghost use Rattle.std.specs.List.Sorted.{IsStrictlySortedBy};
+ghost use Rattle.std.specs.Map.{keys_of};
+ghost use Rattle.std.specs.Ordering.{nat_cmp};
+ghost use Rattle.zone_lists.specs.ZoneList.{RowsAscend};
+ghost use Rattle.catalogue.specs.Ids.{Ascend};
+ghost use Rattle.bureau_store.specs.Effect.{zone_put, zone_dropped, received_put, patterns_put};
+ghost use Rattle.bureau_store.specs.Kept.{IsFit, effect_of, rows_at, patterns_at};
+ghost use Rattle.bureau_store.specs.Lists.{client_after, nothing_sent};
+ghost use Rattle.bureau_store.specs.Tables.{name_order, zone_named};
+
+use faults::NoMemory;
+use mcs_reader::Id;
+use std::alloc::Global;
+use std::collections::BTreeMap;
+use std::marker::Model;
+use zone_lists::{Pattern, ZoneRow};
+
+/// A caller's last change. A contract sees its number and the bytes of its reply.
+#[derive(Drop)]
+pub(crate) struct Last {
+    count: u64,
+    text: Vec<u8>,
+}
+
+impl Model for Last {
+    ghost use Rattle.bureau_store.specs.Tables.{LastChange};
+
+    ghost Value = { LastChange };
+
+    ghost view = { λ last. record { number = last.count; reply = last.text.items } };
+}
+
+impl Last {
+    /// The change with this number and reply.
+    pub(crate) fn new(number: u64, reply: Vec<u8>) -> Last
+        ensures { result ≡ record { number = number; reply = reply.items } }
+    {
+        Last {
+            count: number,
+            text: reply,
+        }
+    }
+
+    /// The number and the reply once more.
+    pub(crate) fn copy(&self) -> Result<(u64, Vec<u8>), NoMemory>
+        ensures { IfOk result (λ copy. record { number = copy.0; reply = copy.1.items } ≡ self.now) }
+    {
+        let text = self.text.clone()?;
+        Ok((self.count, text))
+    }
+}
+
+/// A zone of a client: its rows and its patterns, both ascending.
+#[derive(Drop)]
+pub(crate) struct Zone {
+    states: Vec<ZoneRow>,
+    wanted: Vec<Pattern>,
+}
+
+impl Model for Zone {
+    ghost use Rattle.std.specs.Cmp.Lexicographic.{slice_cmp};
+    ghost use Rattle.std.specs.List.Sorted.{IsStrictlySortedBy};
+    ghost use Rattle.std.specs.Ordering.{nat_cmp};
+    ghost use Rattle.zone_lists.specs.ZoneList.{RowsAscend};
+    ghost use Rattle.bureau_store.specs.Tables.{ZoneTable};
+
+    ghost Value = { ZoneTable };
+
+    ghost view = { λ zone. record { rows = zone.states.items; patterns = zone.wanted.items } };
+
+    ghost invariant = { λ zone. record {
+      rows : RowsAscend zone.states.items;
+      patterns : IsStrictlySortedBy (slice_cmp nat_cmp) zone.wanted.items;
+    } };
+}
+
+impl Zone {
+    /// A zone with these rows and patterns.
+    pub(crate) fn new(rows: Vec<ZoneRow>, patterns: Vec<Pattern>) -> Zone
+        requires rows { RowsAscend rows.items }
+        requires patterns { IsStrictlySortedBy (slice_cmp nat_cmp) patterns.items }
+        ensures { result ≡ record { rows = rows.items; patterns = patterns.items } }
+    {
+        Zone {
+            states: rows,
+            wanted: patterns,
+        }
+    }
+
+    /// How many rows it has.
+    pub(crate) fn row_count(&self) -> u64
+        ensures { result ≡ length self.now.rows }
+    {
+        self.states.len() as u64
+    }
+
+    /// Its rows.
+    pub(crate) fn rows(&self) -> &[ZoneRow]
+        ensures value { result.now ≡ self.now.rows }
+        ensures ascend { RowsAscend self.now.rows }
+    {
+        self.states.as_slice()
+    }
+
+    /// Its patterns.
+    pub(crate) fn patterns(&self) -> &[Pattern]
+        ensures value { result.now ≡ self.now.patterns }
+        ensures ascend { IsStrictlySortedBy (slice_cmp nat_cmp) self.now.patterns }
+    {
+        self.wanted.as_slice()
+    }
+}
+
+/// What a client puts, or drops.
+#[derive(Drop)]
+pub(crate) enum Put {
+    /// A zone's rows.
+    Rows(Id, Vec<ZoneRow>),
+    /// A zone that is there no more.
+    NoZone(Id),
+    /// The SYSMODs that it has received.
+    Received(Vec<Id>),
+    /// A zone's patterns.
+    Patterns(Id, Vec<Pattern>),
+}
+
+/// What is kept for a client.
+#[derive(Drop)]
+pub(crate) struct Client {
+    alloc: Global,
+    change: Last,
+    by_name: BTreeMap<Id, Zone>,
+    ids: Vec<Id>,
+}
+
+impl Model for Client {
+    ghost use Rattle.std.specs.List.Sorted.{IsStrictlySortedBy};
+    ghost use Rattle.std.specs.Map.{keys_of};
+    ghost use Rattle.catalogue.specs.Ids.{Ascend};
+    ghost use Rattle.bureau_store.specs.Lists.{ClientTable};
+    ghost use Rattle.bureau_store.specs.Tables.{name_order};
+
+    ghost Value = { ClientTable };
+
+    ghost view = { λ client. record { last = client.change; zones = client.by_name.entries; received = client.ids.items } };
+
+    ghost invariant = { λ client. record {
+      zones : IsStrictlySortedBy name_order (keys_of client.by_name.entries);
+      received : Ascend client.ids.items;
+    } };
+}
+
+impl Client {
+    /// A client that has sent nothing.
+    pub(crate) fn new(alloc: Global) -> Client
+        ensures { result ≡ nothing_sent }
+    {
+        Client {
+            alloc,
+            change: Last::new(0, Vec::new(alloc)),
+            by_name: BTreeMap::new(alloc),
+            ids: Vec::new(alloc),
+        }
+    }
+
+    /// Its last change.
+    pub(crate) fn last(&self) -> &Last
+        ensures { result.now ≡ self.now.last }
+    {
+        &self.change
+    }
+
+    /// Its zones by name.
+    pub(crate) fn zones(&self) -> &BTreeMap<Id, Zone>
+        ensures value { result.now.entries ≡ self.now.zones }
+        ensures ascend { IsStrictlySortedBy name_order (keys_of self.now.zones) }
+    {
+        &self.by_name
+    }
+
+    /// What it has received.
+    pub(crate) fn received(&self) -> &[Id]
+        ensures value { result.now ≡ self.now.received }
+        ensures ascend { Ascend self.now.received }
+    {
+        self.ids.as_slice()
+    }
+
+    /// Makes a change, which is the client's last from now on. Where memory runs out, all is as it was.
+    pub(crate) fn make(&mut self, put: Put, last: Last) -> Result<(), NoMemory>
+        requires { IsFit put }
+        ensures done { OnOk result (self.new ≡ client_after (effect_of put) last self.old) }
+        ensures err { OnErr result (self.new ≡ self.old) }
+        ensures ascend { IsStrictlySortedBy name_order (keys_of self.new.zones) }
+    {
+        match put {
+            Put::Rows(zone, rows) => self.put_rows(zone, rows, last),
+            Put::NoZone(zone) => {
+                self.drop_zone(&zone, last);
+                Ok(())
+            }
+            Put::Received(ids) => {
+                self.put_received(ids, last);
+                Ok(())
+            }
+            Put::Patterns(zone, patterns) => self.put_patterns(zone, patterns, last),
+        }
+    }
+
+    fn put_rows(&mut self, zone: Id, rows: Vec<ZoneRow>, last: Last) -> Result<(), NoMemory>
+        requires { RowsAscend rows.items }
+        ensures done { OnOk result (self.new ≡ client_after (zone_put zone rows.items) last self.old) }
+        ensures err { OnErr result (self.new ≡ self.old) }
+        ensures ascend { IsStrictlySortedBy name_order (keys_of self.new.zones) }
+    {
+        let patterns = patterns_kept(self.alloc, &self.by_name, &zone)?;
+        self.by_name.insert(zone, Zone::new(rows, patterns))?;
+        self.change = last;
+        Ok(())
+    }
+
+    fn drop_zone(&mut self, zone: &Id, last: Last)
+        ensures done { self.new ≡ client_after (zone_dropped zone.now) last self.old }
+        ensures ascend { IsStrictlySortedBy name_order (keys_of self.new.zones) }
+    {
+        self.by_name.remove(zone);
+        self.change = last;
+    }
+
+    fn put_received(&mut self, ids: Vec<Id>, last: Last)
+        requires { Ascend ids.items }
+        ensures done { self.new ≡ client_after (received_put ids.items) last self.old }
+        ensures ascend { IsStrictlySortedBy name_order (keys_of self.new.zones) }
+    {
+        self.ids = ids;
+        self.change = last;
+    }
+
+    fn put_patterns(&mut self, zone: Id, patterns: Vec<Pattern>, last: Last) -> Result<(), NoMemory>
+        requires { IsStrictlySortedBy (slice_cmp nat_cmp) patterns.items }
+        ensures done { OnOk result (self.new ≡ client_after (patterns_put zone patterns.items) last self.old) }
+        ensures err { OnErr result (self.new ≡ self.old) }
+        ensures ascend { IsStrictlySortedBy name_order (keys_of self.new.zones) }
+    {
+        let rows = rows_kept(self.alloc, &self.by_name, &zone)?;
+        self.by_name.insert(zone, Zone::new(rows, patterns))?;
+        self.change = last;
+        Ok(())
+    }
+}
+
+/// The zone of this name.
+pub(crate) fn zone_of<'a>(zones: &'a BTreeMap<Id, Zone>, zone: &Id) -> Option<&'a Zone>
+    ensures { option_copied result ≡ zone_named zone.now zones.now.entries }
+{
+    zones.get(zone)
+}
+
+// The patterns of a zone, once more.
+fn patterns_kept(
+    alloc: Global,
+    zones: &BTreeMap<Id, Zone>,
+    zone: &Id,
+) -> Result<Vec<Pattern>, NoMemory>
+    ensures patterns { IfOk result (λ patterns. patterns.items ≡ patterns_at zone.now zones.now.entries) }
+    ensures ascend { IfOk result (λ patterns. IsStrictlySortedBy (slice_cmp nat_cmp) patterns.items) }
+{
+    match zone_of(zones, zone) {
+        Some(kept) => copied(alloc, kept.patterns()),
+        None => Ok(Vec::new(alloc)),
+    }
+}
+
+/// Patterns once more.
+pub(crate) fn copied(alloc: Global, patterns: &[Pattern]) -> Result<Vec<Pattern>, NoMemory>
+    ensures { IfOk result (λ copy. copy.items ≡ patterns.now) }
+{
+    let mut copy = Vec::with_capacity(alloc, patterns.len())?;
+    for pattern in patterns {
+        copy.push(pattern.copy()?)?;
+    }
+    Ok(copy)
+}
+
+// The rows of a zone, once more.
+fn rows_kept(alloc: Global, zones: &BTreeMap<Id, Zone>, zone: &Id) -> Result<Vec<ZoneRow>, NoMemory>
+    ensures rows { IfOk result (λ rows. rows.items ≡ rows_at zone.now zones.now.entries) }
+    ensures ascend { IfOk result (λ rows. RowsAscend rows.items) }
+{
+    match zone_of(zones, zone) {
+        Some(kept) => Vec::from_slice(alloc, kept.rows()),
+        None => Ok(Vec::new(alloc)),
+    }
+}

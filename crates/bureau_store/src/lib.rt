@@ -1,0 +1,22 @@
+//! What the bureau keeps: the published content, and for each caller what that caller sent.
+//!
+//! - [`Store`]: what every layer above keeps and reads all of it by, whether in lists or in a file
+//! - [`ListStore`]: the store in lists
+//! - [`Caller`], [`CallerRow`], [`Token`]: who calls, and by which token a caller is known
+//! - [`callers`]: reads the file of them
+//! - [`StoreFault`], [`CallerFault`]: why a store doesn't do what it is asked, and why no callers file is read
+#![tactic(auto)]
+
+mod caller;
+mod callers_file;
+mod fault;
+mod kept;
+mod list_store;
+mod store;
+
+pub use caller::{Caller, CallerRow, Token};
+pub use callers_file::{CALLER_RECORDS, callers};
+pub use fault::{CallerFault, StoreFault};
+pub use faults::NoMemory;
+pub use list_store::ListStore;
+pub use store::Store;
