@@ -1,0 +1,99 @@
+-- What comes of calls: small worked cases, so that the definitions are seen to mean what they should.
+use Rattle.std.proofs.Common.{◌≡◌, ℕ, Bool, true, false, List, [], ◌∷◌, refl}
+use Rattle.std.specs.Prelude.{Some, None, Ok, Err, codes, replicate}
+use Rattle.std.specs.Fmt.{digits}
+use Rattle.zone_lists.specs.declared.zones.ZoneRow.{ZoneRow}
+use Rattle.zone_lists.specs.declared.zones.ZoneState.TheVariants.{Applied}
+use Rattle.catalogue.specs.Content.{nothing}
+use Rattle.bureau_store.specs.Effect.{zone_dropped}
+use Rattle.bureau_store.specs.Tables.{LastChange, ZoneTable, Zones}
+use Rattle.bureau_store.specs.declared.caller.Caller.TheVariants.{Publisher, Client}
+use Rattle.bureau.specs.Call.{publish, put_zone, drop_zone, list_zones, err_sysmods, counts}
+use Rattle.bureau.specs.Outcome.{accepted, answered, answer_of, by_number, bad_number, forbidden, gap, has_room, in_turn, not_found, outcome, plain, stale, told}
+use Rattle.bureau.specs.Texts.{counts_text, zone_dropped_text, zones_text}
+use Rattle.bureau.specs.View.{View}
+
+-- a zone with one SYSMOD
+abbrev small_zone : ZoneTable
+small_zone = record { rows = (record { sysmod = codes "HBB7790"; state = Applied }) ∷ []; patterns = [] }
+
+-- the client ALPHA after its second change, with the zone TGT1, where nothing is published
+abbrev alpha : View
+alpha = record {
+  caller = Client (codes "ALPHA  ");
+  content = nothing;
+  last = record { number = 2; reply = codes "ZONE TGT1 ROWS 1\n" };
+  zones = (codes "TGT1   ", small_zone) ∷ [];
+  received = [];
+}
+
+-- the publisher before its first change
+abbrev publisher : View
+publisher = record { caller = Publisher; content = nothing; last = record { number = 0; reply = [] }; zones = []; received = [] }
+
+-- who may ask what
+pub client_publishes : outcome alpha (publish (Some 3) (codes "++VER(Z038).")) ≡ answered (plain 403 (codes "NOT ALLOWED\n"))
+client_publishes = refl
+
+pub publisher_lists_zones : outcome publisher list_zones ≡ answered (plain 403 (codes "NOT ALLOWED\n"))
+publisher_lists_zones = refl
+
+pub who_may_not_ask_needs_no_number : outcome alpha (publish None []) ≡ answered (plain 403 (codes "NOT ALLOWED\n"))
+who_may_not_ask_needs_no_number = refl
+
+-- numbers
+pub no_number : outcome publisher (publish None []) ≡ answered (plain 400 (codes "BAD NUMBER\n"))
+no_number = refl
+
+pub number_zero : outcome alpha (drop_zone (Some 0) (codes "TGT1   ")) ≡ answered (plain 400 (codes "BAD NUMBER\n"))
+number_zero = refl
+
+pub number_too_great : outcome alpha (drop_zone (Some 9223372036854775808) (codes "TGT1   ")) ≡ answered (plain 400 (codes "BAD NUMBER\n"))
+number_too_great = refl
+
+-- the last number again, with whatever call, gets the kept reply
+pub number_again : outcome alpha (drop_zone (Some 2) (codes "TGT9   ")) ≡ answered (plain 200 (codes "ZONE TGT1 ROWS 1\n"))
+number_again = refl
+
+-- a number before the last one, before the zone is looked for
+pub number_before : outcome alpha (drop_zone (Some 1) (codes "TGT9   ")) ≡ answered (plain 409 (codes "STALE\n"))
+number_before = refl
+
+pub number_left_out : outcome alpha (drop_zone (Some 4) (codes "TGT1   ")) ≡ answered (plain 409 (codes "GAP LAST 2\n"))
+unfolding digits
+number_left_out = refl
+
+-- zones
+pub zone_not_there : outcome alpha (drop_zone (Some 3) (codes "TGT9   ")) ≡ answered (plain 404 (codes "NOT FOUND\n"))
+zone_not_there = refl
+
+pub zone_dropped_now : outcome alpha (drop_zone (Some 3) (codes "TGT1   ")) ≡ accepted (zone_dropped (codes "TGT1   ")) (codes "ZONE TGT1 DROPPED\n")
+zone_dropped_now = refl
+
+pub report_on_no_zone : outcome alpha (err_sysmods (codes "TGT9   ")) ≡ answered (plain 404 (codes "NOT FOUND\n"))
+report_on_no_zone = refl
+
+pub zones_listed : outcome alpha list_zones ≡ answered (plain 200 (codes "ZONE     SYSMODS\nTGT1     1\nROWS 1\n"))
+unfolding digits
+zones_listed = refl
+
+-- a client may have 64 zones; one of them may be put again
+abbrev zones_of : ℕ → Zones
+zones_of n = replicate n (codes "TGT1   ", small_zone)
+
+pub room_for_the_64th : has_room (codes "TGT9   ") (zones_of 63) ≡ true
+room_for_the_64th = refl
+
+pub no_room_for_the_65th : has_room (codes "TGT9   ") (zones_of 64) ≡ false
+no_room_for_the_65th = refl
+
+pub room_for_one_that_is_there : has_room (codes "TGT1   ") (zones_of 64) ≡ true
+room_for_one_that_is_there = refl
+
+-- counts before anything is published
+pub counts_of_nothing : counts_text nothing ≡ codes "PUBLISHED SYSMODS 0 HOLDS 0\n"
+unfolding digits
+counts_of_nothing = refl
+
+pub both_may_count : outcome alpha counts ≡ outcome publisher counts
+both_may_count = refl

@@ -1,0 +1,10 @@
+pub mod Alone
+pub mod Call
+pub mod Joint
+pub mod Outcome
+pub mod Own
+pub mod View
+pub mod Bodies
+pub mod Texts
+pub mod Turn
+pub mod Replies

@@ -1,0 +1,77 @@
+-- The texts of answers.
+use Rattle.std.specs.Prelude.{ℕ, ◌++◌, Bool, true, false, List, [], ◌∷◌, codes, count_by, decimal, length, map, None}
+use Rattle.columns.specs.Columns.{text_of as text_in}
+use Rattle.mcs_reader.specs.Id.{text_of}
+use Rattle.holddata.specs.declared.hold.HoldChange.TheVariants.{Put, Release}
+use Rattle.holddata.specs.declared.key.Kind.TheVariants.{ErrorHold, FixcatHold}
+use Rattle.zone_lists.specs.declared.zones.ZoneRow.{ZoneRow}
+use Rattle.catalogue.specs.Content.{Content}
+use Rattle.catalogue.specs.declared.change.Change.{Change}
+use Rattle.catalogue.specs.declared.change.Change.TheVariants.{Whole, OfHold}
+use Rattle.chains.specs.Verdicts.{verdict_of}
+use Rattle.reports.specs.ChainText.{chain_text_of}
+use Rattle.reports.specs.ErrRows.{err_rows_of}
+use Rattle.reports.specs.MissingRows.{missing_rows_of}
+use Rattle.reports.specs.ReportText.{err_text_of, missing_text_of}
+use Rattle.bureau_store.specs.Held.{held_in}
+use Rattle.bureau_store.specs.Tables.{ZoneTable, Zones}
+
+-- whether a change publishes a SYSMOD's record, puts a hold, or releases one
+abbrev pub is_record : Change → Bool
+is_record (Whole sysmod) = true
+is_record (OfHold change) = false
+
+abbrev pub is_put : Change → Bool
+is_put (Whole sysmod) = false
+is_put (OfHold (Put hold)) = true
+is_put (OfHold (Release key)) = false
+
+abbrev pub is_release : Change → Bool
+is_release (Whole sysmod) = false
+is_release (OfHold (Put hold)) = false
+is_release (OfHold (Release key)) = true
+
+-- what is told of a publication: how many changes of each sort its statements made
+abbrev pub publication_text : List Change → List ℕ
+publication_text changes =
+    codes "ACCEPTED SYSMODS " ++ decimal (count_by is_record changes)
+    ++ codes " HOLDS " ++ decimal (count_by is_put changes)
+    ++ codes " RELEASES " ++ decimal (count_by is_release changes) ++ codes "\n"
+
+-- how much is published
+abbrev pub counts_text : Content → List ℕ
+counts_text content =
+    codes "PUBLISHED SYSMODS " ++ decimal (length content.sysmods) ++ codes " HOLDS " ++ decimal (length content.holds) ++ codes "\n"
+
+abbrev pub zone_put_text : List ℕ → List ZoneRow → List ℕ
+zone_put_text zone rows = codes "ZONE " ++ text_of zone ++ codes " ROWS " ++ decimal (length rows) ++ codes "\n"
+
+abbrev pub zone_dropped_text : List ℕ → List ℕ
+zone_dropped_text zone = codes "ZONE " ++ text_of zone ++ codes " DROPPED\n"
+
+abbrev pub patterns_text : List ℕ → List (List ℕ) → List ℕ
+patterns_text zone patterns = codes "ZONE " ++ text_of zone ++ codes " PATTERNS " ++ decimal (length patterns) ++ codes "\n"
+
+abbrev pub received_text : List (List ℕ) → List ℕ
+received_text ids = codes "RECEIVED ROWS " ++ decimal (length ids) ++ codes "\n"
+
+-- a client's zones, each with how many SYSMODs its list has
+abbrev pub zone_columns : List (ℕ × List ℕ)
+zone_columns = (1, codes "ZONE") ∷ (10, codes "SYSMODS") ∷ []
+
+abbrev pub zones_text : Zones → List ℕ
+zones_text zones = text_in zone_columns None (map (λ zone. text_of zone.0 ∷ decimal (length zone.1.rows) ∷ []) zones)
+
+-- the exception SYSMOD report on a zone
+abbrev pub err_report : Content → List ℕ → ZoneTable → List (List ℕ) → List ℕ
+err_report content zone table received =
+    err_text_of zone (err_rows_of content table.rows received (held_in content table.rows ErrorHold))
+
+-- the missing fix report on a zone
+abbrev pub missing_report : Content → List ℕ → ZoneTable → List (List ℕ) → List ℕ
+missing_report content zone table received =
+    missing_text_of zone (missing_rows_of content table.rows received table.patterns (held_in content table.rows FixcatHold))
+
+-- the verdict on a SYSMOD in a zone
+abbrev pub chain_text : Content → List ℕ → ZoneTable → List ℕ → List ℕ
+chain_text content zone table sysmod = chain_text_of content zone sysmod (verdict_of content table.rows sysmod)

@@ -1,0 +1,13 @@
+-- What comes of a change by its turn. For private contracts: `Outcome` says it by numbers.
+use Rattle.bureau_store.specs.Tables.{LastChange}
+use Rattle.bureau.specs.Outcome.{Outcome, answered, bad_number, gap, stale, told}
+use Rattle.bureau.specs.declared.turn.Turn.{Turn}
+use Rattle.bureau.specs.declared.turn.Turn.TheVariants.{Next, Again, Stale, Gap, NoNumber}
+
+-- the change itself where it is its turn; else what is told in its place
+abbrev pub come_in : Turn → LastChange → Outcome → Outcome
+come_in Next last change = change
+come_in Again last change = told last.reply
+come_in Stale last change = answered stale
+come_in Gap last change = answered (gap last.number)
+come_in NoNumber last change = answered bad_number

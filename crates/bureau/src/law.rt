@@ -1,0 +1,19 @@
+//! What holds of every run.
+ghost use Rattle.std.specs.Prelude.{◌≡◌, List};
+ghost use Rattle.bureau.specs.Alone.{AreAnsweredAlike, IsAlone, opening_of};
+ghost use Rattle.bureau.specs.Joint.{IsRun, Turn};
+ghost use Rattle.bureau_store.specs.Tables.{AreInOrder, Tables};
+ghost use Rattle.bureau_store.specs.declared.caller.Caller.{Caller};
+
+/// Isolation, a law of every run of the bureau, whatever calls of whatever callers come in whatever order.
+///
+/// `alone`: each caller's answers, other than 503, are those of a bureau that received the publisher's calls
+/// and that caller's alone, those answered 503 left out. `alike`: so in two runs that open alike for a
+/// caller, the same call behind the same own history has the same answer, unless one of the two is 503.
+pub fn isolation()
+    ensures alone { (opening closing : Tables) (turns : List Turn) (viewer : Caller) →
+        AreInOrder opening → IsRun opening turns closing → IsAlone viewer (opening_of viewer opening) turns }
+    ensures alike { (opening closing opening2 closing2 : Tables) (turns turns2 : List Turn) (viewer : Caller) →
+        AreInOrder opening → AreInOrder opening2 → IsRun opening turns closing → IsRun opening2 turns2 closing2 →
+        opening_of viewer opening ≡ opening_of viewer opening2 → AreAnsweredAlike viewer turns turns2 }
+{}

@@ -1,0 +1,97 @@
+//! What the bureau answers.
+ghost use Rattle.std.specs.Prelude.{◌≡◌, [], IfOk};
+ghost use Rattle.bureau.specs.Outcome.{gap, no_room, plain};
+ghost use Rattle.bureau.specs.Replies.{reply_as};
+
+use crate::NoMemory;
+use itoa::Buffer;
+use std::alloc::Global;
+use std::marker::Model;
+
+/// The body of an answer. A contract sees its bytes.
+#[derive(Debug, Drop)]
+pub struct Body {
+    bytes: Vec<u8>,
+}
+
+impl Model for Body {
+    ghost use Rattle.std.specs.Prelude.{ℕ, List};
+
+    ghost Value = { List ℕ };
+
+    ghost view = { λ body. body.bytes.items };
+}
+
+impl Body {
+    /// The body with these bytes. It takes no memory.
+    pub fn from_vec(bytes: Vec<u8>) -> Body
+        ensures { result ≡ bytes.items }
+    {
+        Body { bytes }
+    }
+
+    /// The body's bytes.
+    pub fn as_slice(&self) -> &[u8]
+        ensures { result.now ≡ self.now }
+    {
+        self.bytes.as_slice()
+    }
+
+    /// Gives the bytes back. It takes no memory.
+    pub fn into_vec(self) -> Vec<u8>
+        ensures { result.items ≡ self }
+    {
+        self.bytes
+    }
+}
+
+/// An answer.
+#[derive(Debug, Drop)]
+pub struct Reply {
+    /// The status (RFC 9110, section 15).
+    pub status: u16,
+    /// Whether the body is JSON. Otherwise it is plain text.
+    pub json: bool,
+    /// The body, which is empty where the status is 503.
+    pub body: Body,
+}
+
+impl Reply {
+    /// There is no room for the call now. It takes no memory.
+    pub fn no_room(alloc: Global) -> Reply
+        ensures { reply_as result ≡ no_room }
+    {
+        Reply {
+            status: 503,
+            json: false,
+            body: Body::from_vec(Vec::new(alloc)),
+        }
+    }
+
+    /// An answer in plain text.
+    pub(crate) fn plain(alloc: Global, status: u16, text: &[u8]) -> Result<Reply, NoMemory>
+        ensures { IfOk result (λ reply. reply_as reply ≡ plain status text.now) }
+    {
+        let bytes = Vec::from_slice(alloc, text)?;
+        Ok(Reply {
+            status,
+            json: false,
+            body: Body::from_vec(bytes),
+        })
+    }
+
+    /// A number was left out: the answer names the caller's last one.
+    pub(crate) fn gap(alloc: Global, last: u64) -> Result<Reply, NoMemory>
+        ensures { IfOk result (λ reply. reply_as reply ≡ gap last) }
+    {
+        let mut text = Vec::new(alloc);
+        text.extend_from_slice(b"GAP LAST ")?;
+        text.extend_from_slice(Buffer::new().format(last).as_bytes())?;
+        text.extend_from_slice(b"\n")?;
+        Ok(Reply {
+            status: 409,
+            json: false,
+            body: Body::from_vec(text),
+        })
+    }
+}

@@ -1,0 +1,139 @@
+//! The texts of answers. Each is one line, or a table in columns.
+ghost use Rattle.std.specs.Prelude.{◌≡◌, ◌++◌, codes, count_by, decimal, IfOk, OnOk};
+ghost use Rattle.mcs_reader.specs.Id.{text_of};
+ghost use Rattle.bureau.specs.Texts as Spec;
+ghost use Rattle.bureau.specs.Texts.{patterns_text, publication_text, received_text, zone_dropped_text, zone_put_text};
+
+use crate::NoMemory;
+use catalogue::Change;
+use holddata::HoldChange;
+use itoa::Buffer;
+use mcs_reader::Id;
+use std::alloc::Global;
+use zone_lists::{Pattern, ZoneRow};
+
+/// How much is published: so many SYSMODs and so many holds.
+pub(crate) fn counts_line(alloc: Global, sysmods: u64, holds: u64) -> Result<Vec<u8>, NoMemory>
+    ensures { IfOk result (λ text. text.items ≡ codes "PUBLISHED SYSMODS " ++ decimal sysmods ++ codes " HOLDS " ++ decimal holds ++ codes "\n") }
+{
+    let mut text = Vec::new(alloc);
+    text.extend_from_slice(b"PUBLISHED SYSMODS ")?;
+    push_number(&mut text, sysmods)?;
+    text.extend_from_slice(b" HOLDS ")?;
+    push_number(&mut text, holds)?;
+    text.extend_from_slice(b"\n")?;
+    Ok(text)
+}
+
+/// What is told of a publication: how many changes of each sort its statements made.
+pub(crate) fn publication_line(alloc: Global, changes: &[Change]) -> Result<Vec<u8>, NoMemory>
+    ensures { IfOk result (λ text. text.items ≡ publication_text changes.now) }
+{
+    let mut text = Vec::new(alloc);
+    text.extend_from_slice(b"ACCEPTED SYSMODS ")?;
+    push_number(&mut text, records_among(changes) as u64)?;
+    text.extend_from_slice(b" HOLDS ")?;
+    push_number(&mut text, puts_among(changes) as u64)?;
+    text.extend_from_slice(b" RELEASES ")?;
+    push_number(&mut text, releases_among(changes) as u64)?;
+    text.extend_from_slice(b"\n")?;
+    Ok(text)
+}
+
+/// What is told of a zone that was put.
+pub(crate) fn zone_put_line(alloc: Global, zone: &Id, rows: &[ZoneRow]) -> Result<Vec<u8>, NoMemory>
+    ensures { IfOk result (λ text. text.items ≡ zone_put_text zone.now rows.now) }
+{
+    let mut text = zone_begun(alloc, zone)?;
+    text.extend_from_slice(b" ROWS ")?;
+    push_number(&mut text, rows.len() as u64)?;
+    text.extend_from_slice(b"\n")?;
+    Ok(text)
+}
+
+/// What is told of a zone that was dropped.
+pub(crate) fn zone_dropped_line(alloc: Global, zone: &Id) -> Result<Vec<u8>, NoMemory>
+    ensures { IfOk result (λ text. text.items ≡ zone_dropped_text zone.now) }
+{
+    let mut text = zone_begun(alloc, zone)?;
+    text.extend_from_slice(b" DROPPED\n")?;
+    Ok(text)
+}
+
+/// What is told of the patterns that were put to a zone.
+pub(crate) fn patterns_line(
+    alloc: Global,
+    zone: &Id,
+    patterns: &[Pattern],
+) -> Result<Vec<u8>, NoMemory>
+    ensures { IfOk result (λ text. text.items ≡ patterns_text zone.now patterns.now) }
+{
+    let mut text = zone_begun(alloc, zone)?;
+    text.extend_from_slice(b" PATTERNS ")?;
+    push_number(&mut text, patterns.len() as u64)?;
+    text.extend_from_slice(b"\n")?;
+    Ok(text)
+}
+
+/// What is told of a received list that was put.
+pub(crate) fn received_line(alloc: Global, ids: &[Id]) -> Result<Vec<u8>, NoMemory>
+    ensures { IfOk result (λ text. text.items ≡ received_text ids.now) }
+{
+    let mut text = Vec::new(alloc);
+    text.extend_from_slice(b"RECEIVED ROWS ")?;
+    push_number(&mut text, ids.len() as u64)?;
+    text.extend_from_slice(b"\n")?;
+    Ok(text)
+}
+
+// The beginning of what is told of a zone.
+fn zone_begun(alloc: Global, zone: &Id) -> Result<Vec<u8>, NoMemory>
+    ensures { IfOk result (λ text. text.items ≡ codes "ZONE " ++ text_of zone.now) }
+{
+    let mut text = Vec::new(alloc);
+    text.extend_from_slice(b"ZONE ")?;
+    text.extend_from_slice(zone.as_bytes())?;
+    Ok(text)
+}
+
+fn push_number(text: &mut Vec<u8>, number: u64) -> Result<(), NoMemory>
+    ensures { OnOk result (text.new.items ≡ text.old.items ++ decimal number) }
+{
+    text.extend_from_slice(Buffer::new().format(number).as_bytes())
+}
+
+fn records_among(changes: &[Change]) -> usize
+    ensures { result ≡ count_by Spec.is_record changes.now }
+{
+    changes.iter().filter(|change| is_record(change)).count()
+}
+
+fn puts_among(changes: &[Change]) -> usize
+    ensures { result ≡ count_by Spec.is_put changes.now }
+{
+    changes.iter().filter(|change| is_put(change)).count()
+}
+
+fn releases_among(changes: &[Change]) -> usize
+    ensures { result ≡ count_by Spec.is_release changes.now }
+{
+    changes.iter().filter(|change| is_release(change)).count()
+}
+
+fn is_record(change: &Change) -> bool
+    ensures { result ≡ Spec.is_record change.now }
+{
+    matches!(change, Change::Whole(_))
+}
+
+fn is_put(change: &Change) -> bool
+    ensures { result ≡ Spec.is_put change.now }
+{
+    matches!(change, Change::OfHold(HoldChange::Put(_)))
+}
+
+fn is_release(change: &Change) -> bool
+    ensures { result ≡ Spec.is_release change.now }
+{
+    matches!(change, Change::OfHold(HoldChange::Release(_)))
+}
