@@ -1,3 +1,2 @@
-pub mod OneAnswer
-pub mod BookSteps
-pub mod Output
+pub mod BookFacts
+pub mod OutputFacts

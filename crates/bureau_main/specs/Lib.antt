@@ -1,4 +1,4 @@
 pub mod Holds
 pub mod Line
+pub mod Program
 pub mod ProgramFault
-pub mod Transfer

@@ -13,11 +13,11 @@ required_rule id = record (new_rule id) { action = Some Set; required = true; va
 abbrev pub holds_app : App
 holds_app = with_rule (new_app (codes "holds")) (required_rule (codes "file"))
 
--- a command that takes the words after its own name, and wants the name of one below it
+-- a command that takes the words after its own name, has a version, and wants the name of one below it
 abbrev pub commands_named : Text → App
 commands_named name =
     let above = new_app name in
-    record above { top = record above.top { no_binary_name = true; subcommand_required = true } }
+    record above { top = record above.top { has_version = true; no_binary_name = true; subcommand_required = true } }
 
 -- the commands that there are
 abbrev pub bureau_app : App

@@ -1,13 +1,19 @@
 //! `holds`: from the bytes of HOLDDATA to the hold book in print.
-ghost use Rattle.std.specs.Prelude.{◌≡◌, ◌⊎◌, IfOk, IfErr};
-ghost use Rattle.bureau_main.specs.Holds.{fault_in, HasOneAnswer, IsBook, IsBookText, IsHoldsRun, IsMemory, IsPrinted, IsSourceFault};
+ghost use Rattle.std.specs.Prelude.{◌≡◌, ◌⊎◌, take, Ok, Err, IfOk, IfErr, IfSome, OnOk};
+ghost use Rattle.std.specs.Io.KnownBytes.{Appends};
+ghost use Rattle.holddata.specs.BookText.{book_text};
+ghost use Rattle.mcs_reader.specs.ReadingOf.{reading_of};
+ghost use Rattle.mcs_reader.specs.Unread.{IsRead};
+ghost use Rattle.bureau_main.specs.Holds.{fault_in, most_read, print_of, IsHoldsRun, IsMemory, IsPrinted};
+ghost use Rattle.transfer.specs.Transfer.{AppendsFront};
 
-use crate::fault::{ProgramFault, report};
-use crate::transfer::{RETRIES, read_source, write_text};
+use crate::fault::{ProgramFault, exit_status, report};
+use faults::AnyFault;
 use holddata::HoldBook;
 use mcs_reader::Statements;
 use std::alloc::Global;
 use std::io::{Read, Write};
+use transfer::{RETRIES, read_source, write_whole};
 
 /// The most bytes that are read of a source: one more than it may have.
 pub const MOST_READ: usize = mcs_reader::MOST_BYTES + 1;
@@ -28,7 +34,7 @@ pub fn run_holds<R: Read, W: Write, E: Write>(
         Ok(()) => 0,
         Err(fault) => {
             report(errors, fault);
-            fault.status()
+            exit_status(fault)
         }
     }
 }
@@ -38,42 +44,70 @@ fn print_holds<R: Read, W: Write>(
     alloc: Global,
     reader: &mut R,
     writer: &mut W,
-) -> Result<(), ProgramFault>
+) -> Result<(), AnyFault>
     ensures { IsPrinted (R.remaining reader.old) (W.contents writer.old) (W.contents writer.new) (fault_in result) }
 {
-    let source = read_source(alloc, reader, MOST_READ, &mut { RETRIES })?;
+    let source = source_in(alloc, reader)?;
     let text = hold_book_text(alloc, source.as_slice())?;
-    match write_text(writer, text.as_slice(), &mut { RETRIES }) {
+    Ok(put_out(writer, text.as_slice())?)
+}
+
+// What the reader gives, up to one byte more than a source may have.
+fn source_in<R: Read>(alloc: Global, reader: &mut R) -> Result<Vec<u8>, ProgramFault>
+    ensures ok { IfOk result (λ source. IfSome (R.remaining reader.old) (λ bytes. source.items ≡ take most_read bytes)) }
+    ensures err { IfErr result (λ fault. (fault ≡ ProgramFault.NotRead) ⊎ (fault ≡ ProgramFault.Memory)) }
+{
+    Ok(read_source(alloc, reader, MOST_READ, &mut { RETRIES })?)
+}
+
+// Writes a whole text.
+fn put_out<W: Write>(writer: &mut W, text: &[u8]) -> Result<(), ProgramFault>
+    ensures ok { OnOk result (Appends (W.contents writer.old) (W.contents writer.new) text.now) }
+    ensures err { IfErr result (λ fault. (fault ≡ ProgramFault.NotWritten) × AppendsFront (W.contents writer.old) (W.contents writer.new) text.now) }
+{
+    match write_whole(writer, text, &mut { RETRIES }) {
         Ok(()) => Ok(()),
         Err(_) => Err(ProgramFault::NotWritten),
     }
 }
 
 /// The hold book that the statements of a source leave, in print.
-pub fn hold_book_text(alloc: Global, source: &[u8]) -> Result<Vec<u8>, ProgramFault>
-    // What is returned is the text of the source's hold book, or the source's fault.
-    ensures text { IfOk result (λ text. IsBookText source.now text.items) }
-    ensures fault { IfErr result (λ fault. IsMemory fault ⊎ IsSourceFault source.now fault) }
+///
+/// # Errors
+///
+/// The fault of the source, or of the first statement that has one as a hold; or memory ran out.
+pub fn hold_book_text(alloc: Global, source: &[u8]) -> Result<Vec<u8>, AnyFault>
+    ensures text { IfOk result (λ text. print_of source.now ≡ Ok text.items) }
+    ensures fault { IfErr result (λ fault. IsMemory fault ⊎ (print_of source.now ≡ Err fault)) }
 
-    // A source has one of the two, and one alone.
-    ensures one_answer { HasOneAnswer source.now }
+    // What a source is read as, in the words of the field.
+    ensures reading { IsRead source.now (reading_of source.now) }
 {
-    Ok(book_in(alloc, source)?.text()?)
+    let book = book_in(alloc, source)?;
+    Ok(book_print(&book)?)
+}
+
+// A book in print.
+fn book_print(book: &HoldBook) -> Result<Vec<u8>, ProgramFault>
+    ensures text { IfOk result (λ text. text.items ≡ book_text book.now) }
+    ensures err { IfErr result (λ fault. fault ≡ ProgramFault.Memory) }
+{
+    Ok(book.text()?)
 }
 
 // The hold book that the statements of a source leave. No statement is kept, and what is behind the first
 // that has a fault as a hold is read too, since a fault of the text itself comes before it.
-fn book_in(alloc: Global, source: &[u8]) -> Result<HoldBook, ProgramFault>
-    ensures book { IfOk result (λ book. IsBook source.now book) }
-    ensures fault { IfErr result (λ fault. IsMemory fault ⊎ IsSourceFault source.now fault) }
-    ensures one_answer { HasOneAnswer source.now }
+fn book_in(alloc: Global, source: &[u8]) -> Result<HoldBook, AnyFault>
+    ensures book { IfOk result (λ book. print_of source.now ≡ Ok (book_text book)) }
+    ensures fault { IfErr result (λ fault. IsMemory fault ⊎ (print_of source.now ≡ Err fault)) }
+    ensures reading { IsRead source.now (reading_of source.now) }
 {
     let mut statements = Statements::new(alloc, source)?;
     let mut book = HoldBook::new(alloc);
     'statements: while let Some(statement) = statements.next()? {
         if let Err(fault) = book.apply_statement(&statement) {
             statements.finish()?;
-            return Err(ProgramFault::Holds(fault));
+            return Err(AnyFault::from(fault));
         }
     }
     Ok(book)

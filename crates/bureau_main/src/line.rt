@@ -6,9 +6,11 @@ ghost use Rattle.bureau_main.specs.Line.{bureau_app, holds_app, IsLineIn, IsLine
 ghost use Rattle.bureau_main.specs.declared.line.Line.{Line};
 ghost use Rattle.bureau_main.specs.declared.line.LineFault.TheVariants.{Memory};
 
+use crate::help::{STATUSES_AND_FAULTS, VERSION};
 use clap::error::ErrorKind;
 use clap::{Arg, ArgAction, ArgMatches, Command};
-use std::alloc::{AllocError, Global};
+use faults::NoMemory;
+use std::alloc::Global;
 
 /// What a command line asks for.
 #[derive(Debug, Drop)]
@@ -26,10 +28,10 @@ pub enum LineFault {
     Memory,
 }
 
-impl From<AllocError> for LineFault {
+impl From<NoMemory> for LineFault {
     ghost from_gives = { λ _ fault. fault ≡ Memory };
 
-    fn from(_: AllocError) -> LineFault {
+    fn from(_: NoMemory) -> LineFault {
         LineFault::Memory
     }
 }
@@ -79,20 +81,22 @@ fn told(alloc: Global, error: &clap::Error) -> LineFault
 }
 
 // The commands that there are.
-fn command<'a>(alloc: Global) -> Result<Command<'a>, AllocError>
+fn command<'a>(alloc: Global) -> Result<Command<'a>, NoMemory>
     ensures { IfOk result (λ command. app_of command ≡ bureau_app) }
 {
     let holds = holds_command(alloc)?;
     let bureau = Command::new(alloc, "bureau").bin_name("bureau")?;
     bureau
         .about("Exception SYSMODs and missing fixes of z/OS SMP/E zones")
+        .version(VERSION)
+        .after_help(STATUSES_AND_FAULTS)
         .no_binary_name(true)
         .subcommand_required(true)
         .subcommand(holds)
 }
 
 // `holds FILE`
-fn holds_command<'a>(alloc: Global) -> Result<Command<'a>, AllocError>
+fn holds_command<'a>(alloc: Global) -> Result<Command<'a>, NoMemory>
     ensures app { IfOk result (λ command. app_of command ≡ holds_app) }
     ensures local { IfOk result (λ command. (fields_of command).has_globals ≡ false) }
 {

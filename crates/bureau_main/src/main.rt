@@ -2,12 +2,12 @@
 #![tactic(auto)]
 
 mod fault;
+mod help;
 mod holds;
 mod line;
 mod program;
 #[cfg(test)]
 mod tests;
-mod transfer;
 
 use std::process::ExitCode;
 

@@ -1,52 +1,86 @@
 //! The program over the standard streams and files.
-use crate::fault::{ProgramFault, report};
+ghost use Rattle.std.specs.Prelude.{◌≡◌, ◌≤◌, ◌↔◌, codes, IfErr, IsTrue};
+ghost use Rattle.bureau_main.specs.Program.{status_of_line_fault};
+ghost use Rattle.bureau_main.specs.ProgramFault.{status_of};
+
+use crate::fault::{ProgramFault, exit_status, report};
 use crate::holds::run_holds;
 use crate::line::{Line, LineFault, line_of};
-use crate::transfer::{RETRIES, write_text};
+use faults::AnyFault;
 use std::fs::File;
 use std::{env, io};
+use transfer::{RETRIES, write_whole};
 
 // The exit status where the words aren't understood.
 const NOT_UNDERSTOOD: u8 = 2;
 
 /// Does what the words of the command line ask for, and returns the exit status.
-pub fn run(rt: &HostRuntime) -> u8 {
-    let words = match words_of(rt) {
-        Ok(words) => words,
-        Err(error) if error.kind() == io::ErrorKind::OutOfMemory => {
-            return refused(rt, ProgramFault::Memory);
-        }
-        Err(_) => return misunderstood(rt, "error: a word of the command line is no text\n"),
+pub fn run(rt: &HostRuntime) -> u8
+    ensures { result ≤ 3 }
+{
+    let line = match words_of(rt) {
+        Ok(words) => line_of(rt.alloc(), words.as_slice()),
+        Err(fault) => Err(fault),
     };
-    match line_of(rt.alloc(), words.as_slice()) {
+    answer(rt, line)
+}
+
+// Does what a line asks for.
+fn answer(rt: &HostRuntime, line: Result<Line, LineFault>) -> u8
+    ensures refused { IfErr line (λ fault. result ≡ status_of_line_fault fault) }
+    ensures bound { result ≤ 3 }
+{
+    match line {
         Ok(Line::Holds { file }) => holds(rt, file.as_str()),
         Err(LineFault::Words(text)) => misunderstood(rt, text.as_str()),
-        Err(LineFault::Memory) => refused(rt, ProgramFault::Memory),
+        Err(LineFault::Memory) => refused(rt, AnyFault::from(ProgramFault::Memory)),
     }
 }
 
-// The words after the program's name.
-fn words_of(rt: &HostRuntime) -> io::Result<Vec<String>> {
-    Ok(env::args(rt)?.skip(1).collect(rt.alloc())?)
+// The words after the program's name. No clause can say which they are.
+fn words_of(rt: &HostRuntime) -> Result<Vec<String>, LineFault> {
+    match env::args(rt) {
+        Ok(words) => Ok(words.skip(1).collect(rt.alloc())?),
+        Err(error) if error.kind() == io::ErrorKind::OutOfMemory => Err(LineFault::Memory),
+        Err(_) => {
+            let text = "error: a word of the command line is no text\n";
+            Err(LineFault::Words(String::from_str(rt.alloc(), text)?))
+        }
+    }
 }
 
-fn holds(rt: &HostRuntime, file: &str) -> u8 {
+fn holds(rt: &HostRuntime, file: &str) -> u8
+    ensures { result ≤ 3 }
+{
     let (mut output, mut errors) = (rt.stdout(), rt.stderr());
-    if file == "-" {
+    if is_standard_input(file) {
         return run_holds(rt.alloc(), &mut rt.stdin(), &mut output, &mut errors);
     }
     match File::open(rt, file) {
         Ok(mut source) => run_holds(rt.alloc(), &mut source, &mut output, &mut errors),
-        Err(_) => refused(rt, ProgramFault::NotRead),
+        Err(_) => refused(rt, AnyFault::from(ProgramFault::NotRead)),
     }
 }
 
-fn refused(rt: &HostRuntime, fault: ProgramFault) -> u8 {
-    report(&mut rt.stderr(), fault);
-    fault.status()
+// Whether a FILE of the command line stands for standard input.
+fn is_standard_input(file: &str) -> bool
+    ensures { IsTrue result ↔ (file.now ≡ codes "-") }
+{
+    file == "-"
 }
 
-fn misunderstood(rt: &HostRuntime, text: &str) -> u8 {
-    let _ = write_text(&mut rt.stderr(), text.as_bytes(), &mut { RETRIES });
+// Tells a fault on standard error, and gives the exit status.
+fn refused(rt: &HostRuntime, fault: AnyFault) -> u8
+    ensures { result ≡ status_of fault.cause }
+{
+    report(&mut rt.stderr(), fault);
+    exit_status(fault)
+}
+
+// Tells why the words of the command line name no command that could be done.
+fn misunderstood(rt: &HostRuntime, text: &str) -> u8
+    ensures { result ≡ 2 }
+{
+    let _ = write_whole(&mut rt.stderr(), text.as_bytes(), &mut { RETRIES });
     NOT_UNDERSTOOD
 }

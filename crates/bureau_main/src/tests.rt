@@ -1,7 +1,8 @@
 //! Worked sources through `run_holds`, and readers and writers that fail.
 use crate::holds::{MOST_READ, run_holds};
 use crate::line::{Line, LineFault, line_of};
-use std::alloc::{AllocError, Global};
+use faults::NoMemory;
+use std::alloc::Global;
 use std::io::{self, ErrorKind, Read, Write};
 use std::test::Fail;
 
@@ -248,7 +249,7 @@ fn standard_error_that_fails_changes_nothing(rt: HostRuntime) {
     assert!(rt; output.is_empty() && errors.taken.as_slice() == b"FAULT ".as_slice());
 }
 
-fn words(alloc: Global, texts: &[&str]) -> Result<Vec<String>, AllocError> {
+fn words(alloc: Global, texts: &[&str]) -> Result<Vec<String>, NoMemory> {
     let mut words = Vec::new(alloc);
     for text in texts {
         words.push(String::from_str(alloc, text)?)?;
@@ -278,12 +279,13 @@ fn lines(rt: HostRuntime) -> Result<(), Fail> {
     let taken = words(alloc, &["holds", "-"])?;
     let file = file_in(line_of(alloc, taken.as_slice())).ok_or("no file")?;
     assert!(rt; file.as_str() == "-");
-    let refused: [(&[&str], &str); 5] = [
+    let refused: [(&[&str], &str); 6] = [
         (&["hold", "-"], "unrecognized subcommand 'hold'"),
         (&[], "requires a subcommand"),
         (&["holds"], "Usage: bureau holds <FILE>"),
         (&["holds", "a", "b"], "unexpected argument 'b'"),
         (&["--help"], "Usage: bureau <COMMAND>"),
+        (&["--version"], "bureau 0.1.0"),
     ];
     for (texts, told) in refused {
         let words = words(alloc, texts)?;

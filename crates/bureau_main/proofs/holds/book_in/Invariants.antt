@@ -1,5 +1,6 @@
 use Rattle.std.proofs.Common.{◌≡◌, List, []}
 use Rattle.std.specs.List.{flat_map}
+use Rattle.mcs_reader.specs.ReadingOf.{reading_of}
 use Rattle.mcs_reader.specs.Unread.{with_statements}
 use Rattle.mcs_reader.specs.declared.statement.Statement.{Statement}
 use Rattle.holddata.specs.HoldBook.{book_of}
@@ -9,7 +10,7 @@ use Rattle.bureau_main.proofs.holds.book_in.Given as goal
 -- the book is what the statements so far leave, and none of them has a fault
 abbrev pub invariant-statements : goal.invariant-statements
 invariant-statements l = (done : List Statement) × record {
-  read : l.initial.statements.reading ≡ with_statements done l.statements.reading;
+  read : reading_of l.source ≡ with_statements done l.statements.reading;
   faultless : flat_map faults_of done ≡ [];
   book : l.book ≡ book_of (changes_of done);
 }

@@ -1,15 +1,16 @@
--- One more statement that is done to a hold book.
-use Rattle.std.proofs.Common.{◌≡◌, ◌≢◌, ◌⊎◌, inl, inr, ℕ, List, [], ◌∷◌, ◌++◌, Some, Ok, Err, IsOk, refl, ◌∙◌, ap, subst}
+-- One more statement that is done to a hold book, or is refused.
+use Rattle.std.proofs.Common.{◌≡◌, ◌⊎◌, inl, inr, List, [], ◌∷◌, ◌++◌, Some, Ok, Err, IsOk, ◌∙◌, ap}
 use Rattle.std.proofs.lemmas.Grind.{flat_map-append}
 use Rattle.std.specs.List.{flat_map}
-use Rattle.mcs_reader.specs.Reading.{IsReading}
-use Rattle.mcs_reader.specs.Unread.{IsRead, Read, with_statements}
+use Rattle.mcs_reader.specs.Unread.{Read, with_statements}
 use Rattle.mcs_reader.specs.declared.statement.Statement.{Statement}
 use Rattle.mcs_reader.proofs.ReadSteps.{with_statements-append}
+use Rattle.faults.specs.Refusal.{IsRefusal}
 use Rattle.holddata.proofs.StatementLemmas.{first_of_longer}
 use Rattle.holddata.specs.Statements.{faults_of, first_fault, first_of}
 use Rattle.holddata.specs.declared.fault.HoldFault.{HoldFault}
-use Rattle.holddata.specs.declared.fault.HoldFault.TheVariants.{NoKind, TwoKinds, NoReason, BadId, BadDate, Memory}
+use Rattle.holddata.specs.declared.fault.HoldFault.TheVariants.{Memory}
+use Rattle.bureau_main.specs.Holds.{book_print, of_holds, print_of_read, IsMemory}
 
 pub read_more : (done : List Statement) (statement : Statement) (whole before left : Read) → whole ≡ with_statements done before → before ≡ with_statements (statement ∷ []) left
     → whole ≡ with_statements (done ++ statement ∷ []) left
@@ -26,27 +27,20 @@ first_behind done rest statement fault none first =
     ap first_of (flat_map-append faults_of done (statement ∷ rest) ∙ ap (λ faults. faults ++ flat_map faults_of (statement ∷ rest)) none)
     ∙ first_of_longer (faults_of statement) (flat_map faults_of rest) fault first
 
-memory_or : (fault : HoldFault) → (fault ≡ Memory) ⊎ (fault ≢ Memory)
-memory_or (NoKind line) = inr (λ e. cc)
-memory_or (TwoKinds line) = inr (λ e. cc)
-memory_or (NoReason line) = inr (λ e. cc)
-memory_or (BadId line) = inr (λ e. cc)
-memory_or (BadDate line) = inr (λ e. cc)
-memory_or Memory = inl refl
-
-abbrev IsFirstOf : List ℕ → HoldFault → Type 0
-IsFirstOf source fault = (statements : List Statement) × IsReading source statements × (first_fault statements ≡ Some fault)
-
--- a statement that is refused as a hold, where what is behind it is read
-pub refused : (source : List ℕ) (whole before left : Read) (done : List Statement) (statement : Statement) (fault : HoldFault) → IsRead source whole
+-- a statement is refused as a hold, where what is behind it is read
+refused : (whole before left : Read) (done : List Statement) (statement : Statement) (fault : HoldFault)
     → whole ≡ with_statements done before → before ≡ with_statements (statement ∷ []) left → flat_map faults_of done ≡ [] → IsOk left
-    → (fault ≢ Memory → first_of (faults_of statement) ≡ Some fault) → (fault ≡ Memory) ⊎ IsFirstOf source fault
-refused source whole before (Err other) done statement fault is read first none ok refuses = absurd (cc)
-refused source whole before (Ok rest) done statement fault is read first none ok refuses = by (memory_or fault) where
-  by : (fault ≡ Memory) ⊎ (fault ≢ Memory) → (fault ≡ Memory) ⊎ IsFirstOf source fault
-  by (inl memory) = inl memory
-  by (inr other) = inr (
-    done ++ statement ∷ rest,
-    subst (IsRead source) (read ∙ ap (with_statements done) first) is,
-    first_behind done rest statement fault none (refuses other),
-  )
+    → first_of (faults_of statement) ≡ Some fault → print_of_read whole ≡ Err (of_holds fault)
+refused whole before (Err other) done statement fault read first none ok refuses = absurd (cc)
+refused whole before (Ok rest) done statement fault read first none ok refuses =
+    ap print_of_read (read ∙ ap (with_statements done) first)
+    ∙ ap (λ fault. book_print fault (done ++ statement ∷ rest)) (first_behind done rest statement fault none refuses)
+
+-- what is told where a statement is refused as a hold
+pub told_of_hold : (whole before left : Read) (done : List Statement) (statement : Statement) (fault : HoldFault)
+    → whole ≡ with_statements done before → before ≡ with_statements (statement ∷ []) left → flat_map faults_of done ≡ [] → IsOk left
+    → IsRefusal Memory (λ (told : HoldFault). first_of (faults_of statement) ≡ Some told) fault → IsMemory (of_holds fault) ⊎ (print_of_read whole ≡ Err (of_holds fault))
+told_of_hold whole before left done statement fault read first none ok refusal = elim refusal [
+  | inl memory ↦ inl (inr (inl (ap of_holds memory)))
+  | inr refuses ↦ inr (refused whole before left done statement fault read first none ok refuses)
+]

@@ -1,0 +1,25 @@
+//! Texts for who runs the program. `README.md` has the same table with what to do.
+
+/// What `--version` tells.
+pub const VERSION: &str = "0.1.0";
+
+/// What stands below the commands in the text of `--help`.
+pub const STATUSES_AND_FAULTS: &str = "\
+Exit status: 0 done; 1 the input is refused; 2 the words are not understood, or ask for help or the version;
+3 the machine fails (a device, memory). Where it is 1 or 3, standard error has FAULT, a number and, where
+there is one, the line on which the statement begins.
+
+ 1 no period ends the statement, or ++ begins a line before it
+ 2 the list after the verb is missing, or is not one id
+ 3 parentheses do not match, or a comment does not end
+ 4 a character stands where it cannot
+ 5 the source has over 67,108,864 bytes
+11 a hold has no kind: ERROR, SYSTEM, USER or FIXCAT
+12 a hold has two kinds
+13 a hold has no REASON
+14 a name is not one id: 1 to 7 of A-Z 0-9 @ # $
+15 a DATE is not yyddd
+16 a CATEGORY is not one: 1 to 64 characters
+71 the file cannot be read
+72 the output cannot be written
+6, 17, 74 memory ran out";
