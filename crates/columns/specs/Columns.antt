@@ -1,5 +1,5 @@
 -- Text in columns, as reports print it. A column is a pair: the place where it begins, counted from 1, and
--- its name.
+-- its name. The first column begins at 1, so no blank stands before it.
 use Rattle.std.specs.Prelude.{ℕ, ◌-◌, List, [], ◌∷◌, ◌++◌, length, drop, replicate, map, codes, decimal, Option, Some, None}
 use Rattle.std.specs.Borrow.{Bor}
 use Rattle.std.specs.List.{flat_map}

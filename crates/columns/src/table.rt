@@ -32,6 +32,10 @@ impl<'a> Model for Table<'a> {
 
 impl<'a> Table<'a> {
     /// A table without rows: the title's line, where there is a title, and the line with the columns' names.
+    ///
+    /// # Errors
+    ///
+    /// Memory ran out.
     pub fn new(alloc: Global, columns: &'a [Column], title: Option<&[u8]>) -> Result<Self, NoMemory>
         ensures { IfOk result (λ table. table ≡ table_with (columns_of columns.now) (option_copied title.entry) []) }
     {
@@ -47,7 +51,11 @@ impl<'a> Table<'a> {
 
     /// Puts a row under those that stand: a field for each column, each with blanks after it up to where the
     /// next column begins. The field in the last column has none after it, and a field that is too long for
-    /// its column stands as it is. Where memory runs out, the table is as it was.
+    /// its column stands as it is.
+    ///
+    /// # Errors
+    ///
+    /// Memory ran out. The table is as it was.
     pub fn push(&mut self, fields: &[&[u8]]) -> Result<(), NoMemory>
         ensures row { OnOk result (self.new ≡ add_row self.old (texts_of fields.now)) }
         ensures rows { (columns : List (ℕ × List ℕ)) (title : Option (List ℕ)) (rows : List (List (List ℕ))) →
@@ -66,6 +74,10 @@ impl<'a> Table<'a> {
     }
 
     /// The whole text, which ends with the line that counts the rows.
+    ///
+    /// # Errors
+    ///
+    /// Memory ran out.
     pub fn finish(self) -> Result<Vec<u8>, NoMemory>
         ensures text { IfOk result (λ text. text.items ≡ finished self.entry) }
         ensures whole { (columns : List (ℕ × List ℕ)) (title : Option (List ℕ)) (rows : List (List (List ℕ))) →

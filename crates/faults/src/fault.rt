@@ -22,7 +22,8 @@ pub trait Fault: Copy {
     /// What is at fault.
     ghost cause: { Self → Cause };
 
-    /// The fault's number in print, from 1 to 99. No two reasons of the bureau have the same one.
+    /// The fault's number in print, from 1 to 99. Each crate's faults have numbers of their own, and want of memory
+    /// has one in each.
     fn number(self) -> u8
         ensures { result ≡ number self };
 

@@ -8,3 +8,4 @@ pub mod BookLemmas
 pub mod TextLemmas
 pub mod BookLaws
 pub mod DateLemmas
+pub mod BatchFacts

@@ -5,7 +5,7 @@ ghost use Rattle.std.specs.Map.Iter.{ShowsInOrder, deref};
 ghost use Rattle.holddata.specs.declared.key.HoldKey.{HoldKey};
 ghost use Rattle.holddata.specs.declared.hold.Hold.{Hold};
 ghost use Rattle.holddata.specs.declared.hold.HoldChange.{HoldChange};
-ghost use Rattle.holddata.specs.HoldChange.{hold_put};
+ghost use Rattle.holddata.specs.HoldChange.{hold_put, IsRearranged};
 ghost use Rattle.holddata.specs.HoldBook.{hold_under, holds_on, IsInKeyOrder, IsChanged, IsLeft, book_of};
 ghost use Rattle.holddata.specs.BookText.{book_text};
 ghost use Rattle.holddata.specs.Statements.{change_of, changes_of, faults_of, first_of};
@@ -14,6 +14,7 @@ ghost use Rattle.mcs_reader.specs.declared.statement.Statement.{Statement};
 ghost use Rattle.faults.specs.Refusal.{IsRefusal};
 
 use crate::map::{HoldMap, copied, hold_at, holds_around, make_change};
+use crate::place::place_of;
 use crate::print::{hold_table, push_hold};
 use crate::{BookPlace, Hold, HoldChange, HoldFault, HoldKey, NoMemory, change};
 use mcs_reader::{Id, Statement};
@@ -73,6 +74,10 @@ impl HoldBook {
     }
 
     /// The holds on a SYSMOD, in the order of their keys. It looks at no other holds.
+    ///
+    /// # Errors
+    ///
+    /// Memory ran out.
     pub fn holds_on(&self, sysmod: &Id) -> Result<Vec<Hold>, NoMemory>
         ensures { IfOk result (λ holds. holds.items ≡ holds_on self.now sysmod.now) }
     {
@@ -98,6 +103,10 @@ impl HoldBook {
     }
 
     /// The same book once more.
+    ///
+    /// # Errors
+    ///
+    /// Memory ran out.
     pub fn copy(&self) -> Result<Self, NoMemory>
         ensures { IfOk result (λ copy. copy ≡ self.now) }
     {
@@ -108,8 +117,11 @@ impl HoldBook {
     }
 
     /// Makes one change. A put replaces the hold of its key whole; a release takes its key away,
-    /// whatever the FMID, and does nothing where there is no such hold. Where memory runs out, which
-    /// a release never meets, the book is as it was.
+    /// whatever the FMID, and does nothing where there is no such hold.
+    ///
+    /// # Errors
+    ///
+    /// Memory ran out, which a release never meets. The book is as it was.
     pub fn apply(&mut self, change: HoldChange) -> Result<(), NoMemory>
         ensures changed { OnOk result (IsChanged change self.old self.new) }
         ensures left { OnOk result ((changes : List HoldChange) →
@@ -123,8 +135,11 @@ impl HoldBook {
         make_change(&mut self.holds, change)
     }
 
-    /// Does to the holds what one statement does (see [`change`]). Where it is refused, or memory runs
-    /// out, the book is as it was.
+    /// Does to the holds what one statement does (see [`change`]).
+    ///
+    /// # Errors
+    ///
+    /// The statement's fault with the lowest number, or [`HoldFault::Memory`]. The book is as it was.
     pub fn apply_statement(&mut self, statement: &Statement) -> Result<(), HoldFault>
         ensures changed { OnOk result ((change : HoldChange) → change_of statement.now ≡ Some change → IsChanged change self.old self.new) }
         ensures same { change_of statement.now ≡ None → self.new ≡ self.old }
@@ -142,8 +157,31 @@ impl HoldBook {
         Ok(())
     }
 
+    /// The book after more changes, in their order: what [`apply`](HoldBook::apply) makes of it with one after the
+    /// other. They are put in the order of their keys first, so that the book is gone through once.
+    ///
+    /// # Errors
+    ///
+    /// Memory ran out, and the book is gone.
+    pub fn with_changes(self, changes: Vec<HoldChange>) -> Result<Self, NoMemory>
+        ensures left { IfOk result (λ book. (before : List HoldChange) → IsLeft before self → IsLeft (before ++ changes.items) book) }
+        ensures book { IfOk result (λ book. (before : List HoldChange) → self ≡ book_of before → book ≡ book_of (before ++ changes.items)) }
+    {
+        let mut changes = changes;
+        sort_by_key(&mut changes)?;
+        let mut book = self;
+        for change in changes {
+            book.apply(change)?;
+        }
+        Ok(book)
+    }
+
     /// The book in print: a heading, a row for each hold in the order of the keys, and their count.
     /// Each line ends with LF. A field that is absent is `-`.
+    ///
+    /// # Errors
+    ///
+    /// Memory ran out.
     pub fn text(&self) -> Result<Vec<u8>, NoMemory>
         ensures { IfOk result (λ text. text.items ≡ book_text self.now) }
     {
@@ -158,14 +196,21 @@ impl HoldBook {
 
 /// The book that the changes leave: under each key what the last change that names the key puts, and
 /// nothing where that is a release or where none names it.
+///
+/// # Errors
+///
+/// Memory ran out.
 pub fn book_left(alloc: Global, changes: Vec<HoldChange>) -> Result<HoldBook, NoMemory>
     ensures book { IfOk result (λ book. book ≡ book_of changes.items) }
     ensures left { IsLeft changes.items (book_of changes.items) }
     ensures only { (book : List Hold) → IsLeft changes.items book → book ≡ book_of changes.items }
 {
-    let mut book = HoldBook::new(alloc);
-    for change in changes {
-        book.apply(change)?;
-    }
-    Ok(book)
+    HoldBook::new(alloc).with_changes(changes)
+}
+
+// Puts changes in the order of the keys that they name. Those that name one key stay in their order.
+fn sort_by_key(changes: &mut Vec<HoldChange>) -> Result<(), NoMemory>
+    ensures { IsRearranged changes.old.items changes.new.items }
+{
+    changes.sort_by_cached_key(|change| place_of(&change.key()))
 }

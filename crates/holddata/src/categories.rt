@@ -81,6 +81,10 @@ impl Categories {
     }
 
     /// The same categories once more.
+    ///
+    /// # Errors
+    ///
+    /// Memory ran out.
     pub fn copy(&self) -> Result<Self, NoMemory>
         ensures { IfOk result (λ copy. copy ≡ self.now) }
     {

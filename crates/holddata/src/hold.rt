@@ -1,5 +1,6 @@
 //! A hold, and what a statement does to the holds.
 ghost use Rattle.std.specs.Prelude.{◌≡◌, IfOk};
+ghost use Rattle.holddata.specs.HoldChange.{key_of};
 
 use crate::{Categories, Date, HoldKey, NoMemory};
 use mcs_reader::Id;
@@ -25,6 +26,10 @@ pub struct Hold {
 
 impl Hold {
     /// The same hold once more.
+    ///
+    /// # Errors
+    ///
+    /// Memory ran out.
     pub fn copy(&self) -> Result<Self, NoMemory>
         ensures { IfOk result (λ copy. copy ≡ self.now) }
     {
@@ -59,7 +64,21 @@ pub enum HoldChange {
 }
 
 impl HoldChange {
+    /// The key that the change names.
+    pub fn key(&self) -> HoldKey
+        ensures { result ≡ key_of self.now }
+    {
+        match self {
+            HoldChange::Put(hold) => hold.key,
+            HoldChange::Release(key) => *key,
+        }
+    }
+
     /// The same change once more.
+    ///
+    /// # Errors
+    ///
+    /// Memory ran out.
     pub fn copy(&self) -> Result<Self, NoMemory>
         ensures { IfOk result (λ copy. copy ≡ self.now) }
     {

@@ -1,5 +1,10 @@
 //! HOLDDATA: the holds that `++HOLD` statements put and `++RELEASE` statements take away, kept in a book by
 //! SYSMOD, kind and reason.
+//!
+//! [`change`] gives the [`HoldChange`] that a statement makes, if it makes one, or its [`HoldFault`]; [`changes`] says the
+//! same of a list. A [`HoldBook`] takes changes one by one or many at a time, and gives its [`Hold`]s by [`HoldKey`], by
+//! SYSMOD or in key order, and as text; [`book_left`] is the book that a list of changes leaves. [`Kind`], [`Date`] and
+//! [`Categories`] are parts of a hold. `specs/` says what each is: begin with its `HoldBook`.
 #![tactic(auto)]
 
 mod book;

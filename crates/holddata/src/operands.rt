@@ -1,11 +1,12 @@
 //! What the operands of a statement say of a hold.
-ghost use Rattle.std.specs.Prelude.{◌≡◌, ◌++◌, ℕ, List};
+ghost use Rattle.std.specs.Prelude.{◌≡◌, ◌++◌, ◌∷◌, [], ℕ, List};
 ghost use Rattle.std.specs.Option.{option_to_list};
 ghost use Rattle.std.specs.Str.{str_eq_ignore_ascii_case};
 ghost use Rattle.mcs_reader.specs.Bytes.{bytes_of_each};
-ghost use Rattle.mcs_reader.specs.Operand.{operand_texts};
-ghost use Rattle.holddata.specs.Operands.{kind_named, kinds_of, is_either, values_of};
-ghost use Rattle.holddata.specs.Given.{Shows, ShowsKinds};
+ghost use Rattle.mcs_reader.specs.Operand.{operand_text, operand_texts};
+ghost use Rattle.mcs_reader.specs.OperandText.{OperandText};
+ghost use Rattle.holddata.specs.Operands.{kind_named, is_either, named_values};
+ghost use Rattle.holddata.specs.Given.{IsGathered, Shows, ShowsKinds};
 ghost use Rattle.holddata.specs.declared.key.Kind.{Kind};
 
 use crate::Kind;
@@ -19,17 +20,56 @@ pub(crate) enum Given<T> {
     Several,
 }
 
-/// The values of all operands of this name.
-pub(crate) fn values_given<'a>(operands: &[Operand<'a>], name: &[u8]) -> Given<&'a [u8]>
-    ensures { Shows result (values_of name.now (operand_texts operands.now)) }
+/// What the operands of a statement give, by their names.
+#[derive(Clone, Copy)]
+pub(crate) struct Gathered<'a> {
+    pub(crate) kinds: Given<Kind>,
+    pub(crate) reason: Given<&'a [u8]>,
+    pub(crate) fmid: Given<&'a [u8]>,
+    pub(crate) class: Given<&'a [u8]>,
+    pub(crate) resolver: Given<&'a [u8]>,
+    pub(crate) date: Given<&'a [u8]>,
+}
+
+#[tactic(auto, using(crate::proofs::OperandLemmas::gathered_more))]
+/// What the operands give. They may be many, so they are gone through once.
+pub(crate) fn given_by_operands<'a>(operands: &[Operand<'a>]) -> Gathered<'a>
+    ensures { IsGathered result (operand_texts operands.now) }
 {
-    let mut given = Given::Nothing;
+    let mut given = Gathered {
+        kinds: Given::Nothing,
+        reason: Given::Nothing,
+        fmid: Given::Nothing,
+        class: Given::Nothing,
+        resolver: Given::Nothing,
+        date: Given::Nothing,
+    };
     for operand in operands {
-        if is_named(operand.name, name) {
-            given = joined(given, operand.values.as_slice());
-        }
+        gather(&mut given, operand);
     }
     given
+}
+
+// Puts what one more operand gives behind what was given.
+fn gather<'a>(given: &mut Gathered<'a>, operand: &Operand<'a>)
+    ensures { (seen : List OperandText) → IsGathered given.old seen → IsGathered given.new (seen ++ operand_text operand.now ∷ []) }
+{
+    given.kinds = with_kind(given.kinds, kind_named(operand.name));
+    given.reason = with_named(given.reason, operand, b"REASON");
+    given.fmid = with_named(given.fmid, operand, b"FMID");
+    given.class = with_named(given.class, operand, b"CLASS");
+    given.resolver = with_named(given.resolver, operand, b"RESOLVER");
+    given.date = with_named(given.date, operand, b"DATE");
+}
+
+fn with_named<'a>(given: Given<&'a [u8]>, operand: &Operand<'a>, name: &[u8]) -> Given<&'a [u8]>
+    ensures { (seen : List (List ℕ)) → Shows given.entry seen → Shows result (seen ++ named_values name.now (operand_text operand.now)) }
+{
+    if is_named(operand.name, name) {
+        joined(given, operand.values.as_slice())
+    } else {
+        given
+    }
 }
 
 fn joined<'a>(given: Given<&'a [u8]>, values: &[&'a [u8]]) -> Given<&'a [u8]>
@@ -53,18 +93,6 @@ fn given_by<'a>(values: &[&'a [u8]]) -> Given<&'a [u8]>
         [value] => Given::One(value),
         [_, _, ..] => Given::Several,
     }
-}
-
-/// The kinds of hold that operands name.
-#[tactic(auto, using(crate::proofs::OperandLemmas::kinds_more))]
-pub(crate) fn kinds_given(operands: &[Operand]) -> Given<Kind>
-    ensures { ShowsKinds result (kinds_of (operand_texts operands.now)) }
-{
-    let mut kinds = Given::Nothing;
-    for operand in operands {
-        kinds = with_kind(kinds, kind_named(operand.name));
-    }
-    kinds
 }
 
 // One kind named twice counts once.

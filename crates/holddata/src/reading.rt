@@ -1,8 +1,9 @@
 //! From statements to hold changes.
 ghost use Rattle.std.specs.Prelude.{◌≡◌, ◌≢◌, ◌↔◌, ℕ, true, false, List, [], ◌∷◌, codes, IfOk, OnOk, IfErr, OnErr, IsSome};
 ghost use Rattle.mcs_reader.specs.Operand.{operand_texts};
-ghost use Rattle.holddata.specs.Operands.{kinds_of, the_kind, values_of, is_bad_id, is_bad_date, the_id, the_date};
-ghost use Rattle.holddata.specs.Given.{Shows};
+ghost use Rattle.holddata.specs.Operands.{the_kind, values_of, is_bad_id, is_bad_date, the_id, the_date};
+ghost use Rattle.holddata.specs.Given.{IsGathered, Shows, ShowsKinds};
+ghost use Rattle.holddata.specs.declared.key.Kind.{Kind};
 ghost use Rattle.holddata.specs.Statements.{key_named, hold_of, kind_faults, key_faults, faults_of, first_of, first_fault, change_of, changes_of};
 ghost use Rattle.mcs_reader.specs.declared.statement.Statement.{Statement};
 ghost use Rattle.mcs_reader.specs.declared.statement.Verb.TheVariants as verb;
@@ -13,15 +14,16 @@ ghost use Rattle.mcs_reader.specs.Category.{is_category};
 ghost use Rattle.holddata.specs.Categories.{in_order, IsInOrder};
 
 use crate::category_values::{are_categories_given, category_set};
-use crate::operands::{Given, kinds_given, values_given};
+use crate::operands::{Gathered, Given, given_by_operands};
 use crate::{Categories, Date, Hold, HoldChange, HoldFault, HoldKey, Kind};
 use mcs_reader::{Id, Operand, Statement, Verb};
 use std::alloc::Global;
 
 /// What the statements do to the holds, in order (IBM z/OS SMP/E Reference, `++HOLD`, `++RELEASE`).
 ///
-/// The first statement with a fault decides, and in it the fault with the lowest number. Want of
-/// memory is [`HoldFault::Memory`].
+/// # Errors
+///
+/// The fault with the lowest number of the first statement that has a fault, or [`HoldFault::Memory`].
 #[tactic(auto, using(crate::proofs::StatementLemmas::first_of_longer))]
 pub fn changes(alloc: Global, statements: &[Statement]) -> Result<Vec<HoldChange>, HoldFault>
     ensures changes { IfOk result (λ changes. changes.items ≡ changes_of statements.now) }
@@ -44,6 +46,10 @@ pub fn changes(alloc: Global, statements: &[Statement]) -> Result<Vec<HoldChange
 }
 
 /// What one statement does to the holds, or `None` where it does nothing to them.
+///
+/// # Errors
+///
+/// The statement's fault with the lowest number, or [`HoldFault::Memory`].
 pub fn change(alloc: Global, statement: &Statement) -> Result<Option<HoldChange>, HoldFault>
     ensures change { IfOk result (λ change. change ≡ change_of statement.now) }
     ensures no_fault { OnOk result (faults_of statement.now ≡ []) }
@@ -64,13 +70,14 @@ fn hold_by(alloc: Global, statement: &Statement) -> Result<Hold, HoldFault>
     ensures no_fault { OnOk result (faults_of statement.now ≡ []) }
     ensures fault { IfErr result (IsRefusal Memory (λ fault. first_of (faults_of statement.now) ≡ Some fault)) }
 {
-    let key = key_by(statement)?;
-    let line = statement.line;
     let operands = statement.operands.as_slice();
-    let fmid = optional_id(line, values_given(operands, b"FMID"))?;
-    let class = optional_id(line, values_given(operands, b"CLASS"))?;
-    let resolver = optional_id(line, values_given(operands, b"RESOLVER"))?;
-    let dated = optional_date(line, values_given(operands, b"DATE"))?;
+    let given = given_by_operands(operands);
+    let key = key_by(statement, &given)?;
+    let line = statement.line;
+    let fmid = optional_id(line, given.fmid)?;
+    let class = optional_id(line, given.class)?;
+    let resolver = optional_id(line, given.resolver)?;
+    let dated = optional_date(line, given.date)?;
     let categories = categories_in(alloc, line, operands)?;
     Ok(Hold {
         key,
@@ -91,11 +98,9 @@ fn released_by(statement: &Statement) -> Result<HoldKey, HoldFault>
     ensures no_fault { OnOk result (faults_of statement.now ≡ []) }
     ensures fault { IfErr result (λ fault. first_of (faults_of statement.now) ≡ Some fault) }
 {
-    let key = key_by(statement)?;
-    optional_id(
-        statement.line,
-        values_given(statement.operands.as_slice(), b"FMID"),
-    )?;
+    let given = given_by_operands(statement.operands.as_slice());
+    let key = key_by(statement, &given)?;
+    optional_id(statement.line, given.fmid)?;
     Ok(key)
 }
 
@@ -115,15 +120,15 @@ fn categories_in(alloc: Global, line: u32, operands: &[Operand]) -> Result<Categ
 }
 
 // The key that a statement names.
-fn key_by(statement: &Statement) -> Result<HoldKey, HoldFault>
+fn key_by(statement: &Statement, given: &Gathered) -> Result<HoldKey, HoldFault>
+    requires { IsGathered given.now statement.now.operands }
     ensures key { IfOk result (λ key. key_named statement.now ≡ Some key) }
     ensures no_fault { OnOk result (key_faults statement.now ≡ []) }
     ensures fault { IfErr result (λ fault. first_of (key_faults statement.now) ≡ Some fault) }
 {
     let line = statement.line;
-    let operands = statement.operands.as_slice();
-    let kind = kind_in(line, operands)?;
-    let reason = reason_in(line, operands)?;
+    let kind = kind_in(line, given.kinds)?;
+    let reason = reason_in(line, given.reason)?;
     let sysmod = statement.subject.ok_or(HoldFault::BadId(line))?;
     Ok(HoldKey {
         sysmod,
@@ -132,26 +137,26 @@ fn key_by(statement: &Statement) -> Result<HoldKey, HoldFault>
     })
 }
 
-// The kind that operands name.
-fn kind_in(line: u32, operands: &[Operand]) -> Result<Kind, HoldFault>
-    ensures kind { IfOk result (λ kind. the_kind (kinds_of (operand_texts operands.now)) ≡ Some kind) }
-    ensures no_fault { OnOk result (kind_faults line (kinds_of (operand_texts operands.now)) ≡ []) }
-    ensures fault { IfErr result (λ fault. kind_faults line (kinds_of (operand_texts operands.now)) ≡ fault ∷ []) }
+// The kind that is named.
+fn kind_in(line: u32, given: Given<Kind>) -> Result<Kind, HoldFault>
+    ensures kind { (kinds : List Kind) → ShowsKinds given kinds → IfOk result (λ kind. the_kind kinds ≡ Some kind) }
+    ensures no_fault { (kinds : List Kind) → ShowsKinds given kinds → OnOk result (kind_faults line kinds ≡ []) }
+    ensures fault { (kinds : List Kind) → ShowsKinds given kinds → IfErr result (λ fault. kind_faults line kinds ≡ fault ∷ []) }
 {
-    match kinds_given(operands) {
+    match given {
         Given::Nothing => Err(HoldFault::NoKind(line)),
         Given::One(kind) => Ok(kind),
         Given::Several => Err(HoldFault::TwoKinds(line)),
     }
 }
 
-// The one id that the operand REASON gives.
-fn reason_in(line: u32, operands: &[Operand]) -> Result<Id, HoldFault>
-    ensures reason { IfOk result (λ reason. the_id (values_of (codes "REASON") (operand_texts operands.now)) ≡ Some reason) }
-    ensures missing { (result ≡ Err (NoReason line)) ↔ (values_of (codes "REASON") (operand_texts operands.now) ≡ []) }
-    ensures bad { OnErr result (values_of (codes "REASON") (operand_texts operands.now) ≢ [] → (result ≡ Err (BadId line)) × (is_bad_id (values_of (codes "REASON") (operand_texts operands.now)) ≡ true)) }
+// The one id that is given as the reason.
+fn reason_in(line: u32, given: Given<&[u8]>) -> Result<Id, HoldFault>
+    ensures reason { (values : List (List ℕ)) → Shows given.entry values → IfOk result (λ reason. the_id values ≡ Some reason) }
+    ensures missing { (values : List (List ℕ)) → Shows given.entry values → (result ≡ Err (NoReason line)) ↔ (values ≡ []) }
+    ensures bad { (values : List (List ℕ)) → Shows given.entry values → OnErr result (values ≢ [] → (result ≡ Err (BadId line)) × (is_bad_id values ≡ true)) }
 {
-    let id = optional_id(line, values_given(operands, b"REASON"))?;
+    let id = optional_id(line, given)?;
     id.ok_or(HoldFault::NoReason(line))
 }
 

@@ -1,9 +1,9 @@
 -- What padding does to an id's text, and what such a text is made of.
-use Rattle.std.proofs.Common.{◌≡◌, ℕ, zero, suc, ◌-◌, ◌<◌, ◌≤◌, ◌==◌, ◌&&◌, ◌⊎◌, ◌∙◌, Bool, true, false, not, cond, if◌then◌else◌, List, [], ◌∷◌, ◌++◌, length, take, drop, replicate, refl, ap, arith, Some, None, codes}
+use Rattle.std.proofs.Common.{◌≡◌, ℕ, zero, suc, ◌+◌, ◌-◌, ◌<◌, ◌≤◌, ◌==◌, ◌&&◌, ◌⊎◌, ◌∙◌, Bool, true, false, not, cond, if◌then◌else◌, List, [], ◌∷◌, ◌++◌, length, take, drop, replicate, refl, ap, arith, Some, None, codes}
 use Rattle.std.specs.List.{list_all, prefix_len, take_while}
 use Rattle.std.specs.Str.{IsAscii}
 use Rattle.std.proofs.lemmas.Bool.Decides.{nat_tests}
-use Rattle.std.proofs.lemmas.List.{drop-replicate}
+use Rattle.std.proofs.lemmas.List.{drop-replicate, length-append, length-replicate}
 use Rattle.std.proofs.lemmas.List.Sums.{take_while-cons, prefix_len-le-length}
 use Rattle.std.proofs.lemmas.Str.Ascii.{IsAscii-nil, IsAscii-cons}
 use Rattle.mcs_reader.specs.Id.{id_of, is_id_byte, is_id_text, padded, text_of, IsId}
@@ -14,9 +14,12 @@ id_byte-no_blank b allowed = grind (arith, nat_tests)
 id_byte-ascii : (b : ℕ) → is_id_byte b ≡ true → b < 128
 id_byte-ascii b allowed = grind (arith, nat_tests)
 
-both : (x y : Bool) → (x && y) ≡ true → (x ≡ true) × (y ≡ true)
+pub both : (x y : Bool) → (x && y) ≡ true → (x ≡ true) × (y ≡ true)
 both true y h = (refl, h)
 both false y h = absurd (cc)
+
+pub id_byte_below : (b : ℕ) → is_id_byte b ≡ true → b < 256
+id_byte_below b allowed = grind (arith, nat_tests)
 
 -- the length of an id's text, taken from the test
 pub id_text_in_range : (t : List ℕ) → 0 < length t → length t ≤ 7 → is_id_text t ≡ list_all is_id_byte t
@@ -25,7 +28,7 @@ id_text_in_range t some few = grind (arith, nat_tests)
 pub id_text_out_of_range : (t : List ℕ) → (length t ≡ 0) ⊎ (7 < length t) → is_id_text t ≡ false
 id_text_out_of_range t outside = grind (arith, nat_tests)
 
-id_bytes : (t : List ℕ) → is_id_text t ≡ true → list_all is_id_byte t ≡ true
+pub id_bytes : (t : List ℕ) → is_id_text t ≡ true → list_all is_id_byte t ≡ true
 id_bytes t allowed = grind (arith, nat_tests)
 
 ascii_id_bytes : (t : List ℕ) → list_all is_id_byte t ≡ true → IsAscii t
@@ -75,6 +78,19 @@ text_over_blanks t xs allowed same =
 pub id_over_blanks : (t xs : List ℕ) → is_id_text t ≡ true → xs ≡ t → IsId (xs ++ drop (length t) (replicate 7 32))
 id_over_blanks t xs allowed same =
     rw (text_over_blanks t xs allowed same) (allowed, rw same (padded_over_blanks t))
+
+-- an id has seven bytes
+pub id_len : (bytes : List ℕ) → IsId bytes → length bytes ≡ 7
+id_len bytes is = ap length is.1 ∙ length-append t (replicate (7 - length t) 32) ∙ ap (λ n. length t + n) (length-replicate (7 - length t) 32) ∙ whole (few t is.0)
+  where
+    t : List ℕ
+    t = text_of bytes
+
+    few : (t : List ℕ) → is_id_text t ≡ true → length t ≤ 7
+    few t allowed = grind (arith, nat_tests)
+
+    whole : length t ≤ 7 → length t + (7 - length t) ≡ 7
+    whole le = omega arith
 
 -- Worked examples: UA1, and texts that are too long, empty, in small letters, or hold a blank.
 example-short : id_of (codes "UA1") ≡ Some (codes "UA1    ")

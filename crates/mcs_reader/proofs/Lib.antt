@@ -20,3 +20,4 @@ pub mod Outside
 pub mod AnySteps
 pub mod SourceSteps
 pub mod Examples
+pub mod IdOrder

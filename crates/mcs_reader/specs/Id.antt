@@ -1,5 +1,5 @@
 -- Ids: the names of SYSMODs, FMIDs, reasons, classes, zones and callers.
-use Rattle.std.specs.Prelude.{◌≡◌, ℕ, ◌-◌, ◌==◌, ◌||◌, ◌&&◌, Bool, List, [], ◌∷◌, ◌++◌, length, replicate, nat_le, IsTrue, Option, Some, None, if◌then◌else◌}
+use Rattle.std.specs.Prelude.{◌≡◌, ℕ, ◌+◌, ◌-◌, ◌*◌, ◌==◌, ◌||◌, ◌&&◌, Bool, List, [], ◌∷◌, ◌++◌, length, replicate, nat_le, IsTrue, Option, Some, None, if◌then◌else◌}
 use Rattle.std.specs.List.{list_all}
 
 -- A to Z, 0 to 9, @, # and $
@@ -26,3 +26,8 @@ text_of (b ∷ bs) = if b == 32 then [] else b ∷ text_of bs
 -- the seven bytes of an id: an id's text, padded
 abbrev pub IsId : List ℕ → Type 0
 IsId bytes = IsTrue (is_id_text (text_of bytes)) × (bytes ≡ padded (text_of bytes))
+
+-- Serves private contracts alone: the number whose digits to the base 256 the bytes are, behind those of n.
+abbrev pub number : ℕ → List ℕ → ℕ
+number n [] = n
+number n (b ∷ bs) = number (n * 256 + b) bs

@@ -1,8 +1,11 @@
 //! `Id`.
-ghost use Rattle.std.specs.Prelude.{◌≡◌, ◌==◌, ◌↔◌, not, IsAscii, IsTrue, IsSome, IfSome};
+ghost use Rattle.std.specs.Prelude.{◌≡◌, ◌==◌, ◌↔◌, not, refl, Some, IsAscii, IsTrue, IsSome, IfSome};
+ghost use Rattle.std.specs.Ordering.{nat_cmp};
+ghost use Rattle.std.specs.Cmp.Lexicographic.{slice_cmp, nat_list_cmp_total, texts_po, texts_ties};
 ghost use Rattle.std.specs.List.{list_all, prefix_len};
-ghost use Rattle.mcs_reader.specs.Id.{id_of, is_id_byte, is_id_text, padded, text_of};
+ghost use Rattle.mcs_reader.specs.Id.{id_of, is_id_byte, is_id_text, number, padded, text_of};
 
+use std::cmp::Ordering;
 use std::marker::Model;
 use std::{fmt, str};
 
@@ -11,7 +14,7 @@ use std::{fmt, str};
 ///
 /// Ids are ordered by the ASCII codes of their texts, padded with blanks to seven characters.
 /// A contract sees an id as these seven bytes.
-#[derive(Clone, Copy, Debug, PartialEq, Eq, PartialOrd, Ord, Hash)]
+#[derive(Clone, Copy, Debug, PartialEq, Eq, Hash)]
 pub struct Id {
     bytes: [u8; 7],
 }
@@ -64,6 +67,42 @@ impl Id {
         let (text, _) = self.bytes.split_at(text_len(&self.bytes));
         text
     }
+}
+
+impl PartialOrd for Id {
+    ghost partial_cmp = { λ a b. Some (slice_cmp nat_cmp a b) };
+
+    ghost laws = { texts_po };
+
+    fn partial_cmp(&self, other: &Id) -> Option<Ordering> {
+        Some(self.cmp(other))
+    }
+}
+
+impl Ord for Id {
+    ghost cmp = { slice_cmp nat_cmp };
+
+    ghost total = { nat_list_cmp_total };
+
+    ghost matches_partial_cmp = { λ a b. refl };
+
+    ghost matches_eq = { texts_ties };
+
+    // One comparison of two numbers, in place of one for each byte.
+    #[inline]
+    fn cmp(&self, other: &Id) -> Ordering {
+        number_of(&self.bytes).cmp(&number_of(&other.bytes))
+    }
+}
+
+// The number whose digits to the base 256 the bytes are.
+#[inline]
+fn number_of(bytes: &[u8; 7]) -> u64
+    ensures { result ≡ number 0 bytes.now }
+{
+    let high = u32::from_be_bytes([bytes[0], bytes[1], bytes[2], bytes[3]]);
+    let middle = u16::from_be_bytes([bytes[4], bytes[5]]);
+    u64::from(high) * 0x100_0000 + u64::from(middle) * 0x100 + u64::from(bytes[6])
 }
 
 impl fmt::Display for Id {

@@ -19,9 +19,13 @@ pub const MOST_BYTES: usize = 67_108_864;
 /// line with `++` in columns 1 and 2 begins a statement, which ends with a period. Lines between
 /// statements are skipped, and so is a statement whose verb isn't a [`Verb`](crate::Verb), up to the
 /// next line that begins with `++`. Comments are passed over, and so is the list of an operand COMMENT, in
-/// which only parentheses count. Names and values are slices of the source. Nothing is returned of a
-/// source in which any statement has a fault: the first one that has one decides, and in it the first
-/// place at which the text can't go on, or else its subject (SMP/E Reference, "MCS coding rules").
+/// which only parentheses count. Names and values are slices of the source (SMP/E Reference, "MCS coding rules").
+///
+/// # Errors
+///
+/// The source's first fault: [`McsFault::TooLong`] where it has more than [`MOST_BYTES`] bytes; else that of the first
+/// statement that has one, and in it the first place at which the text can't go on, or else its subject. Nothing is
+/// returned of the other statements. [`McsFault::Memory`] where memory runs out.
 pub fn read(alloc: Global, source: &[u8]) -> Result<Vec<Statement<'_>>, McsFault>
     // What is returned is the source's reading, or its first fault.
     ensures reading { IfOk result (λ statements. IsReading source.now statements.items) }

@@ -46,7 +46,11 @@ impl<'a> Model for Statements<'a> {
 }
 
 impl<'a> Statements<'a> {
-    /// All statements of a source, or [`McsFault::TooLong`]. It takes no memory.
+    /// All statements of a source. It takes no memory.
+    ///
+    /// # Errors
+    ///
+    /// [`McsFault::TooLong`] where the source has more than [`MOST_BYTES`](crate::MOST_BYTES) bytes.
     pub fn new(alloc: Global, source: &'a [u8]) -> Result<Self, McsFault>
         ensures reading { IfOk result (λ statements. IsRead source.now statements.reading) }
         ensures fault { IfErr result (λ fault. IsFirstFault source.now fault) }
@@ -64,8 +68,12 @@ impl<'a> Statements<'a> {
         })
     }
 
-    /// The next statement, or `None` at the end of the source. At the end, and where the statement is
-    /// refused, what is left stays as it was: so the next call answers the same.
+    /// The next statement, or `None` at the end of the source, where what is left stays as it was.
+    ///
+    /// # Errors
+    ///
+    /// The statement's fault, or [`McsFault::Memory`]. What is left stays as it was, so the next call answers the same
+    /// where memory doesn't run out.
     pub fn next(&mut self) -> Result<Option<Statement<'a>>, McsFault>
         ensures next { IfOk result (λ next. MatchOption next
             (self.old.reading ≡ Ok [])
@@ -82,7 +90,11 @@ impl<'a> Statements<'a> {
         Ok(next)
     }
 
-    /// Reads what is left, keeps none of it, and says whether any of it is refused.
+    /// Reads what is left and keeps none of it.
+    ///
+    /// # Errors
+    ///
+    /// The first fault of what is left, or [`McsFault::Memory`].
     pub fn finish(self) -> Result<(), McsFault>
         ensures ok { OnOk result (IsOk self.entry.reading) }
         ensures fault { IfErr result (λ fault. fault ≢ Memory → self.entry.reading ≡ Err fault) }

@@ -1,5 +1,5 @@
 -- What a transfer leaves where it fails.
-use Rattle.std.specs.Prelude.{◌≡◌, ℕ, List, ◌++◌, length, take, Option}
+use Rattle.std.specs.Prelude.{◌≡◌, ℕ, ◌≤◌, List, ◌++◌, length, take, Option}
 use Rattle.std.specs.Io.KnownBytes.{Appends, Consumes}
 use Rattle.std.specs.IoError.{error_kind}
 use Rattle.std.specs.declared.io.ErrorKind.TheVariants.{Interrupted}
@@ -11,9 +11,9 @@ abbrev pub IsGivenUp : TransferFault → ℕ → Type 0
 IsGivenUp (Read error) retries = error_kind error ≡ Interrupted → retries ≡ 0
 IsGivenUp Memory retries = Unit {0}
 
--- some of the known bytes were read, from their front
-abbrev pub ConsumesSome : Option (List ℕ) → Option (List ℕ) → Type 0
-ConsumesSome old new = (bytes : List ℕ) × Consumes old new bytes
+-- at most n of the known bytes were read, from their front
+abbrev pub ConsumesUpTo : ℕ → Option (List ℕ) → Option (List ℕ) → Type 0
+ConsumesUpTo n old new = (bytes : List ℕ) × (length bytes ≤ n) × Consumes old new bytes
 
 -- the known bytes grew by a front part of a text
 abbrev pub AppendsFront : Option (List ℕ) → Option (List ℕ) → List ℕ → Type 0

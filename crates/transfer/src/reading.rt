@@ -3,7 +3,7 @@ ghost use Rattle.std.specs.Prelude.{◌≡◌, ◌≢◌, ℕ, ◌<◌, ◌≤�
 ghost use Rattle.std.specs.Io.{ReadsAtMost};
 ghost use Rattle.std.specs.Io.KnownBytes.{Keeps, Consumes, IsAtEnd};
 ghost use Rattle.std.specs.IoError.{error_kind};
-ghost use Rattle.transfer.specs.Transfer.{IsGivenUp, ConsumesSome};
+ghost use Rattle.transfer.specs.Transfer.{IsGivenUp, ConsumesUpTo};
 
 use crate::{Intake, TransferFault};
 use std::alloc::Global;
@@ -28,7 +28,7 @@ pub fn read_source<R: Read>(
     ensures within { IfOk result (λ source. length source.items ≤ limit) }
     ensures whole { IfOk result (λ source. length source.items < limit → IsAtEnd (R.remaining reader.new)) }
     ensures front { IfOk result (λ source. IfSome (R.remaining reader.old) (λ input. source.items ≡ take limit input)) }
-    ensures err { OnErr result (ConsumesSome (R.remaining reader.old) (R.remaining reader.new)) }
+    ensures err { OnErr result (ConsumesUpTo limit (R.remaining reader.old) (R.remaining reader.new)) }
     ensures given_up { IfErr result (λ fault. IsGivenUp fault retries.new) }
     ensures counted { retries.new ≤ retries.old }
 {

@@ -34,6 +34,10 @@ impl Model for Pattern {
 
 impl Pattern {
     /// The pattern with this text, or `None` where the text is none.
+    ///
+    /// # Errors
+    ///
+    /// Memory ran out.
     pub fn new(alloc: Global, text: &[u8]) -> Result<Option<Pattern>, NoMemory>
         ensures { IfOk result (λ made. made ≡ Spec.pattern_of text.now) }
     {
@@ -52,7 +56,11 @@ impl Pattern {
         &self.text
     }
 
-    /// The same pattern again.
+    /// The same pattern once more.
+    ///
+    /// # Errors
+    ///
+    /// Memory ran out.
     pub fn copy(&self) -> Result<Pattern, NoMemory>
         ensures { IfOk result (λ copy. copy ≡ self.now) }
     {
