@@ -1,3 +1,5 @@
+mod Examples
 pub mod CallerFacts
+pub mod ProperFacts
 pub mod StoreFacts
 pub mod TableFacts

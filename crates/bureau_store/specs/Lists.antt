@@ -3,7 +3,7 @@ use Rattle.std.specs.Prelude.{◌≡◌, ℕ, List, [], unwrap_or, refl}
 use Rattle.std.proofs.Common.{◌∙◌, arith, ap}
 use Rattle.std.specs.Map.{lookup}
 use Rattle.std.specs.Str.{bytes_eq}
-use Rattle.catalogue.specs.Content.{Content}
+use Rattle.catalogue.specs.Content.{Content, IsInOrder}
 use Rattle.catalogue.specs.Published.{Keeps}
 use Rattle.bureau_store.specs.Effect.{Effect, received_after, zones_after}
 use Rattle.bureau_store.specs.Tables.{AreInOrder, LastChange, Tables, Zones, no_change}
@@ -53,13 +53,13 @@ client_after effect last client = record {
   received = received_after effect client.received;
 }
 
--- ---- how a store in lists is looked at: clean and open always, failing never, ours where it is in order
+-- ---- how a store in lists is looked at: clean and open always, failing never, and in order, as each of them is
 
 abbrev pub Always : Lists → Type 0
 Always lists = Unit {0}
 
-abbrev pub IsOurs : Lists → Type 0
-IsOurs lists = AreInOrder (tables_of lists)
+pub record IsOurs (lists : Lists) : Type 0 where
+  pub in_order : AreInOrder (tables_of lists)
 
 abbrev pub never : Lists → ℕ
 never lists = 0
@@ -92,4 +92,7 @@ pub lists_content : (lists : Lists) → (tables_of lists).content ≡ lists.cont
 lists_content lists = refl
 
 pub lists_in_order : (lists : Lists) → IsOurs lists → AreInOrder (tables_of lists)
-lists_in_order lists ours = ours
+lists_in_order lists ours = ours.in_order
+
+pub lists_content_in_order : (lists : Lists) → IsOurs lists → IsInOrder lists.content
+lists_content_in_order lists ours = ours.in_order.content

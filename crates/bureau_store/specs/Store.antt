@@ -22,6 +22,11 @@ pub record Makes {Store Held Done : Type 0} (is_clean is_ours is_open : Store �
   pub acknowledged : OnOk answer (is_ours old → is_clean new → is_open new)
   pub refused : OnErr answer (is_ours old → is_clean new → (this : Held) → Stands is_open held old this → Stands is_open held new this)
 
--- a fault of the device is told only where one came
-abbrev pub FailsForCause : {Store Answer : Type 0} → (Store → ℕ) → Store → Store → Result Answer StoreFault → Type 0
-FailsForCause failures old new answer = IsErrOf answer Device → HasFailed failures old new
+-- a fault of the device is told only where one came, and shuts the store
+abbrev pub FailsForCause : {Store Answer : Type 0} → (Store → Type 0) → (Store → ℕ) → Store → Store → Result Answer StoreFault → Type 0
+FailsForCause is_open failures old new answer = IsErrOf answer Device → HasFailed failures old new × (is_open new → ⊥)
+
+-- a store that is shut answers nothing else, and nothing else shuts one
+abbrev pub ShutsByFault : {Store Answer : Type 0} → (is_open : Store → Type 0) → Store → Store → Result Answer StoreFault → Type 0
+ShutsByFault is_open old new answer =
+    ((is_open old → ⊥) → IsErrOf answer Device) × ((IsErrOf answer Device → ⊥) → is_open old → is_open new)

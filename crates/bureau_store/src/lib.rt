@@ -7,12 +7,17 @@
 //! - [`StoreFault`], [`CallerFault`]: why a store doesn't do what it is asked, and why no callers file is read
 #![tactic(auto)]
 
+mod by_token;
 mod caller;
 mod callers_file;
+mod clients;
 mod fault;
+mod held;
 mod kept;
 mod list_store;
 mod store;
+#[cfg(test)]
+mod tests;
 
 pub use caller::{Caller, CallerRow, Token};
 pub use callers_file::{CALLER_RECORDS, callers};

@@ -1,40 +1,36 @@
 //! The store in lists.
-ghost use Rattle.std.specs.Prelude.{◌≡◌, ◌==◌, ◌&&◌, ◌||◌, ℕ, List, ◌∷◌, length, map, filter, option_copied, option_map, unwrap_or, IfOk, IfErr, IfSome, OnOk, OnErr, if◌then◌else◌};
-ghost use Rattle.std.specs.BTreeMap.{is_at};
+ghost use Rattle.std.specs.Prelude.{◌≡◌, length, map, option_copied, option_map, IfOk, IfErr, IfSome, OnOk, OnErr};
 ghost use Rattle.std.specs.Cmp.Lexicographic.{slice_cmp};
-ghost use Rattle.std.specs.List.{list_any};
 ghost use Rattle.std.specs.List.Sorted.{IsStrictlySortedBy};
-ghost use Rattle.std.specs.Map.{keys_of};
 ghost use Rattle.std.specs.Ordering.{nat_cmp};
-ghost use Rattle.std.specs.Str.{bytes_eq};
 ghost use Rattle.holddata.specs.HoldBook.{IsInKeyOrder};
-ghost use Rattle.holddata.specs.HoldKey.{kind_place};
 ghost use Rattle.zone_lists.specs.ZoneList.{RowsAscend};
 ghost use Rattle.catalogue.specs.Content.{ids_of, record_of, superseders, holds_on};
-ghost use Rattle.catalogue.specs.Ids.{Ascend, same_id};
-ghost use Rattle.bureau_store.specs.Caller.{caller_named, caller_with};
+ghost use Rattle.catalogue.specs.Ids.{Ascend};
+ghost use Rattle.bureau_store.specs.Caller.{IsProper, caller_with};
 ghost use Rattle.bureau_store.specs.Effect.{publication, zone_put, zone_dropped, received_put, patterns_put, tables_after};
 ghost use Rattle.bureau_store.specs.Held.{held_in};
-ghost use Rattle.zone_lists.specs.Installed.{is_installed, is_installed_state};
-ghost use Rattle.bureau_store.specs.Kept.{IsFit, KnowsTokens, effect_of};
-ghost use Rattle.bureau_store.specs.Lists.{Always, IsOurs, Lists, client_after, client_in, last_in, never, nothing_sent, tables_of};
-ghost use Rattle.bureau_store.specs.Tables.{AreInOrder, name_order, opened, patterns_of, rows_of, zone_named};
+ghost use Rattle.bureau_store.specs.Kept.{IsFit, effect_of};
+ghost use Rattle.bureau_store.specs.Lists.{IsOurs, Lists, client_in, last_in, tables_of};
+ghost use Rattle.bureau_store.specs.Tables.{name_order, opened, patterns_of, rows_of, zone_named};
 ghost use Rattle.bureau_store.specs.declared.caller.Caller.TheVariants.{Client as OfClient, Publisher as OfPublisher};
 ghost use Rattle.bureau_store.specs.declared.caller.CallerRow.{CallerRow};
 ghost use Rattle.bureau_store.specs.declared.fault.StoreFault.TheVariants.{Memory};
 ghost use Rattle.catalogue.specs.declared.fault.SourceFault.TheVariants.{Memory as SourceMemory};
 
-use crate::callers_file::is_publisher;
+use crate::by_token::{callers_by_token, rows_copied};
+use crate::clients::{client_of, counted_in_order, make_for};
+use crate::held::held_among;
 use crate::kept::{Client, Last, Put, Zone, copied, zone_of};
 use crate::{Caller, CallerRow, Store, StoreFault};
 use catalogue::{Change, ListPublished, Published, SourceFault, Sysmod};
 use faults::NoMemory;
-use holddata::{Hold, HoldBook, Kind};
+use holddata::{Hold, Kind};
 use mcs_reader::Id;
 use std::alloc::Global;
-use std::collections::{BTreeMap, BTreeSet};
+use std::collections::BTreeMap;
 use std::marker::Model;
-use zone_lists::{Pattern, ZoneRow, ZoneState};
+use zone_lists::{Pattern, ZoneRow};
 
 /// All that the bureau keeps, in lists. A contract sees the lists; their tables are `tables_of`.
 #[derive(Drop)]
@@ -53,6 +49,7 @@ impl Model for ListStore {
     ghost Value = { Lists };
 
     ghost use Rattle.bureau_store.specs.Kept.{KnowsTokens};
+    ghost use Rattle.bureau_store.specs.Lists.{IsOurs};
 
     ghost view = { λ store. record {
       callers = store.rows.items;
@@ -61,7 +58,15 @@ impl Model for ListStore {
       clients = store.by_name.entries;
     } };
 
-    ghost invariant = { λ store. KnowsTokens (λ text. text.items) store.by_token.entries store.rows.items };
+    ghost invariant = { λ store. record {
+      tokens : KnowsTokens (λ text. text.items) store.by_token.entries store.rows.items;
+      ours : IsOurs (record {
+        callers = store.rows.items;
+        content = store.published;
+        publisher = store.published_last;
+        clients = store.by_name.entries;
+      });
+    } };
 }
 
 impl ListStore {
@@ -84,7 +89,8 @@ impl ListStore {
     }
 
     fn caller_with(&self, token: &[u8]) -> Option<Caller>
-        ensures { result ≡ caller_with self.now.callers token.now }
+        ensures caller { result ≡ caller_with self.now.callers token.now }
+        ensures proper { IfSome result IsProper }
     {
         self.by_token.get(token).copied()
     }
@@ -165,7 +171,7 @@ impl ListStore {
         requires { IsFit put }
         ensures done { OnOk result (tables_of self.new ≡ tables_after (OfClient client.now) (effect_of put) (record { number = number; reply = reply.now }) (tables_of self.old)) }
         ensures err { OnErr result (tables_of self.new ≡ tables_of self.old) }
-        ensures ordered { AreInOrder (tables_of self.old) → AreInOrder (tables_of self.new) }
+        ensures ours { IsOurs self.new }
     {
         let last = Last::new(number, Vec::from_slice(self.alloc, reply)?);
         make_for(self.alloc, &mut self.by_name, client, put, last)
@@ -173,7 +179,7 @@ impl ListStore {
 }
 
 impl Published for ListStore {
-    ghost use Rattle.bureau_store.specs.Lists.{Always, IsOurs, Same, never, lists_keep, lists_stay, lists_go_on};
+    ghost use Rattle.bureau_store.specs.Lists.{Always, IsOurs, Same, never, lists_content_in_order, lists_keep, lists_stay, lists_go_on};
 
     ghost content = { λ lists. lists.content };
 
@@ -189,6 +195,7 @@ impl Published for ListStore {
 
     fn ids(&mut self) -> Result<Vec<Id>, SourceFault>
         ensures same { self.new ≡ self.old }
+        ensures ours { IsOurs self.old }
         ensures ids { IfOk result (λ ids. ids.items ≡ ids_of self.old.content) }
         ensures ascend { IfOk result (λ ids. Ascend ids.items) }
         ensures memory { IfErr result (λ fault. fault ≡ SourceMemory) }
@@ -198,6 +205,7 @@ impl Published for ListStore {
 
     fn sysmod(&mut self, id: &Id) -> Result<Option<Sysmod>, SourceFault>
         ensures same { self.new ≡ self.old }
+        ensures ours { IsOurs self.old }
         ensures sysmod { IfOk result (λ found. found ≡ record_of self.old.content id.now) }
         ensures memory { IfErr result (λ fault. fault ≡ SourceMemory) }
     {
@@ -206,6 +214,7 @@ impl Published for ListStore {
 
     fn superseders(&mut self, id: &Id) -> Result<Vec<Id>, SourceFault>
         ensures same { self.new ≡ self.old }
+        ensures ours { IsOurs self.old }
         ensures superseders { IfOk result (λ ids. ids.items ≡ superseders self.old.content id.now) }
         ensures ascend { IfOk result (λ ids. Ascend ids.items) }
         ensures memory { IfErr result (λ fault. fault ≡ SourceMemory) }
@@ -215,12 +224,15 @@ impl Published for ListStore {
 
     fn holds_on(&mut self, id: &Id) -> Result<Vec<Hold>, SourceFault>
         ensures same { self.new ≡ self.old }
+        ensures ours { IsOurs self.old }
         ensures holds { IfOk result (λ holds. holds.items ≡ holds_on self.old.content id.now) }
         ensures in_key_order { IfOk result (λ holds. IsInKeyOrder holds.items) }
         ensures memory { IfErr result (λ fault. fault ≡ SourceMemory) }
     {
         self.published.holds_on(id)
     }
+
+    ghost in_order = { lists_content_in_order };
 
     ghost keeps_content = { lists_keep };
 
@@ -237,6 +249,7 @@ impl Store for ListStore {
     fn caller_of(&mut self, token: &[u8]) -> Result<Option<Caller>, StoreFault>
         ensures same { self.new ≡ self.old }
         ensures caller { IfOk result (λ found. found ≡ caller_with (tables_of self.old).callers token.now) }
+        ensures proper { IfOk result (λ found. IfSome found IsProper) }
         ensures memory { IfErr result (λ fault. fault ≡ Memory) }
     {
         Ok(self.caller_with(token))
@@ -252,6 +265,7 @@ impl Store for ListStore {
 
     fn counts(&mut self) -> Result<(u64, u64), StoreFault>
         ensures same { self.new ≡ self.old }
+        ensures ours { IsOurs self.old }
         ensures counts { IfOk result (λ counts. (counts.0 ≡ length (tables_of self.old).content.sysmods) × (counts.1 ≡ length (tables_of self.old).content.holds)) }
         ensures memory { IfErr result (λ fault. fault ≡ Memory) }
     {
@@ -309,7 +323,7 @@ impl Store for ListStore {
     fn publish(&mut self, number: u64, reply: &[u8], changes: &[Change]) -> Result<(), StoreFault>
         ensures done { OnOk result (tables_of self.new ≡ tables_after OfPublisher (publication changes.now) (record { number = number; reply = reply.now }) (tables_of self.old)) }
         ensures err { OnErr result (tables_of self.new ≡ tables_of self.old) }
-        ensures ordered { AreInOrder (tables_of self.old) → AreInOrder (tables_of self.new) }
+        ensures ours { IsOurs self.new }
         ensures memory { IfErr result (λ fault. fault ≡ Memory) }
     {
         let last = Last::new(number, Vec::from_slice(self.alloc, reply)?);
@@ -329,7 +343,7 @@ impl Store for ListStore {
         requires { RowsAscend rows.now }
         ensures done { OnOk result (tables_of self.new ≡ tables_after (OfClient client.now) (zone_put zone.now rows.now) (record { number = number; reply = reply.now }) (tables_of self.old)) }
         ensures err { OnErr result (tables_of self.new ≡ tables_of self.old) }
-        ensures ordered { AreInOrder (tables_of self.old) → AreInOrder (tables_of self.new) }
+        ensures ours { IsOurs self.new }
         ensures memory { IfErr result (λ fault. fault ≡ Memory) }
     {
         let rows = Vec::from_slice(self.alloc, rows)?;
@@ -345,7 +359,7 @@ impl Store for ListStore {
     ) -> Result<(), StoreFault>
         ensures done { OnOk result (tables_of self.new ≡ tables_after (OfClient client.now) (zone_dropped zone.now) (record { number = number; reply = reply.now }) (tables_of self.old)) }
         ensures err { OnErr result (tables_of self.new ≡ tables_of self.old) }
-        ensures ordered { AreInOrder (tables_of self.old) → AreInOrder (tables_of self.new) }
+        ensures ours { IsOurs self.new }
         ensures memory { IfErr result (λ fault. fault ≡ Memory) }
     {
         Ok(self.make(client, Put::NoZone(*zone), number, reply)?)
@@ -361,7 +375,7 @@ impl Store for ListStore {
         requires { Ascend ids.now }
         ensures done { OnOk result (tables_of self.new ≡ tables_after (OfClient client.now) (received_put ids.now) (record { number = number; reply = reply.now }) (tables_of self.old)) }
         ensures err { OnErr result (tables_of self.new ≡ tables_of self.old) }
-        ensures ordered { AreInOrder (tables_of self.old) → AreInOrder (tables_of self.new) }
+        ensures ours { IsOurs self.new }
         ensures memory { IfErr result (λ fault. fault ≡ Memory) }
     {
         let ids = Vec::from_slice(self.alloc, ids)?;
@@ -379,7 +393,7 @@ impl Store for ListStore {
         requires { IsStrictlySortedBy (slice_cmp nat_cmp) patterns.now }
         ensures done { OnOk result (tables_of self.new ≡ tables_after (OfClient client.now) (patterns_put zone.now patterns.now) (record { number = number; reply = reply.now }) (tables_of self.old)) }
         ensures err { OnErr result (tables_of self.new ≡ tables_of self.old) }
-        ensures ordered { AreInOrder (tables_of self.old) → AreInOrder (tables_of self.new) }
+        ensures ours { IsOurs self.new }
         ensures memory { IfErr result (λ fault. fault ≡ Memory) }
     {
         let patterns = copied(self.alloc, patterns)?;
@@ -391,159 +405,4 @@ impl Store for ListStore {
     ghost has_content = { lists_content };
 
     ghost in_order = { lists_in_order };
-}
-
-// What is kept for the client of this name, if anything is.
-fn client_of<'a>(clients: &'a BTreeMap<Id, Client>, name: &Id) -> Option<&'a Client>
-    ensures { unwrap_or (option_copied result) nothing_sent ≡ client_in clients.now.entries name.now }
-{
-    clients.get(name)
-}
-
-// Makes a change of one client's. Where memory runs out, all clients have what they had.
-fn make_for(
-    alloc: Global,
-    clients: &mut BTreeMap<Id, Client>,
-    client: &Id,
-    put: Put,
-    last: Last,
-) -> Result<(), NoMemory>
-    requires { IsFit put }
-    ensures done { OnOk result ((name : List ℕ) → client_in clients.new.entries name
-        ≡ (if bytes_eq client.now name then client_after (effect_of put) last (client_in clients.old.entries name) else client_in clients.old.entries name)) }
-    ensures err { OnErr result ((name : List ℕ) → client_in clients.new.entries name ≡ client_in clients.old.entries name) }
-    ensures ordered { (name : List ℕ) → IsStrictlySortedBy name_order (keys_of (client_in clients.old.entries name).zones)
-        → IsStrictlySortedBy name_order (keys_of (client_in clients.new.entries name).zones) }
-{
-    if let Some(kept) = clients.get_mut(client) {
-        return kept.make(put, last);
-    }
-    let mut kept = Client::new(alloc);
-    kept.make(put, last)?;
-    clients.insert(*client, kept)?;
-    Ok(())
-}
-
-// The rows of callers once more.
-fn rows_copied(alloc: Global, rows: &[CallerRow]) -> Result<Vec<CallerRow>, NoMemory>
-    ensures { IfOk result (λ copy. copy.items ≡ rows.now) }
-{
-    let mut copy = Vec::with_capacity(alloc, rows.len())?;
-    for row in rows {
-        copy.push(row.copy()?)?;
-    }
-    Ok(copy)
-}
-
-// The callers by their tokens.
-fn callers_by_token(
-    alloc: Global,
-    rows: &[CallerRow],
-) -> Result<BTreeMap<Vec<u8>, Caller>, NoMemory>
-    ensures { IfOk result (λ by_token. KnowsTokens (λ text. text.items) by_token.entries rows.now) }
-{
-    let mut by_token = BTreeMap::new(alloc);
-    let mut left = rows.len();
-    while left > 0 {
-        left -= 1;
-        put_token(&mut by_token, &rows[left])?;
-    }
-    Ok(by_token)
-}
-
-// Puts a caller before those that are known.
-fn put_token(by_token: &mut BTreeMap<Vec<u8>, Caller>, row: &CallerRow) -> Result<(), NoMemory>
-    ensures { OnOk result ((rows : List CallerRow) → KnowsTokens (λ text. text.items) by_token.old.entries rows → KnowsTokens (λ text. text.items) by_token.new.entries (row.now ∷ rows)) }
-{
-    let token = row.token.copy()?;
-    by_token.insert(token.into_vec(), named(&row.name))?;
-    Ok(())
-}
-
-// The caller of a name.
-fn named(name: &Id) -> Caller
-    ensures { result ≡ caller_named name.now }
-{
-    if is_publisher(name) {
-        Caller::Publisher
-    } else {
-        Caller::Client(*name)
-    }
-}
-
-// Zones with the counts of their rows, ascending by name.
-fn counted_in_order(alloc: Global, zones: &BTreeMap<Id, Zone>) -> Result<Vec<(Id, u64)>, NoMemory>
-    ensures zones { IfOk result (λ counts. counts.items ≡ map (λ zone. (zone.0, length zone.1.rows)) zones.now.entries) }
-    ensures ascend { IfOk result (λ counts. IsStrictlySortedBy name_order (map (λ zone. zone.0) counts.items)) }
-{
-    let counts = counted(alloc, zones)?;
-    Ok(counts)
-}
-
-// Zones with the counts of their rows.
-fn counted(alloc: Global, zones: &BTreeMap<Id, Zone>) -> Result<Vec<(Id, u64)>, NoMemory>
-    ensures zones { IfOk result (λ counts. counts.items ≡ map (λ zone. (zone.0, length zone.1.rows)) zones.now.entries) }
-    ensures ascend { OnOk result (IsStrictlySortedBy name_order (keys_of zones.now.entries)) }
-{
-    let mut counts = Vec::with_capacity(alloc, zones.len())?;
-    for (name, zone) in zones {
-        counts.push((*name, zone.row_count()))?;
-    }
-    Ok(counts)
-}
-
-// The holds of a kind on SYSMODs that rows have as installed.
-fn held_among(
-    alloc: Global,
-    book: &HoldBook,
-    rows: &[ZoneRow],
-    kind: Kind,
-) -> Result<Vec<Hold>, NoMemory>
-    ensures holds { IfOk result (λ held. held.items ≡ filter (λ hold. is_installed rows.now hold.key.sysmod && (kind_place hold.key.kind == kind_place kind)) book.now) }
-    ensures in_key_order { IfOk result (λ held. IsInKeyOrder held.items) }
-{
-    let installed = installed_in(alloc, rows)?;
-    let mut held = Vec::new(alloc);
-    for hold in book.iter() {
-        if installed.contains(&hold.key.sysmod) && is_kind(hold.key.kind, kind) {
-            held.push(hold.copy()?)?;
-        }
-    }
-    Ok(held)
-}
-
-// The SYSMODs that rows have as installed.
-fn installed_in(alloc: Global, rows: &[ZoneRow]) -> Result<BTreeSet<Id>, NoMemory>
-    ensures { IfOk result (λ ids. (id : List ℕ) → list_any (is_at (slice_cmp nat_cmp id)) ids.keys ≡ is_installed rows.now id) }
-{
-    let mut ids = BTreeSet::new(alloc);
-    for row in rows {
-        put_installed(&mut ids, row)?;
-    }
-    Ok(ids)
-}
-
-fn put_installed(ids: &mut BTreeSet<Id>, row: &ZoneRow) -> Result<(), NoMemory>
-    ensures { OnOk result ((id : List ℕ) → list_any (is_at (slice_cmp nat_cmp id)) ids.new.keys
-        ≡ (list_any (is_at (slice_cmp nat_cmp id)) ids.old.keys || (same_id row.now.sysmod id && is_installed_state row.now.state))) }
-{
-    if is_installed(row.state) {
-        ids.insert(row.sysmod)?;
-    }
-    Ok(())
-}
-
-fn is_installed(state: ZoneState) -> bool
-    ensures { result ≡ is_installed_state state }
-{
-    match state {
-        ZoneState::Applied | ZoneState::Accepted => true,
-        ZoneState::Superseded => false,
-    }
-}
-
-fn is_kind(kind: Kind, wanted: Kind) -> bool
-    ensures { result ≡ (kind_place kind == kind_place wanted) }
-{
-    kind == wanted
 }

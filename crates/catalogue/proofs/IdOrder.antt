@@ -1,14 +1,16 @@
 -- Ids that compare alike are one, and lists of them in order.
-use Rattle.std.proofs.Common.{◌≡◌, ℕ, Bool, true, false, ◌||◌, List, [], ◌∷◌, refl, sym, ◌∙◌, ap}
+use Rattle.std.proofs.Common.{◌≡◌, ℕ, ◌+◌, Bool, true, false, ◌||◌, List, [], ◌∷◌, arith, get_or, refl, sym, ◌∙◌, ap}
 use Rattle.std.specs.BTreeSet.{insert_key}
 use Rattle.std.specs.Cmp.{IsTotalOrder}
 use Rattle.std.specs.Cmp.Lexicographic.{nat_list_cmp_total, nat_list_eq_equiv}
-use Rattle.std.specs.List.{fold, list_any, AllByRecursion}
+use Rattle.std.specs.Bool.{IsTrue}
+use Rattle.std.specs.List.{fold, list_any, AllByRecursion, IsAllAdjacentAnswer}
 use Rattle.std.specs.List.Sorted.{IsStrictlySortedBy}
-use Rattle.std.specs.Ordering.{match_ordering, ordering_reverse, is_eq}
+use Rattle.std.specs.Ordering.{match_ordering, ordering_reverse, is_eq, is_lt}
 use Rattle.std.specs.Prelude.{Contains, ◌↔◌}
 use Rattle.std.specs.declared.cmp.Ordering.{Ordering}
 use Rattle.std.specs.declared.cmp.Ordering.TheVariants.{Less, Equal, Greater}
+use Rattle.std.proofs.lemmas.Map.Keys.{Less-from_sorted, sorted_from_all_adjacent}
 use Rattle.std.proofs.lemmas.Map.Lookups.{CmpEqualImpliesEq, exact_bytes}
 use Rattle.std.proofs.lemmas.Map.Text.{is_eq-slice_cmp}
 use Rattle.std.proofs.lemmas.Map.Views.{Contains-from_any, list_any-from_Contains}
@@ -121,4 +123,24 @@ pub in_order_has : (ids : List (List ℕ)) (id : List ℕ) → Contains (in_orde
 in_order_has ids id = (
   λ h. Contains-from_any {eq = same_id} one_id id ids (sym (in_order_any (same_id id) ids) ∙ list_any-from_Contains {eq = same_id} nat_list_eq_equiv id (in_order ids) h),
   λ h. Contains-from_any {eq = same_id} one_id id (in_order ids) (in_order_any (same_id id) ids ∙ list_any-from_Contains {eq = same_id} nat_list_eq_equiv id ids h),
+)
+
+-- ---- whether ids ascend
+
+lower : (o : Ordering) → true ≡ is_lt o → o ≡ Less
+lower Less h = refl
+lower Equal h = cc
+lower Greater h = cc
+
+not_lower : (o : Ordering) → false ≡ is_lt o → o ≡ Less → ⊥
+not_lower Less h e = let f : false ≡ true = h in cc
+not_lower Equal h e = cc
+not_lower Greater h e = cc
+
+-- ids ascend just if each is below the next
+pub ascend_by_neighbours : (ids : List (List ℕ)) (answer : Bool) → IsAllAdjacentAnswer (λ a b is. is ≡ is_lt (id_cmp a b)) ids answer → IsTrue answer ↔ Ascend ids
+ascend_by_neighbours ids true said = (λ _. sorted_from_all_adjacent ids_total ids [] (λ k within. lower (id_cmp (get_or ids k []) (get_or ids (k + 1) [])) (said k [] within)), λ _. refl)
+ascend_by_neighbours ids false said = (
+  λ h. let f : false ≡ true = h in cc,
+  λ h. absurd (not_lower (id_cmp (get_or ids said.0 []) (get_or ids (said.0 + 1) [])) (said.2 []) (Less-from_sorted id_cmp ids said.0 (said.0 + 1) [] h (omega arith) said.1)),
 )

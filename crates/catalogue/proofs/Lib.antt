@@ -3,6 +3,7 @@ pub mod IdOrder
 pub mod RecordLaws
 pub mod SupersedeLaws
 pub mod TouchedFacts
+pub mod TouchedLaws
 pub mod BookFacts
 pub mod EntryFacts
 pub mod HeaderFacts

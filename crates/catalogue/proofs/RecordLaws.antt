@@ -147,7 +147,7 @@ any_named : (xs : List Sysmod) (id : List ℕ) → list_any (λ k. same_id k id)
 any_named [] id = refl
 any_named (x ∷ xs) id = ap (λ b. same_id x.id id || b) (any_named xs id)
 
-none_last : (xs : List Sysmod) (id : List ℕ) → list_any (is_of id) xs ≡ false → last_of xs id ≡ None
+pub none_last : (xs : List Sysmod) (id : List ℕ) → list_any (is_of id) xs ≡ false → last_of xs id ≡ None
 none_last [] id h = refl
 none_last (x ∷ xs) id h = last_append (x ∷ []) xs id ∙ by (same_id x.id id) refl (none_last xs id) h
   where

@@ -19,7 +19,7 @@ any_has : (ids : List (List ℕ)) (id : List ℕ) → Contains ids id → list_a
 any_has ids id h = list_any-from_Contains {eq = same_id} nat_list_eq_equiv id ids h
 
 -- whether there is a record, and it passes
-passes : (Sysmod → Bool) → Option Sysmod → Bool
+unfoldable pub passes : (Sysmod → Bool) → Option Sysmod → Bool
 passes test None = false
 passes test (Some x) = test x
 
@@ -32,7 +32,7 @@ none_named test id (x ∷ xs) h = by (none_named test id xs h.1) (test x)
     by rest false = rest
 
 -- an id is among the records that pass just if its record passes
-any_passes : (test : Sysmod → Bool) (id : List ℕ) (xs : List Sysmod) → Ascend (ids_in xs) → list_any (same_id id) (ids_in (filter test xs)) ≡ passes test (found xs id)
+pub any_passes : (test : Sysmod → Bool) (id : List ℕ) (xs : List Sysmod) → Ascend (ids_in xs) → list_any (same_id id) (ids_in (filter test xs)) ≡ passes test (found xs id)
 unfolding passes IsStrictlySortedBy
 any_passes test id [] h = refl
 any_passes test id (x ∷ xs) h = by (any_passes test id xs h.1) (test x) refl (same_id x.id id) refl

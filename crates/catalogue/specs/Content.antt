@@ -1,7 +1,9 @@
 -- What is published: the catalogue of SYSMODs and the hold book, as plain data.
-use Rattle.std.specs.Prelude.{ℕ, Bool, List, [], map, filter, find, Option, Contains, IsSomeAnd}
+use Rattle.std.specs.Prelude.{ℕ, ◌==◌, Bool, List, [], map, filter, find, Option, Contains, IsSomeAnd}
 use Rattle.std.specs.List.{list_any}
 use Rattle.holddata.specs.declared.hold.Hold.{Hold}
+use Rattle.holddata.specs.declared.key.Kind.TheVariants.{ErrorHold}
+use Rattle.holddata.specs.HoldKey.{kind_place}
 use Rattle.holddata.specs.HoldBook as book
 use Rattle.holddata.specs.HoldBook.{IsInKeyOrder}
 use Rattle.catalogue.specs.declared.sysmod.Sysmod.{Sysmod}
@@ -52,6 +54,11 @@ superseders content id = ids_in (filter (sup_names id) content.sysmods)
 -- the holds on an id
 abbrev pub holds_on : Content → List ℕ → List Hold
 holds_on content id = book.holds_on content.holds id
+
+-- the reasons of the ERROR holds on an id
+abbrev pub error_reasons : Content → List ℕ → List (List ℕ)
+error_reasons content id =
+    map (λ hold. hold.key.reason) (filter (λ hold. kind_place hold.key.kind == kind_place ErrorHold) (holds_on content id))
 
 -- records ascend by id and holds by key, each once
 pub record IsInOrder (content : Content) : Type 0 where

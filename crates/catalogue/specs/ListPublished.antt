@@ -5,11 +5,11 @@ use Rattle.std.specs.BTreeMap.{BTreeMap, get}
 use Rattle.std.specs.Global.{Vec}
 use Rattle.std.specs.Map.{keys_of, values_of}
 use Rattle.catalogue.specs.declared.sysmod.Sysmod.{Sysmod}
-use Rattle.catalogue.specs.Content.{Content, ids_in, sup_names}
+use Rattle.catalogue.specs.Content.{Content, IsInOrder, ids_in, sup_names}
 use Rattle.catalogue.specs.Ids.{id_cmp}
 use Rattle.catalogue.specs.Published.{Keeps}
 
--- lists hold what was published always, and fail never
+-- lists hold what was published always, and fail never; what they hold is in order
 abbrev pub Always : Content → Type 0
 Always content = Unit {0}
 
@@ -19,10 +19,10 @@ never content = 0
 abbrev pub Same : Content → Content → Type 0
 Same old new = new ≡ old
 
-pub lists_keep : (old new : Content) → Same old new → Keeps Always Always Always never (λ content. content) old new
+pub lists_keep : (old new : Content) → Same old new → Keeps Always IsInOrder Always never (λ content. content) old new
 lists_keep old new same = record {
   clean = λ h. h;
-  ours = λ h _. h;
+  ours = λ h _. rw same h;
   still_open = λ h. h;
   failures_rise = omega arith;
   stays = λ ours clean this stands is_open. same ∙ stands is_open;
@@ -33,6 +33,9 @@ lists_stay content = refl
 
 pub lists_go_on : (first second third : Content) → Same first second → Same second third → Same first third
 lists_go_on first second third a b = b ∙ a
+
+pub lists_in_order : (content : Content) → IsInOrder content → IsInOrder content
+lists_in_order content ordered = ordered
 
 -- ---- No part of what is promised: how the lists are kept.
 

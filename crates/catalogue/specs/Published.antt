@@ -31,6 +31,11 @@ pub record Tells {Source Held : Type 0} (is_clean is_ours is_open : Source → T
 abbrev pub HasFailed : {Source : Type 0} → (Source → ℕ) → Source → Source → Type 0
 HasFailed failures old new = (failures old < failures new) ⊎ (failures new ≡ most_failures)
 
--- a fault of the device is told only where one came
-abbrev pub FailsWithCause : {Source Answer : Type 0} → (Source → ℕ) → Source → Source → Result Answer SourceFault → Type 0
-FailsWithCause failures old new answer = IsErrOf answer Device → HasFailed failures old new
+-- a fault of the device is told only where one came, and shuts the source
+abbrev pub FailsWithCause : {Source Answer : Type 0} → (Source → Type 0) → (Source → ℕ) → Source → Source → Result Answer SourceFault → Type 0
+FailsWithCause is_open failures old new answer = IsErrOf answer Device → HasFailed failures old new × (is_open new → ⊥)
+
+-- a source that is shut answers nothing else, and nothing else shuts one
+abbrev pub ShutsByFault : {Source Answer : Type 0} → (is_open : Source → Type 0) → Source → Source → Result Answer SourceFault → Type 0
+ShutsByFault is_open old new answer =
+    ((is_open old → ⊥) → IsErrOf answer Device) × ((IsErrOf answer Device → ⊥) → is_open old → is_open new)

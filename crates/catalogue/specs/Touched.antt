@@ -1,5 +1,5 @@
 -- What a publication touches: every id of which the record, the direct superseders or the ERROR holds may differ behind it.
-use Rattle.std.specs.Prelude.{ℕ, List, [], ◌∷◌, ◌++◌, Option, Some, None, Contains}
+use Rattle.std.specs.Prelude.{◌≡◌, ℕ, List, [], ◌∷◌, ◌++◌, Option, Some, None, Contains}
 use Rattle.std.specs.List.{flat_map}
 use Rattle.holddata.specs.declared.key.Kind.{Kind}
 use Rattle.holddata.specs.declared.key.Kind.TheVariants.{ErrorHold, SystemHold, UserHold, FixcatHold}
@@ -8,8 +8,9 @@ use Rattle.holddata.specs.HoldChange.{key_of}
 use Rattle.catalogue.specs.declared.sysmod.Sysmod.{Sysmod}
 use Rattle.catalogue.specs.declared.change.Change.{Change}
 use Rattle.catalogue.specs.declared.change.Change.TheVariants.{Whole, OfHold}
-use Rattle.catalogue.specs.Content.{Content, record_of}
+use Rattle.catalogue.specs.Content.{Content, IsInOrder, error_reasons, record_of, superseders}
 use Rattle.catalogue.specs.Ids.{in_order}
+use Rattle.catalogue.specs.Publication.{after}
 
 -- what SUP of a record names
 abbrev pub sup_of : Option Sysmod → List (List ℕ)
@@ -35,3 +36,14 @@ IsTouched content changes id = Contains (flat_map (touched_by content) changes) 
 -- the touched ids, in ascending order, each once
 abbrev pub touched_ids : Content → List Change → List (List ℕ)
 touched_ids content changes = in_order (flat_map (touched_by content) changes)
+
+-- two contents say the same of each id outside a list: its record, what supersedes it, and the reasons of its
+-- ERROR holds
+pub record AgreeOutside (ids : List (List ℕ)) (old new : Content) : Type 0 where
+  pub records : (id : List ℕ) → (Contains ids id → ⊥) → record_of new id ≡ record_of old id
+  pub above : (id : List ℕ) → (Contains ids id → ⊥) → superseders new id ≡ superseders old id
+  pub reasons : (id : List ℕ) → (Contains ids id → ⊥) → error_reasons new id ≡ error_reasons old id
+
+-- a publication leaves all as it was outside the ids that it touches
+abbrev pub TouchesAll : Type 0
+TouchesAll = (content : Content) (changes : List Change) → IsInOrder content → AgreeOutside (touched_ids content changes) content (after content changes)

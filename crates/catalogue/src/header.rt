@@ -1,5 +1,5 @@
 //! A SYSMOD that was begun.
-ghost use Rattle.std.specs.Prelude.{◌≡◌, ◌≢◌, ◌++◌, ℕ, List, [], Some, true, false, IfOk, OnOk, IfErr};
+ghost use Rattle.std.specs.Prelude.{◌≡◌, ◌≢◌, ◌++◌, [], true, false, IfOk, OnOk, IfErr};
 ghost use Rattle.mcs_reader.specs.Bytes.{bytes_of_each};
 ghost use Rattle.mcs_reader.specs.Id.{id_of};
 ghost use Rattle.mcs_reader.specs.Operand.{operand_text, operand_texts};

@@ -1,6 +1,6 @@
 //! Lists of ids.
-ghost use Rattle.std.specs.Prelude.{◌≡◌, ◌↔◌, [], IfOk, IsTrue, IsSome, IfSome, Contains};
-ghost use Rattle.catalogue.specs.Ids.{Ascend, in_order};
+ghost use Rattle.std.specs.Prelude.{◌≡◌, ◌↔◌, [], IfOk, IfSome, IsTrue, is_some, true};
+ghost use Rattle.catalogue.specs.Ids.{Ascend};
 
 use crate::NoMemory;
 use mcs_reader::Id;
@@ -33,6 +33,17 @@ impl Ids {
         Ids {
             items: Vec::new(alloc),
         }
+    }
+
+    /// The ids of a list, or `None` where they don't ascend or one comes twice. It takes no memory.
+    pub fn from_vec(ids: Vec<Id>) -> Option<Self>
+        ensures ids { IfSome result (λ list. list ≡ ids.items) }
+        ensures ascending { (is_some result ≡ true) ↔ Ascend ids.items }
+    {
+        if !ascend(ids.as_slice()) {
+            return None;
+        }
+        Some(Ids { items: ids })
     }
 
     /// The ids of a set.
@@ -68,6 +79,13 @@ impl Ids {
             items: self.items.clone()?,
         })
     }
+}
+
+// Whether ids ascend, each once.
+fn ascend(ids: &[Id]) -> bool
+    ensures { IsTrue result ↔ Ascend ids.now }
+{
+    ids.is_sorted_by(|id, next| id.cmp(next).is_lt())
 }
 
 /// The ids of a set in order.

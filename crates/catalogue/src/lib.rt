@@ -14,6 +14,8 @@ mod list_published;
 mod published;
 mod reading;
 mod sysmod;
+#[cfg(test)]
+mod tests;
 mod touching;
 
 pub use change::Change;

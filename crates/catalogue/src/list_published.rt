@@ -50,7 +50,8 @@ impl Model for ListPublished {
 impl ListPublished {
     /// Nothing is published. It takes no memory.
     pub fn new(alloc: Global) -> Self
-        ensures { result ≡ nothing }
+        ensures empty { result ≡ nothing }
+        ensures in_order { IsInOrder result }
     {
         ListPublished {
             alloc,
@@ -108,13 +109,14 @@ impl ListPublished {
 }
 
 impl Published for ListPublished {
-    ghost use Rattle.catalogue.specs.ListPublished.{Always, Same, never, lists_keep, lists_stay, lists_go_on};
+    ghost use Rattle.catalogue.specs.ListPublished.{Always, Same, never, lists_in_order, lists_keep, lists_stay, lists_go_on};
+    ghost use Rattle.catalogue.specs.Content.{IsInOrder};
 
     ghost content = { λ lists. lists };
 
     ghost is_clean = { Always };
 
-    ghost is_ours = { Always };
+    ghost is_ours = { IsInOrder };
 
     ghost is_open = { Always };
 
@@ -124,6 +126,7 @@ impl Published for ListPublished {
 
     fn ids(&mut self) -> Result<Vec<Id>, SourceFault>
         ensures same { self.new ≡ self.old }
+        ensures in_order { IsInOrder self.old }
         ensures ids { IfOk result (λ ids. ids.items ≡ ids_of self.old) }
         ensures ascend { IfOk result (λ ids. Ascend ids.items) }
         ensures memory { IfErr result (λ fault. fault ≡ Memory) }
@@ -133,6 +136,7 @@ impl Published for ListPublished {
 
     fn sysmod(&mut self, id: &Id) -> Result<Option<Sysmod>, SourceFault>
         ensures same { self.new ≡ self.old }
+        ensures in_order { IsInOrder self.old }
         ensures sysmod { IfOk result (λ found. found ≡ record_of self.old id.now) }
         ensures memory { IfErr result (λ fault. fault ≡ Memory) }
     {
@@ -141,6 +145,7 @@ impl Published for ListPublished {
 
     fn superseders(&mut self, id: &Id) -> Result<Vec<Id>, SourceFault>
         ensures same { self.new ≡ self.old }
+        ensures in_order { IsInOrder self.old }
         ensures superseders { IfOk result (λ ids. ids.items ≡ superseders self.old id.now) }
         ensures ascend { IfOk result (λ ids. Ascend ids.items) }
         ensures memory { IfErr result (λ fault. fault ≡ Memory) }
@@ -156,12 +161,15 @@ impl Published for ListPublished {
 
     fn holds_on(&mut self, id: &Id) -> Result<Vec<Hold>, SourceFault>
         ensures same { self.new ≡ self.old }
+        ensures in_order { IsInOrder self.old }
         ensures holds { IfOk result (λ holds. holds.items ≡ holds_on self.old id.now) }
         ensures in_key_order { IfOk result (λ holds. IsInKeyOrder holds.items) }
         ensures memory { IfErr result (λ fault. fault ≡ Memory) }
     {
         Ok(self.book.holds_on(id)?)
     }
+
+    ghost in_order = { lists_in_order };
 
     ghost keeps_content = { lists_keep };
 

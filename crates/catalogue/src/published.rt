@@ -1,9 +1,9 @@
 //! Where the published content is read.
 ghost use Rattle.std.specs.Prelude.{◌≡◌, ℕ, IfOk};
 ghost use Rattle.holddata.specs.HoldBook.{IsInKeyOrder};
-ghost use Rattle.catalogue.specs.Content.{Content, ids_of, record_of, superseders, holds_on};
+ghost use Rattle.catalogue.specs.Content.{Content, IsInOrder, ids_of, record_of, superseders, holds_on};
 ghost use Rattle.catalogue.specs.Ids.{Ascend};
-ghost use Rattle.catalogue.specs.Published.{Keeps, Tells, FailsWithCause};
+ghost use Rattle.catalogue.specs.Published.{Keeps, Tells, FailsWithCause, ShutsByFault};
 
 use crate::{SourceFault, Sysmod};
 use holddata::Hold;
@@ -40,14 +40,16 @@ pub trait Published {
         ensures ids { IfOk result (λ ids. Tells is_clean is_ours is_open content self.old self.new
             (λ content. ids.items ≡ ids_of content)) }
         ensures ascend { IfOk result (λ ids. Ascend ids.items) }
-        ensures cause { FailsWithCause failures self.old self.new result };
+        ensures cause { FailsWithCause is_open failures self.old self.new result }
+        ensures shut { ShutsByFault is_open self.old self.new result };
 
     /// The record of a SYSMOD, or `None` where it isn't catalogued.
     fn sysmod(&mut self, id: &Id) -> Result<Option<Sysmod>, SourceFault>
         ensures keeps { keeps self.old self.new }
         ensures sysmod { IfOk result (λ found. Tells is_clean is_ours is_open content self.old self.new
             (λ content. found ≡ record_of content id.now)) }
-        ensures cause { FailsWithCause failures self.old self.new result };
+        ensures cause { FailsWithCause is_open failures self.old self.new result }
+        ensures shut { ShutsByFault is_open self.old self.new result };
 
     /// The catalogued SYSMODs whose SUP names this one, ascending.
     fn superseders(&mut self, id: &Id) -> Result<Vec<Id>, SourceFault>
@@ -55,7 +57,8 @@ pub trait Published {
         ensures superseders { IfOk result (λ ids. Tells is_clean is_ours is_open content self.old self.new
             (λ content. ids.items ≡ superseders content id.now)) }
         ensures ascend { IfOk result (λ ids. Ascend ids.items) }
-        ensures cause { FailsWithCause failures self.old self.new result };
+        ensures cause { FailsWithCause is_open failures self.old self.new result }
+        ensures shut { ShutsByFault is_open self.old self.new result };
 
     /// The holds on a SYSMOD, in the order of their keys.
     fn holds_on(&mut self, id: &Id) -> Result<Vec<Hold>, SourceFault>
@@ -63,7 +66,11 @@ pub trait Published {
         ensures holds { IfOk result (λ holds. Tells is_clean is_ours is_open content self.old self.new
             (λ content. holds.items ≡ holds_on content id.now)) }
         ensures in_key_order { IfOk result (λ holds. IsInKeyOrder holds.items) }
-        ensures cause { FailsWithCause failures self.old self.new result };
+        ensures cause { FailsWithCause is_open failures self.old self.new result }
+        ensures shut { ShutsByFault is_open self.old self.new result };
+
+    /// In a source that this product made, what is published is in order.
+    ghost in_order: { (source : Self) → is_ours source → IsInOrder (content source) };
 
     /// To keep is to leave the content as it was, and the conditions as they may go.
     ghost keeps_content: { (old new : Self) → keeps old new → Keeps is_clean is_ours is_open failures content old new };

@@ -1,5 +1,5 @@
 //! From statements to changes.
-ghost use Rattle.std.specs.Prelude.{◌≡◌, ◌≢◌, ◌++◌, ℕ, Bool, true, false, List, [], Option, Some, None, is_some, codes, IfOk, OnOk, IfErr};
+ghost use Rattle.std.specs.Prelude.{◌≡◌, ◌≢◌, ◌++◌, false, List, [], Option, Some, None, is_some, IfOk, OnOk, IfErr};
 ghost use Rattle.std.specs.List.{fold};
 ghost use Rattle.holddata.specs.Statements.{first_of};
 ghost use Rattle.mcs_reader.specs.declared.statement.Statement.{Statement};

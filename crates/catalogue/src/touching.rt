@@ -6,7 +6,7 @@ ghost use Rattle.catalogue.specs.declared.change.Change.TheVariants.{Whole};
 ghost use Rattle.catalogue.specs.Content.{Content, record_of};
 ghost use Rattle.catalogue.specs.Ids.{Ascend, put_among};
 ghost use Rattle.catalogue.specs.Published.{Tells, FailsWithCause};
-ghost use Rattle.catalogue.specs.Touched.{IsTouched, sup_of, touched_by, touched_by_key, touched_ids};
+ghost use Rattle.catalogue.specs.Touched.{IsTouched, TouchesAll, sup_of, touched_by, touched_by_key, touched_ids};
 
 use crate::ids::listed;
 use crate::{Change, NoMemory, Published, SourceFault, Sysmod};
@@ -27,11 +27,15 @@ pub fn touched<P: Published>(
     ensures touched { IfOk result (λ ids. Tells P.is_clean P.is_ours P.is_open P.content source.old source.new
         (λ content. ids.items ≡ touched_ids content changes.now)) }
     ensures ascend { IfOk result (λ ids. Ascend ids.items) }
-    ensures cause { FailsWithCause P.failures source.old source.new result }
+    ensures cause { FailsWithCause P.is_open P.failures source.old source.new result }
 
     // They are all that is touched, and nothing else.
     ensures each { IfOk result (λ ids. Tells P.is_clean P.is_ours P.is_open P.content source.old source.new
         (λ content. (id : List ℕ) → Contains ids.items id ↔ IsTouched content changes.now id)) }
+
+    // Of every other id the publication leaves the record, the direct superseders and the reasons of its
+    // ERROR holds as they were.
+    ensures touches_all { TouchesAll }
 {
     let mut ids = BTreeSet::new(alloc);
     for change in changes {
@@ -49,7 +53,7 @@ fn touch_by<P: Published>(
     ensures keeps { P.keeps source.old source.new }
     ensures touched { OnOk result (Tells P.is_clean P.is_ours P.is_open P.content source.old source.new
         (λ content. ids.new.keys ≡ put_among ids.old.keys (touched_by content change.now))) }
-    ensures cause { FailsWithCause P.failures source.old source.new result }
+    ensures cause { FailsWithCause P.is_open P.failures source.old source.new result }
 {
     match change {
         Change::Whole(sysmod) => {

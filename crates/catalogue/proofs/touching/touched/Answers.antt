@@ -7,6 +7,7 @@ use Rattle.catalogue.specs.Touched.{IsTouched, touched_by}
 use Rattle.catalogue.proofs.IdOrder.{in_order_has}
 use Rattle.catalogue.proofs.Sources.{told_sooner, told_later, told_both, told_so}
 use Rattle.catalogue.proofs.TouchedFacts.{touched_more}
+use Rattle.catalogue.proofs.TouchedLaws.{touches_all}
 use Rattle.catalogue.proofs.touching.touched.Goals as goal
 
 pub loop-change-preserved : goal.loop-change-preserved
@@ -32,3 +33,12 @@ pub returns-clause-each : goal.returns-clause-each
 returns-clause-each g c =
     told_so (returns-clause-touched g c) (λ content is id.
     subst (λ ids. Contains ids id ↔ IsTouched content c.args.changes.now id) (sym is) (in_order_has (flat_map (touched_by content) c.args.changes.now) id))
+
+pub returns-clause-touches_all : goal.returns-clause-touches_all
+returns-clause-touches_all g c = touches_all
+
+pub returns-in_err-touch_by-clause-touches_all : goal.returns-in_err-touch_by-clause-touches_all
+returns-in_err-touch_by-clause-touches_all g c = touches_all
+
+pub returns-in_err-listed-clause-touches_all : goal.returns-in_err-listed-clause-touches_all
+returns-in_err-listed-clause-touches_all g c = touches_all

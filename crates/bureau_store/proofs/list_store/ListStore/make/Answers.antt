@@ -1,8 +1,8 @@
-use Rattle.std.proofs.Common.{◌≡◌, ◌∙◌, ℕ, List, ap, refl, subst, sym}
+use Rattle.std.proofs.Common.{◌≡◌, ◌∙◌, ℕ, List, ap, refl, subst}
 use Rattle.bureau_store.specs.Effect.{tables_after}
 use Rattle.bureau_store.specs.Kept.{effect_of}
 use Rattle.bureau_store.specs.Lists.{Lists, tables_of}
-use Rattle.bureau_store.specs.Tables.{AreInOrder, LastChange}
+use Rattle.bureau_store.specs.Tables.{LastChange}
 use Rattle.bureau_store.specs.declared.caller.Caller.TheVariants.{Client}
 use Rattle.bureau_store.proofs.StoreFacts.{client_kept, client_made, client_ordered}
 use Rattle.bureau_store.proofs.TableFacts.{on_err, on_ok, put_private}
@@ -26,8 +26,14 @@ returns-clause-err c =
     let new : Lists = record { callers = c.self.inside.rows.items; content = c.self.inside.published; publisher = c.self.inside.published_last; clients = c.make_for.new.clients.entries } in
     on_err c.make_for.result c.make_for.ensures.err (λ same. subst (λ (was : Lists). tables_of new ≡ tables_of was) c.self.view_is (client_kept old new refl refl refl same))
 
-pub returns-clause-ordered : goal.returns-clause-ordered
-returns-clause-ordered c = λ ordered.
+pub invariant_of-self : goal.invariant_of-self
+invariant_of-self c =
     let old : Lists = record { callers = c.self.inside.rows.items; content = c.self.inside.published; publisher = c.self.inside.published_last; clients = c.self.inside.by_name.entries } in
     let new : Lists = record { callers = c.self.inside.rows.items; content = c.self.inside.published; publisher = c.self.inside.published_last; clients = c.make_for.new.clients.entries } in
-    client_ordered old new refl c.make_for.ensures.ordered (subst (λ (was : Lists). AreInOrder (tables_of was)) (sym c.self.view_is) ordered)
+    record { tokens = c.self.invariant.tokens; ours = record { in_order = client_ordered old new refl c.make_for.ensures.ordered c.self.invariant.ours.in_order } }
+
+pub returns-clause-ours : goal.returns-clause-ours
+returns-clause-ours c =
+    let old : Lists = record { callers = c.self.inside.rows.items; content = c.self.inside.published; publisher = c.self.inside.published_last; clients = c.self.inside.by_name.entries } in
+    let new : Lists = record { callers = c.self.inside.rows.items; content = c.self.inside.published; publisher = c.self.inside.published_last; clients = c.make_for.new.clients.entries } in
+    record { in_order = client_ordered old new refl c.make_for.ensures.ordered c.self.invariant.ours.in_order }

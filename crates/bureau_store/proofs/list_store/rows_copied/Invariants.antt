@@ -1,6 +1,0 @@
-use Rattle.std.proofs.Common.{◌≡◌, ◌++◌, drop}
-use Rattle.bureau_store.proofs.list_store.rows_copied.Given as goal
-
--- the copies so far and what is left to copy
-abbrev pub invariant-loop-row : goal.invariant-loop-row
-invariant-loop-row l = l.copy.items ++ drop l.row-index l.rows ≡ l.rows
