@@ -1,18 +1,20 @@
 -- An id is found good exactly where some plan holds it.
-use Rattle.std.proofs.Common.{◌≡◌, ℕ, ◌⊎◌, ◌&&◌, ◌||◌, Bool, true, false, cond, map, List, [], ◌∷◌, Option, Some, None, refl, sym, ap, ◌∙◌, subst, inl, inr}
+use Rattle.std.proofs.Common.{◌≡◌, ℕ, ◌⊎◌, ◌&&◌, Bool, true, false, cond, map, List, [], ◌∷◌, Some, refl, sym, subst, inl, inr}
 use Rattle.std.specs.Prelude.{◌↔◌}
 use Rattle.std.specs.List.{Contains, filter, find, list_all, list_any}
 use Rattle.zone_lists.specs.declared.zones.ZoneRow.{ZoneRow}
 use Rattle.zone_lists.specs.Installed.{is_installed}
-use Rattle.catalogue.specs.Content.{Content, ids_of, is_of, record_of}
+use Rattle.catalogue.specs.Content.{Content, ids_of, is_of}
 use Rattle.catalogue.specs.Ids.{same_id}
 use Rattle.catalogue.specs.declared.sysmod.Sysmod.{Sysmod}
 use Rattle.catalogue.proofs.IdOrder.{itself, one_id}
 use Rattle.supersede.specs.Giving.{fmids_of, gives, is_candidate, is_there, needs_of}
+use Rattle.supersede.specs.Leading.{IsThere}
+use Rattle.supersede.proofs.LeadingFacts.{gives_is, there_is}
 use Rattle.requisites.specs.World.{IsGivenIn, IsGood, IsPlan}
 use Rattle.chains.specs.Verdicts.{candidates, is_good, is_met, is_plan, sublists}
 use Rattle.chains.specs.Worlds.{world_of}
-use Rattle.chains.proofs.SearchFacts.{IsKept, Passes, all_at, all_from, any_at, any_from, both_true, either_true, filter_is_sublist, first_inside, first_true, inside_cases, kept_from, kept_inside, left_true, none_inside, rest_inside, right_true, second_true, sublist_inside}
+use Rattle.chains.proofs.SearchFacts.{all_at, all_from, any_at, any_from, both_true, either_true, filter_is_sublist, first_inside, first_true, kept_from, kept_inside, left_true, rest_inside, right_true, second_true, sublist_inside}
 
 module _ (content : Content) (rows : List ZoneRow) where
   -- a list that is found to be a plan is one
@@ -21,10 +23,10 @@ module _ (content : Content) (rows : List ZoneRow) where
     candidates = λ y inside. (kept_from (is_candidate content rows) (ids_of content) y (sublist_inside (candidates content rows) members y sub inside)).passes;
     needs_met = λ y r inside needs. met r (all_at (is_met content rows members) (needs_of content y) r (all_at (λ member. list_all (is_met content rows members) (needs_of content member)) members y found inside) needs);
   } where
-    met : (r : List ℕ) → is_met content rows members r ≡ true → (is_there content rows r ≡ true) ⊎ IsGivenIn (world_of content rows) members r
+    met : (r : List ℕ) → is_met content rows members r ≡ true → IsThere content rows r ⊎ IsGivenIn (world_of content rows) members r
     met r h = elim (either_true (is_there content rows r) (list_any (λ member. gives content member r) members) h) [
-      | inl there ↦ inl there
-      | inr given ↦ (let giver = any_from (λ member. gives content member r) members given in inr (record { giver = giver.element; member = giver.member; gives = giver.passes }))
+      | inl there ↦ inl ((there_is content rows r).0 there)
+      | inr given ↦ (let giver = any_from (λ member. gives content member r) members given in inr (record { giver = giver.element; member = giver.member; gives = (gives_is content giver.element r).0 giver.passes }))
     ]
 
   pub good_from : (id : List ℕ) → is_good content rows id ≡ true → IsGood (world_of content rows) id
@@ -72,9 +74,9 @@ module _ (content : Content) (rows : List ZoneRow) where
     where
       met : (y r : List ℕ) → Contains (planned members) y → Contains (needs_of content y) r → is_met content rows (planned members) r ≡ true
       met y r inside needs = elim (plan.needs_met y r (planned_from members y inside) needs) [
-        | inl there ↦ left_true (is_there content rows r) (list_any (λ member. gives content member r) (planned members)) there
+        | inl there ↦ left_true (is_there content rows r) (list_any (λ member. gives content member r) (planned members)) ((there_is content rows r).1 there)
         | inr given ↦ right_true (is_there content rows r) (list_any (λ member. gives content member r) (planned members))
-            (any_at (λ (member : List ℕ). gives content member r) (planned members) given.giver (planned_inside members given.giver plan given.member) given.gives)
+            (any_at (λ (member : List ℕ). gives content member r) (planned members) given.giver (planned_inside members given.giver plan given.member) ((gives_is content given.giver r).1 given.gives))
       ]
 
   planned_sub : (members : List (List ℕ)) → Contains (sublists (candidates content rows)) (planned members)

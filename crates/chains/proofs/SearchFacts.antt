@@ -1,5 +1,5 @@
 -- What plain search over lists finds.
-use Rattle.std.proofs.Common.{◌≡◌, ℕ, ◌+◌, ◌<◌, ◌⊎◌, ◌&&◌, ◌||◌, Bool, true, false, cond, List, [], ◌∷◌, ◌++◌, length, map, refl, sym, ap, ◌∙◌, subst, inl, inr, arith}
+use Rattle.std.proofs.Common.{◌≡◌, ◌⊎◌, ◌&&◌, ◌||◌, Bool, true, false, cond, List, [], ◌∷◌, ◌++◌, map, refl, sym, subst, inl, inr, arith}
 use Rattle.std.specs.List.{Contains, filter, list_all, list_any}
 use Rattle.std.proofs.lemmas.List.Elements.{Contains-append_cases, Contains-append_left, Contains-append_right, Contains-push, Contains-push_cases}
 use Rattle.std.proofs.lemmas.List.Folds.{Any-from_list_any, list_any-from_Any}
@@ -103,19 +103,19 @@ kept_from {A} p (y ∷ ys) x inside = go (λ (rest : Contains (filter p ys) x). 
 
 -- ---- sublists
 
-map_inside : {A B : Type 0} (f : A → B) (xs : List A) (x : A) → Contains xs x → Contains (map f xs) (f x)
+pub map_inside : {A B : Type 0} (f : A → B) (xs : List A) (x : A) → Contains xs x → Contains (map f xs) (f x)
 map_inside f [] x inside = absurd (none_inside x inside)
 map_inside {A} {B} f (y ∷ ys) x inside = elim (inside_cases y x ys inside) [
   | inl same ↦ (let P : A → Type 0 = λ z. Contains (f y ∷ map f ys) (f z) in subst P same (first_inside (f y) (map f ys)))
   | inr later ↦ rest_inside (f y) (f x) (map f ys) (map_inside f ys x later)
 ]
 
-record IsImage {A B : Type 0} (f : A → B) (xs : List A) (y : B) : Type 0 where
-  from : A
-  member : Contains xs from
-  is : f from ≡ y
+pub record IsImage {A B : Type 0} (f : A → B) (xs : List A) (y : B) : Type 0 where
+  pub from : A
+  pub member : Contains xs from
+  pub is : f from ≡ y
 
-map_from : {A B : Type 0} (f : A → B) (xs : List A) (y : B) → Contains (map f xs) y → IsImage f xs y
+pub map_from : {A B : Type 0} (f : A → B) (xs : List A) (y : B) → Contains (map f xs) y → IsImage f xs y
 map_from f [] y inside = absurd (none_inside y inside)
 map_from f (x ∷ xs) y inside = elim (inside_cases (f x) y (map f xs) inside) [
   | inl same ↦ record { from = x; member = first_inside x xs; is = same }

@@ -1,27 +1,29 @@
 -- Which verdict it is: good exactly where a plan exists, held exactly for a candidate in no plan, lack exactly for
 -- no candidate.
-use Rattle.std.proofs.Common.{◌≡◌, ℕ, zero, suc, ◌⊎◌, ◌&&◌, ◌||◌, ◌++◌, Bool, true, false, not, cond, map, List, [], ◌∷◌, length, Option, Some, None, refl, sym, ap, ◌∙◌, subst, inl, inr}
+use Rattle.std.proofs.Common.{◌≡◌, ℕ, zero, suc, ◌⊎◌, ◌&&◌, ◌||◌, ◌++◌, Bool, true, false, not, cond, List, [], ◌∷◌, length, Option, Some, None, refl, sym, ap, subst, inl, inr}
 use Rattle.std.specs.Prelude.{◌↔◌, is_none, is_some}
-use Rattle.std.specs.List.{Contains, filter, find, list_all, list_any}
+use Rattle.std.specs.List.{Contains, filter, find, list_any}
 use Rattle.std.proofs.lemmas.List.Elements.{Contains-append_left, Contains-push, Contains-push_cases}
 use Rattle.zone_lists.specs.declared.zones.ZoneRow.{ZoneRow}
 use Rattle.zone_lists.specs.Installed.{is_installed}
 use Rattle.catalogue.specs.Content.{Content, ids_of, record_of}
 use Rattle.catalogue.specs.Ids.{in_order, same_id}
 use Rattle.catalogue.specs.declared.sysmod.Sysmod.{Sysmod}
-use Rattle.catalogue.proofs.IdOrder.{in_order_has, itself, one_id}
+use Rattle.catalogue.proofs.IdOrder.{in_order_has, itself}
 use Rattle.supersede.specs.Giving.{fmids_of, gives, is_candidate, is_there, needs_of, sup_of, supersedes_within}
-use Rattle.requisites.specs.World.{IsGivenIn, IsGood, IsPlan}
+use Rattle.supersede.specs.Leading.{IsThere}
+use Rattle.supersede.proofs.LeadingFacts.{gives_is, there_is}
+use Rattle.requisites.specs.World.{IsGivenIn, IsGood}
 use Rattle.chains.specs.Judge.{status_of}
-use Rattle.chains.specs.Verdicts.{Judged, blocked_need, candidates, chosen_plan, good, held, held_for, is_good, lack, open_needs, pick_for, verdict_of}
+use Rattle.chains.specs.Verdicts.{Judged, blocked_need, candidates, chosen_plan, good, held_for, is_good, lack, open_needs, pick_for, verdict_of}
 use Rattle.chains.specs.Worlds.{IsRightStatus, world_of}
 use Rattle.chains.specs.declared.verdict.Status.{Status}
 use Rattle.chains.specs.declared.verdict.Status.TheVariants as status
-use Rattle.chains.proofs.SearchFacts.{IsKept, any_at, both_true, kept_from, kept_inside, left_true, first_true, second_true}
+use Rattle.chains.proofs.SearchFacts.{any_at, both_true, kept_from, kept_inside, left_true, first_true, second_true}
 use Rattle.chains.proofs.GoodFacts.{candidate_inside, good_found, good_from}
 
 -- what plain search passed over
-find_none : {A : Type 0} (p : A → Bool) (xs : List A) (x : A) → find p xs ≡ None → Contains xs x → p x ≡ false
+pub find_none : {A : Type 0} (p : A → Bool) (xs : List A) (x : A) → find p xs ≡ None → Contains xs x → p x ≡ false
 find_none {A} p xs x none inside = go (p x) refl where
   go : (b : Bool) → p x ≡ b → p x ≡ false
   go false e = e
@@ -34,27 +36,27 @@ find_none {A} p xs x none inside = go (p x) refl where
       step false rest none any = rest none any
 
 -- what plain search found
-record IsFound {A : Type 0} (p : A → Bool) (x : A) : Type 0 where
-  passes : p x ≡ true
+pub record IsFound {A : Type 0} (p : A → Bool) (x : A) : Type 0 where
+  pub passes : p x ≡ true
 
-find_some : {A : Type 0} (p : A → Bool) (xs : List A) (x : A) → find p xs ≡ Some x → IsFound p x
+pub find_some : {A : Type 0} (p : A → Bool) (xs : List A) (x : A) → find p xs ≡ Some x → IsFound p x
 find_some p [] x e = absurd (cc)
 find_some {A} p (y ∷ ys) x e = step (p y) refl (find_some p ys x) e where
   step : (b : Bool) → p y ≡ b → (find p ys ≡ Some x → IsFound p x) → cond b (Some y) (find p ys) ≡ Some x → IsFound p x
   step true on rest e = let same : y ≡ x = (cc) in let P : A → Type 0 = λ z. IsFound p z in subst P same (record { passes = on })
   step false off rest e = rest e
 
-some_unless_none : {A : Type 0} (o : Option A) → is_none o ≡ false → (x : A) × (o ≡ Some x)
+pub some_unless_none : {A : Type 0} (o : Option A) → is_none o ≡ false → (x : A) × (o ≡ Some x)
 some_unless_none None e = absurd (cc)
 some_unless_none (Some x) e = (x, refl)
 
-true_unless_false : (b : Bool) → (b ≡ false → ⊥) → b ≡ true
+pub true_unless_false : (b : Bool) → (b ≡ false → ⊥) → b ≡ true
 true_unless_false true h = refl
 true_unless_false false h = absurd (h refl)
 
 module _ (content : Content) (rows : List ZoneRow) where
   -- a candidate gives itself
-  candidate_gives : (id : List ℕ) → is_candidate content rows id ≡ true → gives content id id ≡ true
+  pub candidate_gives : (id : List ℕ) → is_candidate content rows id ≡ true → gives content id id ≡ true
   candidate_gives id h = both_true (is_some (record_of content id)) (supersedes_within content (length content.sysmods) id id) (catalogued (record_of content id) h) (reaches (length content.sysmods)) where
     catalogued : (o : Option Sysmod) → list_any (λ fmid. is_installed rows fmid) (fmids_of o) ≡ true → is_some o ≡ true
     catalogued None h = absurd (cc)
@@ -79,22 +81,22 @@ module _ (content : Content) (rows : List ZoneRow) where
   -- a need with a pick is given by something good
   picked_given : (members : List (List ℕ)) (need pick : List ℕ) → ((id : List ℕ) → Contains goods id → Contains members id) → pick_for content rows need ≡ Some pick → IsGivenIn (world_of content rows) members need
   picked_given members need pick wider e = go (is_good content rows need) refl e where
-    go : (b : Bool) → is_good content rows need ≡ b → cond b (Some need) (find (λ id. is_good content rows id && gives content id need) (ids_of content)) ≡ Some pick → IsGivenIn (world_of content rows) members need
+    go : (b : Bool) → is_good content rows need ≡ b → cond b (Some need) (find (λ id. is_good content rows id && gives content id need) (in_order (ids_of content))) ≡ Some pick → IsGivenIn (world_of content rows) members need
     go true on e = let is = good_from content rows need on in record {
       giver = need;
       member = wider need (good_inside need is);
-      gives = candidate_gives need (is.plan.candidates need is.member);
+      gives = (gives_is content need need).0 (candidate_gives need (is.plan.candidates need is.member));
     }
     go false off e =
-        let passes = (find_some (λ id. is_good content rows id && gives content id need) (ids_of content) pick e).passes in
+        let passes = (find_some (λ id. is_good content rows id && gives content id need) (in_order (ids_of content)) pick e).passes in
         record {
           giver = pick;
           member = wider pick (good_inside pick (good_from content rows pick (first_true (is_good content rows pick) (gives content pick need) passes)));
-          gives = second_true (is_good content rows pick) (gives content pick need) passes;
+          gives = (gives_is content pick need).0 (second_true (is_good content rows pick) (gives content pick need) passes);
         }
 
   -- a candidate without a blocked need is good
-  unblocked_good : (id : List ℕ) → is_candidate content rows id ≡ true → blocked_need content rows id ≡ None → IsGood (world_of content rows) id
+  pub unblocked_good : (id : List ℕ) → is_candidate content rows id ≡ true → blocked_need content rows id ≡ None → IsGood (world_of content rows) id
   unblocked_good id candidate none = record {
     members = goods ++ id ∷ [];
     plan = record {
@@ -112,7 +114,7 @@ module _ (content : Content) (rows : List ZoneRow) where
     wider : (x : List ℕ) → Contains goods x → Contains (goods ++ id ∷ []) x
     wider x inside = Contains-append_left goods (id ∷ []) x inside
 
-    of_good : (y r : List ℕ) → IsGood (world_of content rows) y → Contains (needs_of content y) r → (is_there content rows r ≡ true) ⊎ IsGivenIn (world_of content rows) (goods ++ id ∷ []) r
+    of_good : (y r : List ℕ) → IsGood (world_of content rows) y → Contains (needs_of content y) r → IsThere content rows r ⊎ IsGivenIn (world_of content rows) (goods ++ id ∷ []) r
     of_good y r is needs = elim (is.plan.needs_met y r is.member needs) [
       | inl there ↦ inl there
       | inr given ↦ inr (record {
@@ -122,10 +124,10 @@ module _ (content : Content) (rows : List ZoneRow) where
       })
     ]
 
-    own : (r : List ℕ) → Contains (needs_of content id) r → (is_there content rows r ≡ true) ⊎ IsGivenIn (world_of content rows) (goods ++ id ∷ []) r
+    own : (r : List ℕ) → Contains (needs_of content id) r → IsThere content rows r ⊎ IsGivenIn (world_of content rows) (goods ++ id ∷ []) r
     own r needs = go (is_there content rows r) refl where
-      go : (b : Bool) → is_there content rows r ≡ b → (is_there content rows r ≡ true) ⊎ IsGivenIn (world_of content rows) (goods ++ id ∷ []) r
-      go true there = inl there
+      go : (b : Bool) → is_there content rows r ≡ b → IsThere content rows r ⊎ IsGivenIn (world_of content rows) (goods ++ id ∷ []) r
+      go true there = inl ((there_is content rows r).0 there)
       go false absent =
           let listed : Contains (open_needs content rows id) r = kept_inside (λ (need : List ℕ). not (is_there content rows need)) (needs_of content id) r needs (ap not absent) in
           let passed = find_none (λ (need : List ℕ). is_none (pick_for content rows need)) (in_order (open_needs content rows id)) r none ((in_order_has (open_needs content rows id) r).1 listed) in
@@ -141,7 +143,7 @@ module _ (content : Content) (rows : List ZoneRow) where
     is_held_for : (v ≡ status.Held) ↔ ((is_candidate content rows id ≡ true) × (¬ IsGood (world_of content rows) id))
     is_lack_for : (v ≡ status.Lack) ↔ (¬ (is_candidate content rows id ≡ true))
 
-  not_good : (id : List ℕ) → is_good content rows id ≡ false → IsGood (world_of content rows) id → ⊥
+  pub not_good : (id : List ℕ) → is_good content rows id ≡ false → IsGood (world_of content rows) id → ⊥
   not_good id off is = let on : is_good content rows id ≡ true = good_found content rows id is in cc
 
   right_by : (id : List ℕ) (plan : List (List ℕ)) (b c : Bool) (o : Option (List ℕ)) → is_good content rows id ≡ b → is_candidate content rows id ≡ c → blocked_need content rows id ≡ o → (v : Status) → v ≡ status_of (verdict_by b c o plan) → IsRight id v

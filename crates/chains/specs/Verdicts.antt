@@ -37,7 +37,7 @@ module _ (content : Content) (rows : List ZoneRow) where
 
   -- the pick for a need: the need itself where it is good, else the least good id that gives it
   abbrev pub pick_for : List ℕ → Option (List ℕ)
-  pick_for need = if is_good need then Some need else find (λ id. is_good id && gives content id need) (ids_of content)
+  pick_for need = if is_good need then Some need else find (λ id. is_good id && gives content id need) (in_order (ids_of content))
 
   -- the needs of an id that aren't there
   abbrev pub open_needs : List ℕ → List (List ℕ)
@@ -51,7 +51,7 @@ module _ (content : Content) (rows : List ZoneRow) where
 
   -- the chosen plan of a good id: the ids to which picks lead from it, itself among them, ascending
   abbrev pub chosen_plan : List ℕ → List (List ℕ)
-  chosen_plan id = filter (picked_within (length content.sysmods) id) (ids_of content)
+  chosen_plan id = filter (picked_within (length content.sysmods) id) (in_order (ids_of content))
 
   -- the least need of an id that isn't there and that no good id gives
   abbrev pub blocked_need : List ℕ → Option (List ℕ)

@@ -72,6 +72,10 @@ pub record HasClosedNeed (nodes : Nodes) (marks : List Bool) (p : ℕ) : Type 0 
 pub record AreUnmarked (marks : List Bool) (places : List ℕ) : Type 0 where
   pub each : (p : ℕ) → Contains places p → mark_of marks p ≡ false
 
+-- each of these places is among others
+pub record AreAmong (places others : List ℕ) : Type 0 where
+  pub each : (p : ℕ) → Contains places p → Contains others p
+
 -- a place that isn't marked, and that nothing open supersedes
 pub record CanClose (superseders : List (Vec ℕ)) (marks opens : List Bool) (p : ℕ) : Type 0 where
   pub place : p < length opens

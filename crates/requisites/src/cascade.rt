@@ -4,10 +4,10 @@
 //! place falls. Each fall and each closing wakes those that it may concern, so that the whole takes
 //! time in proportion to the nodes and their links. Places that supersede each other in a ring keep
 //! each other open: a sweep finds these.
-ghost use Rattle.std.specs.Prelude.{◌≡◌, ◌≤◌, ◌<◌, ℕ, [], length, Contains, IfOk, OnOk};
+ghost use Rattle.std.specs.Prelude.{◌≡◌, ◌≤◌, false, length, OnOk};
 ghost use Rattle.std.specs.Bool.{OnTrue};
-ghost use Rattle.requisites.specs.Good.{AreMarksLeft, AreOpen, AreReversed, AreUnmarked, CanClose, ComesNearer, HasClosedNeed, marked_count};
-ghost use Rattle.requisites.specs.Nodes.{IsMarked};
+ghost use Rattle.requisites.specs.Good.{AreAmong, AreMarksLeft, AreOpen, AreReversed, AreUnmarked, CanClose, ComesNearer, HasClosedNeed, marked_count};
+ghost use Rattle.requisites.specs.Nodes.{mark_of, row};
 
 use crate::nodes::{Nodes, is_marked, row_at};
 use std::alloc::{AllocError, Global};
@@ -150,7 +150,9 @@ fn wake(
     supports: &mut [usize],
     work: &mut Vec<usize>,
     place: usize,
-) -> Result<(), AllocError> {
+) -> Result<(), AllocError>
+    ensures needed { OnOk result (mark_of nodes.now.there.items place ≡ false → AreAmong (row needed_by.now place) work.new.items) }
+{
     for below in row_at(&nodes.supersedes, place) {
         if lose_support(supports, *below) {
             work.push(*below)?;

@@ -11,7 +11,8 @@ pub struct Nodes {
     pub candidates: Vec<bool>,
     /// Whether the id is there already, or something installed gives it.
     pub there: Vec<bool>,
-    /// What the id needs. A need that is no place isn't there, and nothing gives it.
+    /// What the id needs. A need past the end of `candidates` is no place: nothing gives it, and it is there
+    /// just where `there` is long enough to mark it.
     pub needs: Vec<Vec<usize>>,
     /// What the id supersedes.
     pub supersedes: Vec<Vec<usize>>,

@@ -1,4 +1,4 @@
-//! Verdicts on places: worked cases, all small ones beside a plain slow body, and hard shapes at length.
+//! Verdicts on places: worked cases, and hard shapes at length.
 use crate::{Nodes, Verdict, resolve, verdict_of_place};
 use std::alloc::{AllocError, Global};
 use std::test::Fail;

@@ -1,4 +1,6 @@
 mod Examples
 pub mod GivingFacts
 pub mod LeadingFacts
+mod ReachFacts
+mod SearchFacts
 pub mod ZoneFacts

@@ -1,12 +1,10 @@
 -- Which SYSMODs stand for others: what gives what, what is there in a zone, and what may be installed there
 -- (IBM z/OS SMP/E Reference, `++VER`, operands SUP, FMID, PRE, REQ, and `++HOLD`, operand REASON).
-use Rattle.std.specs.Prelude.{ℕ, zero, suc, ◌&&◌, ◌||◌, ◌++◌, ◌==◌, Bool, List, [], Option, Some, None, filter, is_some, length, map}
+use Rattle.std.specs.Prelude.{ℕ, zero, suc, ◌&&◌, ◌||◌, ◌++◌, Bool, List, [], Option, Some, None, filter, is_some, length}
 use Rattle.std.specs.List.{list_any}
-use Rattle.holddata.specs.HoldKey.{kind_place}
-use Rattle.holddata.specs.declared.key.Kind.TheVariants.{ErrorHold}
 use Rattle.zone_lists.specs.Installed.{is_installed, is_installed_state, is_listed}
 use Rattle.zone_lists.specs.declared.zones.ZoneRow.{ZoneRow}
-use Rattle.catalogue.specs.Content.{Content, holds_on, ids_of, record_of}
+use Rattle.catalogue.specs.Content.{Content, error_reasons, ids_of, record_of}
 use Rattle.catalogue.specs.Ids.{same_id}
 use Rattle.catalogue.specs.declared.sysmod.Sysmod.{Sysmod}
 
@@ -48,11 +46,6 @@ is_there content rows id =
 -- whether an id may be installed in a zone: it is catalogued, and one of its FMIDs is installed there
 abbrev pub is_candidate : Content → List ZoneRow → List ℕ → Bool
 is_candidate content rows id = list_any (λ fmid. is_installed rows fmid) (fmids_of (record_of content id))
-
--- the reasons of the ERROR holds on an id
-abbrev pub error_reasons : Content → List ℕ → List (List ℕ)
-error_reasons content id =
-    map (λ hold. hold.key.reason) (filter (λ hold. kind_place hold.key.kind == kind_place ErrorHold) (holds_on content id))
 
 -- what an id needs: its PRE, its REQ, and the reasons of the ERROR holds on it
 abbrev pub needs_of : Content → List ℕ → List (List ℕ)

@@ -1,3 +1,4 @@
 pub mod Giving
 pub mod Leading
+pub mod Reach
 pub mod Zone

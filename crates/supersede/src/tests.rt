@@ -1,6 +1,9 @@
-//! Look-ups in a zone.
-use crate::{Zone, there};
-use mcs_reader::Id;
+//! Look-ups in a zone, and what gives what.
+use crate::{Zone, givers, there};
+use catalogue::{ListPublished, read_changes};
+use mcs_reader::{Id, read};
+use std::alloc::Global;
+use std::fmt::Write;
 use std::test::Fail;
 use zone_lists::zone_rows;
 
@@ -45,5 +48,58 @@ fn a_sysmod_is_there_by_itself_or_by_an_installed_giver(rt: HostRuntime) -> Resu
         !there(&zone, &reason, &[superseded]),
         "given by one that is superseded"
     );
+    Ok(())
+}
+
+// The SYSMODs that give an id, in print.
+fn givers_of(alloc: Global, source: &[u8], id: &str) -> Result<String, Fail> {
+    let mut lists = ListPublished::new(alloc);
+    lists.publish(&read_changes(alloc, &read(alloc, source)?)?)?;
+    let id = Id::new(id.as_bytes()).ok_or("an id")?;
+    let mut text = String::new(alloc);
+    for giver in givers(alloc, &mut lists, &id)? {
+        text.push_str(giver.text())?;
+        text.push(' ')?;
+    }
+    Ok(text)
+}
+
+#[test]
+fn a_sysmod_gives_what_it_supersedes_itself_or_through_others(rt: HostRuntime) -> Result<(), Fail> {
+    let source = b"\
+++PTF(UA10015).
+++VER(Z038) SUP(UA10014).
+++PTF(UA10014).
+++VER(Z038) SUP(AA50001).
+++PTF(UA10016).
+++VER(Z038) SUP(UA10017).
+++PTF(UA10017).
+++VER(Z038) SUP(UA10016).
+";
+    let cases = [
+        ("AA50001", "UA10014 UA10015 "),
+        ("UA10014", "UA10014 UA10015 "),
+        ("UA10015", "UA10015 "),
+        ("UA10016", "UA10016 UA10017 "),
+        ("UA10017", "UA10016 UA10017 "),
+        ("AA50002", ""),
+    ];
+    for (id, wanted) in cases {
+        assert_eq!(rt; givers_of(rt.alloc(), source, id)?.as_str(), wanted, "{id}");
+    }
+    Ok(())
+}
+
+#[test]
+fn a_long_row_of_superseding(rt: HostRuntime) -> Result<(), Fail> {
+    let mut source = String::new(rt.alloc());
+    let mut wanted = String::new(rt.alloc());
+    for n in 0u32..10_000 {
+        let above = n + 1;
+        write!(source, "++PTF(U{above:06}).\n++VER(Z038) SUP(U{n:06}).\n")?;
+        write!(wanted, "U{above:06} ")?;
+    }
+    let found = givers_of(rt.alloc(), source.as_bytes(), "U000000")?;
+    assert!(rt; found == wanted);
     Ok(())
 }

@@ -1,5 +1,10 @@
 use Rattle.chains.proofs.StatusFacts.{right_status}
+use Rattle.chains.proofs.VerdictLaws.{found_verdict, verdict_is}
 use Rattle.chains.proofs.laws.verdicts_are_right.Goals as goal
 
 pub returns : goal.returns
-returns c = λ content rows id. right_status content rows id
+returns c = record {
+  status = λ content rows id. right_status content rows id;
+  verdict = λ content rows id. found_verdict content rows id;
+  alone = λ content rows id judged is. verdict_is content rows id judged is;
+}

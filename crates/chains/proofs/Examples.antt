@@ -1,0 +1,86 @@
+-- Worked examples of the definitions: verdicts on the SYSMODs of small contents.
+use Rattle.std.proofs.Common.{◌≡◌, ℕ, List, [], ◌∷◌, ◌++◌, codes, Some, None, refl}
+use Rattle.mcs_reader.specs.Id.{padded}
+use Rattle.holddata.specs.declared.hold.Hold.{Hold}
+use Rattle.holddata.specs.declared.key.Kind.TheVariants.{ErrorHold}
+use Rattle.zone_lists.specs.declared.zones.ZoneRow.{ZoneRow}
+use Rattle.zone_lists.specs.declared.zones.ZoneState.TheVariants.{Applied}
+use Rattle.catalogue.specs.Content.{Content}
+use Rattle.catalogue.specs.declared.sysmod.Sysmod.{Sysmod}
+use Rattle.catalogue.specs.declared.sysmod.SysmodKind.TheVariants.{Ptf}
+use Rattle.chains.specs.Verdicts.{good, held, lack, verdict_of}
+
+abbrev function : List ℕ
+function = padded (codes "HBB7790")
+
+abbrev first : List ℕ
+first = padded (codes "UA10001")
+
+abbrev second : List ℕ
+second = padded (codes "UA10002")
+
+abbrev third : List ℕ
+third = padded (codes "UA10004")
+
+abbrev apar : List ℕ
+apar = padded (codes "AA20002")
+
+abbrev later_apar : List ℕ
+later_apar = padded (codes "AA30003")
+
+-- a PTF for the function
+abbrev ptf : List ℕ → List (List ℕ) → List (List ℕ) → List (List ℕ) → Sysmod
+ptf id pre req sup = record { id = id; kind = Ptf; fmids = function ∷ []; pre = pre; req = req; sup = sup }
+
+abbrev error : List ℕ → List ℕ → Hold
+error id reason = record { key = record { sysmod = id; kind = ErrorHold; reason = reason }; fmid = Some function; class = None; resolver = None; dated = None; categories = [] }
+
+-- an error of the first PTF, which the second fixes
+abbrev base : List Sysmod
+base = ptf first [] [] [] ∷ ptf second (first ∷ []) [] (apar ∷ []) ∷ []
+
+abbrev published : Content
+published = record { sysmods = base; holds = error first apar ∷ [] }
+
+-- an error of the second too
+abbrev second_held : Content
+second_held = record { sysmods = base; holds = error first apar ∷ error second later_apar ∷ [] }
+
+-- and a third, which needs the second and fixes its error
+abbrev second_fixed : Content
+second_fixed = record { sysmods = base ++ ptf third (second ∷ []) [] (later_apar ∷ []) ∷ []; holds = error first apar ∷ error second later_apar ∷ [] }
+
+-- two PTFs that each go with the other
+abbrev each_other : Content
+each_other = record { sysmods = ptf first [] (second ∷ []) [] ∷ ptf second [] (first ∷ []) [] ∷ []; holds = [] }
+
+-- a zone with the function and the first PTF, and one with the function alone
+abbrev zone : List ZoneRow
+zone = record { sysmod = function; state = Applied } ∷ record { sysmod = first; state = Applied } ∷ []
+
+abbrev bare_zone : List ZoneRow
+bare_zone = record { sysmod = function; state = Applied } ∷ []
+
+what_is_there_is_not_chosen : verdict_of published zone second ≡ good (second ∷ [])
+what_is_there_is_not_chosen = refl
+
+what_is_not_there_is_chosen_too : verdict_of published bare_zone second ≡ good (first ∷ second ∷ [])
+what_is_not_there_is_chosen_too = refl
+
+an_error_that_is_fixed_together : verdict_of published bare_zone first ≡ good (first ∷ second ∷ [])
+an_error_that_is_fixed_together = refl
+
+an_error_that_nothing_fixes : verdict_of second_held zone second ≡ held later_apar
+an_error_that_nothing_fixes = refl
+
+the_fix_needs_what_it_fixes : verdict_of second_fixed zone second ≡ good (second ∷ third ∷ [])
+the_fix_needs_what_it_fixes = refl
+
+each_with_the_other : verdict_of each_other bare_zone second ≡ good (first ∷ second ∷ [])
+each_with_the_other = refl
+
+not_catalogued : verdict_of published zone apar ≡ lack
+not_catalogued = refl
+
+another_function : verdict_of published [] first ≡ lack
+another_function = refl

@@ -1,0 +1,14 @@
+use Rattle.std.proofs.Common.{◌≡◌, length, map, take}
+use Rattle.catalogue.specs.Published.{Tells}
+use Rattle.chains.specs.Sights.{sight_of}
+use Rattle.chains.proofs.listing.entries_of.Given as goal
+
+abbrev pub invariant-loop-id : goal.invariant-loop-id
+invariant-loop-id g l =
+    let source = g.P.Published in
+    record {
+      len : length l.entries.items ≡ l.id-index;
+      keeps : source.keeps l.fn.source l.source;
+      told : Tells source.is_clean source.is_ours source.is_open source.content l.fn.source l.source
+          (λ content. l.entries.items ≡ map (sight_of content l.zone) (take l.id-index l.ids));
+    }

@@ -1,0 +1,6 @@
+use Rattle.std.proofs.Common.{◌≡◌, ◌++◌, take}
+use Rattle.std.specs.List.{flat_map}
+use Rattle.chains.proofs.places.listed_with_needs.Given as goal
+
+abbrev pub invariant-loop-entry : goal.invariant-loop-entry
+invariant-loop-entry l = l.all.items ≡ l.ids ++ flat_map (λ entry. entry.needs) (take l.entry-index l.entries)

@@ -1,0 +1,155 @@
+//! All that is catalogued and all that it needs, as nodes by their places.
+ghost use Rattle.std.specs.Prelude.{◌≡◌, ◌↔◌, ◌⊎◌, ℕ, List, true, Contains, IfOk, length, map};
+ghost use Rattle.std.specs.Global.{Vec};
+ghost use Rattle.zone_lists.specs.Installed.{is_installed, is_listed};
+ghost use Rattle.catalogue.specs.Content.{Content, ids_of};
+ghost use Rattle.catalogue.specs.Ids.{Ascend};
+ghost use Rattle.requisites.specs.Nodes.{world};
+ghost use Rattle.requisites.specs.Sources.{HasSource, source_of};
+ghost use Rattle.chains.specs.Cuts.{IsCut, id_at};
+ghost use Rattle.chains.specs.Places.{AreNodesWithin, AreSeen, AreThere, IsThereAt, MarksAre};
+ghost use Rattle.chains.specs.Sights as Sights;
+ghost use Rattle.chains.specs.Sights.{IsSeen, Sight, sight_of};
+ghost use Rattle.chains.specs.Worlds.{world_of};
+
+use crate::listing::Entry;
+use crate::places::{members_of, place_of, places_of};
+use mcs_reader::Id;
+use requisites::{Nodes, least_sources};
+use std::alloc::{AllocError, Global};
+use supersede::Zone;
+
+/// Ids in ascending order, and what a zone and the catalogue say of each, by places.
+#[derive(Debug, Drop)]
+pub(crate) struct Cut {
+    pub(crate) members: Vec<Id>,
+    pub(crate) nodes: Nodes,
+}
+
+impl Cut {
+    /// All that is catalogued, and all that it needs. `entries` are those of the ids, in their order.
+    pub(crate) fn of(
+        alloc: Global,
+        zone: &Zone,
+        ids: &[Id],
+        entries: &[Entry],
+    ) -> Result<Cut, AllocError>
+        requires ascend { Ascend ids.now }
+        requires entries { length entries.now ≡ length ids.now }
+        ensures ascend { IfOk result (λ cut. Ascend cut.members.items) }
+        ensures cut { IfOk result (λ cut. (content : Content) → ids.now ≡ ids_of content → entries.now ≡ map (sight_of content zone.now) ids.now
+            → IsCut (world_of content zone.now) cut.members.items (world cut.nodes)) }
+        ensures within { IfOk result (λ cut. AreNodesWithin cut.members.items cut.nodes) }
+        ensures ids { IfOk result (λ cut. (id : List ℕ) → Contains ids.now id → Contains cut.members.items id) }
+    {
+        let members = members_of(alloc, ids, entries)?;
+        let nodes = nodes_of(alloc, zone, &members, ids, entries)?;
+        Ok(Cut { members, nodes })
+    }
+}
+
+fn nodes_of(
+    alloc: Global,
+    zone: &Zone,
+    members: &[Id],
+    ids: &[Id],
+    entries: &[Entry],
+) -> Result<Nodes, AllocError>
+    requires members { Ascend members.now }
+    requires ascend { Ascend ids.now }
+    requires entries { length entries.now ≡ length ids.now }
+    ensures seen { IfOk result (λ nodes. (f : List ℕ → Sight) → entries.now ≡ map f ids.now
+        → AreSeen f ids.now members.now (length members.now) nodes.candidates.items nodes.needs.items nodes.supersedes.items) }
+    ensures within { IfOk result (λ nodes. AreNodesWithin members.now nodes) }
+    ensures there { IfOk result (λ nodes. AreThere zone.now members.now nodes.supersedes.items nodes.there.items) }
+{
+    let unseen = Entry::unseen(alloc);
+    let mut candidates = Vec::with_capacity(alloc, members.len())?;
+    let mut needs = Vec::with_capacity(alloc, members.len())?;
+    let mut supersedes = Vec::with_capacity(alloc, members.len())?;
+    for member in members {
+        let entry = entry_for(ids, entries, &unseen, member);
+        candidates.push(entry.is_candidate())?;
+        needs.push(places_of(alloc, members, entry.needs())?)?;
+        supersedes.push(places_of(alloc, members, entry.superseded())?)?;
+    }
+    let there = there_marks(alloc, zone, members, &supersedes)?;
+    Ok(Nodes {
+        candidates,
+        there,
+        needs,
+        supersedes,
+    })
+}
+
+// The entry of an id, or the other one where the ids don't have it.
+fn entry_for<'a>(ids: &[Id], entries: &'a [Entry], unseen: &'a Entry, id: &Id) -> &'a Entry
+    requires ascend { Ascend ids.now }
+    requires entries { length entries.now ≡ length ids.now }
+    requires unseen { unseen.now ≡ Sights.unseen }
+    ensures { (f : List ℕ → Sight) → entries.now ≡ map f ids.now → IsSeen f ids.now id.now result.now }
+{
+    match place_of(ids, id) {
+        Some(place) => &entries[place],
+        None => unseen,
+    }
+}
+
+// Which members are there: those that the zone lists, and what the installed ones supersede, themselves
+// or through others.
+fn there_marks(
+    alloc: Global,
+    zone: &Zone,
+    members: &[Id],
+    supersedes: &[Vec<usize>],
+) -> Result<Vec<bool>, AllocError>
+    ensures { IfOk result (λ marks. AreThere zone.now members.now supersedes.now marks.items) }
+{
+    let installed = installed_marks(alloc, zone, members)?;
+    let sources = least_sources(alloc, supersedes, &installed)?;
+    listed_or_given(alloc, zone, members, &sources)
+}
+
+fn installed_marks(alloc: Global, zone: &Zone, members: &[Id]) -> Result<Vec<bool>, AllocError>
+    ensures { IfOk result (λ marks. MarksAre (λ p mark. mark ≡ is_installed zone.now (id_at members.now p)) (length members.now) marks.items) }
+{
+    let mut marks = Vec::with_capacity(alloc, members.len())?;
+    for member in members {
+        marks.push(zone.installed(member))?;
+    }
+    Ok(marks)
+}
+
+fn listed_or_given(
+    alloc: Global,
+    zone: &Zone,
+    members: &[Id],
+    sources: &[Option<usize>],
+) -> Result<Vec<bool>, AllocError>
+    ensures { IfOk result (λ marks. MarksAre (IsThereAt zone.now members.now (HasSource sources.now)) (length members.now) marks.items) }
+{
+    let mut marks = Vec::with_capacity(alloc, members.len())?;
+    for (place, member) in members.iter().enumerate() {
+        marks.push(is_there(zone, member, sources, place))?;
+    }
+    Ok(marks)
+}
+
+// Whether a member at a place is listed or has a source.
+fn is_there(zone: &Zone, member: &Id, sources: &[Option<usize>], place: usize) -> bool
+    ensures { (result ≡ true) ↔ ((is_listed zone.now member.now ≡ true) ⊎ HasSource sources.now place) }
+{
+    zone.listed(member) || has_source(sources, place)
+}
+
+fn has_source(sources: &[Option<usize>], place: usize) -> bool
+    ensures { (result ≡ true) ↔ HasSource sources.now place }
+{
+    source_at(sources, place).is_some()
+}
+
+fn source_at(sources: &[Option<usize>], place: usize) -> Option<usize>
+    ensures { result ≡ source_of sources.now place }
+{
+    sources.get(place).copied().flatten()
+}

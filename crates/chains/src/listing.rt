@@ -1,0 +1,141 @@
+//! What a source says of all that is catalogued, read once.
+ghost use Rattle.std.specs.Prelude.{◌≡◌, ◌++◌, length, map, IfOk, OnOk};
+ghost use Rattle.std.specs.List.{list_any};
+ghost use Rattle.zone_lists.specs.Installed.{is_installed};
+ghost use Rattle.catalogue.specs.Published.{FailsWithCause, Tells};
+ghost use Rattle.chains.specs.Sights.{reasons_in, sight_from, sight_of, unseen};
+
+use catalogue::{Ids, Published, SourceFault, Sysmod};
+use holddata::{Hold, Kind};
+use mcs_reader::Id;
+use std::alloc::{AllocError, Global};
+use std::marker::Model;
+use supersede::Zone;
+
+/// What is read of a SYSMOD. A contract sees it with its lists.
+#[derive(Debug, Drop)]
+pub(crate) struct Entry {
+    pub(crate) candidate: bool,
+    pub(crate) needs: Vec<Id>,
+    pub(crate) superseded: Vec<Id>,
+}
+
+impl Model for Entry {
+    ghost use Rattle.chains.specs.Sights.{Sight};
+
+    ghost Value = { Sight };
+
+    ghost view = { λ entry. record { candidate = entry.candidate; needs = entry.needs.items; superseded = entry.superseded.items } };
+}
+
+impl Entry {
+    /// Of what isn't catalogued. It takes no memory.
+    pub(crate) fn unseen(alloc: Global) -> Self
+        ensures { result ≡ unseen }
+    {
+        Entry {
+            candidate: false,
+            needs: Vec::new(alloc),
+            superseded: Vec::new(alloc),
+        }
+    }
+
+    pub(crate) fn is_candidate(&self) -> bool
+        ensures { result ≡ self.now.candidate }
+    {
+        self.candidate
+    }
+
+    pub(crate) fn needs(&self) -> &[Id]
+        ensures { result.now ≡ self.now.needs }
+    {
+        self.needs.as_slice()
+    }
+
+    pub(crate) fn superseded(&self) -> &[Id]
+        ensures { result.now ≡ self.now.superseded }
+    {
+        self.superseded.as_slice()
+    }
+}
+
+/// What the source says of each of the SYSMODs, in their order.
+pub(crate) fn entries_of<P: Published>(
+    alloc: Global,
+    source: &mut P,
+    zone: &Zone,
+    ids: &[Id],
+) -> Result<Vec<Entry>, SourceFault>
+    ensures keeps { P.keeps source.old source.new }
+    ensures entries { IfOk result (λ entries. Tells P.is_clean P.is_ours P.is_open P.content source.old source.new
+        (λ content. entries.items ≡ map (sight_of content zone.now) ids.now)) }
+    ensures len { IfOk result (λ entries. length entries.items ≡ length ids.now) }
+    ensures cause { FailsWithCause P.is_open P.failures source.old source.new result }
+{
+    let mut entries = Vec::with_capacity(alloc, ids.len())?;
+    for id in ids {
+        entries.push(entry_of(alloc, source, zone, id)?)?;
+    }
+    Ok(entries)
+}
+
+fn entry_of<P: Published>(
+    alloc: Global,
+    source: &mut P,
+    zone: &Zone,
+    id: &Id,
+) -> Result<Entry, SourceFault>
+    ensures keeps { P.keeps source.old source.new }
+    ensures entry { IfOk result (λ entry. Tells P.is_clean P.is_ours P.is_open P.content source.old source.new
+        (λ content. entry ≡ sight_of content zone.now id.now)) }
+    ensures cause { FailsWithCause P.is_open P.failures source.old source.new result }
+{
+    let sysmod = source.sysmod(id)?;
+    let holds = source.holds_on(id)?;
+    Ok(entry_from(alloc, zone, sysmod, &holds)?)
+}
+
+fn entry_from(
+    alloc: Global,
+    zone: &Zone,
+    sysmod: Option<Sysmod>,
+    holds: &[Hold],
+) -> Result<Entry, AllocError>
+    ensures { IfOk result (λ entry. entry ≡ sight_from zone.now sysmod holds.now) }
+{
+    let mut needs = Vec::new(alloc);
+    let Some(sysmod) = sysmod else {
+        push_reasons(&mut needs, holds)?;
+        return Ok(Entry {
+            candidate: false,
+            needs,
+            superseded: Vec::new(alloc),
+        });
+    };
+    needs.extend_from_slice(sysmod.pre.as_slice())?;
+    needs.extend_from_slice(sysmod.req.as_slice())?;
+    push_reasons(&mut needs, holds)?;
+    Ok(Entry {
+        candidate: is_any_installed(zone, &sysmod.fmids),
+        needs,
+        superseded: sysmod.sup.into_vec(),
+    })
+}
+
+fn is_any_installed(zone: &Zone, fmids: &Ids) -> bool
+    ensures { result ≡ list_any (λ fmid. is_installed zone.now fmid) fmids.now }
+{
+    fmids.as_slice().iter().any(|fmid| zone.installed(fmid))
+}
+
+// Adds the reasons of the ERROR holds.
+fn push_reasons(needs: &mut Vec<Id>, holds: &[Hold]) -> Result<(), AllocError>
+    ensures { OnOk result (needs.new.items ≡ needs.old.items ++ reasons_in holds.now) }
+{
+    for hold in holds {
+        if hold.key.kind == Kind::ErrorHold {
+            needs.push(hold.key.reason)?;
+        }
+    }
+    Ok(())
+}

@@ -1,0 +1,69 @@
+//! Ids by their places in a list that ascends.
+ghost use Rattle.std.specs.Prelude.{◌≡◌, ◌++◌, ℕ, List, Contains, IfNone, IfOk, IfSome, OnOk};
+ghost use Rattle.std.specs.List.{flat_map};
+ghost use Rattle.catalogue.specs.Ids.{Ascend};
+ghost use Rattle.chains.specs.Places.{ArePlacesOf, IsAt};
+
+use crate::listing::Entry;
+use mcs_reader::Id;
+use std::alloc::{AllocError, Global};
+use supersede::place_among;
+
+/// The catalogued ids and all that they need, ascending, each once.
+pub(crate) fn members_of(
+    alloc: Global,
+    ids: &[Id],
+    entries: &[Entry],
+) -> Result<Vec<Id>, AllocError>
+    ensures ascend { IfOk result (λ members. Ascend members.items) }
+    ensures ids { IfOk result (λ members. (id : List ℕ) → Contains ids.now id → Contains members.items id) }
+    ensures needs { IfOk result (λ members. (id : List ℕ) →
+        Contains (flat_map (λ entry. entry.needs) entries.now) id → Contains members.items id) }
+{
+    let mut members = listed_with_needs(alloc, ids, entries)?;
+    sort_each_once(&mut members)?;
+    Ok(members)
+}
+
+fn listed_with_needs(alloc: Global, ids: &[Id], entries: &[Entry]) -> Result<Vec<Id>, AllocError>
+    ensures { IfOk result (λ all. all.items ≡ ids.now ++ flat_map (λ entry. entry.needs) entries.now) }
+{
+    let mut all = Vec::from_slice(alloc, ids)?;
+    for entry in entries {
+        all.extend_from_slice(entry.needs())?;
+    }
+    Ok(all)
+}
+
+// The ids in order, each once. Those that ascend already are not sorted again.
+fn sort_each_once(ids: &mut Vec<Id>) -> Result<(), AllocError>
+    ensures ascend { OnOk result (Ascend ids.new.items) }
+    ensures keeps { (id : List ℕ) → Contains ids.old.items id → Contains ids.new.items id }
+{
+    ids.sort()?;
+    ids.dedup();
+    Ok(())
+}
+
+/// Where an id stands, if it stands there.
+pub(crate) fn place_of(members: &[Id], id: &Id) -> Option<usize>
+    requires { Ascend members.now }
+    ensures some { IfSome result (λ place. IsAt members.now id.now place) }
+    ensures none { IfNone result (Contains members.now id.now → ⊥) }
+{
+    place_among(members, id)
+}
+
+/// The places of the ids that stand somewhere.
+pub(crate) fn places_of(alloc: Global, members: &[Id], ids: &[Id]) -> Result<Vec<usize>, AllocError>
+    requires { Ascend members.now }
+    ensures { IfOk result (λ places. ArePlacesOf members.now ids.now places.items) }
+{
+    let mut places = Vec::with_capacity(alloc, ids.len())?;
+    for id in ids {
+        if let Some(place) = place_of(members, id) {
+            places.push(place)?;
+        }
+    }
+    Ok(places)
+}

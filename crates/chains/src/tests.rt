@@ -1,0 +1,84 @@
+//! Worked verdicts over lists, verdicts beside a plain slow body, and hard shapes at length.
+use crate::{Judge, Verdict, Whole};
+use catalogue::{ListPublished, Published, SourceFault, read_changes};
+use mcs_reader::{Id, read};
+use std::alloc::Global;
+use std::test::Fail;
+use supersede::Zone;
+use zone_lists::zone_rows;
+
+mod random;
+mod rows;
+mod shapes;
+
+fn published(alloc: Global, source: &[u8]) -> Result<ListPublished, Fail> {
+    let mut lists = ListPublished::new(alloc);
+    lists.publish(&read_changes(alloc, &read(alloc, source)?)?)?;
+    Ok(lists)
+}
+
+fn zone_of(alloc: Global, text: &[u8]) -> Result<Zone, Fail> {
+    let rows = zone_rows(alloc, text)?;
+    Ok(Zone::new(alloc, &rows)?)
+}
+
+fn id_of(text: &[u8]) -> Result<Id, Fail> {
+    Ok(Id::new(text).ok_or("an id")?)
+}
+
+// A verdict in print.
+fn verdict_text(alloc: Global, verdict: &Verdict) -> Result<String, Fail> {
+    let mut text = String::new(alloc);
+    match verdict {
+        Verdict::Good(plan) => {
+            text.push_str("GOOD")?;
+            for id in plan {
+                text.push(' ')?;
+                text.push_str(id.text())?;
+            }
+        }
+        Verdict::Held(need) => {
+            text.push_str("HELD ")?;
+            text.push_str(need.text())?;
+        }
+        Verdict::Lack => text.push_str("LACK")?,
+    }
+    Ok(text)
+}
+
+fn judged(alloc: Global, lists: &mut ListPublished, zone: &Zone, id: &Id) -> Result<String, Fail> {
+    let verdict = Whole::new().verdict(alloc, lists, zone, id)?;
+    verdict_text(alloc, &verdict)
+}
+
+// A judge that is asked for one verdict after the other.
+#[derive(Drop)]
+struct OneByOne;
+
+impl<P: Published> Judge<P> for OneByOne {
+    ghost is_right = { λ _ _. Unit {0} };
+
+    fn verdict(
+        &mut self,
+        alloc: Global,
+        source: &mut P,
+        zone: &Zone,
+        id: &Id,
+    ) -> Result<Verdict, SourceFault> {
+        Whole::new().verdict(alloc, source, zone, id)
+    }
+
+    fn drop_touched(&mut self, _ids: &[Id]) {}
+}
+
+// Whether the statuses of ids, asked for together, are those of their verdicts.
+fn are_statuses(
+    alloc: Global,
+    lists: &mut ListPublished,
+    zone: &Zone,
+    ids: &[Id],
+) -> Result<bool, Fail> {
+    let together = Whole::new().statuses(alloc, lists, zone, ids)?;
+    let each = OneByOne.statuses(alloc, lists, zone, ids)?;
+    Ok(together.as_slice() == each.as_slice())
+}

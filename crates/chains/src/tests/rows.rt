@@ -1,0 +1,93 @@
+//! Worked verdicts.
+use super::{are_statuses, id_of, judged, published, zone_of};
+use std::test::Fail;
+
+const ALPHA: &[u8] = b"SYSMOD,STATE\nHBB7790,APPLIED\nUA10001,APPLIED\n";
+
+const BETA: &[u8] = b"SYSMOD,STATE\nHBB7790,APPLIED\n";
+
+const SUPERSEDED: &[u8] = b"SYSMOD,STATE\nHBB7790,APPLIED\nUA10001,APPLIED\nUA10002,SUPERSEDED\n";
+
+// A function, two PTFs, and an error of the first that the second fixes.
+const BASE: &[u8] = b"++FUNCTION(HBB7790).\n\
+++VER(Z038).\n\
+++PTF(UA10001).\n\
+++VER(Z038) FMID(HBB7790).\n\
+++PTF(UA10002).\n\
+++VER(Z038) FMID(HBB7790) PRE(UA10001) SUP(AA20002).\n\
+++HOLD(UA10001) ERROR FMID(HBB7790)\n \
+REASON(AA20002) CLASS(PE) DATE(12045).\n";
+
+// An error of the second PTF too.
+const HELD: &[u8] = b"++HOLD(UA10002) ERROR FMID(HBB7790) REASON(AA30003).\n";
+
+const FIXED: &[u8] = b"++HOLD(UA10002) ERROR FMID(HBB7790) REASON(AA30003).\n\
+++PTF(UA10004).\n++VER(Z038) FMID(HBB7790) PRE(UA10002) SUP(AA30003).\n";
+
+const MUTUAL: &[u8] = b"++PTF(UA10006).\n++VER(Z038) FMID(HBB7790) REQ(UA10007).\n\
+++PTF(UA10007).\n++VER(Z038) FMID(HBB7790) REQ(UA10006).\n";
+
+const BY_ANOTHER: &[u8] = b"++HOLD(UA10002) ERROR FMID(HBB7790) REASON(AA30003).\n\
+++PTF(UA10012).\n++VER(Z038) FMID(HBB7790) SUP(UA10002).\n\
+++PTF(UA10011).\n++VER(Z038) FMID(HBB7790) PRE(UA10002).\n";
+
+const OTHERS: &[u8] = b"++PTF(UA10009).\n++VER(Z038).\n\
+++PTF(UA10008).\n++VER(Z038) FMID(HXX0001).\n\
+++PTF(UA10013).\n++VER(Z038) FMID(HBB7790) PRE(UA88888).\n\
+++PTF(UA10014).\n++VER(Z038) FMID(HBB7790) REQ(UA77777,UA66666) PRE(UA88888,UA10001).\n\
+++PTF(UA10003).\n++VER(Z038) FMID(HBB7790).\n\
+++HOLD(UA10003) SYSTEM FMID(HBB7790) REASON(IPL).\n";
+
+const RING: &[u8] = b"++PTF(UA10016).\n++VER(Z038) FMID(HBB7790) SUP(UA10017).\n\
+++PTF(UA10017).\n++VER(Z038) FMID(HBB7790) SUP(UA10016).\n\
+++PTF(UA10018).\n++VER(Z038) FMID(HBB7790) PRE(UA10017).\n";
+
+// What is published behind the base, the zone, the id, and its verdict.
+const ROWS: [(&[u8], &[u8], &[u8], &str); 22] = [
+    (b"", ALPHA, b"UA10002", "GOOD UA10002"),
+    (b"", BETA, b"UA10002", "GOOD UA10001 UA10002"),
+    (b"", BETA, b"UA10001", "GOOD UA10001 UA10002"),
+    (MUTUAL, ALPHA, b"UA10006", "GOOD UA10006 UA10007"),
+    (MUTUAL, ALPHA, b"UA10007", "GOOD UA10006 UA10007"),
+    (FIXED, ALPHA, b"UA10002", "GOOD UA10002 UA10004"),
+    (HELD, ALPHA, b"UA10002", "HELD AA30003"),
+    (HELD, BETA, b"UA10001", "HELD AA20002"),
+    (HELD, SUPERSEDED, b"UA10001", "HELD AA20002"),
+    (b"", ALPHA, b"UA99999", "LACK"),
+    (b"", ALPHA, b"HBB7790", "LACK"),
+    (b"", ALPHA, b"AA20002", "LACK"),
+    (OTHERS, ALPHA, b"UA10009", "LACK"),
+    (OTHERS, ALPHA, b"UA10008", "LACK"),
+    (OTHERS, ALPHA, b"UA10013", "HELD UA88888"),
+    (OTHERS, ALPHA, b"UA10014", "HELD UA66666"),
+    (OTHERS, ALPHA, b"UA10003", "GOOD UA10003"),
+    (BY_ANOTHER, ALPHA, b"UA10011", "GOOD UA10011 UA10012"),
+    (BY_ANOTHER, SUPERSEDED, b"UA10011", "GOOD UA10011"),
+    (RING, ALPHA, b"UA10016", "GOOD UA10016"),
+    (RING, ALPHA, b"UA10018", "GOOD UA10017 UA10018"),
+    (
+        RING,
+        b"SYSMOD,STATE\nHBB7790,APPLIED\nUA10016,APPLIED\n",
+        b"UA10018",
+        "GOOD UA10018",
+    ),
+];
+
+#[test]
+fn worked_verdicts(rt: HostRuntime) -> Result<(), Fail> {
+    let alloc = rt.alloc();
+    for (more, zone, id, text) in ROWS {
+        let mut source = Vec::from_slice(alloc, BASE)?;
+        source.extend_from_slice(more)?;
+        let mut lists = published(alloc, &source)?;
+        let zone = zone_of(alloc, zone)?;
+        let id = id_of(id)?;
+        assert_eq!(rt;
+            judged(alloc, &mut lists, &zone, &id)?.as_str(),
+            text,
+            "{id}"
+        );
+        assert!(rt; are_statuses(alloc, &mut lists, &zone, &[id])?, "{id}");
+    }
+    Ok(())
+}

@@ -1,0 +1,269 @@
+-- Gathering those that give an id.
+use Rattle.std.proofs.Common.{◌≡◌, ◌⊎◌, ◌↔◌, ℕ, zero, suc, ◌+◌, ◌<◌, ◌≤◌, ◌&&◌, ◌||◌, ◌∙◌, Bool, true, false, List, [], ◌∷◌, ◌++◌, length, filter, get_or, take, inl, inr, refl, sym, ap, subst, arith}
+use Rattle.std.specs.BTreeSet.{insert_key}
+use Rattle.std.specs.Cmp.{both_ways}
+use Rattle.std.specs.List.{AllByRecursion, Contains, list_any}
+use Rattle.std.specs.List.Sorted.{IsStrictlySortedBy}
+use Rattle.std.specs.declared.cmp.Ordering.{Ordering}
+use Rattle.std.specs.declared.cmp.Ordering.TheVariants.{Less, Equal, Greater}
+use Rattle.std.proofs.lemmas.List.{append_assoc, length-append, take_more}
+use Rattle.std.proofs.lemmas.List.Folds.{list_any-append}
+use Rattle.std.proofs.lemmas.List.Kept.{IsStrictlySortedBy-filter}
+use Rattle.std.proofs.lemmas.List.Sums.{fold-append}
+use Rattle.std.proofs.lemmas.Map.Views.{Contains-from_any, list_any-from_Contains}
+use Rattle.std.specs.Cmp.Lexicographic.{nat_list_eq_equiv}
+use Rattle.catalogue.specs.Content.{Content, ids_of, superseders, Supersedes}
+use Rattle.catalogue.specs.Ids.{Ascend, id_cmp, put_among, same_id}
+use Rattle.catalogue.proofs.IdOrder.{any_insert, apart, exact_ids, ids_total, itself, one_id, turned}
+use Rattle.catalogue.proofs.SupersedeLaws.{superseder_is}
+use Rattle.supersede.specs.Giving.{gives, givers_of}
+use Rattle.supersede.specs.Leading.{Gives, IsWay}
+use Rattle.supersede.specs.Reach.{Alike, Continues, IsReach, Leads, has}
+use Rattle.supersede.proofs.GivingFacts.{both}
+use Rattle.supersede.proofs.LeadingFacts.{gives_is}
+
+-- ---- members of lists
+
+pub has_from : (ids : List (List ℕ)) (id : List ℕ) → Contains ids id → has ids id ≡ true
+has_from ids id h = list_any-from_Contains {eq = same_id} nat_list_eq_equiv id ids h
+
+pub has_to : (ids : List (List ℕ)) (id : List ℕ) → has ids id ≡ true → Contains ids id
+has_to ids id h = Contains-from_any {eq = same_id} one_id id ids h
+
+or_cases : (a b : Bool) → (a || b) ≡ true → (a ≡ true) ⊎ (b ≡ true)
+or_cases true b h = inl refl
+or_cases false b h = inr h
+
+or_left : (a b : Bool) → a ≡ true → (a || b) ≡ true
+or_left a b h = rw h refl
+
+or_right : (a b : Bool) → b ≡ true → (a || b) ≡ true
+or_right true b h = refl
+or_right false b h = h
+
+has_at : (ids : List (List ℕ)) (k : ℕ) (d : List ℕ) → k < length ids → has ids (get_or ids k d) ≡ true
+has_at [] k d within = absurd (omega arith)
+has_at (x ∷ ids) zero d within = or_left _ _ (itself x)
+has_at (x ∷ ids) (suc k) d within = or_right (same_id (get_or ids k d) x) _ (has_at ids k d (omega arith))
+
+any_fold : (test : List ℕ → Bool) (ks ids : List (List ℕ)) → list_any test (put_among ks ids) ≡ (list_any test ks || list_any test ids)
+any_fold test ks [] = plain (list_any test ks)
+  where
+    plain : (b : Bool) → b ≡ (b || false)
+    plain true = refl
+    plain false = refl
+any_fold test ks (id ∷ ids) =
+    any_fold test (insert_key id_cmp ks id) ids
+    ∙ ap (λ b. b || list_any test ids) (any_insert test ks id)
+    ∙ swap (test id) (list_any test ks) (list_any test ids)
+  where
+    swap : (a b c : Bool) → ((a || b) || c) ≡ (b || (a || c))
+    swap true true c = refl
+    swap true false c = refl
+    swap false true c = refl
+    swap false false c = refl
+
+-- ---- new ids go to the end
+
+pub alike_with : (keys order : List (List ℕ)) (id : List ℕ) → Alike keys order → Alike (insert_key id_cmp keys id) (order ++ id ∷ [])
+alike_with keys order id alike test =
+    any_insert test keys id ∙ ap (λ b. test id || b) (alike test) ∙ or_swap_back (test id) (list_any test order) ∙ sym (list_any-append test order (id ∷ []))
+  where
+    or_swap_back : (a b : Bool) → (a || b) ≡ (b || (a || false))
+    or_swap_back true true = refl
+    or_swap_back true false = refl
+    or_swap_back false true = refl
+    or_swap_back false false = refl
+
+pub continues_with : (old order : List (List ℕ)) (id : List ℕ) → Continues old order → Continues old (order ++ id ∷ [])
+continues_with old order id so_far = record { more = so_far.more ++ id ∷ []; is = ap (λ xs. xs ++ id ∷ []) so_far.is ∙ append_assoc old so_far.more (id ∷ []) }
+
+pub found_more : (old now new ids : List (List ℕ)) (i : ℕ) (id : List ℕ) → i < length ids → id ≡ get_or ids i id → now ≡ put_among old (take i ids) → new ≡ insert_key id_cmp now id
+    → new ≡ put_among old (take (i + 1) ids)
+found_more old now new ids i id below at was is =
+    is
+    ∙ ap (λ keys. insert_key id_cmp keys id) was
+    ∙ sym (fold-append (insert_key id_cmp) old (take i ids) (id ∷ []))
+    ∙ ap (put_among old) (sym (take_more ids i id below ∙ ap (λ x. take i ids ++ x ∷ []) (sym at)))
+
+pub still_has : (old new : List (List ℕ)) (id : List ℕ) → Continues old new → has old id ≡ true → has new id ≡ true
+still_has old new id goes_on h = ap (λ ids. has ids id) goes_on.is ∙ list_any-append (same_id id) old goes_on.more ∙ or_left (has old id) (has goes_on.more id) h
+
+pub longer : (old new : List (List ℕ)) (at : ℕ) → Continues old new → at < length old → at + 1 ≤ length new
+longer old new at goes_on within =
+    let as_long : length new ≡ length old + length goes_on.more = ap length goes_on.is ∙ length-append old goes_on.more in
+    omega (arith, as_long, within)
+
+-- ---- the walk
+
+-- what was found so far leads to the id, and what supersedes those that were asked for was found
+pub record Walked (content : Content) (order asked : List (List ℕ)) (id : List ℕ) : Type 0 where
+  pub leads : (from : List ℕ) → has order from ≡ true → Leads content from id
+  pub closed : (next above : List ℕ) → has asked next ≡ true → has (superseders content next) above ≡ true → has order above ≡ true
+
+-- the same content without its holds, where order is that of the ids alone
+abbrev without_holds : Content → Content
+without_holds content = record { sysmods = content.sysmods; holds = [] }
+
+pub superseding : (content : Content) → Ascend (ids_of content) → (id above : List ℕ) → Contains (superseders content id) above ↔ Supersedes content above id
+unfolding IsStrictlySortedBy
+superseding content ascend id above = superseder_is (without_holds content) id above (record { sysmods = ascend; holds = tt })
+
+pub walk_begins : (content : Content) (id : List ℕ) → Walked content (id ∷ []) [] id
+walk_begins content id = record {
+  leads = λ from h. let same : from ≡ id = one_id from id (first (same_id from id) h) in record { way = []; leads = same };
+  closed = λ next above none. absurd (cc none);
+}
+  where
+    first : (b : Bool) → (b || false) ≡ true → b ≡ true
+    first true h = refl
+    first false h = h
+
+take_front : (xs ys : List (List ℕ)) (n : ℕ) → n ≤ length xs → take n (xs ++ ys) ≡ take n xs
+take_front [] ys zero le = refl
+take_front [] ys (suc n) le = absurd (omega (arith, le))
+take_front (x ∷ xs) ys zero le = refl
+take_front (x ∷ xs) ys (suc n) le = ap (λ rest. x ∷ rest) (take_front xs ys n (omega (arith, le)))
+
+pub walk_goes_on : (content : Content) → Ascend (ids_of content) → (id next : List ℕ) (keys_old keys_new old new above : List (List ℕ)) (at : ℕ)
+    → at < length old → next ≡ get_or old at next → above ≡ superseders content next
+    → Alike keys_old old → Alike keys_new new → keys_new ≡ put_among keys_old above → Continues old new
+    → Walked content old (take at old) id → Walked content new (take (at + 1) new) id
+walk_goes_on content ascend id next keys_old keys_new old new above at within is told alike_old alike_new keys goes_on walked = record {
+  leads = λ from h. elim (or_cases (has old from) (has above from) (sym (grown from) ∙ h)) [
+    | inl before ↦ walked.leads from before
+    | inr now ↦
+        let step = (superseding content ascend next from).0 (has_to (superseders content next) from (ap (λ ids. has ids from) (sym told) ∙ now)) in
+        let rest = walked.leads next here in
+        record { way = next ∷ rest.way; leads = (step, rest.leads) }
+  ];
+  closed = λ n y asked stands. elim (or_cases (has (take at old) n) (same_id n next || false) (sym (asked_now n) ∙ asked)) [
+    | inl before ↦ grown y ∙ or_left (has old y) (has above y) (walked.closed n y before stands)
+    | inr now ↦
+        let same : n ≡ next = one_id n next (first (same_id n next) now) in
+        grown y ∙ or_right (has old y) (has above y) (ap (λ ids. has ids y) told ∙ ap (λ m. has (superseders content m) y) (sym same) ∙ stands)
+  ];
+}
+  where
+    first : (b : Bool) → (b || false) ≡ true → b ≡ true
+    first true h = refl
+    first false h = h
+
+    here : has old next ≡ true
+    here = ap (has old) is ∙ has_at old at next within
+
+    grown : (y : List ℕ) → has new y ≡ (has old y || has above y)
+    grown y =
+        sym (alike_new (same_id y)) ∙ ap (list_any (same_id y)) keys ∙ any_fold (same_id y) keys_old above ∙ ap (λ b. b || has above y) (alike_old (same_id y))
+
+    front : take (at + 1) new ≡ take at old ++ next ∷ []
+    front = ap (take (at + 1)) goes_on.is ∙ take_front old goes_on.more (at + 1) (omega (arith, within)) ∙ take_more old at next within ∙ ap (λ x. take at old ++ x ∷ []) (sym is)
+
+    asked_now : (n : List ℕ) → has (take (at + 1) new) n ≡ (has (take at old) n || (same_id n next || false))
+    asked_now n = ap (λ ids. has ids n) front ∙ list_any-append (same_id n) (take at old) (next ∷ [])
+
+along : (content : Content) → Ascend (ids_of content) → (order : List (List ℕ)) (id : List ℕ) → has order id ≡ true
+    → ((next above : List ℕ) → has order next ≡ true → has (superseders content next) above ≡ true → has order above ≡ true)
+    → (way : List (List ℕ)) (from : List ℕ) → IsWay content from way id → has order from ≡ true
+along content ascend order id begun closed [] from same = ap (has order) same ∙ begun
+along content ascend order id begun closed (next ∷ later) from leads =
+    closed next from (along content ascend order id begun closed later next leads.1)
+    (has_from (superseders content next) from ((superseding content ascend next from).1 leads.0))
+
+pub walk_ends : (content : Content) → Ascend (ids_of content) → (order keys : List (List ℕ)) (id : List ℕ) → has order id ≡ true → Alike keys order → Walked content order order id → IsReach content keys id
+walk_ends content ascend order keys id begun alike walked = record {
+  leads = λ from h. walked.leads from (sym (alike (same_id from)) ∙ h);
+  whole = λ from leads. alike (same_id from) ∙ along content ascend order id begun walked.closed leads.way from leads.leads;
+}
+
+-- ---- lists in order with the same members
+
+none_below : (x : List ℕ) (ids : List (List ℕ)) → AllByRecursion (λ y. id_cmp x y ≡ Less) ids → has ids x ≡ false
+none_below x [] all = refl
+none_below x (y ∷ ids) all = rw (apart x y all.0) (none_below x ids all.1)
+
+lower : (x y : List ℕ) (ids : List (List ℕ)) → id_cmp x y ≡ Less → AllByRecursion (λ z. id_cmp y z ≡ Less) ids → AllByRecursion (λ z. id_cmp x z ≡ Less) ids
+lower x y [] less all = tt
+lower x y (z ∷ ids) less all = (ids_total.trans x y z less all.0, lower x y ids less all.1)
+
+pub one_list : (xs ys : List (List ℕ)) → Ascend xs → Ascend ys → ((id : List ℕ) → has xs id ≡ has ys id) → xs ≡ ys
+unfolding IsStrictlySortedBy
+one_list [] [] up_x up_y same = refl
+one_list [] (y ∷ ys) up_x up_y same = let h : false ≡ true = same y ∙ or_left _ _ (itself y) in absurd (cc h)
+one_list (x ∷ xs) [] up_x up_y same = let h : true ≡ false = sym (or_left _ (has xs x) (itself x)) ∙ same x in absurd (cc h)
+one_list (x ∷ xs) (y ∷ ys) up_x up_y same = by (one_list xs ys up_x.1 up_y.1) (id_cmp x y) refl
+  where
+    tails : x ≡ y → (id : List ℕ) (b : Bool) → same_id id x ≡ b → has xs id ≡ has ys id
+    tails is id true at =
+        let this : id ≡ x = one_id id x at in
+        ap (has xs) this ∙ none_below x xs up_x.0 ∙ sym (ap (has ys) (this ∙ is) ∙ none_below y ys up_y.0)
+    tails is id false at =
+        let there : same_id id y ≡ false = ap (same_id id) (sym is) ∙ at in
+        rw (at, there) at (same id)
+
+    by : (((id : List ℕ) → has xs id ≡ has ys id) → xs ≡ ys) → (o : Ordering) → id_cmp x y ≡ o → (x ∷ xs) ≡ (y ∷ ys)
+    by rest Equal at =
+        let is : x ≡ y = exact_ids x y at in
+        ap (λ z. z ∷ xs) is ∙ ap (λ zs. y ∷ zs) (rest (λ id. tails is id (same_id id x) refl))
+    by rest Less at =
+        let none : has (y ∷ ys) x ≡ false = none_below x (y ∷ ys) (at, lower x y ys at up_y.0) in
+        let h : true ≡ false = sym (or_left _ (has xs x) (itself x)) ∙ same x ∙ none in
+        absurd (cc h)
+    by rest Greater at =
+        let below : id_cmp y x ≡ Less = turned x y at in
+        let none : has (x ∷ xs) y ≡ false = none_below y (x ∷ xs) (below, lower y x xs below up_x.0) in
+        let h : true ≡ false = sym (or_left _ (has ys y) (itself y)) ∙ sym (same y) ∙ none in
+        absurd (cc h)
+
+has_filter : (p : List ℕ → Bool) (ids : List (List ℕ)) (id : List ℕ) → has (filter p ids) id ≡ (has ids id && p id)
+has_filter p [] id = refl
+has_filter p (x ∷ ids) id = by (same_id id x) refl (p x) refl (has_filter p ids id)
+  where
+    by : (s : Bool) → same_id id x ≡ s → (b : Bool) → p x ≡ b → has (filter p ids) id ≡ (has ids id && p id) → has (filter p (x ∷ ids)) id ≡ ((same_id id x || has ids id) && p id)
+    by true same true passes rest = let this : p id ≡ true = ap p (one_id id x same) ∙ passes in rw (passes, same, this) refl
+    by true same false fails rest = let this : p id ≡ false = ap p (one_id id x same) ∙ fails in rw (fails, same, rest, this) (none (has ids id))
+      where
+        none : (b : Bool) → (b && false) ≡ false
+        none true = refl
+        none false = refl
+    by false other true passes rest = rw (passes, other) rest
+    by false other false fails rest = rw (fails, other) rest
+
+-- those of a reach that are catalogued are the givers
+pub reach_gives : (content : Content) (catalogued keys : List (List ℕ)) (id : List ℕ) → Ascend catalogued → Ascend keys → catalogued ≡ ids_of content
+    → IsReach content keys id → filter (has catalogued) keys ≡ givers_of content id
+reach_gives content catalogued keys id up_catalogued up_keys is reach =
+    one_list (filter (has catalogued) keys) (givers_of content id)
+    (IsStrictlySortedBy-filter id_cmp (has catalogued) keys up_keys)
+    (IsStrictlySortedBy-filter id_cmp (λ giver. gives content giver id) (ids_of content) (subst Ascend is up_catalogued))
+    (λ giver. has_filter (has catalogued) keys giver ∙ by giver ∙ sym (has_filter (λ other. gives content other id) (ids_of content) giver))
+  where
+    by : (giver : List ℕ) → (has keys giver && has catalogued giver) ≡ (has (ids_of content) giver && gives content giver id)
+    by giver = both_ways _ _ (
+        λ h.
+        let parts = both (has keys giver) (has catalogued giver) h in
+        let way = reach.leads giver parts.0 in
+        let known : has (ids_of content) giver ≡ true = ap (λ ids. has ids giver) (sym is) ∙ parts.1 in
+        let gives_it = (gives_is content giver id).1 (record { catalogued = has_to (ids_of content) giver known; way = way.way; leads = way.leads }) in
+        rw (known, gives_it) refl
+        ) (
+        λ h.
+        let parts = both (has (ids_of content) giver) (gives content giver id) h in
+        let gives_it = (gives_is content giver id).0 parts.1 in
+        let found = reach.whole giver (record { way = gives_it.way; leads = gives_it.leads }) in
+        let known : has catalogued giver ≡ true = ap (λ ids. has ids giver) is ∙ parts.0 in
+        rw (found, known) refl
+        )
+
+pub each_gives : (content : Content) (ids : List (List ℕ)) (id giver : List ℕ) → ids ≡ givers_of content id → Contains ids giver ↔ Gives content giver id
+each_gives content ids id giver are = (
+  λ h.
+      let stands = ap (λ list. has list giver) (sym are) ∙ has_from ids giver h in
+      let parts = both (has (ids_of content) giver) (gives content giver id) (sym (has_filter (λ other. gives content other id) (ids_of content) giver) ∙ stands) in
+      (gives_is content giver id).0 parts.1,
+  λ gives_it.
+      let known = has_from (ids_of content) giver gives_it.catalogued in
+      let so = (gives_is content giver id).1 gives_it in
+      let stands : has (givers_of content id) giver ≡ true = has_filter (λ other. gives content other id) (ids_of content) giver ∙ rw (known, so) refl in
+      has_to ids giver (ap (λ list. has list giver) are ∙ stands),
+)

@@ -1,0 +1,66 @@
+-- Looking for an id by halves among ids that ascend.
+use Rattle.std.proofs.Common.{◌≡◌, ℕ, zero, suc, ◌<◌, ◌≤◌, ◌||◌, Bool, true, false, List, [], ◌∷◌, length, get_or, Some, Ok, Err, inl, inr, refl, ap, arith}
+use Rattle.std.specs.List.{AllByRecursion, slice_get}
+use Rattle.std.specs.List.Sorted.{IsBinarySearchResult, IsNonDecreasingBy, IsStrictlySortedBy}
+use Rattle.std.specs.Ordering.{ordering_index}
+use Rattle.std.specs.declared.cmp.Ordering.{Ordering}
+use Rattle.std.specs.declared.cmp.Ordering.TheVariants.{Less, Equal, Greater}
+use Rattle.std.proofs.lemmas.Bool.{cases_lt}
+use Rattle.catalogue.specs.Ids.{Ascend, id_cmp, same_id}
+use Rattle.catalogue.proofs.IdOrder.{apart, apart_back, exact_ids, ids_total, itself, turned}
+use Rattle.supersede.specs.Reach.{has}
+
+-- the comparison with an id rises with the ids
+rises_by : (a b id : List ℕ) (o : Ordering) → id_cmp b id ≡ o → id_cmp a b ≡ Less → ordering_index (id_cmp a id) ≤ ordering_index o
+rises_by a b id Less at below = let less : id_cmp a id ≡ Less = ids_total.trans a b id below at in rw less (omega arith)
+rises_by a b id Equal at below = let is : b ≡ id = exact_ids b id at in let less : id_cmp a id ≡ Less = rw (← is) below in rw less (omega arith)
+rises_by a b id Greater at below = most (id_cmp a id)
+  where
+    most : (o : Ordering) → ordering_index o ≤ 2
+    most Less = omega arith
+    most Equal = omega arith
+    most Greater = omega arith
+
+-- what holds of every id holds of the one at a place
+at_place : (P : List ℕ → Type 0) (ids : List (List ℕ)) → AllByRecursion P ids → (k : ℕ) (d : List ℕ) → k < length ids → P (get_or ids k d)
+at_place P [] all k d within = absurd (omega arith)
+at_place P (id ∷ ids) all zero d within = all.0
+at_place P (id ∷ ids) all (suc k) d within = at_place P ids all.1 k d (omega arith)
+
+rises : (ids : List (List ℕ)) (id : List ℕ) → Ascend ids → IsNonDecreasingBy (λ other. ordering_index (id_cmp other id)) ids
+unfolding IsStrictlySortedBy
+rises [] id ascend i j d le within = absurd (omega arith)
+rises (x ∷ ids) id ascend zero zero d le within = omega arith
+rises (x ∷ ids) id ascend zero (suc j) d le within =
+    rises_by x (get_or ids j d) id (id_cmp (get_or ids j d) id) refl (at_place (λ other. id_cmp x other ≡ Less) ids ascend.0 j d (omega arith))
+rises (x ∷ ids) id ascend (suc i) zero d le within = absurd (omega arith)
+rises (x ∷ ids) id ascend (suc i) (suc j) d le within = rises ids id ascend.1 i j d (omega arith) (omega arith)
+
+none_has : (ids : List (List ℕ)) (id : List ℕ) → ((k : ℕ) (d : List ℕ) → k < length ids → same_id id (get_or ids k d) ≡ false) → has ids id ≡ false
+none_has [] id differ = refl
+none_has (x ∷ ids) id differ = rw (differ zero x (omega arith)) (none_has ids id (λ k d within. differ (suc k) d (omega arith)))
+
+pub some_has : (ids : List (List ℕ)) (id : List ℕ) (k : ℕ) → slice_get ids k ≡ Some id → has ids id ≡ true
+some_has [] id k at = absurd (cc at)
+some_has (x ∷ ids) id zero at = let is : x ≡ id = cc at in rw (is, itself id) refl
+some_has (x ∷ ids) id (suc k) at = rw (some_has ids id k at) (one (same_id id x))
+  where
+    one : (b : Bool) → (b || true) ≡ true
+    one true = refl
+    one false = refl
+
+got : (ids : List (List ℕ)) (id : List ℕ) (k : ℕ) → k < length ids → ((d : List ℕ) → id_cmp (get_or ids k d) id ≡ Equal) → slice_get ids k ≡ Some id
+got [] id k within equal = absurd (omega arith)
+got (x ∷ ids) id zero within equal = ap Some (exact_ids x id (equal x))
+got (x ∷ ids) id (suc k) within equal = got ids id k (omega arith) equal
+
+pub place_found : (ids : List (List ℕ)) (id : List ℕ) (at : ℕ) → at < length ids → IsBinarySearchResult (λ other. id_cmp other id) ids (Ok at) → slice_get ids at ≡ Some id
+place_found ids id at within found = got ids id at within found
+
+pub not_found : (ids : List (List ℕ)) (id : List ℕ) (at : ℕ) → Ascend ids → IsBinarySearchResult (λ other. id_cmp other id) ids (Err at) → has ids id ≡ false
+not_found ids id at ascend parted =
+    let parts = parted (rises ids id ascend) in
+    none_has ids id (λ k d in_list. elim (cases_lt k at) [
+      | inl below ↦ apart_back (get_or ids k d) id (parts.0 k d (omega arith) below)
+      | inr from ↦ apart id (get_or ids k d) (turned (get_or ids k d) id (parts.1 k d from in_list))
+    ])

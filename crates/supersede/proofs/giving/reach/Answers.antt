@@ -1,0 +1,35 @@
+use Rattle.std.proofs.Common.{◌≡◌, ◌∙◌, ◌<◌, length, get_or, take, subst, sym, rules}
+use Rattle.std.proofs.lemmas.List.{take_all}
+use Rattle.catalogue.proofs.Sources.{told_both, told_later, told_so, told_sooner}
+use Rattle.supersede.specs.Reach.{IsReach}
+use Rattle.supersede.proofs.ReachFacts.{Walked, longer, still_has, walk_ends, walk_goes_on}
+use Rattle.supersede.proofs.giving.reach.Goals as goal
+
+pub loop-at-preserved : goal.loop-at-preserved
+loop-at-preserved g c =
+    let law = g.met.P.Published in
+    let was = c.loop-at.invariant in
+    let sooner = law.keeps_content _ _ was.keeps in
+    let later = law.keeps_content _ _ c.in_ok-above.ensures.keeps in
+    let both = told_both (told_sooner was.told later) (told_later sooner later c.in_ok-above.ensures.superseders) in
+    let alike = c.in_ok-add_new.ensures.alike was.alike in
+    let below : c.loop-at.at < length c.loop-at.order.items = search rules in
+    let at : c.index.result.now ≡ get_or c.loop-at.order.items c.loop-at.at c.index.result.now = search rules in
+    record {
+      keeps = law.keeps_on _ _ _ was.keeps c.in_ok-above.ensures.keeps;
+      alike = alike;
+      begun = still_has c.loop-at.order.items c.add_new.new.order.items c.args.id.now c.in_ok-add_new.ensures.continues was.begun;
+      within = longer c.loop-at.order.items c.add_new.new.order.items c.loop-at.at c.in_ok-add_new.ensures.continues below;
+      told = told_so both (λ content facts ascend.
+          walk_goes_on content ascend c.args.id.now c.index.result.now c.loop-at.found.keys c.add_new.new.found.keys c.loop-at.order.items c.add_new.new.order.items
+          c.deref.result.now c.loop-at.at below at (c.deref.ensures.value ∙ facts.1) was.alike alike c.in_ok-add_new.ensures.found c.in_ok-add_new.ensures.continues (facts.0 ascend));
+    }
+
+pub returns-clause-reach : goal.returns-clause-reach
+returns-clause-reach g c =
+    told_so c.loop-at.invariant.told (λ content walked ascend.
+    let whole : take c.loop-at.at c.loop-at.order.items ≡ c.loop-at.order.items = take_all c.loop-at.at c.loop-at.order.items (search rules) in
+    let done = walked ascend in
+    subst (λ keys. IsReach content keys c.args.id.now) (sym c.in_ok-listed.ensures.ids)
+    (walk_ends content ascend c.loop-at.order.items c.loop-at.found.keys c.args.id.now c.loop-at.invariant.begun c.loop-at.invariant.alike
+    (subst (λ asked. Walked content c.loop-at.order.items asked c.args.id.now) whole done)))

@@ -1,0 +1,116 @@
+//! Which SYSMODs give one.
+ghost use Rattle.std.specs.Prelude.{◌≡◌, ◌↔◌, filter, List, ℕ, Contains, IfOk, OnOk};
+ghost use Rattle.catalogue.specs.Content.{ids_of};
+ghost use Rattle.catalogue.specs.Ids.{Ascend, put_among};
+ghost use Rattle.catalogue.specs.Published.{FailsWithCause, Tells};
+ghost use Rattle.supersede.specs.Giving.{givers_of};
+ghost use Rattle.supersede.specs.Leading.{Gives};
+ghost use Rattle.supersede.specs.Reach.{Alike, Continues, IsReach, has};
+
+use crate::search::place_among;
+use catalogue::{Published, SourceFault};
+use faults::NoMemory;
+use mcs_reader::Id;
+use std::alloc::Global;
+use std::collections::BTreeSet;
+
+/// The catalogued SYSMODs that give this one, ascending: itself, and those that supersede it,
+/// themselves or through others (IBM z/OS SMP/E Reference, `++VER`, operand SUP).
+///
+/// # Errors
+///
+/// `Memory` where memory ran out, `Device` where the source failed.
+pub fn givers<P: Published>(alloc: Global, source: &mut P, id: &Id) -> Result<Vec<Id>, SourceFault>
+    ensures keeps { P.keeps source.old source.new }
+    ensures givers { IfOk result (λ ids. Tells P.is_clean P.is_ours P.is_open P.content source.old source.new
+        (λ content. ids.items ≡ givers_of content id.now)) }
+    ensures ascend { IfOk result (λ ids. Ascend ids.items) }
+    ensures cause { FailsWithCause P.is_open P.failures source.old source.new result }
+
+    // They are all that give it, and nothing else.
+    ensures each { IfOk result (λ ids. Tells P.is_clean P.is_ours P.is_open P.content source.old source.new
+        (λ content. (giver : List ℕ) → Contains ids.items giver ↔ Gives content giver id.now)) }
+{
+    let catalogued = source.ids()?;
+    givers_among(alloc, source, &catalogued, id)
+}
+
+/// The same, for one who asks of many SYSMODs and has read once which are catalogued.
+///
+/// # Errors
+///
+/// As of [`givers`].
+pub fn givers_among<P: Published>(
+    alloc: Global,
+    source: &mut P,
+    catalogued: &[Id],
+    id: &Id,
+) -> Result<Vec<Id>, SourceFault>
+    requires { Ascend catalogued.now }
+    ensures keeps { P.keeps source.old source.new }
+    ensures givers { IfOk result (λ ids. Tells P.is_clean P.is_ours P.is_open P.content source.old source.new
+        (λ content. catalogued.now ≡ ids_of content → ids.items ≡ givers_of content id.now)) }
+    ensures ascend { IfOk result (λ ids. Ascend ids.items) }
+    ensures cause { FailsWithCause P.is_open P.failures source.old source.new result }
+{
+    let found = reach(alloc, source, id)?;
+    Ok(those_among(alloc, catalogued, &found)?)
+}
+
+// Those of some ids that stand among others.
+fn those_among(alloc: Global, others: &[Id], ids: &[Id]) -> Result<Vec<Id>, NoMemory>
+    requires { Ascend others.now }
+    ensures { IfOk result (λ those. those.items ≡ filter (has others.now) ids.now) }
+{
+    let mut those = Vec::new(alloc);
+    for id in ids {
+        if place_among(others, id).is_some() {
+            those.push(*id)?;
+        }
+    }
+    Ok(those)
+}
+
+// An id and the SYSMODs that supersede it, themselves or through others. Each is asked for once.
+fn reach<P: Published>(alloc: Global, source: &mut P, id: &Id) -> Result<Vec<Id>, SourceFault>
+    ensures keeps { P.keeps source.old source.new }
+    ensures reach { IfOk result (λ found. Tells P.is_clean P.is_ours P.is_open P.content source.old source.new
+        (λ content. Ascend (ids_of content) → IsReach content found.items id.now)) }
+    ensures ascend { IfOk result (λ found. Ascend found.items) }
+    ensures cause { FailsWithCause P.is_open P.failures source.old source.new result }
+{
+    let mut found = BTreeSet::new(alloc);
+    let mut order = Vec::new(alloc);
+    found.insert(*id)?;
+    order.push(*id)?;
+    let mut at = 0;
+    while at < order.len() {
+        let next = order[at];
+        let above = source.superseders(&next)?;
+        add_new(&mut found, &mut order, &above)?;
+        at += 1;
+    }
+    Ok(listed(alloc, found)?)
+}
+
+// Puts ids among those that were found, and those that are new at the end of the order.
+fn add_new(found: &mut BTreeSet<Id>, order: &mut Vec<Id>, ids: &[Id]) -> Result<(), NoMemory>
+    ensures found { OnOk result (found.new.keys ≡ put_among found.old.keys ids.now) }
+    ensures continues { OnOk result (Continues order.old.items order.new.items) }
+    ensures alike { OnOk result (Alike found.old.keys order.old.items → Alike found.new.keys order.new.items) }
+{
+    for id in ids {
+        if found.insert(*id)? {
+            order.push(*id)?;
+        }
+    }
+    Ok(())
+}
+
+// The ids of a set, in order.
+fn listed(alloc: Global, ids: BTreeSet<Id>) -> Result<Vec<Id>, NoMemory>
+    ensures ids { IfOk result (λ list. list.items ≡ ids.keys) }
+    ensures ascend { IfOk result (λ list. Ascend list.items) }
+{
+    ids.into_iter().collect(alloc)
+}
