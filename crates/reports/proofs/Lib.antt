@@ -1,0 +1,5 @@
+mod ChainFacts
+mod ErrorFacts
+mod Examples
+mod MissingFacts
+mod ResolverFacts

@@ -1,19 +1,19 @@
 -- The rows of the missing fix report (IBM z/OS SMP/E Commands, REPORT MISSINGFIX): which fixes of the chosen
 -- categories a zone lacks.
-use Rattle.std.specs.Prelude.{ℕ, ◌||◌, ◌++◌, Bool, false, not, List, [], ◌∷◌, Option, Some, None, filter, map}
+use Rattle.std.specs.Prelude.{ℕ, ◌||◌, ◌++◌, Bool, false, not, List, [], ◌∷◌, Option, Some, None, filter, map, option_map}
 use Rattle.std.specs.BTreeSet.{insert_key}
 use Rattle.std.specs.Cmp.Lexicographic.{slice_cmp}
 use Rattle.std.specs.List.{flat_map, fold, list_any}
+use Rattle.std.specs.Option.{option_cmp}
 use Rattle.std.specs.Ordering.{nat_cmp, ordering_then}
 use Rattle.std.specs.declared.cmp.Ordering.{Ordering}
-use Rattle.holddata.specs.HoldKey.{key_cmp}
 use Rattle.holddata.specs.declared.hold.Hold.{Hold}
 use Rattle.zone_lists.specs.Pattern.{does_match}
 use Rattle.zone_lists.specs.declared.zones.ZoneRow.{ZoneRow}
 use Rattle.catalogue.specs.Content.{Content}
-use Rattle.catalogue.specs.Ids.{in_order}
+use Rattle.catalogue.specs.Ids.{id_cmp, in_order}
 use Rattle.supersede.specs.Giving.{is_there}
-use Rattle.reports.specs.Resolvers.{candidates_for, is_received, status_in}
+use Rattle.reports.specs.Resolvers.{candidates_for, each_or_none, is_received, status_in}
 use Rattle.reports.specs.declared.rows.MissingRow.{MissingRow}
 
 -- a fix category of a hold
@@ -21,9 +21,13 @@ pub record Missing : Type 0 where
   pub category : List ℕ
   pub hold : Hold
 
--- by category, then held SYSMOD, then reason
+-- by category, then held SYSMOD, then reason; no two FIXCAT holds have all of these, so that their resolvers decide
+-- nothing
 abbrev pub missing_cmp : Missing → Missing → Ordering
-missing_cmp a b = ordering_then (slice_cmp nat_cmp a.category b.category) (key_cmp a.hold.key b.hold.key)
+missing_cmp a b =
+    ordering_then (slice_cmp nat_cmp a.category b.category)
+    (ordering_then (id_cmp a.hold.key.sysmod b.hold.key.sysmod)
+    (ordering_then (id_cmp a.hold.key.reason b.hold.key.reason) (option_cmp id_cmp a.hold.resolver b.hold.resolver)))
 
 abbrev pub by_category : List Missing → List Missing
 by_category missing = fold (insert_key missing_cmp) [] missing
@@ -47,42 +51,29 @@ categories_asked patterns hold =
 -- what resolves a hold: its resolver, and each candidate that gives its reason or its resolver
 abbrev pub resolvers_by : Content → List ZoneRow → Option (List ℕ) → List (List ℕ)
 resolvers_by content rows None = []
-resolvers_by content rows (Some resolver) = resolver ∷ candidates_for content rows resolver
+resolvers_by content rows (Some resolver) = candidates_for content rows resolver ++ resolver ∷ []
 
 abbrev pub resolvers_of : Content → List ZoneRow → Hold → List (List ℕ)
 resolvers_of content rows hold = in_order (candidates_for content rows hold.key.reason ++ resolvers_by content rows hold.resolver)
 
-abbrev pub missing_row : Content → List ZoneRow → List (List ℕ) → Missing → List ℕ → MissingRow
+-- the row of a category of a hold and a SYSMOD that resolves it, or that says that there is none
+abbrev pub missing_row : Content → List ZoneRow → List (List ℕ) → Missing → Option (List ℕ) → MissingRow
 missing_row content rows received missing resolver = record {
   category = missing.category;
   sysmod = missing.hold.key.sysmod;
   reason = missing.hold.key.reason;
-  resolver = Some resolver;
-  status = Some (status_in content rows resolver);
-  received = Some (is_received received resolver);
+  resolver = resolver;
+  status = option_map (status_in content rows) resolver;
+  received = option_map (is_received received) resolver;
 }
-
--- the row where nothing resolves it
-abbrev pub missing_none : Missing → MissingRow
-missing_none missing = record {
-  category = missing.category;
-  sysmod = missing.hold.key.sysmod;
-  reason = missing.hold.key.reason;
-  resolver = None;
-  status = None;
-  received = None;
-}
-
-abbrev pub missing_rows_with : Content → List ZoneRow → List (List ℕ) → Missing → List (List ℕ) → List MissingRow
-missing_rows_with content rows received missing [] = missing_none missing ∷ []
-missing_rows_with content rows received missing (first ∷ more) = map (missing_row content rows received missing) (first ∷ more)
 
 abbrev pub missing_rows_of_category : Content → List ZoneRow → List (List ℕ) → Missing → List MissingRow
 missing_rows_of_category content rows received missing =
-    missing_rows_with content rows received missing (resolvers_of content rows missing.hold)
+    map (missing_row content rows received missing) (each_or_none (resolvers_of content rows missing.hold))
 
--- the rows of the report, of the FIXCAT holds on SYSMODs that are installed
+-- the rows of the report, of the FIXCAT holds on SYSMODs that are installed: of each category that a pattern matches,
+-- where neither the reason nor the resolver is there
 abbrev pub missing_rows_of : Content → List ZoneRow → List (List ℕ) → List (List ℕ) → List Hold → List MissingRow
 missing_rows_of content rows received patterns holds =
     flat_map (missing_rows_of_category content rows received)
-    (by_category (flat_map (categories_asked patterns) (filter (is_missing content rows) holds)))
+    (filter (λ missing. is_missing content rows missing.hold) (by_category (flat_map (categories_asked patterns) holds)))

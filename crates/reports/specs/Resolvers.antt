@@ -1,5 +1,5 @@
 -- What a report says of the SYSMODs that resolve a hold.
-use Rattle.std.specs.Prelude.{ℕ, Bool, List, filter}
+use Rattle.std.specs.Prelude.{ℕ, Bool, List, [], ◌∷◌, Option, Some, None, filter, map}
 use Rattle.std.specs.List.{list_any}
 use Rattle.zone_lists.specs.declared.zones.ZoneRow.{ZoneRow}
 use Rattle.catalogue.specs.Content.{Content, ids_of}
@@ -21,3 +21,8 @@ is_received received id = list_any (same_id id) received
 abbrev pub candidates_for : Content → List ZoneRow → List ℕ → List (List ℕ)
 candidates_for content rows id =
     filter (λ giver. is_candidate content rows giver) (filter (λ giver. gives content giver id) (ids_of content))
+
+-- what the rows of a hold name: each of its resolvers, or, in one row, that there is none
+abbrev pub each_or_none : List (List ℕ) → List (Option (List ℕ))
+each_or_none [] = None ∷ []
+each_or_none (first ∷ more) = map Some (first ∷ more)

@@ -3,13 +3,21 @@
 //! - [`ErrRow`], [`MissingRow`]: a row of each report
 //! - [`Status`]: what is said of a resolver: which verdict it has
 //! - [`err_text`], [`missing_text`]: the reports in print
+//! - [`plan_json`]: a verdict as JSON
 #![tactic(auto)]
 
+mod chain;
+mod errors;
+mod missing;
+mod resolvers;
 mod rows;
 #[cfg(test)]
 mod tests;
 mod text;
 
+pub use chain::plan_json;
 pub use chains::Status;
+pub use errors::err_rows;
+pub use missing::missing_rows;
 pub use rows::{ErrRow, MissingCategory, MissingRow};
 pub use text::{err_text, missing_text};

@@ -1,8 +1,14 @@
 //! The rows of the two reports.
-ghost use Rattle.std.specs.Prelude.{◌≡◌};
+ghost use Rattle.std.specs.Prelude.{◌≡◌, nat_eq, IfOk, Some, refl};
+ghost use Rattle.std.specs.Cmp.{partial_equiv_from_equiv};
+ghost use Rattle.std.specs.Cmp.Lexicographic.{nat_list_cmp_total, nat_list_eq_equiv, pointwise, slice_cmp, texts_po, texts_ties};
+ghost use Rattle.std.specs.Ordering.{nat_cmp};
 
 use chains::Status;
+use faults::NoMemory;
 use mcs_reader::Id;
+use std::alloc::Global;
+use std::cmp::Ordering;
 use std::marker::Model;
 
 /// A row of the exception SYSMOD report: an ERROR hold on an installed SYSMOD whose reason isn't there,
@@ -25,7 +31,7 @@ pub struct ErrRow {
     pub class: Option<Id>,
 }
 
-/// A fix category. A contract sees its bytes.
+/// A fix category. Categories are ordered by their bytes, which a contract sees.
 #[derive(Debug, Drop)]
 pub struct MissingCategory {
     bytes: Vec<u8>,
@@ -52,6 +58,52 @@ impl MissingCategory {
         ensures { result.now ≡ self.now }
     {
         self.bytes.as_slice()
+    }
+
+    /// The category of a copy of these bytes.
+    pub(crate) fn copied(alloc: Global, bytes: &[u8]) -> Result<MissingCategory, NoMemory>
+        ensures { IfOk result (λ category. category ≡ bytes.now) }
+    {
+        let bytes = Vec::from_slice(alloc, bytes)?;
+        Ok(MissingCategory { bytes })
+    }
+}
+
+impl PartialEq for MissingCategory {
+    ghost eq = { pointwise nat_eq };
+
+    ghost laws = { partial_equiv_from_equiv nat_list_eq_equiv };
+
+    fn eq(&self, other: &Self) -> bool {
+        self.as_bytes() == other.as_bytes()
+    }
+}
+
+impl Eq for MissingCategory {
+    ghost laws = { nat_list_eq_equiv };
+}
+
+impl PartialOrd for MissingCategory {
+    ghost partial_cmp = { λ a b. Some (slice_cmp nat_cmp a b) };
+
+    ghost laws = { texts_po };
+
+    fn partial_cmp(&self, other: &Self) -> Option<Ordering> {
+        Some(self.cmp(other))
+    }
+}
+
+impl Ord for MissingCategory {
+    ghost cmp = { slice_cmp nat_cmp };
+
+    ghost total = { nat_list_cmp_total };
+
+    ghost matches_partial_cmp = { λ a b. refl };
+
+    ghost matches_eq = { texts_ties };
+
+    fn cmp(&self, other: &Self) -> Ordering {
+        self.as_bytes().cmp(other.as_bytes())
     }
 }
 

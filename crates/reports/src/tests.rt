@@ -3,6 +3,8 @@ use crate::{ErrRow, MissingCategory, MissingRow, Status, err_text, missing_text}
 use mcs_reader::Id;
 use std::test::Fail;
 
+mod worked;
+
 const ERR_FRONT: &str = "\
 EXCEPTION SYSMOD REPORT FOR ZONE TGT1
 FMID     SYSMOD   REASON   RESOLVER STATUS RECEIVED CLASS

@@ -1,0 +1,132 @@
+-- The rows of the missing fix report, one category of a hold at a time.
+use Rattle.std.proofs.Common.{◌≡◌, ◌∙◌, ℕ, ◌+◌, ◌<◌, ◌≤◌, ◌||◌, Bool, true, false, not, List, [], ◌∷◌, ◌++◌, Option, Some, None, filter, get_or, length, map, take, if◌then◌else◌, refl, sym, ap, inl, inr, arith}
+use Rattle.std.specs.BTreeSet.{insert_key}
+use Rattle.std.specs.List.{AllByRecursion, cons_option, flat_map, fold, list_any}
+use Rattle.std.specs.Option.{IfSome}
+use Rattle.std.proofs.lemmas.Bool.{cases_Bool}
+use Rattle.std.proofs.lemmas.List.{map-append, take_more}
+use Rattle.std.proofs.lemmas.List.Elements.{filter-append}
+use Rattle.std.proofs.lemmas.List.Sums.{fold-append}
+use Rattle.std.specs.Global.{Vec}
+use Rattle.holddata.specs.Categories.{texts_of}
+use Rattle.holddata.specs.declared.hold.Hold.{Hold}
+use Rattle.zone_lists.specs.Pattern.{does_match}
+use Rattle.zone_lists.specs.declared.zones.ZoneRow.{ZoneRow}
+use Rattle.catalogue.specs.Content.{Content}
+use Rattle.catalogue.specs.Ids.{in_order, same_id}
+use Rattle.catalogue.proofs.IdOrder.{in_order_any, itself}
+use Rattle.supersede.specs.Giving.{is_there}
+use Rattle.supersede.specs.Reach.{has}
+use Rattle.reports.specs.MissingFound.{both_of, held_cmp, held_in_order, missing_held, put_held, resolvers_in, row_found, row_told, rows_by, rows_each, rows_found, rows_of, rows_with, unless_resolver_there, unless_there}
+use Rattle.reports.specs.MissingRows.{Missing, by_category, categories_asked, is_missing, is_resolver_there, missing_rows_of, missing_rows_of_category, resolvers_by, resolvers_of}
+use Rattle.reports.specs.Resolvers.{candidates_for, each_or_none, status_in}
+use Rattle.reports.specs.declared.missing.MissingHeld.{MissingHeld}
+use Rattle.reports.specs.declared.rows.MissingRow.{MissingRow}
+use Rattle.reports.proofs.ErrorFacts.{has_more, map_fold, map_map}
+
+-- ---- the categories that patterns match
+
+abbrev pub asked_among : List (List ℕ) → Hold → List (List ℕ) → List Missing
+asked_among patterns hold categories =
+    map (λ category. record { category = category; hold = hold }) (filter (λ category. list_any (λ pattern. does_match pattern category) patterns) categories)
+
+put_held_on : (keys : List MissingHeld) (first more : List Missing) → put_held keys (first ++ more) ≡ put_held (put_held keys first) more
+put_held_on keys first more =
+    ap (fold (insert_key held_cmp) keys) (map-append missing_held first more) ∙ fold-append (insert_key held_cmp) keys (map missing_held first) (map missing_held more)
+
+asked_on : (patterns : List (List ℕ)) (hold : Hold) (first more : List (List ℕ)) → asked_among patterns hold (first ++ more) ≡ asked_among patterns hold first ++ asked_among patterns hold more
+asked_on patterns hold first more =
+    ap (map (λ category. record { category = category; hold = hold })) (filter-append (λ category. list_any (λ pattern. does_match pattern category) patterns) first more)
+    ∙ map-append (λ category. record { category = category; hold = hold }) _ _
+
+pub asked_more : (patterns : List (List ℕ)) (hold : Hold) (texts : List (Vec ℕ)) (i : ℕ) (text : Vec ℕ) (keys old new : List MissingHeld) (b : Bool) → i < length texts → text ≡ get_or texts i text
+    → old ≡ put_held keys (asked_among patterns hold (texts_of (take i texts)))
+    → b ≡ list_any (λ pattern. does_match pattern text.items) patterns
+    → new ≡ (if b then insert_key held_cmp old (missing_held (record { category = text.items; hold = hold })) else old)
+    → new ≡ put_held keys (asked_among patterns hold (texts_of (take (i + 1) texts)))
+asked_more patterns hold texts i text keys old new b below at was is now =
+    now
+    ∙ by b (sym is)
+    ∙ ap (λ front. put_held front (asked_among patterns hold (text.items ∷ []))) was
+    ∙ sym (put_held_on keys (asked_among patterns hold (texts_of (take i texts))) (asked_among patterns hold (text.items ∷ [])))
+    ∙ ap (put_held keys) (sym (asked_on patterns hold (texts_of (take i texts)) (text.items ∷ [])))
+    ∙ ap (λ categories. put_held keys (asked_among patterns hold categories)) (sym (map-append (λ (item : Vec ℕ). item.items) (take i texts) (text ∷ [])))
+    ∙ ap (λ items. put_held keys (asked_among patterns hold (texts_of items))) (sym (take_more texts i text below ∙ ap (λ t. take i texts ++ t ∷ []) (sym at)))
+  where
+    by : (b : Bool) → list_any (λ pattern. does_match pattern text.items) patterns ≡ b
+        → (if b then insert_key held_cmp old (missing_held (record { category = text.items; hold = hold })) else old) ≡ put_held old (asked_among patterns hold (text.items ∷ []))
+    by true h = rw h refl
+    by false h = rw h refl
+
+-- ---- what was asked
+
+abbrev pub AllAsked : List (List ℕ) → List MissingRow → Type 0
+AllAsked asked rows = AllByRecursion (λ row. IfSome row.resolver (λ resolver. has asked resolver ≡ true)) rows
+
+pub asked_front : (asked : List (List ℕ)) (rows : List MissingRow) (row : MissingRow) → AllAsked asked (rows ++ row ∷ []) → AllAsked asked rows
+asked_front asked [] row all = tt
+asked_front asked (x ∷ xs) row all = (all.0, asked_front asked xs row all.1)
+
+pub asked_last : (asked : List (List ℕ)) (rows : List MissingRow) (row : MissingRow) → AllAsked asked (rows ++ row ∷ []) → IfSome row.resolver (λ resolver. has asked resolver ≡ true)
+asked_last asked [] row all = all.0
+asked_last asked (x ∷ xs) row all = asked_last asked xs row all.1
+
+some_first : (asked : List (List ℕ)) (o : Option (List ℕ)) (ids : List (List ℕ)) → ((id : List ℕ) → has (cons_option o ids) id ≡ true → has asked id ≡ true) → IfSome o (λ resolver. has asked resolver ≡ true)
+some_first asked None ids stands = tt
+some_first asked (Some r) ids stands = stands r (rw (itself r) refl)
+
+all_asked : (asked : List (List ℕ)) (rows : List MissingRow) → ((id : List ℕ) → has (resolvers_in rows) id ≡ true → has asked id ≡ true) → AllAsked asked rows
+all_asked asked [] stands = tt
+all_asked asked (row ∷ rows) stands =
+    (some_first asked row.resolver (resolvers_in rows) stands, all_asked asked rows (λ id h. stands id (has_more row.resolver (resolvers_in rows) id h)))
+
+pub all_in_order : (asked : List (List ℕ)) (rows : List MissingRow) → asked ≡ in_order (resolvers_in rows) → AllAsked asked rows
+all_in_order asked rows are = all_asked asked rows (λ id h. ap (λ ids. has ids id) are ∙ in_order_any (same_id id) (resolvers_in rows) ∙ h)
+
+pub each_is : (held : MissingHeld) (resolvers : List (List ℕ)) → 1 ≤ length resolvers → rows_each held resolvers ≡ rows_with held resolvers
+each_is held [] some = absurd (omega (arith, some))
+each_is held (first ∷ more) some = sym (map_map (row_found held) Some (first ∷ more))
+
+-- ---- what was found, as rows
+
+pub held_are : (patterns : List (List ℕ)) (holds : List Hold) → held_in_order patterns holds ≡ map missing_held (by_category (flat_map (categories_asked patterns) holds))
+held_are patterns holds = sym (map_fold missing_held held_cmp [] (flat_map (categories_asked patterns) holds))
+
+-- what resolves a hold, unless it is there
+both_are : (content : Content) (rows : List ZoneRow) (hold : Hold) → both_of (unless_there content rows hold.key.reason) (unless_resolver_there content rows hold.resolver)
+    ≡ (if is_missing content rows hold then Some (resolvers_of content rows hold) else None)
+both_are content rows hold = by (is_there content rows hold.key.reason) (is_resolver_there content rows hold.resolver)
+  where
+    by : (a b : Bool)
+        → both_of (if a then None else Some (candidates_for content rows hold.key.reason)) (if b then None else Some (resolvers_by content rows hold.resolver))
+        ≡ (if not (a || b) then Some (resolvers_of content rows hold) else None)
+    by true true = refl
+    by true false = refl
+    by false true = refl
+    by false false = refl
+
+rows_by_hold : (content : Content) (rows : List ZoneRow) (received : List (List ℕ)) (missing : List Missing)
+    → map (row_told (status_in content rows) received) (rows_found content rows (map missing_held missing))
+    ≡ flat_map (missing_rows_of_category content rows received) (filter (λ one. is_missing content rows one.hold) missing)
+rows_by_hold content rows received [] = refl
+rows_by_hold content rows received (one ∷ more) =
+    map-append (row_told (status_in content rows) received) (rows_of content rows (missing_held one)) (rows_found content rows (map missing_held more))
+    ∙ ap (λ rest. map (row_told (status_in content rows) received) (rows_of content rows (missing_held one)) ++ rest) (rows_by_hold content rows received more)
+    ∙ ap (λ resolvers. map (row_told (status_in content rows) received) (rows_by (missing_held one) resolvers) ++ later) (both_are content rows one.hold)
+    ∙ elim (cases_Bool (is_missing content rows one.hold)) [
+      | inr there ↦ rw there refl
+      | inl absent ↦
+          rw absent (ap (λ first. first ++ later)
+          (map_map (row_told (status_in content rows) received) (row_found (missing_held one)) (each_or_none (resolvers_of content rows one.hold))))
+    ]
+  where
+    later : List MissingRow
+    later = flat_map (missing_rows_of_category content rows received) (filter (λ m. is_missing content rows m.hold) more)
+
+pub rows_are : (content : Content) (rows : List ZoneRow) (received patterns : List (List ℕ)) (holds : List Hold) (helds : List MissingHeld) (founds told : List MissingRow)
+    → helds ≡ held_in_order patterns holds → founds ≡ rows_found content rows helds → told ≡ map (row_told (status_in content rows) received) founds
+    → told ≡ missing_rows_of content rows received patterns holds
+rows_are content rows received patterns holds helds founds told held found is =
+    is
+    ∙ ap (map (row_told (status_in content rows) received)) (found ∙ ap (rows_found content rows) (held ∙ held_are patterns holds))
+    ∙ rows_by_hold content rows received (by_category (flat_map (categories_asked patterns) holds))

@@ -1,0 +1,20 @@
+use Rattle.std.proofs.Common.{◌∙◌, ◌++◌, ap}
+use Rattle.catalogue.proofs.Sources.{told_both, told_later, told_so, told_sooner}
+use Rattle.reports.specs.Found.{errors_by}
+use Rattle.reports.proofs.ErrorFacts.{errors_more}
+use Rattle.reports.proofs.errors.errors_among.Goals as goal
+
+pub loop-one-preserved : goal.loop-one-preserved
+loop-one-preserved g c =
+    let law = g.met.P.Published in
+    let was = c.loop-one.invariant in
+    let sooner = law.keeps_content _ _ was.keeps in
+    let later = law.keeps_content _ _ c.in_ok-resolvers.ensures.keeps in
+    let both = told_both (told_sooner was.told later) (told_later sooner later c.in_ok-resolvers.ensures.candidates) in
+    record {
+      keeps = law.keeps_on _ _ _ was.keeps c.in_ok-resolvers.ensures.keeps;
+      told = told_so both (λ content facts is.
+          errors_more content c.args.zone.now c.args.held.now c.loop-one.one-index c.one-item.result c.loop-one.found.items c.put_found.new.found.items
+          c.loop-one-test.true c.one-item.is (facts.0 is)
+          (c.in_ok-put_found.ensures ∙ ap (λ resolvers. c.loop-one.found.items ++ errors_by c.one-item.result resolvers) (facts.1 is)));
+    }

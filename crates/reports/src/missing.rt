@@ -1,0 +1,332 @@
+//! The rows of the missing fix report.
+ghost use Rattle.std.specs.Prelude.{◌≡◌, ◌++◌, ◌∷◌, [], true, ℕ, List, Some, map, option_map, IfOk, IfSome, OnOk};
+ghost use Rattle.std.specs.List.{list_any};
+ghost use Rattle.zone_lists.specs.Pattern.{does_match};
+ghost use Rattle.catalogue.specs.Content.{ids_of};
+ghost use Rattle.catalogue.specs.Ids.{Ascend, in_order, put_among};
+ghost use Rattle.catalogue.specs.Published.{FailsWithCause, Tells};
+ghost use Rattle.supersede.specs.Reach.{has};
+ghost use Rattle.chains.specs.declared.verdict.Status.{Status};
+ghost use Rattle.reports.specs.MissingRows.{categories_asked, missing_rows_of};
+ghost use Rattle.reports.specs.MissingFound.{both_of, held_in_order, missing_held, put_held, resolvers_in, row_found, row_told, rows_by, rows_each, rows_found, rows_with, unless_resolver_there};
+
+use crate::resolvers::{candidates_unless_there, is_among, status_among};
+use crate::{MissingCategory, MissingRow, Status};
+use catalogue::{Published, SourceFault};
+use chains::Judge;
+use faults::NoMemory;
+use holddata::Hold;
+use mcs_reader::Id;
+use std::alloc::Global;
+use std::collections::BTreeSet;
+use supersede::Zone;
+use zone_lists::Pattern;
+
+// What the report shows of a category of a hold, in its order.
+#[derive(PartialEq, Eq, PartialOrd, Ord, Drop)]
+struct MissingHeld {
+    category: MissingCategory,
+    sysmod: Id,
+    reason: Id,
+    resolver: Option<Id>,
+}
+
+/// The rows of the missing fix report on a zone, from the FIXCAT holds on the SYSMODs that are installed in
+/// it (IBM z/OS SMP/E Commands, REPORT MISSINGFIX).
+///
+/// Each category of a hold that a pattern matches has a row for the resolver of the hold and for each candidate
+/// that gives the reason or the resolver, each once, or one row that says that there is none; but
+/// none where the reason or the resolver is there. Rows are ordered by category, held SYSMOD, reason
+/// and resolver. `received` are the SYSMODs that the client has received.
+///
+/// # Errors
+///
+/// `Memory` where memory ran out, `Device` where the source failed.
+pub fn missing_rows<P: Published, J: Judge<P>>(
+    alloc: Global,
+    source: &mut P,
+    judge: &mut J,
+    zone: &Zone,
+    received: &[Id],
+    patterns: &[Pattern],
+    holds: &[Hold],
+) -> Result<Vec<MissingRow>, SourceFault>
+    requires { Ascend received.now }
+    ensures keeps { P.keeps source.old source.new }
+    ensures rows { IfOk result (λ rows. Tells P.is_clean P.is_ours P.is_open P.content source.old source.new
+        (λ content. J.is_right judge.old content → rows.items ≡ missing_rows_of content zone.now received.now patterns.now holds.now)) }
+    ensures right { Tells P.is_clean P.is_ours P.is_open P.content source.old source.new
+        (λ content. J.is_right judge.old content → J.is_right judge.new content) }
+    ensures cause { FailsWithCause P.is_open P.failures source.old source.new result }
+{
+    let held = in_report_order(alloc, patterns, holds)?;
+    let rows = rows_of(alloc, source, zone, &held)?;
+    let asked = resolvers_in(alloc, &rows)?;
+    let statuses = judge.statuses(alloc, source, zone, &asked)?;
+    Ok(rows_told(alloc, rows, &asked, &statuses, received)?)
+}
+
+// What the report shows of the categories that patterns match, in its order.
+fn in_report_order(
+    alloc: Global,
+    patterns: &[Pattern],
+    holds: &[Hold],
+) -> Result<Vec<MissingHeld>, NoMemory>
+    ensures { IfOk result (λ held. held.items ≡ held_in_order patterns.now holds.now) }
+{
+    let mut held = BTreeSet::new(alloc);
+    for hold in holds {
+        put_asked(alloc, &mut held, patterns, hold)?;
+    }
+    held.into_iter().collect(alloc)
+}
+
+// Puts the categories of a hold that patterns match in their places.
+fn put_asked(
+    alloc: Global,
+    held: &mut BTreeSet<MissingHeld>,
+    patterns: &[Pattern],
+    hold: &Hold,
+) -> Result<(), NoMemory>
+    ensures { OnOk result (held.new.keys ≡ put_held held.old.keys (categories_asked patterns.now hold.now)) }
+{
+    for category in hold.categories.as_slice() {
+        if is_asked(patterns, category) {
+            held.insert(held_of(alloc, category, hold)?)?;
+        }
+    }
+    Ok(())
+}
+
+fn is_asked(patterns: &[Pattern], category: &[u8]) -> bool
+    ensures { result ≡ list_any (λ pattern. does_match pattern category.now) patterns.now }
+{
+    patterns.iter().any(|pattern| pattern.matches(category))
+}
+
+fn held_of(alloc: Global, category: &[u8], hold: &Hold) -> Result<MissingHeld, NoMemory>
+    ensures { IfOk result (λ held. held ≡ missing_held (record { category = category.now; hold = hold.now })) }
+{
+    Ok(MissingHeld {
+        category: MissingCategory::copied(alloc, category)?,
+        sysmod: hold.key.sysmod,
+        reason: hold.key.reason,
+        resolver: hold.resolver,
+    })
+}
+
+// The rows, without what is said of each resolver.
+fn rows_of<P: Published>(
+    alloc: Global,
+    source: &mut P,
+    zone: &Zone,
+    held: &[MissingHeld],
+) -> Result<Vec<MissingRow>, SourceFault>
+    ensures keeps { P.keeps source.old source.new }
+    ensures rows { IfOk result (λ rows. Tells P.is_clean P.is_ours P.is_open P.content source.old source.new
+        (λ content. rows.items ≡ rows_found content zone.now held.now)) }
+    ensures cause { FailsWithCause P.is_open P.failures source.old source.new result }
+{
+    let catalogued = source.ids()?;
+    rows_among(alloc, source, zone, &catalogued, held)
+}
+
+fn rows_among<P: Published>(
+    alloc: Global,
+    source: &mut P,
+    zone: &Zone,
+    catalogued: &[Id],
+    held: &[MissingHeld],
+) -> Result<Vec<MissingRow>, SourceFault>
+    requires { Ascend catalogued.now }
+    ensures keeps { P.keeps source.old source.new }
+    ensures rows { IfOk result (λ rows. Tells P.is_clean P.is_ours P.is_open P.content source.old source.new
+        (λ content. catalogued.now ≡ ids_of content → rows.items ≡ rows_found content zone.now held.now)) }
+    ensures cause { FailsWithCause P.is_open P.failures source.old source.new result }
+{
+    let mut rows = Vec::new(alloc);
+    for one in held {
+        let by_reason = candidates_unless_there(alloc, source, zone, catalogued, &one.reason)?;
+        let by_resolver = unless_resolver_there(alloc, source, zone, catalogued, &one.resolver)?;
+        let resolvers = both_of(alloc, &by_reason, &by_resolver)?;
+        put_rows(alloc, &mut rows, one, &resolvers)?;
+    }
+    Ok(rows)
+}
+
+// The resolver of a hold and the candidates that give it, unless it is there; none where a hold has none.
+fn unless_resolver_there<P: Published>(
+    alloc: Global,
+    source: &mut P,
+    zone: &Zone,
+    catalogued: &[Id],
+    resolver: &Option<Id>,
+) -> Result<Option<Vec<Id>>, SourceFault>
+    requires { Ascend catalogued.now }
+    ensures keeps { P.keeps source.old source.new }
+    ensures resolvers { IfOk result (λ found. Tells P.is_clean P.is_ours P.is_open P.content source.old source.new
+        (λ content. catalogued.now ≡ ids_of content → option_map (λ ids. ids.items) found ≡ unless_resolver_there content zone.now resolver.now)) }
+    ensures cause { FailsWithCause P.is_open P.failures source.old source.new result }
+{
+    let Some(resolver) = resolver else {
+        return Ok(Some(Vec::new(alloc)));
+    };
+    let found = candidates_unless_there(alloc, source, zone, catalogued, resolver)?;
+    Ok(with_itself(found, resolver)?)
+}
+
+// The candidates that give a resolver, and the resolver.
+fn with_itself(found: Option<Vec<Id>>, resolver: &Id) -> Result<Option<Vec<Id>>, NoMemory>
+    ensures { IfOk result (λ all. option_map (λ ids. ids.items) all ≡ option_map (λ ids. ids.items ++ resolver.now ∷ []) found) }
+{
+    match found {
+        Some(mut ids) => {
+            ids.push(*resolver)?;
+            Ok(Some(ids))
+        }
+        None => Ok(None),
+    }
+}
+
+// What resolves a hold by its reason and by its resolver, ascending, each once, unless one of them is there.
+fn both_of(
+    alloc: Global,
+    by_reason: &Option<Vec<Id>>,
+    by_resolver: &Option<Vec<Id>>,
+) -> Result<Option<Vec<Id>>, NoMemory>
+    ensures { IfOk result (λ all. option_map (λ ids. ids.items) all
+        ≡ both_of (option_map (λ ids. ids.items) by_reason.now) (option_map (λ ids. ids.items) by_resolver.now)) }
+{
+    match (by_reason, by_resolver) {
+        (Some(by_reason), Some(by_resolver)) => Ok(Some(joined(alloc, by_reason, by_resolver)?)),
+        _ => Ok(None),
+    }
+}
+
+fn joined(alloc: Global, ids: &[Id], more: &[Id]) -> Result<Vec<Id>, NoMemory>
+    ensures { IfOk result (λ all. all.items ≡ in_order (ids.now ++ more.now)) }
+{
+    let mut all = BTreeSet::new(alloc);
+    put_all(&mut all, ids)?;
+    put_all(&mut all, more)?;
+    all.into_iter().collect(alloc)
+}
+
+fn put_all(all: &mut BTreeSet<Id>, ids: &[Id]) -> Result<(), NoMemory>
+    ensures { OnOk result (all.new.keys ≡ put_among all.old.keys ids.now) }
+{
+    for id in ids {
+        all.insert(*id)?;
+    }
+    Ok(())
+}
+
+// Adds the rows of a category of a hold, unless its reason or its resolver is there.
+fn put_rows(
+    alloc: Global,
+    rows: &mut Vec<MissingRow>,
+    held: &MissingHeld,
+    resolvers: &Option<Vec<Id>>,
+) -> Result<(), NoMemory>
+    ensures { OnOk result (rows.new.items ≡ rows.old.items ++ rows_by held.now (option_map (λ ids. ids.items) resolvers.now)) }
+{
+    match resolvers {
+        Some(resolvers) => put_each_or_none(alloc, rows, held, resolvers),
+        None => Ok(()),
+    }
+}
+
+fn put_each_or_none(
+    alloc: Global,
+    rows: &mut Vec<MissingRow>,
+    held: &MissingHeld,
+    resolvers: &[Id],
+) -> Result<(), NoMemory>
+    ensures { OnOk result (rows.new.items ≡ rows.old.items ++ rows_with held.now resolvers.now) }
+{
+    match resolvers {
+        [] => Ok(rows.push(row_found(alloc, held, None)?)?),
+        _ => put_each(alloc, rows, held, resolvers),
+    }
+}
+
+fn put_each(
+    alloc: Global,
+    rows: &mut Vec<MissingRow>,
+    held: &MissingHeld,
+    resolvers: &[Id],
+) -> Result<(), NoMemory>
+    ensures { OnOk result (rows.new.items ≡ rows.old.items ++ rows_each held.now resolvers.now) }
+{
+    for resolver in resolvers {
+        rows.push(row_found(alloc, held, Some(*resolver))?)?;
+    }
+    Ok(())
+}
+
+fn row_found(
+    alloc: Global,
+    held: &MissingHeld,
+    resolver: Option<Id>,
+) -> Result<MissingRow, NoMemory>
+    ensures { IfOk result (λ row. row ≡ row_found held.now resolver) }
+{
+    Ok(MissingRow {
+        category: MissingCategory::copied(alloc, held.category.as_bytes())?,
+        sysmod: held.sysmod,
+        reason: held.reason,
+        resolver,
+        status: None,
+        received: None,
+    })
+}
+
+// The resolvers that were found, ascending, each once.
+fn resolvers_in(alloc: Global, rows: &[MissingRow]) -> Result<Vec<Id>, NoMemory>
+    ensures resolvers { IfOk result (λ ids. ids.items ≡ in_order (resolvers_in rows.now)) }
+    ensures ascend { IfOk result (λ ids. Ascend ids.items) }
+{
+    let mut ids = BTreeSet::new(alloc);
+    for row in rows {
+        if let Some(resolver) = row.resolver {
+            ids.insert(resolver)?;
+        }
+    }
+    ids.into_iter().collect(alloc)
+}
+
+// The rows, with what was answered for each resolver.
+fn rows_told(
+    alloc: Global,
+    rows: Vec<MissingRow>,
+    asked: &[Id],
+    statuses: &[Status],
+    received: &[Id],
+) -> Result<Vec<MissingRow>, NoMemory>
+    requires asked { Ascend asked.now }
+    requires received { Ascend received.now }
+    ensures { IfOk result (λ told. (f : List ℕ → Status) → statuses.now ≡ map f asked.now → asked.now ≡ in_order (resolvers_in rows.items)
+        → told.items ≡ map (row_told f received.now) rows.items) }
+{
+    let mut told = Vec::with_capacity(alloc, rows.len())?;
+    for row in rows {
+        told.push(row_told(row, asked, statuses, received))?;
+    }
+    Ok(told)
+}
+
+fn row_told(row: MissingRow, asked: &[Id], statuses: &[Status], received: &[Id]) -> MissingRow
+    requires asked { Ascend asked.now }
+    requires received { Ascend received.now }
+    ensures { (f : List ℕ → Status) → statuses.now ≡ map f asked.now → IfSome row.resolver (λ resolver. has asked.now resolver ≡ true)
+        → result ≡ row_told f received.now row }
+{
+    let mut row = row;
+    row.status = None;
+    row.received = None;
+    if let Some(resolver) = row.resolver {
+        row.status = Some(status_among(asked, statuses, &resolver));
+        row.received = Some(is_among(received, &resolver));
+    }
+    row
+}
