@@ -1,16 +1,15 @@
 -- What comes of calls: small worked cases, so that the definitions are seen to mean what they should.
-use Rattle.std.proofs.Common.{◌≡◌, ℕ, Bool, true, false, List, [], ◌∷◌, refl}
-use Rattle.std.specs.Prelude.{Some, None, Ok, Err, codes, replicate}
+use Rattle.std.proofs.Common.{◌≡◌, ℕ, true, false, [], ◌∷◌, refl}
+use Rattle.std.specs.Prelude.{Some, None, codes, replicate}
 use Rattle.std.specs.Fmt.{digits}
-use Rattle.zone_lists.specs.declared.zones.ZoneRow.{ZoneRow}
 use Rattle.zone_lists.specs.declared.zones.ZoneState.TheVariants.{Applied}
 use Rattle.catalogue.specs.Content.{nothing}
 use Rattle.bureau_store.specs.Effect.{zone_dropped}
-use Rattle.bureau_store.specs.Tables.{LastChange, ZoneTable, Zones}
+use Rattle.bureau_store.specs.Tables.{ZoneTable, Zones}
 use Rattle.bureau_store.specs.declared.caller.Caller.TheVariants.{Publisher, Client}
-use Rattle.bureau.specs.Call.{publish, put_zone, drop_zone, list_zones, err_sysmods, counts}
-use Rattle.bureau.specs.Outcome.{accepted, answered, answer_of, by_number, bad_number, forbidden, gap, has_room, in_turn, not_found, outcome, plain, stale, told}
-use Rattle.bureau.specs.Texts.{counts_text, zone_dropped_text, zones_text}
+use Rattle.bureau.specs.Call.{publish, drop_zone, list_zones, err_sysmods, counts}
+use Rattle.bureau.specs.Outcome.{accepted, answered, has_room, outcome, plain}
+use Rattle.bureau.specs.Texts.{counts_text}
 use Rattle.bureau.specs.View.{View}
 
 -- a zone with one SYSMOD

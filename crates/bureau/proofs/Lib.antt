@@ -4,3 +4,9 @@ pub mod FoundFacts
 pub mod LeftFacts
 pub mod NamesFacts
 pub mod ProperFacts
+pub mod PublicationFacts
+pub mod ChangeFacts
+pub mod QuestionFacts
+pub mod CommitFacts
+pub mod AnswerFacts
+pub mod RunFacts

@@ -8,3 +8,8 @@ pub mod Bodies
 pub mod Texts
 pub mod Turn
 pub mod Replies
+pub mod Calls
+pub mod Faults
+pub mod Come
+pub mod Parts
+pub mod Answering

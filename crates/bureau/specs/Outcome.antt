@@ -18,6 +18,9 @@ pub record Answer : Type 0 where
 abbrev pub plain : ℕ → List ℕ → Answer
 plain status body = record { status = status; json = false; body = body }
 
+abbrev pub as_json : List ℕ → Answer
+as_json body = record { status = 200; json = true; body = body }
+
 -- the answers that have no other text
 abbrev pub bad_number : Answer
 bad_number = plain 400 (codes "BAD NUMBER\n")
@@ -118,7 +121,7 @@ outcome_allowed view (missing_fix zone) =
     of_zone (zone_named zone view.zones) (λ table. told (missing_report view.content zone table view.received))
 outcome_allowed view (chain zone sysmod) =
     of_zone (zone_named zone view.zones) (λ table.
-    answered (record { status = 200; json = true; body = chain_text view.content zone table sysmod }))
+    answered (as_json (chain_text view.content zone table sysmod)))
 outcome_allowed view counts = told (counts_text view.content)
 
 abbrev pub outcome : View → Call → Outcome

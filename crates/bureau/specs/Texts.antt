@@ -59,8 +59,12 @@ received_text ids = codes "RECEIVED ROWS " ++ decimal (length ids) ++ codes "\n"
 abbrev pub zone_columns : List (ℕ × List ℕ)
 zone_columns = (1, codes "ZONE") ∷ (10, codes "SYSMODS") ∷ []
 
+-- what stands in the columns for a zone and how many SYSMODs its list has
+abbrev pub zone_fields : List ℕ × ℕ → List (List ℕ)
+zone_fields zone = text_of zone.0 ∷ decimal zone.1 ∷ []
+
 abbrev pub zones_text : Zones → List ℕ
-zones_text zones = text_in zone_columns None (map (λ zone. text_of zone.0 ∷ decimal (length zone.1.rows) ∷ []) zones)
+zones_text zones = text_in zone_columns None (map (λ zone. zone_fields (zone.0, length zone.1.rows)) zones)
 
 -- the exception SYSMOD report on a zone
 abbrev pub err_report : Content → List ℕ → ZoneTable → List (List ℕ) → List ℕ

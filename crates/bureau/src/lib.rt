@@ -1,5 +1,7 @@
 //! The bureau: what it answers to each call, and what each caller may rely on.
 //!
+//! - [`Bureau`]: the bureau over a store and a judge
+//! - [`Call`]: what a caller asks
 //! - [`isolation`]: each caller's answers are those of a bureau that no other client uses
 //! - [`Reply`]: an answer: its status and its body
 //!
@@ -8,13 +10,23 @@
 //! has alone.
 #![tactic(auto)]
 
+mod bureau;
+mod call;
+mod changes;
+mod come;
+mod commit;
+mod decide;
 mod law;
+mod publication;
+mod questions;
 mod reply;
 #[cfg(test)]
 mod tests;
 mod texts;
 mod turn;
 
+pub use bureau::Bureau;
+pub use call::Call;
 pub use law::isolation;
 use mcs_reader::NoMemory;
 pub use reply::{Body, Reply};

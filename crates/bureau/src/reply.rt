@@ -1,6 +1,6 @@
 //! What the bureau answers.
 ghost use Rattle.std.specs.Prelude.{◌≡◌, [], IfOk};
-ghost use Rattle.bureau.specs.Outcome.{gap, no_room, plain};
+ghost use Rattle.bureau.specs.Outcome.{as_json, forbidden, gap, no_room, not_found, plain};
 ghost use Rattle.bureau.specs.Replies.{reply_as};
 
 use crate::NoMemory;
@@ -68,6 +68,28 @@ impl Reply {
         }
     }
 
+    /// What is asked for, in plain text. It takes no memory.
+    pub(crate) fn text(text: Vec<u8>) -> Reply
+        ensures { reply_as result ≡ plain 200 text.items }
+    {
+        Reply {
+            status: 200,
+            json: false,
+            body: Body::from_vec(text),
+        }
+    }
+
+    /// What is asked for, as JSON. It takes no memory.
+    pub(crate) fn json(text: Vec<u8>) -> Reply
+        ensures { reply_as result ≡ as_json text.items }
+    {
+        Reply {
+            status: 200,
+            json: true,
+            body: Body::from_vec(text),
+        }
+    }
+
     /// An answer in plain text.
     pub(crate) fn plain(alloc: Global, status: u16, text: &[u8]) -> Result<Reply, NoMemory>
         ensures { IfOk result (λ reply. reply_as reply ≡ plain status text.now) }
@@ -78,6 +100,20 @@ impl Reply {
             json: false,
             body: Body::from_vec(bytes),
         })
+    }
+
+    /// The caller may not ask this.
+    pub(crate) fn forbidden(alloc: Global) -> Result<Reply, NoMemory>
+        ensures { IfOk result (λ reply. reply_as reply ≡ forbidden) }
+    {
+        Reply::plain(alloc, 403, b"NOT ALLOWED\n")
+    }
+
+    /// The zone isn't there.
+    pub(crate) fn not_found(alloc: Global) -> Result<Reply, NoMemory>
+        ensures { IfOk result (λ reply. reply_as reply ≡ not_found) }
+    {
+        Reply::plain(alloc, 404, b"NOT FOUND\n")
     }
 
     /// A number was left out: the answer names the caller's last one.

@@ -1,16 +1,30 @@
 //! The texts of answers. Each is one line, or a table in columns.
-ghost use Rattle.std.specs.Prelude.{◌≡◌, ◌++◌, codes, count_by, decimal, IfOk, OnOk};
+ghost use Rattle.std.specs.Prelude.{◌≡◌, ◌++◌, codes, count_by, decimal, map, None, IfOk, OnOk};
+ghost use Rattle.columns.specs.Columns.{columns_of, text_of as text_in};
 ghost use Rattle.mcs_reader.specs.Id.{text_of};
 ghost use Rattle.bureau.specs.Texts as Spec;
-ghost use Rattle.bureau.specs.Texts.{patterns_text, publication_text, received_text, zone_dropped_text, zone_put_text};
+ghost use Rattle.bureau.specs.Texts.{zone_columns, zone_fields, patterns_text, publication_text, received_text, zone_dropped_text, zone_put_text};
 
 use crate::NoMemory;
 use catalogue::Change;
+use columns::{Column, Table};
 use holddata::HoldChange;
 use itoa::Buffer;
 use mcs_reader::Id;
 use std::alloc::Global;
 use zone_lists::{Pattern, ZoneRow};
+
+// Where each column of the list of zones begins, and its name.
+const ZONE_COLUMNS: [Column; 2] = [
+    Column {
+        place: 1,
+        name: b"ZONE",
+    },
+    Column {
+        place: 10,
+        name: b"SYSMODS",
+    },
+];
 
 /// How much is published: so many SYSMODs and so many holds.
 pub(crate) fn counts_line(alloc: Global, sysmods: u64, holds: u64) -> Result<Vec<u8>, NoMemory>
@@ -84,6 +98,17 @@ pub(crate) fn received_line(alloc: Global, ids: &[Id]) -> Result<Vec<u8>, NoMemo
     push_number(&mut text, ids.len() as u64)?;
     text.extend_from_slice(b"\n")?;
     Ok(text)
+}
+
+/// A client's zones with how many SYSMODs each has, in columns.
+pub(crate) fn zones_table(alloc: Global, zones: &[(Id, u64)]) -> Result<Vec<u8>, NoMemory>
+    ensures { IfOk result (λ text. text.items ≡ text_in zone_columns None (map zone_fields zones.now)) }
+{
+    let mut table = Table::new(alloc, &ZONE_COLUMNS, None)?;
+    for zone in zones {
+        table.push(&[zone.0.as_bytes(), Buffer::new().format(zone.1).as_bytes()])?;
+    }
+    table.finish()
 }
 
 // The beginning of what is told of a zone.

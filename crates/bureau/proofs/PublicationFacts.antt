@@ -1,0 +1,97 @@
+-- What a body publishes, while it is read.
+use Rattle.std.proofs.Common.{◌≡◌, ◌≢◌, inl, inr, ℕ, false, List, [], ◌∷◌, refl, sym, ◌∙◌, ap, subst}
+use Rattle.std.specs.Prelude.{Option, Some, None, Result, Ok, Err, IsOk, IfErr, IsErrAnd, MatchOption, is_some}
+use Rattle.std.specs.List.{fold}
+use Rattle.faults.specs.FaultText.{text_of}
+use Rattle.faults.specs.declared.any.AnyFault.{AnyFault}
+use Rattle.faults.specs.declared.fault.Cause.{Cause}
+use Rattle.faults.specs.declared.fault.Cause.TheVariants.{Input, Machine}
+use Rattle.holddata.specs.Statements.{first_of}
+use Rattle.mcs_reader.specs.McsFault as mcs
+use Rattle.mcs_reader.specs.declared.fault.McsFault.{McsFault}
+use Rattle.mcs_reader.specs.declared.fault.McsFault.TheVariants as mcs_fault
+use Rattle.mcs_reader.specs.Unread.{Read, with_statements}
+use Rattle.mcs_reader.specs.declared.statement.Statement.{Statement}
+use Rattle.catalogue.specs.CatFault.{cat_fault_cause, cat_fault_line, cat_fault_number}
+use Rattle.catalogue.specs.declared.change.Change.{Change}
+use Rattle.catalogue.specs.declared.fault.CatFault.{CatFault}
+use Rattle.catalogue.specs.declared.fault.CatFault.TheVariants as cat_fault
+use Rattle.catalogue.proofs.ReadingLaws.{fault_here, faults_next, read_all, reads_next}
+use Rattle.catalogue.specs.Reading.{Begun, changes_in, faults_of, first_fault, nothing_begun, with_statement}
+use Rattle.bureau.specs.Bodies.{published_by, unless}
+use Rattle.bureau.specs.Faults.{IsTold}
+
+-- what is published where this much was read, and this is left
+abbrev pub published_from : Begun → Read → Result (List Change) (List ℕ)
+published_from begun (Ok statements) = unless (first_fault (is_some begun.open_record) statements) (changes_in (fold with_statement begun statements))
+published_from begun (Err fault) = Err (text_of (mcs.fault_number fault) (mcs.fault_line fault))
+
+-- a whole body, with statements one at a time
+pub published_whole : (read : Read) → published_from nothing_begun read ≡ published_by read
+published_whole (Ok statements) = ap (unless (first_fault false statements)) (read_all statements)
+published_whole (Err fault) = refl
+
+-- one more statement was read
+pub published_next : (begun new : Begun) (statement : Statement) (before left : Read) → before ≡ with_statements (statement ∷ []) left → new ≡ with_statement begun statement
+    → faults_of (is_some begun.open_record) statement ≡ [] → published_from new left ≡ published_from begun before
+published_next begun new statement before (Ok rest) first now none =
+    ap (λ fault. unless fault (changes_in (fold with_statement new rest)))
+    (faults_next begun new (first_fault (is_some begun.open_record) (statement ∷ rest)) statement (statement ∷ rest) rest refl now none refl)
+    ∙ ap (λ (all : Begun). unless (first_fault (is_some begun.open_record) (statement ∷ rest)) (changes_in all))
+    (reads_next begun new (fold with_statement begun (statement ∷ rest)) statement (statement ∷ rest) rest refl now refl)
+    ∙ ap (published_from begun) (sym first)
+published_next begun new statement before (Err fault) first now none = ap (published_from begun) (sym first)
+
+-- what is told of a fault of reading
+abbrev pub of_source : McsFault → AnyFault
+of_source fault = record { number = mcs.fault_number fault; place = mcs.fault_line fault; cause = mcs.fault_cause fault }
+
+-- what is told of a fault of what statements publish
+abbrev pub of_statement : CatFault → AnyFault
+of_statement fault = record { number = cat_fault_number fault; place = cat_fault_line fault; cause = cat_fault_cause fault }
+
+is_no_machine : Machine ≡ Input → ⊥
+is_no_machine e = cc
+
+-- what is left has a fault of reading
+pub told_of_source : (begun : Begun) (whole : Result (List Change) (List ℕ)) (before : Read) (fault : McsFault) → published_from begun before ≡ whole
+    → (fault ≢ mcs_fault.Memory → before ≡ Err fault) → IsTold whole (of_source fault)
+told_of_source begun whole before fault is refused = by (mcs.fault_cause fault) refl
+  where
+    at : (fault ≢ mcs_fault.Memory) → whole ≡ Err (text_of (mcs.fault_number fault) (mcs.fault_line fault))
+    at other = sym is ∙ ap (published_from begun) (refused other)
+
+    by : (cause : Cause) → mcs.fault_cause fault ≡ cause → IsTold whole (of_source fault)
+    by Machine e = inl e
+    by Input e = inr (e, at (λ m. is_no_machine (sym (ap mcs.fault_cause m) ∙ e)))
+
+-- a statement publishes nothing for a fault, and what is behind it is read
+pub told_of_statement : (begun : Begun) (whole : Result (List Change) (List ℕ)) (statement : Statement) (before left : Read) (fault : CatFault)
+    → published_from begun before ≡ whole → before ≡ with_statements (statement ∷ []) left → IsOk left
+    → (fault ≢ cat_fault.Memory → first_of (faults_of (is_some begun.open_record) statement) ≡ Some fault) → IsTold whole (of_statement fault)
+told_of_statement begun whole statement before (Err other) fault is first ok refused = absurd (cc)
+told_of_statement begun whole statement before (Ok rest) fault is first ok refused = by (cat_fault_cause fault) refl
+  where
+    at : (fault ≢ cat_fault.Memory) → whole ≡ Err (text_of (cat_fault_number fault) (cat_fault_line fault))
+    at other =
+        sym is ∙ ap (published_from begun) first
+        ∙ ap (λ f. unless f (changes_in (fold with_statement begun (statement ∷ rest))))
+        (fault_here (is_some begun.open_record) (first_fault (is_some begun.open_record) (statement ∷ rest)) fault statement (statement ∷ rest) rest refl (refused other) refl)
+
+    by : (cause : Cause) → cat_fault_cause fault ≡ cause → IsTold whole (of_statement fault)
+    by Machine e = inl e
+    by Input e = inr (e, at (λ m. is_no_machine (sym (ap cat_fault_cause m) ∙ e)))
+
+-- a fault that is passed on is told
+pub passed_on : {T A : Type 0} → (result : Result T AnyFault) (whole : Result A (List ℕ)) (fault : AnyFault) → IsErrAnd result (λ any. any ≡ fault) → IsTold whole fault → IfErr result (IsTold whole)
+passed_on (Ok value) whole fault is told = absurd is
+passed_on (Err any) whole fault is told = subst (IsTold whole) (sym is) told
+
+-- nothing is left
+pub ended_with : (begun : Begun) (whole left : Read) (changes : List Change) → left ≡ Ok [] → published_from begun left ≡ published_from nothing_begun whole → changes ≡ changes_in begun → published_by whole ≡ Ok changes
+ended_with begun whole left changes ended is all = sym (published_whole whole) ∙ sym is ∙ ap (published_from begun) ended ∙ ap (λ cs. Ok cs) (sym all)
+
+-- what holds where nothing is found
+pub where_none : {A : Type 0} (P : Type 0) (Q : A → Type 0) (found : Option A) → ((a : A) → found ≡ Some a → ⊥) → MatchOption found P Q → P
+where_none P Q None never is = is
+where_none P Q (Some a) never is = absurd (never a refl)

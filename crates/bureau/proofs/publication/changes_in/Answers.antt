@@ -1,0 +1,26 @@
+use Rattle.std.proofs.Common.{◌≡◌, [], ◌∷◌, Ok, ◌∙◌, ap}
+use Rattle.bureau.specs.Bodies as Bodies
+use Rattle.mcs_reader.specs.ReadingOf.{reading_of}
+use Rattle.mcs_reader.specs.Unread.{with_statements}
+use Rattle.bureau.proofs.PublicationFacts.{ended_with, of_source, passed_on, published_next, published_whole, told_of_source, where_none}
+use Rattle.bureau.proofs.publication.changes_in.Goals as goal
+
+pub returns-in_err-finish-in-Err-clause-fault : goal.returns-in_err-finish-in-Err-clause-fault
+returns-in_err-finish-in-Err-clause-fault c =
+    let gives = rw c.in-Some.is at c.in_ok-statement.ensures.next in
+    passed_on c.from_residual-in_err-finish-in-Err.result (Bodies.changes_in c.args.body.now) (of_source c.in_err-finish-in-Err.field-0.0)
+    c.from_residual-in_err-finish-in-Err.ensures.1
+    (told_of_source c.statements.reader (Bodies.changes_in c.args.body.now) c.statements.statements.reading c.in_err-finish-in-Err.field-0.0
+    (c.statements.invariant ∙ published_whole (reading_of c.args.body.now))
+    (λ other. gives.first ∙ ap (with_statements (c.in-Some.statement ∷ [])) (c.in_err-finish-in-Err.ensures.fault other)))
+
+pub statements-preserved : goal.statements-preserved
+statements-preserved c =
+    let gives = rw c.in-Some.is at c.in_ok-statement.ensures.next in
+    published_next c.statements.reader c.in-Ok.now c.in-Some.statement c.statements.statements.reading c.next.new.self.reading gives.first c.in-Ok.ensures.read c.in-Ok.ensures.no_fault
+    ∙ c.statements.invariant
+
+pub returns-clause-changes : goal.returns-clause-changes
+returns-clause-changes c =
+    let ended : c.statements.statements.reading ≡ Ok [] = where_none (c.statements.statements.reading ≡ Ok []) _ c.in_ok-statement.field-0 c.in_default.not-Some c.in_ok-statement.ensures.next in
+    ended_with c.statements.reader (reading_of c.args.body.now) c.statements.statements.reading c.in_ok-read_changes.field-0.items ended c.statements.invariant c.in_ok-read_changes.ensures.changes

@@ -1,0 +1,4 @@
+-- What a bureau is made of.
+pub record Parts (Store Judge : Type 0) : Type 0 where
+  pub store : Store
+  pub judge : Judge

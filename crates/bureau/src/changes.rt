@@ -1,0 +1,263 @@
+//! What comes of a change: its number counts first, then whether the zone is there, then its body.
+ghost use Rattle.std.specs.Prelude.{◌≡◌, ◌≤◌, map, IfOk, is_some};
+ghost use Rattle.std.specs.List.{list_any};
+ghost use Rattle.std.specs.Str.{bytes_eq};
+ghost use Rattle.catalogue.specs.Published.{Tells};
+ghost use Rattle.bureau_store.specs.Caller.{IsProper};
+ghost use Rattle.bureau_store.specs.Store.{greatest_number};
+ghost use Rattle.bureau_store.specs.Tables.{Zones, zone_named};
+ghost use Rattle.bureau_store.specs.declared.caller.Caller.TheVariants.{Publisher, Client};
+ghost use Rattle.bureau.specs.Call as call;
+ghost use Rattle.bureau.specs.Come.{IsComing, IsFit, IsInTurn, counted_as};
+ghost use Rattle.bureau.specs.Outcome.{has_room, plain};
+ghost use Rattle.faults.specs.FaultText.{text_of};
+ghost use Rattle.faults.specs.declared.fault.Cause.TheVariants.{Input};
+ghost use Rattle.bureau.specs.Replies.{reply_as};
+
+use crate::come::{Come, Deed, Due, NoRoom};
+use crate::publication::changes_in;
+use crate::texts::{
+    patterns_line, publication_line, received_line, zone_dropped_line, zone_put_line,
+};
+use crate::turn::number_in_turn;
+use crate::{NoMemory, Reply};
+use bureau_store::{Caller, Store};
+use catalogue::touched;
+use faults::{AnyFault, Cause};
+use mcs_reader::Id;
+use std::alloc::Global;
+use zone_lists::{patterns, received_rows, zone_rows};
+
+/// The most zones of a client.
+const MOST_ZONES: usize = 64;
+
+/// What comes of a publication.
+pub(crate) fn publish<S: Store>(
+    alloc: Global,
+    store: &mut S,
+    number: Option<u64>,
+    body: &[u8],
+) -> Result<Come, NoRoom>
+    ensures keeps { S.keeps store.old store.new }
+    ensures come { IfOk result (λ come. Tells S.is_clean S.is_ours S.is_open S.tables store.old store.new
+        (λ this. IsComing Publisher (call.publish number body.now) this come)) }
+    ensures fit { IfOk result IsFit }
+{
+    let number = match in_turn(alloc, store, &Caller::Publisher, number)? {
+        Ok(number) => number,
+        Err(reply) => return Ok(Come::Answered(reply)),
+    };
+    let changes = match changes_in(alloc, body) {
+        Ok(changes) => changes,
+        Err(fault) => return Ok(Come::Answered(refused(alloc, fault)?)),
+    };
+    let text = publication_line(alloc, &changes)?;
+    let touched = touched(alloc, store, &changes)?;
+    Ok(Come::Accepted(Due {
+        number,
+        text,
+        deed: Deed::Publication { changes, touched },
+    }))
+}
+
+/// What comes of a zone that is put.
+pub(crate) fn put_zone<S: Store>(
+    alloc: Global,
+    store: &mut S,
+    client: &Id,
+    number: Option<u64>,
+    zone: &Id,
+    body: &[u8],
+) -> Result<Come, NoRoom>
+    requires { IsProper (Client client.now) }
+    ensures keeps { S.keeps store.old store.new }
+    ensures come { IfOk result (λ come. Tells S.is_clean S.is_ours S.is_open S.tables store.old store.new
+        (λ this. IsComing (Client client.now) (call.put_zone number zone.now body.now) this come)) }
+    ensures fit { IfOk result IsFit }
+{
+    let number = match in_turn(alloc, store, &Caller::Client(*client), number)? {
+        Ok(number) => number,
+        Err(reply) => return Ok(Come::Answered(reply)),
+    };
+    let rows = match zone_rows(alloc, body) {
+        Ok(rows) => rows,
+        Err(fault) => return Ok(Come::Answered(refused(alloc, AnyFault::from(fault))?)),
+    };
+    if !has_room_for(store, client, zone)? {
+        return Ok(Come::Answered(Reply::plain(alloc, 422, b"FAULT 61\n")?));
+    }
+    let text = zone_put_line(alloc, zone, &rows)?;
+    Ok(Come::Accepted(Due {
+        number,
+        text,
+        deed: Deed::ZonePut {
+            client: *client,
+            zone: *zone,
+            rows,
+        },
+    }))
+}
+
+/// What comes of a zone that is dropped.
+pub(crate) fn drop_zone<S: Store>(
+    alloc: Global,
+    store: &mut S,
+    client: &Id,
+    number: Option<u64>,
+    zone: &Id,
+) -> Result<Come, NoRoom>
+    requires { IsProper (Client client.now) }
+    ensures keeps { S.keeps store.old store.new }
+    ensures come { IfOk result (λ come. Tells S.is_clean S.is_ours S.is_open S.tables store.old store.new
+        (λ this. IsComing (Client client.now) (call.drop_zone number zone.now) this come)) }
+    ensures fit { IfOk result IsFit }
+{
+    let number = match in_turn(alloc, store, &Caller::Client(*client), number)? {
+        Ok(number) => number,
+        Err(reply) => return Ok(Come::Answered(reply)),
+    };
+    if !is_zone(store, client, zone)? {
+        return Ok(Come::Answered(Reply::not_found(alloc)?));
+    }
+    let text = zone_dropped_line(alloc, zone)?;
+    Ok(Come::Accepted(Due {
+        number,
+        text,
+        deed: Deed::ZoneDropped {
+            client: *client,
+            zone: *zone,
+        },
+    }))
+}
+
+/// What comes of a list of received SYSMODs that is put.
+pub(crate) fn put_received<S: Store>(
+    alloc: Global,
+    store: &mut S,
+    client: &Id,
+    number: Option<u64>,
+    body: &[u8],
+) -> Result<Come, NoRoom>
+    requires { IsProper (Client client.now) }
+    ensures keeps { S.keeps store.old store.new }
+    ensures come { IfOk result (λ come. Tells S.is_clean S.is_ours S.is_open S.tables store.old store.new
+        (λ this. IsComing (Client client.now) (call.put_received number body.now) this come)) }
+    ensures fit { IfOk result IsFit }
+{
+    let number = match in_turn(alloc, store, &Caller::Client(*client), number)? {
+        Ok(number) => number,
+        Err(reply) => return Ok(Come::Answered(reply)),
+    };
+    let ids = match received_rows(alloc, body) {
+        Ok(ids) => ids,
+        Err(fault) => return Ok(Come::Answered(refused(alloc, AnyFault::from(fault))?)),
+    };
+    let text = received_line(alloc, &ids)?;
+    Ok(Come::Accepted(Due {
+        number,
+        text,
+        deed: Deed::ReceivedPut {
+            client: *client,
+            ids,
+        },
+    }))
+}
+
+/// What comes of patterns that are put to a zone.
+pub(crate) fn put_patterns<S: Store>(
+    alloc: Global,
+    store: &mut S,
+    client: &Id,
+    number: Option<u64>,
+    zone: &Id,
+    body: &[u8],
+) -> Result<Come, NoRoom>
+    requires { IsProper (Client client.now) }
+    ensures keeps { S.keeps store.old store.new }
+    ensures come { IfOk result (λ come. Tells S.is_clean S.is_ours S.is_open S.tables store.old store.new
+        (λ this. IsComing (Client client.now) (call.put_patterns number zone.now body.now) this come)) }
+    ensures fit { IfOk result IsFit }
+{
+    let number = match in_turn(alloc, store, &Caller::Client(*client), number)? {
+        Ok(number) => number,
+        Err(reply) => return Ok(Come::Answered(reply)),
+    };
+    if !is_zone(store, client, zone)? {
+        return Ok(Come::Answered(Reply::not_found(alloc)?));
+    }
+    let patterns = match patterns(alloc, body) {
+        Ok(patterns) => patterns,
+        Err(fault) => return Ok(Come::Answered(refused(alloc, AnyFault::from(fault))?)),
+    };
+    let text = patterns_line(alloc, zone, &patterns)?;
+    Ok(Come::Accepted(Due {
+        number,
+        text,
+        deed: Deed::PatternsPut {
+            client: *client,
+            zone: *zone,
+            patterns,
+        },
+    }))
+}
+
+// The number of a caller's change that comes in its turn, or the answer to one that doesn't.
+fn in_turn<S: Store>(
+    alloc: Global,
+    store: &mut S,
+    caller: &Caller,
+    number: Option<u64>,
+) -> Result<Result<u64, Reply>, NoRoom>
+    requires { IsProper caller.now }
+    ensures keeps { S.keeps store.old store.new }
+    ensures turn { IfOk result (λ turn. Tells S.is_clean S.is_ours S.is_open S.tables store.old store.new
+        (λ this. IsInTurn (this.last caller.now) number turn)) }
+    ensures bound { IfOk result (λ turn. IfOk turn (λ next. next ≤ greatest_number)) }
+{
+    let (last, reply) = store.last(caller)?;
+    Ok(number_in_turn(alloc, number, last, reply)?)
+}
+
+// The answer to a body that has this fault.
+fn refused(alloc: Global, fault: AnyFault) -> Result<Reply, NoRoom>
+    ensures input { IfOk result (λ reply. fault.cause ≡ Input) }
+    ensures reply { IfOk result (λ reply. reply_as reply ≡ plain 422 (text_of fault.number fault.place)) }
+{
+    match fault.cause {
+        Cause::Machine => Err(NoRoom),
+        Cause::Input => Ok(Reply::plain(alloc, 422, fault.text().as_bytes())?),
+    }
+}
+
+// Whether a client has a zone of this name.
+fn is_zone<S: Store>(store: &mut S, client: &Id, zone: &Id) -> Result<bool, NoRoom>
+    requires { IsProper (Client client.now) }
+    ensures keeps { S.keeps store.old store.new }
+    ensures there { IfOk result (λ there. Tells S.is_clean S.is_ours S.is_open S.tables store.old store.new
+        (λ this. there ≡ is_some (zone_named zone.now (this.zones client.now)))) }
+{
+    Ok(store.zone(client, zone)?.is_some())
+}
+
+// Whether a client may have a zone of this name: it has it already, or not yet as many as it may.
+fn has_room_for<S: Store>(store: &mut S, client: &Id, zone: &Id) -> Result<bool, NoRoom>
+    requires { IsProper (Client client.now) }
+    ensures keeps { S.keeps store.old store.new }
+    ensures room { IfOk result (λ room. Tells S.is_clean S.is_ours S.is_open S.tables store.old store.new
+        (λ this. room ≡ has_room zone.now (this.zones client.now))) }
+{
+    let zones = store.zones(client)?;
+    Ok(has_room_among(&zones, zone))
+}
+
+fn has_room_among(counted: &[(Id, u64)], zone: &Id) -> bool
+    ensures { (zones : Zones) → counted.now ≡ map counted_as zones → result ≡ has_room zone.now zones }
+{
+    counted.len() < MOST_ZONES || is_counted(counted, zone)
+}
+
+fn is_counted(counted: &[(Id, u64)], zone: &Id) -> bool
+    ensures { result ≡ list_any (λ entry. bytes_eq zone.now entry.0) counted.now }
+{
+    counted.iter().any(|entry| *zone == entry.0)
+}

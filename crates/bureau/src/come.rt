@@ -1,0 +1,87 @@
+//! What comes of a call.
+use crate::{NoMemory, Reply};
+use bureau_store::StoreFault;
+use catalogue::{Change, SourceFault};
+use mcs_reader::Id;
+use std::alloc::AllocFailed;
+use zone_lists::{Pattern, ZoneRow};
+
+/// There is no room for a call now: memory ran out, or the store doesn't do what it is asked.
+#[derive(Clone, Copy, Debug)]
+pub(crate) struct NoRoom;
+
+/// What comes of a call: an answer alone, or a change.
+#[derive(Debug, Drop)]
+pub(crate) enum Come {
+    /// The answer, and nothing changes.
+    Answered(Reply),
+    /// The change, which isn't made yet.
+    Accepted(Due),
+}
+
+/// A change that is due, with all that it takes. To make it takes no memory of the bureau's.
+#[derive(Debug, Drop)]
+pub(crate) struct Due {
+    /// The change's number.
+    pub(crate) number: u64,
+    /// What is told of it, and kept.
+    pub(crate) text: Vec<u8>,
+    /// What changes.
+    pub(crate) deed: Deed,
+}
+
+/// What a change does.
+#[derive(Debug, Drop)]
+pub(crate) enum Deed {
+    /// The publisher publishes these changes, and the frames of these SYSMODs are touched.
+    Publication {
+        changes: Vec<Change>,
+        touched: Vec<Id>,
+    },
+    /// A client's zone gets these rows.
+    ZonePut {
+        client: Id,
+        zone: Id,
+        rows: Vec<ZoneRow>,
+    },
+    /// A client's zone is dropped.
+    ZoneDropped {
+        client: Id,
+        zone: Id,
+    },
+    /// A client's list of received SYSMODs is this one.
+    ReceivedPut {
+        client: Id,
+        ids: Vec<Id>,
+    },
+    /// A client's zone gets these patterns.
+    PatternsPut {
+        client: Id,
+        zone: Id,
+        patterns: Vec<Pattern>,
+    },
+}
+
+impl From<NoMemory> for NoRoom {
+    fn from(_: NoMemory) -> NoRoom {
+        NoRoom
+    }
+}
+
+impl<T: Drop> From<AllocFailed<T>> for NoRoom {
+    fn from(_: AllocFailed<T>) -> NoRoom {
+        NoRoom
+    }
+}
+
+impl From<SourceFault> for NoRoom {
+    fn from(_: SourceFault) -> NoRoom {
+        NoRoom
+    }
+}
+
+impl From<StoreFault> for NoRoom {
+    fn from(_: StoreFault) -> NoRoom {
+        NoRoom
+    }
+}

@@ -1,0 +1,99 @@
+//! What comes of a call. Nothing changes here, and all memory that a change takes is taken here.
+ghost use Rattle.std.specs.Prelude.{◌≡◌, IfOk};
+ghost use Rattle.catalogue.specs.Published.{Tells};
+ghost use Rattle.bureau_store.specs.Caller.{IsProper};
+ghost use Rattle.bureau_store.specs.declared.caller.Caller.TheVariants.{Publisher, Client};
+ghost use Rattle.bureau.specs.Calls.{call_as};
+ghost use Rattle.bureau.specs.Come.{IsComeOf, IsComing, IsFit};
+
+use crate::changes::{drop_zone, publish, put_patterns, put_received, put_zone};
+use crate::come::{Come, NoRoom};
+use crate::questions::{chain, counts, err_sysmods, list_zones, missing_fix};
+use crate::{Call, Reply};
+use bureau_store::{Caller, Store};
+use chains::Judge;
+use mcs_reader::Id;
+use std::alloc::Global;
+
+/// What comes of a call by a caller.
+pub(crate) fn decide<S: Store, J: Judge<S>>(
+    alloc: Global,
+    store: &mut S,
+    judge: &mut J,
+    caller: &Caller,
+    call: &Call<'_>,
+) -> Result<Come, NoRoom>
+    requires { IsProper caller.now }
+    ensures keeps { S.keeps store.old store.new }
+    ensures come { IfOk result (λ come. Tells S.is_clean S.is_ours S.is_open S.tables store.old store.new
+        (λ this. J.is_right judge.old this.content → IsComing caller.now (call_as call.now) this come)) }
+    ensures fit { IfOk result IsFit }
+    ensures right { Tells S.is_clean S.is_ours S.is_open S.tables store.old store.new
+        (λ this. J.is_right judge.old this.content → J.is_right judge.new this.content) }
+{
+    match caller {
+        Caller::Publisher => decide_for_publisher(alloc, store, call),
+        Caller::Client(client) => decide_for_client(alloc, store, judge, client, call),
+    }
+}
+
+// What comes of a call by the publisher.
+fn decide_for_publisher<S: Store>(
+    alloc: Global,
+    store: &mut S,
+    call: &Call<'_>,
+) -> Result<Come, NoRoom>
+    ensures keeps { S.keeps store.old store.new }
+    ensures come { IfOk result (λ come. Tells S.is_clean S.is_ours S.is_open S.tables store.old store.new
+        (λ this. IsComing Publisher (call_as call.now) this come)) }
+    ensures fit { IfOk result IsFit }
+{
+    match *call {
+        Call::Publish { number, body } => publish(alloc, store, number, body),
+        Call::Counts => Ok(Come::Answered(counts(alloc, store)?)),
+        _ => Ok(Come::Answered(Reply::forbidden(alloc)?)),
+    }
+}
+
+// What comes of a call by a client.
+fn decide_for_client<S: Store, J: Judge<S>>(
+    alloc: Global,
+    store: &mut S,
+    judge: &mut J,
+    client: &Id,
+    call: &Call<'_>,
+) -> Result<Come, NoRoom>
+    requires { IsProper (Client client.now) }
+    ensures keeps { S.keeps store.old store.new }
+    ensures come { IfOk result (λ come. Tells S.is_clean S.is_ours S.is_open S.tables store.old store.new
+        (λ this. J.is_right judge.old this.content → IsComing (Client client.now) (call_as call.now) this come)) }
+    ensures fit { IfOk result IsFit }
+    ensures right { Tells S.is_clean S.is_ours S.is_open S.tables store.old store.new
+        (λ this. J.is_right judge.old this.content → J.is_right judge.new this.content) }
+{
+    match *call {
+        Call::Publish { .. } => Ok(Come::Answered(Reply::forbidden(alloc)?)),
+        Call::PutZone { number, zone, body } => {
+            put_zone(alloc, store, client, number, &zone, body)
+        }
+        Call::DropZone { number, zone } => drop_zone(alloc, store, client, number, &zone),
+        Call::PutReceived { number, body } => put_received(alloc, store, client, number, body),
+        Call::PutPatterns { number, zone, body } => {
+            put_patterns(alloc, store, client, number, &zone, body)
+        }
+        Call::ListZones => Ok(Come::Answered(list_zones(alloc, store, client)?)),
+        Call::ErrSysmods { zone } => come_answered(err_sysmods(alloc, store, judge, client, &zone)),
+        Call::MissingFix { zone } => come_answered(missing_fix(alloc, store, judge, client, &zone)),
+        Call::Chain { zone, sysmod } => {
+            come_answered(chain(alloc, store, judge, client, &zone, &sysmod))
+        }
+        Call::Counts => Ok(Come::Answered(counts(alloc, store)?)),
+    }
+}
+
+// An answer comes.
+fn come_answered(reply: Result<Reply, NoRoom>) -> Result<Come, NoRoom>
+    ensures { IsComeOf reply result }
+{
+    Ok(Come::Answered(reply?))
+}

@@ -1,0 +1,191 @@
+//! The answers to questions. They change nothing.
+ghost use Rattle.std.specs.Prelude.{◌≡◌, IfOk};
+ghost use Rattle.catalogue.specs.Published.{Tells};
+ghost use Rattle.catalogue.specs.Ids.{Ascend};
+ghost use Rattle.chains.specs.Verdicts.{verdict_of};
+ghost use Rattle.reports.specs.ChainText.{chain_text_of};
+ghost use Rattle.reports.specs.ErrRows.{err_rows_of};
+ghost use Rattle.reports.specs.MissingRows.{missing_rows_of};
+ghost use Rattle.reports.specs.ReportText.{err_text_of, missing_text_of};
+ghost use Rattle.bureau_store.specs.Caller.{IsProper};
+ghost use Rattle.bureau_store.specs.declared.caller.Caller.TheVariants.{Client};
+ghost use Rattle.bureau.specs.Call as call;
+ghost use Rattle.bureau.specs.Outcome.{answered, as_json, outcome, plain};
+ghost use Rattle.bureau.specs.Replies.{reply_as};
+ghost use Rattle.bureau.specs.Texts.{counts_text};
+ghost use Rattle.bureau.specs.View.{view_of};
+
+use crate::Reply;
+use crate::come::NoRoom;
+use crate::texts::{counts_line, zones_table};
+use bureau_store::Store;
+use catalogue::Published;
+use chains::Judge;
+use holddata::{Hold, Kind};
+use mcs_reader::Id;
+use reports::{err_rows, err_text, missing_rows, missing_text, plan_json};
+use std::alloc::Global;
+use supersede::Zone;
+use zone_lists::Pattern;
+
+/// How much is published.
+pub(crate) fn counts<S: Store>(alloc: Global, store: &mut S) -> Result<Reply, NoRoom>
+    ensures keeps { S.keeps store.old store.new }
+    ensures reply { IfOk result (λ reply. Tells S.is_clean S.is_ours S.is_open S.tables store.old store.new
+        (λ this. reply_as reply ≡ plain 200 (counts_text this.content))) }
+{
+    let (sysmods, holds) = store.counts()?;
+    Ok(Reply::text(counts_line(alloc, sysmods, holds)?))
+}
+
+/// Which zones a client has.
+pub(crate) fn list_zones<S: Store>(
+    alloc: Global,
+    store: &mut S,
+    client: &Id,
+) -> Result<Reply, NoRoom>
+    requires { IsProper (Client client.now) }
+    ensures keeps { S.keeps store.old store.new }
+    ensures reply { IfOk result (λ reply. Tells S.is_clean S.is_ours S.is_open S.tables store.old store.new
+        (λ this. answered (reply_as reply) ≡ outcome (view_of (Client client.now) this) call.list_zones)) }
+{
+    let zones = store.zones(client)?;
+    Ok(Reply::text(zones_table(alloc, &zones)?))
+}
+
+/// The exception SYSMOD report on a zone.
+pub(crate) fn err_sysmods<S: Store, J: Judge<S>>(
+    alloc: Global,
+    store: &mut S,
+    judge: &mut J,
+    client: &Id,
+    zone: &Id,
+) -> Result<Reply, NoRoom>
+    requires { IsProper (Client client.now) }
+    ensures keeps { S.keeps store.old store.new }
+    ensures reply { IfOk result (λ reply. Tells S.is_clean S.is_ours S.is_open S.tables store.old store.new
+        (λ this. J.is_right judge.old this.content → answered (reply_as reply) ≡ outcome (view_of (Client client.now) this) (call.err_sysmods zone.now))) }
+    ensures right { Tells S.is_clean S.is_ours S.is_open S.tables store.old store.new
+        (λ this. J.is_right judge.old this.content → J.is_right judge.new this.content) }
+{
+    let Some(rows) = store.zone(client, zone)? else {
+        return Ok(Reply::not_found(alloc)?);
+    };
+    let received = store.received(client)?;
+    let holds = store.held_in(client, zone, Kind::ErrorHold)?;
+    let installed = Zone::new(alloc, &rows)?;
+    err_reply(alloc, store, judge, zone, &installed, &received, &holds)
+}
+
+/// The missing fix report on a zone.
+pub(crate) fn missing_fix<S: Store, J: Judge<S>>(
+    alloc: Global,
+    store: &mut S,
+    judge: &mut J,
+    client: &Id,
+    zone: &Id,
+) -> Result<Reply, NoRoom>
+    requires { IsProper (Client client.now) }
+    ensures keeps { S.keeps store.old store.new }
+    ensures reply { IfOk result (λ reply. Tells S.is_clean S.is_ours S.is_open S.tables store.old store.new
+        (λ this. J.is_right judge.old this.content → answered (reply_as reply) ≡ outcome (view_of (Client client.now) this) (call.missing_fix zone.now))) }
+    ensures right { Tells S.is_clean S.is_ours S.is_open S.tables store.old store.new
+        (λ this. J.is_right judge.old this.content → J.is_right judge.new this.content) }
+{
+    let Some(rows) = store.zone(client, zone)? else {
+        return Ok(Reply::not_found(alloc)?);
+    };
+    let received = store.received(client)?;
+    let patterns = store.patterns(client, zone)?;
+    let holds = store.held_in(client, zone, Kind::FixcatHold)?;
+    let installed = Zone::new(alloc, &rows)?;
+    missing_reply(
+        alloc, store, judge, zone, &installed, &received, &patterns, &holds,
+    )
+}
+
+/// The verdict on a SYSMOD in a zone.
+pub(crate) fn chain<S: Store, J: Judge<S>>(
+    alloc: Global,
+    store: &mut S,
+    judge: &mut J,
+    client: &Id,
+    zone: &Id,
+    sysmod: &Id,
+) -> Result<Reply, NoRoom>
+    requires { IsProper (Client client.now) }
+    ensures keeps { S.keeps store.old store.new }
+    ensures reply { IfOk result (λ reply. Tells S.is_clean S.is_ours S.is_open S.tables store.old store.new
+        (λ this. J.is_right judge.old this.content → answered (reply_as reply) ≡ outcome (view_of (Client client.now) this) (call.chain zone.now sysmod.now))) }
+    ensures right { Tells S.is_clean S.is_ours S.is_open S.tables store.old store.new
+        (λ this. J.is_right judge.old this.content → J.is_right judge.new this.content) }
+{
+    let Some(rows) = store.zone(client, zone)? else {
+        return Ok(Reply::not_found(alloc)?);
+    };
+    let installed = Zone::new(alloc, &rows)?;
+    chain_reply(alloc, store, judge, zone, &installed, sysmod)
+}
+
+// The report on what has since been held in error.
+fn err_reply<P: Published, J: Judge<P>>(
+    alloc: Global,
+    source: &mut P,
+    judge: &mut J,
+    zone: &Id,
+    installed: &Zone,
+    received: &[Id],
+    holds: &[Hold],
+) -> Result<Reply, NoRoom>
+    requires { Ascend received.now }
+    ensures keeps { P.keeps source.old source.new }
+    ensures reply { IfOk result (λ reply. Tells P.is_clean P.is_ours P.is_open P.content source.old source.new
+        (λ content. J.is_right judge.old content → reply_as reply ≡ plain 200 (err_text_of zone.now (err_rows_of content installed.now received.now holds.now)))) }
+    ensures right { Tells P.is_clean P.is_ours P.is_open P.content source.old source.new
+        (λ content. J.is_right judge.old content → J.is_right judge.new content) }
+{
+    let rows = err_rows(alloc, source, judge, installed, received, holds)?;
+    Ok(Reply::text(err_text(alloc, zone, &rows)?))
+}
+
+// The report on what is missing.
+fn missing_reply<P: Published, J: Judge<P>>(
+    alloc: Global,
+    source: &mut P,
+    judge: &mut J,
+    zone: &Id,
+    installed: &Zone,
+    received: &[Id],
+    patterns: &[Pattern],
+    holds: &[Hold],
+) -> Result<Reply, NoRoom>
+    requires { Ascend received.now }
+    ensures keeps { P.keeps source.old source.new }
+    ensures reply { IfOk result (λ reply. Tells P.is_clean P.is_ours P.is_open P.content source.old source.new
+        (λ content. J.is_right judge.old content → reply_as reply ≡ plain 200 (missing_text_of zone.now (missing_rows_of content installed.now received.now patterns.now holds.now)))) }
+    ensures right { Tells P.is_clean P.is_ours P.is_open P.content source.old source.new
+        (λ content. J.is_right judge.old content → J.is_right judge.new content) }
+{
+    let rows = missing_rows(alloc, source, judge, installed, received, patterns, holds)?;
+    Ok(Reply::text(missing_text(alloc, zone, &rows)?))
+}
+
+// The verdict on a SYSMOD.
+fn chain_reply<P: Published, J: Judge<P>>(
+    alloc: Global,
+    source: &mut P,
+    judge: &mut J,
+    zone: &Id,
+    installed: &Zone,
+    sysmod: &Id,
+) -> Result<Reply, NoRoom>
+    ensures keeps { P.keeps source.old source.new }
+    ensures reply { IfOk result (λ reply. Tells P.is_clean P.is_ours P.is_open P.content source.old source.new
+        (λ content. J.is_right judge.old content → reply_as reply ≡ as_json (chain_text_of content zone.now sysmod.now (verdict_of content installed.now sysmod.now)))) }
+    ensures right { Tells P.is_clean P.is_ours P.is_open P.content source.old source.new
+        (λ content. J.is_right judge.old content → J.is_right judge.new content) }
+{
+    let verdict = judge.verdict(alloc, source, installed, sysmod)?;
+    let text = plan_json(alloc, source, zone, sysmod, &verdict)?;
+    Ok(Reply::json(text))
+}
