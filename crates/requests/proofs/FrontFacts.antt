@@ -1,13 +1,12 @@
 -- The front of a connection's bytes, from what was read of it.
-use Rattle.std.proofs.Common.{◌≡◌, ◌⊎◌, inl, inr, ℕ, ◌+◌, ◌-◌, ◌<◌, ◌≤◌, ◌==◌, Bool, true, false, List, [], ◌∷◌, ◌++◌, length, take, nat_le, Option, Some, None, IfSome, Result, Ok, Err, if◌then◌else◌, refl, sym, ap, ◌∙◌, subst, arith, append-nil, append_assoc, length-append}
+use Rattle.std.proofs.Common.{◌≡◌, ◌⊎◌, inl, inr, ℕ, ◌+◌, ◌-◌, ◌<◌, ◌≤◌, ◌==◌, Bool, true, false, List, [], ◌++◌, length, take, nat_le, Option, Some, None, IfSome, Result, Ok, Err, if◌then◌else◌, refl, sym, ap, ◌∙◌, subst, arith, append-nil, append_assoc, length-append}
 use Rattle.std.proofs.Math.Seq.{take-append-add}
 use Rattle.std.proofs.lemmas.Bool.Decides.{nat_tests}
 use Rattle.std.proofs.lemmas.List.{nil_from_length, take-append-le, take_all}
 use Rattle.std.specs.Io.KnownBytes.{Consumes, IsAtEnd, Keeps, prepend_known}
 use Rattle.std.specs.Result.{result_ok}
-use Rattle.requests.specs.HeadEnd.{empty_lines_len, front_of, front_with, head_limit, whole_len, without_end}
+use Rattle.requests.specs.HeadEnd.{IsAtHand, empty_lines_len, front_of, front_with, head_limit, whole_len}
 use Rattle.requests.specs.Search.{ended, ends_clean, resumed, search}
-use Rattle.requests.specs.declared.front.Front.{Front}
 use Rattle.requests.specs.declared.front.Front.TheVariants.{Head, CleanEnd, EndInside, TooLarge}
 use Rattle.requests.specs.declared.head_end.Place.{Place}
 use Rattle.requests.specs.declared.head_end.Place.TheVariants.{EmptyLines, EmptyLinesReturn, Line, Feed, FeedReturn}
@@ -82,6 +81,19 @@ at_end limit held place e short =
     clean_or place ∙ ap (λ t. if t then CleanEnd else EndInside) clean
     ∙ ap (λ t. if t then TooLarge else if empty_lines_len held == length held then CleanEnd else EndInside) under
     ∙ ap (λ o. front_with o limit held) len
+
+none_at_end : (place : Place) → IsAtHand (ended place) → ⊥
+none_at_end EmptyLines at = at
+none_at_end EmptyLinesReturn at = at
+none_at_end Line at = at
+none_at_end Feed at = at
+none_at_end FeedReturn at = at
+
+-- where fewer bytes than a head may have show no head's end, no head was at hand
+pub not_at_hand : (limit : ℕ) (held first : List ℕ) (place : Place) → search EmptyLines held ≡ Err place → length held < limit → held ≡ first
+    → IsAtHand (front_of limit first) → ⊥
+not_at_hand limit held first place e short same at =
+    none_at_end place (subst IsAtHand (sym (at_end limit held place e short ∙ ap (front_of limit) same)) at)
 
 -- ---- the bytes that are held and those that are left to read
 

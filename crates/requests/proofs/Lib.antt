@@ -8,3 +8,5 @@ mod RequestFacts
 mod RouteFacts
 mod SearchFacts
 mod TextFacts
+mod TurnFacts
+mod ReadingFacts

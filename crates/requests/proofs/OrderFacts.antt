@@ -1,9 +1,9 @@
 -- What a head decides.
-use Rattle.std.proofs.Common.{◌≡◌, ℕ, ◌<◌, ◌≤◌, Bool, true, false, List, nat_lt, not, Option, Some, None, Result, Ok, Err, if◌then◌else◌, refl, sym, ap, ◌∙◌, arith}
+use Rattle.std.proofs.Common.{◌≡◌, ℕ, ◌<◌, ◌≤◌, Bool, true, false, List, nat_lt, not, Some, None, Result, Ok, Err, if◌then◌else◌, refl, ap, ◌∙◌, arith}
 use Rattle.std.proofs.lemmas.Bool.Decides.{nat_tests}
 use Rattle.requests.specs.Head.{IsHead, IsNoHead}
 use Rattle.requests.specs.HeadEnd.{lines_between}
-use Rattle.requests.specs.Order.{Decision, IsDecided, IsDecidedBy, by_head, by_length, is_bare}
+use Rattle.requests.specs.Order.{Decision, IsDecided, IsDecidedBy, by_length, is_bare}
 use Rattle.requests.specs.Request.{Parts, body_len, is_path}
 use Rattle.requests.specs.declared.refusal.Refusal.{Refusal}
 use Rattle.requests.specs.declared.refusal.Refusal.TheVariants.{BadRequest, HeadTooLarge}

@@ -74,9 +74,16 @@ front_of limit bytes = front_with (whole_len (take limit bytes)) limit bytes
 unfoldable pub head_limit : ℕ
 head_limit = 16384
 
--- a head that is whole lies in the bytes
+-- a head that is whole lies in the bytes, and is no longer than a head may be
 abbrev pub EndsWithin : Front → List ℕ → Type 0
-EndsWithin (Head n) bytes = n ≤ length bytes
+EndsWithin (Head n) bytes = (n ≤ length bytes) × (n ≤ 16384)
 EndsWithin CleanEnd bytes = Unit {0}
 EndsWithin EndInside bytes = Unit {0}
 EndsWithin TooLarge bytes = Unit {0}
+
+-- a front that more bytes don't change, since a head is whole or too long
+abbrev pub IsAtHand : Front → Type 0
+IsAtHand (Head n) = Unit {0}
+IsAtHand CleanEnd = ⊥
+IsAtHand EndInside = ⊥
+IsAtHand TooLarge = Unit {0}

@@ -1,6 +1,7 @@
 -- How a refusal is answered.
-use Rattle.std.specs.Prelude.{ℕ, List, codes}
+use Rattle.std.specs.Prelude.{ℕ, List, codes, Option, Some, None}
 use Rattle.requests.specs.declared.refusal.Refusal.{Refusal}
+use Rattle.requests.specs.declared.resource.Resource.{Resource}
 use Rattle.requests.specs.declared.status.Status.{Status}
 
 -- the status
@@ -13,6 +14,16 @@ status_of Refusal.LengthRequired = Status.LengthRequired
 status_of Refusal.TooLarge = Status.PayloadTooLarge
 status_of Refusal.HeadTooLarge = Status.HeadTooLarge
 
+-- what the path names, where it has other methods
+abbrev pub allow_of_refusal : Refusal → Option Resource
+allow_of_refusal Refusal.BadRequest = None
+allow_of_refusal Refusal.UnknownToken = None
+allow_of_refusal Refusal.NotFound = None
+allow_of_refusal (Refusal.MethodNotAllowed resource) = Some resource
+allow_of_refusal Refusal.LengthRequired = None
+allow_of_refusal Refusal.TooLarge = None
+allow_of_refusal Refusal.HeadTooLarge = None
+
 -- the body
 abbrev pub text_of : Refusal → List ℕ
 text_of Refusal.BadRequest = codes "BAD REQUEST\n"
@@ -22,3 +33,13 @@ text_of (Refusal.MethodNotAllowed resource) = codes "METHOD NOT ALLOWED\n"
 text_of Refusal.LengthRequired = codes "LENGTH REQUIRED\n"
 text_of Refusal.TooLarge = codes "TOO LARGE\n"
 text_of Refusal.HeadTooLarge = codes "HEAD TOO LARGE\n"
+
+-- a refusal that the method and the path decide
+abbrev pub IsOfTarget : Refusal → Type 0
+IsOfTarget Refusal.BadRequest = ⊥
+IsOfTarget Refusal.UnknownToken = ⊥
+IsOfTarget Refusal.NotFound = Unit {0}
+IsOfTarget (Refusal.MethodNotAllowed resource) = Unit {0}
+IsOfTarget Refusal.LengthRequired = ⊥
+IsOfTarget Refusal.TooLarge = ⊥
+IsOfTarget Refusal.HeadTooLarge = ⊥

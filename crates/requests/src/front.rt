@@ -1,7 +1,7 @@
 //! Reading as far as the end of a head, and as far as the end of a body.
 ghost use Rattle.std.specs.Prelude.{◌≡◌, ℕ, ◌+◌, ◌<◌, ◌≤◌, true, false, length, take, Err, IfOk, IfErr, IfSome};
 ghost use Rattle.std.specs.Io.KnownBytes.{IsAtEnd, Keeps, prepend_known};
-ghost use Rattle.requests.specs.HeadEnd.{front_of, head_limit, EndsWithin};
+ghost use Rattle.requests.specs.HeadEnd.{front_of, head_limit, EndsWithin, IsAtHand};
 ghost use Rattle.requests.specs.Search.{ended, search};
 ghost use Rattle.transfer.specs.Transfer.{IsGivenUp};
 
@@ -28,7 +28,11 @@ pub enum Front {
     TooLarge,
 }
 
-/// Reads as far as the end of a head. The bytes stay in the intake.
+/// Reads as far as the end of a head, and no byte where that is at hand. The bytes stay in the intake.
+///
+/// # Errors
+///
+/// Those of [`Intake::read_more`]. The bytes that came until then stay in the intake.
 pub fn read_front<R: Read>(
     intake: &mut Intake,
     reader: &mut R,
@@ -36,6 +40,8 @@ pub fn read_front<R: Read>(
 ) -> Result<Front, TransferFault>
     ensures front { IfOk result (λ front. IfSome (prepend_known intake.old (R.remaining reader.old)) (λ bytes. front ≡ front_of head_limit bytes)) }
     ensures within { IfOk result (λ front. EndsWithin front intake.new) }
+    ensures at_hand { IsAtHand (front_of head_limit intake.old) → (intake.new ≡ intake.old) × (reader.new ≡ reader.old) }
+    ensures no_further { (limit : ℕ) → 16384 ≤ limit → length intake.old ≤ limit → length intake.new ≤ limit }
     ensures kept { Keeps (prepend_known intake.old (R.remaining reader.old)) (prepend_known intake.new (R.remaining reader.new)) }
     ensures given_up { IfErr result (λ fault. IsGivenUp fault retries.new) }
     ensures counted { retries.new ≤ retries.old }
@@ -98,7 +104,12 @@ fn at_end(place: Place) -> Front
     }
 }
 
-/// Reads until there are so many bytes, or the input ends. The bytes stay in the intake.
+/// Reads until there are so many bytes, or the input ends, and no byte where they are at hand. The bytes
+/// stay in the intake.
+///
+/// # Errors
+///
+/// Those of [`Intake::read_more`]. The bytes that came until then stay in the intake.
 pub fn read_whole<R: Read>(
     intake: &mut Intake,
     reader: &mut R,
@@ -107,7 +118,10 @@ pub fn read_whole<R: Read>(
 ) -> Result<bool, TransferFault>
     ensures whole { IfOk result (λ whole. whole ≡ true → count ≤ length intake.new) }
     ensures end { IfOk result (λ whole. whole ≡ false → IsAtEnd (R.remaining reader.new)) }
-    ensures short { IfOk result (λ whole. whole ≡ false → length intake.new < count) }
+    ensures short { IfOk result (λ whole. whole ≡ false → (length intake.new < count) × IsAtEnd (R.remaining reader.new)) }
+    ensures at_hand { count ≤ length intake.old → (intake.new ≡ intake.old) × (reader.new ≡ reader.old) }
+    ensures no_further { length intake.old ≤ count → length intake.new ≤ count }
+    ensures grown { take (length intake.old) intake.new ≡ intake.old }
     ensures kept { Keeps (prepend_known intake.old (R.remaining reader.old)) (prepend_known intake.new (R.remaining reader.new)) }
     ensures given_up { IfErr result (λ fault. IsGivenUp fault retries.new) }
     ensures counted { retries.new ≤ retries.old }

@@ -6,6 +6,7 @@
 //!
 //! - [`read_front`], [`Front`]: what the bytes of a connection begin with
 //! - [`decide`]: a whole [`Head`] and the length of its body, or why it is [`Refused`]
+//! - [`read_turn`], [`Turn`], [`Request`]: all of this together; [`one_reading`]: it can be read in one way only
 //! - [`Head`]: the token, the number and the [`Action`] that a request asks for, by its [`Routes`]
 //! - [`read_whole`]: so many bytes, or all that there are
 //! - [`Refusal`]: why a request isn't given to the bureau, with its [`Status`] and its text
@@ -17,6 +18,7 @@ mod front;
 mod head;
 mod head_end;
 mod headers;
+mod law;
 mod order;
 mod refusal;
 mod reply;
@@ -25,16 +27,19 @@ mod resource;
 mod routes;
 mod status;
 mod text;
+mod turn;
 
 pub use action::Action;
 pub use front::{Front, read_front, read_whole};
 pub use head::Head;
+pub use law::one_reading;
 pub use order::{Refused, decide};
 pub use refusal::Refusal;
 pub use reply::{ReplyHead, head_text};
 pub use resource::Resource;
 pub use routes::Routes;
 pub use status::Status;
+pub use turn::{Request, Turn, read_turn};
 
 #[cfg(test)]
 mod tests;

@@ -20,7 +20,7 @@ pub enum Refusal {
     LengthRequired,
     /// A body over 67,108,864 bytes.
     TooLarge,
-    /// A head over 16,384 bytes or 64 fields.
+    /// A head over 16,384 bytes, or with over 64 lines between its first and its blank one.
     HeadTooLarge,
 }
 
@@ -37,6 +37,16 @@ impl Refusal {
             Refusal::LengthRequired => Status::LengthRequired,
             Refusal::TooLarge => Status::PayloadTooLarge,
             Refusal::HeadTooLarge => Status::HeadTooLarge,
+        }
+    }
+
+    /// What the path names, where it has other methods.
+    pub fn allow(self) -> Option<Resource>
+        ensures { result ≡ Spec.allow_of_refusal self }
+    {
+        match self {
+            Refusal::MethodNotAllowed(resource) => Some(resource),
+            _ => None,
         }
     }
 

@@ -1,8 +1,9 @@
 //! What a head asks for.
-ghost use Rattle.std.specs.Prelude.{◌≡◌, true, nat_lt, codes, option_map, IsAscii};
+ghost use Rattle.std.specs.Prelude.{◌≡◌, ◌≤◌, true, IfErr, IfOk, nat_lt, codes, option_map, IsAscii};
 ghost use Rattle.std.specs.List.{list_all};
 ghost use Rattle.requests.specs.Head.{LiesIn, parts_at};
 ghost use Rattle.requests.specs.Headers.{AreWithin, pairs_at, values};
+ghost use Rattle.requests.specs.Refusal.{IsOfTarget};
 ghost use Rattle.requests.specs.Request as Spec;
 
 use crate::action::{Action, action_at};
@@ -21,7 +22,8 @@ impl Head {
     // The length of the request's body, or why the request is refused without one.
     pub(crate) fn body_len(&self, bytes: &[u8]) -> Result<u64, Refusal>
         requires { LiesIn bytes.now self.now }
-        ensures { result ≡ Spec.body_len (parts_at bytes.now self.now) }
+        ensures length { result ≡ Spec.body_len (parts_at bytes.now self.now) }
+        ensures bound { IfOk result (λ n. n ≤ 67108864) }
     {
         if !is_path(self.target.of(bytes)) {
             return Err(Refusal::BadRequest);
@@ -60,7 +62,8 @@ impl Head {
     pub fn action(&self, bytes: &[u8], routes: &Routes) -> Result<Action, Refusal>
         requires within { LiesIn bytes.now self.now }
         requires path { Spec.is_path (parts_at bytes.now self.now).target ≡ true }
-        ensures { result ≡ Spec.action_of (parts_at bytes.now self.now) }
+        ensures action { result ≡ Spec.action_of (parts_at bytes.now self.now) }
+        ensures refused { IfErr result IsOfTarget }
     {
         let (path, _) = cut(self.target.of(bytes), b'?');
         asked(routes, self.method.of(bytes), ascii_str(path))
@@ -92,7 +95,8 @@ fn are_ascii(text: &[u8]) -> bool
 // The length of a body by `content-length`.
 fn content_length(bytes: &[u8], fields: &[HeaderSpan], method: &[u8]) -> Result<u64, Refusal>
     requires { AreWithin bytes.now fields.now }
-    ensures { result ≡ Spec.length_by method.now (values (codes "content-length") (pairs_at bytes.now fields.now)) }
+    ensures length { result ≡ Spec.length_by method.now (values (codes "content-length") (pairs_at bytes.now fields.now)) }
+    ensures bound { IfOk result (λ n. n ≤ 67108864) }
 {
     match sole(bytes, fields, b"content-length") {
         Some(value) => length_in(value),
@@ -103,7 +107,8 @@ fn content_length(bytes: &[u8], fields: &[HeaderSpan], method: &[u8]) -> Result<
 
 // The length of a body that `content-length` tells.
 fn length_in(value: &[u8]) -> Result<u64, Refusal>
-    ensures { result ≡ Spec.length_told value.now }
+    ensures length { result ≡ Spec.length_told value.now }
+    ensures bound { IfOk result (λ n. n ≤ 67108864) }
 {
     if !is_number(value) {
         return Err(Refusal::BadRequest);
@@ -118,7 +123,8 @@ fn length_in(value: &[u8]) -> Result<u64, Refusal>
 
 // The length of a body that no `content-length` tells.
 fn length_without(method: &[u8]) -> Result<u64, Refusal>
-    ensures { result ≡ Spec.length_untold method.now }
+    ensures length { result ≡ Spec.length_untold method.now }
+    ensures bound { IfOk result (λ n. n ≤ 67108864) }
 {
     if method == b"POST".as_slice() || method == b"PUT".as_slice() {
         Err(Refusal::LengthRequired)
@@ -140,7 +146,8 @@ fn change_number(text: &[u8]) -> Option<u64>
 
 // What a method asks for at a path.
 fn asked(routes: &Routes, method: &[u8], path: &str) -> Result<Action, Refusal>
-    ensures { result ≡ Spec.asked method.now path.now }
+    ensures action { result ≡ Spec.asked method.now path.now }
+    ensures refused { IfErr result IsOfTarget }
 {
     let Some(resource) = routes.resource(path) else {
         return Err(Refusal::NotFound);

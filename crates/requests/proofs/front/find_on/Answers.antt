@@ -1,4 +1,4 @@
-use Rattle.std.proofs.Common.{◌≡◌, List, ℕ, sym, ap, ◌∙◌, drop, arith}
+use Rattle.std.proofs.Common.{sym, ap, ◌∙◌}
 use Rattle.requests.specs.Search.{further, search}
 use Rattle.requests.proofs.SearchFacts.{resume}
 use Rattle.requests.proofs.front.find_on.Goals as goal

@@ -1,11 +1,11 @@
-use Rattle.std.proofs.Common.{◌≡◌, ◌<◌, ◌≤◌, ℕ, List, length, take, subst, sym, ap, ◌∙◌, arith, length-append, Err, Ok}
+use Rattle.std.proofs.Common.{refl, ◌≡◌, ◌<◌, ◌≤◌, length, take, subst, sym, ap, ◌∙◌, arith, length-append, Err}
 use Rattle.std.proofs.KnownBytes.{Keeps-refl}
-use Rattle.std.proofs.lemmas.List.{take-take}
+use Rattle.std.proofs.lemmas.List.{take-append-le, take-take, take_all}
 use Rattle.requests.specs.HeadEnd.{front_of, head_limit}
 use Rattle.requests.specs.Search.{search}
 use Rattle.requests.specs.declared.front.Front.TheVariants.{Head, TooLarge}
 use Rattle.requests.specs.declared.head_end.Place.TheVariants.{EmptyLines}
-use Rattle.requests.proofs.FrontFacts.{at_end, ended_before, found, limit_is, told, told_at_end, too_large}
+use Rattle.requests.proofs.FrontFacts.{at_end, ended_before, found, not_at_hand, limit_is, taken, told, told_at_end, too_large}
 use Rattle.requests.proofs.SearchFacts.{search_nil}
 use Rattle.requests.proofs.front.read_front.Goals as goal
 
@@ -14,6 +14,8 @@ loop-count-init g c = record {
   kept = Keeps-refl _;
   within = omega arith;
   limit = omega arith;
+  at_hand = λ at. (refl, refl);
+  no_further = λ limit most short. short;
   none = search_nil EmptyLines;
   counted = omega arith;
 }
@@ -65,3 +67,47 @@ loop-count-smaller g c =
     let longer = ap length read.grown ∙ length-append c.loop-count.intake read.bytes in
     let some = read.count in
     omega arith
+
+pub returns-in_err-read_more-clause-at_hand : goal.returns-in_err-read_more-clause-at_hand
+returns-in_err-read_more-clause-at_hand g c at =
+    let less : length c.within_limit-shown.result.now < 16384 = omega arith in
+    let whole = c.within_limit-shown.ensures.all less ∙ c.bytes.ensures in
+    let count : length c.within_limit-shown.result.now ≡ length c.loop-count.intake = ap length whole in
+    let short : length c.loop-count.intake < 16384 = omega arith in
+    absurd (not_at_hand head_limit c.loop-count.intake c.args.intake.now c.in-Err.next
+    (ap (search EmptyLines) (sym whole) ∙ sym c.find_on.ensures.found ∙ c.in-Err.is)
+    (subst (λ m. length c.loop-count.intake < m) limit_is short) (c.loop-count.invariant.at_hand at).0 at)
+
+pub returns-then-branch-eq0-clause-at_hand : goal.returns-then-branch-eq0-clause-at_hand
+returns-then-branch-eq0-clause-at_hand g c at =
+    let less : length c.within_limit-shown.result.now < 16384 = omega arith in
+    let whole = c.within_limit-shown.ensures.all less ∙ c.bytes.ensures in
+    let count : length c.within_limit-shown.result.now ≡ length c.loop-count.intake = ap length whole in
+    let short : length c.loop-count.intake < 16384 = omega arith in
+    absurd (not_at_hand head_limit c.loop-count.intake c.args.intake.now c.in-Err.next
+    (ap (search EmptyLines) (sym whole) ∙ sym c.find_on.ensures.found ∙ c.in-Err.is)
+    (subst (λ m. length c.loop-count.intake < m) limit_is short) (c.loop-count.invariant.at_hand at).0 at)
+
+pub loop-count-preserved : goal.loop-count-preserved
+loop-count-preserved g c =
+    let less : length c.within_limit-shown.result.now < 16384 = omega arith in
+    let whole = c.within_limit-shown.ensures.all less ∙ c.bytes.ensures in
+    let count : length c.within_limit-shown.result.now ≡ length c.loop-count.intake = ap length whole in
+    let short : length c.loop-count.intake < 16384 = omega arith in
+    let none : search EmptyLines c.loop-count.intake ≡ Err c.in-Err.next = ap (search EmptyLines) (sym whole) ∙ sym c.find_on.ensures.found ∙ c.in-Err.is in
+    let read = c.in_ok-read_more.ensures.bytes in
+    let longer = ap length read.grown ∙ length-append c.loop-count.intake read.bytes in
+    let some = read.count in
+    let bound = c.in_ok-read_more.ensures.bound in
+    record {
+      kept = taken _ _ _ _ _ read.bytes c.loop-count.invariant.kept read.grown read.consumed;
+      within = omega arith;
+      limit = omega arith;
+      at_hand = λ at. absurd (not_at_hand head_limit c.loop-count.intake c.args.intake.now c.in-Err.next none
+          (subst (λ m. length c.loop-count.intake < m) limit_is short) (c.loop-count.invariant.at_hand at).0 at);
+      no_further = λ limit most low. omega arith;
+      none = ap (search EmptyLines) (ap (take (length c.within_limit-shown.result.now)) read.grown
+          ∙ take-append-le (length c.within_limit-shown.result.now) c.loop-count.intake read.bytes (omega arith)
+          ∙ take_all (length c.within_limit-shown.result.now) c.loop-count.intake (omega arith)) ∙ none;
+      counted = omega (arith, c.loop-count.invariant.counted, c.read_more.ensures);
+    }

@@ -1,0 +1,79 @@
+-- What a request asks, and what it is told.
+use Rattle.std.proofs.Common.{◌≡◌, ℕ, ◌<◌, Bool, true, false, List, [], ◌∷◌, length, map, Option, Some, None, Result, Ok, Err, IfErr, refl, sym, ap, ◌∙◌, subst, suc, arith}
+use Rattle.std.specs.Str.{bytes_eq}
+use Rattle.requests.specs.Request.{Parts, action_of, number_of, token_of}
+use Rattle.requests.specs.Refusal.{IsOfTarget}
+use Rattle.requests.specs.declared.action.Action.{Action}
+use Rattle.requests.specs.declared.refusal.Refusal.{Refusal}
+use Rattle.requests.specs.declared.refusal.Refusal.TheVariants.{BadRequest, UnknownToken, NotFound, MethodNotAllowed, LengthRequired, TooLarge, HeadTooLarge}
+use Rattle.bureau_store.specs.Caller.{IsAmong, caller_named, caller_with}
+use Rattle.bureau_store.specs.declared.caller.Caller.{Caller}
+use Rattle.bureau_store.specs.declared.caller.CallerRow.{CallerRow}
+use Rattle.bureau_http.specs.Asked.{by_caller, call_of, caller_in, of_caller, what_of}
+use Rattle.bureau_http.specs.Exchange.{MayLackRoom}
+
+-- ---- a caller that has a token is one of the callers
+
+among_test : (t : Bool) (row : CallerRow) (rows : List CallerRow) (token : List ℕ) (caller : Caller) → bytes_eq row.token token ≡ t
+    → (Some caller ≡ caller_with rows token → IsAmong rows caller) → Some caller ≡ caller_with (row ∷ rows) token → IsAmong (row ∷ rows) caller
+among_test true row rows token caller e rest h =
+    let first : Some caller ≡ Some (caller_named row.name) = (rw e at h) in
+    let same : caller ≡ caller_named row.name = cc in
+    (0, omega arith, sym same)
+among_test false row rows token caller e rest h =
+    let found = rest (rw e at h) in
+    let k = found.0 in
+    let low : k < length (map (λ r. caller_named r.name) rows) = found.1 in (suc k, omega arith, found.2)
+
+pub among : (rows : List CallerRow) (token : List ℕ) (caller : Caller) → Some caller ≡ caller_with rows token → IsAmong rows caller
+among [] token caller h = absurd (cc)
+among (row ∷ rows) token caller h = among_test (bytes_eq row.token token) row rows token caller refl (among rows token caller) h
+
+-- ---- what is asked
+
+pub made : (rows : List CallerRow) (parts : Parts) (body token : List ℕ) (caller : Caller) (action : Action) (number : Option ℕ)
+    → Some token ≡ token_of parts → Some caller ≡ caller_with rows token → Ok action ≡ action_of parts → number ≡ number_of parts
+    → what_of rows parts body ≡ Ok (caller, call_of action number body)
+made rows parts body token caller action number is_token is_caller is_action is_number =
+    ap (λ t. by_caller (caller_in rows t) parts body) (sym is_token) ∙ ap (λ c. by_caller c parts body) (sym is_caller)
+    ∙ ap (λ a. of_caller caller a (number_of parts) body) (sym is_action) ∙ ap (λ n. Ok (caller, call_of action n body)) (sym is_number)
+
+pub unmade : (rows : List CallerRow) (parts : Parts) (body token : List ℕ) (caller : Caller) (refusal : Refusal)
+    → Some token ≡ token_of parts → Some caller ≡ caller_with rows token → Err refusal ≡ action_of parts
+    → what_of rows parts body ≡ Err refusal
+unmade rows parts body token caller refusal is_token is_caller is_action =
+    ap (λ t. by_caller (caller_in rows t) parts body) (sym is_token) ∙ ap (λ c. by_caller c parts body) (sym is_caller)
+    ∙ ap (λ a. of_caller caller a (number_of parts) body) (sym is_action)
+
+pub unknown : (rows : List CallerRow) (parts : Parts) (body token : List ℕ) → Some token ≡ token_of parts → None ≡ caller_with rows token
+    → what_of rows parts body ≡ Err UnknownToken
+unknown rows parts body token is_token is_caller =
+    ap (λ t. by_caller (caller_in rows t) parts body) (sym is_token) ∙ ap (λ c. by_caller c parts body) (sym is_caller)
+
+pub without_token : (rows : List CallerRow) (parts : Parts) (body : List ℕ) → None ≡ token_of parts → what_of rows parts body ≡ Err UnknownToken
+without_token rows parts body is_token = ap (λ t. by_caller (caller_in rows t) parts body) (sym is_token)
+
+-- ---- where a 503 may come
+
+of_target : (refusal : Refusal) → IsOfTarget refusal → MayLackRoom (Err refusal)
+of_target BadRequest is = is
+of_target UnknownToken is = tt
+of_target NotFound is = tt
+of_target (MethodNotAllowed resource) is = tt
+of_target LengthRequired is = is
+of_target TooLarge is = is
+of_target HeadTooLarge is = is
+
+lack_of : (caller : Caller) (asked : Result Action Refusal) (number : Option ℕ) (body : List ℕ)
+    → IfErr asked IsOfTarget → MayLackRoom (of_caller caller asked number body)
+lack_of caller (Ok action) number body h = tt
+lack_of caller (Err refusal) number body h = of_target refusal h
+
+lack_by : (found : Option Caller) (parts : Parts) (body : List ℕ) → IfErr (action_of parts) IsOfTarget → MayLackRoom (by_caller found parts body)
+lack_by None parts body h = tt
+lack_by (Some caller) parts body h = lack_of caller (action_of parts) (number_of parts) body h
+
+-- what a whole request asks may be answered 503
+pub may_lack : (rows : List CallerRow) (parts : Parts) (body : List ℕ) (asked : Result Action Refusal) → asked ≡ action_of parts → IfErr asked IsOfTarget
+    → MayLackRoom (what_of rows parts body)
+may_lack rows parts body asked e h = lack_by (caller_in rows (token_of parts)) parts body (subst (λ a. IfErr a IsOfTarget) e h)

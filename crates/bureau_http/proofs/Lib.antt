@@ -1,0 +1,7 @@
+mod AskingFacts
+mod ReplyFacts
+mod ExchangeFacts
+mod ServingFacts
+mod ListFacts
+mod ConnectionFacts
+mod ReplayFacts

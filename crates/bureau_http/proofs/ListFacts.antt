@@ -1,0 +1,116 @@
+-- How a list of connections is served.
+use Rattle.std.proofs.Common.{◌≡◌, ℕ, ◌+◌, ◌<◌, List, [], ◌∷◌, ◌++◌, length, map, take, drop, get_or, refl, sym, ap, ◌∙◌, subst, arith, append-nil}
+use Rattle.std.proofs.lemmas.Grind.{flat_map-append}
+use Rattle.std.proofs.lemmas.List.{drop-map, drop_more, length-map, length-take, map-append, take_more}
+use Rattle.std.specs.List.{take-map}
+use Rattle.bureau_store.specs.Tables.{AreInOrder, Tables}
+use Rattle.bureau_store.specs.declared.caller.Caller.{Caller}
+use Rattle.bureau_store.specs.declared.caller.CallerRow.{CallerRow}
+use Rattle.bureau.specs.Alone.{IsAlone, opening_of}
+use Rattle.bureau.specs.Joint.{IsRun, Turn}
+use Rattle.bureau_http.specs.Connection.{IsConnection, cut}
+use Rattle.bureau_http.specs.Exchange.{Exchange, turns_of}
+use Rattle.bureau_http.specs.List.{AreServedInPart, AreSoFar, AreWhole, IsInHand, IsOneCut, IsOneServed, IsWhole, turns_in}
+use Rattle.bureau_http.proofs.ServingFacts.{run_on}
+
+whole_on : (rows : List CallerRow) (cs ws : List (List ℕ)) (es : List (List Exchange)) (c w : List ℕ) (e : List Exchange) → AreWhole rows cs ws es
+    → IsWhole rows c w e → AreWhole rows (cs ++ c ∷ []) (ws ++ w ∷ []) (es ++ e ∷ [])
+whole_on rows [] [] [] c w e h k = (k, tt)
+whole_on rows [] [] (x ∷ es) c w e h k = absurd h
+whole_on rows [] (x ∷ ws) es c w e h k = absurd h
+whole_on rows (b ∷ cs) [] es c w e h k = absurd h
+whole_on rows (b ∷ cs) (x ∷ ws) [] c w e h k = absurd h
+whole_on rows (b ∷ cs) (x ∷ ws) (y ∷ es) c w e h k = (h.0, whole_on rows cs ws es c w e h.1 k)
+
+whole_len : (rows : List CallerRow) (cs ws : List (List ℕ)) (es : List (List Exchange)) → AreWhole rows cs ws es → length ws ≡ length cs
+whole_len rows [] [] es h = refl
+whole_len rows [] (x ∷ ws) es h = absurd h
+whole_len rows (b ∷ cs) [] es h = absurd h
+whole_len rows (b ∷ cs) (x ∷ ws) [] h = absurd h
+whole_len rows (b ∷ cs) (x ∷ ws) (y ∷ es) h = let e = whole_len rows cs ws es h.1 in omega arith
+
+turns_more : (es : List (List Exchange)) (e : List Exchange) → turns_in (es ++ e ∷ []) ≡ turns_in es ++ turns_of e
+turns_more es e = flat_map-append turns_of es (e ∷ []) ∙ ap (λ l. turns_in es ++ l) (append-nil (turns_of e))
+
+-- one connection more
+pub so_more : (stands later : Tables → Type 0) (this : Tables) (cs ws : List (List ℕ)) (so : AreSoFar stands this cs ws) (bytes text : List ℕ)
+    → IsOneServed later so.now bytes text → AreSoFar later this (cs ++ bytes ∷ []) (ws ++ text ∷ [])
+so_more stands later this cs ws so bytes text one = record {
+  exchanges = so.exchanges ++ one.exchanges ∷ [];
+  now = one.closing;
+  stand = one.stand;
+  run = subst (λ ts. IsRun this ts one.closing) (sym (turns_more so.exchanges one.exchanges)) (run_on this so.now one.closing (turns_in so.exchanges) (turns_of one.exchanges) so.run one.run);
+  callers = one.callers ∙ so.callers;
+  whole = whole_on this.callers cs ws so.exchanges bytes text one.exchanges so.whole (subst (λ rows. IsWhole rows bytes text one.exchanges) so.callers one.whole);
+}
+
+map_more : {V : Type 0} (f : V → List ℕ) (cs : List V) (i : ℕ) (item : V) → i < length cs → item ≡ get_or cs i item
+    → map f (take i cs) ++ f item ∷ [] ≡ map f (take (i + 1) cs)
+map_more f cs i item low is =
+    ap (λ v. map f (take i cs) ++ f v ∷ []) is ∙ sym (ap (map f) (take_more cs i item low) ∙ map-append f (take i cs) (get_or cs i item ∷ []))
+
+pub one_more : {V : Type 0} (f : V → List ℕ) (stands later : Tables → Type 0) (this : Tables) (cs : List V) (ws : List (List ℕ)) (i : ℕ) (item : V) (text : List ℕ)
+    (so : AreSoFar stands this (map f (take i cs)) ws) → i < length cs → item ≡ get_or cs i item → IsOneServed later so.now (f item) text
+    → AreSoFar later this (map f (take (i + 1) cs)) (ws ++ text ∷ [])
+one_more f stands later this cs ws i item text so low is one =
+    subst (λ l. AreSoFar later this l (ws ++ text ∷ [])) (map_more f cs i item low is)
+    (so_more stands later this (map f (take i cs)) ws so (f item) text one)
+
+pub as_cut : (stands : Tables → Type 0) (this : Tables) (bytes text : List ℕ) → IsOneServed stands this bytes text → IsOneCut stands this bytes
+as_cut stands this bytes text one = record {
+  exchanges = one.exchanges;
+  closing = one.closing;
+  stand = one.stand;
+  run = one.run;
+  callers = one.callers;
+  answered = one.whole.answered;
+  stop = one.whole.stop;
+  connection = one.whole.connection;
+}
+
+abbrev pub Alone : Type 0
+Alone = (opening closing : Tables) (turns : List Turn) (viewer : Caller) → AreInOrder opening → IsRun opening turns closing → IsAlone viewer (opening_of viewer opening) turns
+
+-- the connection in hand was cut off
+pub in_part : {V : Type 0} (f : V → List ℕ) (stands later : Tables → Type 0) (this : Tables) (cs : List V) (ws : List (List ℕ)) (i : ℕ) (item : V)
+    (so : AreSoFar stands this (map f (take i cs)) ws) → i < length cs → item ≡ get_or cs i item → Alone → IsOneCut later so.now (f item)
+    → AreServedInPart later this (map f cs) ws
+in_part f stands later this cs ws i item so low is alone one =
+    let short = length-take i cs in
+    let mapped = length-map (take i cs) f in
+    let whole = whole_len this.callers (map f (take i cs)) ws so.exchanges so.whole in
+    let count : length ws ≡ i = omega arith in
+    let run = run_on this so.now one.closing (turns_in so.exchanges) (turns_of one.exchanges) so.run one.run in
+    let rest : drop (length ws) (map f cs) ≡ f item ∷ map f (drop (i + 1) cs) =
+    ap (λ n. drop n (map f cs)) count ∙ drop-map f i cs ∙ ap (map f) (drop_more cs i item low) ∙ ap (λ v. f v ∷ map f (drop (i + 1) cs)) (sym is) in
+    let front : map f (take i cs) ≡ take (length ws) (map f cs) = sym (ap (λ n. take n (map f cs)) count ∙ take-map f i cs) in
+    record {
+      exchanges = so.exchanges;
+      hand = one.exchanges;
+      closing = one.closing;
+      stand = one.stand;
+      run = run;
+      callers = one.callers ∙ so.callers;
+      whole = subst (λ l. AreWhole this.callers l ws so.exchanges) front so.whole;
+      in_hand = subst (λ l. IsInHand this.callers l one.exchanges) (sym rest)
+          (one.answered, (one.stop, subst (λ rows. IsConnection rows (f item) (map (λ exchange. exchange.asked) one.exchanges) one.stop) so.callers one.connection));
+      isolated = λ in_order viewer. alone this one.closing _ viewer in_order run;
+    }
+
+none_in_hand : (rows : List CallerRow) (all : List (List ℕ)) → IsInHand rows all []
+none_in_hand rows [] = refl
+none_in_hand rows (bytes ∷ all) = (tt, (cut, record { first = []; last = []; behind = bytes; reads = refl; stops = refl; all = refl }))
+
+-- nothing was served
+pub nothing : (stands : Tables → Type 0) (this : Tables) (all : List (List ℕ)) → Alone → stands this → AreServedInPart stands this all []
+nothing stands this all alone stand = record {
+  exchanges = [];
+  hand = [];
+  closing = this;
+  stand = stand;
+  run = refl;
+  callers = refl;
+  whole = tt;
+  in_hand = none_in_hand this.callers all;
+  isolated = λ in_order viewer. alone this this [] viewer in_order refl;
+}

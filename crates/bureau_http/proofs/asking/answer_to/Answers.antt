@@ -1,0 +1,19 @@
+use Rattle.std.proofs.Common.{sym, ap, ◌∙◌, Ok}
+use Rattle.bureau.specs.Calls.{call_as}
+use Rattle.bureau_http.specs.Asked.{call_of}
+use Rattle.requests.specs.Turn.{body_in, parts_in}
+use Rattle.bureau_http.proofs.AskingFacts.{among, made}
+use Rattle.bureau_http.proofs.asking.answer_to.Goals as goal
+
+pub returns-in-Ok-action-clause-told : goal.returns-in-Ok-action-clause-told
+returns-in-Ok-action-clause-told g c clean this stands =
+    let before = c.answer.ensures.clean clean in
+    let body = body_in c.args.bytes.now c.args.request.now in
+    let parts = parts_in c.args.bytes.now c.args.request.now in
+    let is_token = (rw c.in-Some.is at c.token.ensures) in
+    let is_caller = sym c.in-Some-found.is ∙ c.in-Ok.ensures.caller before this stands in
+    let is_action = sym c.in-Ok-action.is ∙ c.action-action.ensures.action in
+    let step = c.answer.ensures.step clean this (c.caller_of.ensures.stays before this stands) (among this.callers _ _ is_caller) in
+    let what = made this.callers parts body c.in-Some.token.now c.in-Some-found.caller c.in-Ok-action.action c.number.result is_token is_caller is_action c.number.ensures in
+    let call = c.call_of-call.ensures ∙ ap (call_of c.in-Ok-action.action c.number.result) c.body.ensures in
+    (step.0, ((c.in-Some-found.caller, call_as c.call_of-call.result), what ∙ ap (λ k. Ok (c.in-Some-found.caller, k)) (sym call), step.1), step.2)

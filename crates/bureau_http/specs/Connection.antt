@@ -1,0 +1,60 @@
+-- A connection's bytes as requests and a stop (RFC 9112, section 9).
+use Rattle.std.specs.Prelude.{◌≡◌, ℕ, ◌+◌, true, false, List, [], ◌∷◌, ◌++◌, length}
+use Rattle.requests.specs.Request.{Parts}
+use Rattle.requests.specs.Turn.{IsNext, Next, clean_end, end_inside, refused, whole}
+use Rattle.bureau_store.specs.declared.caller.CallerRow.{CallerRow}
+use Rattle.bureau_http.specs.Asked.{Asked, asked_refused, asked_whole}
+
+-- a whole request stands next, which doesn't end the connection
+pub record IsRequest (rows : List CallerRow) (place : ℕ) (bytes : List ℕ) (asked : Asked) (behind : List ℕ) : Type 0 where
+  pub parts : Parts
+  pub body : List ℕ
+  pub next : IsNext bytes (whole parts body behind)
+  pub is : asked ≡ asked_whole rows place parts body
+  pub stays : asked.closes ≡ false
+
+-- requests that don't end the connection, from a place on, and the bytes behind them
+abbrev pub ReadsTo : List CallerRow → ℕ → List ℕ → List Asked → List ℕ → Type 0
+ReadsTo rows place bytes [] behind = behind ≡ bytes
+ReadsTo rows place bytes (asked ∷ more) behind =
+    (rest : List ℕ) × IsRequest rows place bytes asked rest × ReadsTo rows (place + 1) rest more behind
+
+-- a request that ends the connection: a head that is refused, or a whole request that closes
+abbrev pub IsLastBy : Next → List CallerRow → ℕ → Asked → Type 0
+IsLastBy clean_end rows place asked = ⊥
+IsLastBy end_inside rows place asked = ⊥
+IsLastBy (refused refusal bare) rows place asked = asked ≡ asked_refused refusal bare
+IsLastBy (whole parts body behind) rows place asked = (asked ≡ asked_whole rows place parts body) × (asked.closes ≡ true)
+
+abbrev pub IsLast : List CallerRow → ℕ → List ℕ → Asked → Type 0
+IsLast rows place bytes asked = (next : Next) × IsNext bytes next × IsLastBy next rows place asked
+
+-- How a connection stops: its input ends where no request has begun, or inside one; a request ends it; or it is
+-- cut off before, where a read or write fails or memory runs out.
+pub data Stop : Type 0 where
+  clean : Stop
+  inside : Stop
+  closed : Stop
+  cut : Stop
+
+abbrev pub StopsAt : Stop → List CallerRow → ℕ → List ℕ → List Asked → Type 0
+StopsAt clean rows place bytes last = (last ≡ []) × IsNext bytes clean_end
+StopsAt inside rows place bytes last = (last ≡ []) × IsNext bytes end_inside
+StopsAt closed rows place bytes last = (asked : Asked) × (last ≡ asked ∷ []) × IsLast rows place bytes asked
+StopsAt cut rows place bytes last = last ≡ []
+
+-- the bytes of a connection are these requests, and it stops so
+pub record IsConnection (rows : List CallerRow) (bytes : List ℕ) (asked : List Asked) (stop : Stop) : Type 0 where
+  pub first : List Asked
+  pub last : List Asked
+  pub behind : List ℕ
+  pub reads : ReadsTo rows 1 bytes first behind
+  pub stops : StopsAt stop rows (1 + length first) behind last
+  pub all : asked ≡ first ++ last
+
+-- the stop isn't one from outside
+abbrev pub IsOwn : Stop → Type 0
+IsOwn clean = Unit {0}
+IsOwn inside = Unit {0}
+IsOwn closed = Unit {0}
+IsOwn cut = ⊥

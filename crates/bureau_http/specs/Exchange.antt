@@ -1,0 +1,100 @@
+-- A request with its answer, and the bytes of the reply.
+use Rattle.std.specs.Prelude.{◌≡◌, ◌⊎◌, ℕ, ◌==◌, List, [], ◌∷◌, length, codes, Option, None, Ok, Err, if◌then◌else◌}
+use Rattle.std.specs.List.{flat_map}
+use Rattle.requests.specs.Refusal.{allow_of_refusal, status_of, text_of}
+use Rattle.requests.specs.Reply.{reply_text}
+use Rattle.requests.specs.Status.{code_of}
+use Rattle.requests.specs.declared.refusal.Refusal.{Refusal}
+use Rattle.requests.specs.declared.refusal.Refusal.TheVariants.{BadRequest, UnknownToken, NotFound, MethodNotAllowed, LengthRequired, TooLarge, HeadTooLarge}
+use Rattle.requests.specs.declared.reply.ReplyHead.{ReplyHead}
+use Rattle.requests.specs.declared.resource.Resource.{Resource}
+use Rattle.requests.specs.declared.status.Status.{Status}
+use Rattle.bureau.specs.Joint.{Turn}
+use Rattle.bureau.specs.Outcome.{Answer, no_room, plain}
+use Rattle.bureau_http.specs.Asked.{Asked, What}
+
+pub record Exchange : Type 0 where
+  pub asked : Asked
+  pub answer : Answer
+
+-- ---- which answer
+
+-- the answer to a request that isn't given to the bureau
+abbrev pub refusal_answer : Refusal → Answer
+refusal_answer refusal = plain (code_of (status_of refusal)) (text_of refusal)
+
+-- A whole request that is refused may be answered 503 in place of that, since there may be no room to look the
+-- token up; a head that is refused may not.
+abbrev pub MayLackRoom : What → Type 0
+MayLackRoom (Ok call) = Unit {0}
+MayLackRoom (Err UnknownToken) = Unit {0}
+MayLackRoom (Err NotFound) = Unit {0}
+MayLackRoom (Err (MethodNotAllowed resource)) = Unit {0}
+MayLackRoom (Err BadRequest) = ⊥
+MayLackRoom (Err LengthRequired) = ⊥
+MayLackRoom (Err TooLarge) = ⊥
+MayLackRoom (Err HeadTooLarge) = ⊥
+
+-- What is answered to what makes no call. What a call is answered, the run of the bureau decides.
+abbrev pub IsAnsweredBy : What → Answer → Type 0
+IsAnsweredBy (Ok call) answer = Unit {0}
+IsAnsweredBy (Err refusal) answer = (answer ≡ refusal_answer refusal) ⊎ (MayLackRoom (Err refusal) × (answer ≡ no_room))
+
+abbrev pub IsAnswered : Exchange → Type 0
+IsAnswered exchange = IsAnsweredBy exchange.asked.what exchange.answer
+
+-- the turn of the bureau that a request is, if it makes a call
+abbrev pub turn_by : What → Answer → List Turn
+turn_by (Ok call) answer = (record { caller = call.0; call = call.1; answer = answer }) ∷ []
+turn_by (Err refusal) answer = []
+
+abbrev pub turn_of : Exchange → List Turn
+turn_of exchange = turn_by exchange.asked.what exchange.answer
+
+-- the turns of the bureau that requests are, in order
+abbrev pub turns_of : List Exchange → List Turn
+turns_of exchanges = flat_map turn_of exchanges
+
+-- ---- the bytes of the reply
+
+-- the status of a number
+abbrev pub status_numbered : ℕ → Status
+status_numbered n =
+    if n == 200 then Status.Success
+    else if n == 400 then Status.BadRequest
+    else if n == 401 then Status.Unauthorized
+    else if n == 403 then Status.Forbidden
+    else if n == 404 then Status.NotFound
+    else if n == 405 then Status.MethodNotAllowed
+    else if n == 409 then Status.Conflict
+    else if n == 411 then Status.LengthRequired
+    else if n == 413 then Status.PayloadTooLarge
+    else if n == 422 then Status.UnprocessableEntity
+    else if n == 431 then Status.HeadTooLarge
+    else Status.ServiceUnavailable
+
+-- the body, which tells of a 503 that there is no room
+abbrev pub body_told : Answer → List ℕ
+body_told answer = if answer.status == 503 then codes "NO ROOM\n" else answer.body
+
+-- what the path names, where it has other methods
+abbrev pub allow_by : What → ℕ → Option Resource
+allow_by (Ok call) status = None
+allow_by (Err refusal) status = if status == 503 then None else allow_of_refusal refusal
+
+abbrev pub head_of : Exchange → ReplyHead
+head_of exchange = record {
+  status = status_numbered exchange.answer.status;
+  is_json = exchange.answer.json;
+  length = length (body_told exchange.answer);
+  allow = allow_by exchange.asked.what exchange.answer.status;
+  closes = exchange.asked.closes;
+}
+
+-- the reply: its head, and its body where more than the head is asked for
+unfoldable pub exchange_text : Exchange → List ℕ
+exchange_text exchange = reply_text (head_of exchange) exchange.asked.is_bare (body_told exchange.answer)
+
+-- the replies, in order
+abbrev pub replies_text : List Exchange → List ℕ
+replies_text exchanges = flat_map exchange_text exchanges

@@ -1,0 +1,92 @@
+-- What serving a list of connections does, one after the other: one run of the bureau over all their requests.
+use Rattle.std.specs.Prelude.{◌≡◌, ℕ, List, [], ◌∷◌, ◌++◌, length, map, take, drop}
+use Rattle.std.specs.List.{AllByRecursion, flat_map}
+use Rattle.bureau_store.specs.Tables.{AreInOrder, Tables}
+use Rattle.bureau_store.specs.declared.caller.Caller.{Caller}
+use Rattle.bureau_store.specs.declared.caller.CallerRow.{CallerRow}
+use Rattle.bureau.specs.Alone.{IsAlone, opening_of}
+use Rattle.bureau.specs.Joint.{IsRun, Turn}
+use Rattle.bureau_http.specs.Connection.{IsConnection, IsOwn, Stop}
+use Rattle.bureau_http.specs.Exchange.{Exchange, IsAnswered, replies_text, turns_of}
+
+-- a connection is these requests, up to a stop of its own; they are answered so, and the replies were written
+pub record IsWhole (rows : List CallerRow) (bytes written : List ℕ) (exchanges : List Exchange) : Type 0 where
+  pub stop : Stop
+  pub own : IsOwn stop
+  pub connection : IsConnection rows bytes (map (λ exchange. exchange.asked) exchanges) stop
+  pub answered : AllByRecursion IsAnswered exchanges
+  pub replies : written ≡ replies_text exchanges
+
+-- each connection, with what was written to it
+abbrev pub AreWhole : List CallerRow → List (List ℕ) → List (List ℕ) → List (List Exchange) → Type 0
+AreWhole rows [] [] [] = Unit {0}
+AreWhole rows [] [] (exchanges ∷ more) = ⊥
+AreWhole rows [] (text ∷ written) exchanges = ⊥
+AreWhole rows (bytes ∷ connections) [] exchanges = ⊥
+AreWhole rows (bytes ∷ connections) (text ∷ written) [] = ⊥
+AreWhole rows (bytes ∷ connections) (text ∷ written) (exchanges ∷ more) = IsWhole rows bytes text exchanges × AreWhole rows connections written more
+
+-- the turns of the bureau that the requests of all connections are, in order
+abbrev pub turns_in : List (List Exchange) → List Turn
+turns_in connections = flat_map turns_of connections
+
+-- each caller is answered as if no other client were there
+abbrev pub IsIsolated : Tables → List Turn → Type 0
+IsIsolated opening turns = AreInOrder opening → (viewer : Caller) → IsAlone viewer (opening_of viewer opening) turns
+
+-- All connections were served: their requests are one run of the bureau, in order, in which each caller is
+-- answered as if alone.
+pub record AreServed (stands : Tables → Type 0) (this : Tables) (connections written : List (List ℕ)) : Type 0 where
+  pub exchanges : List (List Exchange)
+  pub closing : Tables
+  pub stand : stands closing
+  pub run : IsRun this (turns_in exchanges) closing
+  pub callers : closing.callers ≡ this.callers
+  pub whole : AreWhole this.callers connections written exchanges
+  pub isolated : IsIsolated this (turns_in exchanges)
+
+-- of a connection that was cut off, some first requests were answered
+abbrev pub IsInHand : List CallerRow → List (List ℕ) → List Exchange → Type 0
+IsInHand rows [] hand = hand ≡ []
+IsInHand rows (bytes ∷ more) hand = AllByRecursion IsAnswered hand × ((stop : Stop) × IsConnection rows bytes (map (λ exchange. exchange.asked) hand) stop)
+
+-- The first connections were served, and perhaps a part of the next one.
+pub record AreServedInPart (stands : Tables → Type 0) (this : Tables) (connections written : List (List ℕ)) : Type 0 where
+  pub exchanges : List (List Exchange)
+  pub hand : List Exchange
+  pub closing : Tables
+  pub stand : stands closing
+  pub run : IsRun this (turns_in exchanges ++ turns_of hand) closing
+  pub callers : closing.callers ≡ this.callers
+  pub whole : AreWhole this.callers (take (length written) connections) written exchanges
+  pub in_hand : IsInHand this.callers (drop (length written) connections) hand
+  pub isolated : IsIsolated this (turns_in exchanges ++ turns_of hand)
+
+-- ---- private: one connection of a list
+
+pub record IsOneServed (stands : Tables → Type 0) (this : Tables) (bytes written : List ℕ) : Type 0 where
+  pub exchanges : List Exchange
+  pub closing : Tables
+  pub stand : stands closing
+  pub run : IsRun this (turns_of exchanges) closing
+  pub callers : closing.callers ≡ this.callers
+  pub whole : IsWhole this.callers bytes written exchanges
+
+pub record IsOneCut (stands : Tables → Type 0) (this : Tables) (bytes : List ℕ) : Type 0 where
+  pub exchanges : List Exchange
+  pub closing : Tables
+  pub stand : stands closing
+  pub run : IsRun this (turns_of exchanges) closing
+  pub callers : closing.callers ≡ this.callers
+  pub answered : AllByRecursion IsAnswered exchanges
+  pub stop : Stop
+  pub connection : IsConnection this.callers bytes (map (λ exchange. exchange.asked) exchanges) stop
+
+-- the connections that were served so far
+pub record AreSoFar (stands : Tables → Type 0) (this : Tables) (connections written : List (List ℕ)) : Type 0 where
+  pub exchanges : List (List Exchange)
+  pub now : Tables
+  pub stand : stands now
+  pub run : IsRun this (turns_in exchanges) now
+  pub callers : now.callers ≡ this.callers
+  pub whole : AreWhole this.callers connections written exchanges

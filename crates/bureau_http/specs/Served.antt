@@ -1,0 +1,115 @@
+-- What serving a connection does: the bureau's turns, and the bytes that are written.
+use Rattle.std.specs.Prelude.{◌≡◌, ◌⊎◌, ℕ, ◌+◌, Bool, List, [], length, map, Option, Some, Result, Ok, Err}
+use Rattle.std.specs.Io.KnownBytes.{Appends}
+use Rattle.std.specs.List.{AllByRecursion}
+use Rattle.transfer.specs.Transfer.{AppendsFront}
+use Rattle.requests.specs.Turn.{IsNext, clean_end, end_inside}
+use Rattle.bureau_store.specs.Tables.{Tables}
+use Rattle.bureau_store.specs.declared.caller.CallerRow.{CallerRow}
+use Rattle.bureau.specs.Joint.{IsRun, Turn}
+use Rattle.bureau.specs.Outcome.{Answer}
+use Rattle.bureau_http.specs.Asked.{Asked, What}
+use Rattle.bureau_http.specs.Connection.{IsConnection, IsLast, IsRequest, ReadsTo, Stop, clean, inside, closed, cut}
+use Rattle.bureau_http.specs.Exchange.{Exchange, IsAnswered, exchange_text, replies_text, turn_of, turns_of}
+use Rattle.bureau_http.specs.declared.fault.ConnFault.{ConnFault}
+use Rattle.bureau_http.specs.declared.fault.ConnFault.TheVariants.{Read, Write, EndInside, Memory}
+use Rattle.bureau_http.specs.declared.serving.Served.{Served}
+use Rattle.bureau_http.specs.declared.serving.Step.{Step}
+use Rattle.bureau_http.specs.declared.serving.Step.TheVariants as step
+
+-- an exchange over these tables, which leaves tables that stand
+pub record HasExchanged (stands : Tables → Type 0) (this : Tables) (exchange : Exchange) : Type 0 where
+  pub next : Tables
+  pub answered : IsAnswered exchange
+  pub run : IsRun this (turn_of exchange) next
+  pub stand : stands next
+  pub callers : next.callers ≡ this.callers
+
+-- What the desk did is a run of the bureau from these tables, whatever it was asked.
+pub record HasRun (stands : Tables → Type 0) (this : Tables) : Type 0 where
+  pub turns : List Turn
+  pub closing : Tables
+  pub run : IsRun this turns closing
+  pub stand : stands closing
+
+-- the whole text was written, or a front part of it where a write failed
+abbrev pub IsWritten : {A : Type 0} → Result A ConnFault → Option (List ℕ) → Option (List ℕ) → List ℕ → Type 0
+IsWritten (Ok a) old new text = Appends old new text
+IsWritten (Err Read) old new text = Appends old new text
+IsWritten (Err Write) old new text = AppendsFront old new text
+IsWritten (Err EndInside) old new text = Appends old new text
+IsWritten (Err Memory) old new text = Appends old new text
+
+-- ---- a whole connection
+
+-- how a connection stops, by what serving it answers
+abbrev pub StopsBy : Result Served ConnFault → Stop → ℕ → Type 0
+StopsBy (Ok served) stop count = ((stop ≡ clean) ⊎ (stop ≡ closed)) × (served.requests ≡ count)
+StopsBy (Err Read) stop count = stop ≡ cut
+StopsBy (Err Write) stop count = Unit {0}
+StopsBy (Err EndInside) stop count = stop ≡ inside
+StopsBy (Err Memory) stop count = stop ≡ cut
+
+-- The bytes are requests and a stop. Those that make calls are a run of the bureau, in order; the others are
+-- answered as the bytes and the callers alone decide. The replies are written, in order.
+pub record IsServed (stands : Tables → Type 0) (this : Tables) (old new : Option (List ℕ)) (answer : Result Served ConnFault) (bytes : List ℕ) : Type 0 where
+  pub exchanges : List Exchange
+  pub closing : Tables
+  pub stand : stands closing
+  pub run : IsRun this (turns_of exchanges) closing
+  pub callers : closing.callers ≡ this.callers
+  pub answered : AllByRecursion IsAnswered exchanges
+  pub stop : Stop
+  pub connection : IsConnection this.callers bytes (map (λ exchange. exchange.asked) exchanges) stop
+  pub stops : StopsBy answer stop (length exchanges)
+  pub written : IsWritten answer old new (replies_text exchanges)
+
+-- ---- a step of it, and what is so far: these serve private contracts alone
+
+-- a request stands next, which may end the connection
+abbrev pub IsAsked : List CallerRow → ℕ → List ℕ → Asked → Type 0
+IsAsked rows place bytes asked = IsLast rows place bytes asked ⊎ ((behind : List ℕ) × IsRequest rows place bytes asked behind)
+
+pub record Exchanged (stands : Tables → Type 0) (this : Tables) (IsNow : Asked → Type 0) (Writes : List ℕ → Type 0) : Type 0 where
+  pub exchange : Exchange
+  pub asked : IsNow exchange.asked
+  pub has : HasExchanged stands this exchange
+  pub written : Writes (exchange_text exchange)
+
+abbrev pub Serves : (Tables → Type 0) → Tables → ℕ → Option (List ℕ) → Option (List ℕ) → Option (List ℕ) → Result Step ConnFault → List ℕ → Type 0
+Serves stands this place left old new (Ok step.CleanEnd) bytes = IsNext bytes clean_end × stands this × Appends old new []
+Serves stands this place left old new (Ok step.Stays) bytes =
+    (behind : List ℕ) × (left ≡ Some behind) × Exchanged stands this (λ asked. IsRequest this.callers place bytes asked behind) (Appends old new)
+Serves stands this place left old new (Ok step.Ends) bytes = Exchanged stands this (IsLast this.callers place bytes) (Appends old new)
+Serves stands this place left old new (Err Read) bytes = stands this × Appends old new []
+Serves stands this place left old new (Err Write) bytes = Exchanged stands this (IsAsked this.callers place bytes) (AppendsFront old new)
+Serves stands this place left old new (Err EndInside) bytes = IsNext bytes end_inside × stands this × Appends old new []
+Serves stands this place left old new (Err Memory) bytes = stands this × Appends old new []
+
+-- what serving a whole request does
+abbrev pub asked_as : What → Bool → Bool → Answer → Exchange
+asked_as what is_bare closes answer = record { asked = record { what = what; is_bare = is_bare; closes = closes }; answer = answer }
+
+abbrev pub IsFailedWrite : {A : Type 0} → Result A ConnFault → Type 0
+IsFailedWrite (Ok a) = Unit {0}
+IsFailedWrite (Err fault) = fault ≡ Write
+
+pub record IsExchanged (stands : Tables → Type 0) (this : Tables) (what : What) (is_bare closes : Bool) (old new : Option (List ℕ)) (answer : Result (Unit {0}) ConnFault) : Type 0 where
+  pub told : Answer
+  pub has : HasExchanged stands this (asked_as what is_bare closes told)
+  pub failed : IsFailedWrite answer
+  pub written : IsWritten answer old new (exchange_text (asked_as what is_bare closes told))
+
+-- the requests that were served so far, none of which ends the connection
+pub record IsSoFar (stands : Tables → Type 0) (this : Tables) (place : ℕ) (left old new : Option (List ℕ)) (bytes : List ℕ) : Type 0 where
+  pub exchanges : List Exchange
+  pub now : Tables
+  pub stand : stands now
+  pub run : IsRun this (turns_of exchanges) now
+  pub callers : now.callers ≡ this.callers
+  pub answered : AllByRecursion IsAnswered exchanges
+  pub behind : List ℕ
+  pub reads : ReadsTo this.callers 1 bytes (map (λ exchange. exchange.asked) exchanges) behind
+  pub left_are : left ≡ Some behind
+  pub count : place ≡ 1 + length exchanges
+  pub written : Appends old new (replies_text exchanges)

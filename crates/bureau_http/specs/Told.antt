@@ -1,0 +1,46 @@
+-- What a request is told: private, between what the bureau answers and what is written.
+use Rattle.std.specs.Prelude.{◌≡◌, ℕ, Bool, List, length, Option, None, Ok, Err}
+use Rattle.requests.specs.Refusal.{allow_of_refusal}
+use Rattle.requests.specs.Reply.{reply_text}
+use Rattle.requests.specs.declared.reply.ReplyHead.{ReplyHead}
+use Rattle.requests.specs.declared.resource.Resource.{Resource}
+use Rattle.bureau_store.specs.Tables.{Tables}
+use Rattle.bureau_store.specs.declared.caller.Caller.{Caller}
+use Rattle.bureau.specs.Call.{Call}
+use Rattle.bureau.specs.Joint.{IsStep}
+use Rattle.bureau.specs.Outcome.{Answer, no_room}
+use Rattle.bureau.specs.Replies.{reply_as}
+use Rattle.bureau_http.specs.Asked.{What}
+use Rattle.bureau_http.specs.Exchange.{MayLackRoom, body_told, refusal_answer, status_numbered}
+use Rattle.bureau_http.specs.declared.reply.Told.{Told}
+use Rattle.bureau_http.specs.declared.reply.Told.TheVariants.{Answered, Refused, NoRoom}
+
+abbrev pub answer_told : Told → Answer
+answer_told (Answered reply) = reply_as reply
+answer_told (Refused refusal) = refusal_answer refusal
+answer_told NoRoom = no_room
+
+abbrev pub allow_told : Told → Option Resource
+allow_told (Answered reply) = None
+allow_told (Refused refusal) = allow_of_refusal refusal
+allow_told NoRoom = None
+
+abbrev pub head_told : Told → Bool → ReplyHead
+head_told told closes = record {
+  status = status_numbered (answer_told told).status;
+  is_json = (answer_told told).json;
+  length = length (body_told (answer_told told));
+  allow = allow_told told;
+  closes = closes;
+}
+
+-- the bytes of the reply
+unfoldable pub told_text : Told → Bool → Bool → List ℕ
+told_text told is_bare closes = reply_text (head_told told closes) is_bare (body_told (answer_told told))
+
+-- what is told is right for what was asked, and the tables are those behind it
+abbrev pub IsTold : Tables → What → Told → Tables → Type 0
+IsTold this what (Answered reply) next =
+    (call : Caller × Call) × (what ≡ Ok call) × IsStep this (record { caller = call.0; call = call.1; answer = reply_as reply }) next
+IsTold this what (Refused refusal) next = (what ≡ Err refusal) × (next ≡ this)
+IsTold this what NoRoom next = MayLackRoom what × (next ≡ this)

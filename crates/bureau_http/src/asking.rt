@@ -1,0 +1,64 @@
+//! What a whole request asks, and what it is told.
+ghost use Rattle.std.specs.Prelude.{◌≡◌};
+ghost use Rattle.bureau.specs.Calls.{call_as};
+ghost use Rattle.bureau_http.specs.Asked as Spec;
+ghost use Rattle.bureau_http.specs.Asked.{what_of};
+ghost use Rattle.bureau_http.specs.Told.{IsTold};
+ghost use Rattle.bureau_store.specs.Tables.{Tables};
+ghost use Rattle.requests.specs.Turn.{IsAt, body_in, parts_in};
+
+use crate::desk::Desk;
+use crate::reply::Told;
+use bureau::Call;
+use requests::{Action, Refusal, Request, Routes};
+
+/// Asks the desk what a whole request asks, and answers what it is told.
+///
+/// First the caller counts, then the path, the method, and the ids in the path; then the call goes to the desk.
+pub(crate) fn answer_to<D: Desk>(
+    desk: &mut D,
+    routes: &Routes,
+    request: &Request,
+    bytes: &[u8],
+) -> Told
+    requires { IsAt bytes.now request.now }
+    ensures clean { D.is_clean desk.new → D.is_clean desk.old }
+    ensures told { D.is_clean desk.new → (this : Tables) → D.stands desk.old this →
+        (next : Tables) × IsTold this (what_of this.callers (parts_in bytes.now request.now) (body_in bytes.now request.now)) result next × D.stands desk.new next }
+{
+    let Some(token) = request.token(bytes) else {
+        return Told::Refused(Refusal::UnknownToken);
+    };
+    let action = request.action(bytes, routes);
+    let Ok(found) = desk.caller_of(token) else {
+        return Told::NoRoom;
+    };
+    let Some(caller) = found else {
+        return Told::Refused(Refusal::UnknownToken);
+    };
+    match action {
+        Ok(action) => {
+            let call = call_of(action, request.number(bytes), request.body(bytes));
+            Told::Answered(desk.answer(&caller, &call))
+        }
+        Err(refusal) => Told::Refused(refusal),
+    }
+}
+
+// The call of an action, with its number and its body.
+fn call_of<'a>(action: Action, number: Option<u64>, body: &'a [u8]) -> Call<'a>
+    ensures { call_as result ≡ Spec.call_of action number body.now }
+{
+    match action {
+        Action::Publish => Call::Publish { number, body },
+        Action::Counts => Call::Counts,
+        Action::ListZones => Call::ListZones,
+        Action::PutZone(zone) => Call::PutZone { number, zone, body },
+        Action::DropZone(zone) => Call::DropZone { number, zone },
+        Action::PutPatterns(zone) => Call::PutPatterns { number, zone, body },
+        Action::PutReceived => Call::PutReceived { number, body },
+        Action::ErrSysmods(zone) => Call::ErrSysmods { zone },
+        Action::MissingFix(zone) => Call::MissingFix { zone },
+        Action::Chain(zone, sysmod) => Call::Chain { zone, sysmod },
+    }
+}

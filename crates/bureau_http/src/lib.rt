@@ -1,0 +1,30 @@
+//! The desk over connections: from the bytes that come in to the bytes that go out (RFC 9112).
+//!
+//! - [`Desk`]: what answers calls
+//! - [`serve_one`]: one connection, to its end; [`Served`], [`ConnFault`]
+//! - [`serve_list`]: connections in memory, one after the other; [`RunFault`]
+//! - [`replay`]: the same over a store in memory that begins with the callers of a file
+//! - [`serve_listener`]: connections from a socket's listener
+//! - [`one_connection`]: a law: a connection's bytes are requests and a stop in one way only
+#![tactic(auto)]
+
+mod asking;
+mod bureau_desk;
+mod desk;
+mod fault;
+mod law;
+mod list;
+mod listening;
+mod replaying;
+mod reply;
+mod serving;
+#[cfg(test)]
+mod tests;
+
+pub use desk::Desk;
+pub use fault::{ConnFault, RunFault};
+pub use law::one_connection;
+pub use list::serve_list;
+pub use listening::serve_listener;
+pub use replaying::replay;
+pub use serving::{Served, serve_one};

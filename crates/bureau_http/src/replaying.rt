@@ -1,0 +1,73 @@
+//! Connections over a store in memory.
+ghost use Rattle.std.specs.Prelude.{◌≡◌, map, Ok, IfErr, IfOk};
+ghost use Rattle.bureau_store.specs.Callers.{callers_of};
+ghost use Rattle.bureau_store.specs.Lists.{IsOurs, tables_of};
+ghost use Rattle.bureau_store.specs.Tables.{opened};
+ghost use Rattle.bureau_store.specs.declared.caller.CallerRow.{CallerRow};
+ghost use Rattle.bureau_http.specs.List.{AreServed};
+ghost use Rattle.bureau_http.specs.Replay.{IsOutOfMemory, IsReplayFault, IsReplayed};
+
+use crate::list::serve_list;
+use bureau::Bureau;
+use bureau_store::{CallerRow, ListStore, callers};
+use chains::Whole;
+use faults::AnyFault;
+use std::alloc::Global;
+
+/// Serves connections one after the other over a store in memory that begins with the callers of a file and
+/// nothing else, and gives what was written to each.
+///
+/// # Errors
+///
+/// The fault of the callers file; or memory ran out.
+pub fn replay(
+    alloc: Global,
+    text: &[u8],
+    connections: Vec<Vec<u8>>,
+) -> Result<Vec<Vec<u8>>, AnyFault>
+    ensures replayed { IfOk result (λ written. IsReplayed text.now (map (λ connection. connection.items) connections.items) (map (λ text. text.items) written.items)) }
+    ensures refused { IfErr result (IsReplayFault text.now) }
+{
+    let rows = callers_in(alloc, text)?;
+    serve_rows(alloc, rows.as_slice(), connections)
+}
+
+// The callers of a file.
+fn callers_in(alloc: Global, text: &[u8]) -> Result<Vec<CallerRow>, AnyFault>
+    ensures rows { IfOk result (λ rows. callers_of text.now ≡ Ok rows.items) }
+    ensures refused { IfErr result (IsReplayFault text.now) }
+{
+    Ok(callers(alloc, text)?)
+}
+
+// What is written to connections that are served with these callers.
+fn serve_rows(
+    alloc: Global,
+    rows: &[CallerRow],
+    connections: Vec<Vec<u8>>,
+) -> Result<Vec<Vec<u8>>, AnyFault>
+    ensures served { IfOk result (λ written. AreServed (λ closing. Unit {0}) (opened rows.now)
+        (map (λ connection. connection.items) connections.items) (map (λ text. text.items) written.items)) }
+    ensures memory { IfErr result IsOutOfMemory }
+{
+    let store = ListStore::new(alloc, rows)?;
+    serve_store(alloc, store, connections)
+}
+
+// What is written to connections that a store is served to.
+fn serve_store(
+    alloc: Global,
+    store: ListStore,
+    connections: Vec<Vec<u8>>,
+) -> Result<Vec<Vec<u8>>, AnyFault>
+    requires { IsOurs store }
+    ensures served { IfOk result (λ written. AreServed (λ closing. Unit {0}) (tables_of store)
+        (map (λ connection. connection.items) connections.items) (map (λ text. text.items) written.items)) }
+    ensures memory { IfErr result IsOutOfMemory }
+{
+    let mut bureau = Bureau::new(alloc, store, Whole::new());
+    match serve_list(alloc, &mut bureau, connections) {
+        Ok(written) => Ok(written),
+        Err((fault, _)) => Err(AnyFault::from(fault)),
+    }
+}

@@ -1,0 +1,180 @@
+//! One connection, from its bytes to the bytes of its replies.
+ghost use Rattle.std.specs.Prelude.{◌≡◌, ◌<◌, ◌||◌, nat_le, IfOk, IfSome};
+ghost use Rattle.std.specs.Io.KnownBytes.{prepend_known};
+ghost use Rattle.bureau_http.specs.Asked.{most_requests, what_of};
+ghost use Rattle.bureau_http.specs.Served.{HasRun, IsExchanged, IsServed, Serves};
+ghost use Rattle.bureau_store.specs.Tables.{Tables};
+ghost use Rattle.requests.specs.Order.{is_bare};
+ghost use Rattle.requests.specs.Request.{closes};
+ghost use Rattle.requests.specs.Turn.{IsAt, body_in, parts_in};
+
+use crate::asking::answer_to;
+use crate::desk::Desk;
+use crate::fault::ConnFault;
+use crate::reply::Told;
+use requests::{Request, Routes, Turn, read_turn};
+use std::alloc::Global;
+use std::io::{Read, Write};
+use transfer::{Intake, RETRIES};
+
+// The most requests of a connection.
+const MOST_REQUESTS: u64 = 10_000;
+
+/// What a connection that was served to its end had.
+#[derive(Clone, Copy, Debug, PartialEq, Eq)]
+pub struct Served {
+    /// How many replies were written.
+    pub requests: u64,
+}
+
+// What came next in a connection.
+#[derive(Clone, Copy, Debug, PartialEq, Eq)]
+pub(crate) enum Step {
+    // The end of its input.
+    CleanEnd,
+    // A request, whose reply doesn't end the connection.
+    Stays,
+    // A request, whose reply ends the connection.
+    Ends,
+}
+
+// How many interrupted reads and writes are made again.
+#[derive(Clone, Copy, Debug)]
+pub(crate) struct Retries {
+    pub(crate) reads: u32,
+    pub(crate) writes: u32,
+}
+
+/// Serves one connection to its end: reads its requests, answers each, and writes the replies, in order.
+///
+/// It ends with its input, after a reply that closes it, and after its 10,000th request.
+///
+/// # Errors
+///
+/// [`ConnFault::Read`] and [`ConnFault::Write`] where a read or write fails, or is interrupted for the 65th
+/// time in this connection; [`ConnFault::EndInside`] where its input ends inside a request; and
+/// [`ConnFault::Memory`] where memory runs out before the request in hand stands whole. The replies to the
+/// requests before it were written.
+pub fn serve_one<D: Desk, R: Read, W: Write>(
+    alloc: Global,
+    desk: &mut D,
+    reader: &mut R,
+    writer: &mut W,
+) -> Result<Served, ConnFault>
+    ensures clean { D.is_clean desk.new → D.is_clean desk.old }
+    ensures ran { D.is_clean desk.new → (this : Tables) → D.stands desk.old this → HasRun (D.stands desk.new) this }
+    ensures served { D.is_clean desk.new → (this : Tables) → D.stands desk.old this →
+        IfSome (R.remaining reader.old) (IsServed (D.stands desk.new) this (W.contents writer.old) (W.contents writer.new) result) }
+{
+    let routes = Routes::new(alloc)?;
+    serve_connection(alloc, desk, &routes, reader, writer)
+}
+
+pub(crate) fn serve_connection<D: Desk, R: Read, W: Write>(
+    alloc: Global,
+    desk: &mut D,
+    routes: &Routes,
+    reader: &mut R,
+    writer: &mut W,
+) -> Result<Served, ConnFault>
+    ensures clean { D.is_clean desk.new → D.is_clean desk.old }
+    ensures ran { D.is_clean desk.new → (this : Tables) → D.stands desk.old this → HasRun (D.stands desk.new) this }
+    ensures served { D.is_clean desk.new → (this : Tables) → D.stands desk.old this →
+        IfSome (R.remaining reader.old) (IsServed (D.stands desk.new) this (W.contents writer.old) (W.contents writer.new) result) }
+{
+    let mut intake = Intake::new(alloc);
+    let mut retries = Retries {
+        reads: RETRIES,
+        writes: RETRIES,
+    };
+    let mut place = 1;
+    loop {
+        match serve_next(
+            desk,
+            routes,
+            place,
+            &mut intake,
+            reader,
+            writer,
+            &mut retries,
+        )? {
+            Step::CleanEnd => {
+                return Ok(Served {
+                    requests: place - 1,
+                });
+            }
+            Step::Stays => place += 1,
+            Step::Ends => return Ok(Served { requests: place }),
+        }
+    }
+}
+
+// Serves what stands next in a connection, its request at this place, counted from 1.
+fn serve_next<D: Desk, R: Read, W: Write>(
+    desk: &mut D,
+    routes: &Routes,
+    place: u64,
+    intake: &mut Intake,
+    reader: &mut R,
+    writer: &mut W,
+    retries: &mut Retries,
+) -> Result<Step, ConnFault>
+    ensures clean { D.is_clean desk.new → D.is_clean desk.old }
+    ensures ran { D.is_clean desk.new → (this : Tables) → D.stands desk.old this → HasRun (D.stands desk.new) this }
+    ensures within { IfOk result (λ step. step ≡ Step.Stays → place < 10000) }
+    ensures next { D.is_clean desk.new → (this : Tables) → D.stands desk.old this →
+        IfSome (prepend_known intake.old (R.remaining reader.old))
+        (Serves (D.stands desk.new) this place (prepend_known intake.new (R.remaining reader.new)) (W.contents writer.old) (W.contents writer.new) result) }
+{
+    match read_turn(intake, reader, &mut retries.reads)? {
+        Turn::CleanEnd => Ok(Step::CleanEnd),
+        Turn::EndInside => Err(ConnFault::EndInside),
+        Turn::Refused(refused) => {
+            let told = Told::Refused(refused.refusal);
+            told.write(writer, refused.is_bare, true, &mut retries.writes)?;
+            Ok(Step::Ends)
+        }
+        Turn::Whole(request) => {
+            let closes = ends_after(&request, intake.bytes(), place);
+            serve_request(
+                desk,
+                routes,
+                &request,
+                intake.bytes(),
+                closes,
+                writer,
+                &mut retries.writes,
+            )?;
+            request.take_off(intake);
+            Ok(if closes { Step::Ends } else { Step::Stays })
+        }
+    }
+}
+
+// Whether a connection ends after the reply to this request.
+fn ends_after(request: &Request, bytes: &[u8], place: u64) -> bool
+    requires { IsAt bytes.now request.now }
+    ensures { result ≡ (closes (parts_in bytes.now request.now) || nat_le most_requests place) }
+{
+    request.closes(bytes) || place >= MOST_REQUESTS
+}
+
+// Answers a whole request, and writes the reply.
+fn serve_request<D: Desk, W: Write>(
+    desk: &mut D,
+    routes: &Routes,
+    request: &Request,
+    bytes: &[u8],
+    closes: bool,
+    writer: &mut W,
+    retries: &mut u32,
+) -> Result<(), ConnFault>
+    requires { IsAt bytes.now request.now }
+    ensures clean { D.is_clean desk.new → D.is_clean desk.old }
+    ensures exchanged { D.is_clean desk.new → (this : Tables) → D.stands desk.old this →
+        IsExchanged (D.stands desk.new) this (what_of this.callers (parts_in bytes.now request.now) (body_in bytes.now request.now)) (is_bare (parts_in bytes.now request.now)) closes
+        (W.contents writer.old) (W.contents writer.new) result }
+{
+    let told = answer_to(desk, routes, request, bytes);
+    told.write(writer, request.is_bare(bytes), closes, retries)
+}
