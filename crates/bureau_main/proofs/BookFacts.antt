@@ -1,16 +1,24 @@
 -- One more statement that is done to a hold book, or is refused.
-use Rattle.std.proofs.Common.{◌≡◌, ◌⊎◌, inl, inr, List, [], ◌∷◌, ◌++◌, Some, Ok, Err, IsOk, ◌∙◌, ap}
+use Rattle.std.proofs.Common.{◌≡◌, ◌⊎◌, inl, inr, List, [], ◌∷◌, ◌++◌, Option, Some, None, Ok, Err, IsOk, refl, sym, ◌∙◌, ap, append_assoc}
+use Rattle.std.proofs.lemmas.List.Elements.{filter_map-append}
+use Rattle.std.specs.Option.{option_to_list}
 use Rattle.std.proofs.lemmas.Grind.{flat_map-append}
-use Rattle.std.specs.List.{flat_map}
+use Rattle.std.specs.List.{flat_map, cons_option}
 use Rattle.mcs_reader.specs.Unread.{Read, with_statements}
 use Rattle.mcs_reader.specs.declared.statement.Statement.{Statement}
 use Rattle.mcs_reader.proofs.ReadSteps.{with_statements-append}
 use Rattle.faults.specs.Refusal.{IsRefusal}
 use Rattle.holddata.proofs.StatementLemmas.{first_of_longer}
-use Rattle.holddata.specs.Statements.{faults_of, first_fault, first_of}
+use Rattle.holddata.specs.Statements.{change_of, changes_of, faults_of, first_fault, first_of}
+use Rattle.holddata.specs.declared.hold.HoldChange.{HoldChange}
 use Rattle.holddata.specs.declared.fault.HoldFault.{HoldFault}
 use Rattle.holddata.specs.declared.fault.HoldFault.TheVariants.{Memory}
 use Rattle.bureau_main.specs.Holds.{book_print, of_holds, print_of_read, IsMemory}
+
+-- before the first statement
+pub none_read : (whole left : Read) → whole ≡ left → whole ≡ with_statements [] left
+none_read whole (Ok rest) is = is
+none_read whole (Err fault) is = is
 
 pub read_more : (done : List Statement) (statement : Statement) (whole before left : Read) → whole ≡ with_statements done before → before ≡ with_statements (statement ∷ []) left
     → whole ≡ with_statements (done ++ statement ∷ []) left
@@ -44,3 +52,16 @@ told_of_hold whole before left done statement fault read first none ok refusal =
   | inl memory ↦ inl (inr (inl (ap of_holds memory)))
   | inr refuses ↦ inr (refused whole before left done statement fault read first none ok refuses)
 ]
+
+-- what one more statement does comes behind
+pub changes_then : (done : List Statement) (statement : Statement) (made waiting : List HoldChange) (change : Option HoldChange) → change ≡ change_of statement
+    → changes_of done ≡ made ++ waiting → changes_of (done ++ statement ∷ []) ≡ made ++ (waiting ++ option_to_list change)
+changes_then done statement made waiting change is before =
+    filter_map-append change_of done (statement ∷ [])
+    ∙ ap (λ last. changes_of done ++ last) (alone (change_of statement) ∙ ap option_to_list (sym is))
+    ∙ ap (λ changes. changes ++ option_to_list change) before
+    ∙ append_assoc made waiting (option_to_list change)
+  where
+    alone : (o : Option HoldChange) → cons_option o [] ≡ option_to_list o
+    alone None = refl
+    alone (Some c) = refl

@@ -2,3 +2,4 @@ pub mod Holds
 pub mod Line
 pub mod Program
 pub mod ProgramFault
+pub mod Replay

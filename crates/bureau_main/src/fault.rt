@@ -6,6 +6,7 @@ ghost use Rattle.bureau_main.specs.ProgramFault.{program_number, status_of};
 ghost use Rattle.transfer.specs.Transfer.{AppendsFront};
 
 use faults::{AnyFault, Cause, Fault, NoMemory};
+use std::alloc::AllocFailed;
 use std::io::Write;
 use thiserror::Error;
 use transfer::{RETRIES, TransferFault, write_whole};
@@ -60,6 +61,16 @@ impl From<NoMemory> for ProgramFault {
     ghost from_gives = { λ _ fault. fault ≡ Memory };
 
     fn from(_: NoMemory) -> ProgramFault {
+        ProgramFault::Memory
+    }
+}
+
+impl<T: Drop> From<AllocFailed<T>> for ProgramFault {
+    ghost use Rattle.bureau_main.specs.declared.fault.ProgramFault.TheVariants.{Memory};
+
+    ghost from_gives = { λ _ fault. fault ≡ Memory };
+
+    fn from(_: AllocFailed<T>) -> ProgramFault {
         ProgramFault::Memory
     }
 }

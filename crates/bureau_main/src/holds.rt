@@ -1,34 +1,43 @@
 //! `holds`: from the bytes of HOLDDATA to the hold book in print.
-ghost use Rattle.std.specs.Prelude.{◌≡◌, ◌⊎◌, take, Ok, Err, IfOk, IfErr, IfSome, OnOk};
+ghost use Rattle.std.specs.Prelude.{◌≡◌, ◌⊎◌, ◌++◌, List, take, Ok, Err, IfOk, IfErr, IfSome, OnOk};
+ghost use Rattle.std.specs.Option.{option_to_list};
 ghost use Rattle.std.specs.Io.KnownBytes.{Appends};
 ghost use Rattle.holddata.specs.BookText.{book_text};
+ghost use Rattle.holddata.specs.HoldBook.{book_of};
+ghost use Rattle.holddata.specs.declared.hold.HoldChange.{HoldChange};
 ghost use Rattle.mcs_reader.specs.ReadingOf.{reading_of};
 ghost use Rattle.mcs_reader.specs.Unread.{IsRead};
-ghost use Rattle.bureau_main.specs.Holds.{fault_in, most_read, print_of, IsHoldsRun, IsMemory, IsPrinted};
-ghost use Rattle.transfer.specs.Transfer.{AppendsFront};
+ghost use Rattle.bureau_main.specs.Holds.{fault_in, most_read, print_of, IsHoldsRun, IsInMaking, IsMemory, IsPrinted};
+ghost use Rattle.transfer.specs.Transfer.{AppendsFront, ConsumesUpTo};
 
 use crate::fault::{ProgramFault, exit_status, report};
 use faults::AnyFault;
-use holddata::HoldBook;
+use holddata::{HoldBook, HoldChange, change};
 use mcs_reader::Statements;
 use std::alloc::Global;
 use std::io::{Read, Write};
+use std::mem;
 use transfer::{RETRIES, read_source, write_whole};
 
 /// The most bytes that are read of a source: one more than it may have.
 pub const MOST_READ: usize = mcs_reader::MOST_BYTES + 1;
 
+// So many changes wait before they are made, or a fourth of the holds in the book where those are more: a book takes
+// many at once in less time than one after the other.
+const MOST_WAITING: usize = 16_384;
+
 /// Reads HOLDDATA and prints the hold book that its statements leave. Returns the exit status.
 ///
 /// The text is made whole before its first byte is written. A fault is told on `errors` alone, as
-/// `FAULT`, its number and its line; only where a write fails has `writer` the front of the text.
+/// `FAULT`, its number and its line; only where a write fails has `writer` the front of the text. No more than
+/// [`MOST_READ`] bytes are read.
 pub fn run_holds<R: Read, W: Write, E: Write>(
     alloc: Global,
     reader: &mut R,
     writer: &mut W,
     errors: &mut E,
 ) -> u8
-    ensures { IsHoldsRun (R.remaining reader.old) (W.contents writer.old) (W.contents writer.new) (E.contents errors.old) (E.contents errors.new) result }
+    ensures { IsHoldsRun (R.remaining reader.old) (R.remaining reader.new) (W.contents writer.old) (W.contents writer.new) (E.contents errors.old) (E.contents errors.new) result }
 {
     match print_holds(alloc, reader, writer) {
         Ok(()) => 0,
@@ -45,10 +54,11 @@ fn print_holds<R: Read, W: Write>(
     reader: &mut R,
     writer: &mut W,
 ) -> Result<(), AnyFault>
-    ensures { IsPrinted (R.remaining reader.old) (W.contents writer.old) (W.contents writer.new) (fault_in result) }
+    ensures printed { IsPrinted (R.remaining reader.old) (W.contents writer.old) (W.contents writer.new) (fault_in result) }
+    ensures taken { ConsumesUpTo most_read (R.remaining reader.old) (R.remaining reader.new) }
 {
     let source = source_in(alloc, reader)?;
-    let text = hold_book_text(alloc, source.as_slice())?;
+    let text = hold_book_text(alloc, source)?;
     Ok(put_out(writer, text.as_slice())?)
 }
 
@@ -56,6 +66,7 @@ fn print_holds<R: Read, W: Write>(
 fn source_in<R: Read>(alloc: Global, reader: &mut R) -> Result<Vec<u8>, ProgramFault>
     ensures ok { IfOk result (λ source. IfSome (R.remaining reader.old) (λ bytes. source.items ≡ take most_read bytes)) }
     ensures err { IfErr result (λ fault. (fault ≡ ProgramFault.NotRead) ⊎ (fault ≡ ProgramFault.Memory)) }
+    ensures taken { ConsumesUpTo most_read (R.remaining reader.old) (R.remaining reader.new) }
 {
     Ok(read_source(alloc, reader, MOST_READ, &mut { RETRIES })?)
 }
@@ -76,14 +87,15 @@ fn put_out<W: Write>(writer: &mut W, text: &[u8]) -> Result<(), ProgramFault>
 /// # Errors
 ///
 /// The fault of the source, or of the first statement that has one as a hold; or memory ran out.
-pub fn hold_book_text(alloc: Global, source: &[u8]) -> Result<Vec<u8>, AnyFault>
-    ensures text { IfOk result (λ text. print_of source.now ≡ Ok text.items) }
-    ensures fault { IfErr result (λ fault. IsMemory fault ⊎ (print_of source.now ≡ Err fault)) }
+pub fn hold_book_text(alloc: Global, source: Vec<u8>) -> Result<Vec<u8>, AnyFault>
+    ensures text { IfOk result (λ text. print_of source.items ≡ Ok text.items) }
+    ensures fault { IfErr result (λ fault. IsMemory fault ⊎ (print_of source.items ≡ Err fault)) }
 
     // What a source is read as, in the words of the field.
-    ensures reading { IsRead source.now (reading_of source.now) }
+    ensures reading { IsRead source.items (reading_of source.items) }
 {
-    let book = book_in(alloc, source)?;
+    let book = book_in(alloc, source.as_slice())?;
+    drop(source); // The text takes its room.
     Ok(book_print(&book)?)
 }
 
@@ -104,11 +116,47 @@ fn book_in(alloc: Global, source: &[u8]) -> Result<HoldBook, AnyFault>
 {
     let mut statements = Statements::new(alloc, source)?;
     let mut book = HoldBook::new(alloc);
+    let mut waiting = Vec::new(alloc);
     'statements: while let Some(statement) = statements.next()? {
-        if let Err(fault) = book.apply_statement(&statement) {
-            statements.finish()?;
-            return Err(AnyFault::from(fault));
+        match change(alloc, &statement) {
+            Ok(change) => put_among(&mut waiting, change)?,
+            Err(fault) => {
+                statements.finish()?;
+                return Err(AnyFault::from(fault));
+            }
         }
+        book = with_many(book, &mut waiting)?;
     }
-    Ok(book)
+    Ok(with_waiting(book, waiting)?)
+}
+
+// Puts the change, where there is one, behind those that wait.
+fn put_among(waiting: &mut Vec<HoldChange>, change: Option<HoldChange>) -> Result<(), ProgramFault>
+    ensures ok { OnOk result (waiting.new.items ≡ waiting.old.items ++ option_to_list change) }
+    ensures err { IfErr result (λ fault. fault ≡ ProgramFault.Memory) }
+{
+    if let Some(change) = change {
+        waiting.push(change)?;
+    }
+    Ok(())
+}
+
+// The book after the changes that wait, where they are many. Else they wait on.
+fn with_many(book: HoldBook, waiting: &mut Vec<HoldChange>) -> Result<HoldBook, ProgramFault>
+    ensures book { IfOk result (λ left. (before : List HoldChange) → book ≡ book_of before → IsInMaking before waiting.old.items left waiting.new.items) }
+    ensures err { IfErr result (λ fault. fault ≡ ProgramFault.Memory) }
+{
+    if waiting.len() < MOST_WAITING.max(book.len() / 4) {
+        return Ok(book);
+    }
+    let alloc = *waiting.allocator();
+    with_waiting(book, mem::replace(waiting, Vec::new(alloc)))
+}
+
+// The book after the changes that wait.
+fn with_waiting(book: HoldBook, waiting: Vec<HoldChange>) -> Result<HoldBook, ProgramFault>
+    ensures book { IfOk result (λ left. (before : List HoldChange) → book ≡ book_of before → left ≡ book_of (before ++ waiting.items)) }
+    ensures err { IfErr result (λ fault. fault ≡ ProgramFault.Memory) }
+{
+    Ok(book.with_changes(waiting)?)
 }

@@ -106,6 +106,6 @@ fn holds_command<'a>(alloc: Global) -> Result<Command<'a>, NoMemory>
         .value_name("FILE")
         .help("The HOLDDATA to read; `-` is standard input");
     Command::new(alloc, "holds")
-        .about("Prints the hold book that the ++HOLD statements of FILE leave")
+        .about("Prints the hold book that the ++HOLD and ++RELEASE statements of FILE leave")
         .arg(file)
 }

@@ -1,11 +1,14 @@
 //! The programs of the bureau: what a command line asks for, from bytes to bytes.
 #![tactic(auto)]
 
+#[cfg(test)]
+mod desk_tests;
 mod fault;
 mod help;
 mod holds;
 mod line;
 mod program;
+mod replay;
 #[cfg(test)]
 mod tests;
 

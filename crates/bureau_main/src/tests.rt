@@ -4,6 +4,7 @@ use crate::line::{Line, LineFault, line_of};
 use faults::NoMemory;
 use std::alloc::Global;
 use std::io::{self, ErrorKind, Read, Write};
+use std::str;
 use std::test::Fail;
 
 const HEADING: &str = "SYSMOD   KIND    REASON   FMID     CLASS    DATE   RESOLVER CATEGORY\n";
@@ -158,6 +159,90 @@ fn worked_sources(rt: HostRuntime) -> Result<(), Fail> {
         assert!(rt; run.output.as_slice() == output.as_bytes(), "{source}");
         assert!(rt; run.errors.as_slice() == errors.as_bytes(), "{source}");
     }
+    Ok(())
+}
+
+// What is passed over, and where that ends: headers, comments, lists of COMMENT, and what is behind a period.
+#[test]
+fn what_is_passed_over(rt: HostRuntime) -> Result<(), Fail> {
+    let empty = format!(in rt.alloc(); "{HEADING}ROWS 0\n")?;
+    let one = format!(in rt.alloc();
+        "{HEADING}UA10001  ERROR   AA20002  -        -        -      -        -\nROWS 1\n"
+    )?;
+    let rows: [(&str, u8, &str, &str); 7] = [
+        ("++PTF(UA10001)", 1, "", "FAULT 1 1\n"),
+        ("++VER(Z038).", 0, empty.as_str(), ""),
+        (
+            "++HOLD(UA10001) ERROR REASON(AA20002) ; .",
+            1,
+            "",
+            "FAULT 4 1\n",
+        ),
+        ("++HOLD(UA10001) /* ERROR", 1, "", "FAULT 3 1\n"),
+        (
+            "++HOLD(UA10001) ERROR REASON(AA20002).)))",
+            0,
+            one.as_str(),
+            "",
+        ),
+        (
+            "++HOLD(UA10001) ERROR REASON(AA20002) COMMENT(\n++PTF(X)\n).",
+            0,
+            one.as_str(),
+            "",
+        ),
+        // A comment begins on one line: `/` in column 72 and `*` in column 1 of the next line begin none.
+        (
+            "++HOLD(UA10001) ERROR REASON(AA20002)                                  /\n* */ .",
+            1,
+            "",
+            "FAULT 4 1\n",
+        ),
+    ];
+    for (source, status, output, errors) in rows {
+        let run = run_of(rt.alloc(), &mut source.as_bytes());
+        assert_eq!(rt; run.status, status, "{source}");
+        assert!(rt; run.output.as_slice() == output.as_bytes(), "{source}");
+        assert!(rt; run.errors.as_slice() == errors.as_bytes(), "{source}");
+    }
+    let deep = comment_of(rt.alloc(), 2_000)?;
+    let run = run_of(rt.alloc(), &mut deep.as_slice());
+    assert!(rt; run.status == 0 && run.output.as_slice() == one.as_bytes());
+    Ok(())
+}
+
+// A hold with a COMMENT over so many lines of 50 parentheses that open, and as many that close.
+fn comment_of(alloc: Global, lines: u32) -> Result<Vec<u8>, Fail> {
+    let mut source = b"++HOLD(UA10001) ERROR REASON(AA20002) COMMENT(\n".to_vec(alloc)?;
+    for parenthesis in [b'(', b')'] {
+        for _ in 0..lines {
+            source.extend_from_slice(vec![in alloc; parenthesis; 50]?.as_slice())?;
+            source.push(b'\n')?;
+        }
+    }
+    source.extend_from_slice(b").")?;
+    Ok(source)
+}
+
+// More holds than wait before they are put into the book: each of the last, with a release of one of the first.
+#[test]
+fn more_holds_than_wait(rt: HostRuntime) -> Result<(), Fail> {
+    let mut source = Vec::new(rt.alloc());
+    for class in ["PE", "HIPER"] {
+        for number in 0..70_000 {
+            let text = format!(in rt.alloc();
+                "++HOLD(A{number}) USER REASON(R) CLASS({class}).\n"
+            )?;
+            source.extend_from_slice(text.as_bytes())?;
+        }
+    }
+    source.extend_from_slice(b"++RELEASE(A7) USER REASON(R).\n")?;
+    let run = run_of(rt.alloc(), &mut source.as_slice());
+    assert_eq!(rt; run.status, 0);
+    let text = str::from_utf8(run.output.as_slice()).ok().ok_or("a text")?;
+    assert!(rt; text.ends_with("\nROWS 69999\n"));
+    assert!(rt; !text.contains(" PE ") && !text.contains("\nA7 "));
+    assert!(rt; text.contains("\nA69999   USER    R        -        HIPER    -      -        -\n"));
     Ok(())
 }
 
