@@ -12,7 +12,14 @@ sequence numbers in columns 73 to 80), or one that is hard on a reader:
     list      one list over as many lines as fit
     nested    a list in a list, one parenthesis a line, all closed at the end
     onekey    one hold, put again and again
+    sorted    small holds with keys of their own, in the order of the keys
+    random    the same in another order
+    operands  one statement of operands of one letter, without lists
+    comment   a list of COMMENT, one parenthesis a line, all closed at the end
+    slashes   one comment over lines of `/*`
+    empty     comments without text, one behind the other
 """
+import random
 import sys
 
 KINDS = ("ERROR", "ERROR", "ERROR", "SYSTEM", "USER", "FIXCAT")
@@ -61,13 +68,32 @@ def repeated(piece, size, out, before="", after=""):
     out.write(after)
 
 
-def nested(size, out):
+def nested(size, out, operand="OTHER"):
     depth = (size - 100) // 4
-    out.write("++HOLD(UA10001) ERROR REASON(AA10001) COMMENT(\n")
+    out.write("++HOLD(UA10001) ERROR REASON(AA10001) %s(\n" % operand)
     repeated("(\n", 2 * depth, out)
     repeated(")\n", 2 * depth, out)
     out.write(").\n")
 
+
+def comment(size, out):
+    nested(size, out, "COMMENT")
+
+
+def letters_first(number):
+    """A number's place among the keys: a digit's code is below that of a letter."""
+    return tuple((number // 36**place + 10) % 36 for place in (4, 3, 2, 1, 0))
+
+
+def small(size, out, order):
+    characters = "ABCDEFGHIJKLMNOPQRSTUVWXYZ0123456789"
+    line = "++HOLD(UA%s%s%s%s%s)ERR REASON(A).\n"
+    count = size // len(line % (0, 0, 0, 0, 0))
+    for number in order(random.Random(1).sample(range(36**5), count)):
+        out.write(line % tuple(characters[number // 36**place % 36] for place in (4, 3, 2, 1, 0)))
+
+
+HELD = "++HOLD(UA10001) ERROR REASON(AA10001)\n"
 
 SHAPES = {
     "holds": holds,
@@ -77,6 +103,12 @@ SHAPES = {
     "list": lambda size, out: repeated(" AA10001,AA10002,AA10003,AA10004,\n", size, out,
                                        "++HOLD(UA10001) ERROR REASON(AA10001) OTHER(\n", ").\n"),
     "nested": nested,
+    "sorted": lambda size, out: small(size, out, lambda numbers: sorted(numbers, key=letters_first)),
+    "random": lambda size, out: small(size, out, list),
+    "operands": lambda size, out: repeated(" A" * 35 + "\n", size, out, HELD, ".\n"),
+    "comment": comment,
+    "slashes": lambda size, out: repeated("/*\n", size, out, HELD, "*/ .\n"),
+    "empty": lambda size, out: repeated("/**/" * 18 + "\n", size, out, HELD, ".\n"),
     "onekey": lambda size, out: repeated("++HOLD(UA10001) ERROR REASON(AA10001) CLASS(PE).\n", size, out),
 }
 

@@ -1,0 +1,22 @@
+#!/usr/bin/env bash
+# Times verdicts over the whole catalogue: bench/verdicts.sh
+#
+# The program bench/verdicts/main.rt.txt is proved and built over copies of the crates, under bench/out; what was proved of
+# them before is copied too. It prints, as columns: the shape, how many SYSMODs, the verdict, microseconds to read the
+# record, the superseders and the holds of each once, microseconds for one verdict; each the least of several rounds.
+set -euo pipefail
+top=$(cd "$(dirname "$0")/.." && pwd)
+work=$top/bench/out/verdicts
+below='faults columns mcs_reader holddata zone_lists catalogue supersede requisites chains'
+mkdir -p "$work/crates/verdict_bench/src"
+: > "$work/crates.txt"
+for crate in $below; do
+    rm -rf "$work/crates/$crate"
+    cp -R "$top/crates/$crate" "$work/crates/$crate"
+    grep "^$crate:" "$top/crates.txt" >> "$work/crates.txt"
+done
+echo 'verdict_bench: anyhow mcs_reader zone_lists catalogue supersede chains' >> "$work/crates.txt"
+cp "$top/bench/verdicts/main.rt.txt" "$work/crates/verdict_bench/src/main.rt"
+cp "$top/HANDLES" "$work/"
+cd "$work/crates/verdict_bench"
+rt run 2>&1 | grep ','
