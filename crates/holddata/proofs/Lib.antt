@@ -1,3 +1,4 @@
+mod Examples
 pub mod InsertLemmas
 pub mod CategoryLemmas
 pub mod OperandLemmas

@@ -9,4 +9,3 @@ pub mod Statements
 pub mod HoldBook
 pub mod BookPlace
 pub mod BookText
-mod Examples

@@ -1,13 +1,13 @@
 -- A statement ends within its text, and so any number of steps that is enough reads the same.
 use Rattle.std.proofs.Common.{◌≡◌, ℕ, zero, suc, ◌+◌, ◌-◌, ◌<◌, ◌≤◌, ◌==◌, Bool, true, false, cond, List, [], ◌∷◌, length, drop, Option, Some, None, option_map, Result, Ok, Err, refl, sym, ◌∙◌, ap, subst, arith, length-append}
 use Rattle.mcs_reader.specs.Byte.{is_blank, is_name_byte, line_end}
-use Rattle.mcs_reader.specs.declared.byte.Class.{Class}
-use Rattle.mcs_reader.specs.declared.byte.Class.TheVariants.{Gap, Comment, Name, Open, Close, Period, Other}
+use Rattle.mcs_reader.specs.declared.byte.ByteRole.{ByteRole}
+use Rattle.mcs_reader.specs.declared.byte.ByteRole.TheVariants.{Gap, Comment, Name, Open, Close, Period, Other}
 use Rattle.mcs_reader.specs.Line.{begins_statement, line_ends}
 use Rattle.mcs_reader.specs.Place.{after_line, name_behind, text_behind, verb_at}
 use Rattle.mcs_reader.specs.Run.{run, behind_run, value_run}
 use Rattle.mcs_reader.specs.ReadLines.{at_verb, go_on, read_lines}
-use Rattle.mcs_reader.specs.Comment.{class_here}
+use Rattle.mcs_reader.specs.Comment.{role_here}
 use Rattle.mcs_reader.specs.Pieces.{Before, no_name, a_name, name_comment, before_behind}
 use Rattle.mcs_reader.specs.Scan.{behind_comment, behind_raw, Found, on_found, opening, Outcome, pass, past, past_raw, Stated, closing, scan, stated, with_list, with_name, with_subject, with_values}
 use Rattle.mcs_reader.specs.StatementText.{subject_of}
@@ -65,7 +65,7 @@ within line zero depth before begun (b ∷ text) =
     Behind : Type 0
     Behind = (skip depth : ℕ) (before : Before) (begun : Bool) → Within (length (b ∷ text)) (pass line skip depth before begun text)
 
-    outside : (class : Class) → class_here b text ≡ class → Behind → Within (length (b ∷ text)) (pass line zero zero before begun (b ∷ text))
+    outside : (role : ByteRole) → role_here b text ≡ role → Behind → Within (length (b ∷ text)) (pass line zero zero before begun (b ∷ text))
     outside Gap is behind = rw (is, pass) (behind zero zero before (b == line_end))
     outside Comment is behind = rw (is, pass) (within_past (length (b ∷ text)) line text (behind_comment (drop 1 text)) (λ skip. pass line skip zero before false text) (λ skip. behind skip zero before false))
     outside Name is behind =
@@ -85,7 +85,7 @@ within line zero depth before begun (b ∷ text) =
         within_found (length (b ∷ text)) (with_values (value_run (b ∷ text) ∷ [])) (pass line (length (value_run text)) (suc depth) no_name false text) (λ found. refl)
         (behind (length (value_run text)) (suc depth) no_name false)
 
-    inside : (depth : ℕ) (class : Class) → class_here b text ≡ class → Behind → Within (length (b ∷ text)) (pass line zero (suc depth) before begun (b ∷ text))
+    inside : (depth : ℕ) (role : ByteRole) → role_here b text ≡ role → Behind → Within (length (b ∷ text)) (pass line zero (suc depth) before begun (b ∷ text))
     inside depth Gap is behind = rw (is, pass) (behind zero (suc depth) no_name false)
     inside depth Comment is behind =
         rw (is, pass) (within_past (length (b ∷ text)) line text (behind_comment (drop 1 text)) (λ skip. pass line skip (suc depth) no_name false text) (λ skip. behind skip (suc depth) no_name false))
@@ -96,8 +96,8 @@ within line zero depth before begun (b ∷ text) =
     inside depth Other is behind = rw (is, pass) (value depth behind)
 
     at : (depth : ℕ) → Behind → Within (length (b ∷ text)) (pass line zero depth before begun (b ∷ text))
-    at zero behind = outside (class_here b text) refl behind
-    at (suc depth) behind = inside depth (class_here b text) refl behind
+    at zero behind = outside (role_here b text) refl behind
+    at (suc depth) behind = inside depth (role_here b text) refl behind
 
 abbrev rest_of : Stated → List ℕ
 rest_of (Ok (statement, rest)) = rest

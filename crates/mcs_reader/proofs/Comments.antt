@@ -1,32 +1,32 @@
 -- Where comments begin and end, and the runs that they end.
 use Rattle.std.proofs.Common.{◌≡◌, ◌≢◌, ℕ, ◌==◌, ◌⊎◌, inl, inr, Bool, true, false, cond, List, [], ◌∷◌, ◌++◌, Some, None, refl, sym, ◌∙◌, ap, arith}
 use Rattle.std.proofs.lemmas.Bool.Decides.{nat_tests}
-use Rattle.mcs_reader.specs.Byte.{class_of, belongs_to_value}
-use Rattle.mcs_reader.specs.Comment.{next_is, begins_comment, ends_comment, somewhere, IsCommentText, class_here}
-use Rattle.mcs_reader.specs.declared.byte.Class.{Class}
-use Rattle.mcs_reader.specs.declared.byte.Class.TheVariants.{Comment, Other}
+use Rattle.mcs_reader.specs.Byte.{role_of, belongs_to_value}
+use Rattle.mcs_reader.specs.Comment.{next_is, begins_comment, ends_comment, somewhere, IsCommentText, role_here}
+use Rattle.mcs_reader.specs.declared.byte.ByteRole.{ByteRole}
+use Rattle.mcs_reader.specs.declared.byte.ByteRole.TheVariants.{Comment, Other}
 use Rattle.mcs_reader.specs.Pieces.{is_word, is_value_byte}
 use Rattle.mcs_reader.specs.Run.{begins_value, value_run, behind_value}
 use Rattle.mcs_reader.specs.Scan.{behind_comment}
-use Rattle.mcs_reader.proofs.Classes.{both, class_of-42, class_of-47, never_comment}
+use Rattle.mcs_reader.proofs.RoleFacts.{both, role_of-42, role_of-47, never_comment}
 
--- the class of a byte at its place
+-- the role of a byte at its place
 
-pub here_of : (b : ℕ) (text : List ℕ) (class : Class) → class_of b ≡ class → class ≢ Other → class_here b text ≡ class
-here_of b text class is other = by_test (b == 47) refl where
-  by_test : (t : Bool) → (b == 47) ≡ t → cond (cond t (next_is 42 text) false) Comment (class_of b) ≡ class
-  by_test true e = let slash : b ≡ 47 = grind (arith, nat_tests) in absurd (other (sym is ∙ ap class_of slash ∙ class_of-47))
+pub here_of : (b : ℕ) (text : List ℕ) (role : ByteRole) → role_of b ≡ role → role ≢ Other → role_here b text ≡ role
+here_of b text role is other = by_test (b == 47) refl where
+  by_test : (t : Bool) → (b == 47) ≡ t → cond (cond t (next_is 42 text) false) Comment (role_of b) ≡ role
+  by_test true e = let slash : b ≡ 47 = grind (arith, nat_tests) in absurd (other (sym is ∙ ap role_of slash ∙ role_of-47))
   by_test false e = is
 
-pub record Plain (b : ℕ) (text : List ℕ) (class : Class) : Type 0 where
-  pub class_is : class_of b ≡ class
+pub record Plain (b : ℕ) (text : List ℕ) (role : ByteRole) : Type 0 where
+  pub role_is : role_of b ≡ role
   pub no_comment : begins_comment (b ∷ text) ≡ false
 
-pub plain : (b : ℕ) (text : List ℕ) (class : Class) → class_here b text ≡ class → class ≢ Comment → Plain b text class
-plain b text class is other = by_test (begins_comment (b ∷ text)) refl is where
-  by_test : (t : Bool) → begins_comment (b ∷ text) ≡ t → cond t Comment (class_of b) ≡ class → Plain b text class
+pub plain : (b : ℕ) (text : List ℕ) (role : ByteRole) → role_here b text ≡ role → role ≢ Comment → Plain b text role
+plain b text role is other = by_test (begins_comment (b ∷ text)) refl is where
+  by_test : (t : Bool) → begins_comment (b ∷ text) ≡ t → cond t Comment (role_of b) ≡ role → Plain b text role
   by_test true e h = absurd (other (sym h))
-  by_test false e h = record { class_is = h; no_comment = e }
+  by_test false e h = record { role_is = h; no_comment = e }
 
 pub record CommentAt (b : ℕ) (text : List ℕ) : Type 0 where
   pub byte_is : b ≡ 47
@@ -37,9 +37,9 @@ next_byte : (n : ℕ) (text : List ℕ) → next_is n text ≡ true → (rest : 
 next_byte n [] h = absurd (cc)
 next_byte n (b ∷ text) h = (text, ap (λ x. x ∷ text) (grind (arith, nat_tests)))
 
-pub comment_at : (b : ℕ) (text : List ℕ) → class_here b text ≡ Comment → CommentAt b text
+pub comment_at : (b : ℕ) (text : List ℕ) → role_here b text ≡ Comment → CommentAt b text
 comment_at b text is = by_test (begins_comment (b ∷ text)) refl is where
-  by_test : (t : Bool) → begins_comment (b ∷ text) ≡ t → cond t Comment (class_of b) ≡ Comment → CommentAt b text
+  by_test : (t : Bool) → begins_comment (b ∷ text) ≡ t → cond t Comment (role_of b) ≡ Comment → CommentAt b text
   by_test true e h =
       let parts = both (b == 47) (next_is 42 text) e in
       let next = next_byte 42 text parts.1 in
@@ -49,11 +49,11 @@ comment_at b text is = by_test (begins_comment (b ∷ text)) refl is where
 -- values
 
 pub value_goes_on : (b : ℕ) (text : List ℕ) → is_value_byte b ≡ true → begins_comment (b ∷ text) ≡ false → begins_value (b ∷ text) ≡ true
-value_goes_on b text value none = ap (λ t. belongs_to_value (cond t Comment (class_of b))) none ∙ value
+value_goes_on b text value none = ap (λ t. belongs_to_value (cond t Comment (role_of b))) none ∙ value
 
 pub value_here : (b : ℕ) (text : List ℕ) → begins_value (b ∷ text) ≡ true → (is_value_byte b ≡ true) × (begins_comment (b ∷ text) ≡ false)
 value_here b text h = by_test (begins_comment (b ∷ text)) refl h where
-  by_test : (t : Bool) → begins_comment (b ∷ text) ≡ t → belongs_to_value (cond t Comment (class_of b)) ≡ true → (is_value_byte b ≡ true) × (begins_comment (b ∷ text) ≡ false)
+  by_test : (t : Bool) → begins_comment (b ∷ text) ≡ t → belongs_to_value (cond t Comment (role_of b)) ≡ true → (is_value_byte b ≡ true) × (begins_comment (b ∷ text) ≡ false)
   by_test true e value = absurd (cc)
   by_test false e value = (value, e)
 
@@ -64,7 +64,7 @@ no_star (b ∷ text) h = by_test (b == 42) refl where
   by_test : (t : Bool) → (b == 42) ≡ t → (b == 42) ≡ false
   by_test true e =
       let star : b ≡ 42 = grind (arith, nat_tests) in
-      let goes_on : begins_value (b ∷ text) ≡ true = ap (λ n. begins_value (n ∷ text)) star ∙ ap belongs_to_value class_of-42 in
+      let goes_on : begins_value (b ∷ text) ≡ true = ap (λ n. begins_value (n ∷ text)) star ∙ ap belongs_to_value role_of-42 in
       absurd (cc)
   by_test false e = e
 

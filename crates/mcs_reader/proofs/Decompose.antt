@@ -2,17 +2,17 @@
 use Rattle.std.proofs.Common.{◌≡◌, ℕ, zero, suc, ◌==◌, ◌&&◌, ◌⊎◌, inl, inr, Bool, true, false, cond, List, [], ◌∷◌, ◌++◌, length, drop, Option, Some, None, refl, sym, ◌∙◌, ap, subst, arith, append_assoc}
 use Rattle.std.proofs.Math.Seq.{drop-append_seam}
 use Rattle.std.proofs.lemmas.Bool.Decides.{nat_tests}
-use Rattle.mcs_reader.specs.Byte.{class_of, is_name_byte, belongs_to_value}
-use Rattle.mcs_reader.specs.Comment.{class_here, begins_comment, somewhere, IsCommentText}
-use Rattle.mcs_reader.specs.declared.byte.Class.{Class}
-use Rattle.mcs_reader.specs.declared.byte.Class.TheVariants.{Gap, Comment, Name, Open, Close, Period, Other}
+use Rattle.mcs_reader.specs.Byte.{role_of, is_name_byte, belongs_to_value}
+use Rattle.mcs_reader.specs.Comment.{role_here, begins_comment, somewhere, IsCommentText}
+use Rattle.mcs_reader.specs.declared.byte.ByteRole.{ByteRole}
+use Rattle.mcs_reader.specs.declared.byte.ByteRole.TheVariants.{Gap, Comment, Name, Open, Close, Period, Other}
 use Rattle.mcs_reader.specs.Line.{begins_statement}
 use Rattle.mcs_reader.specs.Pieces.{Before, no_name, a_name, name_comment, before_behind, Pieces, nothing, gap, comment, word, list, raw_list, spell, begins_word, is_word, is_value_byte, IsInside, IsOutside, ends_with, ends_line}
 use Rattle.mcs_reader.specs.Raw.{spell_raw}
 use Rattle.mcs_reader.specs.Run.{run, behind_run, begins_value}
 use Rattle.mcs_reader.specs.Stop.{Stop, text_ends, statement_begins, stray_close, stray_byte, nameless_list, open_comment, open_list, open_raw, bad_subject, spell_end, IsEnd, spell_open, AllInside, spell_stop, IsStop}
 use Rattle.mcs_reader.specs.Verb.{begins_with}
-use Rattle.mcs_reader.proofs.Classes.{class-is_name, class-is_open, class-is_close, class-is_period, first_of_word}
+use Rattle.mcs_reader.proofs.RoleFacts.{role-is_name, role-is_open, role-is_close, role-is_period, first_of_word}
 use Rattle.mcs_reader.proofs.Comments.{plain, comment_at, CommentAt, Ended, comment_cut, value_here}
 use Rattle.mcs_reader.proofs.Raws.{RawAt, raw_cut}
 use Rattle.mcs_reader.proofs.Runs.{run-append-behind_run, begins_with-behind_run, is_word-run}
@@ -106,13 +106,13 @@ tail_of : (pieces : Pieces) (deeper : List Pieces) (end : Option (List ℕ)) →
 tail_of pieces [] end = (spell_end end, refl)
 tail_of pieces (inner ∷ deeper) end = (40 ∷ spell_open inner deeper end, refl)
 
--- outside lists, by the class of the first byte
+-- outside lists, by the role of the first byte
 
-outer_gap : (before : Before) (begun : Bool) (b : ℕ) (text : List ℕ) → class_here b text ≡ Gap → Outer before (b == 10) text → Outer before begun (b ∷ text)
+outer_gap : (before : Before) (begun : Bool) (b : ℕ) (text : List ℕ) → role_here b text ≡ Gap → Outer before (b == 10) text → Outer before begun (b ∷ text)
 outer_gap before begun b text is r = record {
   pieces = gap b r.pieces;
   stop = r.stop;
-  outside = ((plain b text Gap is (λ e. cc)).class_is, r.outside);
+  outside = ((plain b text Gap is (λ e. cc)).role_is, r.outside);
   stops = r.stops;
   whole = ap (λ t. b ∷ t) r.whole;
 }
@@ -141,11 +141,11 @@ outer_comment before begun b text at behind (inl c) =
 outer_comment before begun b text at behind (inr unclosed) =
     record { pieces = nothing; stop = open_comment at.rest; outside = tt; stops = unclosed; whole = comment_begins b text at }
 
-outer_name : (before : Before) (begun : Bool) (b : ℕ) (text : List ℕ) → class_of b ≡ Name → Outer (before_behind (b ∷ run is_name_byte text)) false (behind_run is_name_byte text)
+outer_name : (before : Before) (begun : Bool) (b : ℕ) (text : List ℕ) → role_of b ≡ Name → Outer (before_behind (b ∷ run is_name_byte text)) false (behind_run is_name_byte text)
     → Outer before begun (b ∷ text)
 outer_name before begun b text is r =
     let w : List ℕ = b ∷ run is_name_byte text in
-    let name : is_name_byte b ≡ true = class-is_name b is in
+    let name : is_name_byte b ≡ true = role-is_name b is in
     let P : List ℕ → Type 0 = λ t. begins_with is_name_byte t ≡ false in
     let Q : List ℕ → Type 0 = λ t. is_word is_name_byte t ≡ true in
     let cut : run is_name_byte (b ∷ text) ≡ w = ap (λ t. cond t w []) name in
@@ -220,7 +220,7 @@ pluses true b (c ∷ text) h = by_first (b == 43) refl where
       (refl, text, cc)
   by_first false e = absurd (let no : false ≡ true = sym (ap (λ t. cond t (c == 43) false) e) ∙ h in cc)
 
-outer_other : (before : Before) (begun : Bool) (b : ℕ) (text : List ℕ) → class_here b text ≡ Other → Outer before begun (b ∷ text)
+outer_other : (before : Before) (begun : Bool) (b : ℕ) (text : List ℕ) → role_here b text ≡ Other → Outer before begun (b ∷ text)
 outer_other before begun b text is = by_test (begun && begins_statement (b ∷ text)) refl where
   by_test : (t : Bool) → (begun && begins_statement (b ∷ text)) ≡ t → Outer before begun (b ∷ text)
   by_test true e =
@@ -230,7 +230,7 @@ outer_other before begun b text is = by_test (begun && begins_statement (b ∷ t
 
 -- in a list
 
-inner_gap : (P : List ℕ → Type 0) (b : ℕ) (text : List ℕ) → class_of b ≡ Gap → Closes P text ⊎ Unclosed text → Closes P (b ∷ text) ⊎ Unclosed (b ∷ text)
+inner_gap : (P : List ℕ → Type 0) (b : ℕ) (text : List ℕ) → role_of b ≡ Gap → Closes P text ⊎ Unclosed text → Closes P (b ∷ text) ⊎ Unclosed (b ∷ text)
 inner_gap P b text is (inl c) = inl (record { pieces = gap b c.pieces; rest = c.rest; inside = (is, c.inside); whole = ap (λ t. b ∷ t) c.whole; behind = c.behind })
 inner_gap P b text is (inr u) = inr (record {
   pieces = gap b u.pieces;
@@ -333,35 +333,35 @@ at_end (suc depth) before begun = inr (record { pieces = nothing; deeper = []; e
 abbrev Behind : List ℕ → Type 0
 Behind text = (skip depth : ℕ) (before : Before) (begun : Bool) → At depth before begun (drop skip text)
 
-outer : (before : Before) (begun : Bool) (b : ℕ) (text : List ℕ) (class : Class) → class_here b text ≡ class → Behind text → Outer before begun (b ∷ text)
+outer : (before : Before) (begun : Bool) (b : ℕ) (text : List ℕ) (role : ByteRole) → role_here b text ≡ role → Behind text → Outer before begun (b ∷ text)
 outer before begun b text Gap is behind = outer_gap before begun b text is (behind zero zero before (b == 10))
 outer before begun b text Comment is behind =
     let at = comment_at b text is in
     outer_comment before begun b text at (λ skip. behind skip zero before false) (comment_cut at.rest)
 outer before begun b text Name is behind =
-    outer_name before begun b text (plain b text Name is (λ e. cc)).class_is
+    outer_name before begun b text (plain b text Name is (λ e. cc)).role_is
     (at_rest (Outer (before_behind (b ∷ run is_name_byte text)) false) text (run is_name_byte text) (behind_run is_name_byte text) (sym (run-append-behind_run is_name_byte text))
     (λ skip. behind skip zero (before_behind (b ∷ run is_name_byte text)) false))
 outer before begun b text Open is behind =
     let P : ℕ → Type 0 = λ n. Outer before begun (n ∷ text) in
-    subst P (sym (class-is_open b (plain b text Open is (λ e. cc)).class_is)) (outer_open before begun text (behind zero 1 no_name false) (λ skip. behind skip zero no_name false))
+    subst P (sym (role-is_open b (plain b text Open is (λ e. cc)).role_is)) (outer_open before begun text (behind zero 1 no_name false) (λ skip. behind skip zero no_name false))
 outer before begun b text Close is behind =
-    record { pieces = nothing; stop = stray_close text; outside = tt; stops = tt; whole = ap (λ n. n ∷ text) (class-is_close b (plain b text Close is (λ e. cc)).class_is) }
+    record { pieces = nothing; stop = stray_close text; outside = tt; stops = tt; whole = ap (λ n. n ∷ text) (role-is_close b (plain b text Close is (λ e. cc)).role_is) }
 outer before begun b text Period is behind =
-    record { pieces = nothing; stop = bad_subject text; outside = tt; stops = tt; whole = ap (λ n. n ∷ text) (class-is_period b (plain b text Period is (λ e. cc)).class_is) }
+    record { pieces = nothing; stop = bad_subject text; outside = tt; stops = tt; whole = ap (λ n. n ∷ text) (role-is_period b (plain b text Period is (λ e. cc)).role_is) }
 outer before begun b text Other is behind = outer_other before begun b text is
 
-inner : (depth : ℕ) (before : Before) (begun : Bool) (b : ℕ) (text : List ℕ) (class : Class) → class_here b text ≡ class → Behind text → At (suc depth) before begun (b ∷ text)
-inner depth before begun b text Gap is behind = inner_gap (At depth no_name false) b text (plain b text Gap is (λ e. cc)).class_is (behind zero (suc depth) no_name false)
+inner : (depth : ℕ) (before : Before) (begun : Bool) (b : ℕ) (text : List ℕ) (role : ByteRole) → role_here b text ≡ role → Behind text → At (suc depth) before begun (b ∷ text)
+inner depth before begun b text Gap is behind = inner_gap (At depth no_name false) b text (plain b text Gap is (λ e. cc)).role_is (behind zero (suc depth) no_name false)
 inner depth before begun b text Comment is behind =
     let at = comment_at b text is in
     inner_comment (At depth no_name false) b text at (λ skip. behind skip (suc depth) no_name false) (comment_cut at.rest)
 inner depth before begun b text Name is behind = inner_value (At depth no_name false) b text (ap belongs_to_value is) (behind zero (suc depth) no_name false)
 inner depth before begun b text Open is behind =
     let P : ℕ → Type 0 = λ n. At (suc depth) no_name false (n ∷ text) in
-    subst P (sym (class-is_open b (plain b text Open is (λ e. cc)).class_is)) (inner_open depth text (behind zero (suc (suc depth)) no_name false))
+    subst P (sym (role-is_open b (plain b text Open is (λ e. cc)).role_is)) (inner_open depth text (behind zero (suc (suc depth)) no_name false))
 inner depth before begun b text Close is behind =
-    inl (record { pieces = nothing; rest = text; inside = tt; whole = ap (λ n. n ∷ text) (class-is_close b (plain b text Close is (λ e. cc)).class_is); behind = behind zero depth no_name false })
+    inl (record { pieces = nothing; rest = text; inside = tt; whole = ap (λ n. n ∷ text) (role-is_close b (plain b text Close is (λ e. cc)).role_is); behind = behind zero depth no_name false })
 inner depth before begun b text Period is behind = inner_value (At depth no_name false) b text (ap belongs_to_value is) (behind zero (suc depth) no_name false)
 inner depth before begun b text Other is behind = inner_value (At depth no_name false) b text (ap belongs_to_value is) (behind zero (suc depth) no_name false)
 
@@ -369,5 +369,5 @@ pub decomposed : (skip depth : ℕ) (before : Before) (begun : Bool) (text : Lis
 decomposed zero depth before begun [] = at_end depth before begun
 decomposed (suc skip) depth before begun [] = at_end depth before begun
 decomposed (suc skip) depth before begun (b ∷ text) = decomposed skip depth before begun text
-decomposed zero zero before begun (b ∷ text) = outer before begun b text (class_here b text) refl (λ skip depth before begun. decomposed skip depth before begun text)
-decomposed zero (suc depth) before begun (b ∷ text) = inner depth before begun b text (class_here b text) refl (λ skip depth before begun. decomposed skip depth before begun text)
+decomposed zero zero before begun (b ∷ text) = outer before begun b text (role_here b text) refl (λ skip depth before begun. decomposed skip depth before begun text)
+decomposed zero (suc depth) before begun (b ∷ text) = inner depth before begun b text (role_here b text) refl (λ skip depth before begun. decomposed skip depth before begun text)

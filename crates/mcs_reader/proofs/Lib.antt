@@ -2,7 +2,7 @@ pub mod IdFacts
 pub mod Comments
 pub mod Raws
 pub mod ScanSteps
-pub mod Classes
+pub mod RoleFacts
 pub mod ScanPieces
 pub mod Decompose
 pub mod Runs

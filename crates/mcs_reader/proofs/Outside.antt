@@ -1,15 +1,15 @@
--- What the machine does outside lists, at a place of each class.
+-- What the machine does outside lists, at a place of each role.
 use Rattle.std.proofs.Common.{◌≡◌, ◌≢◌, ℕ, zero, suc, ◌-◌, ◌==◌, ◌<◌, inl, inr, Bool, true, false, List, [], ◌∷◌, length, drop, Option, Some, None, unwrap_or, Result, Ok, Err, IsErr, refl, sym, ◌∙◌, ap, subst}
 use Rattle.mcs_reader.specs.Byte.{is_name_byte}
-use Rattle.mcs_reader.specs.Comment.{class_here}
-use Rattle.mcs_reader.specs.declared.byte.Class.{Class}
-use Rattle.mcs_reader.specs.declared.byte.Class.TheVariants.{Gap, Comment, Name, Open, Close, Period, Other}
+use Rattle.mcs_reader.specs.Comment.{role_here}
+use Rattle.mcs_reader.specs.declared.byte.ByteRole.{ByteRole}
+use Rattle.mcs_reader.specs.declared.byte.ByteRole.TheVariants.{Gap, Comment, Name, Open, Close, Period, Other}
 use Rattle.mcs_reader.specs.declared.fault.McsFault.TheVariants.{NoPeriod, Unbalanced, BadByte}
 use Rattle.mcs_reader.specs.Pieces.{Before, no_name, a_name, name_comment, before_behind}
-use Rattle.mcs_reader.specs.Place.{class_at}
+use Rattle.mcs_reader.specs.Place.{role_at}
 use Rattle.mcs_reader.specs.Run.{run, behind_run}
 use Rattle.mcs_reader.specs.Scan.{pass, scan, Found, Outcome, on_found, with_name, with_list, with_list_behind, with_operands, stray, behind_comment, behind_raw, past}
-use Rattle.mcs_reader.proofs.Classes.{class-is_name, class-is_open}
+use Rattle.mcs_reader.proofs.RoleFacts.{role-is_name, role-is_open}
 use Rattle.mcs_reader.proofs.Comments.{plain}
 use Rattle.mcs_reader.proofs.Raws.{RawAt, raw_cut, behind_raw-ends, behind_raw-open}
 use Rattle.mcs_reader.proofs.Runs.{run-append-behind_run, begins_with-behind_run, is_word-run}
@@ -40,24 +40,24 @@ unnamed line skip begun [] = ap (on_found without_values) (pass-end line skip be
 unnamed line (suc skip) begun (b ∷ text) =
     let step = skip-step line skip zero no_name begun b text in
     ap (on_found without_values) step ∙ unnamed line skip begun text ∙ sym step
-unnamed line zero begun (b ∷ text) = by_class (class_here b text) refl (λ skip begun. unnamed line skip begun text) where
+unnamed line zero begun (b ∷ text) = by_role (role_here b text) refl (λ skip begun. unnamed line skip begun text) where
   from : (r : Outcome) → scan line zero no_name begun (b ∷ text) ≡ r → on_found without_values r ≡ r → on_found without_values (scan line zero no_name begun (b ∷ text)) ≡ scan line zero no_name begun (b ∷ text)
   from r is same = ap (on_found without_values) is ∙ same ∙ sym is
 
-  by_class : (class : Class) → class_here b text ≡ class → ((skip : ℕ) (begun : Bool) → on_found without_values (pass line skip zero no_name begun text) ≡ pass line skip zero no_name begun text)
+  by_role : (role : ByteRole) → role_here b text ≡ role → ((skip : ℕ) (begun : Bool) → on_found without_values (pass line skip zero no_name begun text) ≡ pass line skip zero no_name begun text)
       → on_found without_values (scan line zero no_name begun (b ∷ text)) ≡ scan line zero no_name begun (b ∷ text)
-  by_class Gap is behind = from (scan line zero no_name (b == 10) text) (scan-gap line no_name begun b text is) (behind zero (b == 10))
-  by_class Comment is behind =
+  by_role Gap is behind = from (scan line zero no_name (b == 10) text) (scan-gap line no_name begun b text is) (behind zero (b == 10))
+  by_role Comment is behind =
       let o = behind_comment (drop 1 text) in
       let next : ℕ → Outcome = λ skip. pass line skip zero no_name false text in
       from (past line text o next) (scan-comment_step line no_name begun b text is) (without-past line text o next (λ skip. behind skip false))
-  by_class Name is behind =
+  by_role Name is behind =
       let r = pass line (length (run is_name_byte text)) zero (before_behind (run is_name_byte (b ∷ text))) false text in
       from (on_found (with_name (run is_name_byte (b ∷ text))) r) (scan-name_step line no_name begun b text is) (without-name (run is_name_byte (b ∷ text)) r)
-  by_class Open is behind = from (Err (BadByte line)) (scan-open line no_name begun b text is) refl
-  by_class Close is behind = from (Err (Unbalanced line)) (scan-close line no_name begun b text is) refl
-  by_class Period is behind = from (Ok (record { values = None; operands = []; rest = text })) (scan-period line no_name begun b text is) refl
-  by_class Other is behind = from (Err (stray line begun (b ∷ text))) (scan-other line no_name begun b text is) refl
+  by_role Open is behind = from (Err (BadByte line)) (scan-open line no_name begun b text is) refl
+  by_role Close is behind = from (Err (Unbalanced line)) (scan-close line no_name begun b text is) refl
+  by_role Period is behind = from (Ok (record { values = None; operands = []; rest = text })) (scan-period line no_name begun b text is) refl
+  by_role Other is behind = from (Err (stray line begun (b ∷ text))) (scan-other line no_name begun b text is) refl
 
 pub no_list_unnamed : (line : ℕ) (begun : Bool) (text : List ℕ) → on_found without_values (scan line zero no_name begun text) ≡ scan line zero no_name begun text
 no_list_unnamed line begun text = unnamed line zero begun text
@@ -78,26 +78,26 @@ operand_found name list values r h is =
 
 -- places outside lists
 
-pub outside_open : (line : ℕ) (before : Before) (text : List ℕ) → before ≡ a_name → class_at text ≡ Some Open → scan line zero before false text ≡ scan line 1 no_name false (drop 1 text)
+pub outside_open : (line : ℕ) (before : Before) (text : List ℕ) → before ≡ a_name → role_at text ≡ Some Open → scan line zero before false text ≡ scan line 1 no_name false (drop 1 text)
 outside_open line before text named h =
     let at = here text Open (sym h) in
     ap (λ n. scan line zero n false text) named
     ∙ ap (scan line zero a_name false) at.whole
-    ∙ scan-open line a_name false at.byte at.rest at.class_is
+    ∙ scan-open line a_name false at.byte at.rest at.role_is
     ∙ ap (λ t. scan line 1 no_name false (drop 1 t)) (sym at.whole)
 
 -- a list of COMMENT
 
-open_byte : (b : ℕ) (text : List ℕ) → class_here b text ≡ Open → b ≡ 40
-open_byte b text is = class-is_open b (plain b text Open is (λ e. cc)).class_is
+open_byte : (b : ℕ) (text : List ℕ) → role_here b text ≡ Open → b ≡ 40
+open_byte b text is = role-is_open b (plain b text Open is (λ e. cc)).role_is
 
-pub outside_raw : (line : ℕ) (before : Before) (text rest : List ℕ) → before ≡ name_comment → class_at text ≡ Some Open → behind_raw zero (drop 1 text) ≡ Ok rest
+pub outside_raw : (line : ℕ) (before : Before) (text rest : List ℕ) → before ≡ name_comment → role_at text ≡ Some Open → behind_raw zero (drop 1 text) ≡ Ok rest
     → scan line zero before false text ≡ on_found (with_list []) (scan line zero no_name false rest)
 outside_raw line before text rest named h behind =
     let at = here text Open (sym h) in
     let behind_is : behind_raw zero at.rest ≡ Ok rest = ap (λ t. behind_raw zero (drop 1 t)) (sym at.whole) ∙ behind in
     ap (λ n. scan line zero n false text) named
-    ∙ ap (scan line zero name_comment false) (at.whole ∙ ap (λ n. n ∷ at.rest) (open_byte at.byte at.rest at.class_is))
+    ∙ ap (scan line zero name_comment false) (at.whole ∙ ap (λ n. n ∷ at.rest) (open_byte at.byte at.rest at.role_is))
     ∙ by_cut at.rest behind_is (raw_cut 1 at.rest)
   where
     by_cut : (more : List ℕ) → behind_raw zero more ≡ Ok rest → RawAt 1 more → scan line zero name_comment false (40 ∷ more) ≡ on_found (with_list []) (scan line zero no_name false rest)
@@ -112,13 +112,13 @@ not_ok : (r : Result (List ℕ) ℕ) (rest : List ℕ) → IsErr r → r ≡ Ok 
 not_ok (Ok found) rest err e = cc
 not_ok (Err depth) rest err e = cc
 
-pub outside_open_raw : (line : ℕ) (before : Before) (text : List ℕ) → before ≡ name_comment → class_at text ≡ Some Open → IsErr (behind_raw zero (drop 1 text))
+pub outside_open_raw : (line : ℕ) (before : Before) (text : List ℕ) → before ≡ name_comment → role_at text ≡ Some Open → IsErr (behind_raw zero (drop 1 text))
     → scan line zero before false text ≡ Err (Unbalanced line)
 outside_open_raw line before text named h never =
     let at = here text Open (sym h) in
     let P : List ℕ → Type 0 = λ t. IsErr (behind_raw zero (drop 1 t)) in
     ap (λ n. scan line zero n false text) named
-    ∙ ap (scan line zero name_comment false) (at.whole ∙ ap (λ n. n ∷ at.rest) (open_byte at.byte at.rest at.class_is))
+    ∙ ap (scan line zero name_comment false) (at.whole ∙ ap (λ n. n ∷ at.rest) (open_byte at.byte at.rest at.role_is))
     ∙ by_cut at.rest (subst P at.whole never) (raw_cut 1 at.rest)
   where
     by_cut : (more : List ℕ) → IsErr (behind_raw zero more) → RawAt 1 more → scan line zero name_comment false (40 ∷ more) ≡ Err (Unbalanced line)
@@ -127,7 +127,7 @@ outside_open_raw line before text named h never =
 
 -- where no list follows a name, the name makes no difference
 
-unnamed_same : (line : ℕ) (before : Before) (b : ℕ) (text : List ℕ) (class : Class) → class_here b text ≡ class → class ≢ Gap → class ≢ Comment → class ≢ Open
+unnamed_same : (line : ℕ) (before : Before) (b : ℕ) (text : List ℕ) (role : ByteRole) → role_here b text ≡ role → role ≢ Gap → role ≢ Comment → role ≢ Open
     → scan line zero before false (b ∷ text) ≡ scan line zero no_name false (b ∷ text)
 unfolding pass
 unnamed_same line before b text Gap is no_gap no_comment no_open = absurd (no_gap refl)
@@ -138,11 +138,11 @@ unnamed_same line before b text Close is no_gap no_comment no_open = rw (is, pas
 unnamed_same line before b text Period is no_gap no_comment no_open = rw (is, pass) refl
 unnamed_same line before b text Other is no_gap no_comment no_open = rw (is, pass) refl
 
-pub outside_no_list : (line : ℕ) (before : Before) (text : List ℕ) (class : Class) → class_at text ≡ Some class → class ≢ Gap → class ≢ Comment → class ≢ Open
+pub outside_no_list : (line : ℕ) (before : Before) (text : List ℕ) (role : ByteRole) → role_at text ≡ Some role → role ≢ Gap → role ≢ Comment → role ≢ Open
     → scan line zero before false text ≡ scan line zero no_name false text
-outside_no_list line before text class h no_gap no_comment no_open =
-    let at = here text class (sym h) in
-    ap (scan line zero before false) at.whole ∙ unnamed_same line before at.byte at.rest class at.class_is no_gap no_comment no_open ∙ ap (scan line zero no_name false) (sym at.whole)
+outside_no_list line before text role h no_gap no_comment no_open =
+    let at = here text role (sym h) in
+    ap (scan line zero before false) at.whole ∙ unnamed_same line before at.byte at.rest role at.role_is no_gap no_comment no_open ∙ ap (scan line zero no_name false) (sym at.whole)
 
 name_first : (line : ℕ) (before : Before) (b : ℕ) (text : List ℕ) → is_name_byte b ≡ true
     → scan line zero before false (b ∷ text)
@@ -151,31 +151,31 @@ name_first line before b text name =
     ap (scan line zero before false) (sym (run-append-behind_run is_name_byte (b ∷ text)))
     ∙ scan-word line before false (run is_name_byte (b ∷ text)) (behind_run is_name_byte (b ∷ text)) (is_word-run is_name_byte b text name) (begins_with-behind_run is_name_byte (b ∷ text))
 
-pub outside_name : (line : ℕ) (before : Before) (text : List ℕ) → class_at text ≡ Some Name
+pub outside_name : (line : ℕ) (before : Before) (text : List ℕ) → role_at text ≡ Some Name
     → (scan line zero before false text ≡ on_found (with_name (run is_name_byte text)) (scan line zero (before_behind (run is_name_byte text)) false (behind_run is_name_byte text)))
     × (length (behind_run is_name_byte text) < length text)
 outside_name line before text h =
     let at = here text Name (sym h) in
-    let name : is_name_byte at.byte ≡ true = class-is_name at.byte (plain at.byte at.rest Name at.class_is (λ e. cc)).class_is in
+    let name : is_name_byte at.byte ≡ true = role-is_name at.byte (plain at.byte at.rest Name at.role_is (λ e. cc)).role_is in
     let P : List ℕ → Type 0 = λ t.
     (scan line zero before false t ≡ on_found (with_name (run is_name_byte t)) (scan line zero (before_behind (run is_name_byte t)) false (behind_run is_name_byte t)))
     × (length (behind_run is_name_byte t) < length t) in
     let found : P (at.byte ∷ at.rest) = (name_first line before at.byte at.rest name, shorter_behind_run is_name_byte at.byte at.rest name) in
     subst P (sym at.whole) found
 
-pub outside_period : (line : ℕ) (before : Before) (text : List ℕ) → class_at text ≡ Some Period → scan line zero before false text ≡ Ok (record { values = None; operands = []; rest = drop 1 text })
+pub outside_period : (line : ℕ) (before : Before) (text : List ℕ) → role_at text ≡ Some Period → scan line zero before false text ≡ Ok (record { values = None; operands = []; rest = drop 1 text })
 outside_period line before text h =
     let at = here text Period (sym h) in
     ap (scan line zero before false) at.whole
-    ∙ scan-period line before false at.byte at.rest at.class_is
+    ∙ scan-period line before false at.byte at.rest at.role_is
     ∙ ap (λ t. Ok (record { values = None; operands = []; rest = drop 1 t })) (sym at.whole)
 
-pub outside_close : (line : ℕ) (before : Before) (text : List ℕ) → class_at text ≡ Some Close → scan line zero before false text ≡ Err (Unbalanced line)
+pub outside_close : (line : ℕ) (before : Before) (text : List ℕ) → role_at text ≡ Some Close → scan line zero before false text ≡ Err (Unbalanced line)
 outside_close line before text h =
     let at = here text Close (sym h) in
-    ap (scan line zero before false) at.whole ∙ scan-close line before false at.byte at.rest at.class_is
+    ap (scan line zero before false) at.whole ∙ scan-close line before false at.byte at.rest at.role_is
 
-no_operand : (line : ℕ) (b : ℕ) (text : List ℕ) (class : Class) → class_here b text ≡ class → class ≢ Gap → class ≢ Comment → class ≢ Name → class ≢ Close → class ≢ Period
+no_operand : (line : ℕ) (b : ℕ) (text : List ℕ) (role : ByteRole) → role_here b text ≡ role → role ≢ Gap → role ≢ Comment → role ≢ Name → role ≢ Close → role ≢ Period
     → scan line zero no_name false (b ∷ text) ≡ Err (BadByte line)
 no_operand line b text Gap is no_gap no_comment not_named no_close no_period = absurd (no_gap refl)
 no_operand line b text Comment is no_gap no_comment not_named no_close no_period = absurd (no_comment refl)
@@ -185,8 +185,8 @@ no_operand line b text Close is no_gap no_comment not_named no_close no_period =
 no_operand line b text Period is no_gap no_comment not_named no_close no_period = absurd (no_period refl)
 no_operand line b text Other is no_gap no_comment not_named no_close no_period = scan-other line no_name false b text is
 
-pub outside_else : (line : ℕ) (text : List ℕ) (class : Class) → class_at text ≡ Some class → class ≢ Gap → class ≢ Comment → class ≢ Name → class ≢ Close → class ≢ Period
+pub outside_else : (line : ℕ) (text : List ℕ) (role : ByteRole) → role_at text ≡ Some role → role ≢ Gap → role ≢ Comment → role ≢ Name → role ≢ Close → role ≢ Period
     → scan line zero no_name false text ≡ Err (BadByte line)
-outside_else line text class h no_gap no_comment not_named no_close no_period =
-    let at = here text class (sym h) in
-    ap (scan line zero no_name false) at.whole ∙ no_operand line at.byte at.rest class at.class_is no_gap no_comment not_named no_close no_period
+outside_else line text role h no_gap no_comment not_named no_close no_period =
+    let at = here text role (sym h) in
+    ap (scan line zero no_name false) at.whole ∙ no_operand line at.byte at.rest role at.role_is no_gap no_comment not_named no_close no_period

@@ -109,7 +109,7 @@ begins_value-line b [] text = refl
 begins_value-line b (c ∷ line) text = refl
 
 no_value_at_end : (text : List ℕ) → begins_value (line_end ∷ text) ≡ false
-unfolding Rattle.mcs_reader.specs.Byte.class_of
+unfolding Rattle.mcs_reader.specs.Byte.role_of
 no_value_at_end text = refl
 
 pub value_run-line : (line text : List ℕ) → value_run (line ++ line_end ∷ text) ≡ value_run line

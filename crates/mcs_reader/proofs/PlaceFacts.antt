@@ -4,7 +4,7 @@ use Rattle.std.specs.List.{list_all, prefix_len}
 use Rattle.mcs_reader.specs.Byte.{is_blank, is_name_byte, line_end}
 use Rattle.mcs_reader.specs.Line.{line_ends, begins_statement}
 use Rattle.mcs_reader.specs.Pieces.{is_value_byte}
-use Rattle.mcs_reader.specs.Place.{Place, IsBehind, name_behind, text_behind, verb_at}
+use Rattle.mcs_reader.specs.Place.{Place, HasRoom, IsBehind, name_behind, text_behind, verb_at}
 use Rattle.mcs_reader.specs.Run.{run, behind_run}
 use Rattle.mcs_reader.specs.Segment.{IsLine}
 use Rattle.mcs_reader.specs.Verb.{verb_named}
@@ -43,7 +43,7 @@ behind_run-line test (b ∷ line) text stops = by_test (test b) (behind_run-line
   by_test false e = refl
 
 pub no_value_at_end : is_value_byte line_end ≡ false
-unfolding Rattle.mcs_reader.specs.Byte.class_of
+unfolding Rattle.mcs_reader.specs.Byte.role_of
 no_value_at_end = refl
 
 -- lines passed and line ends ahead
@@ -94,6 +94,18 @@ pub IsBehind-card : (line_number : ℕ) (line front rest text : List ℕ) (befor
 IsBehind-card line_number line front rest text before is whole at =
     let P : Place → Type 0 = λ place. IsBehind (record { text = rest ++ line_end ∷ text; line = line_number }) place in
     subst P at (IsBehind-rest line_number line front rest text is whole)
+
+-- ---- room
+
+pub HasRoom-after : (now before : Place) → IsBehind now before → HasRoom before → HasRoom now
+HasRoom-after now before behind room = record { lines = rw (behind.lines) room.lines; depth = omega (arith, behind.text, room.depth) }
+
+-- the same within a line
+pub HasRoom-rest : (line_number : ℕ) (line front rest text : List ℕ) → IsLine line → line ≡ front ++ rest
+    → HasRoom (record { text = line ++ line_end ∷ text; line = line_number }) → HasRoom (record { text = rest ++ line_end ∷ text; line = line_number })
+HasRoom-rest line_number line front rest text is whole room =
+    HasRoom-after (record { text = rest ++ line_end ∷ text; line = line_number }) (record { text = line ++ line_end ∷ text; line = line_number })
+    (IsBehind-rest line_number line front rest text is whole) room
 
 -- heads
 

@@ -3,7 +3,7 @@ use Rattle.std.proofs.Common.{◌≡◌, ℕ, zero, suc, ◌==◌, ◌&&◌, Boo
 use Rattle.std.specs.List.{list_all}
 use Rattle.mcs_reader.specs.Byte.{is_name_byte, belongs_to_value}
 use Rattle.mcs_reader.specs.Comment.{begins_comment, somewhere, IsCommentText}
-use Rattle.mcs_reader.specs.declared.byte.Class.TheVariants.{Gap, Name, Other}
+use Rattle.mcs_reader.specs.declared.byte.ByteRole.TheVariants.{Gap, Name, Other}
 use Rattle.mcs_reader.specs.Pieces.{Before, no_name, a_name, name_comment, before_behind, Pieces, nothing, gap, comment, word, list, raw_list, spell, begins_word, is_word, is_value_byte, IsInside, IsOutside, ends_with, ends_line, values, list_behind, operands}
 use Rattle.mcs_reader.specs.Raw.{Raw, spell_raw, IsRaw, spell_raw_open, AllRaw}
 use Rattle.mcs_reader.specs.Run.{run, begins_value, value_run}
@@ -13,7 +13,7 @@ use Rattle.mcs_reader.specs.declared.fault.McsFault.{McsFault}
 use Rattle.mcs_reader.specs.declared.fault.McsFault.TheVariants.{NoPeriod, Unbalanced, BadByte}
 use Rattle.mcs_reader.specs.Scan.{pass, scan, Outcome, on_found, with_name, with_values, with_list, closing, past, past_raw}
 use Rattle.mcs_reader.proofs.ScanSteps.{pass-front, passed, scan-gap, scan-comment_step, scan-name_step, scan-open, scan-close, scan-period, scan-other, scan-end, scan-inside-end, scan-inside-gap, scan-inside-comment_step, scan-inside-open, scan-inside-close, scan-inside-value_step}
-use Rattle.mcs_reader.proofs.Classes.{both, class_of-name, not_name, first_of_word, class_of-40, class_of-41, class_of-43, class_of-46}
+use Rattle.mcs_reader.proofs.RoleFacts.{both, role_of-name, not_name, first_of_word, role_of-40, role_of-41, role_of-43, role_of-46}
 use Rattle.mcs_reader.proofs.Comments.{here_of, plain, value_run_is, behind_comment-ends, behind_comment-open}
 use Rattle.mcs_reader.proofs.Raws.{behind_raw-ends, behind_raw-open}
 use Rattle.mcs_reader.proofs.Runs.{run_is, and_parts}
@@ -72,7 +72,7 @@ scan-word line before begun (b ∷ w) text is ends =
     let all = all_of_word is_name_byte (b ∷ w) is in
     let whole : run is_name_byte (b ∷ (w ++ text)) ≡ b ∷ w = run_is is_name_byte (b ∷ w) text all ends in
     let more : run is_name_byte (w ++ text) ≡ w = run_is is_name_byte w text (and_parts (is_name_byte b) (list_all is_name_byte w) all).1 ends in
-    scan-name_step line before begun b (w ++ text) (here_of b (w ++ text) Name (class_of-name b (first_of_word is_name_byte b w is)) (λ e. cc))
+    scan-name_step line before begun b (w ++ text) (here_of b (w ++ text) Name (role_of-name b (first_of_word is_name_byte b w is)) (λ e. cc))
     ∙ ap (λ v. on_found (with_name v) (pass line (length (run is_name_byte (w ++ text))) zero (before_behind v) false (w ++ text))) whole
     ∙ ap (λ v. on_found (with_name (b ∷ w)) (pass line (length v) zero (before_behind (b ∷ w)) false (w ++ text))) more
     ∙ ap (on_found (with_name (b ∷ w))) (pass-front line zero (before_behind (b ∷ w)) false w text)
@@ -114,14 +114,14 @@ pub scan-raw_list : (line : ℕ) (begun : Bool) (raw : Raw) (rest : List ℕ) �
     scan line zero name_comment begun (40 ∷ (spell_raw raw ++ 41 ∷ rest)) ≡ on_found (with_list []) (scan line zero no_name false rest)
 scan-raw_list line begun raw rest is =
     let text : List ℕ = spell_raw raw ++ 41 ∷ rest in
-    scan-open line name_comment begun 40 text class_of-40
+    scan-open line name_comment begun 40 text role_of-40
     ∙ ap (λ o. past_raw line text o (λ skip. pass line skip zero no_name false text)) (behind_raw-ends raw rest is)
     ∙ ap (on_found (with_list [])) (passed line zero no_name text (spell_raw raw ++ 41 ∷ []) rest (sym (append_assoc (spell_raw raw) (41 ∷ []) rest)))
 
 pub scan-open_raw : (line : ℕ) (begun : Bool) (raw : Raw) (deeper : List Raw) → IsRaw raw → AllRaw deeper → scan line zero name_comment begun (40 ∷ spell_raw_open raw deeper) ≡ Err (Unbalanced line)
 scan-open_raw line begun raw deeper is all =
     let text : List ℕ = spell_raw_open raw deeper in
-    scan-open line name_comment begun 40 text class_of-40
+    scan-open line name_comment begun 40 text role_of-40
     ∙ ap (λ o. past_raw line text o (λ skip. pass line skip zero no_name false text)) (behind_raw-open zero raw deeper is all).1
 
 -- no word goes on behind pieces
@@ -131,7 +131,7 @@ behind_inside nothing text is none ends = ends
 behind_inside (gap b rest) text is none ends = ap belongs_to_value (here_of b (spell rest ++ text) Gap is.0 (λ e. cc))
 behind_inside (comment body rest) text is none ends = refl
 behind_inside (word w rest) text is none ends = absurd (cc)
-behind_inside (list inside rest) text is none ends = ap belongs_to_value class_of-40
+behind_inside (list inside rest) text is none ends = ap belongs_to_value role_of-40
 behind_inside (raw_list raw rest) text is none ends = absurd is
 
 pub behind_outside : (before : Before) (rest : Pieces) (text : List ℕ) → IsOutside before rest → begins_word rest ≡ false → begins_name text ≡ false → begins_name (spell rest ++ text) ≡ false
@@ -147,7 +147,7 @@ behind_outside before (raw_list raw rest) text is none ends = refl
 pub scan-list : (line depth : ℕ) (pieces : Pieces) (text : List ℕ) → IsInside pieces →
     scan line (suc depth) no_name false (spell pieces ++ 41 ∷ text) ≡ on_found (with_values (values pieces)) (closing depth (scan line depth no_name false text))
 scan-list line depth nothing text is =
-    scan-inside-close line depth 41 text class_of-41
+    scan-inside-close line depth 41 text role_of-41
     ∙ sym (on_found-no_values (closing depth (scan line depth no_name false text)))
 scan-list line depth (gap b rest) text is =
     scan-inside-gap line depth b (spell rest ++ 41 ∷ text) (here_of b (spell rest ++ 41 ∷ text) Gap is.0 (λ e. cc)) ∙ scan-list line depth rest text is.1
@@ -157,12 +157,12 @@ scan-list line depth (comment body rest) text is =
     ∙ scan-list line depth rest text is.1
 scan-list line depth (word w rest) text is =
     ap (scan line (suc depth) no_name false) (append_assoc w (spell rest) (41 ∷ text))
-    ∙ scan-value line depth w (spell rest ++ 41 ∷ text) is.0 is.1 (behind_inside rest (41 ∷ text) is.3 is.2 (ap belongs_to_value class_of-41))
+    ∙ scan-value line depth w (spell rest ++ 41 ∷ text) is.0 is.1 (behind_inside rest (41 ∷ text) is.3 is.2 (ap belongs_to_value role_of-41))
     ∙ ap (on_found (with_values (w ∷ []))) (scan-list line depth rest text is.3)
     ∙ on_found-values (w ∷ []) (values rest) (closing depth (scan line depth no_name false text))
 scan-list line depth (list inside rest) text is =
     ap (λ t. scan line (suc depth) no_name false (40 ∷ t)) (append_assoc (spell inside) (41 ∷ spell rest) (41 ∷ text))
-    ∙ scan-inside-open line depth 40 (spell inside ++ 41 ∷ (spell rest ++ 41 ∷ text)) class_of-40
+    ∙ scan-inside-open line depth 40 (spell inside ++ 41 ∷ (spell rest ++ 41 ∷ text)) role_of-40
     ∙ scan-list line (suc depth) inside (spell rest ++ 41 ∷ text) is.0
     ∙ ap (on_found (with_values (values inside))) (scan-list line depth rest text is.1)
     ∙ on_found-values (values inside) (values rest) (closing depth (scan line depth no_name false text))
@@ -184,7 +184,7 @@ scan-inside-fault line depth (word w rest) text fault is ends there =
     ∙ ap (on_found (with_values (w ∷ []))) (scan-inside-fault line depth rest text fault is.3 ends there)
 scan-inside-fault line depth (list inside rest) text fault is ends there =
     ap (λ t. scan line (suc depth) no_name false (40 ∷ t)) (append_assoc (spell inside) (41 ∷ spell rest) text)
-    ∙ scan-inside-open line depth 40 (spell inside ++ 41 ∷ (spell rest ++ text)) class_of-40
+    ∙ scan-inside-open line depth 40 (spell inside ++ 41 ∷ (spell rest ++ text)) role_of-40
     ∙ scan-list line (suc depth) inside (spell rest ++ text) is.0
     ∙ ap (on_found (with_values (values inside))) (scan-inside-fault line depth rest text fault is.1 ends there)
 scan-inside-fault line depth (raw_list raw rest) text fault is ends there = absurd is
@@ -203,14 +203,14 @@ pub scan-unclosed : (line depth : ℕ) (pieces : Pieces) (deeper : List Pieces) 
 scan-unclosed line depth pieces [] end is all ends =
     scan-inside-fault line depth pieces (spell_end end) (Unbalanced line) is (no_value_at_end end) (end_of_list line depth end ends)
 scan-unclosed line depth pieces (inner ∷ more) end is all ends =
-    scan-inside-fault line depth pieces (40 ∷ spell_open inner more end) (Unbalanced line) is (ap belongs_to_value class_of-40)
-    (scan-inside-open line depth 40 (spell_open inner more end) class_of-40 ∙ scan-unclosed line (suc depth) inner more end all.0 all.1 ends)
+    scan-inside-fault line depth pieces (40 ∷ spell_open inner more end) (Unbalanced line) is (ap belongs_to_value role_of-40)
+    (scan-inside-open line depth 40 (spell_open inner more end) role_of-40 ∙ scan-unclosed line (suc depth) inner more end all.0 all.1 ends)
 
 -- the pieces of a statement, up to its period
 
 pub scan-statement : (line : ℕ) (before : Before) (begun : Bool) (pieces : Pieces) (text : List ℕ) → IsOutside before pieces →
     scan line zero before begun (spell pieces ++ 46 ∷ text) ≡ Ok (record { values = list_behind pieces; operands = operands pieces; rest = text })
-scan-statement line before begun nothing text is = scan-period line before begun 46 text class_of-46
+scan-statement line before begun nothing text is = scan-period line before begun 46 text role_of-46
 scan-statement line before begun (gap b rest) text is =
     scan-gap line before begun b (spell rest ++ 46 ∷ text) (here_of b (spell rest ++ 46 ∷ text) Gap is.0 (λ e. cc)) ∙ scan-statement line before (b == 10) rest text is.1
 scan-statement line before begun (comment body rest) text is =
@@ -224,7 +224,7 @@ scan-statement line before begun (word w rest) text is =
 scan-statement line before begun (list inside rest) text is =
     ap (λ t. scan line zero before begun (40 ∷ t)) (append_assoc (spell inside) (41 ∷ spell rest) (46 ∷ text))
     ∙ ap (λ n. scan line zero n begun (40 ∷ (spell inside ++ 41 ∷ (spell rest ++ 46 ∷ text)))) is.0
-    ∙ scan-open line a_name begun 40 (spell inside ++ 41 ∷ (spell rest ++ 46 ∷ text)) class_of-40
+    ∙ scan-open line a_name begun 40 (spell inside ++ 41 ∷ (spell rest ++ 46 ∷ text)) role_of-40
     ∙ scan-list line zero inside (spell rest ++ 46 ∷ text) is.1
     ∙ ap (λ r. on_found (with_values (values inside)) (on_found (with_list []) r)) (scan-statement line no_name false rest text is.2)
     ∙ ap (λ vs. Ok (record { values = Some vs; operands = operands rest; rest = text })) (append-nil (values inside))
@@ -251,7 +251,7 @@ scan-fault line before begun (word w rest) text fault is ends there =
 scan-fault line before begun (list inside rest) text fault is ends there =
     ap (λ t. scan line zero before begun (40 ∷ t)) (append_assoc (spell inside) (41 ∷ spell rest) text)
     ∙ ap (λ n. scan line zero n begun (40 ∷ (spell inside ++ 41 ∷ (spell rest ++ text)))) is.0
-    ∙ scan-open line a_name begun 40 (spell inside ++ 41 ∷ (spell rest ++ text)) class_of-40
+    ∙ scan-open line a_name begun 40 (spell inside ++ 41 ∷ (spell rest ++ text)) role_of-40
     ∙ scan-list line zero inside (spell rest ++ text) is.1
     ∙ ap (λ r. on_found (with_values (values inside)) (on_found (with_list []) r)) (scan-fault line no_name false rest text fault is.2 ends there)
 scan-fault line before begun (raw_list raw rest) text fault is ends there =
@@ -266,7 +266,7 @@ pub no_name_behind : (before : Before) (begun : Bool) (stop : Stop) → IsStop b
 no_name_behind before begun text_ends is = refl
 no_name_behind before begun (statement_begins text) is = refl
 no_name_behind before begun (stray_close text) is = refl
-no_name_behind before begun (stray_byte b text) is = not_name b Other (plain b text Other is.0 (λ e. cc)).class_is (λ e. cc)
+no_name_behind before begun (stray_byte b text) is = not_name b Other (plain b text Other is.0 (λ e. cc)).role_is (λ e. cc)
 no_name_behind before begun (nameless_list text) is = refl
 no_name_behind before begun (open_comment body) is = refl
 no_name_behind before begun (open_list pieces deeper end) is = refl
@@ -281,18 +281,18 @@ IsFlaw _ = Unit {0}
 pub scan-stop : (line : ℕ) (before : Before) (begun : Bool) (stop : Stop) → IsStop before begun stop → IsFlaw stop → scan line zero before begun (spell_stop stop) ≡ Err (fault_of stop line)
 scan-stop line before begun text_ends is flaw = scan-end line before begun
 scan-stop line before begun (statement_begins text) is flaw =
-    scan-other line before begun 43 (43 ∷ text) class_of-43
+    scan-other line before begun 43 (43 ∷ text) role_of-43
     ∙ ap (λ t. Err (cond (t && true) (NoPeriod line) (BadByte line))) is
-scan-stop line before begun (stray_close text) is flaw = scan-close line before begun 41 text class_of-41
+scan-stop line before begun (stray_close text) is flaw = scan-close line before begun 41 text role_of-41
 scan-stop line before begun (stray_byte b text) is flaw =
     scan-other line before begun b text is.0
     ∙ ap (λ t. Err (cond t (NoPeriod line) (BadByte line))) is.1
 scan-stop line before begun (nameless_list text) is flaw =
-    ap (λ n. scan line zero n begun (40 ∷ text)) is ∙ scan-open line no_name begun 40 text class_of-40
+    ap (λ n. scan line zero n begun (40 ∷ text)) is ∙ scan-open line no_name begun 40 text role_of-40
 scan-stop line before begun (open_comment body) is flaw = scan-open_comment line before begun body is
 scan-stop line before begun (open_list pieces deeper end) is flaw =
     ap (λ n. scan line zero n begun (40 ∷ spell_open pieces deeper end)) is.0
-    ∙ scan-open line a_name begun 40 (spell_open pieces deeper end) class_of-40
+    ∙ scan-open line a_name begun 40 (spell_open pieces deeper end) role_of-40
     ∙ scan-unclosed line zero pieces deeper end is.1 is.2 is.3
 scan-stop line before begun (open_raw raw deeper) is flaw =
     ap (λ n. scan line zero n begun (40 ∷ spell_raw_open raw deeper)) is.0 ∙ scan-open_raw line begun raw deeper is.1 is.2

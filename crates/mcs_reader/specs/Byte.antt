@@ -1,7 +1,7 @@
 -- What each byte may do in a statement (SMP/E Reference, "MCS coding rules").
 use Rattle.std.specs.Prelude.{ℕ, Bool, true, false, ◌==◌, ◌||◌, ◌&&◌, nat_le, if◌then◌else◌}
-use Rattle.mcs_reader.specs.declared.byte.Class.{Class}
-use Rattle.mcs_reader.specs.declared.byte.Class.TheVariants.{Gap, Comment, Name, Open, Close, Period, Other}
+use Rattle.mcs_reader.specs.declared.byte.ByteRole.{ByteRole}
+use Rattle.mcs_reader.specs.declared.byte.ByteRole.TheVariants.{Gap, Comment, Name, Open, Close, Period, Other}
 
 -- LF, which ends a line
 abbrev pub line_end : ℕ
@@ -23,8 +23,8 @@ abbrev pub is_name_byte : ℕ → Bool
 is_name_byte b = is_letter b || (nat_le 48 b && nat_le b 57) || b == 64 || b == 35 || b == 36
 
 -- by itself no byte begins a comment (see Comment)
-unfoldable pub class_of : ℕ → Class
-class_of b =
+unfoldable pub role_of : ℕ → ByteRole
+role_of b =
     if is_gap b then Gap
     else if is_name_byte b then Name
     else if b == 40 then Open
@@ -33,7 +33,7 @@ class_of b =
     else Other
 
 -- in a list, whatever is no gap and no parenthesis belongs to a value
-abbrev pub belongs_to_value : Class → Bool
+abbrev pub belongs_to_value : ByteRole → Bool
 belongs_to_value Gap = false
 belongs_to_value Comment = false
 belongs_to_value Open = false

@@ -1,8 +1,8 @@
 -- Comments: /* to the next */, also over lines (SMP/E Reference, "MCS coding rules").
 use Rattle.std.specs.Prelude.{◌≡◌, ℕ, Bool, true, false, ◌==◌, List, [], ◌∷◌, if◌then◌else◌}
-use Rattle.mcs_reader.specs.Byte.{class_of}
-use Rattle.mcs_reader.specs.declared.byte.Class.{Class}
-use Rattle.mcs_reader.specs.declared.byte.Class.TheVariants.{Comment}
+use Rattle.mcs_reader.specs.Byte.{role_of}
+use Rattle.mcs_reader.specs.declared.byte.ByteRole.{ByteRole}
+use Rattle.mcs_reader.specs.declared.byte.ByteRole.TheVariants.{Comment}
 
 -- the text begins with this byte
 abbrev pub next_is : ℕ → List ℕ → Bool
@@ -29,5 +29,5 @@ abbrev pub IsCommentText : List ℕ → Type 0
 IsCommentText body = somewhere ends_comment body ≡ false
 
 -- what a byte does where this text follows it: only so is it seen that a comment begins
-abbrev pub class_here : ℕ → List ℕ → Class
-class_here b text = if begins_comment (b ∷ text) then Comment else class_of b
+abbrev pub role_here : ℕ → List ℕ → ByteRole
+role_here b text = if begins_comment (b ∷ text) then Comment else role_of b

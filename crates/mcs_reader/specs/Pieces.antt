@@ -1,10 +1,10 @@
 -- What stands in a statement behind its verb, and in a list: pieces, nested where lists are.
 use Rattle.std.specs.Prelude.{◌≡◌, ℕ, Bool, true, false, ◌==◌, List, [], ◌∷◌, ◌++◌, Option, Some, None, unwrap_or, codes, IsTrue, if◌then◌else◌}
 use Rattle.std.specs.Str.{str_eq_ignore_ascii_case}
-use Rattle.mcs_reader.specs.Byte.{class_of, belongs_to_value, is_name_byte, line_end}
+use Rattle.mcs_reader.specs.Byte.{role_of, belongs_to_value, is_name_byte, line_end}
 use Rattle.mcs_reader.specs.Comment.{begins_comment, somewhere, IsCommentText}
 use Rattle.mcs_reader.specs.Raw.{Raw, spell_raw, IsRaw}
-use Rattle.mcs_reader.specs.declared.byte.Class.TheVariants.{Gap}
+use Rattle.mcs_reader.specs.declared.byte.ByteRole.TheVariants.{Gap}
 use Rattle.mcs_reader.specs.OperandText.{OperandText}
 
 -- Nothing; or a gap byte, a comment, a word, a list in its parentheses, or the list of an operand
@@ -41,13 +41,13 @@ is_word test (b ∷ []) = test b
 is_word test (b ∷ c ∷ w) = if test b then is_word test (c ∷ w) else false
 
 abbrev pub is_value_byte : ℕ → Bool
-is_value_byte b = belongs_to_value (class_of b)
+is_value_byte b = belongs_to_value (role_of b)
 
 -- The pieces of a list: values, which go as far as they can, and lists, with gaps and comments between.
 -- No comment begins in a value.
 abbrev pub IsInside : Pieces → Type 0
 IsInside nothing = Unit {0}
-IsInside (gap b rest) = (class_of b ≡ Gap) × IsInside rest
+IsInside (gap b rest) = (role_of b ≡ Gap) × IsInside rest
 IsInside (comment body rest) = IsCommentText body × IsInside rest
 IsInside (word w rest) = IsTrue (is_word is_value_byte w) × (somewhere begins_comment w ≡ false) × (begins_word rest ≡ false) × IsInside rest
 IsInside (list inside rest) = IsInside inside × IsInside rest
@@ -72,7 +72,7 @@ before_behind name = if is_comment_name name then name_comment else a_name
 -- pieces.
 abbrev pub IsOutside : Before → Pieces → Type 0
 IsOutside before nothing = Unit {0}
-IsOutside before (gap b rest) = (class_of b ≡ Gap) × IsOutside before rest
+IsOutside before (gap b rest) = (role_of b ≡ Gap) × IsOutside before rest
 IsOutside before (comment body rest) = IsCommentText body × IsOutside before rest
 IsOutside before (word w rest) = IsTrue (is_word is_name_byte w) × (begins_word rest ≡ false) × IsOutside (before_behind w) rest
 IsOutside before (list inside rest) = (before ≡ a_name) × IsInside inside × IsOutside no_name rest

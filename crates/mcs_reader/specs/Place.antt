@@ -1,10 +1,10 @@
 -- No part of what is promised: the place where the reader stands in the text, of which private contracts
 -- speak.
-use Rattle.std.specs.Prelude.{◌≡◌, ℕ, ◌+◌, ◌≤◌, ◌==◌, List, [], ◌∷◌, length, drop, Option, Some, None, option_map, if◌then◌else◌}
+use Rattle.std.specs.Prelude.{◌≡◌, ℕ, ◌+◌, ◌^◌, ◌<◌, ◌≤◌, ◌==◌, List, [], ◌∷◌, length, drop, Option, Some, None, option_map, if◌then◌else◌}
 use Rattle.mcs_reader.specs.Byte.{is_blank, is_name_byte, line_end}
-use Rattle.mcs_reader.specs.Comment.{class_here}
+use Rattle.mcs_reader.specs.Comment.{role_here}
 use Rattle.mcs_reader.specs.Run.{run, behind_run}
-use Rattle.mcs_reader.specs.declared.byte.Class.{Class}
+use Rattle.mcs_reader.specs.declared.byte.ByteRole.{ByteRole}
 use Rattle.mcs_reader.specs.Line.{line_ends, begins_statement}
 use Rattle.mcs_reader.specs.Verb.{verb_named}
 use Rattle.mcs_reader.specs.declared.statement.Verb.{Verb}
@@ -14,6 +14,11 @@ pub record Place : Type 0 where
   pub text : List ℕ
   pub line : ℕ
 
+-- line numbers and counts of parentheses stay in range up to the text's end
+pub record HasRoom (place : Place) : Type 0 where
+  pub lines : place.line + line_ends place.text < 2 ^ 32
+  pub depth : length place.text < 2 ^ 63
+
 -- one place stands behind another, or is it: the lines passed and the line ends ahead keep their sum
 pub record IsBehind (now before : Place) : Type 0 where
   pub text : length now.text ≤ length before.text
@@ -21,9 +26,9 @@ pub record IsBehind (now before : Place) : Type 0 where
   pub passed : before.line ≤ now.line
 
 -- what the first byte does, within its line
-abbrev pub class_at : List ℕ → Option Class
-class_at [] = None
-class_at (b ∷ text) = if b == line_end then None else Some (class_here b text)
+abbrev pub role_at : List ℕ → Option ByteRole
+role_at [] = None
+role_at (b ∷ text) = if b == line_end then None else Some (role_here b text)
 
 -- what stands behind the first line
 abbrev pub after_line : List ℕ → List ℕ

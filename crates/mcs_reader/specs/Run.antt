@@ -1,7 +1,7 @@
 -- No part of what is promised: the longest run of bytes from a place on, and what stands behind it.
 use Rattle.std.specs.Prelude.{ℕ, Bool, false, List, [], ◌∷◌, if◌then◌else◌}
 use Rattle.mcs_reader.specs.Byte.{belongs_to_value}
-use Rattle.mcs_reader.specs.Comment.{class_here}
+use Rattle.mcs_reader.specs.Comment.{role_here}
 
 -- of bytes of a kind
 abbrev pub run : (ℕ → Bool) → List ℕ → List ℕ
@@ -15,7 +15,7 @@ behind_run test (b ∷ text) = if test b then behind_run test text else b ∷ te
 -- a value goes on here: no comment begins
 abbrev pub begins_value : List ℕ → Bool
 begins_value [] = false
-begins_value (b ∷ text) = belongs_to_value (class_here b text)
+begins_value (b ∷ text) = belongs_to_value (role_here b text)
 
 -- of bytes of a value
 abbrev pub value_run : List ℕ → List ℕ

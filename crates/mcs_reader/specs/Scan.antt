@@ -3,8 +3,8 @@
 -- shows that it does what Pieces and Stop say.
 use Rattle.std.specs.Prelude.{ℕ, zero, suc, ◌-◌, ◌==◌, ◌&&◌, Bool, false, if◌then◌else◌, List, [], ◌∷◌, ◌++◌, length, drop, Option, Some, None, Result, Ok, Err, option_map, unwrap_or}
 use Rattle.mcs_reader.specs.Byte.{is_name_byte, line_end}
-use Rattle.mcs_reader.specs.Comment.{class_here, ends_comment}
-use Rattle.mcs_reader.specs.declared.byte.Class.TheVariants.{Gap, Comment, Name, Open, Close, Period, Other}
+use Rattle.mcs_reader.specs.Comment.{role_here, ends_comment}
+use Rattle.mcs_reader.specs.declared.byte.ByteRole.TheVariants.{Gap, Comment, Name, Open, Close, Period, Other}
 use Rattle.mcs_reader.specs.Line.{begins_statement}
 use Rattle.mcs_reader.specs.Pieces.{Before, no_name, a_name, name_comment, before_behind}
 use Rattle.mcs_reader.specs.Run.{run, value_run}
@@ -88,7 +88,7 @@ unfoldable pub pass : ℕ → ℕ → ℕ → Before → Bool → List ℕ → O
 pass line skip zero before begun [] = Err (NoPeriod line)
 pass line skip (suc depth) before begun [] = Err (Unbalanced line)
 pass line (suc skip) depth before begun (b ∷ text) = pass line skip depth before begun text
-pass line zero zero before begun (b ∷ text) = elim (class_here b text) [
+pass line zero zero before begun (b ∷ text) = elim (role_here b text) [
   | Gap ↦ pass line zero zero before (b == line_end) text
   | Comment ↦ past line text (behind_comment (drop 1 text)) (λ skip. pass line skip zero before false text)
   | Name ↦ on_found (with_name (run is_name_byte (b ∷ text))) (pass line (length (run is_name_byte text)) zero (before_behind (run is_name_byte (b ∷ text))) false text)
@@ -97,7 +97,7 @@ pass line zero zero before begun (b ∷ text) = elim (class_here b text) [
   | Period ↦ Ok (record { values = None; operands = []; rest = text })
   | Other ↦ Err (stray line begun (b ∷ text))
 ]
-pass line zero (suc depth) before begun (b ∷ text) = elim (class_here b text) [
+pass line zero (suc depth) before begun (b ∷ text) = elim (role_here b text) [
   | Gap ↦ pass line zero (suc depth) no_name false text
   | Comment ↦ past line text (behind_comment (drop 1 text)) (λ skip. pass line skip (suc depth) no_name false text)
   | Open ↦ pass line zero (suc (suc depth)) no_name false text

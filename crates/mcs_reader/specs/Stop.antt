@@ -1,7 +1,7 @@
 -- What stops a statement that has no reading, and which fault that is.
 use Rattle.std.specs.Prelude.{◌≡◌, ℕ, Bool, false, ◌&&◌, List, [], ◌∷◌, ◌++◌, Option, Some, None, IsTrue}
-use Rattle.mcs_reader.specs.declared.byte.Class.TheVariants.{Other}
-use Rattle.mcs_reader.specs.Comment.{class_here, IsCommentText}
+use Rattle.mcs_reader.specs.declared.byte.ByteRole.TheVariants.{Other}
+use Rattle.mcs_reader.specs.Comment.{role_here, IsCommentText}
 use Rattle.mcs_reader.specs.Line.{begins_statement}
 use Rattle.mcs_reader.specs.Pieces.{Before, no_name, a_name, name_comment, Pieces, spell, IsInside, ends_with, ends_line}
 use Rattle.mcs_reader.specs.Raw.{Raw, spell_raw_open, IsRaw, AllRaw}
@@ -61,7 +61,7 @@ abbrev pub IsStop : Before → Bool → Stop → Type 0
 IsStop before begun text_ends = Unit {0}
 IsStop before begun (statement_begins text) = IsTrue begun
 IsStop before begun (stray_close text) = Unit {0}
-IsStop before begun (stray_byte b text) = (class_here b text ≡ Other) × ((begun && begins_statement (b ∷ text)) ≡ false)
+IsStop before begun (stray_byte b text) = (role_here b text ≡ Other) × ((begun && begins_statement (b ∷ text)) ≡ false)
 IsStop before begun (nameless_list text) = before ≡ no_name
 IsStop before begun (open_comment body) = IsCommentText body
 IsStop before begun (open_list pieces deeper end) = (before ≡ a_name) × IsInside pieces × AllInside deeper × IsEnd end

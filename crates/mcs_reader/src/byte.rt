@@ -1,11 +1,11 @@
 //! What each byte may do in a statement.
 ghost use Rattle.std.specs.Prelude.{◌≡◌};
-ghost use Rattle.mcs_reader.specs.Byte.{class_of as class_of_byte, is_blank, is_gap, is_name_byte, belongs_to_value};
+ghost use Rattle.mcs_reader.specs.Byte.{role_of as role_of_byte, is_blank, is_gap, is_name_byte, belongs_to_value};
 ghost use Rattle.mcs_reader.specs.Pieces.{is_value_byte};
 
 /// What a byte does in a statement (SMP/E Reference, "MCS coding rules").
 #[derive(Clone, Copy, Debug, PartialEq, Eq)]
-pub(crate) enum Class {
+pub(crate) enum ByteRole {
     /// A blank, a tab, a comma or a line's end: it stands between names, values and lists.
     Gap,
     /// `/` and `*`, with which a comment begins.
@@ -24,17 +24,17 @@ pub(crate) enum Class {
 
 /// What a byte does where no comment begins.
 #[inline]
-#[tactic(auto, unfolding(crate::specs::Byte::class_of))]
-pub(crate) fn class_of(b: u8) -> Class
-    ensures { result ≡ class_of_byte b }
+#[tactic(auto, unfolding(crate::specs::Byte::role_of))]
+pub(crate) fn role_of(b: u8) -> ByteRole
+    ensures { result ≡ role_of_byte b }
 {
     match b {
-        b' ' | b'\t' | b',' | b'\n' => Class::Gap,
-        b'A'..=b'Z' | b'a'..=b'z' | b'0'..=b'9' | b'@' | b'#' | b'$' => Class::Name,
-        b'(' => Class::Open,
-        b')' => Class::Close,
-        b'.' => Class::Period,
-        _ => Class::Other,
+        b' ' | b'\t' | b',' | b'\n' => ByteRole::Gap,
+        b'A'..=b'Z' | b'a'..=b'z' | b'0'..=b'9' | b'@' | b'#' | b'$' => ByteRole::Name,
+        b'(' => ByteRole::Open,
+        b')' => ByteRole::Close,
+        b'.' => ByteRole::Period,
+        _ => ByteRole::Other,
     }
 }
 
@@ -60,7 +60,7 @@ fn stands_between(b: u8) -> bool
 }
 
 #[inline]
-#[tactic(auto, using(crate::proofs::Classes::value_byte_by_exclusion))]
+#[tactic(auto, using(crate::proofs::RoleFacts::value_byte_by_exclusion))]
 pub(crate) fn stands_in_value(b: u8) -> bool
     ensures { result ≡ is_value_byte b }
 {

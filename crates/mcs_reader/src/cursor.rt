@@ -3,16 +3,16 @@ ghost use Rattle.std.specs.Prelude.{◌≡◌, ◌+◌, ◌^◌, ◌<◌, ◌≤
 ghost use Rattle.std.specs.Bool.{OnTrue, OnFalse};
 ghost use Rattle.std.specs.List.{prefix_len};
 ghost use Rattle.mcs_reader.specs.Byte.{is_blank, is_name_byte, line_end};
-ghost use Rattle.mcs_reader.specs.Line.{begins_statement as begins_statement_at, line_ends, text_of};
+ghost use Rattle.mcs_reader.specs.Line.{begins_statement as begins_statement_at, text_of};
 ghost use Rattle.mcs_reader.specs.Comment.{next_is};
-ghost use Rattle.mcs_reader.specs.Place.{IsBehind, after_line, class_at, verb_at};
+ghost use Rattle.mcs_reader.specs.Place.{HasRoom, IsBehind, after_line, role_at, verb_at};
 ghost use Rattle.mcs_reader.specs.Run.{begins_value, behind_run, behind_value, run, value_run};
 ghost use Rattle.mcs_reader.specs.Scan.{behind_comment, behind_raw};
 ghost use Rattle.mcs_reader.specs.Segment.{IsLine};
 ghost use Rattle.mcs_reader.specs.Verb.{verb_named};
 
 use crate::Verb;
-use crate::byte::{Class, class_of, is_blank_byte, stands_in_name, stands_in_value};
+use crate::byte::{ByteRole, is_blank_byte, role_of, stands_in_name, stands_in_value};
 use crate::line::{columns, split_line};
 use std::marker::Model;
 
@@ -31,19 +31,23 @@ impl<'a> Model for Cursor<'a> {
     ghost use Rattle.std.specs.Prelude.{◌∷◌, ◌++◌};
     ghost use Rattle.mcs_reader.specs.Byte.{line_end};
     ghost use Rattle.mcs_reader.specs.Line.{text_of};
-    ghost use Rattle.mcs_reader.specs.Place.{Place};
+    ghost use Rattle.mcs_reader.specs.Place.{HasRoom, Place};
     ghost use Rattle.mcs_reader.specs.Segment.{IsLine};
 
     ghost Value = { Place };
 
     ghost view = { λ c. record { text = c.card.now ++ line_end ∷ text_of c.behind.now; line = c.line } };
 
-    ghost invariant = { λ c. IsLine c.card.now };
+    ghost invariant = { λ c. record {
+      one_line : IsLine c.card.now;
+      room : HasRoom (record { text = c.card.now ++ line_end ∷ text_of c.behind.now; line = c.line });
+    } };
 }
 
 impl<'a> Cursor<'a> {
     /// Before the first line.
     pub(crate) fn new(source: &'a [u8]) -> Self
+        requires room { HasRoom (record { text = line_end ∷ text_of source.now; line = 0 }) }
         ensures text { result.text ≡ line_end ∷ text_of source.now }
         ensures line { result.line ≡ 0 }
     {
@@ -75,7 +79,6 @@ impl<'a> Cursor<'a> {
     /// Goes to the beginning of the next line, if there is one.
     #[inline]
     pub(crate) fn next_line(&mut self) -> bool
-        requires room { self.old.line + line_ends self.old.text < 2 ^ 32 }
         ensures text { OnTrue result (self.new.text ≡ after_line self.old.text) }
         ensures line { OnTrue result (self.new.line ≡ self.old.line + 1) }
         ensures more { OnTrue result (0 < length self.new.text) }
@@ -93,19 +96,20 @@ impl<'a> Cursor<'a> {
         true
     }
 
-    /// The class of the next byte, or `None` at the line's end.
+    /// The role of the next byte, or `None` at the line's end.
     #[inline]
-    pub(crate) fn class(&self) -> Option<Class>
-        ensures { result ≡ class_at self.now.text }
+    pub(crate) fn role(&self) -> Option<ByteRole>
+        ensures { result ≡ role_at self.now.text }
     {
-        class_in(self.card)
+        role_in(self.card)
     }
 
     /// Passes the next byte.
     #[inline]
     pub(crate) fn advance(&mut self)
-        requires { IsSome (class_at self.old.text) }
+        requires { IsSome (role_at self.old.text) }
         ensures text { self.new.text ≡ drop 1 self.old.text }
+        ensures depth_room { length self.new.text < 2 ^ 63 }
         ensures behind { IsBehind self.new self.old }
     {
         let (_, rest) = self.card.split_at(1);
@@ -251,15 +255,15 @@ fn split_value(card: &[u8]) -> (&[u8], &[u8])
 
 /// What the first byte of a line's rest does.
 #[inline]
-fn class_in(card: &[u8]) -> Option<Class>
+fn role_in(card: &[u8]) -> Option<ByteRole>
     requires { IsLine card.now }
-    ensures { result ≡ class_at card.now }
+    ensures { result ≡ role_at card.now }
 {
     let (first, rest) = card.split_first()?;
     if *first == b'/' && begins_with(rest, b'*') {
-        return Some(Class::Comment);
+        return Some(ByteRole::Comment);
     }
-    Some(class_of(*first))
+    Some(role_of(*first))
 }
 
 #[inline]

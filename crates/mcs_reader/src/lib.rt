@@ -15,7 +15,7 @@ mod line;
 mod list;
 mod operand;
 mod passing;
-mod room;
+mod scratch;
 mod source;
 mod statement;
 mod statements;

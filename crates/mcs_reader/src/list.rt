@@ -1,13 +1,12 @@
 //! The lists of a statement: values between matching parentheses, at any depth.
 ghost use Rattle.std.specs.Prelude.{◌≡◌, ◌≢◌, ◌+◌, ◌^◌, ◌<◌, ◌≤◌, [], ◌∷◌, false, Err, Some, None, IfOk, IfErr, MatchOption, length, option_map};
-ghost use Rattle.mcs_reader.specs.Line.{line_ends};
 ghost use Rattle.mcs_reader.specs.Pieces.{no_name};
 ghost use Rattle.mcs_reader.specs.Place.{IsBehind};
 ghost use Rattle.mcs_reader.specs.Scan.{on_found, scan, with_list, with_values};
 ghost use Rattle.mcs_reader.specs.Lists.{GivesValue, HasSoleValue};
 ghost use Rattle.mcs_reader.specs.declared.fault.McsFault.TheVariants.{Memory};
 
-use crate::byte::Class;
+use crate::byte::ByteRole;
 use crate::cursor::Cursor;
 use crate::passing::pass_comment;
 use crate::{McsFault, Values};
@@ -22,7 +21,6 @@ pub(crate) fn next_value<'a>(
 ) -> Result<Option<&'a [u8]>, McsFault>
     requires open { 0 < depth.old }
     requires depth_room { depth.old + length cursor.old.text < 2 ^ 64 }
-    requires line_room { cursor.old.line + line_ends cursor.old.text < 2 ^ 32 }
 
     ensures ok { IfOk result (λ next. MatchOption next
         (scan line depth.old no_name false cursor.old.text ≡ on_found (with_list []) (scan line 0 no_name false cursor.new.text))
@@ -31,20 +29,20 @@ pub(crate) fn next_value<'a>(
     ensures behind { IsBehind cursor.new cursor.old }
 {
     'bytes: loop {
-        let Some(class) = cursor.class() else {
+        let Some(role) = cursor.role() else {
             if cursor.next_line() {
                 continue;
             }
             return Err(McsFault::Unbalanced(line));
         };
-        match class {
-            Class::Gap => cursor.advance(),
-            Class::Comment => pass_comment(cursor, line)?,
-            Class::Open => {
+        match role {
+            ByteRole::Gap => cursor.advance(),
+            ByteRole::Comment => pass_comment(cursor, line)?,
+            ByteRole::Open => {
                 cursor.advance();
                 *depth += 1;
             }
-            Class::Close => {
+            ByteRole::Close => {
                 cursor.advance();
                 *depth -= 1;
                 if *depth == 0 {
@@ -59,22 +57,21 @@ pub(crate) fn next_value<'a>(
 /// The values of the list whose opening parenthesis was passed, up to the one that closes it.
 pub(crate) fn values<'a>(
     cursor: &mut Cursor<'a>,
-    room: &mut Vec<&'a [u8]>,
+    scratch: &mut Vec<&'a [u8]>,
     line: u32,
 ) -> Result<Values<'a>, McsFault>
     requires depth_room { length cursor.old.text < 2 ^ 63 }
-    requires line_room { cursor.old.line + line_ends cursor.old.text < 2 ^ 32 }
 
     ensures ok { IfOk result (λ values. scan line 1 no_name false cursor.old.text ≡ on_found (with_list values) (scan line 0 no_name false cursor.new.text)) }
     ensures err { IfErr result (λ fault. fault ≢ Memory → scan line 1 no_name false cursor.old.text ≡ Err fault) }
     ensures behind { IsBehind cursor.new cursor.old }
 {
-    room.clear();
+    scratch.clear();
     let mut depth = 1;
     'values: while let Some(value) = next_value(cursor, &mut depth, line)? {
-        room.push(value)?;
+        scratch.push(value)?;
     }
-    Ok(Values::gathered(room)?)
+    Ok(Values::take_gathered(scratch)?)
 }
 
 /// The value of the list whose opening parenthesis was passed, where it has just one.
@@ -83,7 +80,6 @@ pub(crate) fn sole_value<'a>(
     line: u32,
 ) -> Result<Option<&'a [u8]>, McsFault>
     requires depth_room { length cursor.old.text < 2 ^ 63 }
-    requires line_room { cursor.old.line + line_ends cursor.old.text < 2 ^ 32 }
 
     ensures ok { IfOk result (λ value. HasSoleValue line cursor.old.text (option_map (λ v. v.now) value) cursor.new.text) }
     ensures err { IfErr result (λ fault. scan line 1 no_name false cursor.old.text ≡ Err fault) }

@@ -1,44 +1,41 @@
 //! The operands of a statement: names, each with the list that may follow it.
-ghost use Rattle.std.specs.Prelude.{◌≡◌, ◌≢◌, ◌+◌, ◌^◌, ◌<◌, [], ◌∷◌, ℕ, List, false, Ok, Err, Some, None, IfOk, IfErr, OnOk, length, option_map};
-ghost use Rattle.mcs_reader.specs.Line.{line_ends};
+ghost use Rattle.std.specs.Prelude.{◌≡◌, ◌≢◌, ◌<◌, [], ◌∷◌, ℕ, List, false, Ok, Err, Some, None, IfOk, IfErr, OnOk, length, option_map};
 ghost use Rattle.mcs_reader.specs.Lists.{HasSubject};
 ghost use Rattle.mcs_reader.specs.Operand.{operand_text};
 ghost use Rattle.mcs_reader.specs.Pieces.{Before, a_name, before_behind, is_comment_name, no_name};
-ghost use Rattle.mcs_reader.specs.Place.{IsBehind, class_at};
+ghost use Rattle.mcs_reader.specs.Place.{IsBehind, role_at};
 ghost use Rattle.mcs_reader.specs.Scan.{on_found, scan, with_list_behind, with_operands};
 ghost use Rattle.mcs_reader.specs.StatementText.{sole, subject_by as subject_by_list};
-ghost use Rattle.mcs_reader.specs.declared.byte.Class.TheVariants.{Gap, Comment, Name};
+ghost use Rattle.mcs_reader.specs.declared.byte.ByteRole.TheVariants.{Gap, Comment, Name};
 ghost use Rattle.mcs_reader.specs.declared.fault.McsFault.TheVariants.{Memory};
 
-use crate::byte::Class;
+use crate::byte::ByteRole;
 use crate::cursor::Cursor;
 use crate::list::{sole_value, values};
 use crate::passing::{pass_comment, pass_raw_list};
-use crate::room::{Room, taken};
+use crate::scratch::{Scratch, take_gathered};
 use crate::{Id, McsFault, Operand, Operands, Values, Verb};
 
-/// Goes to the next byte behind gaps and comments, and gives its class.
-fn skip_gap(cursor: &mut Cursor<'_>, line: u32) -> Result<Class, McsFault>
-    requires line_room { cursor.old.line + line_ends cursor.old.text < 2 ^ 32 }
-
-    ensures class { IfOk result (λ class. class_at cursor.new.text ≡ Some class) }
-    ensures no_gap { IfOk result (λ class. class ≢ Gap) }
-    ensures no_comment { IfOk result (λ class. class ≢ Comment) }
+/// Goes to the next byte behind gaps and comments, and gives its role.
+fn skip_gap(cursor: &mut Cursor<'_>, line: u32) -> Result<ByteRole, McsFault>
+    ensures role { IfOk result (λ role. role_at cursor.new.text ≡ Some role) }
+    ensures no_gap { IfOk result (λ role. role ≢ Gap) }
+    ensures no_comment { IfOk result (λ role. role ≢ Comment) }
     ensures ok { OnOk result ((before : Before) → scan line 0 before false cursor.old.text ≡ scan line 0 before false cursor.new.text) }
     ensures err { IfErr result (λ fault. (before : Before) → scan line 0 before false cursor.old.text ≡ Err fault) }
     ensures behind { IsBehind cursor.new cursor.old }
 {
     'gap: loop {
-        let Some(class) = cursor.class() else {
+        let Some(role) = cursor.role() else {
             if !cursor.next_line() || cursor.begins_statement() {
                 return Err(McsFault::NoPeriod(line));
             }
             continue;
         };
-        match class {
-            Class::Gap => cursor.advance(),
-            Class::Comment => pass_comment(cursor, line)?,
-            _ => return Ok(class),
+        match role {
+            ByteRole::Gap => cursor.advance(),
+            ByteRole::Comment => pass_comment(cursor, line)?,
+            _ => return Ok(role),
         }
     }
 }
@@ -46,25 +43,22 @@ fn skip_gap(cursor: &mut Cursor<'_>, line: u32) -> Result<Class, McsFault>
 /// The list that follows a name, gaps and comments aside, if one does.
 fn list_behind<'a>(
     cursor: &mut Cursor<'a>,
-    room: &mut Vec<&'a [u8]>,
+    scratch: &mut Vec<&'a [u8]>,
     name: &[u8],
     line: u32,
 ) -> Result<Option<Values<'a>>, McsFault>
-    requires depth_room { length cursor.old.text < 2 ^ 63 }
-    requires line_room { cursor.old.line + line_ends cursor.old.text < 2 ^ 32 }
-
     ensures ok { IfOk result (λ list. scan line 0 (before_behind name.now) false cursor.old.text ≡ with_list_behind list (scan line 0 no_name false cursor.new.text)) }
     ensures err { IfErr result (λ fault. fault ≢ Memory → scan line 0 (before_behind name.now) false cursor.old.text ≡ Err fault) }
     ensures behind { IsBehind cursor.new cursor.old }
 {
     match skip_gap(cursor, line)? {
-        Class::Open => {
+        ByteRole::Open => {
             cursor.advance();
             if is_comment(name) {
                 pass_raw_list(cursor, line)?;
-                Ok(Some(Values::from_vec(Vec::new(*room.allocator()))))
+                Ok(Some(Values::from_vec(Vec::new(*scratch.allocator()))))
             } else {
-                Ok(Some(values(cursor, room, line)?))
+                Ok(Some(values(cursor, scratch, line)?))
             }
         }
         _ => Ok(None),
@@ -85,15 +79,12 @@ pub(crate) fn subject(
     verb: Verb,
     line: u32,
 ) -> Result<Option<Option<Id>>, McsFault>
-    requires depth_room { length cursor.old.text < 2 ^ 63 }
-    requires line_room { cursor.old.line + line_ends cursor.old.text < 2 ^ 32 }
-
     ensures ok { IfOk result (λ subject. HasSubject verb line cursor.old.text subject cursor.new.text) }
     ensures err { IfErr result (λ fault. scan line 0 a_name false cursor.old.text ≡ Err fault) }
     ensures behind { IsBehind cursor.new cursor.old }
 {
     match skip_gap(cursor, line)? {
-        Class::Open => {
+        ByteRole::Open => {
             cursor.advance();
             let value = sole_value(cursor, line)?;
             Ok(subject_by(verb, value))
@@ -117,12 +108,10 @@ fn subject_by(verb: Verb, value: Option<&[u8]>) -> Option<Option<Id>>
 /// The operand whose name begins here.
 fn operand<'a>(
     cursor: &mut Cursor<'a>,
-    room: &mut Vec<&'a [u8]>,
+    scratch: &mut Vec<&'a [u8]>,
     line: u32,
 ) -> Result<Operand<'a>, McsFault>
-    requires name { class_at cursor.old.text ≡ Some Name }
-    requires depth_room { length cursor.old.text < 2 ^ 63 }
-    requires line_room { cursor.old.line + line_ends cursor.old.text < 2 ^ 32 }
+    requires name { role_at cursor.old.text ≡ Some Name }
 
     ensures ok { IfOk result (λ operand. scan line 0 no_name false cursor.old.text
         ≡ on_found (with_operands (operand_text operand ∷ [])) (scan line 0 no_name false cursor.new.text)) }
@@ -131,9 +120,9 @@ fn operand<'a>(
     ensures behind { IsBehind cursor.new cursor.old }
 {
     let name = cursor.name();
-    let values = match list_behind(cursor, room, name, line)? {
+    let values = match list_behind(cursor, scratch, name, line)? {
         Some(values) => values,
-        None => Values::from_vec(Vec::new(*room.allocator())),
+        None => Values::from_vec(Vec::new(*scratch.allocator())),
     };
     Ok(Operand { name, values })
 }
@@ -141,29 +130,26 @@ fn operand<'a>(
 /// The operands up to the period, which is passed.
 pub(crate) fn operands<'a>(
     cursor: &mut Cursor<'a>,
-    room: &mut Room<'a>,
+    scratch: &mut Scratch<'a>,
     line: u32,
 ) -> Result<Operands<'a>, McsFault>
-    requires depth_room { length cursor.old.text < 2 ^ 63 }
-    requires line_room { cursor.old.line + line_ends cursor.old.text < 2 ^ 32 }
-
     ensures ok { IfOk result (λ operands. scan line 0 no_name false cursor.old.text
         ≡ Ok (record { values = None; operands = operands; rest = cursor.new.text })) }
     ensures err { IfErr result (λ fault. fault ≢ Memory → scan line 0 no_name false cursor.old.text ≡ Err fault) }
     ensures behind { IsBehind cursor.new cursor.old }
 {
-    room.operands.clear();
+    scratch.operands.clear();
     'names: loop {
         match skip_gap(cursor, line)? {
-            Class::Name => {
-                let operand = operand(cursor, &mut room.values, line)?;
-                room.operands.push(operand)?;
+            ByteRole::Name => {
+                let operand = operand(cursor, &mut scratch.values, line)?;
+                scratch.operands.push(operand)?;
             }
-            Class::Period => {
+            ByteRole::Period => {
                 cursor.advance();
-                return Ok(Operands::from_vec(taken(&mut room.operands)?));
+                return Ok(Operands::from_vec(take_gathered(&mut scratch.operands)?));
             }
-            Class::Close => return Err(McsFault::Unbalanced(line)),
+            ByteRole::Close => return Err(McsFault::Unbalanced(line)),
             _ => return Err(McsFault::BadByte(line)),
         }
     }

@@ -1,9 +1,8 @@
 //! What a statement passes over: comments, and the lists of operands COMMENT.
-ghost use Rattle.std.specs.Prelude.{◌≡◌, ◌+◌, ◌^◌, ◌<◌, Ok, Some, None, OnOk, IfErr, IsErr, length, drop};
-ghost use Rattle.mcs_reader.specs.Line.{line_ends};
-ghost use Rattle.mcs_reader.specs.Place.{IsBehind, class_at};
+ghost use Rattle.std.specs.Prelude.{◌≡◌, ◌^◌, ◌<◌, Ok, Some, None, OnOk, IfErr, IsErr, length, drop};
+ghost use Rattle.mcs_reader.specs.Place.{IsBehind, role_at};
 ghost use Rattle.mcs_reader.specs.Scan.{behind_comment, behind_raw};
-ghost use Rattle.mcs_reader.specs.declared.byte.Class.TheVariants.{Comment};
+ghost use Rattle.mcs_reader.specs.declared.byte.ByteRole.TheVariants.{Comment};
 ghost use Rattle.mcs_reader.specs.declared.fault.McsFault.TheVariants.{Unbalanced};
 
 use crate::McsFault;
@@ -11,8 +10,7 @@ use crate::cursor::Cursor;
 
 /// Goes behind the comment that begins here.
 pub(crate) fn pass_comment(cursor: &mut Cursor<'_>, line: u32) -> Result<(), McsFault>
-    requires begins { class_at cursor.old.text ≡ Some Comment }
-    requires line_room { cursor.old.line + line_ends cursor.old.text < 2 ^ 32 }
+    requires begins { role_at cursor.old.text ≡ Some Comment }
 
     ensures ok { OnOk result (behind_comment (drop 2 cursor.old.text) ≡ Some cursor.new.text) }
     ensures shorter { OnOk result (length cursor.new.text < length cursor.old.text) }
@@ -34,7 +32,6 @@ pub(crate) fn pass_comment(cursor: &mut Cursor<'_>, line: u32) -> Result<(), Mcs
 /// Goes behind the list of COMMENT whose opening parenthesis was passed. Only its parentheses count.
 pub(crate) fn pass_raw_list(cursor: &mut Cursor<'_>, line: u32) -> Result<(), McsFault>
     requires depth_room { length cursor.old.text < 2 ^ 63 }
-    requires line_room { cursor.old.line + line_ends cursor.old.text < 2 ^ 32 }
 
     ensures ok { OnOk result (behind_raw 0 cursor.old.text ≡ Ok cursor.new.text) }
     ensures err { IfErr result (λ fault. (fault ≡ Unbalanced line) × IsErr (behind_raw 0 cursor.old.text)) }

@@ -1,7 +1,7 @@
 ghost use Rattle.std.specs.Prelude.{◌≡◌, [], ◌∷◌, IfOk};
 ghost use Rattle.mcs_reader.specs.Bytes.{bytes_of_each};
 
-use crate::room::taken;
+use crate::scratch::take_gathered;
 use crate::{Id, NoMemory};
 use std::marker::Model;
 use std::slice;
@@ -87,15 +87,15 @@ impl<'a> Values<'a> {
     }
 
     /// The values that were gathered.
-    pub(crate) fn gathered(room: &mut Vec<&'a [u8]>) -> Result<Self, NoMemory>
-        ensures { IfOk result (λ values. values ≡ bytes_of_each room.old.items) }
+    pub(crate) fn take_gathered(scratch: &mut Vec<&'a [u8]>) -> Result<Self, NoMemory>
+        ensures { IfOk result (λ values. values ≡ bytes_of_each scratch.old.items) }
     {
-        if let [value] = room.as_slice() {
+        if let [value] = scratch.as_slice() {
             return Ok(Values {
                 held: Held::One(value),
             });
         }
-        Ok(Values::from_vec(taken(room)?))
+        Ok(Values::from_vec(take_gathered(scratch)?))
     }
 
     /// The values in order, as slices of the source.

@@ -1,6 +1,5 @@
 //! A source, statement by statement.
-ghost use Rattle.std.specs.Prelude.{◌≡◌, ◌≢◌, ◌+◌, ◌^◌, ◌<◌, false, [], Ok, Err, IfOk, IfErr, OnOk, OnErr, IsOk, MatchOption, length};
-ghost use Rattle.mcs_reader.specs.Line.{line_ends};
+ghost use Rattle.std.specs.Prelude.{◌≡◌, ◌≢◌, false, [], Ok, Err, IfOk, IfErr, OnOk, OnErr, IsOk, MatchOption, length};
 ghost use Rattle.mcs_reader.specs.Pieces.{a_name};
 ghost use Rattle.mcs_reader.specs.Place.{IsBehind};
 ghost use Rattle.mcs_reader.specs.ReadLines.{GivesNext, read_behind};
@@ -12,7 +11,7 @@ ghost use Rattle.mcs_reader.specs.declared.fault.McsFault.TheVariants.{Memory};
 
 use crate::cursor::Cursor;
 use crate::operand::{operands, subject};
-use crate::room::Room;
+use crate::scratch::Scratch;
 use crate::source::MOST_BYTES;
 use crate::{McsFault, Statement, Verb};
 use std::alloc::Global;
@@ -26,23 +25,17 @@ use std::marker::Model;
 #[derive(Drop)]
 pub struct Statements<'a> {
     cursor: Cursor<'a>,
-    room: Room<'a>,
+    scratch: Scratch<'a>,
 }
 
 impl<'a> Model for Statements<'a> {
-    ghost use Rattle.std.specs.Prelude.{◌+◌, ◌^◌, ◌<◌, length};
-    ghost use Rattle.mcs_reader.specs.Line.{line_ends};
+    ghost use Rattle.std.specs.Prelude.{length};
     ghost use Rattle.mcs_reader.specs.ReadLines.{read_behind};
     ghost use Rattle.mcs_reader.specs.Unread.{Unread};
 
     ghost Value = { Unread };
 
     ghost view = { λ s. record { reading = read_behind s.cursor; bytes = length s.cursor.text } };
-
-    ghost invariant = { λ s. record {
-      depth_room : length s.cursor.text < 2 ^ 63;
-      line_room : s.cursor.line + line_ends s.cursor.text < 2 ^ 32;
-    } };
 }
 
 impl<'a> Statements<'a> {
@@ -64,7 +57,7 @@ impl<'a> Statements<'a> {
         }
         Ok(Statements {
             cursor: Cursor::new(source),
-            room: Room::new(alloc),
+            scratch: Scratch::new(alloc),
         })
     }
 
@@ -83,7 +76,7 @@ impl<'a> Statements<'a> {
         ensures err { OnErr result (self.new ≡ self.old) }
     {
         let mut cursor = self.cursor.copy();
-        let next = next_statement(&mut cursor, &mut self.room)?;
+        let next = next_statement(&mut cursor, &mut self.scratch)?;
         if next.is_some() {
             self.cursor = cursor;
         }
@@ -108,11 +101,8 @@ impl<'a> Statements<'a> {
 /// The statement that begins on the next line that names a verb, if one does.
 fn next_statement<'a>(
     cursor: &mut Cursor<'a>,
-    room: &mut Room<'a>,
+    scratch: &mut Scratch<'a>,
 ) -> Result<Option<Statement<'a>>, McsFault>
-    requires depth_room { length cursor.old.text < 2 ^ 63 }
-    requires line_room { cursor.old.line + line_ends cursor.old.text < 2 ^ 32 }
-
     ensures ok { IfOk result (λ next. MatchOption next
         (read_behind cursor.old ≡ Ok [])
         (λ statement. GivesNext cursor.old statement cursor.new)) }
@@ -121,7 +111,7 @@ fn next_statement<'a>(
 {
     'lines: while cursor.next_line() {
         if let Some(verb) = cursor.verb() {
-            return Ok(Some(statement(cursor, room, verb)?));
+            return Ok(Some(statement(cursor, scratch, verb)?));
         }
     }
     Ok(None)
@@ -130,12 +120,9 @@ fn next_statement<'a>(
 /// The statement whose verb was passed, up to its period.
 fn statement<'a>(
     cursor: &mut Cursor<'a>,
-    room: &mut Room<'a>,
+    scratch: &mut Scratch<'a>,
     verb: Verb,
 ) -> Result<Statement<'a>, McsFault>
-    requires depth_room { length cursor.old.text < 2 ^ 63 }
-    requires line_room { cursor.old.line + line_ends cursor.old.text < 2 ^ 32 }
-
     ensures ok { IfOk result (λ statement. stated verb cursor.old.line (scan cursor.old.line 0 a_name false cursor.old.text)
         ≡ Ok (statement, cursor.new.text)) }
     ensures err { IfErr result (λ fault. fault ≢ Memory
@@ -144,7 +131,7 @@ fn statement<'a>(
 {
     let line = cursor.line();
     let subject = subject(cursor, verb, line)?;
-    let operands = operands(cursor, room, line)?;
+    let operands = operands(cursor, scratch, line)?;
     let Some(subject) = subject else {
         return Err(McsFault::BadVerbSubject(line));
     };

@@ -42,7 +42,7 @@ pub bytes-preserved-in-Open : goal.bytes-preserved-in-Open
 bytes-preserved-in-Open c =
     let loop = c.bytes in
     let now = c.advance-in-Open in
-    let less = shorter_at loop.cursor.text c.in-Some.class c.in-Some.ensures in
+    let less = shorter_at loop.cursor.text c.in-Some.role c.in-Some.ensures in
     let size = ap length now.ensures.text in
     record {
       found =
@@ -74,13 +74,13 @@ bytes-preserved c =
       behind = IsBehind-trans now.new.self loop.cursor c.args.cursor.now now.ensures.behind loop.invariant.behind;
     }
 
-pub returns-in_default-class-clause-ok : goal.returns-in_default-class-clause-ok
-returns-in_default-class-clause-ok c =
+pub returns-in_default-role-clause-ok : goal.returns-in_default-role-clause-ok
+returns-in_default-role-clause-ok c =
     let loop = c.bytes in
-    let here = c.in_default-class in
+    let here = c.in_default-role in
     let value =
-    inside_value c.args.line loop.depth loop.cursor.text c.in-Some.class loop.invariant.still_open c.in-Some.ensures
-    (else_value c.in-Some.class here.not-Gap here.not-Comment here.not-Open here.not-Close) in
+    inside_value c.args.line loop.depth loop.cursor.text c.in-Some.role loop.invariant.still_open c.in-Some.ensures
+    (else_value c.in-Some.role here.not-Gap here.not-Comment here.not-Open here.not-Close) in
     let size = ap length c.value.ensures.text in
     record {
       found =

@@ -8,7 +8,7 @@ use Rattle.mcs_reader.proofs.list.values.Given as goal
 -- the values so far stand in front of what is found behind them
 abbrev pub invariant-values : goal.invariant-values
 invariant-values l = record {
-  found : scan l.fn.line 1 no_name false l.fn.cursor.text ≡ on_found (with_values (bytes_of_each l.room.items)) (scan l.fn.line l.depth no_name false l.cursor.text);
+  found : scan l.fn.line 1 no_name false l.fn.cursor.text ≡ on_found (with_values (bytes_of_each l.scratch.items)) (scan l.fn.line l.depth no_name false l.cursor.text);
   still_open : 0 < l.depth;
   no_deeper : l.depth + length l.cursor.text ≤ 1 + length l.fn.cursor.text;
   behind : IsBehind l.cursor l.fn.cursor;

@@ -10,7 +10,7 @@ pub returns-in_default : goal.returns-in_default
 returns-in_default c = record {
   ok =
       c.in_ok-skip_gap.ensures.ok (before_behind c.args.name.now)
-      ∙ outside_no_list c.args.line (before_behind c.args.name.now) c.skip_gap.new.cursor.text c.in_ok-skip_gap.field-0 c.in_ok-skip_gap.ensures.class c.in_ok-skip_gap.ensures.no_gap
+      ∙ outside_no_list c.args.line (before_behind c.args.name.now) c.skip_gap.new.cursor.text c.in_ok-skip_gap.field-0 c.in_ok-skip_gap.ensures.role c.in_ok-skip_gap.ensures.no_gap
       c.in_ok-skip_gap.ensures.no_comment c.in_default.not-Open;
   err = tt;
   behind = c.in_ok-skip_gap.ensures.behind;
@@ -25,7 +25,7 @@ returns-in_err-pass_raw_list-in-Open-clause-err c =
     let P : List ℕ → Type 0 = λ t. IsErr (behind_raw 0 t) in
     rw (p.1, p.2) (λ other.
     c.in_ok-skip_gap.ensures.ok before
-    ∙ outside_open_raw c.args.line before c.skip_gap.new.cursor.text before_is (c.in_ok-skip_gap.ensures.class ∙ ap (λ k. Some k) c.in-Open.is) (subst P c.advance.ensures.text unclosed.1)
+    ∙ outside_open_raw c.args.line before c.skip_gap.new.cursor.text before_is (c.in_ok-skip_gap.ensures.role ∙ ap (λ k. Some k) c.in-Open.is) (subst P c.advance.ensures.text unclosed.1)
     ∙ ap (λ f. Err f) (sym unclosed.0))
 
 pub returns-in_ok-pass_raw_list-in-Open-clause-ok : goal.returns-in_ok-pass_raw_list-in-Open-clause-ok
@@ -33,7 +33,7 @@ returns-in_ok-pass_raw_list-in-Open-clause-ok c =
     let before = before_behind c.args.name.now in
     let before_is : before ≡ name_comment = ap (λ t. cond t name_comment a_name) (sym c.is_comment.ensures ∙ c.if-is_comment.true) in
     c.in_ok-skip_gap.ensures.ok before
-    ∙ outside_raw c.args.line before c.skip_gap.new.cursor.text c.pass_raw_list.new.cursor.text before_is (c.in_ok-skip_gap.ensures.class ∙ ap (λ k. Some k) c.in-Open.is)
+    ∙ outside_raw c.args.line before c.skip_gap.new.cursor.text c.pass_raw_list.new.cursor.text before_is (c.in_ok-skip_gap.ensures.role ∙ ap (λ k. Some k) c.in-Open.is)
     (ap (behind_raw 0) (sym c.advance.ensures.text) ∙ c.in_ok-pass_raw_list-in-Open.ensures.ok)
     ∙ ap (λ vs. on_found (with_list vs) (scan c.args.line 0 no_name false c.pass_raw_list.new.cursor.text)) (sym (c.from_vec.ensures ∙ ap bytes_of_each c.new.ensures.items))
 
@@ -44,7 +44,7 @@ returns-in_err-values-in-Open-clause-err c =
     let before_is : before ≡ a_name = ap (λ t. cond t name_comment a_name) (sym c.is_comment.ensures ∙ c.if-is_comment.false) in
     rw (p.1, p.2) (λ other.
     c.in_ok-skip_gap.ensures.ok before
-    ∙ outside_open c.args.line before c.skip_gap.new.cursor.text before_is (c.in_ok-skip_gap.ensures.class ∙ ap (λ k. Some k) c.in-Open.is)
+    ∙ outside_open c.args.line before c.skip_gap.new.cursor.text before_is (c.in_ok-skip_gap.ensures.role ∙ ap (λ k. Some k) c.in-Open.is)
     ∙ ap (scan c.args.line 1 no_name false) (sym c.advance.ensures.text)
     ∙ c.in_err-values-in-Open.ensures.err other)
 
@@ -53,6 +53,6 @@ returns-in_ok-values-in-Open-clause-ok c =
     let before = before_behind c.args.name.now in
     let before_is : before ≡ a_name = ap (λ t. cond t name_comment a_name) (sym c.is_comment.ensures ∙ c.if-is_comment.false) in
     c.in_ok-skip_gap.ensures.ok before
-    ∙ outside_open c.args.line before c.skip_gap.new.cursor.text before_is (c.in_ok-skip_gap.ensures.class ∙ ap (λ k. Some k) c.in-Open.is)
+    ∙ outside_open c.args.line before c.skip_gap.new.cursor.text before_is (c.in_ok-skip_gap.ensures.role ∙ ap (λ k. Some k) c.in-Open.is)
     ∙ ap (scan c.args.line 1 no_name false) (sym c.advance.ensures.text)
     ∙ c.in_ok-values-in-Open.ensures.ok

@@ -8,7 +8,7 @@ use Rattle.mcs_reader.proofs.operand.operands.Given as goal
 -- the operands so far stand in front of those that are found behind them
 abbrev pub invariant-names : goal.invariant-names
 invariant-names l = record {
-  found : scan l.fn.line 0 no_name false l.fn.cursor.text ≡ on_found (with_operands (operand_texts l.room.operands.items)) (scan l.fn.line 0 no_name false l.cursor.text);
+  found : scan l.fn.line 0 no_name false l.fn.cursor.text ≡ on_found (with_operands (operand_texts l.scratch.operands.items)) (scan l.fn.line 0 no_name false l.cursor.text);
   behind : IsBehind l.cursor l.fn.cursor;
 }
 

@@ -10,7 +10,7 @@ returns-in_err-value-in-Open-clause-err c =
     let p = err_from_is_err_and c.from_residual-in_err-value-in-Open.result c.from_residual-in_err-value-in-Open.ensures.1 in
     rw (p.1, p.2)
     (c.in_ok-skip_gap.ensures.ok a_name
-    ∙ outside_open c.args.line a_name c.skip_gap.new.cursor.text refl (c.in_ok-skip_gap.ensures.class ∙ ap (λ k. Some k) c.in-Open.is)
+    ∙ outside_open c.args.line a_name c.skip_gap.new.cursor.text refl (c.in_ok-skip_gap.ensures.role ∙ ap (λ k. Some k) c.in-Open.is)
     ∙ ap (scan c.args.line 1 no_name false) (sym c.advance.ensures.text)
     ∙ c.in_err-value-in-Open.ensures.err)
 
@@ -21,7 +21,7 @@ returns-in_ok-value-in-Open-clause-ok c =
       values = Some read.values;
       found =
           c.in_ok-skip_gap.ensures.ok a_name
-          ∙ outside_open c.args.line a_name c.skip_gap.new.cursor.text refl (c.in_ok-skip_gap.ensures.class ∙ ap (λ k. Some k) c.in-Open.is)
+          ∙ outside_open c.args.line a_name c.skip_gap.new.cursor.text refl (c.in_ok-skip_gap.ensures.role ∙ ap (λ k. Some k) c.in-Open.is)
           ∙ ap (scan c.args.line 1 no_name false) (sym c.advance.ensures.text)
           ∙ read.found;
       subject_is = c.subject_by.ensures read.values read.value_is;
@@ -33,7 +33,7 @@ returns-in_default c = record {
     values = None;
     found =
         c.in_ok-skip_gap.ensures.ok a_name
-        ∙ outside_no_list c.args.line a_name c.skip_gap.new.cursor.text c.in_ok-skip_gap.field-0 c.in_ok-skip_gap.ensures.class c.in_ok-skip_gap.ensures.no_gap c.in_ok-skip_gap.ensures.no_comment c.in_default.not-Open;
+        ∙ outside_no_list c.args.line a_name c.skip_gap.new.cursor.text c.in_ok-skip_gap.field-0 c.in_ok-skip_gap.ensures.role c.in_ok-skip_gap.ensures.no_gap c.in_ok-skip_gap.ensures.no_comment c.in_default.not-Open;
     subject_is = refl;
   };
   err = tt;

@@ -2,11 +2,11 @@ use Rattle.std.proofs.Common.{◌≡◌, ℕ, ◌+◌, List, [], ◌∷◌, ◌+
 use Rattle.std.proofs.lemmas.Bool.Decides.{nat_tests}
 use Rattle.mcs_reader.specs.Byte.{line_end}
 use Rattle.mcs_reader.specs.Line.{line_ends, text_of, lines, columns_1_to_72}
-use Rattle.mcs_reader.specs.Place.{Place, IsBehind, after_line}
+use Rattle.mcs_reader.specs.Place.{Place, HasRoom, IsBehind, after_line}
 use Rattle.mcs_reader.specs.Segment.{IsLine}
 use Rattle.mcs_reader.proofs.Runs.{after_line-line}
 use Rattle.mcs_reader.proofs.LineFacts.{text_of-nil, text_of-line, IsLine-columns}
-use Rattle.mcs_reader.proofs.PlaceFacts.{IsBehind-next_line, line_ends-at}
+use Rattle.mcs_reader.proofs.PlaceFacts.{HasRoom-after, IsBehind-next_line, line_ends-at}
 use Rattle.mcs_reader.proofs.cursor.Cursor.next_line.Goals as goal
 
 -- what stands behind the place's line
@@ -24,26 +24,35 @@ next_text source line behind read cut is = text_of-line source line behind cut �
 pub returns-then-is_empty-clause-end : goal.returns-then-is_empty-clause-end
 returns-then-is_empty-clause-end c =
     let inside = c.self.inside in
-    behind_line inside.line inside.card.now (text_of inside.behind.now) c.args.self.now c.self.invariant c.self.view_is
+    behind_line inside.line inside.card.now (text_of inside.behind.now) c.args.self.now c.self.invariant.one_line c.self.view_is
     ∙ ap text_of (no_items inside.behind.now c.if-is_empty.ensures) ∙ text_of-nil
 
 pub overflow_add-self : goal.overflow_add-self
 overflow_add-self c =
     let inside = c.self.inside in
-    let ends = line_ends-at inside.card.now (text_of inside.behind.now) c.self.invariant in
+    let ends = line_ends-at inside.card.now (text_of inside.behind.now) c.self.invariant.one_line in
     let line_is = ap (λ (p : Place). p.line) c.self.view_is in
     let text_is = ap (λ (p : Place). line_ends p.text) c.self.view_is in
-    omega (arith, c.requires.room, ends, line_is, text_is)
+    omega (arith, c.self.invariant.room.lines, ends, line_is, text_is)
 
 pub invariant_of-self : goal.invariant_of-self
 invariant_of-self c =
     let P : List ℕ → Type 0 = λ t. IsLine t in
-    subst P (sym c.columns-self-inside.ensures) (IsLine-columns c.split_line.result.0.now c.split_line.ensures.one_line)
+    let inside = c.self.inside in
+    let text : List ℕ = c.columns-self-inside.result.now ++ line_end ∷ text_of c.split_line.result.1.now in
+    let text_is : text_of inside.behind.now ≡ text =
+    next_text inside.behind.now c.split_line.result.0.now c.split_line.result.1.now c.columns-self-inside.result.now c.split_line.ensures.line c.columns-self-inside.ensures in
+    let Q : List ℕ → Type 0 = λ t. HasRoom (record { text = t; line = inside.line + 1 }) in
+    record {
+      one_line = subst P (sym c.columns-self-inside.ensures) (IsLine-columns c.split_line.result.0.now c.split_line.ensures.one_line);
+      room = subst Q text_is (HasRoom-after (record { text = text_of inside.behind.now; line = inside.line + 1 }) (record { text = inside.card.now ++ line_end ∷ text_of inside.behind.now; line = inside.line })
+          (IsBehind-next_line inside.line inside.card.now (text_of inside.behind.now) c.self.invariant.one_line) c.self.invariant.room);
+    }
 
 pub returns-clause-text : goal.returns-clause-text
 returns-clause-text c =
     let inside = c.self.inside in
-    sym (behind_line inside.line inside.card.now (text_of inside.behind.now) c.args.self.now c.self.invariant c.self.view_is
+    sym (behind_line inside.line inside.card.now (text_of inside.behind.now) c.args.self.now c.self.invariant.one_line c.self.view_is
     ∙ next_text inside.behind.now c.split_line.result.0.now c.split_line.result.1.now c.columns-self-inside.result.now c.split_line.ensures.line c.columns-self-inside.ensures)
 
 pub returns-clause-behind : goal.returns-clause-behind
@@ -54,7 +63,7 @@ returns-clause-behind c =
     next_text inside.behind.now c.split_line.result.0.now c.split_line.result.1.now c.columns-self-inside.result.now c.split_line.ensures.line c.columns-self-inside.ensures in
     let P : Place → Type 0 = λ before. IsBehind (record { text = text; line = inside.line + 1 }) before in
     let Q : List ℕ → Type 0 = λ t. IsBehind (record { text = t; line = inside.line + 1 }) (record { text = inside.card.now ++ line_end ∷ text_of inside.behind.now; line = inside.line }) in
-    subst P c.self.view_is (subst Q text_is (IsBehind-next_line inside.line inside.card.now (text_of inside.behind.now) c.self.invariant))
+    subst P c.self.view_is (subst Q text_is (IsBehind-next_line inside.line inside.card.now (text_of inside.behind.now) c.self.invariant.one_line))
 
 pub returns-clause-shorter : goal.returns-clause-shorter
 returns-clause-shorter c =

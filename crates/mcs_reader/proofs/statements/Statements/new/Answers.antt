@@ -13,17 +13,16 @@ before_first source place text line =
     ap (λ l. read_lines (length (text_of source)) (l + 1) (text_of source)) (sym line)
     ∙ ap (λ t. read_lines (length (after_line t)) (place.line + 1) (after_line t)) (sym text)
 
-pub invariant_of-result : goal.invariant_of-result
-invariant_of-result c =
+pub new-requires : goal.new-requires
+new-requires c =
     let source = c.args.source.now in
-    let size = ap length c.new.ensures.text in
-    let ends = ap line_ends c.new.ensures.text in
-    let number = c.new.ensures.line in
     let fits = c.if-source-gt-MOST_BYTES.false in
     let most = line_ends-le-length (text_of source) in
     record {
-      depth_room = omega (arith, size, fits, length-text_of source);
-      line_room = omega (arith, number, ends, fits, most, length-text_of source);
+      room = record {
+        depth = omega (arith, fits, length-text_of source);
+        lines = omega (arith, fits, most, length-text_of source);
+      };
     }
 
 pub returns-clause-reading : goal.returns-clause-reading
