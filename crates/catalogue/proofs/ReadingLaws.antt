@@ -2,7 +2,7 @@
 use Rattle.std.proofs.Common.{◌≡◌, ℕ, Bool, true, false, ◌||◌, List, [], ◌∷◌, ◌++◌, refl, sym, ◌∙◌, ap, append_assoc}
 use Rattle.std.specs.Prelude.{Option, Some, None, is_none, is_some, option_map, codes}
 use Rattle.std.specs.BTreeSet.{insert_key}
-use Rattle.std.specs.List.{fold, flat_map}
+use Rattle.std.specs.List.{fold, flat_map, list_any}
 use Rattle.std.specs.Option.{option_or, option_to_list}
 use Rattle.std.proofs.lemmas.List.{append-nil}
 use Rattle.std.proofs.lemmas.List.Sums.{fold-append}
@@ -15,7 +15,7 @@ use Rattle.catalogue.specs.declared.fault.CatFault.TheVariants.{BadId}
 use Rattle.catalogue.specs.declared.sysmod.Sysmod.{Sysmod}
 use Rattle.catalogue.specs.declared.sysmod.SysmodKind.{SysmodKind}
 use Rattle.catalogue.specs.Ids.{id_cmp, put_among}
-use Rattle.catalogue.specs.Reading.{Part, Header, More, OnHold, part_of, ids_given, vers_in, vers_in_front, record_by, changes_by, changes_of, fault_if, faults_by, faults_of, first_fault, is_header, Begun, nothing_begun, changes_in, with_ver, with_part, with_statement}
+use Rattle.catalogue.specs.Reading.{HeadersOpen, Part, Header, More, OnHold, part_of, ids_given, vers_in, vers_in_front, record_by, changes_by, changes_of, fault_if, faults_by, faults_of, first_fault, is_header, Begun, nothing_begun, changes_in, with_ver, with_part, with_statement}
 
 -- a record with what `++VER` statements say
 abbrev pub with_vers : Sysmod → List Statement → Sysmod
@@ -131,6 +131,39 @@ begins OnHold statement begun none = or_false (is_some begun.open_record)
     or_false : (b : Bool) → b ≡ (b || false)
     or_false true = refl
     or_false false = refl
+
+neither_one : {A : Type 0} (o p : Option A) → option_or o p ≡ None → (o ≡ None) × (p ≡ None)
+neither_one None p h = (refl, h)
+neither_one (Some x) p h = absurd (cc h)
+
+no_first : {A : Type 0} (xs : List A) → holddata.first_of xs ≡ None → xs ≡ []
+no_first [] h = refl
+no_first (x ∷ xs) h = absurd (cc h)
+
+opened_by : (begun : Begun) (statements : List Statement) → first_fault (is_some begun.open_record) statements ≡ None
+    → is_some (fold with_statement begun statements).open_record ≡ (is_some begun.open_record || list_any (λ statement. is_header (part_of statement)) statements)
+opened_by begun [] none = or_nothing (is_some begun.open_record)
+  where
+    or_nothing : (b : Bool) → b ≡ (b || false)
+    or_nothing true = refl
+    or_nothing false = refl
+opened_by begun (statement ∷ statements) none =
+    opened_by (with_statement begun statement) statements (ap (λ b. first_fault b statements) opens ∙ parts.1)
+    ∙ ap (λ b. b || list_any (λ s. is_header (part_of s)) statements) opens
+    ∙ or_later (is_some begun.open_record) (is_header (part_of statement)) (list_any (λ s. is_header (part_of s)) statements)
+  where
+    parts : (holddata.first_of (faults_of (is_some begun.open_record) statement) ≡ None) × (first_fault (is_some begun.open_record || is_header (part_of statement)) statements ≡ None)
+    parts = neither_one (holddata.first_of (faults_of (is_some begun.open_record) statement)) (first_fault (is_some begun.open_record || is_header (part_of statement)) statements) none
+
+    opens : is_some (with_statement begun statement).open_record ≡ (is_some begun.open_record || is_header (part_of statement))
+    opens = begins (part_of statement) statement begun (no_first (faults_of (is_some begun.open_record) statement) parts.0)
+
+    or_later : (a b c : Bool) → ((a || b) || c) ≡ (a || (b || c))
+    or_later true b c = refl
+    or_later false b c = refl
+
+pub headers_open : HeadersOpen
+headers_open statements none = opened_by nothing_begun statements none
 
 -- ---- one statement of those that are left
 

@@ -1,6 +1,8 @@
 -- Several calls of one source: what each tells, all together tell.
-use Rattle.std.specs.Prelude.{ℕ}
+use Rattle.std.specs.Prelude.{ℕ, IsErrOf, Ok}
 use Rattle.catalogue.specs.Published.{Keeps, Tells}
+use Rattle.catalogue.specs.declared.fault.SourceFault.{SourceFault}
+use Rattle.catalogue.specs.declared.fault.SourceFault.TheVariants.{Device}
 
 module _ {Source Held : Type 0} {is_clean is_ours is_open : Source → Type 0} {held : Source → Held} where
   -- what an earlier call told is still so behind a later one
@@ -19,3 +21,7 @@ module _ {Source Held : Type 0} {is_clean is_ours is_open : Source → Type 0} {
   -- what follows from a fact is told with it
   pub told_so : {a b : Source} {Fact Other : Held → Type 0} → Tells is_clean is_ours is_open held a b Fact → ((this : Held) → Fact this → Other this) → Tells is_clean is_ours is_open held a b Other
   told_so tells so = record { told = λ ours clean this stands. so this (tells.told ours clean this stands) }
+
+-- an answer is no fault
+pub no_fault : {Answer : Type 0} (answer : Answer) → IsErrOf {T = Answer} {E = SourceFault} (Ok answer) Device → ⊥
+no_fault answer fault = absurd (cc fault)

@@ -35,7 +35,10 @@ HasFailed failures old new = (failures old < failures new) ⊎ (failures new ≡
 abbrev pub FailsWithCause : {Source Answer : Type 0} → (Source → Type 0) → (Source → ℕ) → Source → Source → Result Answer SourceFault → Type 0
 FailsWithCause is_open failures old new answer = IsErrOf answer Device → HasFailed failures old new × (is_open new → ⊥)
 
+-- nothing but a fault of the device that is told shuts a source
+abbrev pub StaysOpen : {Source Answer : Type 0} → (is_open : Source → Type 0) → Source → Source → Result Answer SourceFault → Type 0
+StaysOpen is_open old new answer = (IsErrOf answer Device → ⊥) → is_open old → is_open new
+
 -- a source that is shut answers nothing else, and nothing else shuts one
 abbrev pub ShutsByFault : {Source Answer : Type 0} → (is_open : Source → Type 0) → Source → Source → Result Answer SourceFault → Type 0
-ShutsByFault is_open old new answer =
-    ((is_open old → ⊥) → IsErrOf answer Device) × ((IsErrOf answer Device → ⊥) → is_open old → is_open new)
+ShutsByFault is_open old new answer = ((is_open old → ⊥) → IsErrOf answer Device) × StaysOpen is_open old new answer

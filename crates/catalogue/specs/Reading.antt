@@ -1,7 +1,7 @@
 -- What statements publish, and the faults that they may have (IBM z/OS SMP/E Reference, `++FUNCTION`, `++PTF`,
 -- `++APAR`, `++USERMOD`, `++VER`). Holds and releases are read as HOLDDATA is.
-use Rattle.std.specs.Prelude.{ℕ, ◌||◌, ◌++◌, not, map, Bool, true, false, List, [], ◌∷◌, codes, Option, None, is_none, option_map, if◌then◌else◌}
-use Rattle.std.specs.List.{filter_map, flat_map, list_any}
+use Rattle.std.specs.Prelude.{◌≡◌, ℕ, ◌||◌, ◌++◌, not, map, Bool, true, false, List, [], ◌∷◌, codes, Option, None, is_none, is_some, option_map, if◌then◌else◌}
+use Rattle.std.specs.List.{filter_map, flat_map, fold, list_any}
 use Rattle.std.specs.Option.{option_or, option_to_list}
 use Rattle.mcs_reader.specs.Id.{id_of}
 use Rattle.mcs_reader.specs.declared.statement.Statement.{Statement}
@@ -154,3 +154,8 @@ with_part OnHold statement begun = record begun { behind = begun.behind ++ optio
 
 abbrev pub with_statement : Begun → Statement → Begun
 with_statement begun statement = with_part (part_of statement) statement begun
+
+-- of statements without faults a record is open exactly where a header is among them
+abbrev pub HeadersOpen : Type 0
+HeadersOpen = (statements : List Statement) → first_fault false statements ≡ None
+    → is_some (fold with_statement nothing_begun statements).open_record ≡ list_any (λ statement. is_header (part_of statement)) statements

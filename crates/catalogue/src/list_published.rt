@@ -84,7 +84,11 @@ impl ListPublished {
     }
 
     /// Makes the changes: for each id its last record stands from now on, whole, and holds are put and
-    /// released. Where memory runs out, the content is as it was.
+    /// released.
+    ///
+    /// # Errors
+    ///
+    /// `NoMemory` where memory ran out: the content is as it was.
     pub fn publish(&mut self, changes: &[Change]) -> Result<(), NoMemory>
         ensures after { OnOk result (self.new ≡ after self.old changes.now) }
         ensures is_after { OnOk result (IsAfter self.old changes.now self.new) }
@@ -201,7 +205,7 @@ fn record_listed(sysmods: &BTreeMap<Id, Sysmod>, id: &Id) -> Result<Option<Sysmo
     }
 }
 
-// The records behind a publication.
+// The records after a publication.
 fn catalogue_after(
     old: &BTreeMap<Id, Sysmod>,
     changes: &[Change],
@@ -239,7 +243,7 @@ fn put(sysmods: &mut BTreeMap<Id, Sysmod>, sysmod: Sysmod) -> Result<(), NoMemor
     Ok(())
 }
 
-// The hold book behind a publication.
+// The hold book after a publication.
 fn book_after(old: &HoldBook, changes: &[Change]) -> Result<HoldBook, NoMemory>
     requires { IsInKeyOrder old.now }
     ensures book { IfOk result (λ new. new ≡ book_of (map Put old.now ++ hold_changes_in changes.now)) }

@@ -35,6 +35,10 @@ pub trait Published {
     ghost keeps: { Self → Self → Type 0 };
 
     /// The ids of all SYSMODs that are catalogued, ascending.
+    ///
+    /// # Errors
+    ///
+    /// `Memory` where memory ran out; `Device` where what lies below has failed, now or before, or tells rows out of order.
     fn ids(&mut self) -> Result<Vec<Id>, SourceFault>
         ensures keeps { keeps self.old self.new }
         ensures ids { IfOk result (λ ids. Tells is_clean is_ours is_open content self.old self.new
@@ -44,6 +48,10 @@ pub trait Published {
         ensures shut { ShutsByFault is_open self.old self.new result };
 
     /// The record of a SYSMOD, or `None` where it isn't catalogued.
+    ///
+    /// # Errors
+    ///
+    /// Those of [`Published::ids`].
     fn sysmod(&mut self, id: &Id) -> Result<Option<Sysmod>, SourceFault>
         ensures keeps { keeps self.old self.new }
         ensures sysmod { IfOk result (λ found. Tells is_clean is_ours is_open content self.old self.new
@@ -52,6 +60,10 @@ pub trait Published {
         ensures shut { ShutsByFault is_open self.old self.new result };
 
     /// The catalogued SYSMODs whose SUP names this one, ascending.
+    ///
+    /// # Errors
+    ///
+    /// Those of [`Published::ids`].
     fn superseders(&mut self, id: &Id) -> Result<Vec<Id>, SourceFault>
         ensures keeps { keeps self.old self.new }
         ensures superseders { IfOk result (λ ids. Tells is_clean is_ours is_open content self.old self.new
@@ -61,6 +73,10 @@ pub trait Published {
         ensures shut { ShutsByFault is_open self.old self.new result };
 
     /// The holds on a SYSMOD, in the order of their keys.
+    ///
+    /// # Errors
+    ///
+    /// Those of [`Published::ids`].
     fn holds_on(&mut self, id: &Id) -> Result<Vec<Hold>, SourceFault>
         ensures keeps { keeps self.old self.new }
         ensures holds { IfOk result (λ holds. Tells is_clean is_ours is_open content self.old self.new

@@ -5,7 +5,7 @@ ghost use Rattle.holddata.specs.Statements.{first_of};
 ghost use Rattle.mcs_reader.specs.declared.statement.Statement.{Statement};
 ghost use Rattle.catalogue.specs.declared.fault.CatFault.TheVariants.{Memory};
 ghost use Rattle.catalogue.specs.Opened.{record_opened};
-ghost use Rattle.catalogue.specs.Reading.{changes_of, first_fault, faults_of, faults_by, Header, More, OnHold, changes_in, nothing_begun, with_part, with_statement};
+ghost use Rattle.catalogue.specs.Reading.{HeadersOpen, changes_of, first_fault, faults_of, faults_by, Header, More, OnHold, changes_in, nothing_begun, with_part, with_statement};
 
 use crate::header::Open;
 use crate::{CatFault, Change, NoMemory, SysmodKind};
@@ -67,6 +67,10 @@ impl ChangeReader {
     }
 
     /// Takes one more statement (see [`read_changes`]). Where it is refused, nothing of what was read is left.
+    ///
+    /// # Errors
+    ///
+    /// The fault of this statement, as [`read_changes`] tells it; `Memory` where memory ran out.
     pub fn take(self, statement: &Statement) -> Result<Self, CatFault>
         ensures read { IfOk result (λ now. now ≡ with_statement self statement.now) }
         ensures no_fault { OnOk result (faults_of (is_some self.open_record) statement.now ≡ []) }
@@ -83,12 +87,17 @@ impl ChangeReader {
     }
 
     /// The changes of all statements that were taken.
+    ///
+    /// # Errors
+    ///
+    /// `NoMemory` where memory ran out.
     pub fn finish(self) -> Result<Vec<Change>, NoMemory>
         ensures changes { IfOk result (λ changes. changes.items ≡ changes_in self) }
 
         // Statements one at a time give what all of them publish.
         ensures law { OnOk result ((statements : List Statement) →
             changes_in (fold with_statement nothing_begun statements) ≡ changes_of statements) }
+        ensures headers { OnOk result HeadersOpen }
     {
         Ok(closed(self.alloc, self.before, self.header, self.behind)?)
     }

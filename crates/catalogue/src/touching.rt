@@ -5,7 +5,7 @@ ghost use Rattle.holddata.specs.HoldChange.{key_of};
 ghost use Rattle.catalogue.specs.declared.change.Change.TheVariants.{Whole};
 ghost use Rattle.catalogue.specs.Content.{Content, record_of};
 ghost use Rattle.catalogue.specs.Ids.{Ascend, put_among};
-ghost use Rattle.catalogue.specs.Published.{Tells, FailsWithCause};
+ghost use Rattle.catalogue.specs.Published.{FailsWithCause, StaysOpen, Tells};
 ghost use Rattle.catalogue.specs.Touched.{IsTouched, TouchesAll, sup_of, touched_by, touched_by_key, touched_ids};
 
 use crate::ids::listed;
@@ -15,9 +15,13 @@ use mcs_reader::Id;
 use std::alloc::Global;
 use std::collections::BTreeSet;
 
-/// The ids of which the record, the direct superseders or the ERROR holds may differ behind a publication
+/// The ids of which the record, the direct superseders or the ERROR holds may differ after a publication
 /// of these changes: each SYSMOD that is published, what its SUP names before the publication and in it,
 /// and the SYSMODs whose ERROR holds are put or released. They ascend, each once.
+///
+/// # Errors
+///
+/// Those of [`Published::sysmod`], which is asked for the record of each SYSMOD that is published.
 pub fn touched<P: Published>(
     alloc: Global,
     source: &mut P,
@@ -28,6 +32,7 @@ pub fn touched<P: Published>(
         (λ content. ids.items ≡ touched_ids content changes.now)) }
     ensures ascend { IfOk result (λ ids. Ascend ids.items) }
     ensures cause { FailsWithCause P.is_open P.failures source.old source.new result }
+    ensures stays_open { StaysOpen P.is_open source.old source.new result }
 
     // They are all that is touched, and nothing else.
     ensures each { IfOk result (λ ids. Tells P.is_clean P.is_ours P.is_open P.content source.old source.new
@@ -54,6 +59,7 @@ fn touch_by<P: Published>(
     ensures touched { OnOk result (Tells P.is_clean P.is_ours P.is_open P.content source.old source.new
         (λ content. ids.new.keys ≡ put_among ids.old.keys (touched_by content change.now))) }
     ensures cause { FailsWithCause P.is_open P.failures source.old source.new result }
+    ensures stays_open { StaysOpen P.is_open source.old source.new result }
 {
     match change {
         Change::Whole(sysmod) => {

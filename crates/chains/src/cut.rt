@@ -13,7 +13,7 @@ ghost use Rattle.chains.specs.Sights.{IsSeen, Sight, sight_of};
 ghost use Rattle.chains.specs.Worlds.{world_of};
 
 use crate::listing::Entry;
-use crate::places::{members_of, place_of, places_of};
+use crate::places::{members_of, place_near, places_of};
 use mcs_reader::Id;
 use requisites::{Nodes, least_sources};
 use std::alloc::{AllocError, Global};
@@ -67,8 +67,12 @@ fn nodes_of(
     let mut candidates = Vec::with_capacity(alloc, members.len())?;
     let mut needs = Vec::with_capacity(alloc, members.len())?;
     let mut supersedes = Vec::with_capacity(alloc, members.len())?;
+    let mut next = 0;
     for member in members {
-        let entry = entry_for(ids, entries, &unseen, member);
+        let entry = entry_for(ids, entries, &unseen, member, next);
+        if next < ids.len() && ids[next] == *member {
+            next += 1;
+        }
         candidates.push(entry.is_candidate())?;
         needs.push(places_of(alloc, members, entry.needs())?)?;
         supersedes.push(places_of(alloc, members, entry.superseded())?)?;
@@ -82,14 +86,20 @@ fn nodes_of(
     })
 }
 
-// The entry of an id, or the other one where the ids don't have it.
-fn entry_for<'a>(ids: &[Id], entries: &'a [Entry], unseen: &'a Entry, id: &Id) -> &'a Entry
+// The entry of an id, or the other one where the ids don't have it. The id is looked for at a place first.
+fn entry_for<'a>(
+    ids: &[Id],
+    entries: &'a [Entry],
+    unseen: &'a Entry,
+    id: &Id,
+    first: usize,
+) -> &'a Entry
     requires ascend { Ascend ids.now }
     requires entries { length entries.now ≡ length ids.now }
     requires unseen { unseen.now ≡ Sights.unseen }
     ensures { (f : List ℕ → Sight) → entries.now ≡ map f ids.now → IsSeen f ids.now id.now result.now }
 {
-    match place_of(ids, id) {
+    match place_near(ids, first, id) {
         Some(place) => &entries[place],
         None => unseen,
     }

@@ -1,7 +1,7 @@
 //! Who gives verdicts.
 ghost use Rattle.std.specs.Prelude.{◌≡◌, List, ℕ, IfOk, map};
-ghost use Rattle.catalogue.specs.Content.{Content};
-ghost use Rattle.catalogue.specs.Published.{FailsWithCause, Tells};
+ghost use Rattle.catalogue.specs.Content.{Content, IsInOrder};
+ghost use Rattle.catalogue.specs.Published.{FailsWithCause, StaysOpen, Tells};
 ghost use Rattle.catalogue.specs.Touched.{AgreeOutside};
 ghost use Rattle.chains.specs.Judge as judge;
 ghost use Rattle.chains.specs.Verdicts.{verdict_of};
@@ -20,6 +20,10 @@ pub trait Judge<P: Published> {
     ghost is_right: { Self → Content → Type 0 };
 
     /// The verdict on a SYSMOD in a zone.
+    ///
+    /// # Errors
+    ///
+    /// `Memory` where memory ran out, `Device` where the source failed.
     fn verdict(
         &mut self,
         alloc: Global,
@@ -32,17 +36,23 @@ pub trait Judge<P: Published> {
             (λ content. is_right self.old content → judge.judged_by verdict ≡ verdict_of content zone.now id.now)) }
         ensures right { Tells P.is_clean P.is_ours P.is_open P.content source.old source.new
             (λ content. is_right self.old content → is_right self.new content) }
-        ensures cause { FailsWithCause P.is_open P.failures source.old source.new result };
+        ensures cause { FailsWithCause P.is_open P.failures source.old source.new result }
+        ensures stays_open { StaysOpen P.is_open source.old source.new result };
 
     /// Forgets what is kept of these SYSMODs. It takes no memory.
     ///
     /// It stays right for each content for which it was, and is right for each that says the same
-    /// outside these ids: what is published before, and after.
+    /// outside these ids, where both are in order: what is published before, and after.
     fn drop_touched(&mut self, ids: &[Id])
-        ensures right { (old new : Content) → is_right self.old old → AgreeOutside ids.now old new → is_right self.new new };
+        ensures stays { (content : Content) → is_right self.old content → is_right self.new content }
+        ensures right { (old new : Content) → IsInOrder old → IsInOrder new → is_right self.old old → AgreeOutside ids.now old new → is_right self.new new };
 
     /// For each SYSMOD which verdict it is, in the order of the list. A judge that can answer many at once
     /// does so; otherwise one is asked for after the other.
+    ///
+    /// # Errors
+    ///
+    /// Those of [`Judge::verdict`].
     fn statuses(
         &mut self,
         alloc: Global,
@@ -56,6 +66,7 @@ pub trait Judge<P: Published> {
         ensures right { Tells P.is_clean P.is_ours P.is_open P.content source.old source.new
             (λ content. is_right self.old content → is_right self.new content) }
         ensures cause { FailsWithCause P.is_open P.failures source.old source.new result }
+        ensures stays_open { StaysOpen P.is_open source.old source.new result }
     {
         let mut statuses = Vec::with_capacity(alloc, ids.len())?;
         for id in ids {

@@ -54,6 +54,18 @@ pub(crate) fn place_of(members: &[Id], id: &Id) -> Option<usize>
     place_among(members, id)
 }
 
+/// The same, for one who knows where it may stand: there it is looked for first.
+pub(crate) fn place_near(members: &[Id], first: usize, id: &Id) -> Option<usize>
+    requires { Ascend members.now }
+    ensures some { IfSome result (λ place. IsAt members.now id.now place) }
+    ensures none { IfNone result (Contains members.now id.now → ⊥) }
+{
+    if first < members.len() && members[first] == *id {
+        return Some(first);
+    }
+    place_of(members, id)
+}
+
 /// The places of the ids that stand somewhere.
 pub(crate) fn places_of(alloc: Global, members: &[Id], ids: &[Id]) -> Result<Vec<usize>, AllocError>
     requires { Ascend members.now }

@@ -2,4 +2,5 @@ mod ChainFacts
 mod ErrorFacts
 mod Examples
 mod MissingFacts
+mod OrderFacts
 mod ResolverFacts

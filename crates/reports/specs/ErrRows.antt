@@ -1,17 +1,18 @@
 -- The rows of the exception SYSMOD report (IBM z/OS SMP/E Commands, REPORT ERRSYSMODS): which installed SYSMODs
 -- have since been held in error, and what resolves that.
-use Rattle.std.specs.Prelude.{ℕ, not, List, [], Option, filter, map, option_map}
+use Rattle.std.specs.Prelude.{◌≡◌, ℕ, not, List, [], Option, filter, map, option_map}
 use Rattle.std.specs.BTreeSet.{insert_key}
 use Rattle.std.specs.List.{flat_map, fold}
 use Rattle.std.specs.Option.{option_cmp}
 use Rattle.std.specs.Ordering.{ordering_then}
 use Rattle.std.specs.declared.cmp.Ordering.{Ordering}
+use Rattle.std.specs.declared.cmp.Ordering.TheVariants.{Less}
 use Rattle.holddata.specs.declared.hold.Hold.{Hold}
 use Rattle.zone_lists.specs.declared.zones.ZoneRow.{ZoneRow}
-use Rattle.catalogue.specs.Content.{Content}
+use Rattle.catalogue.specs.Content.{Content, IsInOrder}
 use Rattle.catalogue.specs.Ids.{id_cmp}
 use Rattle.supersede.specs.Giving.{is_there}
-use Rattle.reports.specs.Resolvers.{candidates_for, each_or_none, is_received, status_in}
+use Rattle.reports.specs.Resolvers.{StandInOrder, candidates_for, each_or_none, is_received, status_in}
 use Rattle.reports.specs.declared.rows.ErrRow.{ErrRow}
 
 -- holds by FMID, an absent one first, then SYSMOD, then reason; no two ERROR holds have all of these, so that their
@@ -47,3 +48,16 @@ abbrev pub err_rows_of : Content → List ZoneRow → List (List ℕ) → List H
 err_rows_of content rows received holds =
     flat_map (err_rows_of_hold content rows received)
     (filter (λ hold. not (is_there content rows hold.key.reason)) (by_fmid holds))
+
+-- rows by the FMID of the hold, an absent one first, then by SYSMOD, reason and resolver; the class stands before the
+-- resolver, and decides only where two holds have the first three, which no two ERROR holds in force do
+abbrev pub err_row_cmp : ErrRow → ErrRow → Ordering
+err_row_cmp a b =
+    ordering_then (option_cmp id_cmp a.fmid b.fmid)
+    (ordering_then (id_cmp a.sysmod b.sysmod)
+    (ordering_then (id_cmp a.reason b.reason) (ordering_then (option_cmp id_cmp a.class b.class) (option_cmp id_cmp a.resolver b.resolver))))
+
+-- the rows of the report ascend, each once
+abbrev pub ErrRowsAscend : Type 0
+ErrRowsAscend = (content : Content) (rows : List ZoneRow) (received : List (List ℕ)) (holds : List Hold) → IsInOrder content
+    → StandInOrder (λ row later. err_row_cmp row later ≡ Less) (err_rows_of content rows received holds)

@@ -1,19 +1,20 @@
 -- The rows of the missing fix report (IBM z/OS SMP/E Commands, REPORT MISSINGFIX): which fixes of the chosen
 -- categories a zone lacks.
-use Rattle.std.specs.Prelude.{ℕ, ◌||◌, ◌++◌, Bool, false, not, List, [], ◌∷◌, Option, Some, None, filter, map, option_map}
+use Rattle.std.specs.Prelude.{◌≡◌, ℕ, ◌||◌, ◌++◌, Bool, false, not, List, [], ◌∷◌, Option, Some, None, filter, map, option_map}
 use Rattle.std.specs.BTreeSet.{insert_key}
 use Rattle.std.specs.Cmp.Lexicographic.{slice_cmp}
 use Rattle.std.specs.List.{flat_map, fold, list_any}
 use Rattle.std.specs.Option.{option_cmp}
 use Rattle.std.specs.Ordering.{nat_cmp, ordering_then}
 use Rattle.std.specs.declared.cmp.Ordering.{Ordering}
+use Rattle.std.specs.declared.cmp.Ordering.TheVariants.{Less, Greater}
 use Rattle.holddata.specs.declared.hold.Hold.{Hold}
 use Rattle.zone_lists.specs.Pattern.{does_match}
 use Rattle.zone_lists.specs.declared.zones.ZoneRow.{ZoneRow}
 use Rattle.catalogue.specs.Content.{Content}
 use Rattle.catalogue.specs.Ids.{id_cmp, in_order}
 use Rattle.supersede.specs.Giving.{is_there}
-use Rattle.reports.specs.Resolvers.{candidates_for, each_or_none, is_received, status_in}
+use Rattle.reports.specs.Resolvers.{StandInOrder, candidates_for, each_or_none, is_received, status_in}
 use Rattle.reports.specs.declared.rows.MissingRow.{MissingRow}
 
 -- a fix category of a hold
@@ -77,3 +78,15 @@ abbrev pub missing_rows_of : Content → List ZoneRow → List (List ℕ) → Li
 missing_rows_of content rows received patterns holds =
     flat_map (missing_rows_of_category content rows received)
     (filter (λ missing. is_missing content rows missing.hold) (by_category (flat_map (categories_asked patterns) holds)))
+
+-- rows by category, then held SYSMOD, then reason
+abbrev pub missing_row_cmp : MissingRow → MissingRow → Ordering
+missing_row_cmp a b =
+    ordering_then (slice_cmp nat_cmp a.category b.category) (ordering_then (id_cmp a.sysmod b.sysmod) (id_cmp a.reason b.reason))
+
+-- no row of the report stands after one that is greater, and the resolvers in the rows of one hold ascend
+pub record MissingRowsAscend : Type 0 where
+  pub rows : (content : Content) (rows : List ZoneRow) (received patterns : List (List ℕ)) (holds : List Hold)
+      → StandInOrder (λ row later. missing_row_cmp row later ≡ Greater → ⊥) (missing_rows_of content rows received patterns holds)
+  pub resolvers : (content : Content) (rows : List ZoneRow) (received : List (List ℕ)) (missing : Missing)
+      → StandInOrder (λ row later. option_cmp id_cmp row.resolver later.resolver ≡ Less) (missing_rows_of_category content rows received missing)

@@ -1,6 +1,6 @@
 -- What a report says of the SYSMODs that resolve a hold.
 use Rattle.std.specs.Prelude.{ℕ, Bool, List, [], ◌∷◌, Option, Some, None, filter, map}
-use Rattle.std.specs.List.{list_any}
+use Rattle.std.specs.List.{AllByRecursion, list_any}
 use Rattle.zone_lists.specs.declared.zones.ZoneRow.{ZoneRow}
 use Rattle.catalogue.specs.Content.{Content, ids_of}
 use Rattle.catalogue.specs.Ids.{same_id}
@@ -26,3 +26,8 @@ candidates_for content rows id =
 abbrev pub each_or_none : List (List ℕ) → List (Option (List ℕ))
 each_or_none [] = None ∷ []
 each_or_none (first ∷ more) = map Some (first ∷ more)
+
+-- each row stands before those after it
+abbrev pub StandInOrder : {Row : Type 0} → (Row → Row → Type 0) → List Row → Type 0
+StandInOrder Before [] = Unit {0}
+StandInOrder Before (row ∷ rows) = AllByRecursion (Before row) rows × StandInOrder Before rows

@@ -2,7 +2,7 @@
 ghost use Rattle.std.specs.Prelude.{◌≡◌, IfOk, false};
 ghost use Rattle.serde_json.specs.View.{items_view, view};
 ghost use Rattle.serde_json.specs.Written.{compact_text, has_float};
-ghost use Rattle.catalogue.specs.Published.{FailsWithCause, Tells};
+ghost use Rattle.catalogue.specs.Published.{FailsWithCause, StaysOpen, Tells};
 ghost use Rattle.chains.specs.Judge.{judged_by};
 ghost use Rattle.reports.specs.ChainText.{chain_data, chain_text_of, good_data, held_data, lack_data, member_with, plan_items, reasons_in, texts};
 
@@ -34,6 +34,7 @@ pub fn plan_json<P: Published>(
     ensures text { IfOk result (λ text. Tells P.is_clean P.is_ours P.is_open P.content source.old source.new
         (λ content. text.items ≡ chain_text_of content zone.now sysmod.now (judged_by verdict.now))) }
     ensures cause { FailsWithCause P.is_open P.failures source.old source.new result }
+    ensures stays_open { StaysOpen P.is_open source.old source.new result }
 {
     let value = verdict_value(alloc, source, zone, sysmod, verdict)?;
     Ok(compact(alloc, &value)?)
@@ -51,6 +52,7 @@ fn verdict_value<P: Published>(
     ensures value { IfOk result (λ value. Tells P.is_clean P.is_ours P.is_open P.content source.old source.new
         (λ content. view value ≡ chain_data content zone.now sysmod.now (judged_by verdict.now))) }
     ensures cause { FailsWithCause P.is_open P.failures source.old source.new result }
+    ensures stays_open { StaysOpen P.is_open source.old source.new result }
 {
     match verdict {
         Verdict::Good(plan) => {
@@ -111,6 +113,7 @@ fn plan_values<P: Published>(
     ensures members { IfOk result (λ values. Tells P.is_clean P.is_ours P.is_open P.content source.old source.new
         (λ content. items_view values.items ≡ plan_items content plan.now)) }
     ensures cause { FailsWithCause P.is_open P.failures source.old source.new result }
+    ensures stays_open { StaysOpen P.is_open source.old source.new result }
 {
     let mut values = Vec::new(alloc);
     for id in plan {

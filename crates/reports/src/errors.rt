@@ -2,10 +2,10 @@
 ghost use Rattle.std.specs.Prelude.{◌≡◌, ◌++◌, true, ℕ, List, map, option_map, IfOk, IfSome, OnOk};
 ghost use Rattle.catalogue.specs.Content.{ids_of};
 ghost use Rattle.catalogue.specs.Ids.{Ascend, in_order};
-ghost use Rattle.catalogue.specs.Published.{FailsWithCause, Tells};
+ghost use Rattle.catalogue.specs.Published.{FailsWithCause, StaysOpen, Tells};
 ghost use Rattle.supersede.specs.Reach.{has};
 ghost use Rattle.chains.specs.declared.verdict.Status.{Status};
-ghost use Rattle.reports.specs.ErrRows.{err_rows_of};
+ghost use Rattle.reports.specs.ErrRows.{ErrRowsAscend, err_rows_of};
 ghost use Rattle.reports.specs.Found.{error_row, errors_by, errors_each, errors_found, errors_with, held_in_order, resolvers_in};
 
 use crate::resolvers::{candidates_unless_there, is_among, status_among};
@@ -60,6 +60,10 @@ pub fn err_rows<P: Published, J: Judge<P>>(
     ensures right { Tells P.is_clean P.is_ours P.is_open P.content source.old source.new
         (λ content. J.is_right judge.old content → J.is_right judge.new content) }
     ensures cause { FailsWithCause P.is_open P.failures source.old source.new result }
+    ensures stays_open { StaysOpen P.is_open source.old source.new result }
+
+    // The rows stand in the report's order.
+    ensures order { ErrRowsAscend }
 {
     let held = in_report_order(alloc, holds)?;
     let found = errors_of(alloc, source, zone, &held)?;
@@ -95,6 +99,7 @@ fn errors_of<P: Published>(
     ensures found { IfOk result (λ found. Tells P.is_clean P.is_ours P.is_open P.content source.old source.new
         (λ content. found.items ≡ errors_found content zone.now held.now)) }
     ensures cause { FailsWithCause P.is_open P.failures source.old source.new result }
+    ensures stays_open { StaysOpen P.is_open source.old source.new result }
 {
     let catalogued = source.ids()?;
     errors_among(alloc, source, zone, &catalogued, held)
@@ -112,6 +117,7 @@ fn errors_among<P: Published>(
     ensures found { IfOk result (λ found. Tells P.is_clean P.is_ours P.is_open P.content source.old source.new
         (λ content. catalogued.now ≡ ids_of content → found.items ≡ errors_found content zone.now held.now)) }
     ensures cause { FailsWithCause P.is_open P.failures source.old source.new result }
+    ensures stays_open { StaysOpen P.is_open source.old source.new result }
 {
     let mut found = Vec::new(alloc);
     for one in held {

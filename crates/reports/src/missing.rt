@@ -4,10 +4,10 @@ ghost use Rattle.std.specs.List.{list_any};
 ghost use Rattle.zone_lists.specs.Pattern.{does_match};
 ghost use Rattle.catalogue.specs.Content.{ids_of};
 ghost use Rattle.catalogue.specs.Ids.{Ascend, in_order, put_among};
-ghost use Rattle.catalogue.specs.Published.{FailsWithCause, Tells};
+ghost use Rattle.catalogue.specs.Published.{FailsWithCause, StaysOpen, Tells};
 ghost use Rattle.supersede.specs.Reach.{has};
 ghost use Rattle.chains.specs.declared.verdict.Status.{Status};
-ghost use Rattle.reports.specs.MissingRows.{categories_asked, missing_rows_of};
+ghost use Rattle.reports.specs.MissingRows.{MissingRowsAscend, categories_asked, missing_rows_of};
 ghost use Rattle.reports.specs.MissingFound.{both_of, held_in_order, missing_held, put_held, resolvers_in, row_found, row_told, rows_by, rows_each, rows_found, rows_with, unless_resolver_there};
 
 use crate::resolvers::{candidates_unless_there, is_among, status_among};
@@ -58,6 +58,10 @@ pub fn missing_rows<P: Published, J: Judge<P>>(
     ensures right { Tells P.is_clean P.is_ours P.is_open P.content source.old source.new
         (λ content. J.is_right judge.old content → J.is_right judge.new content) }
     ensures cause { FailsWithCause P.is_open P.failures source.old source.new result }
+    ensures stays_open { StaysOpen P.is_open source.old source.new result }
+
+    // The rows stand in the report's order.
+    ensures order { MissingRowsAscend }
 {
     let held = in_report_order(alloc, patterns, holds)?;
     let rows = rows_of(alloc, source, zone, &held)?;
@@ -126,6 +130,7 @@ fn rows_of<P: Published>(
     ensures rows { IfOk result (λ rows. Tells P.is_clean P.is_ours P.is_open P.content source.old source.new
         (λ content. rows.items ≡ rows_found content zone.now held.now)) }
     ensures cause { FailsWithCause P.is_open P.failures source.old source.new result }
+    ensures stays_open { StaysOpen P.is_open source.old source.new result }
 {
     let catalogued = source.ids()?;
     rows_among(alloc, source, zone, &catalogued, held)
@@ -143,6 +148,7 @@ fn rows_among<P: Published>(
     ensures rows { IfOk result (λ rows. Tells P.is_clean P.is_ours P.is_open P.content source.old source.new
         (λ content. catalogued.now ≡ ids_of content → rows.items ≡ rows_found content zone.now held.now)) }
     ensures cause { FailsWithCause P.is_open P.failures source.old source.new result }
+    ensures stays_open { StaysOpen P.is_open source.old source.new result }
 {
     let mut rows = Vec::new(alloc);
     for one in held {
@@ -167,6 +173,7 @@ fn unless_resolver_there<P: Published>(
     ensures resolvers { IfOk result (λ found. Tells P.is_clean P.is_ours P.is_open P.content source.old source.new
         (λ content. catalogued.now ≡ ids_of content → option_map (λ ids. ids.items) found ≡ unless_resolver_there content zone.now resolver.now)) }
     ensures cause { FailsWithCause P.is_open P.failures source.old source.new result }
+    ensures stays_open { StaysOpen P.is_open source.old source.new result }
 {
     let Some(resolver) = resolver else {
         return Ok(Some(Vec::new(alloc)));

@@ -60,6 +60,13 @@ impl MissingCategory {
         self.bytes.as_slice()
     }
 
+    /// Gives the bytes back. It takes no memory.
+    pub fn into_vec(self) -> Vec<u8>
+        ensures { result.items ≡ self }
+    {
+        self.bytes
+    }
+
     /// The category of a copy of these bytes.
     pub(crate) fn copied(alloc: Global, bytes: &[u8]) -> Result<MissingCategory, NoMemory>
         ensures { IfOk result (λ category. category ≡ bytes.now) }

@@ -3,6 +3,7 @@ use crate::{ErrRow, MissingCategory, MissingRow, Status, err_text, missing_text}
 use mcs_reader::Id;
 use std::test::Fail;
 
+mod failing;
 mod worked;
 
 const ERR_FRONT: &str = "\

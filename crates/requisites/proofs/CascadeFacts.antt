@@ -9,9 +9,9 @@ use Rattle.std.proofs.lemmas.List.Elements.{Contains-push_cases}
 use Rattle.requisites.specs.Leads.{Leads}
 use Rattle.requisites.specs.World.{IsGood, IsGoodGiver}
 use Rattle.requisites.specs.Nodes.{IsMarked, Links, mark_of, row, world}
-use Rattle.requisites.specs.Good.{AreMarksLeft, AreOpen, AreReversed, AreUnmarked, CanClose, ComesNearer, HasClosedNeed, marked_count}
+use Rattle.requisites.specs.Good.{AreClosedBut, AreMarksLeft, AreOpen, AreReversed, AreShutOff, AreUngiven, AreUnmarked, CanClose, ComesNearer, HasClosedNeed, IsShut, marked_count}
 use Rattle.requisites.specs.declared.nodes.Nodes.{Nodes}
-use Rattle.requisites.proofs.LeadsFacts.{leads_last}
+use Rattle.requisites.proofs.LeadsFacts.{leads_closed, leads_itself, leads_last, leads_more}
 use Rattle.requisites.proofs.PickFacts.{unmarked}
 use Rattle.requisites.proofs.SourceFacts.{marked_inside}
 use Rattle.requisites.proofs.SweepFacts.{count_falls, mark_left, mark_stays}
@@ -60,24 +60,91 @@ left_falls_inside nodes opens marks p on left a closed = left_falls nodes opens 
 
 -- ---- what closes
 
--- no good place gives what can close
-ungiven : (nodes : Nodes) (superseders : List (Vec ℕ)) (marks opens : List Bool) (p z : ℕ) → AreReversed nodes.supersedes.items (length nodes.candidates.items) superseders → AreMarksLeft nodes marks → AreOpen nodes opens → CanClose superseders marks opens p → IsGoodGiver (world nodes) p z → ⊥
-ungiven nodes superseders marks opens p z turned left a can giver = elim (leads_last giver.gives) [
-  | inl same ↦ unmarked marks p can.unmarked (left.keep p (let P : ℕ → Type 0 = λ k. IsGood (world nodes) k in subst P same giver.good))
-  | inr last ↦ unmarked opens last.before (can.above.each last.before (turned.turned last.before p last.step)) (a.given last.before z (record { good = giver.good; gives = last.leads }))
-]
+-- no good place gives one of a ring that can close
+pub ring_ungiven : (nodes : Nodes) (superseders : List (Vec ℕ)) (marks opens : List Bool) (ring : List ℕ) (p : ℕ) → AreReversed nodes.supersedes.items (length nodes.candidates.items) superseders → AreMarksLeft nodes marks → AreOpen nodes opens → CanClose superseders marks opens ring p → AreUngiven nodes ring
+ring_ungiven nodes superseders marks opens ring p turned left a can = record {
+  each = λ r z inside giver. (leads_closed (Outside z) (handed z giver.good) (λ stands. unmarked marks z (can.unmarked.each z stands) (left.keep z giver.good), leads_itself Step z) giver.gives).0 inside;
+} where
+  Step : ℕ → ℕ → Type 0
+  Step = Links nodes.supersedes.items (length nodes.candidates.items)
 
-pub open_closes : (nodes : Nodes) (superseders : List (Vec ℕ)) (marks opens : List Bool) (p : ℕ) → AreReversed nodes.supersedes.items (length nodes.candidates.items) superseders → AreMarksLeft nodes marks → AreOpen nodes opens → CanClose superseders marks opens p → AreOpen nodes (set opens p false)
-open_closes nodes superseders marks opens p turned left a can = record {
+  -- z leads to q, which is none of the ring
+  Outside : ℕ → ℕ → Type 0
+  Outside z q = (Contains ring q → ⊥) × Leads Step z q
+
+  handed : (z : ℕ) → IsGood (world nodes) z → (u v : ℕ) → Outside z u → Step u v → Outside z v
+  handed z good u v held link = (
+    λ stands. elim ((can.above.each v stands).each u (turned.turned u v link)) [
+      | inl closed ↦ unmarked opens u closed (a.given u z (record { good = good; gives = held.1 }))
+      | inr member ↦ held.0 member
+    ],
+    leads_more held.1 link,
+  )
+
+-- what no good place gives may close
+pub open_shut : (nodes : Nodes) (ring : List ℕ) (old new : List Bool) (p : ℕ) → AreUngiven nodes ring → Contains ring p → AreOpen nodes old → IsShut p old new → AreOpen nodes new
+open_shut nodes ring old new p none inside a shut = record {
   given = λ r z giver. elim (cases_eq r p) [
-    | inl e ↦ absurd (ungiven nodes superseders marks opens p z turned left a can (let P : ℕ → Type 0 = λ k. IsGoodGiver (world nodes) k z in subst P e giver))
-    | inr ne ↦ mark_stays opens p r ne (a.given r z giver)
+    | inl e ↦ absurd (none.each p z inside (let P : ℕ → Type 0 = λ k. IsGoodGiver (world nodes) k z in subst P e giver))
+    | inr ne ↦ shut.others r ne (a.given r z giver)
   ];
 }
+
+pub shut_one : (opens : List Bool) (p : ℕ) → p < length opens → IsMarked opens p → IsShut p opens (set opens p false)
+shut_one opens p h marked = record { others = λ q ne was. mark_stays opens p q ne was; fewer = omega (arith, count_falls opens p h marked) }
+
+pub shut_none : (opens : List Bool) (p : ℕ) → IsShut p opens opens
+shut_none opens p = record { others = λ q ne was. was; fewer = omega arith }
+
+-- a ring that is read through references can close
+pub ring_read : (nodes : Nodes) (superseders : List (Vec ℕ)) (marks opens read : List Bool) (ring : List ℕ) (p : ℕ) → read ≡ opens → AreReversed nodes.supersedes.items (length nodes.candidates.items) superseders → AreMarksLeft nodes marks → AreOpen nodes opens → CanClose superseders marks read ring p → AreUngiven nodes ring
+ring_read nodes superseders marks opens read ring p same turned left a can =
+    ring_ungiven nodes superseders marks opens ring p turned left a (let P : List Bool → Type 0 = λ o. CanClose superseders marks o ring p in subst P same can)
+
+pub ring_begins : (nodes : Nodes) (superseders : List (Vec ℕ)) (marks opens read : List Bool) (ring : List ℕ) (p : ℕ) → read ≡ opens → AreReversed nodes.supersedes.items (length nodes.candidates.items) superseders → AreMarksLeft nodes marks → AreOpen nodes opens → CanClose superseders marks read ring p → AreOpen nodes (set opens p false)
+ring_begins nodes superseders marks opens read ring p same turned left a can =
+    let here = (let P : List Bool → Type 0 = λ o. CanClose superseders marks o ring p in subst P same can) in
+    open_shut nodes ring opens (set opens p false) p (ring_ungiven nodes superseders marks opens ring p turned left a here) here.member a (shut_one opens p here.place here.was_open)
+
+-- ---- places of a ring read one after the other
+
+pub closed_but_none : (opens : List Bool) (ring : List ℕ) → AreClosedBut opens ring []
+closed_but_none opens ring = record { each = λ p inside. absurd (omega (arith, inside.1)) }
+
+pub closed_but_more : (opens : List Bool) (ring places : List ℕ) (i : ℕ) → i < length places → AreClosedBut opens ring (take i places) → (mark_of opens (get_or places i 0) ≡ false) ⊎ Contains ring (get_or places i 0) → AreClosedBut opens ring (take (i + 1) places)
+closed_but_more opens ring places i h a so = rw (take_more places i 0 h) (record {
+  each = λ p inside. elim (Contains-push_cases (take i places) (get_or places i 0) p inside) [
+    | inl before ↦ a.each p before
+    | inr same ↦ (let P : ℕ → Type 0 = λ k. (mark_of opens k ≡ false) ⊎ Contains ring k in subst P same so)
+  ];
+})
+
+pub closed_but_all : (opens : List Bool) (ring places : List ℕ) (i : ℕ) → length places ≤ i → AreClosedBut opens ring (take i places) → AreClosedBut opens ring places
+closed_but_all opens ring places i h a = let P : List ℕ → Type 0 = λ l. AreClosedBut opens ring l in subst P (take_all i places h) a
+
+pub shut_off_none : (superseders : List (Vec ℕ)) (opens : List Bool) (ring : List ℕ) → AreShutOff superseders opens ring []
+shut_off_none superseders opens ring = record { each = λ p inside. absurd (omega (arith, inside.1)) }
+
+pub shut_off_more : (superseders : List (Vec ℕ)) (opens : List Bool) (ring places above : List ℕ) (i : ℕ) → i < length places → AreShutOff superseders opens ring (take i places) → above ≡ row superseders (get_or places i 0) → AreClosedBut opens ring above → AreShutOff superseders opens ring (take (i + 1) places)
+shut_off_more superseders opens ring places above i h a same so = rw (take_more places i 0 h) (record {
+  each = λ p inside. elim (Contains-push_cases (take i places) (get_or places i 0) p inside) [
+    | inl before ↦ a.each p before
+    | inr at ↦ (let P : ℕ → Type 0 = λ k. AreClosedBut opens ring (row superseders k) in let Q : List ℕ → Type 0 = λ l. AreClosedBut opens ring l in subst P at (subst Q same so))
+  ];
+})
+
+pub shut_off_all : (superseders : List (Vec ℕ)) (opens : List Bool) (ring places : List ℕ) (i : ℕ) → length places ≤ i → AreShutOff superseders opens ring (take i places) → AreShutOff superseders opens ring places
+shut_off_all superseders opens ring places i h a = let P : List ℕ → Type 0 = λ l. AreShutOff superseders opens ring l in subst P (take_all i places h) a
 
 -- closing brings the end nearer
 pub closing_is_nearer : (opens : List Bool) (p work work' : ℕ) → p < length opens → IsMarked opens p → ComesNearer opens (set opens p false) work work'
 closing_is_nearer opens p work work' h marked = inl (count_falls opens p h marked)
+
+-- so does the closing of a ring with an open place
+pub ring_is_nearer : (opens read new : List Bool) {superseders : List (Vec ℕ)} {marks : List Bool} {ring : List ℕ} (p work work' : ℕ) → read ≡ opens → CanClose superseders marks read ring p → marked_count new ≤ marked_count (set opens p false) → ComesNearer opens new work work'
+ring_is_nearer opens read new {superseders} {marks} {ring} p work work' same can fewer =
+    let here = (let P : List Bool → Type 0 = λ o. CanClose superseders marks o ring p in subst P same can) in
+    inl (omega (arith, count_falls opens p here.place here.was_open, fewer))
 
 pub same_is_near : (opens : List Bool) (work work' : ℕ) → work' ≤ work → ComesNearer opens opens work work'
 same_is_near opens work work' h = inr (refl, h)
@@ -106,11 +173,6 @@ pub record AreLooked (nodes : Nodes) (old new opens : List Bool) : Type 0 where
 
 pub looked_more : (nodes : Nodes) (old mid new opens : List Bool) → marked_count mid ≤ marked_count old → AreMarksLeft nodes new → AreOpen nodes opens → marked_count new ≤ marked_count mid → AreLooked nodes old new opens
 looked_more nodes old mid new opens before left a after = record { left = left; opens_left = a; fewer = omega arith }
-
--- the same, of opens read through a reference
-pub open_closes_read : (nodes : Nodes) (superseders : List (Vec ℕ)) (marks opens read : List Bool) (p : ℕ) → read ≡ opens → AreReversed nodes.supersedes.items (length nodes.candidates.items) superseders → AreMarksLeft nodes marks → AreOpen nodes opens → CanClose superseders marks read p → AreOpen nodes (set opens p false)
-open_closes_read nodes superseders marks opens read p same turned left a can =
-    open_closes nodes superseders marks opens p turned left a (let P : List Bool → Type 0 = λ o. CanClose superseders marks o p in subst P same can)
 
 pub looked_first : (nodes : Nodes) (marks opens : List Bool) → AreMarksLeft nodes marks → opens ≡ replicate (length marks) true → AreLooked nodes marks marks opens
 looked_first nodes marks opens left same = record {

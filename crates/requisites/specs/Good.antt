@@ -76,13 +76,31 @@ pub record AreUnmarked (marks : List Bool) (places : List ℕ) : Type 0 where
 pub record AreAmong (places others : List ℕ) : Type 0 where
   pub each : (p : ℕ) → Contains places p → Contains others p
 
--- a place that isn't marked, and that nothing open supersedes
-pub record CanClose (superseders : List (Vec ℕ)) (marks opens : List Bool) (p : ℕ) : Type 0 where
+-- each of these places is closed, or one of a ring
+pub record AreClosedBut (opens : List Bool) (ring places : List ℕ) : Type 0 where
+  pub each : (p : ℕ) → Contains places p → (mark_of opens p ≡ false) ⊎ Contains ring p
+
+-- what supersedes one of these places is closed, or one of a ring
+pub record AreShutOff (superseders : List (Vec ℕ)) (opens : List Bool) (ring places : List ℕ) : Type 0 where
+  pub each : (p : ℕ) → Contains places p → AreClosedBut opens ring (row superseders p)
+
+-- a ring in which an open place stands, of which none is marked, and that nothing open from outside supersedes
+pub record CanClose (superseders : List (Vec ℕ)) (marks opens : List Bool) (ring : List ℕ) (p : ℕ) : Type 0 where
   pub place : p < length opens
   pub was_open : IsMarked opens p
-  pub unmarked : mark_of marks p ≡ false
-  pub above : AreUnmarked opens (row superseders p)
+  pub member : Contains ring p
+  pub unmarked : AreUnmarked marks ring
+  pub above : AreShutOff superseders opens ring ring
 
--- fewer are open, or there is no more work
+-- no good place gives one of these
+pub record AreUngiven (nodes : Nodes) (places : List ℕ) : Type 0 where
+  pub each : (r z : ℕ) → Contains places r → IsGoodGiver (world nodes) r z → ⊥
+
+-- no other place has lost its mark
+pub record IsShut (p : ℕ) (old new : List Bool) : Type 0 where
+  pub others : (q : ℕ) → (q ≡ p → ⊥) → IsMarked old q → IsMarked new q
+  pub fewer : marked_count new ≤ marked_count old
+
+-- fewer are marked, or as many, and there is no more work than before
 abbrev pub ComesNearer : List Bool → List Bool → ℕ → ℕ → Type 0
 ComesNearer old new work work' = (marked_count new < marked_count old) ⊎ ((marked_count new ≡ marked_count old) × (work' ≤ work))

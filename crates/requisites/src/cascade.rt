@@ -1,18 +1,40 @@
-//! What falls with what: a quick way to most of what isn't good.
+//! What falls with what: a quick way to all that isn't good.
 //!
-//! A place closes where neither it nor anything open that supersedes it is left; what needs a closed
-//! place falls. Each fall and each closing wakes those that it may concern, so that the whole takes
-//! time in proportion to the nodes and their links. Places that supersede each other in a ring keep
-//! each other open: a sweep finds these.
-ghost use Rattle.std.specs.Prelude.{◌≡◌, ◌≤◌, false, length, OnOk};
+//! A ring of superseding closes where none of its places is left and nothing open from outside supersedes
+//! any; what needs a closed place falls. Each fall and each closing wakes those that it may concern, so that the
+//! whole takes time in proportion to the nodes and their links.
+ghost use Rattle.std.specs.Prelude.{◌≡◌, ◌≤◌, ◌⊎◌, false, length, Contains, IfOk, OnOk};
 ghost use Rattle.std.specs.Bool.{OnTrue};
-ghost use Rattle.requisites.specs.Good.{AreAmong, AreMarksLeft, AreOpen, AreReversed, AreUnmarked, CanClose, ComesNearer, HasClosedNeed, marked_count};
+ghost use Rattle.requisites.specs.Good.{AreAmong, AreClosedBut, AreMarksLeft, AreOpen, AreReversed, AreShutOff, AreUngiven, AreUnmarked, CanClose, ComesNearer, HasClosedNeed, IsShut, marked_count};
 ghost use Rattle.requisites.specs.Nodes.{mark_of, row};
 
 use crate::nodes::{Nodes, is_marked, row_at};
+use crate::reversed::reversed;
+use crate::rings::Rings;
 use std::alloc::{AllocError, Global};
 
-// What is open, how much keeps each place open, and what is to be looked at.
+/// What leads to each place: what supersedes it, and what needs it.
+#[derive(Debug, Drop)]
+pub(crate) struct Around {
+    pub(crate) superseders: Vec<Vec<usize>>,
+    needed_by: Vec<Vec<usize>>,
+}
+
+impl Around {
+    pub(crate) fn of(alloc: Global, nodes: &Nodes) -> Result<Around, AllocError>
+        ensures { IfOk result (λ around. AreReversed nodes.now.supersedes.items (length nodes.now.candidates.items) around.superseders.items) }
+    {
+        let len = nodes.candidates.len();
+        let superseders = reversed(alloc, &nodes.supersedes, len)?;
+        let needed_by = reversed(alloc, &nodes.needs, len)?;
+        Ok(Around {
+            superseders,
+            needed_by,
+        })
+    }
+}
+
+// What is open, how much keeps the ring called after each place open, and what is to be looked at.
 #[derive(Debug, Drop)]
 struct Opening {
     open: Vec<bool>,
@@ -24,76 +46,119 @@ struct Opening {
 pub(crate) fn cascade(
     alloc: Global,
     nodes: &Nodes,
-    superseders: &[Vec<usize>],
-    needed_by: &[Vec<usize>],
+    around: &Around,
+    rings: &Rings,
     marks: &mut [bool],
 ) -> Result<(), AllocError>
     requires left { AreMarksLeft nodes.now marks.old }
-    requires superseders { AreReversed nodes.now.supersedes.items (length nodes.now.candidates.items) superseders.now }
+    requires superseders { AreReversed nodes.now.supersedes.items (length nodes.now.candidates.items) around.now.superseders.items }
     ensures left { OnOk result (AreMarksLeft nodes.now marks.new) }
     ensures fewer { OnOk result (marked_count marks.new ≤ marked_count marks.old) }
 {
     let mut opening = Opening {
         open: vec![in alloc; true; marks.len()]?,
-        supports: first_supports(alloc, superseders, marks)?,
+        supports: first_supports(alloc, around, rings, marks)?,
         work: Vec::new(alloc),
     };
     'first: for place in 0..marks.len() {
-        look(nodes, superseders, needed_by, marks, &mut opening, place)?;
+        look(nodes, around, rings, marks, &mut opening, place)?;
     }
     'rest: while let Some(place) = opening.work.pop() {
-        look(nodes, superseders, needed_by, marks, &mut opening, place)?;
+        look(nodes, around, rings, marks, &mut opening, place)?;
     }
     Ok(())
 }
 
-// For each place how many supersede it, and one more where it is marked.
+// For the ring called after each place how many from outside supersede one of it, and how many of it are
+// marked.
 fn first_supports(
     alloc: Global,
-    superseders: &[Vec<usize>],
+    around: &Around,
+    rings: &Rings,
     marks: &[bool],
 ) -> Result<Vec<usize>, AllocError> {
-    let mut supports = Vec::with_capacity(alloc, marks.len())?;
-    for (place, marked) in marks.iter().enumerate() {
-        let above = row_at(superseders, place).len();
-        supports.push(above.saturating_add(usize::from(*marked)))?;
+    let mut supports = vec![in alloc; 0; marks.len()]?;
+    for place in 0..marks.len() {
+        let name = rings.name_of(place);
+        if is_marked(marks, place) {
+            add_support(&mut supports, name);
+        }
+        support_from_outside(&mut supports, around, rings, name, place);
     }
     Ok(supports)
 }
 
-// Lets a place fall and close where it has to.
+fn support_from_outside(
+    supports: &mut [usize],
+    around: &Around,
+    rings: &Rings,
+    name: usize,
+    place: usize,
+) {
+    for above in row_at(&around.superseders, place) {
+        if rings.name_of(*above) != name {
+            add_support(supports, name);
+        }
+    }
+}
+
+fn add_support(supports: &mut [usize], name: usize) {
+    if name < supports.len() {
+        supports[name] = supports[name].saturating_add(1);
+    }
+}
+
+// Lets a place fall, and its ring close, where they have to.
 fn look(
     nodes: &Nodes,
-    superseders: &[Vec<usize>],
-    needed_by: &[Vec<usize>],
+    around: &Around,
+    rings: &Rings,
     marks: &mut [bool],
     opening: &mut Opening,
     place: usize,
 ) -> Result<(), AllocError>
     requires left { AreMarksLeft nodes.now marks.old }
     requires opens { AreOpen nodes.now opening.old.open.items }
-    requires superseders { AreReversed nodes.now.supersedes.items (length nodes.now.candidates.items) superseders.now }
+    requires superseders { AreReversed nodes.now.supersedes.items (length nodes.now.candidates.items) around.now.superseders.items }
     ensures left { AreMarksLeft nodes.now marks.new }
     ensures opens { AreOpen nodes.now opening.new.open.items }
     ensures fewer { marked_count marks.new ≤ marked_count marks.old }
     ensures nearer { OnOk result (ComesNearer opening.old.open.items opening.new.open.items (length opening.old.work.items) (length opening.new.work.items)) }
 {
-    fall(nodes, &opening.open, marks, &mut opening.supports, place);
-    if can_close(superseders, marks, &opening.open, &opening.supports, place) {
+    fall(
+        nodes,
+        rings,
+        &opening.open,
+        marks,
+        &mut opening.supports,
+        place,
+    );
+    let alone = [place];
+    let ring = rings.ring_of(place, &alone);
+    if can_close(
+        around,
+        rings,
+        marks,
+        &opening.open,
+        &opening.supports,
+        ring,
+        place,
+    ) {
         opening.open[place] = false;
-        wake(
-            nodes,
-            needed_by,
-            &mut opening.supports,
-            &mut opening.work,
-            place,
-        )?;
+        close(nodes, around, rings, opening, ring)?;
     }
     Ok(())
 }
 
 // Takes the mark from a place that needs what is closed and isn't there.
-fn fall(nodes: &Nodes, opens: &[bool], marks: &mut [bool], supports: &mut [usize], place: usize)
+fn fall(
+    nodes: &Nodes,
+    rings: &Rings,
+    opens: &[bool],
+    marks: &mut [bool],
+    supports: &mut [usize],
+    place: usize,
+)
     requires left { AreMarksLeft nodes.now marks.old }
     requires opens { AreOpen nodes.now opens.now }
     ensures left { AreMarksLeft nodes.now marks.new }
@@ -101,7 +166,7 @@ fn fall(nodes: &Nodes, opens: &[bool], marks: &mut [bool], supports: &mut [usize
 {
     if is_marked(marks, place) && has_closed_need(nodes, opens, place) {
         marks[place] = false;
-        lose_support(supports, place);
+        lose_support(supports, rings.name_of(place));
     }
 }
 
@@ -116,59 +181,132 @@ fn has_closed_need(nodes: &Nodes, opens: &[bool], place: usize) -> bool
     false
 }
 
-// Whether nothing keeps an open place open.
+// Whether nothing keeps a ring open in which an open place stands.
 fn can_close(
-    superseders: &[Vec<usize>],
+    around: &Around,
+    rings: &Rings,
     marks: &[bool],
     opens: &[bool],
     supports: &[usize],
+    ring: &[usize],
     place: usize,
 ) -> bool
-    ensures { OnTrue result (CanClose superseders.now marks.now opens.now place) }
+    ensures { OnTrue result (CanClose around.now.superseders.items marks.now opens.now ring.now place) }
 {
-    supports.get(place).copied() == Some(0)
+    supports.get(rings.name_of(place)).copied() == Some(0)
         && is_marked(opens, place)
-        && !is_marked(marks, place)
-        && are_closed(opens, row_at(superseders, place))
+        && rings.is_in(ring, place)
+        && are_unmarked(marks, ring)
+        && are_shut_off(around, rings, opens, ring)
 }
 
-fn are_closed(opens: &[bool], places: &[usize]) -> bool
-    ensures { OnTrue result (AreUnmarked opens.now places.now) }
+fn are_unmarked(marks: &[bool], places: &[usize]) -> bool
+    ensures { OnTrue result (AreUnmarked marks.now places.now) }
 {
     for place in places {
-        if is_marked(opens, *place) {
+        if is_marked(marks, *place) {
             return false;
         }
     }
     true
 }
 
-// Puts what the closing of a place may concern to the work.
-fn wake(
-    nodes: &Nodes,
-    needed_by: &[Vec<usize>],
-    supports: &mut [usize],
-    work: &mut Vec<usize>,
-    place: usize,
-) -> Result<(), AllocError>
-    ensures needed { OnOk result (mark_of nodes.now.there.items place ≡ false → AreAmong (row needed_by.now place) work.new.items) }
+// Whether what supersedes a place of a ring is closed or stands in the ring.
+fn are_shut_off(around: &Around, rings: &Rings, opens: &[bool], ring: &[usize]) -> bool
+    ensures { OnTrue result (AreShutOff around.now.superseders.items opens.now ring.now ring.now) }
 {
-    for below in row_at(&nodes.supersedes, place) {
-        if lose_support(supports, *below) {
-            work.push(*below)?;
+    for place in ring {
+        if !are_closed_but(rings, opens, ring, row_at(&around.superseders, *place)) {
+            return false;
         }
     }
-    if !nodes.is_there(place) {
-        work.extend_from_slice(row_at(needed_by, place))?;
+    true
+}
+
+fn are_closed_but(rings: &Rings, opens: &[bool], ring: &[usize], places: &[usize]) -> bool
+    ensures { OnTrue result (AreClosedBut opens.now ring.now places.now) }
+{
+    for place in places {
+        if !is_closed_or_in(rings, opens, ring, *place) {
+            return false;
+        }
+    }
+    true
+}
+
+fn is_closed_or_in(rings: &Rings, opens: &[bool], ring: &[usize], place: usize) -> bool
+    ensures { OnTrue result ((mark_of opens.now place ≡ false) ⊎ Contains ring.now place) }
+{
+    if !is_marked(opens, place) {
+        return true;
+    }
+    rings.is_in(ring, place)
+}
+
+// Closes the places of a ring.
+fn close(
+    nodes: &Nodes,
+    around: &Around,
+    rings: &Rings,
+    opening: &mut Opening,
+    ring: &[usize],
+) -> Result<(), AllocError>
+    requires ungiven { AreUngiven nodes.now ring.now }
+    requires opens { AreOpen nodes.now opening.old.open.items }
+    ensures opens { AreOpen nodes.now opening.new.open.items }
+    ensures fewer { marked_count opening.new.open.items ≤ marked_count opening.old.open.items }
+{
+    for place in ring {
+        shut(opening, *place);
+        wake(
+            nodes,
+            around,
+            rings,
+            &mut opening.supports,
+            &mut opening.work,
+            *place,
+        )?;
     }
     Ok(())
 }
 
-// Counts one support less for a place. Whether none is left.
-fn lose_support(supports: &mut [usize], place: usize) -> bool {
-    if place < supports.len() {
-        supports[place] = supports[place].saturating_sub(1);
-        return supports[place] == 0;
+fn shut(opening: &mut Opening, place: usize)
+    ensures { IsShut place opening.old.open.items opening.new.open.items }
+{
+    if is_marked(&opening.open, place) {
+        opening.open[place] = false;
+    }
+}
+
+// Puts what the closing of a place may concern to the work.
+fn wake(
+    nodes: &Nodes,
+    around: &Around,
+    rings: &Rings,
+    supports: &mut [usize],
+    work: &mut Vec<usize>,
+    place: usize,
+) -> Result<(), AllocError>
+    ensures needed { OnOk result (mark_of nodes.now.there.items place ≡ false → AreAmong (row around.now.needed_by.items place) work.new.items) }
+{
+    let name = rings.name_of(place);
+    for below in row_at(&nodes.supersedes, place) {
+        let below_name = rings.name_of(*below);
+        if below_name != name && lose_support(supports, below_name) {
+            work.push(*below)?;
+        }
+    }
+    if !nodes.is_there(place) {
+        work.extend_from_slice(row_at(&around.needed_by, place))?;
+    }
+    Ok(())
+}
+
+// Counts one support less for a ring. Whether none is left.
+fn lose_support(supports: &mut [usize], name: usize) -> bool {
+    if name < supports.len() {
+        supports[name] = supports[name].saturating_sub(1);
+        return supports[name] == 0;
     }
     false
 }

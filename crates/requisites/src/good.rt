@@ -6,9 +6,9 @@ ghost use Rattle.requisites.specs.Good.{AreGood, AreMet, AreSwept, HasOpenNeed, 
 ghost use Rattle.requisites.specs.Nodes.{IsMarked, mark_of, row};
 ghost use Rattle.requisites.specs.Sources.{HasSource, source_of};
 
-use crate::cascade::cascade;
+use crate::cascade::{Around, cascade};
 use crate::nodes::{Nodes, is_marked};
-use crate::reversed::reversed;
+use crate::rings::Rings;
 use crate::sources::{least_sources, source_at};
 use std::alloc::{AllocError, Global};
 
@@ -37,6 +37,10 @@ impl Resolution {
 
 /// Finds the good places: those that are left when what has a need that isn't there, and that
 /// nothing left gives, is taken away for as long as there is any.
+///
+/// # Errors
+///
+/// `AllocError` where memory ran out.
 pub fn resolve(alloc: Global, nodes: &Nodes) -> Result<Resolution, AllocError>
     ensures good { IfOk result (λ found. AreGood nodes.now found.good.items found.givers.items) }
     ensures len { IfOk result (λ found. length found.givers.items ≡ length nodes.now.candidates.items) }
@@ -52,15 +56,16 @@ fn fall(alloc: Global, nodes: &Nodes, marks: &mut [bool]) -> Result<Vec<Option<u
     ensures good { IfOk result (λ givers. AreGood nodes.now marks.new givers.items) }
     ensures len { IfOk result (λ givers. length givers.items ≡ length marks.old) }
 {
-    let len = nodes.candidates.len();
-    let superseders = reversed(alloc, &nodes.supersedes, len)?;
-    let needed_by = reversed(alloc, &nodes.needs, len)?;
+    let around = Around::of(alloc, nodes)?;
+    let mut rings = Rings::none(alloc);
     'rounds: loop {
-        cascade(alloc, nodes, &superseders, &needed_by, marks)?;
+        cascade(alloc, nodes, &around, &rings, marks)?;
         let givers = least_sources(alloc, &nodes.supersedes, marks)?;
         if !sweep(nodes, &givers, marks) {
             return Ok(givers);
         }
+        // Where something falls still, a ring of superseding has kept it up.
+        rings = Rings::of(alloc, &nodes.supersedes, &around.superseders)?;
     }
 }
 

@@ -11,6 +11,7 @@ mod cascade;
 mod good;
 mod nodes;
 mod reversed;
+mod rings;
 mod sources;
 #[cfg(test)]
 mod tests;

@@ -10,6 +10,10 @@ use std::alloc::{AllocError, Global};
 /// or of others, or `None` where no marked place leads there.
 ///
 /// It takes time in proportion to the marks and the links.
+///
+/// # Errors
+///
+/// `AllocError` where memory ran out.
 pub fn least_sources(
     alloc: Global,
     lists: &[Vec<usize>],
@@ -42,8 +46,8 @@ fn spread_all(
     Ok(())
 }
 
-// Gives the source `start` to each place that has none yet and that a list leads to from there.
-fn spread(
+/// Gives the source `start` to each place that has none yet and that a list leads to from there.
+pub(crate) fn spread(
     sources: &mut [Option<usize>],
     work: &mut Vec<usize>,
     lists: &[Vec<usize>],

@@ -142,3 +142,23 @@ fn one_that_all_need_and_one_that_needs_all(rt: HostRuntime) -> Result<(), Fail>
     assert_eq!(rt; held_for(alloc, &blocked, 0)?, Some(LONG - 1));
     Ok(())
 }
+
+// Pairs that supersede each other, in series: the first of a pair supersedes the second of the pair before, and
+// needs the first of that; nothing gives what the first pair needs.
+#[test]
+fn rings_of_superseding_in_series(rt: HostRuntime) -> Result<(), Fail> {
+    let alloc = rt.alloc();
+    let mut needs = Vec::with_capacity(alloc, LONG)?;
+    let mut supersedes = Vec::with_capacity(alloc, LONG)?;
+    for pair in 0..LONG / 2 {
+        let first = 2 * pair;
+        supersedes.push((first, first + 1))?;
+        supersedes.push((first + 1, first))?;
+        needs.push((first, first + 2))?;
+        needs.push((first + 1, first + 2))?;
+    }
+    let nodes = nodes(alloc, LONG, &needs, &supersedes)?;
+    assert_eq!(rt; held_for(alloc, &nodes, 0)?, Some(2));
+    assert_eq!(rt; held_for(alloc, &nodes, LONG - 1)?, Some(LONG));
+    Ok(())
+}

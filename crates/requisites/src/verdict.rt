@@ -25,6 +25,10 @@ pub enum Verdict {
 }
 
 /// The verdict on a place, by the resolution of its nodes.
+///
+/// # Errors
+///
+/// `AllocError` where memory ran out.
 pub fn verdict_of_place(
     alloc: Global,
     nodes: &Nodes,

@@ -2,7 +2,7 @@
 ghost use Rattle.std.specs.Prelude.{◌≡◌, ◌↔◌, filter, List, ℕ, Contains, IfOk, OnOk};
 ghost use Rattle.catalogue.specs.Content.{ids_of};
 ghost use Rattle.catalogue.specs.Ids.{Ascend, put_among};
-ghost use Rattle.catalogue.specs.Published.{FailsWithCause, Tells};
+ghost use Rattle.catalogue.specs.Published.{FailsWithCause, StaysOpen, Tells};
 ghost use Rattle.supersede.specs.Giving.{givers_of};
 ghost use Rattle.supersede.specs.Leading.{Gives};
 ghost use Rattle.supersede.specs.Reach.{Alike, Continues, IsReach, has};
@@ -26,6 +26,7 @@ pub fn givers<P: Published>(alloc: Global, source: &mut P, id: &Id) -> Result<Ve
         (λ content. ids.items ≡ givers_of content id.now)) }
     ensures ascend { IfOk result (λ ids. Ascend ids.items) }
     ensures cause { FailsWithCause P.is_open P.failures source.old source.new result }
+    ensures stays_open { StaysOpen P.is_open source.old source.new result }
 
     // They are all that give it, and nothing else.
     ensures each { IfOk result (λ ids. Tells P.is_clean P.is_ours P.is_open P.content source.old source.new
@@ -36,6 +37,9 @@ pub fn givers<P: Published>(alloc: Global, source: &mut P, id: &Id) -> Result<Ve
 }
 
 /// The same, for one who asks of many SYSMODs and has read once which are catalogued.
+///
+/// `catalogued` are the SYSMODs that the source has catalogued, all of them, as `ids` of the source answers.
+/// Of what is found by another list nothing is said but that it ascends.
 ///
 /// # Errors
 ///
@@ -52,6 +56,7 @@ pub fn givers_among<P: Published>(
         (λ content. catalogued.now ≡ ids_of content → ids.items ≡ givers_of content id.now)) }
     ensures ascend { IfOk result (λ ids. Ascend ids.items) }
     ensures cause { FailsWithCause P.is_open P.failures source.old source.new result }
+    ensures stays_open { StaysOpen P.is_open source.old source.new result }
 {
     let found = reach(alloc, source, id)?;
     Ok(those_among(alloc, catalogued, &found)?)
@@ -78,6 +83,7 @@ fn reach<P: Published>(alloc: Global, source: &mut P, id: &Id) -> Result<Vec<Id>
         (λ content. Ascend (ids_of content) → IsReach content found.items id.now)) }
     ensures ascend { IfOk result (λ found. Ascend found.items) }
     ensures cause { FailsWithCause P.is_open P.failures source.old source.new result }
+    ensures stays_open { StaysOpen P.is_open source.old source.new result }
 {
     let mut found = BTreeSet::new(alloc);
     let mut order = Vec::new(alloc);

@@ -35,6 +35,10 @@ impl Model for Zone {
 
 impl Zone {
     /// The zone with these rows, as `zone_rows` gives them: ascending by SYSMOD, each once.
+    ///
+    /// # Errors
+    ///
+    /// `NoMemory` where memory ran out.
     pub fn new(alloc: Global, rows: &[ZoneRow]) -> Result<Zone, NoMemory>
         requires { RowsAscend rows.now }
         ensures { IfOk result (λ zone. zone ≡ rows.now) }

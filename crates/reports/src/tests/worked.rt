@@ -10,7 +10,7 @@ use std::test::Fail;
 use supersede::Zone;
 use zone_lists::{ZoneRow, patterns, received_rows, zone_rows};
 
-const BASE: &str = "\
+pub(crate) const BASE: &str = "\
 ++FUNCTION(HBB7790).
 ++VER(Z038).
 ++PTF(UA10001).
@@ -21,9 +21,9 @@ const BASE: &str = "\
  REASON(AA20002) CLASS(PE) DATE(12045).
 ";
 
-const ALPHA: &[u8] = b"SYSMOD,STATE\nHBB7790,APPLIED\nUA10001,APPLIED\n";
+pub(crate) const ALPHA: &[u8] = b"SYSMOD,STATE\nHBB7790,APPLIED\nUA10001,APPLIED\n";
 
-fn published(alloc: Global, more: &str) -> Result<ListPublished, Fail> {
+pub(crate) fn published(alloc: Global, more: &str) -> Result<ListPublished, Fail> {
     let source = format!(in alloc; "{BASE}{more}")?;
     let mut lists = ListPublished::new(alloc);
     lists.publish(&read_changes(alloc, &read(alloc, source.as_bytes())?)?)?;
@@ -31,7 +31,7 @@ fn published(alloc: Global, more: &str) -> Result<ListPublished, Fail> {
 }
 
 // The holds of a kind on the SYSMODs that are installed, in the order of their keys.
-fn held(
+pub(crate) fn held(
     alloc: Global,
     lists: &mut ListPublished,
     rows: &[ZoneRow],
@@ -158,7 +158,7 @@ fn exception_sysmods_from_statements(rt: HostRuntime) -> Result<(), Fail> {
     Ok(())
 }
 
-const FIXCAT: &str = "\
+pub(crate) const FIXCAT: &str = "\
 ++HOLD(HBB7790) FIXCAT FMID(HBB7790) REASON(AA40001)
  RESOLVER(UA10009)
  CATEGORY(IBM.Device.Server,IBM.Device).

@@ -5,7 +5,7 @@ use Rattle.std.proofs.lemmas.List.{take_all}
 use Rattle.catalogue.specs.Ids.{in_order}
 use Rattle.catalogue.specs.Touched.{IsTouched, touched_by}
 use Rattle.catalogue.proofs.IdOrder.{in_order_has}
-use Rattle.catalogue.proofs.Sources.{told_sooner, told_later, told_both, told_so}
+use Rattle.catalogue.proofs.Sources.{no_fault, told_both, told_later, told_so, told_sooner}
 use Rattle.catalogue.proofs.TouchedFacts.{touched_more}
 use Rattle.catalogue.proofs.TouchedLaws.{touches_all}
 use Rattle.catalogue.proofs.touching.touched.Goals as goal
@@ -18,6 +18,7 @@ loop-change-preserved g c =
     let both = told_both (told_sooner c.loop-change.invariant.told later) (told_later sooner later c.in_ok-touch_by.ensures.touched) in
     record {
       keeps = law.keeps_on _ _ _ c.loop-change.invariant.keeps c.in_ok-touch_by.ensures.keeps;
+      still_open = λ standing. c.in_ok-touch_by.ensures.stays_open (no_fault _) (c.loop-change.invariant.still_open standing);
       told = told_so both (λ content facts.
           touched_more content c.args.changes.now c.loop-change.change-index c.change-item.result c.loop-change.ids.keys c.touch_by.new.ids.keys
           c.loop-change-test.true c.change-item.is facts.0 facts.1);

@@ -10,6 +10,7 @@ invariant-loop-change g l =
     let source = g.P.Published in
     record {
       keeps : source.keeps l.fn.source l.source;
+      still_open : source.is_open l.fn.source → source.is_open l.source;
       told : Tells source.is_clean source.is_ours source.is_open source.content l.fn.source l.source
           (λ content. l.ids.keys ≡ in_order (flat_map (touched_by content) (take l.change-index l.changes)));
     }

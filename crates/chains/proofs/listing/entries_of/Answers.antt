@@ -1,6 +1,6 @@
 use Rattle.std.proofs.Common.{◌∙◌, ◌+◌, ap, length, map}
 use Rattle.std.proofs.lemmas.List.{take_all}
-use Rattle.catalogue.proofs.Sources.{told_both, told_later, told_so, told_sooner}
+use Rattle.catalogue.proofs.Sources.{no_fault, told_both, told_later, told_so, told_sooner}
 use Rattle.chains.specs.Sights.{sight_of}
 use Rattle.chains.proofs.PlaceFacts.{length-push}
 use Rattle.chains.proofs.SightFacts.{sights_more}
@@ -15,6 +15,7 @@ loop-id-preserved g c =
     record {
       len = ap length c.in_ok-push.ensures.items ∙ length-push c.loop-id.entries.items c.in_ok-entry_of.field-0 ∙ ap (λ k. k + 1) c.loop-id.invariant.len;
       keeps = law.keeps_on _ _ _ c.loop-id.invariant.keeps c.in_ok-entry_of.ensures.keeps;
+      still_open = λ standing. c.in_ok-entry_of.ensures.stays_open (no_fault _) (c.loop-id.invariant.still_open standing);
       told = told_so both (λ content facts.
           sights_more (sight_of content c.args.zone.now) c.args.ids.now c.loop-id.id-index c.id-item.result c.loop-id.entries.items c.push.new.self.items c.in_ok-entry_of.field-0
           c.loop-id-test.true c.id-item.is facts.0 c.in_ok-push.ensures.items facts.1);

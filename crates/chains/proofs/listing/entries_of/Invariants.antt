@@ -9,6 +9,7 @@ invariant-loop-id g l =
     record {
       len : length l.entries.items ≡ l.id-index;
       keeps : source.keeps l.fn.source l.source;
+      still_open : source.is_open l.fn.source → source.is_open l.source;
       told : Tells source.is_clean source.is_ours source.is_open source.content l.fn.source l.source
           (λ content. l.entries.items ≡ map (sight_of content l.zone) (take l.id-index l.ids));
     }

@@ -1,6 +1,6 @@
 use Rattle.std.proofs.Common.{◌∙◌, ap}
 use Rattle.std.proofs.lemmas.List.{take_all}
-use Rattle.catalogue.proofs.Sources.{told_both, told_later, told_so, told_sooner}
+use Rattle.catalogue.proofs.Sources.{no_fault, told_both, told_later, told_so, told_sooner}
 use Rattle.reports.specs.ChainText.{member_with, plan_items}
 use Rattle.reports.proofs.ChainFacts.{plan_by, plan_more}
 use Rattle.reports.proofs.chain.plan_values.Goals as goal
@@ -13,6 +13,7 @@ loop-id-preserved g c =
     let both = told_both (told_sooner c.loop-id.invariant.told later) (told_later sooner later c.in_ok-holds.ensures.holds) in
     record {
       keeps = law.keeps_on _ _ _ c.loop-id.invariant.keeps c.in_ok-holds.ensures.keeps;
+      still_open = λ standing. c.in_ok-holds.ensures.shut.1 (no_fault _) (c.loop-id.invariant.still_open standing);
       told = told_so both (λ content facts.
           plan_more content c.args.plan.now c.loop-id.id-index c.id-item.result c.loop-id.values.items c.push.new.self.items c.in_ok-member_value.field-0
           c.loop-id-test.true c.id-item.is facts.0

@@ -10,6 +10,7 @@ invariant-loop-id g l =
     let source = g.P.Published in
     record {
       keeps : source.keeps l.fn.source l.source;
+      still_open : source.is_open l.fn.source → source.is_open l.source;
       told : Tells source.is_clean source.is_ours source.is_open source.content l.fn.source l.source
           (λ content. map view l.values.items ≡ map (plan_member content) (take l.id-index l.plan));
     }

@@ -1,5 +1,5 @@
 use Rattle.std.proofs.Common.{◌∙◌, ◌++◌, ap}
-use Rattle.catalogue.proofs.Sources.{told_both, told_later, told_so, told_sooner}
+use Rattle.catalogue.proofs.Sources.{no_fault, told_both, told_later, told_so, told_sooner}
 use Rattle.reports.specs.Found.{errors_by}
 use Rattle.reports.proofs.ErrorFacts.{errors_more}
 use Rattle.reports.proofs.errors.errors_among.Goals as goal
@@ -13,6 +13,7 @@ loop-one-preserved g c =
     let both = told_both (told_sooner was.told later) (told_later sooner later c.in_ok-resolvers.ensures.candidates) in
     record {
       keeps = law.keeps_on _ _ _ was.keeps c.in_ok-resolvers.ensures.keeps;
+      still_open = λ standing. c.in_ok-resolvers.ensures.stays_open (no_fault _) (c.loop-one.invariant.still_open standing);
       told = told_so both (λ content facts is.
           errors_more content c.args.zone.now c.args.held.now c.loop-one.one-index c.one-item.result c.loop-one.found.items c.put_found.new.found.items
           c.loop-one-test.true c.one-item.is (facts.0 is)

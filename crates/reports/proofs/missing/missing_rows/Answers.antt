@@ -3,6 +3,7 @@ use Rattle.catalogue.proofs.Sources.{told_both, told_later, told_so, told_sooner
 use Rattle.reports.specs.Resolvers.{status_in}
 use Rattle.catalogue.specs.Ids.{in_order}
 use Rattle.reports.specs.MissingFound.{resolvers_in}
+use Rattle.reports.proofs.OrderFacts.{missing_rows_ascend}
 use Rattle.reports.proofs.MissingFacts.{rows_are}
 use Rattle.reports.proofs.missing.missing_rows.Goals as goal
 
@@ -33,3 +34,21 @@ returns-clause-rows g c =
     (c.deref.ensures.value ∙ c.in_ok-held.ensures)
     facts.0
     (c.in_ok-rows_told.ensures (status_in content c.args.zone.now) statuses asked))
+
+pub returns-clause-order : goal.returns-clause-order
+returns-clause-order g c = missing_rows_ascend
+
+pub returns-in_err-held-clause-order : goal.returns-in_err-held-clause-order
+returns-in_err-held-clause-order g c = missing_rows_ascend
+
+pub returns-in_err-rows-clause-order : goal.returns-in_err-rows-clause-order
+returns-in_err-rows-clause-order g c = missing_rows_ascend
+
+pub returns-in_err-asked-clause-order : goal.returns-in_err-asked-clause-order
+returns-in_err-asked-clause-order g c = missing_rows_ascend
+
+pub returns-in_err-statuses-clause-order : goal.returns-in_err-statuses-clause-order
+returns-in_err-statuses-clause-order g c = missing_rows_ascend
+
+pub returns-in_err-rows_told-clause-order : goal.returns-in_err-rows_told-clause-order
+returns-in_err-rows_told-clause-order g c = missing_rows_ascend

@@ -1,5 +1,5 @@
 use Rattle.std.proofs.Common.{◌∙◌, ◌++◌, ap, option_map}
-use Rattle.catalogue.proofs.Sources.{told_both, told_later, told_so, told_sooner}
+use Rattle.catalogue.proofs.Sources.{no_fault, told_both, told_later, told_so, told_sooner}
 use Rattle.reports.specs.MissingFound.{both_of, rows_by, rows_of, unless_there}
 use Rattle.reports.proofs.ResolverFacts.{flat_map_more}
 use Rattle.reports.proofs.missing.rows_among.Goals as goal
@@ -16,6 +16,7 @@ loop-one-preserved g c =
     let both = told_both (told_sooner first later) (told_later (law.keeps_content _ _ joined) later c.in_ok-by_resolver.ensures.resolvers) in
     record {
       keeps = law.keeps_on _ _ _ joined c.in_ok-by_resolver.ensures.keeps;
+      still_open = λ standing. c.in_ok-by_resolver.ensures.stays_open (no_fault _) (c.in_ok-by_reason.ensures.stays_open (no_fault _) (c.loop-one.invariant.still_open standing));
       told = told_so both (λ content facts is.
           flat_map_more (rows_of content c.args.zone.now) c.args.held.now c.loop-one.one-index c.one-item.result c.loop-one.rows.items c.put_rows.new.rows.items
           c.loop-one-test.true c.one-item.is (facts.0.0 is)

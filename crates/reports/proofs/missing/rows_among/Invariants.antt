@@ -9,6 +9,7 @@ invariant-loop-one g l =
     let source = g.P.Published in
     record {
       keeps : source.keeps l.fn.source l.source;
+      still_open : source.is_open l.fn.source → source.is_open l.source;
       told : Tells source.is_clean source.is_ours source.is_open source.content l.fn.source l.source
           (λ content. l.catalogued ≡ ids_of content → l.rows.items ≡ rows_found content l.zone (take l.one-index l.held));
     }

@@ -2,7 +2,7 @@ use Rattle.std.proofs.Common.{◌≡◌, ◌∙◌, ◌++◌, ◌∷◌, [], fil
 use Rattle.std.specs.List.{list_any}
 use Rattle.std.proofs.lemmas.List.{take_all}
 use Rattle.zone_lists.specs.Installed.{is_installed}
-use Rattle.catalogue.proofs.Sources.{told_both, told_later, told_so, told_sooner}
+use Rattle.catalogue.proofs.Sources.{no_fault, told_both, told_later, told_so, told_sooner}
 use Rattle.supersede.specs.Giving.{fmids_of, is_candidate}
 use Rattle.reports.proofs.ResolverFacts.{filter_more}
 use Rattle.reports.proofs.resolvers.candidates.Goals as goal
@@ -22,6 +22,7 @@ loop-id-preserved g c =
     ] in
     record {
       keeps = law.keeps_on _ _ _ was.keeps c.in_ok-sysmod.ensures.keeps;
+      still_open = λ standing. c.in_ok-sysmod.ensures.shut.1 (no_fault _) (c.loop-id.invariant.still_open standing);
       told = told_so both (λ content facts.
           filter_more (is_candidate content c.args.zone.now) c.args.ids.now c.loop-id.id-index c.id-item.result c.loop-id.found.items c.if-applies.found.items c.applies.result
           c.loop-id-test.true c.id-item.is facts.0

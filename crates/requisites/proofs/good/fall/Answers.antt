@@ -9,12 +9,12 @@ pub returns-then-not-sweep : goal.returns-then-not-sweep
 returns-then-not-sweep c =
     let nodes = c.args.nodes.now in
     let marks = c.cascade.new.marks in
-    let given = c.deref-in-rounds-4.result.now in
+    let given = c.deref-in-rounds.result.now in
     let givers = c.in_ok-givers.givers.items in
     record {
-      good = good_given nodes c.sweep.new.marks given givers c.deref-in-rounds-4.ensures.value
+      good = good_given nodes c.sweep.new.marks given givers c.deref-in-rounds.ensures.value
           (good_found nodes (length marks) marks c.sweep.new.marks given c.sweep.result c.if-not-sweep.true refl c.in_ok-cascade.ensures.left
-          (read_sources nodes c.deref-in-rounds-3.result.now marks given givers c.deref-in-rounds-3.ensures.value c.deref-in-rounds-4.ensures.value c.in_ok-givers.ensures.sources)
+          (read_sources nodes c.deref.result.now marks given givers c.deref.ensures.value c.deref-in-rounds.ensures.value c.in_ok-givers.ensures.sources)
           c.sweep.ensures);
       len = omega (arith, c.in_ok-givers.ensures.len, c.rounds.auto.marks, c.cascade.auto.marks);
     }
@@ -23,8 +23,8 @@ pub rounds-preserved : goal.rounds-preserved
 rounds-preserved c =
     let nodes = c.args.nodes.now in
     let marks = c.cascade.new.marks in
-    let given = c.deref-in-rounds-4.result.now in
+    let given = c.deref-in-rounds.result.now in
     let givers = c.in_ok-givers.givers.items in
     left_swept nodes (length marks) marks c.sweep.new.marks given c.sweep.result c.in_ok-cascade.ensures.left
-    (read_sources nodes c.deref-in-rounds-3.result.now marks given givers c.deref-in-rounds-3.ensures.value c.deref-in-rounds-4.ensures.value c.in_ok-givers.ensures.sources)
+    (read_sources nodes c.deref.result.now marks given givers c.deref.ensures.value c.deref-in-rounds.ensures.value c.in_ok-givers.ensures.sources)
     c.sweep.ensures

@@ -1,6 +1,6 @@
 use Rattle.std.proofs.Common.{◌≡◌, ◌∙◌, ◌<◌, length, get_or, take, subst, sym, rules}
 use Rattle.std.proofs.lemmas.List.{take_all}
-use Rattle.catalogue.proofs.Sources.{told_both, told_later, told_so, told_sooner}
+use Rattle.catalogue.proofs.Sources.{no_fault, told_both, told_later, told_so, told_sooner}
 use Rattle.supersede.specs.Reach.{IsReach}
 use Rattle.supersede.proofs.ReachFacts.{Walked, longer, still_has, walk_ends, walk_goes_on}
 use Rattle.supersede.proofs.giving.reach.Goals as goal
@@ -17,6 +17,7 @@ loop-at-preserved g c =
     let at : c.index.result.now ≡ get_or c.loop-at.order.items c.loop-at.at c.index.result.now = search rules in
     record {
       keeps = law.keeps_on _ _ _ was.keeps c.in_ok-above.ensures.keeps;
+      still_open = λ standing. c.in_ok-above.ensures.shut.1 (no_fault _) (c.loop-at.invariant.still_open standing);
       alike = alike;
       begun = still_has c.loop-at.order.items c.add_new.new.order.items c.args.id.now c.in_ok-add_new.ensures.continues was.begun;
       within = longer c.loop-at.order.items c.add_new.new.order.items c.loop-at.at c.in_ok-add_new.ensures.continues below;

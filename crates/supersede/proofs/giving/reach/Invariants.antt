@@ -12,6 +12,7 @@ invariant-loop-at g l =
     let source = g.P.Published in
     record {
       keeps : source.keeps l.fn.source l.source;
+      still_open : source.is_open l.fn.source → source.is_open l.source;
       alike : Alike l.found.keys l.order.items;
       begun : has l.order.items l.id ≡ true;
       within : l.at ≤ length l.order.items;

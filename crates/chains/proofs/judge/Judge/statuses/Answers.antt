@@ -1,5 +1,5 @@
 use Rattle.std.proofs.Common.{◌∙◌, ap}
-use Rattle.catalogue.proofs.Sources.{told_both, told_later, told_so, told_sooner}
+use Rattle.catalogue.proofs.Sources.{no_fault, told_both, told_later, told_so, told_sooner}
 use Rattle.chains.specs.Judge.{status_of}
 use Rattle.chains.specs.Verdicts.{verdict_of}
 use Rattle.chains.proofs.PlaceFacts.{made_more}
@@ -28,6 +28,7 @@ loop-id-preserved g c =
     let all = told_both so_far (told_later sooner later c.in_ok-verdict.ensures.verdict) in
     record {
       keeps = law.keeps_on _ _ _ c.loop-id.invariant.keeps c.verdict.ensures.keeps;
+      still_open = λ standing. c.in_ok-verdict.ensures.stays_open (no_fault _) (c.loop-id.invariant.still_open standing);
       told = told_so all (λ content facts held.
           made_more (λ id. status_of (verdict_of content c.args.zone.now id)) c.args.ids.now c.loop-id.id-index c.id-item.result c.status.result c.loop-id.statuses.items c.push.new.self.items
           c.loop-id-test.true c.id-item.is (facts.0.0 held) c.in_ok-push.ensures.items (c.status.ensures ∙ ap status_of (facts.1 (facts.0.1 held))));

@@ -1,0 +1,184 @@
+//! Rings: places that supersede each other.
+//!
+//! No clause says that what is found are the rings: who closes the places of one together looks whether
+//! they may be closed. Rings make that quick.
+ghost use Rattle.std.specs.Prelude.{◌≡◌, ℕ, [], None, length, Contains, OnOk};
+ghost use Rattle.std.specs.Bool.{OnTrue};
+ghost use Rattle.requisites.specs.Good.{ComesNearer};
+ghost use Rattle.requisites.specs.Sources.{source_of};
+
+use crate::nodes::{is_marked, row_at};
+use crate::sources::{source_at, spread};
+use std::alloc::{AllocError, Global};
+
+/// Places in rings: those that lead to each other stand together, and each other place alone.
+#[derive(Debug, Drop)]
+pub(crate) struct Rings {
+    // For each place the one after which its ring is called, and where it stands in the ring.
+    named: Vec<usize>,
+    at: Vec<usize>,
+    // For each place the ring that is called after it.
+    members: Vec<Vec<usize>>,
+}
+
+impl Rings {
+    /// Each place alone. It takes no memory.
+    pub(crate) fn none(alloc: Global) -> Rings {
+        Rings {
+            named: Vec::new(alloc),
+            at: Vec::new(alloc),
+            members: Vec::new(alloc),
+        }
+    }
+
+    /// The rings of links, which are given both ways. It takes time in proportion to the links.
+    pub(crate) fn of(
+        alloc: Global,
+        lists: &[Vec<usize>],
+        reversed: &[Vec<usize>],
+    ) -> Result<Rings, AllocError> {
+        let order = left_in_order(alloc, lists, reversed.len())?;
+        let names = names_of(alloc, reversed, order)?;
+        rings_by(alloc, &names)
+    }
+
+    /// The place after which the ring of a place is called.
+    pub(crate) fn name_of(&self, place: usize) -> usize {
+        self.named.get(place).copied().unwrap_or(place)
+    }
+
+    /// The ring of a place, or what is handed where the place stands alone.
+    pub(crate) fn ring_of<'a>(&'a self, place: usize, alone: &'a [usize]) -> &'a [usize] {
+        match self.members.get(self.name_of(place)) {
+            Some(members) => members.as_slice(),
+            None => alone,
+        }
+    }
+
+    /// Whether a place stands in a ring. It is looked for where it stands in its own.
+    pub(crate) fn is_in(&self, ring: &[usize], place: usize) -> bool
+        ensures { OnTrue result (Contains ring.now place) }
+    {
+        stands_at(ring, self.at.get(place).copied().unwrap_or(0), place)
+    }
+}
+
+fn stands_at(ring: &[usize], at: usize, place: usize) -> bool
+    ensures { OnTrue result (Contains ring.now place) }
+{
+    at < ring.len() && ring[at] == place
+}
+
+// A place that a walk comes to, or that it leaves.
+#[derive(Clone, Copy, Debug)]
+enum Step {
+    Enter(usize),
+    Leave(usize),
+}
+
+#[derive(Debug, Drop)]
+struct Walk {
+    unseen: Vec<bool>,
+    work: Vec<Step>,
+    order: Vec<usize>,
+}
+
+// The places in the order in which walks along the links leave them.
+fn left_in_order(
+    alloc: Global,
+    lists: &[Vec<usize>],
+    len: usize,
+) -> Result<Vec<usize>, AllocError> {
+    let mut walk = Walk {
+        unseen: vec![in alloc; true; len]?,
+        work: Vec::new(alloc),
+        order: Vec::with_capacity(alloc, len)?,
+    };
+    for start in 0..len {
+        walk_from(&mut walk, lists, start)?;
+    }
+    Ok(walk.order)
+}
+
+fn walk_from(walk: &mut Walk, lists: &[Vec<usize>], start: usize) -> Result<(), AllocError> {
+    walk.work.push(Step::Enter(start))?;
+    while let Some(step) = walk.work.pop() {
+        take_step(walk, lists, step)?;
+    }
+    Ok(())
+}
+
+fn take_step(walk: &mut Walk, lists: &[Vec<usize>], step: Step) -> Result<(), AllocError>
+    ensures { OnOk result (ComesNearer walk.old.unseen.items walk.new.unseen.items (length walk.old.work.items) (length walk.new.work.items)) }
+{
+    match step {
+        Step::Enter(place) => enter(walk, lists, place),
+        Step::Leave(place) => Ok(walk.order.push(place)?),
+    }
+}
+
+fn enter(walk: &mut Walk, lists: &[Vec<usize>], place: usize) -> Result<(), AllocError>
+    ensures { OnOk result (ComesNearer walk.old.unseen.items walk.new.unseen.items (length walk.old.work.items) (length walk.new.work.items)) }
+{
+    if is_marked(&walk.unseen, place) {
+        walk.unseen[place] = false;
+        put_steps(&mut walk.work, row_at(lists, place), place)?;
+    }
+    Ok(())
+}
+
+// Puts what is listed for a place to the work, to be entered before the place is left.
+fn put_steps(work: &mut Vec<Step>, listed: &[usize], place: usize) -> Result<(), AllocError> {
+    work.push(Step::Leave(place))?;
+    for below in listed {
+        work.push(Step::Enter(*below))?;
+    }
+    Ok(())
+}
+
+// For each place the one after which its ring is called: of all that lead to it the last that was left.
+fn names_of(
+    alloc: Global,
+    reversed: &[Vec<usize>],
+    order: Vec<usize>,
+) -> Result<Vec<Option<usize>>, AllocError> {
+    let mut names = vec![in alloc; None; reversed.len()]?;
+    spread_from_last(alloc, &mut names, reversed, order)?;
+    Ok(names)
+}
+
+fn spread_from_last(
+    alloc: Global,
+    names: &mut [Option<usize>],
+    reversed: &[Vec<usize>],
+    mut order: Vec<usize>,
+) -> Result<(), AllocError>
+    requires { (q : ℕ) → source_of names.old q ≡ None }
+{
+    let mut work = Vec::new(alloc);
+    while let Some(start) = order.pop() {
+        spread(names, &mut work, reversed, start)?;
+    }
+    Ok(())
+}
+
+fn rings_by(alloc: Global, names: &[Option<usize>]) -> Result<Rings, AllocError> {
+    let mut rings = Rings {
+        named: Vec::with_capacity(alloc, names.len())?,
+        at: Vec::with_capacity(alloc, names.len())?,
+        members: vec![in alloc; Vec::new(alloc); names.len()]?,
+    };
+    for place in 0..names.len() {
+        add_member(&mut rings, place, source_at(names, place).unwrap_or(place))?;
+    }
+    Ok(rings)
+}
+
+fn add_member(rings: &mut Rings, place: usize, name: usize) -> Result<(), AllocError> {
+    rings.named.push(name)?;
+    if name < rings.members.len() {
+        rings.at.push(rings.members[name].len())?;
+        rings.members[name].push(place)?;
+    }
+    Ok(())
+}
