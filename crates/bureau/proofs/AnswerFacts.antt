@@ -1,7 +1,7 @@
 -- One call answered, from what is decided and what is made.
 use Rattle.std.proofs.Common.{◌≡◌, inl, inr, ◌+◌, ℕ, refl, sym, ◌∙◌, ap, subst}
 use Rattle.std.specs.Prelude.{Result, Ok, Err, IsErr}
-use Rattle.catalogue.specs.Content.{Content}
+use Rattle.catalogue.specs.Content.{Content, IsInOrder}
 use Rattle.catalogue.specs.Published.{Keeps, Tells}
 use Rattle.bureau_store.specs.Caller.{IsAmong}
 use Rattle.bureau_store.specs.Effect.{content_after, tables_after}
@@ -91,7 +91,7 @@ module _ {Store Judge : Type 0} {is_clean is_ours is_open : Store → Type 0} {f
       → Tells is_clean is_ours is_open tables old mid (λ this. is_right judge this.content → IsComing caller call this (Accepted due))
       → Tells is_clean is_ours is_open tables old mid (λ this. is_right judge this.content → is_right now this.content)
       → Makes is_clean is_ours is_open failures tables mid new result (MayBeMade due.deed) (tables_after (maker_of due.deed) (effect_of due.deed) (record { number = due.number; reply = due.text.items }))
-      → ((content : Content) → TouchesNoMore due.deed content → is_right now content → is_right after (content_after (effect_of due.deed) content))
+      → ((content : Content) → IsInOrder content → IsInOrder (content_after (effect_of due.deed) content) → TouchesNoMore due.deed content → is_right now content → is_right after (content_after (effect_of due.deed) content))
       → IsAnswered is_clean is_ours is_open tables is_right (record { store = old; judge = judge }) (record { store = new; judge = after }) caller call (reply_as reply)
   change_made {old} {mid} {new} {caller = caller} now call result done due reply is told order keeps come right makes ready ours clean this holds among =
       let between = makes.clean clean in
@@ -102,12 +102,14 @@ module _ {Store Judge : Type 0} {is_clean is_ours is_open : Store → Type 0} {f
       let asked = may_be_made due.deed this (subst (IsAmong this.callers) (sym comes.1.1) among) comes.1.2.0 in
       let still : is_open new = acknowledged (keeps.ours ours between) clean in
       let open_first : is_open old = keeps.still_open (makes.still_open still) in
-      let in_order = (subst AreInOrder (holds.stands open_first) (order old ours)).content in (
+      let in_order = (subst AreInOrder (holds.stands open_first) (order old ours)).content in
+      let stands = made (keeps.ours ours between) clean this asked (keeps.stays ours between this holds.stands) in
+      let order_after = (subst AreInOrder (stands still) (order new (makes.ours (keeps.ours ours between) clean))).content in (
         change this,
         inr (told ∙ ap answer_of comes.0, after_is this comes.1.0 comes.1.1 comes.0),
         record {
-          stands = made (keeps.ours ours between) clean this asked (keeps.stays ours between this holds.stands);
-          right = ready this.content (comes.1.2.1 in_order) (right.told ours between this holds.stands holds.right);
+          stands = stands;
+          right = ready this.content in_order order_after (comes.1.2.1 in_order) (right.told ours between this holds.stands holds.right);
         },
       )
     where

@@ -1,18 +1,12 @@
 -- Making a change that is due.
 use Rattle.std.proofs.Common.{◌≡◌, ℕ, List, refl, subst}
 use Rattle.std.specs.Prelude.{Result}
-use Rattle.catalogue.specs.Content.{Content}
-use Rattle.catalogue.specs.Touched.{AgreeOutside}
 use Rattle.bureau_store.specs.Effect.{tables_after}
 use Rattle.bureau_store.specs.Store.{Makes}
 use Rattle.bureau_store.specs.Tables.{Tables}
 use Rattle.bureau_store.specs.declared.fault.StoreFault.{StoreFault}
 use Rattle.bureau.specs.Come.{MayBeMade, effect_of, maker_of}
 use Rattle.bureau.specs.declared.come.Deed.{Deed}
-
--- a content agrees with itself
-pub agrees_itself : (ids : List (List ℕ)) (content : Content) → AgreeOutside ids content content
-agrees_itself ids content = record { records = λ id out. refl; above = λ id out. refl; reasons = λ id out. refl }
 
 module _ {Store : Type 0} {is_clean is_ours is_open : Store → Type 0} {failures : Store → ℕ} {held : Store → Tables} {old new : Store} {answer : Result (Unit {0}) StoreFault} where
   -- what a store makes of slices, it makes of the lists that they show

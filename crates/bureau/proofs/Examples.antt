@@ -1,5 +1,5 @@
 -- What comes of calls: small worked cases, so that the definitions are seen to mean what they should.
-use Rattle.std.proofs.Common.{◌≡◌, ℕ, true, false, [], ◌∷◌, refl}
+use Rattle.std.proofs.Common.{◌≡◌, ℕ, true, false, List, [], ◌∷◌, refl}
 use Rattle.std.specs.Prelude.{Some, None, codes, replicate}
 use Rattle.std.specs.Fmt.{digits}
 use Rattle.zone_lists.specs.declared.zones.ZoneState.TheVariants.{Applied}
@@ -7,8 +7,9 @@ use Rattle.catalogue.specs.Content.{nothing}
 use Rattle.bureau_store.specs.Effect.{zone_dropped}
 use Rattle.bureau_store.specs.Tables.{ZoneTable, Zones}
 use Rattle.bureau_store.specs.declared.caller.Caller.TheVariants.{Publisher, Client}
-use Rattle.bureau.specs.Call.{publish, drop_zone, list_zones, err_sysmods, counts}
-use Rattle.bureau.specs.Outcome.{accepted, answered, has_room, outcome, plain}
+use Rattle.bureau.specs.Call.{Call, publish, drop_zone, list_zones, err_sysmods, counts}
+use Rattle.bureau.specs.Outcome.{Answer, accepted, answered, has_room, outcome, plain}
+use Rattle.bureau.specs.Own.{Asked, Opening, own_answer}
 use Rattle.bureau.specs.Texts.{counts_text}
 use Rattle.bureau.specs.View.{View}
 
@@ -96,3 +97,37 @@ counts_of_nothing = refl
 
 pub both_may_count : outcome alpha counts ≡ outcome publisher counts
 both_may_count = refl
+
+-- ---- the own answer: no tables, only the calls that came, the latest first
+
+-- ALPHA opens with the zone TGT1, its second change being its last
+abbrev opening : Opening
+opening = record {
+  content = nothing;
+  publisher = record { number = 0; reply = [] };
+  own = record { number = 2; reply = codes "ZONE TGT1 ROWS 1\n" };
+  zones = (codes "TGT1   ", small_zone) ∷ [];
+  received = [];
+}
+
+abbrev by_alpha : Call → Asked
+by_alpha call = record { caller = Client (codes "ALPHA  "); call = call }
+
+abbrev own : List Asked → Call → Answer
+own history call = own_answer opening history (Client (codes "ALPHA  ")) call
+
+-- a change takes the next number, and what it did is there for the calls behind it
+pub zone_dropped_before : own (by_alpha (drop_zone (Some 3) (codes "TGT1   ")) ∷ []) (err_sysmods (codes "TGT1   ")) ≡ plain 404 (codes "NOT FOUND\n")
+zone_dropped_before = refl
+
+-- its number again gets the reply that is kept, though the zone is there no more
+pub drop_again : own (by_alpha (drop_zone (Some 3) (codes "TGT1   ")) ∷ []) (drop_zone (Some 3) (codes "TGT1   ")) ≡ plain 200 (codes "ZONE TGT1 DROPPED\n")
+drop_again = refl
+
+-- and a number before it none
+pub before_the_drop : own (by_alpha (drop_zone (Some 3) (codes "TGT1   ")) ∷ []) (drop_zone (Some 2) (codes "TGT1   ")) ≡ plain 409 (codes "STALE\n")
+before_the_drop = refl
+
+-- a change that was refused took no number
+pub refused_before : own (by_alpha (drop_zone (Some 3) (codes "TGT9   ")) ∷ []) (drop_zone (Some 3) (codes "TGT1   ")) ≡ plain 200 (codes "ZONE TGT1 DROPPED\n")
+refused_before = refl

@@ -10,3 +10,4 @@ pub mod QuestionFacts
 pub mod CommitFacts
 pub mod AnswerFacts
 pub mod RunFacts
+pub mod RepeatFacts

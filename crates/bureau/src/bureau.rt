@@ -1,8 +1,8 @@
 //! The bureau.
-ghost use Rattle.std.specs.Prelude.{◌≡◌, ℕ, List, length, All, IfOk, IfSome, OnErr};
+ghost use Rattle.std.specs.Prelude.{◌≡◌, ℕ, List, length, All, IfErr, IfOk, IfSome, OnErr};
 ghost use Rattle.catalogue.specs.Published.{Tells};
 ghost use Rattle.bureau_store.specs.Caller.{IsProper, caller_named, caller_with};
-ghost use Rattle.bureau_store.specs.Store.{FailsForCause};
+ghost use Rattle.bureau_store.specs.Store.{FailsForCause, IsOfCall, ShutsByFault};
 ghost use Rattle.bureau_store.specs.Tables.{AreInOrder, Tables};
 ghost use Rattle.bureau_store.specs.declared.caller.Caller.{Caller};
 ghost use Rattle.bureau_store.specs.declared.caller.CallerRow.{CallerRow};
@@ -11,6 +11,7 @@ ghost use Rattle.bureau.specs.Answering.{AreAnswered, Goes, IsAnswered, IsKept, 
 ghost use Rattle.bureau.specs.Calls.{call_as};
 ghost use Rattle.bureau.specs.Come.{answer_in};
 ghost use Rattle.bureau.specs.Joint.{IsRun, Turn};
+ghost use Rattle.bureau.specs.Repeat.{ActsOnce, StaysStale};
 ghost use Rattle.bureau.specs.Replies.{reply_as};
 
 use crate::come::{Come, NoRoom};
@@ -78,14 +79,17 @@ impl<S: Store, J: Judge<S>> Bureau<S, J> {
     ///
     /// # Errors
     ///
-    /// `Memory` where memory ran out, `Device` where the store has failed. Nothing has changed.
+    /// `Memory` where memory ran out, `Size` where the device has no room for more, `Device` where the store has failed.
+    /// Nothing has changed.
     pub fn caller_of(&mut self, token: &[u8]) -> Result<Option<Caller>, StoreFault>
         ensures keeps { S.keeps self.old.store self.new.store }
         ensures judge { self.new.judge ≡ self.old.judge }
         ensures caller { IfOk result (λ found. Tells S.is_clean S.is_ours S.is_open S.tables self.old.store self.new.store
             (λ this. found ≡ caller_with this.callers token.now)) }
         ensures proper { IfOk result (λ found. IfSome found IsProper) }
+        ensures of_call { IfErr result IsOfCall }
         ensures cause { FailsForCause S.is_open S.failures self.old.store self.new.store result }
+        ensures shut { ShutsByFault S.is_open self.old.store self.new.store result }
     {
         let found = self.desk.caller_of(token)?;
         Ok(properly(&found))
@@ -111,7 +115,8 @@ impl<S: Store, J: Judge<S>> Bureau<S, J> {
     /// call.
     ///
     /// `alone` and `alike` are isolation (see [`isolation`](crate::isolation)): each caller is answered as by a bureau
-    /// that received the publisher's calls and that caller's alone.
+    /// that received the publisher's calls and that caller's alone. `once` and `stale` say that a change acts once (see
+    /// [`repeats`](crate::repeats)).
     ///
     /// # Errors
     ///
@@ -127,6 +132,10 @@ impl<S: Store, J: Judge<S>> Bureau<S, J> {
         ensures alike { IfOk result (λ replies. AreAnswered S.is_clean S.is_ours S.is_open S.tables J.is_right self.old self.new calls.now
             (λ this next. (opening closing : Tables) (turns : List Turn) (viewer : Caller) → AreInOrder this → AreInOrder opening → IsRun opening turns closing →
             opening_of viewer this ≡ opening_of viewer opening → AreAnsweredAlike viewer (turns_of calls.now replies.items) turns)) }
+        ensures once { IfOk result (λ replies. AreAnswered S.is_clean S.is_ours S.is_open S.tables J.is_right self.old self.new calls.now
+            (λ this next. ActsOnce this (turns_of calls.now replies.items) next)) }
+        ensures stale { IfOk result (λ replies. AreAnswered S.is_clean S.is_ours S.is_open S.tables J.is_right self.old self.new calls.now
+            (λ this next. StaysStale this (turns_of calls.now replies.items) next)) }
         ensures err { OnErr result (self.new ≡ self.old) }
     {
         let mut replies = Vec::with_capacity(self.alloc, calls.len())?;

@@ -1,6 +1,6 @@
 //! Making a change that is due. It takes no memory of the bureau's.
 ghost use Rattle.std.specs.Prelude.{◌≡◌};
-ghost use Rattle.catalogue.specs.Content.{Content};
+ghost use Rattle.catalogue.specs.Content.{Content, IsInOrder};
 ghost use Rattle.bureau_store.specs.Effect.{content_after, tables_after};
 ghost use Rattle.bureau_store.specs.Store.{Makes};
 ghost use Rattle.bureau.specs.Come.{IsFitDue, MayBeMade, TouchesNoMore, effect_of, maker_of};
@@ -21,8 +21,8 @@ pub(crate) fn commit<S: Store, J: Judge<S>>(
         (MayBeMade due.now.deed)
         (tables_after (maker_of due.now.deed) (effect_of due.now.deed) (record { number = due.now.number; reply = due.now.text.items })) }
     ensures right { (content : Content) → J.is_right judge.old content → J.is_right judge.new content }
-    ensures ready { (content : Content) → TouchesNoMore due.now.deed content →
-        J.is_right judge.old content → J.is_right judge.new (content_after (effect_of due.now.deed) content) }
+    ensures ready { (content : Content) → IsInOrder content → IsInOrder (content_after (effect_of due.now.deed) content) →
+        TouchesNoMore due.now.deed content → J.is_right judge.old content → J.is_right judge.new (content_after (effect_of due.now.deed) content) }
 {
     let number = due.number;
     let reply = due.text.as_slice();

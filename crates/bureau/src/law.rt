@@ -2,6 +2,7 @@
 ghost use Rattle.std.specs.Prelude.{◌≡◌, List};
 ghost use Rattle.bureau.specs.Alone.{AreAnsweredAlike, IsAlone, opening_of};
 ghost use Rattle.bureau.specs.Joint.{IsRun, Turn};
+ghost use Rattle.bureau.specs.Repeat.{ActsOnce, StaysStale};
 ghost use Rattle.bureau_store.specs.Tables.{AreInOrder, Tables};
 ghost use Rattle.bureau_store.specs.declared.caller.Caller.{Caller};
 
@@ -16,4 +17,14 @@ pub fn isolation()
     ensures alike { (opening closing opening2 closing2 : Tables) (turns turns2 : List Turn) (viewer : Caller) →
         AreInOrder opening → AreInOrder opening2 → IsRun opening turns closing → IsRun opening2 turns2 closing2 →
         opening_of viewer opening ≡ opening_of viewer opening2 → AreAnsweredAlike viewer turns turns2 }
+{}
+
+/// Repeats, a law of every run of the bureau: a change acts once, however often it is sent.
+///
+/// `once`: a change that was told 200 is told the same when its number comes again, until a later change of the
+/// caller's was made, and STALE from then on. `stale`: a change that was told STALE is told so from then on. A 503
+/// may come in place of each. The tables are those of the same run without what came again.
+pub fn repeats()
+    ensures once { (opening closing : Tables) (turns : List Turn) → IsRun opening turns closing → ActsOnce opening turns closing }
+    ensures stale { (opening closing : Tables) (turns : List Turn) → IsRun opening turns closing → StaysStale opening turns closing }
 {}

@@ -3,6 +3,7 @@
 //! - [`Bureau`]: the bureau over a store and a judge
 //! - [`Call`]: what a caller asks
 //! - [`isolation`]: each caller's answers are those of a bureau that no other client uses
+//! - [`repeats`]: a change acts once, however often it is sent
 //! - [`Reply`]: an answer: its status and its body
 //!
 //! `specs/` says what the bureau is: begin with its `Outcome`, what comes of a call over what one
@@ -27,6 +28,6 @@ mod turn;
 
 pub use bureau::Bureau;
 pub use call::Call;
-pub use law::isolation;
+pub use law::{isolation, repeats};
 use mcs_reader::NoMemory;
 pub use reply::{Body, Reply};

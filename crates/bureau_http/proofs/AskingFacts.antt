@@ -1,16 +1,15 @@
 -- What a request asks, and what it is told.
-use Rattle.std.proofs.Common.{◌≡◌, ℕ, ◌<◌, Bool, true, false, List, [], ◌∷◌, length, map, Option, Some, None, Result, Ok, Err, IfErr, refl, sym, ap, ◌∙◌, subst, suc, arith}
+use Rattle.std.proofs.Common.{◌≡◌, ℕ, ◌<◌, Bool, true, false, List, [], ◌∷◌, length, map, Option, Some, None, Result, Ok, Err, refl, sym, ap, ◌∙◌, suc, arith}
+use Rattle.std.specs.Prelude.{is_some}
 use Rattle.std.specs.Str.{bytes_eq}
 use Rattle.requests.specs.Request.{Parts, action_of, number_of, token_of}
-use Rattle.requests.specs.Refusal.{IsOfTarget}
 use Rattle.requests.specs.declared.action.Action.{Action}
 use Rattle.requests.specs.declared.refusal.Refusal.{Refusal}
-use Rattle.requests.specs.declared.refusal.Refusal.TheVariants.{BadRequest, UnknownToken, NotFound, MethodNotAllowed, LengthRequired, TooLarge, HeadTooLarge}
+use Rattle.requests.specs.declared.refusal.Refusal.TheVariants.{UnknownToken}
 use Rattle.bureau_store.specs.Caller.{IsAmong, caller_named, caller_with}
 use Rattle.bureau_store.specs.declared.caller.Caller.{Caller}
 use Rattle.bureau_store.specs.declared.caller.CallerRow.{CallerRow}
-use Rattle.bureau_http.specs.Asked.{by_caller, call_of, caller_in, of_caller, what_of}
-use Rattle.bureau_http.specs.Exchange.{MayLackRoom}
+use Rattle.bureau_http.specs.Asked.{by_caller, call_of, caller_in, has_token, of_caller, what_of}
 
 -- ---- a caller that has a token is one of the callers
 
@@ -55,25 +54,5 @@ without_token rows parts body is_token = ap (λ t. by_caller (caller_in rows t) 
 
 -- ---- where a 503 may come
 
-of_target : (refusal : Refusal) → IsOfTarget refusal → MayLackRoom (Err refusal)
-of_target BadRequest is = is
-of_target UnknownToken is = tt
-of_target NotFound is = tt
-of_target (MethodNotAllowed resource) is = tt
-of_target LengthRequired is = is
-of_target TooLarge is = is
-of_target HeadTooLarge is = is
-
-lack_of : (caller : Caller) (asked : Result Action Refusal) (number : Option ℕ) (body : List ℕ)
-    → IfErr asked IsOfTarget → MayLackRoom (of_caller caller asked number body)
-lack_of caller (Ok action) number body h = tt
-lack_of caller (Err refusal) number body h = of_target refusal h
-
-lack_by : (found : Option Caller) (parts : Parts) (body : List ℕ) → IfErr (action_of parts) IsOfTarget → MayLackRoom (by_caller found parts body)
-lack_by None parts body h = tt
-lack_by (Some caller) parts body h = lack_of caller (action_of parts) (number_of parts) body h
-
--- what a whole request asks may be answered 503
-pub may_lack : (rows : List CallerRow) (parts : Parts) (body : List ℕ) (asked : Result Action Refusal) → asked ≡ action_of parts → IfErr asked IsOfTarget
-    → MayLackRoom (what_of rows parts body)
-may_lack rows parts body asked e h = lack_by (caller_in rows (token_of parts)) parts body (subst (λ a. IfErr a IsOfTarget) e h)
+pub token_there : (parts : Parts) (token : List ℕ) → Some token ≡ token_of parts → has_token parts ≡ true
+token_there parts token is = ap is_some (sym is)

@@ -34,40 +34,41 @@ step_keeps this next turn (inr done) =
 
 -- ---- which answer
 
-pub answered_by : (this next : Tables) (what : What) (told : Told) → IsTold this what told next → IsAnsweredBy what (answer_told told)
-answered_by this next (Ok call) told is = tt
-answered_by this next (Err refusal) (Answered reply) is = absurd (let e = is.1 in cc)
-answered_by this next (Err refusal) (Refused other) is =
+pub answered_by : (this next : Tables) (what : What) (has_token : Bool) (told : Told) → IsTold this what has_token told next
+    → IsAnsweredBy what has_token (answer_told told)
+answered_by this next (Ok call) has_token told is = tt
+answered_by this next (Err refusal) has_token (Answered reply) is = absurd (let e = is.1 in cc)
+answered_by this next (Err refusal) has_token (Refused other) is =
     let e = is.0 in
     let same : other ≡ refusal = cc in inl (ap refusal_answer same)
-answered_by this next (Err refusal) NoRoom is = inr (is.0, refl)
+answered_by this next (Err refusal) has_token NoRoom is = inr (is.0, refl)
 
-pub run_by : (this next : Tables) (what : What) (told : Told) → IsTold this what told next → IsRun this (turn_by what (answer_told told)) next
-run_by this next (Ok call) (Answered reply) is =
+pub run_by : (this next : Tables) (what : What) (has_token : Bool) (told : Told) → IsTold this what has_token told next → IsRun this (turn_by what (answer_told told)) next
+run_by this next (Ok call) has_token (Answered reply) is =
     let e = is.1 in
     let same : is.0 ≡ call = cc in
     (next, subst (λ (k : Caller × Call). IsStep this (record { caller = k.0; call = k.1; answer = reply_as reply }) next) same is.2, refl)
-run_by this next (Ok call) (Refused refusal) is = absurd (let e = is.0 in cc)
-run_by this next (Ok call) NoRoom is = (this, inl (refl, refl), is.1)
-run_by this next (Err refusal) (Answered reply) is = absurd (let e = is.1 in cc)
-run_by this next (Err refusal) (Refused other) is = is.1
-run_by this next (Err refusal) NoRoom is = is.1
+run_by this next (Ok call) has_token (Refused refusal) is = absurd (let e = is.0 in cc)
+run_by this next (Ok call) has_token NoRoom is = (this, inl (refl, refl), is.1)
+run_by this next (Err refusal) has_token (Answered reply) is = absurd (let e = is.1 in cc)
+run_by this next (Err refusal) has_token (Refused other) is = is.1
+run_by this next (Err refusal) has_token NoRoom is = is.1
 
-pub callers_by : (this next : Tables) (what : What) (told : Told) → IsTold this what told next → next.callers ≡ this.callers
-callers_by this next what (Answered reply) is =
+pub callers_by : (this next : Tables) (what : What) (has_token : Bool) (told : Told) → IsTold this what has_token told next → next.callers ≡ this.callers
+callers_by this next what has_token (Answered reply) is =
     step_keeps this next (record { caller = is.0.0; call = is.0.1; answer = reply_as reply }) is.2
-callers_by this next what (Refused refusal) is = ap (λ t. t.callers) is.1
-callers_by this next what NoRoom is = ap (λ t. t.callers) is.1
+callers_by this next what has_token (Refused refusal) is = ap (λ t. t.callers) is.1
+callers_by this next what has_token NoRoom is = ap (λ t. t.callers) is.1
 
 -- a call that is told something has exchanged it
-pub has_exchanged : (stands : Tables → Type 0) (this next : Tables) (what : What) (told : Told) (is_bare closes : Bool) → IsTold this what told next
-    → stands next → HasExchanged stands this (asked_as what is_bare closes (answer_told told))
-has_exchanged stands this next what told is_bare closes is stand = record {
+pub has_exchanged : (stands : Tables → Type 0) (this next : Tables) (what : What) (has_token : Bool) (told : Told) (is_bare closes : Bool)
+    → IsTold this what has_token told next → stands next → HasExchanged stands this (asked_as what has_token is_bare closes (answer_told told))
+has_exchanged stands this next what has_token told is_bare closes is stand = record {
   next = next;
-  answered = answered_by this next what told is;
-  run = run_by this next what told is;
+  answered = answered_by this next what has_token told is;
+  run = run_by this next what has_token told is;
   stand = stand;
-  callers = callers_by this next what told is;
+  callers = callers_by this next what has_token told is;
 }
 
 -- ---- the bytes of the reply
@@ -81,16 +82,16 @@ allow_refused LengthRequired = refl
 allow_refused TooLarge = refl
 allow_refused HeadTooLarge = refl
 
-allow_same : (this next : Tables) (what : What) (told : Told) → IsTold this what told next → allow_by what (answer_told told).status ≡ allow_told told
-allow_same this next (Ok call) (Answered reply) is = refl
-allow_same this next (Ok call) (Refused refusal) is = absurd (let e = is.0 in cc)
-allow_same this next (Ok call) NoRoom is = refl
-allow_same this next (Err refusal) (Answered reply) is = absurd (let e = is.1 in cc)
-allow_same this next (Err refusal) (Refused other) is =
+allow_same : (this next : Tables) (what : What) (has_token : Bool) (told : Told) → IsTold this what has_token told next → allow_by what (answer_told told).status ≡ allow_told told
+allow_same this next (Ok call) has_token (Answered reply) is = refl
+allow_same this next (Ok call) has_token (Refused refusal) is = absurd (let e = is.0 in cc)
+allow_same this next (Ok call) has_token NoRoom is = refl
+allow_same this next (Err refusal) has_token (Answered reply) is = absurd (let e = is.1 in cc)
+allow_same this next (Err refusal) has_token (Refused other) is =
     let e = is.0 in
     let same : other ≡ refusal = cc in
     subst (λ r. allow_by (Err refusal) (code_of (status_of r)) ≡ allow_of_refusal r) (sym same) (allow_refused refusal)
-allow_same this next (Err refusal) NoRoom is = refl
+allow_same this next (Err refusal) has_token NoRoom is = refl
 
 abbrev with_allow : Told → Bool → Option Resource → ReplyHead
 with_allow told closes allow = record {
@@ -102,8 +103,8 @@ with_allow told closes allow = record {
 }
 
 -- the reply to a request is what it is told
-pub same_text : (this next : Tables) (what : What) (told : Told) (is_bare closes : Bool) → IsTold this what told next
-    → told_text told is_bare closes ≡ exchange_text (asked_as what is_bare closes (answer_told told))
+pub same_text : (this next : Tables) (what : What) (has_token : Bool) (told : Told) (is_bare closes : Bool) → IsTold this what has_token told next
+    → told_text told is_bare closes ≡ exchange_text (asked_as what has_token is_bare closes (answer_told told))
 unfolding told_text exchange_text
-same_text this next what told is_bare closes is =
-    ap (λ allow. reply_text (with_allow told closes allow) is_bare (body_told (answer_told told))) (sym (allow_same this next what told is))
+same_text this next what has_token told is_bare closes is =
+    ap (λ allow. reply_text (with_allow told closes allow) is_bare (body_told (answer_told told))) (sym (allow_same this next what has_token told is))

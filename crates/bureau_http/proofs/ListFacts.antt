@@ -3,14 +3,14 @@ use Rattle.std.proofs.Common.{◌≡◌, ℕ, ◌+◌, ◌<◌, List, [], ◌∷
 use Rattle.std.proofs.lemmas.Grind.{flat_map-append}
 use Rattle.std.proofs.lemmas.List.{drop-map, drop_more, length-map, length-take, map-append, take_more}
 use Rattle.std.specs.List.{take-map}
-use Rattle.bureau_store.specs.Tables.{AreInOrder, Tables}
-use Rattle.bureau_store.specs.declared.caller.Caller.{Caller}
+use Rattle.bureau_store.specs.Tables.{Tables}
 use Rattle.bureau_store.specs.declared.caller.CallerRow.{CallerRow}
-use Rattle.bureau.specs.Alone.{IsAlone, opening_of}
-use Rattle.bureau.specs.Joint.{IsRun, Turn}
+use Rattle.bureau.specs.Joint.{IsRun}
 use Rattle.bureau_http.specs.Connection.{IsConnection, cut}
 use Rattle.bureau_http.specs.Exchange.{Exchange, turns_of}
-use Rattle.bureau_http.specs.List.{AreServedInPart, AreSoFar, AreWhole, IsInHand, IsOneCut, IsOneServed, IsWhole, turns_in}
+use Rattle.bureau_http.specs.List.{AreServed, AreServedInPart, AreSoFar, AreWhole, IsInHand, IsOneCut, IsOneServed, IsWhole, turns_in}
+use Rattle.bureau_http.specs.Isolated.{joined}
+use Rattle.bureau_http.proofs.IsolatedFacts.{Alike, Alone, isolated, turns_joined, turns_with_hand}
 use Rattle.bureau_http.proofs.ServingFacts.{run_on}
 
 whole_on : (rows : List CallerRow) (cs ws : List (List ℕ)) (es : List (List Exchange)) (c w : List ℕ) (e : List Exchange) → AreWhole rows cs ws es
@@ -68,14 +68,23 @@ as_cut stands this bytes text one = record {
   connection = one.whole.connection;
 }
 
-abbrev pub Alone : Type 0
-Alone = (opening closing : Tables) (turns : List Turn) (viewer : Caller) → AreInOrder opening → IsRun opening turns closing → IsAlone viewer (opening_of viewer opening) turns
+-- all connections were served
+pub all_served : (stands : Tables → Type 0) (this : Tables) (cs ws : List (List ℕ)) → Alone → Alike → AreSoFar stands this cs ws → AreServed stands this cs ws
+all_served stands this cs ws alone alike so = record {
+  exchanges = so.exchanges;
+  closing = so.now;
+  stand = so.stand;
+  run = so.run;
+  callers = so.callers;
+  whole = so.whole;
+  isolated = λ in_order. isolated this so.now (joined so.exchanges) alone alike in_order (subst (λ ts. IsRun this ts so.now) (sym (turns_joined so.exchanges)) so.run);
+}
 
 -- the connection in hand was cut off
 pub in_part : {V : Type 0} (f : V → List ℕ) (stands later : Tables → Type 0) (this : Tables) (cs : List V) (ws : List (List ℕ)) (i : ℕ) (item : V)
-    (so : AreSoFar stands this (map f (take i cs)) ws) → i < length cs → item ≡ get_or cs i item → Alone → IsOneCut later so.now (f item)
+    (so : AreSoFar stands this (map f (take i cs)) ws) → i < length cs → item ≡ get_or cs i item → Alone → Alike → IsOneCut later so.now (f item)
     → AreServedInPart later this (map f cs) ws
-in_part f stands later this cs ws i item so low is alone one =
+in_part f stands later this cs ws i item so low is alone alike one =
     let short = length-take i cs in
     let mapped = length-map (take i cs) f in
     let whole = whole_len this.callers (map f (take i cs)) ws so.exchanges so.whole in
@@ -94,7 +103,8 @@ in_part f stands later this cs ws i item so low is alone one =
       whole = subst (λ l. AreWhole this.callers l ws so.exchanges) front so.whole;
       in_hand = subst (λ l. IsInHand this.callers l one.exchanges) (sym rest)
           (one.answered, (one.stop, subst (λ rows. IsConnection rows (f item) (map (λ exchange. exchange.asked) one.exchanges) one.stop) so.callers one.connection));
-      isolated = λ in_order viewer. alone this one.closing _ viewer in_order run;
+      isolated = λ in_order. isolated this one.closing (joined so.exchanges ++ one.exchanges) alone alike in_order
+          (subst (λ ts. IsRun this ts one.closing) (sym (turns_with_hand so.exchanges one.exchanges)) run);
     }
 
 none_in_hand : (rows : List CallerRow) (all : List (List ℕ)) → IsInHand rows all []
@@ -102,8 +112,8 @@ none_in_hand rows [] = refl
 none_in_hand rows (bytes ∷ all) = (tt, (cut, record { first = []; last = []; behind = bytes; reads = refl; stops = refl; all = refl }))
 
 -- nothing was served
-pub nothing : (stands : Tables → Type 0) (this : Tables) (all : List (List ℕ)) → Alone → stands this → AreServedInPart stands this all []
-nothing stands this all alone stand = record {
+pub nothing : (stands : Tables → Type 0) (this : Tables) (all : List (List ℕ)) → Alone → Alike → stands this → AreServedInPart stands this all []
+nothing stands this all alone alike stand = record {
   exchanges = [];
   hand = [];
   closing = this;
@@ -112,5 +122,5 @@ nothing stands this all alone stand = record {
   callers = refl;
   whole = tt;
   in_hand = none_in_hand this.callers all;
-  isolated = λ in_order viewer. alone this this [] viewer in_order refl;
+  isolated = λ in_order. isolated this this [] alone alike in_order refl;
 }

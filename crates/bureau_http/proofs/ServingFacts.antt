@@ -1,5 +1,5 @@
 -- How a connection is served, request by request.
-use Rattle.std.proofs.Common.{◌≡◌, inl, inr, ℕ, ◌+◌, Bool, true, false, List, [], ◌∷◌, ◌++◌, ◌||◌, nat_le, length, map, Option, Some, None, Result, Ok, Err, IfErr, IfSome, OnOk, refl, sym, ap, ◌∙◌, subst, arith, append-nil, length-append}
+use Rattle.std.proofs.Common.{◌≡◌, ◌⊎◌, inl, inr, take, ℕ, ◌+◌, Bool, true, false, List, [], ◌∷◌, ◌++◌, ◌||◌, nat_le, length, map, Option, Some, None, Result, Ok, Err, IfErr, IfSome, OnOk, refl, sym, ap, ◌∙◌, subst, arith, append-nil, length-append}
 use Rattle.std.proofs.KnownBytes.{Appends-nil, Appends-trans}
 use Rattle.std.proofs.lemmas.Grind.{flat_map-append}
 use Rattle.std.proofs.lemmas.List.{length-map, map-append}
@@ -14,13 +14,12 @@ use Rattle.bureau_store.specs.Tables.{Tables}
 use Rattle.bureau_store.specs.declared.caller.CallerRow.{CallerRow}
 use Rattle.bureau.specs.Joint.{IsRun, Turn}
 use Rattle.bureau.specs.Outcome.{Answer}
-use Rattle.bureau_http.specs.Asked.{Asked, most_requests, what_of}
+use Rattle.bureau_http.specs.Asked.{Asked, has_token, most_requests, what_of}
 use Rattle.bureau_http.specs.Connection.{IsConnection, IsLast, IsRequest, ReadsTo, Stop, StopsAt, clean, inside, closed, cut}
 use Rattle.bureau_http.specs.Exchange.{Exchange, IsAnswered, exchange_text, refusal_answer, replies_text, turn_of, turns_of}
 use Rattle.bureau_http.specs.declared.serving.Served.{Served}
 use Rattle.bureau_http.specs.declared.serving.Step.TheVariants as step
-use Rattle.bureau_http.proofs.ReplyFacts.{front_second}
-use Rattle.bureau_http.specs.Served.{IsAsked, StopsBy, Exchanged, HasExchanged, HasRun, asked_as, IsExchanged, IsFailedWrite, IsServed, IsSoFar, IsWritten, Serves}
+use Rattle.bureau_http.specs.Served.{AreWritten, IsAsked, IsCutOff, StopsBy, Exchanged, HasExchanged, HasRun, asked_as, IsExchanged, IsFailedWrite, IsServed, IsSoFar, IsWritten, Serves}
 use Rattle.bureau_http.specs.Told.{told_text}
 use Rattle.bureau_http.specs.declared.reply.Told.TheVariants.{Refused}
 use Rattle.bureau_http.proofs.ExchangeFacts.{has_exchanged, same_text}
@@ -182,7 +181,7 @@ module _ (stands later : Tables → Type 0) (this : Tables) (place : ℕ) (left 
   }
 
   without : (answer : Result Served ConnFault) (stop : Stop) → later so.now → StopsAt stop this.callers (1 + length (map asked_in so.exchanges)) so.behind []
-      → StopsBy answer stop (length so.exchanges) → IsWritten answer old new (replies_text so.exchanges) → IsServed later this old new answer bytes
+      → StopsBy answer stop (length so.exchanges) → AreWritten answer old new so.exchanges → IsServed later this old new answer bytes
   without answer stop stand stops by written = record {
     exchanges = so.exchanges;
     closing = so.now;
@@ -198,7 +197,7 @@ module _ (stands later : Tables → Type 0) (this : Tables) (place : ℕ) (left 
 
   with_one : (answer : Result Served ConnFault) (stop : Stop) (exchange : Exchange) → HasExchanged later so.now exchange
       → IsConnection this.callers bytes (map asked_in (so.exchanges ++ exchange ∷ [])) stop
-      → StopsBy answer stop (length (so.exchanges ++ exchange ∷ [])) → IsWritten answer old new (replies_text (so.exchanges ++ exchange ∷ []))
+      → StopsBy answer stop (length (so.exchanges ++ exchange ∷ [])) → AreWritten answer old new (so.exchanges ++ exchange ∷ [])
       → IsServed later this old new answer bytes
   with_one answer stop exchange has connection by written = record {
     exchanges = so.exchanges ++ exchange ∷ [];
@@ -217,14 +216,18 @@ module _ (stands later : Tables → Type 0) (this : Tables) (place : ℕ) (left 
 module _ (stands later : Tables → Type 0) (this : Tables) (place : ℕ) (left left1 old mid new : Option (List ℕ)) (bytes : List ℕ)
     (so : IsSoFar stands this place left old mid bytes) where
   last_of : (exchange : Exchange) → IsAsked so.now.callers place so.behind exchange.asked
-      → (stop : Stop) × IsConnection this.callers bytes (map asked_in (so.exchanges ++ exchange ∷ [])) stop
-  last_of exchange (inl is) = (closed, connection_last stands later this place left old mid new bytes so exchange is)
-  last_of exchange (inr is) = (cut, connection_cut stands later this place left old mid new bytes so exchange is.0 is.1)
+      → (stop : Stop) × ((stop ≡ cut) ⊎ (stop ≡ closed)) × IsConnection this.callers bytes (map asked_in (so.exchanges ++ exchange ∷ [])) stop
+  last_of exchange (inl is) = (closed, inr refl, connection_last stands later this place left old mid new bytes so exchange is)
+  last_of exchange (inr is) = (cut, inl refl, connection_cut stands later this place left old mid new bytes so exchange is.0 is.1)
 
-  front_more : (exchange : Exchange) → AppendsFront mid new (exchange_text exchange) → AppendsFront old new (replies_text (so.exchanges ++ exchange ∷ []))
-  front_more exchange front =
-      subst (AppendsFront old new) (sym (text_more so.exchanges exchange))
-      (front_second old mid new (replies_text so.exchanges) (exchange_text exchange) so.written front)
+  cut_off : (exchange : Exchange) → AppendsFront mid new (exchange_text exchange) → IsCutOff old new (so.exchanges ++ exchange ∷ [])
+  cut_off exchange front = record {
+    before = so.exchanges;
+    last = exchange;
+    are = refl;
+    count = front.0;
+    written = Appends-trans old mid new (replies_text so.exchanges) (take front.0 (exchange_text exchange)) so.written front.1;
+  }
 
   pub served_err : (fault : ConnFault) → Serves later so.now place left1 mid new (Err fault) so.behind → IsServed later this old new (Err fault) bytes
   served_err Read is =
@@ -232,7 +235,7 @@ module _ (stands later : Tables → Type 0) (this : Tables) (place : ℕ) (left 
       (written_none stands later this place left old mid new bytes so is.1)
   served_err Write is =
       let last = last_of is.exchange is.asked in
-      with_one stands later this place left old mid new bytes so (Err Write) last.0 is.exchange is.has last.1 tt (front_more is.exchange is.written)
+      with_one stands later this place left old mid new bytes so (Err Write) last.0 is.exchange is.has last.2 last.1 (cut_off is.exchange is.written)
   served_err EndInside is =
       without stands later this place left old mid new bytes so (Err EndInside) inside is.1 (refl, is.0) refl
       (written_none stands later this place left old mid new bytes so is.2)
@@ -294,10 +297,10 @@ pub head_refused : (stands : Tables → Type 0) (this : Tables) (place : ℕ) (r
     → stands this → IsNext bytes (refused refusal bare) → Writes (told_text (Refused refusal) bare true)
     → Exchanged stands this (IsLast this.callers place bytes) Writes
 head_refused stands this place refusal bare bytes Writes stand next written = record {
-  exchange = asked_as (Err refusal) bare true (refusal_answer refusal);
+  exchange = asked_as (Err refusal) false bare true (refusal_answer refusal);
   asked = (refused refusal bare, next, refl);
-  has = has_exchanged stands this this (Err refusal) (Refused refusal) bare true (refl, refl) stand;
-  written = subst Writes (same_text this this (Err refusal) (Refused refusal) bare true (refl, refl)) written;
+  has = has_exchanged stands this this (Err refusal) false (Refused refusal) bare true (refl, refl) stand;
+  written = subst Writes (same_text this this (Err refusal) false (Refused refusal) bare true (refl, refl)) written;
 }
 
 pub also_asked : (stands : Tables → Type 0) (this : Tables) (place : ℕ) (bytes : List ℕ) (Writes : List ℕ → Type 0)
@@ -306,9 +309,9 @@ also_asked stands this place bytes Writes done = record { exchange = done.exchan
 
 asked_test : (ends : Bool) (rows : List CallerRow) (place : ℕ) (bytes : List ℕ) (parts : Parts) (body behind : List ℕ) (answer : Answer)
     → IsNext bytes (whole parts body behind) → ends ≡ (closes parts || nat_le most_requests place)
-    → IsAsked rows place bytes (asked_as (what_of rows parts body) (is_bare parts) ends answer).asked
+    → IsAsked rows place bytes (asked_as (what_of rows parts body) (has_token parts) (is_bare parts) ends answer).asked
 asked_test true rows place bytes parts body behind answer next e =
-    inl (whole parts body behind, next, (ap (λ b. record { what = what_of rows parts body; is_bare = is_bare parts; closes = b }) e, refl))
+    inl (whole parts body behind, next, (ap (λ b. record { what = what_of rows parts body; has_token = has_token parts; is_bare = is_bare parts; closes = b }) e, refl))
 asked_test false rows place bytes parts body behind answer next e =
     inr (
       behind,
@@ -316,7 +319,7 @@ asked_test false rows place bytes parts body behind answer next e =
         parts = parts;
         body = body;
         next = next;
-        is = ap (λ b. record { what = what_of rows parts body; is_bare = is_bare parts; closes = b }) e;
+        is = ap (λ b. record { what = what_of rows parts body; has_token = has_token parts; is_bare = is_bare parts; closes = b }) e;
         stays = refl;
       },
     )
@@ -324,16 +327,16 @@ asked_test false rows place bytes parts body behind answer next e =
 -- a whole request whose reply wasn't written whole
 pub whole_cut : (stands : Tables → Type 0) (this : Tables) (place : ℕ) (bytes : List ℕ) (parts : Parts) (body behind : List ℕ) (ends : Bool) (old new : Option (List ℕ))
     (answer : Result (Unit {0}) ConnFault) (fault : ConnFault) → IsNext bytes (whole parts body behind) → ends ≡ (closes parts || nat_le most_requests place)
-    → answer ≡ Err fault → IsExchanged stands this (what_of this.callers parts body) (is_bare parts) ends old new answer
+    → answer ≡ Err fault → IsExchanged stands this (what_of this.callers parts body) (has_token parts) (is_bare parts) ends old new answer
     → (fault ≡ Write) × Exchanged stands this (IsAsked this.callers place bytes) (AppendsFront old new)
 whole_cut stands this place bytes parts body behind ends old new answer fault next e is done =
     let failed : fault ≡ Write = subst IsFailedWrite is done.failed in (
       failed,
       record {
-        exchange = asked_as (what_of this.callers parts body) (is_bare parts) ends done.told;
+        exchange = asked_as (what_of this.callers parts body) (has_token parts) (is_bare parts) ends done.told;
         asked = asked_test ends this.callers place bytes parts body behind done.told next e;
         has = done.has;
-        written = subst (λ r. IsWritten r old new (exchange_text (asked_as (what_of this.callers parts body) (is_bare parts) ends done.told)))
+        written = subst (λ r. IsWritten r old new (exchange_text (asked_as (what_of this.callers parts body) (has_token parts) (is_bare parts) ends done.told)))
             (is ∙ ap (λ f. Err f) failed) done.written;
       },
     )

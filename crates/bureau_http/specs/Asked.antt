@@ -1,6 +1,7 @@
 -- What of a request its bytes and the callers alone decide: the call that it makes, or why it makes none; whether
--- only the head of the reply is asked for; whether the connection ends after the reply.
-use Rattle.std.specs.Prelude.{ℕ, ◌||◌, Bool, true, List, nat_le, Option, Some, None, Result, Ok, Err}
+-- it has a token to be looked up; whether only the head of the reply is asked for; whether the connection ends
+-- after the reply.
+use Rattle.std.specs.Prelude.{ℕ, ◌||◌, Bool, true, false, List, is_some, nat_le, Option, Some, None, Result, Ok, Err}
 use Rattle.requests.specs.Order.{is_bare}
 use Rattle.requests.specs.Request.{Parts, action_of, closes, number_of, token_of}
 use Rattle.requests.specs.declared.action.Action.{Action}
@@ -46,6 +47,7 @@ what_of rows parts body = by_caller (caller_in rows (token_of parts)) parts body
 
 pub record Asked : Type 0 where
   pub what : What
+  pub has_token : Bool
   pub is_bare : Bool
   pub closes : Bool
 
@@ -53,14 +55,19 @@ pub record Asked : Type 0 where
 abbrev pub most_requests : ℕ
 most_requests = 10000
 
+-- there is just one token
+abbrev pub has_token : Parts → Bool
+has_token parts = is_some (token_of parts)
+
 -- what a whole request asks, at its place in the connection, counted from 1
 abbrev pub asked_whole : List CallerRow → ℕ → Parts → List ℕ → Asked
 asked_whole rows place parts body = record {
   what = what_of rows parts body;
+  has_token = has_token parts;
   is_bare = is_bare parts;
   closes = closes parts || nat_le most_requests place;
 }
 
--- what a head asks that is refused: the connection ends after the reply
+-- what a head asks that is refused: its token isn't looked up, and the connection ends after the reply
 abbrev pub asked_refused : Refusal → Bool → Asked
-asked_refused refusal bare = record { what = Err refusal; is_bare = bare; closes = true }
+asked_refused refusal bare = record { what = Err refusal; has_token = false; is_bare = bare; closes = true }

@@ -1,11 +1,10 @@
 -- A request with its answer, and the bytes of the reply.
-use Rattle.std.specs.Prelude.{◌≡◌, ◌⊎◌, ℕ, ◌==◌, List, [], ◌∷◌, length, codes, Option, None, Ok, Err, if◌then◌else◌}
+use Rattle.std.specs.Prelude.{◌≡◌, ◌⊎◌, ℕ, ◌==◌, Bool, true, List, [], ◌∷◌, length, codes, Option, None, Ok, Err, if◌then◌else◌}
 use Rattle.std.specs.List.{flat_map}
 use Rattle.requests.specs.Refusal.{allow_of_refusal, status_of, text_of}
 use Rattle.requests.specs.Reply.{reply_text}
 use Rattle.requests.specs.Status.{code_of}
 use Rattle.requests.specs.declared.refusal.Refusal.{Refusal}
-use Rattle.requests.specs.declared.refusal.Refusal.TheVariants.{BadRequest, UnknownToken, NotFound, MethodNotAllowed, LengthRequired, TooLarge, HeadTooLarge}
 use Rattle.requests.specs.declared.reply.ReplyHead.{ReplyHead}
 use Rattle.requests.specs.declared.resource.Resource.{Resource}
 use Rattle.requests.specs.declared.status.Status.{Status}
@@ -23,25 +22,14 @@ pub record Exchange : Type 0 where
 abbrev pub refusal_answer : Refusal → Answer
 refusal_answer refusal = plain (code_of (status_of refusal)) (text_of refusal)
 
--- A whole request that is refused may be answered 503 in place of that, since there may be no room to look the
--- token up; a head that is refused may not.
-abbrev pub MayLackRoom : What → Type 0
-MayLackRoom (Ok call) = Unit {0}
-MayLackRoom (Err UnknownToken) = Unit {0}
-MayLackRoom (Err NotFound) = Unit {0}
-MayLackRoom (Err (MethodNotAllowed resource)) = Unit {0}
-MayLackRoom (Err BadRequest) = ⊥
-MayLackRoom (Err LengthRequired) = ⊥
-MayLackRoom (Err TooLarge) = ⊥
-MayLackRoom (Err HeadTooLarge) = ⊥
-
--- What is answered to what makes no call. What a call is answered, the run of the bureau decides.
-abbrev pub IsAnsweredBy : What → Answer → Type 0
-IsAnsweredBy (Ok call) answer = Unit {0}
-IsAnsweredBy (Err refusal) answer = (answer ≡ refusal_answer refusal) ⊎ (MayLackRoom (Err refusal) × (answer ≡ no_room))
+-- What is answered to what makes no call: the refusal; or 503 where a token has to be looked up, since there may be
+-- no room for that. What a call is answered, the run of the bureau decides.
+abbrev pub IsAnsweredBy : What → Bool → Answer → Type 0
+IsAnsweredBy (Ok call) has_token answer = Unit {0}
+IsAnsweredBy (Err refusal) has_token answer = (answer ≡ refusal_answer refusal) ⊎ ((has_token ≡ true) × (answer ≡ no_room))
 
 abbrev pub IsAnswered : Exchange → Type 0
-IsAnswered exchange = IsAnsweredBy exchange.asked.what exchange.answer
+IsAnswered exchange = IsAnsweredBy exchange.asked.what exchange.asked.has_token exchange.answer
 
 -- the turn of the bureau that a request is, if it makes a call
 abbrev pub turn_by : What → Answer → List Turn

@@ -2,12 +2,11 @@
 use Rattle.std.specs.Prelude.{◌≡◌, ℕ, List, [], ◌∷◌, ◌++◌, length, map, take, drop}
 use Rattle.std.specs.List.{AllByRecursion, flat_map}
 use Rattle.bureau_store.specs.Tables.{AreInOrder, Tables}
-use Rattle.bureau_store.specs.declared.caller.Caller.{Caller}
 use Rattle.bureau_store.specs.declared.caller.CallerRow.{CallerRow}
-use Rattle.bureau.specs.Alone.{IsAlone, opening_of}
 use Rattle.bureau.specs.Joint.{IsRun, Turn}
 use Rattle.bureau_http.specs.Connection.{IsConnection, IsOwn, Stop}
 use Rattle.bureau_http.specs.Exchange.{Exchange, IsAnswered, replies_text, turns_of}
+use Rattle.bureau_http.specs.Isolated.{AreIsolated, joined}
 
 -- a connection is these requests, up to a stop of its own; they are answered so, and the replies were written
 pub record IsWhole (rows : List CallerRow) (bytes written : List ℕ) (exchanges : List Exchange) : Type 0 where
@@ -30,12 +29,8 @@ AreWhole rows (bytes ∷ connections) (text ∷ written) (exchanges ∷ more) = 
 abbrev pub turns_in : List (List Exchange) → List Turn
 turns_in connections = flat_map turns_of connections
 
--- each caller is answered as if no other client were there
-abbrev pub IsIsolated : Tables → List Turn → Type 0
-IsIsolated opening turns = AreInOrder opening → (viewer : Caller) → IsAlone viewer (opening_of viewer opening) turns
-
 -- All connections were served: their requests are one run of the bureau, in order, in which each caller is
--- answered as if alone.
+-- answered, to the byte, as if alone.
 pub record AreServed (stands : Tables → Type 0) (this : Tables) (connections written : List (List ℕ)) : Type 0 where
   pub exchanges : List (List Exchange)
   pub closing : Tables
@@ -43,7 +38,7 @@ pub record AreServed (stands : Tables → Type 0) (this : Tables) (connections w
   pub run : IsRun this (turns_in exchanges) closing
   pub callers : closing.callers ≡ this.callers
   pub whole : AreWhole this.callers connections written exchanges
-  pub isolated : IsIsolated this (turns_in exchanges)
+  pub isolated : AreInOrder this → AreIsolated this (joined exchanges)
 
 -- of a connection that was cut off, some first requests were answered
 abbrev pub IsInHand : List CallerRow → List (List ℕ) → List Exchange → Type 0
@@ -60,7 +55,7 @@ pub record AreServedInPart (stands : Tables → Type 0) (this : Tables) (connect
   pub callers : closing.callers ≡ this.callers
   pub whole : AreWhole this.callers (take (length written) connections) written exchanges
   pub in_hand : IsInHand this.callers (drop (length written) connections) hand
-  pub isolated : IsIsolated this (turns_in exchanges ++ turns_of hand)
+  pub isolated : AreInOrder this → AreIsolated this (joined exchanges ++ hand)
 
 -- ---- private: one connection of a list
 

@@ -1,5 +1,5 @@
 -- What serving a connection does: the bureau's turns, and the bytes that are written.
-use Rattle.std.specs.Prelude.{◌≡◌, ◌⊎◌, ℕ, ◌+◌, Bool, List, [], length, map, Option, Some, Result, Ok, Err}
+use Rattle.std.specs.Prelude.{◌≡◌, ◌⊎◌, ℕ, ◌+◌, Bool, List, [], ◌∷◌, ◌++◌, length, map, take, Option, Some, Result, Ok, Err}
 use Rattle.std.specs.Io.KnownBytes.{Appends}
 use Rattle.std.specs.List.{AllByRecursion}
 use Rattle.transfer.specs.Transfer.{AppendsFront}
@@ -46,9 +46,26 @@ IsWritten (Err Memory) old new text = Appends old new text
 abbrev pub StopsBy : Result Served ConnFault → Stop → ℕ → Type 0
 StopsBy (Ok served) stop count = ((stop ≡ clean) ⊎ (stop ≡ closed)) × (served.requests ≡ count)
 StopsBy (Err Read) stop count = stop ≡ cut
-StopsBy (Err Write) stop count = Unit {0}
+StopsBy (Err Write) stop count = (stop ≡ cut) ⊎ (stop ≡ closed)
 StopsBy (Err EndInside) stop count = stop ≡ inside
 StopsBy (Err Memory) stop count = stop ≡ cut
+
+-- Where a write failed, the replies before the last one were written whole, and of that one a front part. No
+-- request behind it was served.
+pub record IsCutOff (old new : Option (List ℕ)) (exchanges : List Exchange) : Type 0 where
+  pub before : List Exchange
+  pub last : Exchange
+  pub are : exchanges ≡ before ++ last ∷ []
+  pub count : ℕ
+  pub written : Appends old new (replies_text before ++ take count (exchange_text last))
+
+-- the replies were written, in order, as far as no write failed
+abbrev pub AreWritten : Result Served ConnFault → Option (List ℕ) → Option (List ℕ) → List Exchange → Type 0
+AreWritten (Ok served) old new exchanges = Appends old new (replies_text exchanges)
+AreWritten (Err Read) old new exchanges = Appends old new (replies_text exchanges)
+AreWritten (Err Write) old new exchanges = IsCutOff old new exchanges
+AreWritten (Err EndInside) old new exchanges = Appends old new (replies_text exchanges)
+AreWritten (Err Memory) old new exchanges = Appends old new (replies_text exchanges)
 
 -- The bytes are requests and a stop. Those that make calls are a run of the bureau, in order; the others are
 -- answered as the bytes and the callers alone decide. The replies are written, in order.
@@ -62,7 +79,7 @@ pub record IsServed (stands : Tables → Type 0) (this : Tables) (old new : Opti
   pub stop : Stop
   pub connection : IsConnection this.callers bytes (map (λ exchange. exchange.asked) exchanges) stop
   pub stops : StopsBy answer stop (length exchanges)
-  pub written : IsWritten answer old new (replies_text exchanges)
+  pub written : AreWritten answer old new exchanges
 
 -- ---- a step of it, and what is so far: these serve private contracts alone
 
@@ -87,18 +104,19 @@ Serves stands this place left old new (Err EndInside) bytes = IsNext bytes end_i
 Serves stands this place left old new (Err Memory) bytes = stands this × Appends old new []
 
 -- what serving a whole request does
-abbrev pub asked_as : What → Bool → Bool → Answer → Exchange
-asked_as what is_bare closes answer = record { asked = record { what = what; is_bare = is_bare; closes = closes }; answer = answer }
+abbrev pub asked_as : What → Bool → Bool → Bool → Answer → Exchange
+asked_as what has_token is_bare closes answer =
+    record { asked = record { what = what; has_token = has_token; is_bare = is_bare; closes = closes }; answer = answer }
 
 abbrev pub IsFailedWrite : {A : Type 0} → Result A ConnFault → Type 0
 IsFailedWrite (Ok a) = Unit {0}
 IsFailedWrite (Err fault) = fault ≡ Write
 
-pub record IsExchanged (stands : Tables → Type 0) (this : Tables) (what : What) (is_bare closes : Bool) (old new : Option (List ℕ)) (answer : Result (Unit {0}) ConnFault) : Type 0 where
+pub record IsExchanged (stands : Tables → Type 0) (this : Tables) (what : What) (has_token is_bare closes : Bool) (old new : Option (List ℕ)) (answer : Result (Unit {0}) ConnFault) : Type 0 where
   pub told : Answer
-  pub has : HasExchanged stands this (asked_as what is_bare closes told)
+  pub has : HasExchanged stands this (asked_as what has_token is_bare closes told)
   pub failed : IsFailedWrite answer
-  pub written : IsWritten answer old new (exchange_text (asked_as what is_bare closes told))
+  pub written : IsWritten answer old new (exchange_text (asked_as what has_token is_bare closes told))
 
 -- the requests that were served so far, none of which ends the connection
 pub record IsSoFar (stands : Tables → Type 0) (this : Tables) (place : ℕ) (left old new : Option (List ℕ)) (bytes : List ℕ) : Type 0 where

@@ -1,5 +1,5 @@
 -- What a request is told: private, between what the bureau answers and what is written.
-use Rattle.std.specs.Prelude.{◌≡◌, ℕ, Bool, List, length, Option, None, Ok, Err}
+use Rattle.std.specs.Prelude.{◌≡◌, ℕ, Bool, true, List, length, Option, None, Ok, Err}
 use Rattle.requests.specs.Refusal.{allow_of_refusal}
 use Rattle.requests.specs.Reply.{reply_text}
 use Rattle.requests.specs.declared.reply.ReplyHead.{ReplyHead}
@@ -11,7 +11,7 @@ use Rattle.bureau.specs.Joint.{IsStep}
 use Rattle.bureau.specs.Outcome.{Answer, no_room}
 use Rattle.bureau.specs.Replies.{reply_as}
 use Rattle.bureau_http.specs.Asked.{What}
-use Rattle.bureau_http.specs.Exchange.{MayLackRoom, body_told, refusal_answer, status_numbered}
+use Rattle.bureau_http.specs.Exchange.{body_told, refusal_answer, status_numbered}
 use Rattle.bureau_http.specs.declared.reply.Told.{Told}
 use Rattle.bureau_http.specs.declared.reply.Told.TheVariants.{Answered, Refused, NoRoom}
 
@@ -39,8 +39,8 @@ unfoldable pub told_text : Told → Bool → Bool → List ℕ
 told_text told is_bare closes = reply_text (head_told told closes) is_bare (body_told (answer_told told))
 
 -- what is told is right for what was asked, and the tables are those behind it
-abbrev pub IsTold : Tables → What → Told → Tables → Type 0
-IsTold this what (Answered reply) next =
+abbrev pub IsTold : Tables → What → Bool → Told → Tables → Type 0
+IsTold this what has_token (Answered reply) next =
     (call : Caller × Call) × (what ≡ Ok call) × IsStep this (record { caller = call.0; call = call.1; answer = reply_as reply }) next
-IsTold this what (Refused refusal) next = (what ≡ Err refusal) × (next ≡ this)
-IsTold this what NoRoom next = MayLackRoom what × (next ≡ this)
+IsTold this what has_token (Refused refusal) next = (what ≡ Err refusal) × (next ≡ this)
+IsTold this what has_token NoRoom next = (has_token ≡ true) × (next ≡ this)

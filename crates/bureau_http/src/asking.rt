@@ -2,7 +2,7 @@
 ghost use Rattle.std.specs.Prelude.{◌≡◌};
 ghost use Rattle.bureau.specs.Calls.{call_as};
 ghost use Rattle.bureau_http.specs.Asked as Spec;
-ghost use Rattle.bureau_http.specs.Asked.{what_of};
+ghost use Rattle.bureau_http.specs.Asked.{has_token, what_of};
 ghost use Rattle.bureau_http.specs.Told.{IsTold};
 ghost use Rattle.bureau_store.specs.Tables.{Tables};
 ghost use Rattle.requests.specs.Turn.{IsAt, body_in, parts_in};
@@ -24,7 +24,7 @@ pub(crate) fn answer_to<D: Desk>(
     requires { IsAt bytes.now request.now }
     ensures clean { D.is_clean desk.new → D.is_clean desk.old }
     ensures told { D.is_clean desk.new → (this : Tables) → D.stands desk.old this →
-        (next : Tables) × IsTold this (what_of this.callers (parts_in bytes.now request.now) (body_in bytes.now request.now)) result next × D.stands desk.new next }
+        (next : Tables) × IsTold this (what_of this.callers (parts_in bytes.now request.now) (body_in bytes.now request.now)) (has_token (parts_in bytes.now request.now)) result next × D.stands desk.new next }
 {
     let Some(token) = request.token(bytes) else {
         return Told::Refused(Refusal::UnknownToken);

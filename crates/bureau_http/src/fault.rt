@@ -13,8 +13,8 @@ pub enum ConnFault {
     /// A read failed, or was interrupted when no retry was left.
     #[error("the connection can't be read")]
     Read,
-    /// A write failed, took no byte, or was interrupted when no retry was left. A front part of the replies
-    /// was written.
+    /// A write failed, took no byte, or was interrupted when no retry was left. Of the reply in hand a front
+    /// part was written, and the replies before it whole.
     #[error("the connection can't be written")]
     Write,
     /// The input ended inside a request.

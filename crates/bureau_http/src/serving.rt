@@ -1,7 +1,7 @@
 //! One connection, from its bytes to the bytes of its replies.
 ghost use Rattle.std.specs.Prelude.{◌≡◌, ◌<◌, ◌||◌, nat_le, IfOk, IfSome};
 ghost use Rattle.std.specs.Io.KnownBytes.{prepend_known};
-ghost use Rattle.bureau_http.specs.Asked.{most_requests, what_of};
+ghost use Rattle.bureau_http.specs.Asked.{has_token, most_requests, what_of};
 ghost use Rattle.bureau_http.specs.Served.{HasRun, IsExchanged, IsServed, Serves};
 ghost use Rattle.bureau_store.specs.Tables.{Tables};
 ghost use Rattle.requests.specs.Order.{is_bare};
@@ -54,7 +54,7 @@ pub(crate) struct Retries {
 /// [`ConnFault::Read`] and [`ConnFault::Write`] where a read or write fails, or is interrupted for the 65th
 /// time in this connection; [`ConnFault::EndInside`] where its input ends inside a request; and
 /// [`ConnFault::Memory`] where memory runs out before the request in hand stands whole. The replies to the
-/// requests before it were written.
+/// requests before it were written whole, and no request behind it was served.
 pub fn serve_one<D: Desk, R: Read, W: Write>(
     alloc: Global,
     desk: &mut D,
@@ -172,7 +172,7 @@ fn serve_request<D: Desk, W: Write>(
     requires { IsAt bytes.now request.now }
     ensures clean { D.is_clean desk.new → D.is_clean desk.old }
     ensures exchanged { D.is_clean desk.new → (this : Tables) → D.stands desk.old this →
-        IsExchanged (D.stands desk.new) this (what_of this.callers (parts_in bytes.now request.now) (body_in bytes.now request.now)) (is_bare (parts_in bytes.now request.now)) closes
+        IsExchanged (D.stands desk.new) this (what_of this.callers (parts_in bytes.now request.now) (body_in bytes.now request.now)) (has_token (parts_in bytes.now request.now)) (is_bare (parts_in bytes.now request.now)) closes
         (W.contents writer.old) (W.contents writer.new) result }
 {
     let told = answer_to(desk, routes, request, bytes);

@@ -3,7 +3,7 @@
 use Rattle.std.specs.Prelude.{◌≤◌, ℕ, Result, IsErrOf, OnErr, OnOk}
 use Rattle.catalogue.specs.Published.{HasFailed, Stands}
 use Rattle.bureau_store.specs.declared.fault.StoreFault.{StoreFault}
-use Rattle.bureau_store.specs.declared.fault.StoreFault.TheVariants.{Device}
+use Rattle.bureau_store.specs.declared.fault.StoreFault.TheVariants.{Memory, Device, Size, Shape, Version}
 
 -- the greatest number that a change may have
 abbrev pub greatest_number : ℕ
@@ -25,6 +25,15 @@ pub record Makes {Store Held Done : Type 0} (is_clean is_ours is_open : Store �
 -- a fault of the device is told only where one came, and shuts the store
 abbrev pub FailsForCause : {Store Answer : Type 0} → (Store → Type 0) → (Store → ℕ) → Store → Store → Result Answer StoreFault → Type 0
 FailsForCause is_open failures old new answer = IsErrOf answer Device → HasFailed failures old new × (is_open new → ⊥)
+
+-- What a call of a store may be refused for: want of memory, the device, its size. Whether a file is a
+-- store at all, and of which version, is asked only as it is opened.
+abbrev pub IsOfCall : StoreFault → Type 0
+IsOfCall Memory = Unit {0}
+IsOfCall Device = Unit {0}
+IsOfCall Size = Unit {0}
+IsOfCall Shape = ⊥
+IsOfCall Version = ⊥
 
 -- a store that is shut answers nothing else, and nothing else shuts one
 abbrev pub ShutsByFault : {Store Answer : Type 0} → (is_open : Store → Type 0) → Store → Store → Result Answer StoreFault → Type 0

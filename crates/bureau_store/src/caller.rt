@@ -64,7 +64,7 @@ impl Token {
 pub struct CallerRow {
     /// The name.
     pub name: Id,
-    /// The token, which no other caller has.
+    /// The token. No two rows of a callers file have the same one.
     pub token: Token,
 }
 

@@ -1,5 +1,5 @@
 //! Where all that the bureau keeps is kept.
-ghost use Rattle.std.specs.Prelude.{◌≡◌, ◌≤◌, length, map, option_map, IfOk, IfSome, is_some, true};
+ghost use Rattle.std.specs.Prelude.{◌≡◌, ◌≤◌, length, map, option_map, IfErr, IfOk, IfSome, is_some, true};
 ghost use Rattle.std.specs.Cmp.Lexicographic.{slice_cmp};
 ghost use Rattle.std.specs.List.Sorted.{IsStrictlySortedBy};
 ghost use Rattle.std.specs.Ordering.{nat_cmp};
@@ -10,7 +10,7 @@ ghost use Rattle.catalogue.specs.Published.{Keeps, Tells};
 ghost use Rattle.bureau_store.specs.Caller.{IsAmong, IsProper, caller_with};
 ghost use Rattle.bureau_store.specs.Effect.{publication, zone_put, zone_dropped, received_put, patterns_put, tables_after};
 ghost use Rattle.bureau_store.specs.Held.{held_in};
-ghost use Rattle.bureau_store.specs.Store.{FailsForCause, Makes, ShutsByFault, greatest_number};
+ghost use Rattle.bureau_store.specs.Store.{FailsForCause, IsOfCall, Makes, ShutsByFault, greatest_number};
 ghost use Rattle.bureau_store.specs.Tables.{AreInOrder, Tables, name_order, patterns_of, rows_of, zone_named};
 ghost use Rattle.bureau_store.specs.declared.caller.Caller.TheVariants.{Publisher, Client};
 
@@ -24,7 +24,7 @@ use zone_lists::{Pattern, ZoneRow};
 ///
 /// Reads leave the tables as they are, and a list of what isn't there is empty. Each change replaces
 /// what it names whole and sets the caller's last number and reply, at once; refused, the tables are
-/// unchanged. What is told of the tables is told where the file was this product's own as the call
+/// unchanged. A call is refused for want of memory, of the device or of its size alone. What is told of the tables is told where the file was this product's own as the call
 /// began and the disk has returned what was written, up to the call's end; of lists that is always true.
 pub trait Store: Published {
     /// All that is kept.
@@ -36,6 +36,7 @@ pub trait Store: Published {
         ensures caller { IfOk result (λ found. Tells Self.is_clean Self.is_ours Self.is_open tables self.old self.new
             (λ tables. found ≡ caller_with tables.callers token.now)) }
         ensures proper { IfOk result (λ found. IfSome found IsProper) }
+        ensures of_call { IfErr result IsOfCall }
         ensures cause { FailsForCause Self.is_open Self.failures self.old self.new result }
         ensures shut { ShutsByFault Self.is_open self.old self.new result };
 
@@ -45,6 +46,7 @@ pub trait Store: Published {
         ensures keeps { Self.keeps self.old self.new }
         ensures last { IfOk result (λ last. Tells Self.is_clean Self.is_ours Self.is_open tables self.old self.new
             (λ tables. record { number = last.0; reply = last.1.items } ≡ tables.last caller.now)) }
+        ensures of_call { IfErr result IsOfCall }
         ensures cause { FailsForCause Self.is_open Self.failures self.old self.new result }
         ensures shut { ShutsByFault Self.is_open self.old self.new result };
 
@@ -53,6 +55,7 @@ pub trait Store: Published {
         ensures keeps { Self.keeps self.old self.new }
         ensures counts { IfOk result (λ counts. Tells Self.is_clean Self.is_ours Self.is_open tables self.old self.new
             (λ tables. (counts.0 ≡ length tables.content.sysmods) × (counts.1 ≡ length tables.content.holds))) }
+        ensures of_call { IfErr result IsOfCall }
         ensures cause { FailsForCause Self.is_open Self.failures self.old self.new result }
         ensures shut { ShutsByFault Self.is_open self.old self.new result };
 
@@ -63,6 +66,7 @@ pub trait Store: Published {
         ensures zones { IfOk result (λ zones. Tells Self.is_clean Self.is_ours Self.is_open tables self.old self.new
             (λ tables. zones.items ≡ map (λ zone. (zone.0, length zone.1.rows)) (tables.zones client.now))) }
         ensures ascend { IfOk result (λ zones. IsStrictlySortedBy name_order (map (λ zone. zone.0) zones.items)) }
+        ensures of_call { IfErr result IsOfCall }
         ensures cause { FailsForCause Self.is_open Self.failures self.old self.new result }
         ensures shut { ShutsByFault Self.is_open self.old self.new result };
 
@@ -73,6 +77,7 @@ pub trait Store: Published {
         ensures zone { IfOk result (λ found. Tells Self.is_clean Self.is_ours Self.is_open tables self.old self.new
             (λ tables. option_map (λ rows. rows.items) found ≡ option_map (λ table. table.rows) (zone_named zone.now (tables.zones client.now)))) }
         ensures ascend { IfOk result (λ found. IfSome found (λ rows. RowsAscend rows.items)) }
+        ensures of_call { IfErr result IsOfCall }
         ensures cause { FailsForCause Self.is_open Self.failures self.old self.new result }
         ensures shut { ShutsByFault Self.is_open self.old self.new result };
 
@@ -83,6 +88,7 @@ pub trait Store: Published {
         ensures received { IfOk result (λ ids. Tells Self.is_clean Self.is_ours Self.is_open tables self.old self.new
             (λ tables. ids.items ≡ tables.received client.now)) }
         ensures ascend { IfOk result (λ ids. Ascend ids.items) }
+        ensures of_call { IfErr result IsOfCall }
         ensures cause { FailsForCause Self.is_open Self.failures self.old self.new result }
         ensures shut { ShutsByFault Self.is_open self.old self.new result };
 
@@ -93,6 +99,7 @@ pub trait Store: Published {
         ensures patterns { IfOk result (λ patterns. Tells Self.is_clean Self.is_ours Self.is_open tables self.old self.new
             (λ tables. patterns.items ≡ patterns_of (zone_named zone.now (tables.zones client.now)))) }
         ensures ascend { IfOk result (λ patterns. IsStrictlySortedBy (slice_cmp nat_cmp) patterns.items) }
+        ensures of_call { IfErr result IsOfCall }
         ensures cause { FailsForCause Self.is_open Self.failures self.old self.new result }
         ensures shut { ShutsByFault Self.is_open self.old self.new result };
 
@@ -103,6 +110,7 @@ pub trait Store: Published {
         ensures holds { IfOk result (λ holds. Tells Self.is_clean Self.is_ours Self.is_open tables self.old self.new
             (λ tables. holds.items ≡ held_in tables.content (rows_of (zone_named zone.now (tables.zones client.now))) kind)) }
         ensures in_key_order { IfOk result (λ holds. IsInKeyOrder holds.items) }
+        ensures of_call { IfErr result IsOfCall }
         ensures cause { FailsForCause Self.is_open Self.failures self.old self.new result }
         ensures shut { ShutsByFault Self.is_open self.old self.new result };
 
@@ -112,6 +120,7 @@ pub trait Store: Published {
         ensures makes { Makes Self.is_clean Self.is_ours Self.is_open Self.failures tables self.old self.new result
             (λ tables. IsAmong tables.callers Publisher)
             (tables_after Publisher (publication changes.now) (record { number = number; reply = reply.now })) }
+        ensures of_call { IfErr result IsOfCall }
         ensures cause { FailsForCause Self.is_open Self.failures self.old self.new result }
         ensures shut { ShutsByFault Self.is_open self.old self.new result };
 
@@ -130,6 +139,7 @@ pub trait Store: Published {
         ensures makes { Makes Self.is_clean Self.is_ours Self.is_open Self.failures tables self.old self.new result
             (λ tables. IsAmong tables.callers (Client client.now))
             (tables_after (Client client.now) (zone_put zone.now rows.now) (record { number = number; reply = reply.now })) }
+        ensures of_call { IfErr result IsOfCall }
         ensures cause { FailsForCause Self.is_open Self.failures self.old self.new result }
         ensures shut { ShutsByFault Self.is_open self.old self.new result };
 
@@ -146,6 +156,7 @@ pub trait Store: Published {
         ensures makes { Makes Self.is_clean Self.is_ours Self.is_open Self.failures tables self.old self.new result
             (λ tables. IsAmong tables.callers (Client client.now) × (is_some (zone_named zone.now (tables.zones client.now)) ≡ true))
             (tables_after (Client client.now) (zone_dropped zone.now) (record { number = number; reply = reply.now })) }
+        ensures of_call { IfErr result IsOfCall }
         ensures cause { FailsForCause Self.is_open Self.failures self.old self.new result }
         ensures shut { ShutsByFault Self.is_open self.old self.new result };
 
@@ -163,6 +174,7 @@ pub trait Store: Published {
         ensures makes { Makes Self.is_clean Self.is_ours Self.is_open Self.failures tables self.old self.new result
             (λ tables. IsAmong tables.callers (Client client.now))
             (tables_after (Client client.now) (received_put ids.now) (record { number = number; reply = reply.now })) }
+        ensures of_call { IfErr result IsOfCall }
         ensures cause { FailsForCause Self.is_open Self.failures self.old self.new result }
         ensures shut { ShutsByFault Self.is_open self.old self.new result };
 
@@ -181,6 +193,7 @@ pub trait Store: Published {
         ensures makes { Makes Self.is_clean Self.is_ours Self.is_open Self.failures tables self.old self.new result
             (λ tables. IsAmong tables.callers (Client client.now) × (is_some (zone_named zone.now (tables.zones client.now)) ≡ true))
             (tables_after (Client client.now) (patterns_put zone.now patterns.now) (record { number = number; reply = reply.now })) }
+        ensures of_call { IfErr result IsOfCall }
         ensures cause { FailsForCause Self.is_open Self.failures self.old self.new result }
         ensures shut { ShutsByFault Self.is_open self.old self.new result };
 

@@ -1,5 +1,5 @@
 -- The front of a connection's bytes, from what was read of it.
-use Rattle.std.proofs.Common.{◌≡◌, ◌⊎◌, inl, inr, ℕ, ◌+◌, ◌-◌, ◌<◌, ◌≤◌, ◌==◌, Bool, true, false, List, [], ◌++◌, length, take, nat_le, Option, Some, None, IfSome, Result, Ok, Err, if◌then◌else◌, refl, sym, ap, ◌∙◌, subst, arith, append-nil, append_assoc, length-append}
+use Rattle.std.proofs.Common.{◌≡◌, ◌⊎◌, inl, inr, ℕ, ◌+◌, ◌-◌, ◌<◌, ◌≤◌, ◌==◌, Bool, true, false, List, [], ◌++◌, length, take, nat_le, Option, Some, None, IfErr, IfSome, Result, Ok, Err, if◌then◌else◌, refl, sym, ap, ◌∙◌, subst, arith, append-nil, append_assoc, length-append}
 use Rattle.std.proofs.Math.Seq.{take-append-add}
 use Rattle.std.proofs.lemmas.Bool.Decides.{nat_tests}
 use Rattle.std.proofs.lemmas.List.{nil_from_length, take-append-le, take_all}
@@ -131,3 +131,41 @@ pub ended_before : (before after : Option (List ℕ)) (bytes : List ℕ) → Con
 ended_before None after bytes read none end = tt
 ended_before (Some b) None bytes read none end = absurd read
 ended_before (Some b) (Some a) bytes read none end = read ∙ ap (λ l. l ++ a) (nil_from_length bytes none) ∙ end
+
+-- ---- the front of the bytes that came
+
+pub found_so_far : (limit n : ℕ) (held : List ℕ) → search EmptyLines (take limit held) ≡ Ok n → Head n ≡ front_of limit held
+found_so_far limit n held e = subst (λ bytes. Head n ≡ front_of limit bytes) (append-nil held) (found limit n held [] e)
+
+pub too_large_so_far : (limit : ℕ) (held : List ℕ) (place : Place) → search EmptyLines (take limit held) ≡ Err place → limit ≤ length held
+    → TooLarge ≡ front_of limit held
+too_large_so_far limit held place e full = subst (λ bytes. TooLarge ≡ front_of limit bytes) (append-nil held) (too_large limit held [] place e full)
+
+never_without : (t u : Bool) (n : ℕ) → (if t then TooLarge else if u then CleanEnd else EndInside) ≡ Head n → ⊥
+never_without true u n e = absurd (cc)
+never_without false true n e = absurd (cc)
+never_without false false n e = absurd (cc)
+
+ends_at : (end : Option ℕ) (limit n : ℕ) (held : List ℕ) → front_with end limit held ≡ Head n → end ≡ Some n
+ends_at None limit n held e =
+    absurd (never_without (nat_le limit (length held)) (empty_lines_len held == length held) n e)
+ends_at (Some m) limit n held e = let same : m ≡ n = cc in ap (λ k. Some k) same
+
+found_by : (first : Result ℕ Place) (n : ℕ) → result_ok first ≡ Some n → first ≡ Ok n
+found_by (Ok m) n e = let same : m ≡ n = cc in ap (λ k. Ok k) same
+found_by (Err place) n e = absurd (cc)
+
+-- a head's end stays where it is when more bytes come
+pub head_stays : (limit n : ℕ) (held more : List ℕ) → front_of limit held ≡ Head n → front_of limit (held ++ more) ≡ Head n
+head_stays limit n held more e =
+    let end : whole_len (take limit held) ≡ Some n = ends_at (whole_len (take limit held)) limit n held e in
+    sym (found limit n held more (found_by (search EmptyLines (take limit held)) n (search_finds (take limit held) EmptyLines ∙ end)))
+
+-- a read that gave nothing leaves the bytes as they were
+pub none_read : (old new bytes : List ℕ) → new ≡ old ++ bytes → length bytes ≡ 0 → new ≡ old
+none_read old new bytes grown none = grown ∙ ap (λ l. old ++ l) (nil_from_length bytes none) ∙ append-nil old
+
+-- what holds whatever the fault is
+pub any_err : {A E : Type 0} {P : Type 0} (r : Result A E) → P → IfErr r (λ fault. P)
+any_err (Ok a) p = tt
+any_err (Err fault) p = p

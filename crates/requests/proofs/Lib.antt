@@ -1,3 +1,4 @@
+mod Examples
 mod FrontFacts
 mod HeadEndFacts
 mod HeadFacts

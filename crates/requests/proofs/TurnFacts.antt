@@ -1,16 +1,17 @@
 -- What stands next in a connection, from what was read of it.
-use Rattle.std.proofs.Common.{◌≡◌, ℕ, ◌+◌, ◌-◌, ◌<◌, ◌≤◌, Bool, true, false, List, [], ◌++◌, length, take, drop, nat_le, Option, Some, None, IfOk, IfSome, Result, Ok, Err, if◌then◌else◌, refl, sym, ap, ◌∙◌, subst, arith, append-nil, length-append}
+use Rattle.std.proofs.Common.{◌≡◌, ◌⊎◌, inl, inr, ℕ, ◌+◌, ◌-◌, ◌<◌, ◌≤◌, Bool, true, false, List, [], ◌++◌, length, take, drop, nat_le, Option, Some, None, IfErr, IfOk, IfSome, Result, Ok, Err, if◌then◌else◌, refl, sym, ap, ◌∙◌, subst, arith, append-nil, length-append}
 use Rattle.std.proofs.lemmas.Bool.Decides.{nat_tests}
-use Rattle.std.proofs.lemmas.List.{drop-append-le, drop-drop, length-drop, take-append-le}
+use Rattle.std.proofs.lemmas.List.{drop-append-le, drop-drop, length-drop, take-append-drop, take-append-le, take-take}
 use Rattle.std.specs.Io.KnownBytes.{IsAtEnd, Keeps, prepend_known}
-use Rattle.requests.specs.HeadEnd.{front_of, head_limit}
+use Rattle.requests.specs.HeadEnd.{IsAtHand, front_of, head_limit}
 use Rattle.requests.specs.Order.{IsDecided}
 use Rattle.requests.specs.Request.{Parts}
-use Rattle.requests.specs.Turn.{HasBody, IsNext, IsNextBy, IsReadAs, Next, end_inside, next_of, whole, with_body}
+use Rattle.requests.specs.Turn.{HasBody, IsNext, IsNextBy, IsReadAs, IsUnfinished, Next, clean_end, end_inside, next_of, whole, with_body}
 use Rattle.requests.specs.declared.front.Front.{Front}
-use Rattle.requests.specs.declared.front.Front.TheVariants.{Head}
+use Rattle.requests.specs.declared.front.Front.TheVariants.{Head, CleanEnd, EndInside, TooLarge}
 use Rattle.requests.specs.declared.turn.Request.{Request}
 use Rattle.requests.specs.declared.turn.Turn.{Turn}
+use Rattle.requests.proofs.FrontFacts.{head_stays}
 
 -- what was told of the bytes is told of those that are held and left now
 pub read_as : (IsRight : List ℕ → Next → Type 0) (P : List ℕ → Type 0) (all left : Option (List ℕ)) (held : List ℕ) (answer : Turn)
@@ -106,3 +107,37 @@ none_left left more e end = subst IsAtEnd e end
 pub map_ok : {A E : Type 0} {P Q : A → Type 0} (r : Result A E) → IfOk r P → ((a : A) → P a → Q a) → IfOk r Q
 map_ok (Ok a) p h = h a p
 map_ok (Err e) p h = p
+
+-- ---- where a read failed
+
+-- a front that isn't at hand holds no whole request, nor a head that is refused
+pub unfinished_by : (front : Front) (held : List ℕ) → (IsAtHand front → ⊥) → IsNextBy front held clean_end ⊎ IsNextBy front held end_inside
+unfinished_by (Head n) held none = absurd (none tt)
+unfinished_by CleanEnd held none = inl refl
+unfinished_by EndInside held none = inr refl
+unfinished_by TooLarge held none = absurd (none tt)
+
+-- a body of which bytes are missing
+pub missing_body : (parts : Parts) (h n : ℕ) (held : List ℕ) → h ≤ length held → length held < h + n → end_inside ≡ with_body parts n (drop h held)
+missing_body parts h n held low short =
+    subst (λ bytes. end_inside ≡ with_body parts n (drop h bytes)) (append-nil held) (short_body parts h n held [] low short refl)
+
+-- a front part of bytes that only grow
+pub same_front : (n : ℕ) (old new : List ℕ) → n ≤ length old → take (length old) new ≡ old → take n new ≡ take n old
+same_front n old new low grown = sym (take-take n (length old) new low) ∙ ap (take n) grown
+
+-- bytes that only grow have more behind them
+pub more_behind : (old new : List ℕ) → take (length old) new ≡ old → new ≡ old ++ drop (length old) new
+more_behind old new grown = sym (take-append-drop (length old) new) ∙ ap (λ l. l ++ drop (length old) new) grown
+
+-- the head of a request whose body is missing bytes stays the front
+pub unfinished_head : (n : ℕ) (old new : List ℕ) → Head n ≡ front_of head_limit old → take (length old) new ≡ old → IsNextBy (Head n) new end_inside
+    → IsUnfinished new
+unfinished_head n old new came grown is =
+    let stays : front_of head_limit new ≡ Head n =
+    ap (front_of head_limit) (more_behind old new grown) ∙ head_stays head_limit n old (drop (length old) new) (sym came) in
+    inr (subst (λ front. IsNextBy front new end_inside) (sym stays) is)
+
+pub map_err : {A E : Type 0} {P Q : Type 0} (r : Result A E) → IfErr r (λ fault. P) → (P → Q) → IfErr r (λ fault. Q)
+map_err (Ok a) p h = p
+map_err (Err fault) p h = h p

@@ -1,5 +1,5 @@
 -- What stands next in the bytes of a connection: its end, or a request (RFC 9112, sections 2 and 6.3).
-use Rattle.std.specs.Prelude.{◌≡◌, ℕ, ◌+◌, ◌≤◌, Bool, true, false, List, ◌++◌, length, take, drop, nat_le, Option, Some, Ok, Err, if◌then◌else◌}
+use Rattle.std.specs.Prelude.{◌≡◌, ◌⊎◌, ℕ, ◌+◌, ◌≤◌, Bool, true, false, List, ◌++◌, length, take, drop, nat_le, Option, Some, Ok, Err, if◌then◌else◌}
 use Rattle.requests.specs.Head.{LiesIn, parts_at}
 use Rattle.requests.specs.HeadEnd.{IsAtHand, front_of, head_limit}
 use Rattle.requests.specs.Order.{Decision, IsDecided}
@@ -38,6 +38,11 @@ IsNextBy TooLarge bytes next = next ≡ refused HeadTooLarge false
 -- what stands next in the bytes
 abbrev pub IsNext : List ℕ → Next → Type 0
 IsNext bytes next = IsNextBy (front_of head_limit bytes) bytes next
+
+-- the bytes alone hold neither a whole request nor a head that is refused: if they ended here, they would end clean
+-- or inside a request
+abbrev pub IsUnfinished : List ℕ → Type 0
+IsUnfinished bytes = IsNext bytes clean_end ⊎ IsNext bytes end_inside
 
 -- ---- what a reader answers
 

@@ -32,13 +32,16 @@ pub enum Front {
 ///
 /// # Errors
 ///
-/// Those of [`Intake::read_more`]. The bytes that came until then stay in the intake.
+/// Those of [`Intake::read_more`], and none once a head's end has come. The bytes that came until then stay in
+/// the intake.
 pub fn read_front<R: Read>(
     intake: &mut Intake,
     reader: &mut R,
     retries: &mut u32,
 ) -> Result<Front, TransferFault>
     ensures front { IfOk result (λ front. IfSome (prepend_known intake.old (R.remaining reader.old)) (λ bytes. front ≡ front_of head_limit bytes)) }
+    ensures came { IfOk result (λ front. front ≡ front_of head_limit intake.new) }
+    ensures none_came { IfErr result (λ fault. IsAtHand (front_of head_limit intake.new) → ⊥) }
     ensures within { IfOk result (λ front. EndsWithin front intake.new) }
     ensures at_hand { IsAtHand (front_of head_limit intake.old) → (intake.new ≡ intake.old) × (reader.new ≡ reader.old) }
     ensures no_further { (limit : ℕ) → 16384 ≤ limit → length intake.old ≤ limit → length intake.new ≤ limit }
@@ -109,7 +112,8 @@ fn at_end(place: Place) -> Front
 ///
 /// # Errors
 ///
-/// Those of [`Intake::read_more`]. The bytes that came until then stay in the intake.
+/// Those of [`Intake::read_more`], and none once so many bytes have come. The bytes that came until then stay in
+/// the intake.
 pub fn read_whole<R: Read>(
     intake: &mut Intake,
     reader: &mut R,
@@ -119,6 +123,7 @@ pub fn read_whole<R: Read>(
     ensures whole { IfOk result (λ whole. whole ≡ true → count ≤ length intake.new) }
     ensures end { IfOk result (λ whole. whole ≡ false → IsAtEnd (R.remaining reader.new)) }
     ensures short { IfOk result (λ whole. whole ≡ false → (length intake.new < count) × IsAtEnd (R.remaining reader.new)) }
+    ensures missing { IfErr result (λ fault. length intake.new < count) }
     ensures at_hand { count ≤ length intake.old → (intake.new ≡ intake.old) × (reader.new ≡ reader.old) }
     ensures no_further { length intake.old ≤ count → length intake.new ≤ count }
     ensures grown { take (length intake.old) intake.new ≡ intake.old }

@@ -1,11 +1,11 @@
 //! Reading what stands next in a connection: a whole request, or its end.
-ghost use Rattle.std.specs.Prelude.{◌≡◌, ◌≤◌, true, drop, length, option_map, IfOk, IfErr, IfSome};
+ghost use Rattle.std.specs.Prelude.{◌≡◌, ◌≤◌, true, drop, length, option_map, take, IfOk, IfErr, IfSome};
 ghost use Rattle.std.specs.Io.KnownBytes.{Keeps, prepend_known};
 ghost use Rattle.requests.specs.Head.{LiesIn};
 ghost use Rattle.requests.specs.Order.{is_bare};
 ghost use Rattle.requests.specs.Refusal.{IsOfTarget};
 ghost use Rattle.requests.specs.Request as Spec;
-ghost use Rattle.requests.specs.Turn.{HasBody, IsAt, IsBodyAtHand, IsNext, IsNextBy, IsReadAs, IsTurnAtHand, TurnLies, body_in, head_in, parts_in, request_len};
+ghost use Rattle.requests.specs.Turn.{HasBody, IsAt, IsBodyAtHand, IsNext, IsNextBy, IsReadAs, IsTurnAtHand, IsUnfinished, TurnLies, body_in, end_inside, head_in, parts_in, request_len};
 ghost use Rattle.requests.specs.declared.front.Front.TheVariants as front;
 ghost use Rattle.transfer.specs.Transfer.{IsGivenUp};
 
@@ -119,13 +119,15 @@ impl Request {
 ///
 /// # Errors
 ///
-/// Those of [`Intake::read_more`]. The bytes that came until then stay in the intake.
+/// Those of [`Intake::read_more`], and none once a whole request has come, or a head that is refused. The bytes
+/// that came until then stay in the intake.
 pub fn read_turn<R: Read>(
     intake: &mut Intake,
     reader: &mut R,
     retries: &mut u32,
 ) -> Result<Turn, TransferFault>
     ensures turn { IfOk result (λ turn. IfSome (prepend_known intake.old (R.remaining reader.old)) (IsReadAs IsNext intake.new (R.remaining reader.new) turn)) }
+    ensures unfinished { IfErr result (λ fault. IsUnfinished intake.new) }
     ensures within { IfOk result (λ turn. TurnLies turn intake.new) }
     ensures at_hand { IfOk result (λ turn. IsTurnAtHand turn intake.old → (intake.new ≡ intake.old) × (reader.new ≡ reader.old)) }
     ensures kept { Keeps (prepend_known intake.old (R.remaining reader.old)) (prepend_known intake.new (R.remaining reader.new)) }
@@ -153,6 +155,8 @@ fn read_request<R: Read>(
     requires within { head_len ≤ length intake.old }
     requires short { head_len ≤ 16384 }
     ensures turn { IfOk result (λ turn. IfSome (prepend_known intake.old (R.remaining reader.old)) (IsReadAs (IsNextBy (front.Head head_len)) intake.new (R.remaining reader.new) turn)) }
+    ensures unfinished { IfErr result (λ fault. IsNextBy (front.Head head_len) intake.new end_inside) }
+    ensures grown { take (length intake.old) intake.new ≡ intake.old }
     ensures within { IfOk result (λ turn. TurnLies turn intake.new) }
     ensures at_hand { IfOk result (λ turn. IsBodyAtHand turn intake.old → (intake.new ≡ intake.old) × (reader.new ≡ reader.old)) }
     ensures kept { Keeps (prepend_known intake.old (R.remaining reader.old)) (prepend_known intake.new (R.remaining reader.new)) }
@@ -186,6 +190,8 @@ fn read_body<R: Read>(
     requires path { Spec.is_path (parts_in intake.old request).target ≡ true }
     ensures turn { IfOk result (λ turn. IfSome (prepend_known intake.old (R.remaining reader.old))
         (IsReadAs (HasBody (parts_in intake.old request) request) intake.new (R.remaining reader.new) turn)) }
+    ensures unfinished { IfErr result (λ fault. HasBody (parts_in intake.old request) request intake.new end_inside) }
+    ensures grown { take (length intake.old) intake.new ≡ intake.old }
     ensures within { IfOk result (λ turn. TurnLies turn intake.new) }
     ensures at_hand { IfOk result (λ turn. IsBodyAtHand turn intake.old → (intake.new ≡ intake.old) × (reader.new ≡ reader.old)) }
     ensures kept { Keeps (prepend_known intake.old (R.remaining reader.old)) (prepend_known intake.new (R.remaining reader.new)) }

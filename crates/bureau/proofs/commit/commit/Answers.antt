@@ -1,12 +1,12 @@
 use Rattle.std.proofs.Common.{refl, sym}
 use Rattle.bureau_store.specs.Effect.{publication, zone_put, zone_dropped, received_put, patterns_put, tables_after}
 use Rattle.bureau_store.specs.declared.caller.Caller.TheVariants.{Publisher, Client}
-use Rattle.bureau.proofs.CommitFacts.{makes_deed, agrees_itself, nothing_handed}
+use Rattle.bureau.proofs.CommitFacts.{makes_deed, nothing_handed}
 use Rattle.bureau.specs.declared.come.Deed.TheVariants.{Publication, ZonePut, ZoneDropped, ReceivedPut, PatternsPut}
 use Rattle.bureau.proofs.commit.commit.Goals as goal
 
 pub returns-in-Publication-clause-right : goal.returns-in-Publication-clause-right
-returns-in-Publication-clause-right g c content right = c.drop_touched.ensures.right content content right (agrees_itself _ content)
+returns-in-Publication-clause-right g c content right = c.drop_touched.ensures.stays content right
 
 pub returns-in-Publication-clause-makes : goal.returns-in-Publication-clause-makes
 returns-in-Publication-clause-makes g c =

@@ -4,7 +4,7 @@ use Rattle.std.proofs.lemmas.Result.{err_from_is_err_and}
 use Rattle.requests.specs.Turn.{IsNext, IsReadAs, body_in, parts_in, request_len}
 use Rattle.requests.specs.Order.{is_bare}
 use Rattle.requests.specs.Request.{closes}
-use Rattle.bureau_http.specs.Asked.{most_requests, what_of}
+use Rattle.bureau_http.specs.Asked.{has_token, most_requests, what_of}
 use Rattle.transfer.specs.Transfer.{AppendsFront}
 use Rattle.bureau_http.specs.Served.{IsExchanged, Serves}
 use Rattle.bureau_http.specs.declared.fault.ConnFault.TheVariants.{Write}
@@ -34,7 +34,7 @@ returns-in_err-serve_request-in-Whole-clause-next g c clean this stands =
     let request = c.in-Whole.request in
     let held = c.read_turn.new.intake in
     let parts = parts_in held request in
-    let done = subst (λ h. IsExchanged (g.D.Desk.stands c.serve_request.new.desk) this (what_of this.callers (parts_in h request) (body_in h request)) (is_bare (parts_in h request))
+    let done = subst (λ h. IsExchanged (g.D.Desk.stands c.serve_request.new.desk) this (what_of this.callers (parts_in h request) (body_in h request)) (has_token (parts_in h request)) (is_bare (parts_in h request))
     c.ends_after-closes.result (g.W.Write.contents c.args.writer.now) (g.W.Write.contents c.serve_request.new.writer) c.serve_request.result)
     c.bytes-in-Whole.ensures (c.serve_request.ensures.exchanged clean this stands) in
     let ends = c.ends_after-closes.ensures ∙ ap (λ h. closes (parts_in h request) || nat_le most_requests c.args.place) c.bytes.ensures in

@@ -5,7 +5,7 @@ use Rattle.requests.specs.HeadEnd.{front_of, head_limit}
 use Rattle.requests.specs.Search.{search}
 use Rattle.requests.specs.declared.front.Front.TheVariants.{Head, TooLarge}
 use Rattle.requests.specs.declared.head_end.Place.TheVariants.{EmptyLines}
-use Rattle.requests.proofs.FrontFacts.{at_end, ended_before, found, not_at_hand, limit_is, taken, told, told_at_end, too_large}
+use Rattle.requests.proofs.FrontFacts.{any_err, at_end, ended_before, found, found_so_far, none_read, not_at_hand, limit_is, taken, told, told_at_end, too_large, too_large_so_far}
 use Rattle.requests.proofs.SearchFacts.{search_nil}
 use Rattle.requests.proofs.front.read_front.Goals as goal
 
@@ -43,6 +43,44 @@ returns-then-seen-eq-HEAD_LIMIT-clause-front g c =
     (λ more. too_large head_limit c.loop-count.intake more c.in-Err.next
     (ap (search EmptyLines) (sym shown) ∙ sym c.find_on.ensures.found ∙ c.in-Err.is)
     (subst (λ m. m ≤ length c.loop-count.intake) limit_is full))
+
+pub returns-in-Ok-clause-came : goal.returns-in-Ok-clause-came
+returns-in-Ok-clause-came g c =
+    let shown = c.within_limit-shown.ensures.value ∙ ap (take head_limit) c.bytes.ensures in
+    found_so_far head_limit c.in-Ok.count c.loop-count.intake (ap (search EmptyLines) (sym shown) ∙ sym c.find_on.ensures.found ∙ c.in-Ok.is)
+
+pub returns-then-seen-eq-HEAD_LIMIT-clause-came : goal.returns-then-seen-eq-HEAD_LIMIT-clause-came
+returns-then-seen-eq-HEAD_LIMIT-clause-came g c =
+    let shown = c.within_limit-shown.ensures.value ∙ ap (take head_limit) c.bytes.ensures in
+    let count : length c.bytes.result.now ≡ length c.loop-count.intake = ap length c.bytes.ensures in
+    let full : 16384 ≤ length c.loop-count.intake = omega arith in
+    too_large_so_far head_limit c.loop-count.intake c.in-Err.next
+    (ap (search EmptyLines) (sym shown) ∙ sym c.find_on.ensures.found ∙ c.in-Err.is)
+    (subst (λ m. m ≤ length c.loop-count.intake) limit_is full)
+
+pub returns-then-branch-eq0-clause-came : goal.returns-then-branch-eq0-clause-came
+returns-then-branch-eq0-clause-came g c =
+    let less : length c.within_limit-shown.result.now < 16384 = omega arith in
+    let whole = c.within_limit-shown.ensures.all less ∙ c.bytes.ensures in
+    let count : length c.within_limit-shown.result.now ≡ length c.loop-count.intake = ap length whole in
+    let short : length c.loop-count.intake < 16384 = omega arith in
+    let read = c.in_ok-read_more.ensures.bytes in
+    let same : c.read_more.new.self ≡ c.loop-count.intake = none_read _ _ read.bytes read.grown (read.count ∙ c.if-branch-eq0.true) in
+    c.at_end.ensures
+    ∙ at_end head_limit c.loop-count.intake c.in-Err.next
+    (ap (search EmptyLines) (sym whole) ∙ sym c.find_on.ensures.found ∙ c.in-Err.is)
+    (subst (λ m. length c.loop-count.intake < m) limit_is short)
+    ∙ ap (front_of head_limit) (sym same)
+
+pub returns-in_err-read_more-clause-none_came : goal.returns-in_err-read_more-clause-none_came
+returns-in_err-read_more-clause-none_came g c =
+    let less : length c.within_limit-shown.result.now < 16384 = omega arith in
+    let whole = c.within_limit-shown.ensures.all less ∙ c.bytes.ensures in
+    let count : length c.within_limit-shown.result.now ≡ length c.loop-count.intake = ap length whole in
+    let short : length c.loop-count.intake < 16384 = omega arith in
+    any_err _ (not_at_hand head_limit c.loop-count.intake c.read_more.new.self c.in-Err.next
+    (ap (search EmptyLines) (sym whole) ∙ sym c.find_on.ensures.found ∙ c.in-Err.is)
+    (subst (λ m. length c.loop-count.intake < m) limit_is short) (sym c.in_err-read_more.ensures.err))
 
 pub returns-then-branch-eq0-clause-front : goal.returns-then-branch-eq0-clause-front
 returns-then-branch-eq0-clause-front g c =

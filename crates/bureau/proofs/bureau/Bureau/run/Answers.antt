@@ -12,6 +12,7 @@ use Rattle.bureau.specs.Replies.{reply_as}
 use Rattle.bureau.specs.declared.call.Call as declared
 use Rattle.bureau.specs.declared.reply.Reply.{Reply}
 use Rattle.bureau.proofs.AgreesFacts.{alike, alone}
+use Rattle.bureau.proofs.RepeatFacts.{acts_once, stays_stale}
 use Rattle.bureau.proofs.RunFacts.{goes_on, one_more, run_callers, run_more, turns_more}
 use Rattle.bureau.proofs.bureau.Bureau.run.Goals as goal
 
@@ -58,3 +59,15 @@ returns-clause-alike g c ours clean this holds among =
     let ran = c.loop-asked.invariant.run ours clean this holds among in
     let all = ap (λ (cs : List (Caller × declared.Call)). turns_of cs c.loop-asked.replies.items) (take_all c.loop-asked.asked-index c.args.calls.now c.loop-asked-test.false) in
     (ran.0, (λ opening closing turns viewer ordered ordered2 run same. alike this ran.0 opening closing _ turns viewer ordered ordered2 (subst (λ (ts : List Turn). IsRun this ts ran.0) all ran.1) run same), ran.2)
+
+pub returns-clause-once : goal.returns-clause-once
+returns-clause-once g c ours clean this holds among =
+    let ran = c.loop-asked.invariant.run ours clean this holds among in
+    let all = ap (λ (cs : List (Caller × declared.Call)). turns_of cs c.loop-asked.replies.items) (take_all c.loop-asked.asked-index c.args.calls.now c.loop-asked-test.false) in
+    (ran.0, acts_once this ran.0 _ (subst (λ (ts : List Turn). IsRun this ts ran.0) all ran.1), ran.2)
+
+pub returns-clause-stale : goal.returns-clause-stale
+returns-clause-stale g c ours clean this holds among =
+    let ran = c.loop-asked.invariant.run ours clean this holds among in
+    let all = ap (λ (cs : List (Caller × declared.Call)). turns_of cs c.loop-asked.replies.items) (take_all c.loop-asked.asked-index c.args.calls.now c.loop-asked-test.false) in
+    (ran.0, stays_stale this ran.0 _ (subst (λ (ts : List Turn). IsRun this ts ran.0) all ran.1), ran.2)

@@ -1,0 +1,52 @@
+-- Changes that come again: each acts once.
+use Rattle.std.specs.Prelude.{◌≡◌, ◌⊎◌, ◌++◌, ℕ, true, List, ◌∷◌, Option, Some, None}
+use Rattle.bureau_store.specs.Tables.{Tables}
+use Rattle.bureau.specs.Call.{Call, publish, put_zone, drop_zone, put_received, put_patterns, list_zones, err_sysmods, missing_fix, chain, counts}
+use Rattle.bureau.specs.Joint.{IsRun, Turn}
+use Rattle.bureau.specs.Outcome.{may_ask, no_room, stale}
+
+-- the number that a change comes with
+abbrev pub number_of : Call → Option ℕ
+number_of (publish number body) = number
+number_of (put_zone number zone body) = number
+number_of (drop_zone number zone) = number
+number_of (put_received number body) = number
+number_of (put_patterns number zone body) = number
+number_of list_zones = None
+number_of (err_sysmods zone) = None
+number_of (missing_fix zone) = None
+number_of (chain zone sysmod) = None
+number_of counts = None
+
+-- a change with this number, by a caller who may ask it
+pub record IsChange (n : ℕ) (turn : Turn) : Type 0 where
+  pub allowed : may_ask turn.caller turn.call ≡ true
+  pub number : number_of turn.call ≡ Some n
+
+-- one caller's change, and later in the run a change of the same caller with the same number, whatever it asks
+pub record ComesAgain (turns : List Turn) (first again : Turn) : Type 0 where
+  pub number : ℕ
+  pub before : List Turn
+  pub between : List Turn
+  pub after : List Turn
+  pub are : turns ≡ before ++ first ∷ (between ++ again ∷ after)
+  pub caller : again.caller ≡ first.caller
+  pub first_is : IsChange number first
+  pub again_is : IsChange number again
+
+-- without its second coming the run leads from the same tables to the same tables
+abbrev pub IsRunWithout : Tables → {turns : List Turn} → {first again : Turn} → ComesAgain turns first again → Tables → Type 0
+IsRunWithout opening {turns} {first} comes closing = IsRun opening (comes.before ++ first ∷ (comes.between ++ comes.after)) closing
+
+-- A change that was told 200 is told the same when it comes again, or, once a later change was made, STALE; unless
+-- there is no room. The tables are those that there are without its second coming.
+abbrev pub ActsOnce : Tables → List Turn → Tables → Type 0
+ActsOnce opening turns closing =
+    (first again : Turn) → (comes : ComesAgain turns first again) → first.answer.status ≡ 200 →
+    ((again.answer ≡ no_room) ⊎ ((again.answer ≡ first.answer) ⊎ (again.answer ≡ stale))) × IsRunWithout opening comes closing
+
+-- A change that was told STALE is told so from then on, unless there is no room, and changes nothing.
+abbrev pub StaysStale : Tables → List Turn → Tables → Type 0
+StaysStale opening turns closing =
+    (first again : Turn) → (comes : ComesAgain turns first again) → first.answer ≡ stale →
+    ((again.answer ≡ no_room) ⊎ (again.answer ≡ stale)) × IsRunWithout opening comes closing

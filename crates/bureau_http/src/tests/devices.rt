@@ -1,0 +1,230 @@
+//! Readers and writers that fail or are interrupted in mid-stream, and when they are asked.
+use super::{Echo, TOKEN, request, served};
+use crate::{ConnFault, serve_one};
+use std::alloc::Global;
+use std::cell::Cell;
+use std::io::{self, ErrorKind, Read, Write};
+use std::test::Fail;
+
+// What the client has sent and got so far.
+#[derive(Drop)]
+struct Waiting {
+    sent: Cell<u32>,
+    got: Cell<u32>,
+}
+
+// A client that sends each request whole, and the next one only when the reply to it is there: a read before that
+// fails. Each request comes after so many interruptions.
+#[derive(Drop)]
+struct Patient<'a> {
+    request: &'a [u8],
+    left: u32,
+    interruptions: u32,
+    due: u32,
+    seen: &'a Waiting,
+}
+
+impl Read for Patient<'_> {
+    fn read(&mut self, buf: &mut [u8]) -> io::Result<usize> {
+        if self.seen.sent.get() != self.seen.got.get() {
+            return Err(io::Error::from(ErrorKind::TimedOut));
+        }
+        if self.left == 0 {
+            return Ok(0);
+        }
+        if self.due > 0 {
+            self.due -= 1;
+            return Err(io::Error::from(ErrorKind::Interrupted));
+        }
+        let count = self.request.len().min(buf.len());
+        buf[..count].copy_from_slice(&self.request[..count]);
+        self.left -= 1;
+        self.due = self.interruptions;
+        self.seen.sent.set(self.seen.sent.get().saturating_add(1));
+        Ok(count)
+    }
+}
+
+// Takes each reply in one write.
+#[derive(Drop)]
+struct Taking<'a> {
+    taken: Vec<u8>,
+    seen: &'a Waiting,
+}
+
+impl Write for Taking<'_> {
+    fn write(&mut self, buf: &[u8]) -> io::Result<usize> {
+        self.taken.extend_from_slice(buf)?;
+        self.seen.got.set(self.seen.got.get().saturating_add(1));
+        Ok(buf.len())
+    }
+
+    fn flush(&mut self) -> io::Result<()> {
+        Ok(())
+    }
+}
+
+// How a connection ends that asks so often, each time after so many interruptions, and the bytes that it gets.
+fn asked_patiently(
+    alloc: Global,
+    text: &[u8],
+    times: u32,
+    interruptions: u32,
+) -> (Vec<u8>, Result<u64, ConnFault>) {
+    let seen = Waiting {
+        sent: Cell::new(0),
+        got: Cell::new(0),
+    };
+    let mut desk = Echo {
+        alloc,
+        is_shut: false,
+    };
+    let mut reader = Patient {
+        request: text,
+        left: times,
+        interruptions,
+        due: interruptions,
+        seen: &seen,
+    };
+    let mut writer = Taking {
+        taken: Vec::new(alloc),
+        seen: &seen,
+    };
+    let ended = serve_one(alloc, &mut desk, &mut reader, &mut writer);
+    (writer.taken, ended.map(|served| served.requests))
+}
+
+#[test]
+fn a_reply_goes_out_before_the_next_read(rt: HostRuntime) -> Result<(), Fail> {
+    let text = request(rt.alloc(), b"GET /published", TOKEN, b"")?;
+    let (written, ended) = asked_patiently(rt.alloc(), text.as_slice(), 3, 0);
+    assert_eq!(rt; (written.len(), ended), (3 * 93, Ok(3)));
+    Ok(())
+}
+
+#[test]
+fn interruptions_are_counted_over_the_connection(rt: HostRuntime) -> Result<(), Fail> {
+    let text = request(rt.alloc(), b"GET /published", TOKEN, b"")?;
+    let (written, ended) = asked_patiently(rt.alloc(), text.as_slice(), 2, 32);
+    assert_eq!(rt; (written.len(), ended), (2 * 93, Ok(2)));
+    let (written, ended) = asked_patiently(rt.alloc(), text.as_slice(), 3, 32);
+    assert_eq!(rt; (written.len(), ended), (2 * 93, Err(ConnFault::Read)));
+    let (written, ended) = asked_patiently(rt.alloc(), text.as_slice(), 2, 33);
+    assert_eq!(rt; (written.len(), ended), (93, Err(ConnFault::Read)));
+    Ok(())
+}
+
+// Gives up to seven bytes at a time, and fails at one of its reads.
+#[derive(Drop)]
+struct FailingReader<'a> {
+    rest: &'a [u8],
+    until_failure: usize,
+}
+
+impl Read for FailingReader<'_> {
+    fn read(&mut self, buf: &mut [u8]) -> io::Result<usize> {
+        if self.until_failure == 0 {
+            return Err(io::Error::from(ErrorKind::ConnectionReset));
+        }
+        self.until_failure -= 1;
+        let count = self.rest.len().min(buf.len()).min(7);
+        let (part, rest) = self.rest.split_at(count);
+        buf[..count].copy_from_slice(part);
+        self.rest = rest;
+        Ok(count)
+    }
+}
+
+// Takes up to seven bytes at a time, and fails at one of its writes.
+#[derive(Drop)]
+struct FailingWriter {
+    taken: Vec<u8>,
+    until_failure: u32,
+}
+
+impl Write for FailingWriter {
+    fn write(&mut self, buf: &[u8]) -> io::Result<usize> {
+        if self.until_failure == 0 {
+            return Err(io::Error::from(ErrorKind::BrokenPipe));
+        }
+        self.until_failure -= 1;
+        let count = buf.len().min(7);
+        self.taken.extend_from_slice(&buf[..count])?;
+        Ok(count)
+    }
+
+    fn flush(&mut self) -> io::Result<()> {
+        Ok(())
+    }
+}
+
+#[test]
+fn a_read_fails_at_each_place(rt: HostRuntime) -> Result<(), Fail> {
+    let one = request(rt.alloc(), b"GET /published", TOKEN, b"")?;
+    let mut text = one.clone()?;
+    text.extend_from_slice(one.as_slice())?;
+    let (whole, _) = served(rt.alloc(), false, text.as_slice())?;
+    for until_failure in 0..=text.len().div_ceil(7) {
+        let mut desk = Echo {
+            alloc: rt.alloc(),
+            is_shut: false,
+        };
+        let mut reader = FailingReader {
+            rest: text.as_slice(),
+            until_failure,
+        };
+        let mut writer = Vec::new(rt.alloc());
+        let ended = serve_one(rt.alloc(), &mut desk, &mut reader, &mut writer);
+        assert_eq!(rt;
+            ended.map(|served| served.requests),
+            Err(ConnFault::Read),
+            "{until_failure}"
+        );
+        // each request that came whole has its reply
+        let came = text.len().saturating_sub(reader.rest.len());
+        assert!(rt; whole.starts_with(writer.as_slice()), "{until_failure}");
+        let replies = if came < one.len() {
+            0
+        } else if came < text.len() {
+            1
+        } else {
+            2
+        };
+        assert_eq!(rt; writer.len(), replies * 93, "{until_failure}");
+    }
+    Ok(())
+}
+
+#[test]
+fn a_write_fails_at_each_place(rt: HostRuntime) -> Result<(), Fail> {
+    let one = request(rt.alloc(), b"GET /published", TOKEN, b"")?;
+    let mut text = one.clone()?;
+    text.extend_from_slice(one.as_slice())?;
+    let (whole, _) = served(rt.alloc(), false, text.as_slice())?;
+    // a reply of 93 bytes takes 14 writes
+    for until_failure in 0..28u32 {
+        let mut desk = Echo {
+            alloc: rt.alloc(),
+            is_shut: false,
+        };
+        let mut reader = text.as_slice();
+        let mut writer = FailingWriter {
+            taken: Vec::new(rt.alloc()),
+            until_failure,
+        };
+        let ended = serve_one(rt.alloc(), &mut desk, &mut reader, &mut writer);
+        assert_eq!(rt;
+            ended.map(|served| served.requests),
+            Err(ConnFault::Write),
+            "{until_failure}"
+        );
+        let count = until_failure as usize;
+        let taken = count / 14 * 93 + count % 14 * 7;
+        assert!(rt;
+            whole.starts_with(writer.taken.as_slice()),
+            "{until_failure}"
+        );
+        assert_eq!(rt; writer.taken.len(), taken, "{until_failure}");
+    }
+    Ok(())
+}
