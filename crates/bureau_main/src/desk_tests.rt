@@ -1,188 +1,343 @@
-//! A desk of a publisher and two clients, from the bytes of connections to the bytes of replies: the requests of
-//! `docs/API.md`, each with its reply.
+//! A desk of a publisher and two clients, from the bytes of connections to the bytes of replies: worked requests, each with
+//! its reply, also where the connection is cut after any byte and where the output takes any part of the replies.
 use crate::replay::run_replay;
 use std::alloc::Global;
+use std::io::{self, ErrorKind, Write};
+use std::process::Abort;
 use std::str;
 use std::test::Fail;
 
 const CALLERS: &[u8] = b"NAME,TOKEN\nPUBLISH,publisher-token\nALPHA,alpha-token\nBETA,beta-token\n";
 
-// What a caller sends, and what is written: the request's first words, its lines but for the token and the length,
-// its body, and the reply.
-type Exchange = (&'static str, &'static str, &'static str, &'static str);
+// What a caller sends: the token, the request's first words, its lines but for the token and the length, its body.
+type Asked = (&'static str, &'static str, &'static str, &'static str);
 
-const PUBLISHER: [Exchange; 2] = [
+// What is written for it: the status, the lines behind the length, the body. No status: nothing is written.
+type Told = (&'static str, &'static str, &'static str);
+
+const BASE: &str =
+    "++FUNCTION(HBB7790).\n++VER(Z038).\n++PTF(UA10001).\n++VER(Z038) FMID(HBB7790).\n++PTF(UA10002).\n++VER(Z038) FMID(HBB7790) PRE(UA10001) SUP(AA20002).\n++HOLD(UA10001) ERROR FMID(HBB7790)\n REASON(AA20002) CLASS(PE) DATE(12045).\n";
+
+const BOTH: &str = "SYSMOD,STATE\nHBB7790,APPLIED\nUA10001,APPLIED\n";
+
+const ONE_RESOLVER: &str =
+    "EXCEPTION SYSMOD REPORT FOR ZONE TGT1\nFMID     SYSMOD   REASON   RESOLVER STATUS RECEIVED CLASS\nHBB7790  UA10001  AA20002  UA10002  GOOD   NO       PE\nROWS 1\n";
+
+const TWO_RESOLVERS: &str =
+    "EXCEPTION SYSMOD REPORT FOR ZONE TGT1\nFMID     SYSMOD   REASON   RESOLVER STATUS RECEIVED CLASS\nHBB7790  UA10001  AA20002  UA10002  GOOD   NO       PE\nHBB7790  UA10001  AA20002  UA10005  GOOD   NO       PE\nROWS 2\n";
+
+const PLAN_OF_ONE: &str =
+    "{\"plan\":[{\"id\":\"UA10002\",\"system\":[],\"user\":[]}],\"status\":\"GOOD\",\"sysmod\":\"UA10002\",\"zone\":\"TGT1\"}";
+
+const PLAN_OF_TWO: &str =
+    "{\"plan\":[{\"id\":\"UA10001\",\"system\":[],\"user\":[]},{\"id\":\"UA10002\",\"system\":[],\"user\":[]}],\"status\":\"GOOD\",\"sysmod\":\"UA10002\",\"zone\":\"TGT1\"}";
+
+const PUBLISHER: &str = "publisher-token";
+
+const ALPHA: &str = "alpha-token";
+
+const BETA: &str = "beta-token";
+
+const FIRST: &str = "bureau-number: 1\r\n";
+
+const SECOND: &str = "bureau-number: 2\r\n";
+
+const OK: &str = "200 OK";
+
+// A publication, zones, and what each client is told before and after the next publication.
+const SCRIPT: [(Asked, Told); 10] = [
     (
-        "POST /publish",
-        "bureau-number: 1\r\n",
-        "++FUNCTION(HBB77E0).\n++VER(Z038).\n++PTF(UJ90101).\n++VER(Z038) FMID(HBB77E0) REQ(UJ90102).\n++PTF(UJ90102).\n++VER(Z038) FMID(HBB77E0) REQ(UJ90101).\n++PTF(UJ90201).\n++VER(Z038) FMID(HBB77E0).\n++PTF(UJ90202).\n++VER(Z038) FMID(HBB77E0) SUP(UJ90201,AJ61140).\n++PTF(UJ90203).\n++VER(Z038) FMID(HBB77E0) SUP(UJ90202,UJ90201,AJ61140).\n++PTF(UJ90301).\n++VER(Z038) FMID(HBB77E0) PRE(UJ90101).\n++HOLD(UJ90201) ERROR FMID(HBB77E0)\n REASON(AJ61140) CLASS(HIPER) DATE(25119).\n++HOLD(UJ90301) ERROR FMID(HBB77E0)\n REASON(AJ61500) CLASS(PE) DATE(25171).\n++HOLD(UJ90203) SYSTEM FMID(HBB77E0)\n REASON(IPL) DATE(25140).\n++HOLD(HBB77E0) FIXCAT FMID(HBB77E0)\n REASON(AJ63033) RESOLVER(UJ90101)\n CATEGORY(IBM.Function.HealthChecker) DATE(25103).\n",
-        "HTTP/1.1 200 OK\r\ncontent-type: text/plain\r\ncontent-length: 38\r\n\r\nACCEPTED SYSMODS 7 HOLDS 4 RELEASES 0\n",
+        (PUBLISHER, "POST /publish", FIRST, BASE),
+        (OK, "", "ACCEPTED SYSMODS 3 HOLDS 1 RELEASES 0\n"),
     ),
     (
-        "GET /published",
-        "",
-        "",
-        "HTTP/1.1 200 OK\r\ncontent-type: text/plain\r\ncontent-length: 28\r\n\r\nPUBLISHED SYSMODS 7 HOLDS 4\n",
+        (ALPHA, "PUT /zones/TGT1", FIRST, BOTH),
+        (OK, "", "ZONE TGT1 ROWS 2\n"),
+    ),
+    (
+        (
+            BETA,
+            "PUT /zones/TGT1",
+            FIRST,
+            "SYSMOD,STATE\nHBB7790,APPLIED\n",
+        ),
+        (OK, "", "ZONE TGT1 ROWS 1\n"),
+    ),
+    (
+        (ALPHA, "GET /zones/TGT1/chains/UA10002", "", ""),
+        (OK, "", PLAN_OF_ONE),
+    ),
+    (
+        (BETA, "GET /zones/TGT1/chains/UA10002", "", ""),
+        (OK, "", PLAN_OF_TWO),
+    ),
+    (
+        (ALPHA, "GET /zones/TGT1/errsysmods", "", ""),
+        (OK, "", ONE_RESOLVER),
+    ),
+    (
+        (
+            PUBLISHER,
+            "POST /publish",
+            SECOND,
+            "++PTF(UA10005).\n++VER(Z038) FMID(HBB7790) SUP(UA10002).\n",
+        ),
+        (OK, "", "ACCEPTED SYSMODS 1 HOLDS 0 RELEASES 0\n"),
+    ),
+    (
+        (BETA, "PUT /zones/TGT1", SECOND, BOTH),
+        (OK, "", "ZONE TGT1 ROWS 2\n"),
+    ),
+    (
+        (ALPHA, "GET /zones/TGT1/errsysmods", "", ""),
+        (OK, "", TWO_RESOLVERS),
+    ),
+    (
+        (ALPHA, "GET /zones/TGT1/chains/UA10002", "", ""),
+        (OK, "", PLAN_OF_ONE),
     ),
 ];
 
-const ALPHA: [Exchange; 9] = [
+const NOT_FOUND: Told = ("404 Not Found", "", "NOT FOUND\n");
+
+const BAD_NUMBER: Told = ("400 Bad Request", "", "BAD NUMBER\n");
+
+// What stands behind the first two requests of the script, and behind BETA's zone TGT2.
+const REQUESTS: [(Asked, Told); 15] = [
     (
-        "PUT /zones/TGT1",
-        "bureau-number: 1\r\n",
-        "SYSMOD,STATE\nHBB77E0,APPLIED\nUJ90201,APPLIED\n",
-        "HTTP/1.1 200 OK\r\ncontent-type: text/plain\r\ncontent-length: 17\r\n\r\nZONE TGT1 ROWS 2\n",
+        (
+            BETA,
+            "PUT /zones/TGT2",
+            FIRST,
+            "SYSMOD,STATE\nHBB7790,APPLIED\n",
+        ),
+        (OK, "", "ZONE TGT2 ROWS 1\n"),
     ),
     (
-        "PUT /received",
-        "bureau-number: 2\r\n",
-        "SYSMOD\nUJ90203\n",
-        "HTTP/1.1 200 OK\r\ncontent-type: text/plain\r\ncontent-length: 16\r\n\r\nRECEIVED ROWS 1\n",
+        (ALPHA, "GET /zones", "", ""),
+        (OK, "", "ZONE     SYSMODS\nTGT1     2\nROWS 1\n"),
+    ),
+    ((BETA, "GET /zones/TGT1/errsysmods", "", ""), NOT_FOUND),
+    (
+        ("nobody-token", "GET /zones", "", ""),
+        (
+            "401 Unauthorized",
+            "www-authenticate: Bureau\r\n",
+            "UNKNOWN TOKEN\n",
+        ),
     ),
     (
-        "PUT /zones/TGT1/categories",
-        "bureau-number: 3\r\n",
-        "CATEGORY\nIBM.Function.*\n",
-        "HTTP/1.1 200 OK\r\ncontent-type: text/plain\r\ncontent-length: 21\r\n\r\nZONE TGT1 PATTERNS 1\n",
+        (ALPHA, "DELETE /published", "", ""),
+        (
+            "405 Method Not Allowed",
+            "allow: GET\r\n",
+            "METHOD NOT ALLOWED\n",
+        ),
     ),
     (
-        "GET /zones",
-        "",
-        "",
-        "HTTP/1.1 200 OK\r\ncontent-type: text/plain\r\ncontent-length: 35\r\n\r\nZONE     SYSMODS\nTGT1     2\nROWS 1\n",
+        (ALPHA, "HEAD /published", "", ""),
+        (
+            "405 Method Not Allowed",
+            "allow: GET\r\n",
+            "METHOD NOT ALLOWED\n",
+        ),
     ),
     (
-        "GET /zones/TGT1/errsysmods",
-        "",
-        "",
-        "HTTP/1.1 200 OK\r\ncontent-type: text/plain\r\ncontent-length: 219\r\n\r\nEXCEPTION SYSMOD REPORT FOR ZONE TGT1\nFMID     SYSMOD   REASON   RESOLVER STATUS RECEIVED CLASS\nHBB77E0  UJ90201  AJ61140  UJ90202  GOOD   NO       HIPER\nHBB77E0  UJ90201  AJ61140  UJ90203  GOOD   YES      HIPER\nROWS 2\n",
+        (ALPHA, "GET /zones/TGT1", "", ""),
+        (
+            "405 Method Not Allowed",
+            "allow: DELETE, PUT\r\n",
+            "METHOD NOT ALLOWED\n",
+        ),
     ),
     (
-        "GET /zones/TGT1/missingfix",
-        "",
-        "",
-        "HTTP/1.1 200 OK\r\ncontent-type: text/plain\r\ncontent-length: 252\r\n\r\nMISSING FIX REPORT FOR ZONE TGT1\nCATEGORY                                                          FMID     REASON   RESOLVER STATUS RECEIVED\nIBM.Function.HealthChecker                                        HBB77E0  AJ63033  UJ90101  GOOD   NO\nROWS 1\n",
+        (ALPHA, "GET /zones/TGT%31/errsysmods?x=1", "", ""),
+        (OK, "", ONE_RESOLVER),
+    ),
+    ((ALPHA, "GET /zones/tgt1/errsysmods", "", ""), NOT_FOUND),
+    (
+        (ALPHA, "POST /publish", "", ""),
+        ("403 Forbidden", "", "NOT ALLOWED\n"),
+    ),
+    ((PUBLISHER, "POST /publish", "", ""), BAD_NUMBER),
+    (
+        (PUBLISHER, "POST /publish", "bureau-number: 0\r\n", ""),
+        BAD_NUMBER,
     ),
     (
-        "GET /zones/TGT1/chains/UJ90101",
-        "",
-        "",
-        "HTTP/1.1 200 OK\r\ncontent-type: application/json\r\ncontent-length: 137\r\n\r\n{\"plan\":[{\"id\":\"UJ90101\",\"system\":[],\"user\":[]},{\"id\":\"UJ90102\",\"system\":[],\"user\":[]}],\"status\":\"GOOD\",\"sysmod\":\"UJ90101\",\"zone\":\"TGT1\"}",
+        (
+            PUBLISHER,
+            "POST /publish",
+            "bureau-number: 9223372036854775808\r\n",
+            "",
+        ),
+        BAD_NUMBER,
     ),
     (
-        "GET /zones/TGT1/chains/UJ90203",
-        "",
-        "",
-        "HTTP/1.1 200 OK\r\ncontent-type: application/json\r\ncontent-length: 103\r\n\r\n{\"plan\":[{\"id\":\"UJ90203\",\"system\":[\"IPL\"],\"user\":[]}],\"status\":\"GOOD\",\"sysmod\":\"UJ90203\",\"zone\":\"TGT1\"}",
+        (ALPHA, "GET http://localhost/zones", "", ""),
+        ("400 Bad Request", "connection: close\r\n", "BAD REQUEST\n"),
     ),
-    (
-        "GET /zones/TGT1/chains/UJ90301",
-        "",
-        "",
-        "HTTP/1.1 200 OK\r\ncontent-type: application/json\r\ncontent-length: 70\r\n\r\n{\"blocked\":\"AJ61500\",\"status\":\"HELD\",\"sysmod\":\"UJ90301\",\"zone\":\"TGT1\"}",
-    ),
+    ((ALPHA, "GET /published", "", ""), ("", "", "")),
 ];
 
-const BETA: [Exchange; 10] = [
-    (
-        "GET /zones",
-        "",
-        "",
-        "HTTP/1.1 200 OK\r\ncontent-type: text/plain\r\ncontent-length: 24\r\n\r\nZONE     SYSMODS\nROWS 0\n",
-    ),
-    (
-        "PUT /zones/PROD",
-        "bureau-number: 1\r\n",
-        "SYSMOD,STATE\nHBB77E0,ACCEPTED\nUJ90101,APPLIED\nUJ90102,APPLIED\nUJ90301,APPLIED\n",
-        "HTTP/1.1 200 OK\r\ncontent-type: text/plain\r\ncontent-length: 17\r\n\r\nZONE PROD ROWS 4\n",
-    ),
-    (
-        "PUT /zones/PROD",
-        "bureau-number: 1\r\n",
-        "SYSMOD,STATE\n",
-        "HTTP/1.1 200 OK\r\ncontent-type: text/plain\r\ncontent-length: 17\r\n\r\nZONE PROD ROWS 4\n",
-    ),
-    (
-        "PUT /zones/PROD",
-        "bureau-number: 3\r\n",
-        "SYSMOD,STATE\n",
-        "HTTP/1.1 409 Conflict\r\ncontent-type: text/plain\r\ncontent-length: 11\r\n\r\nGAP LAST 1\n",
-    ),
-    (
-        "PUT /zones/PROD",
-        "bureau-number: 2\r\n",
-        "SYSMOD,STATE\nHBB77E0,RECEIVED\n",
-        "HTTP/1.1 422 Unprocessable Entity\r\ncontent-type: text/plain\r\ncontent-length: 11\r\n\r\nFAULT 34 1\n",
-    ),
-    (
-        "GET /zones/PROD/errsysmods",
-        "",
-        "",
-        "HTTP/1.1 200 OK\r\ncontent-type: text/plain\r\ncontent-length: 158\r\n\r\nEXCEPTION SYSMOD REPORT FOR ZONE PROD\nFMID     SYSMOD   REASON   RESOLVER STATUS RECEIVED CLASS\nHBB77E0  UJ90301  AJ61500  - NONE - -      -        PE\nROWS 1\n",
-    ),
-    (
-        "GET /zones/PROD/chains/UJ90999",
-        "",
-        "",
-        "HTTP/1.1 200 OK\r\ncontent-type: application/json\r\ncontent-length: 50\r\n\r\n{\"status\":\"LACK\",\"sysmod\":\"UJ90999\",\"zone\":\"PROD\"}",
-    ),
-    (
-        "GET /zones/TGT1/errsysmods",
-        "",
-        "",
-        "HTTP/1.1 404 Not Found\r\ncontent-type: text/plain\r\ncontent-length: 10\r\n\r\nNOT FOUND\n",
-    ),
-    (
-        "POST /publish",
-        "bureau-number: 2\r\n",
-        "++PTF(UJ90999).\n",
-        "HTTP/1.1 403 Forbidden\r\ncontent-type: text/plain\r\ncontent-length: 12\r\n\r\nNOT ALLOWED\n",
-    ),
-    (
-        "DELETE /zones/PROD",
-        "bureau-number: 2\r\nconnection: close\r\n",
-        "",
-        "HTTP/1.1 200 OK\r\ncontent-type: text/plain\r\ncontent-length: 18\r\nconnection: close\r\n\r\nZONE PROD DROPPED\n",
-    ),
-];
+fn request(alloc: Global, asked: Asked) -> Result<String, Fail> {
+    let (token, first, lines, body) = asked;
+    Ok(format!(in alloc;
+        "{first} HTTP/1.1\r\nbureau-token: {token}\r\n{lines}content-length: {}\r\n\r\n{body}",
+        body.len()
+    )?)
+}
 
-// A connection in which a caller with this token sends all this. What is to be written is put behind `wanted`.
-fn connection(
-    alloc: Global,
-    token: &str,
-    exchanges: &[Exchange],
-    wanted: &mut Vec<u8>,
-) -> Result<Vec<u8>, Fail> {
-    let mut bytes = Vec::new(alloc);
-    for (first, lines, body, reply) in exchanges {
-        let head = format!(in alloc;
-            "{first} HTTP/1.1\r\nhost: localhost\r\nbureau-token: {token}\r\n{lines}content-length: {}\r\n\r\n",
-            body.len()
-        )?;
-        bytes.extend_from_slice(head.as_bytes())?;
-        bytes.extend_from_slice(body.as_bytes())?;
-        wanted.extend_from_slice(reply.as_bytes())?;
+fn reply(alloc: Global, asked: Asked, told: Told) -> Result<String, Fail> {
+    let (status, lines, body) = told;
+    if status.is_empty() {
+        return Ok(String::new(alloc));
     }
-    Ok(bytes)
+    let json = "application/json";
+    let kind = if body.starts_with("{") {
+        json
+    } else {
+        "text/plain"
+    };
+    let written = if asked.1.starts_with("HEAD") {
+        ""
+    } else {
+        body
+    };
+    Ok(format!(in alloc;
+        "HTTP/1.1 {status}\r\ncontent-type: {kind}\r\ncontent-length: {}\r\n{lines}\r\n{written}",
+        body.len()
+    )?)
+}
+
+// The requests one behind the other, and the replies so.
+fn texts(alloc: Global, exchanges: &[(Asked, Told)]) -> Result<(Vec<u8>, Vec<u8>), Fail> {
+    let mut requests = Vec::new(alloc);
+    let mut replies = Vec::new(alloc);
+    for (asked, told) in exchanges {
+        requests.extend_from_slice(request(alloc, *asked)?.as_str().as_bytes())?;
+        replies.extend_from_slice(reply(alloc, *asked, *told)?.as_str().as_bytes())?;
+    }
+    Ok((requests, replies))
+}
+
+// What these connections have on standard output.
+fn replayed(alloc: Global, connections: &[&[u8]]) -> Result<Vec<u8>, Fail> {
+    let mut files = Vec::new(alloc);
+    for connection in connections {
+        files.push(Vec::from_slice(alloc, *connection)?)?;
+    }
+    let mut writer = Vec::new(alloc);
+    let mut errors = Vec::new(alloc);
+    if run_replay(alloc, CALLERS, files, 1024, &mut writer, &mut errors) != 0
+        || !errors.is_empty()
+    {
+        return Err("status 0 and no error".into());
+    }
+    Ok(writer)
 }
 
 #[test]
-fn a_desk_in_memory(rt: HostRuntime) -> Result<(), Fail> {
+fn script_in_one_connection_and_in_ten(rt: HostRuntime) -> Result<(), Fail> {
     let alloc = rt.alloc();
-    let mut wanted = Vec::new(alloc);
+    let (requests, replies) = texts(alloc, SCRIPT.as_slice())?;
+    let one = replayed(alloc, &[requests.as_slice()])?;
+    assert_eq!(rt;
+        str::from_utf8(one.as_slice()),
+        str::from_utf8(replies.as_slice())
+    );
     let mut files = Vec::new(alloc);
-    files.push(connection(alloc, "publisher-token", PUBLISHER.as_slice(), &mut wanted)?)?;
-    files.push(connection(alloc, "alpha-token", ALPHA.as_slice(), &mut wanted)?)?;
-    files.push(connection(alloc, "beta-token", BETA.as_slice(), &mut wanted)?)?;
+    for (asked, _) in SCRIPT.as_slice() {
+        files.push(Vec::from_slice(alloc, request(alloc, *asked)?.as_str().as_bytes())?)?;
+    }
     let mut writer = Vec::new(alloc);
     let mut errors = Vec::new(alloc);
-    let status = run_replay(alloc, CALLERS, files, 1024, &mut writer, &mut errors);
+    let status = run_replay(alloc, CALLERS, files, 1, &mut writer, &mut errors);
     assert_eq!(rt; status, 0);
+    assert!(rt; writer.as_slice() == replies.as_slice() && errors.is_empty());
+    Ok(())
+}
+
+// A connection that is cut after any byte has the replies of the requests that stand whole in it, and no other byte.
+fn cut_anywhere(
+    rt: &impl Abort,
+    alloc: Global,
+    before: &[(Asked, Told)],
+    exchanges: &[(Asked, Told)],
+) -> Result<(), Fail> {
+    let (opening, mut wanted) = texts(alloc, before)?;
+    let mut whole = Vec::new(alloc);
+    for (asked, told) in exchanges {
+        let text = request(alloc, *asked)?;
+        for cut in 0..text.len() {
+            let mut part = whole.clone()?;
+            part.extend_from_slice(&text.as_str().as_bytes()[..cut])?;
+            let written = replayed(alloc, &[opening.as_slice(), part.as_slice()])?;
+            assert_eq!(rt;
+                str::from_utf8(written.as_slice()),
+                str::from_utf8(wanted.as_slice()),
+                "{cut}"
+            );
+        }
+        whole.extend_from_slice(text.as_str().as_bytes())?;
+        wanted.extend_from_slice(reply(alloc, *asked, *told)?.as_str().as_bytes())?;
+    }
+    let written = replayed(alloc, &[opening.as_slice(), whole.as_slice()])?;
     assert_eq!(rt;
-        str::from_utf8(writer.as_slice()),
+        str::from_utf8(written.as_slice()),
         str::from_utf8(wanted.as_slice())
     );
-    assert!(rt; errors.is_empty());
+    Ok(())
+}
+
+#[test]
+fn script_cut_after_every_byte(rt: HostRuntime) -> Result<(), Fail> {
+    cut_anywhere(&rt, rt.alloc(), &[], SCRIPT.as_slice())
+}
+
+#[test]
+fn requests_cut_after_every_byte(rt: HostRuntime) -> Result<(), Fail> {
+    cut_anywhere(&rt, rt.alloc(), &SCRIPT[..2], REQUESTS.as_slice())
+}
+
+// A writer that takes so many bytes in all, and then fails.
+#[derive(Drop)]
+struct Narrow {
+    taken: Vec<u8>,
+    room: usize,
+}
+
+impl Write for Narrow {
+    fn write(&mut self, buf: &[u8]) -> io::Result<usize> {
+        if self.room == 0 {
+            return Err(io::Error::from(ErrorKind::StorageFull));
+        }
+        let count = self.room.min(buf.len());
+        self.taken.extend_from_slice(&buf[..count])?;
+        self.room -= count;
+        Ok(count)
+    }
+
+    fn flush(&mut self) -> io::Result<()> {
+        Ok(())
+    }
+}
+
+#[test]
+fn output_that_takes_a_part(rt: HostRuntime) -> Result<(), Fail> {
+    let alloc = rt.alloc();
+    let (requests, replies) = texts(alloc, SCRIPT.as_slice())?;
+    for room in 0..replies.len() {
+        let mut files = Vec::new(alloc);
+        files.push(requests.clone()?)?;
+        let taken = Vec::new(alloc);
+        let mut writer = Narrow { taken, room };
+        let mut errors = Vec::new(alloc);
+        let status = run_replay(alloc, CALLERS, files, 1024, &mut writer, &mut errors);
+        assert_eq!(rt; status, 3, "{room}");
+        assert!(rt; writer.taken.as_slice() == &replies[..room], "{room}");
+        assert!(rt; errors.as_slice() == b"FAULT 72\n".as_slice(), "{room}");
+    }
     Ok(())
 }
 

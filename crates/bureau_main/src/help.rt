@@ -7,7 +7,7 @@ pub const VERSION: &str = "0.1.0";
 pub const STATUSES_AND_FAULTS: &str = "\
 Exit status: 0 done; 1 the input is refused; 2 the words are not understood, or ask for help or the version;
 3 the machine fails (a device, memory). Where it is 1 or 3, standard error has FAULT, a number and, where
-there is one, the line on which the statement begins.
+there is one, the line on which the statement begins, or the record of the callers file (47).
 
  1 no period ends the statement, or ++ begins a line before it
  2 the list after the verb is missing, or is not one id
@@ -20,6 +20,9 @@ there is one, the line on which the statement begins.
 14 a name is not one id: 1 to 7 of A-Z 0-9 @ # $
 15 a DATE is not yyddd
 16 a CATEGORY is not one: 1 to 64 characters
-71 the file cannot be read
+46 the callers file does not begin with NAME,TOKEN
+47 a record is no caller: an id and a token of 8 to 64 of A-Z a-z 0-9 - . _ ~, neither of which came before
+48 no caller is named PUBLISH
+71 a file cannot be read
 72 the output cannot be written
-6, 17, 74 memory ran out";
+6, 17, 41, 49, 54, 74 memory ran out";

@@ -1,15 +1,16 @@
 //! The program over the standard streams and files.
-ghost use Rattle.std.specs.Prelude.{◌≡◌, ◌≤◌, ◌↔◌, codes, IfErr, IsTrue};
+ghost use Rattle.std.specs.Prelude.{◌≡◌, ◌⊎◌, ◌≤◌, ◌↔◌, codes, length, IfErr, IfOk, IsTrue};
 ghost use Rattle.bureau_main.specs.Program.{status_of_line_fault};
 ghost use Rattle.bureau_main.specs.ProgramFault.{status_of};
 
 use crate::fault::{ProgramFault, exit_status, report};
 use crate::holds::run_holds;
 use crate::line::{Line, LineFault, line_of};
+use crate::replay::run_replay;
 use faults::AnyFault;
 use std::fs::File;
 use std::{env, io};
-use transfer::{RETRIES, write_whole};
+use transfer::{RETRIES, read_source, write_whole};
 
 // The exit status where the words aren't understood.
 const NOT_UNDERSTOOD: u8 = 2;
@@ -32,6 +33,13 @@ fn answer(rt: &HostRuntime, line: Result<Line, LineFault>) -> u8
 {
     match line {
         Ok(Line::Holds { file }) => holds(rt, file.as_str()),
+        Ok(
+            Line::Replay {
+                cache,
+                callers,
+                files,
+            },
+        ) => replay(rt, cache, callers.as_str(), files.as_slice()),
         Err(LineFault::Words(text)) => misunderstood(rt, text.as_str()),
         Err(LineFault::Memory) => refused(rt, AnyFault::from(ProgramFault::Memory)),
     }
@@ -67,6 +75,53 @@ fn is_standard_input(file: &str) -> bool
     ensures { IsTrue result ↔ (file.now ≡ codes "-") }
 {
     file == "-"
+}
+
+fn replay(rt: &HostRuntime, cache: u32, callers: &str, files: &[String]) -> u8
+    ensures { result ≤ 3 }
+{
+    match sources_in(rt, callers, files) {
+        Ok((callers, connections)) => {
+            let (mut output, mut errors) = (rt.stdout(), rt.stderr());
+            run_replay(
+                rt.alloc(),
+                callers.as_slice(),
+                connections,
+                cache,
+                &mut output,
+                &mut errors,
+            )
+        }
+        Err(fault) => refused(rt, AnyFault::from(fault)),
+    }
+}
+
+// What stands in the callers file, and in the file of each connection. They are read in this order, with 64 retries in all.
+fn sources_in(
+    rt: &HostRuntime,
+    callers: &str,
+    files: &[String],
+) -> Result<(Vec<u8>, Vec<Vec<u8>>), ProgramFault>
+    ensures each { IfOk result (λ sources. length sources.1.items ≡ length files.now) }
+    ensures err { IfErr result (λ fault. (fault ≡ ProgramFault.NotRead) ⊎ (fault ≡ ProgramFault.Memory)) }
+{
+    let mut retries = RETRIES;
+    let callers = bytes_in(rt, callers, &mut retries)?;
+    let mut connections = Vec::with_capacity(rt.alloc(), files.len())?;
+    for file in files {
+        connections.push(bytes_in(rt, file.as_str(), &mut retries)?)?;
+    }
+    Ok((callers, connections))
+}
+
+// All that stands in a file.
+fn bytes_in(rt: &HostRuntime, file: &str, retries: &mut u32) -> Result<Vec<u8>, ProgramFault>
+    ensures { IfErr result (λ fault. (fault ≡ ProgramFault.NotRead) ⊎ (fault ≡ ProgramFault.Memory)) }
+{
+    match File::open(rt, file) {
+        Ok(mut source) => Ok(read_source(rt.alloc(), &mut source, usize::MAX, retries)?),
+        Err(_) => Err(ProgramFault::NotRead),
+    }
 }
 
 // Tells a fault on standard error, and gives the exit status.

@@ -13,6 +13,8 @@ returns c =
     ∙ ap (λ (above : App). record above { top = record above.top { no_binary_name = true } }) (ap app_of_fields c.after_help.ensures ∙ dated) in
     let above : app_of c.subcommand_required.result ≡ commands_named (codes "bureau") = ap app_of_fields c.subcommand_required.ensures
     ∙ ap (λ (above : App). record above { top = record above.top { subcommand_required = true } }) unnamed in
-    IfOk-weaker c.subcommand.result _ _
-    (λ command adds. adds.shape c.in_ok-holds.ensures.local ∙ ap₂ with_subcommand above (ap (λ (app : App). app.top) c.in_ok-holds.ensures.app))
-    c.subcommand.ensures
+    let with_holds = c.in_ok-subcommand.ensures.shape c.in_ok-holds.ensures.local
+    ∙ ap₂ with_subcommand above (ap (λ (app : App). app.top) c.in_ok-holds.ensures.app) in
+    IfOk-weaker c.subcommand-2.result _ _
+    (λ command adds. adds.shape c.in_ok-replay.ensures.local ∙ ap₂ with_subcommand with_holds (ap (λ (app : App). app.top) c.in_ok-replay.ensures.app))
+    c.subcommand-2.ensures

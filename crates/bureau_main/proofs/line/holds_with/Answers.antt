@@ -1,0 +1,24 @@
+use Rattle.std.proofs.Common.{rules, ◌≡◌, ◌∙◌, sym, ap, refl, arith, codes, ℕ, List, Some, None, slice_index, string_bytes}
+use Rattle.clap.specs.Words.{Row, first_of, found_of, rows_of}
+use Rattle.clap.proofs.WalkLemmas.{first_value-rows}
+use Rattle.bureau_main.specs.Line.{IsLineWith}
+use Rattle.bureau_main.specs.declared.line.Line.{Line}
+use Rattle.bureau_main.specs.declared.line.Line.TheVariants.{Holds, Replay}
+use Rattle.bureau_main.proofs.line.holds_with.Goals as goal
+
+fileless : (rows : List Row) (line : Line) → first_of (codes "file") rows ≡ None → IsLineWith (codes "holds") rows line → ⊥
+fileless rows (Holds file) none (named, value) = let no : None ≡ Some (string_bytes file) = sym none ∙ value in cc
+fileless rows (Replay cache callers files) none (named, number, called, connections) =
+    let no : ◌≡◌ {A = ℕ} 104 114 = ap (λ (t : List ℕ). slice_index t 0) named in absurd (omega arith)
+
+pub returns-in_default : goal.returns-in_default
+returns-in_default c line is =
+    let found = found_of c.args.matches.now in
+    let none : first_of (codes "file") (rows_of found) ≡ None = sym (first_value-rows found (codes "file")) ∙ search rules in
+    fileless (rows_of found) line none is
+
+pub returns : goal.returns
+returns c =
+    let value : first_of (codes "file") (rows_of (found_of c.args.matches.now)) ≡ Some (string_bytes c.in_ok-file.file) =
+    sym (first_value-rows (found_of c.args.matches.now) (codes "file")) ∙ sym c.get_str.ensures ∙ search rules in
+    (refl, value)
