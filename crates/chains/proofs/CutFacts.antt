@@ -4,7 +4,7 @@ use Rattle.std.specs.List.{Contains, filter, list_any}
 use Rattle.std.proofs.lemmas.List.Elements.{Contains-append_left, Contains-push, Contains-push_cases}
 use Rattle.std.proofs.lemmas.Bool.{cases_lt}
 use Rattle.catalogue.specs.Ids.{same_id}
-use Rattle.catalogue.proofs.IdOrder.{itself, one_id}
+use Rattle.catalogue.proofs.IdFacts.{itself, one_id}
 use Rattle.requisites.specs.Leads.{IsPath}
 use Rattle.requisites.specs.World.{IsChosen, IsChosenPlan, IsGivenIn, IsGood, IsGoodGiver, IsHeldFor, IsPick, PicksFor, World}
 use Rattle.chains.specs.Cuts.{IsCut, PlaceOf, id_at}

@@ -9,7 +9,7 @@ use Rattle.zone_lists.specs.declared.zones.ZoneRow.{ZoneRow}
 use Rattle.catalogue.specs.Content.{Content, Supersedes, ids_in, ids_of, is_of, record_of}
 use Rattle.catalogue.specs.Ids.{Ascend, same_id}
 use Rattle.catalogue.specs.declared.sysmod.Sysmod.{Sysmod}
-use Rattle.catalogue.proofs.IdOrder.{itself, one_id}
+use Rattle.catalogue.proofs.IdFacts.{itself, one_id}
 use Rattle.supersede.specs.Giving.{fmids_of, is_candidate, needs_of, sup_of}
 use Rattle.supersede.specs.Leading.{Gives, InstalledGiver, IsThere, IsWay}
 use Rattle.requisites.specs.Leads.{IsPath, Leads}
@@ -42,8 +42,8 @@ module _ (content : Content) (rows : List ZoneRow) (members : List (List ℕ)) (
     (ascend : Ascend members)
     (ids_inside : (id : List ℕ) → Contains (ids_of content) id → Contains members id)
     (needs_inside : (id : List ℕ) → Contains (flat_map (λ s. s.needs) (map (sight_of content rows) (ids_of content))) id → Contains members id)
-    (seen : AreSeen (sight_of content rows) (ids_of content) members (length members) nodes.candidates.items nodes.needs.items nodes.supersedes.items)
-    (there : AreThere rows members nodes.supersedes.items nodes.there.items) where
+    (seen : AreSeen (sight_of content rows) (ids_of content) members (length members) nodes.candidates.items nodes.needs nodes.supersedes)
+    (there : AreThere rows members nodes.supersedes nodes.there.items) where
   as_many : length nodes.candidates.items ≡ length members
   as_many = seen.candidates_are.len
 
@@ -84,10 +84,10 @@ module _ (content : Content) (rows : List ZoneRow) (members : List (List ℕ)) (
 
   -- ---- needs
 
-  need_within : (p q : ℕ) → p < length members → Contains (row nodes.needs.items p) q → q < length members
+  need_within : (p q : ℕ) → p < length members → Contains (row nodes.needs p) q → q < length members
   need_within p q below needs = (seen.needs_are.each p below).so.within q needs
 
-  need_up : (p q : ℕ) → IsMarked nodes.candidates.items p → Contains (row nodes.needs.items p) q → Contains (needs_of content (id_at members p)) (id_at members q)
+  need_up : (p q : ℕ) → IsMarked nodes.candidates.items p → Contains (row nodes.needs p) q → Contains (needs_of content (id_at members p)) (id_at members q)
   need_up p q marked needs =
       let below = candidate_within p marked in
       let view = seen.needs_are.each p below in
@@ -109,7 +109,7 @@ module _ (content : Content) (rows : List ZoneRow) (members : List (List ℕ)) (
 
   -- ---- superseding
 
-  step_up : (p q : ℕ) → p < length members → Contains (row nodes.supersedes.items p) q → Supersedes content (id_at members p) (id_at members q)
+  step_up : (p q : ℕ) → p < length members → Contains (row nodes.supersedes p) q → Supersedes content (id_at members p) (id_at members q)
   step_up p q below linked =
       let view = seen.supersedes_are.each p below in
       let inside = view.so.listed q linked in
@@ -122,7 +122,7 @@ module _ (content : Content) (rows : List ZoneRow) (members : List (List ℕ)) (
       superseded_by None inside = absurd (none_inside (id_at members q) inside)
       superseded_by (Some sysmod) inside = inside
 
-  step_down : (p q : ℕ) → p < length members → q < length members → Supersedes content (id_at members p) (id_at members q) → Contains (row nodes.supersedes.items p) q
+  step_down : (p q : ℕ) → p < length members → q < length members → Supersedes content (id_at members p) (id_at members q) → Contains (row nodes.supersedes p) q
   step_down p q below within step =
       let view = seen.supersedes_are.each p below in
       let P : Sight → Type 0 = λ s. Contains s.superseded (id_at members q) in
@@ -132,7 +132,7 @@ module _ (content : Content) (rows : List ZoneRow) (members : List (List ℕ)) (
       superseded_in None none = absurd none
       superseded_in (Some sysmod) inside = inside
 
-  way_up : (p : ℕ) → p < length members → (list : List ℕ) (q : ℕ) → IsPath (Links nodes.supersedes.items (length members)) p list q → IsWay content (id_at members p) (map (id_at members) list) (id_at members q)
+  way_up : (p : ℕ) → p < length members → (list : List ℕ) (q : ℕ) → IsPath (Links nodes.supersedes (length members)) p list q → IsWay content (id_at members p) (map (id_at members) list) (id_at members q)
   way_up p below [] q same = ap (id_at members) same
   way_up p below (z ∷ zs) q path = (step_up p z below path.0.listed, way_up z path.0.place zs q path.1)
 
@@ -141,7 +141,7 @@ module _ (content : Content) (rows : List ZoneRow) (members : List (List ℕ)) (
   visited next [] q within same = record { place = q; within = within; is = sym same }
   visited next (z ∷ zs) q within way = inside_at members next (ids_inside next (superseder_listed next z way.0))
 
-  way_down : (p : ℕ) → p < length members → (list : List (List ℕ)) (q : ℕ) → q < length members → IsWay content (id_at members p) list (id_at members q) → Leads (Links nodes.supersedes.items (length members)) p q
+  way_down : (p : ℕ) → p < length members → (list : List (List ℕ)) (q : ℕ) → q < length members → IsWay content (id_at members p) list (id_at members q) → Leads (Links nodes.supersedes (length members)) p q
   way_down p below [] q within same = record { list = []; path = one_place members p q [] ascend below within same }
   way_down p below (next ∷ later) q within way =
       let at = visited next later q within way.1 in
@@ -153,10 +153,10 @@ module _ (content : Content) (rows : List ZoneRow) (members : List (List ℕ)) (
         path = (record { listed = step_down p at.place below at.within (subst S (sym at.is) way.0); place = at.within }, rest.path);
       }
 
-  gives_up : (p q : ℕ) → p < length members → Contains (ids_of content) (id_at members p) → Leads (Links nodes.supersedes.items (length members)) p q → Gives content (id_at members p) (id_at members q)
+  gives_up : (p q : ℕ) → p < length members → Contains (ids_of content) (id_at members p) → Leads (Links nodes.supersedes (length members)) p q → Gives content (id_at members p) (id_at members q)
   gives_up p q below listed leads = record { catalogued = listed; way = map (id_at members) leads.list; leads = way_up p below leads.list q leads.path }
 
-  gives_down : (p q : ℕ) → p < length members → q < length members → Gives content (id_at members p) (id_at members q) → Leads (Links nodes.supersedes.items (length members)) p q
+  gives_down : (p q : ℕ) → p < length members → q < length members → Gives content (id_at members p) (id_at members q) → Leads (Links nodes.supersedes (length members)) p q
   gives_down p q below within gives = way_down p below gives.way q within gives.leads
 
   -- ---- what is there
@@ -166,9 +166,9 @@ module _ (content : Content) (rows : List ZoneRow) (members : List (List ℕ)) (
       let found = any_from (λ (row : ZoneRow). bytes_eq row.sysmod id && is_installed_state row.state) rows h in
       any_at (λ (row : ZoneRow). bytes_eq row.sysmod id) rows found.element found.member (first_true (bytes_eq found.element.sysmod id) (is_installed_state found.element.state) found.passes)
 
-  there_up : (q : ℕ) → q < length members → InstalledAt rows members nodes.supersedes.items q → IsThere content rows (id_at members q)
+  there_up : (q : ℕ) → q < length members → InstalledAt rows members nodes.supersedes q → IsThere content rows (id_at members q)
   there_up q below at = by at.leads.list at.leads.path where
-    by : (list : List ℕ) → IsPath (Links nodes.supersedes.items (length members)) at.source list q → IsThere content rows (id_at members q)
+    by : (list : List ℕ) → IsPath (Links nodes.supersedes (length members)) at.source list q → IsThere content rows (id_at members q)
     by [] same = (let P : ℕ → Type 0 = λ k. is_listed rows (id_at members k) ≡ true in inl (subst P same (listed_if_installed (id_at members at.source) at.installed)))
     by (z ∷ zs) path = inr (record {
       giver = id_at members at.source;
@@ -176,7 +176,7 @@ module _ (content : Content) (rows : List ZoneRow) (members : List (List ℕ)) (
       gives = gives_up at.source q at.within (superseder_listed (id_at members at.source) (id_at members z) (step_up at.source z at.within path.0.listed)) (record { list = z ∷ zs; path = path });
     })
 
-  there_down : (q : ℕ) → q < length members → InstalledGiver content rows (id_at members q) → InstalledAt rows members nodes.supersedes.items q
+  there_down : (q : ℕ) → q < length members → InstalledGiver content rows (id_at members q) → InstalledAt rows members nodes.supersedes q
   there_down q below by =
       let at = inside_at members by.giver (ids_inside by.giver by.gives.catalogued) in
       let I : List ℕ → Type 0 = λ x. is_installed rows x ≡ true in
@@ -196,10 +196,10 @@ module _ (content : Content) (rows : List ZoneRow) (members : List (List ℕ)) (
 
   -- ---- the cut
 
-  leads_as_many : (p q : ℕ) → Leads (Links nodes.supersedes.items (length nodes.candidates.items)) p q ↔ Leads (Links nodes.supersedes.items (length members)) p q
+  leads_as_many : (p q : ℕ) → Leads (Links nodes.supersedes (length nodes.candidates.items)) p q ↔ Leads (Links nodes.supersedes (length members)) p q
   leads_as_many p q = (
-    λ leads. let L : ℕ → Type 0 = λ n. Leads (Links nodes.supersedes.items n) p q in subst L as_many leads,
-    λ leads. let L : ℕ → Type 0 = λ n. Leads (Links nodes.supersedes.items n) p q in subst L (sym as_many) leads,
+    λ leads. let L : ℕ → Type 0 = λ n. Leads (Links nodes.supersedes n) p q in subst L as_many leads,
+    λ leads. let L : ℕ → Type 0 = λ n. Leads (Links nodes.supersedes n) p q in subst L (sym as_many) leads,
   )
 
   pub made_cut : IsCut (world_of content rows) members (world nodes)
@@ -226,15 +226,15 @@ pub cut_of : (content : Content) (rows : List ZoneRow) (ids : List (List ℕ)) (
     → ids ≡ ids_of content → sights ≡ map (sight_of content rows) ids → seen_members ≡ members → Ascend members
     → ((id : List ℕ) → Contains ids id → Contains members id)
     → ((id : List ℕ) → Contains (flat_map (λ s. s.needs) sights) id → Contains members id)
-    → AreSeen (sight_of content rows) ids seen_members (length seen_members) nodes.candidates.items nodes.needs.items nodes.supersedes.items
-    → AreThere rows seen_members nodes.supersedes.items nodes.there.items
+    → AreSeen (sight_of content rows) ids seen_members (length seen_members) nodes.candidates.items nodes.needs nodes.supersedes
+    → AreThere rows seen_members nodes.supersedes nodes.there.items
     → IsCut (world_of content rows) members (world nodes)
 cut_of content rows ids sights members seen_members nodes ids_are sights_are same ascend ids_inside needs_inside seen there =
     let P : List (List ℕ) → Type 0 = λ l. (id : List ℕ) → Contains l id → Contains members id in
     let Q : List Sight → Type 0 = λ l. (id : List ℕ) → Contains (flat_map (λ s. s.needs) l) id → Contains members id in
-    let R : List (List ℕ) → Type 0 = λ l. AreSeen (sight_of content rows) l members (length members) nodes.candidates.items nodes.needs.items nodes.supersedes.items in
-    let S : List (List ℕ) → Type 0 = λ l. AreSeen (sight_of content rows) ids l (length l) nodes.candidates.items nodes.needs.items nodes.supersedes.items in
-    let T : List (List ℕ) → Type 0 = λ l. AreThere rows l nodes.supersedes.items nodes.there.items in
+    let R : List (List ℕ) → Type 0 = λ l. AreSeen (sight_of content rows) l members (length members) nodes.candidates.items nodes.needs nodes.supersedes in
+    let S : List (List ℕ) → Type 0 = λ l. AreSeen (sight_of content rows) ids l (length l) nodes.candidates.items nodes.needs nodes.supersedes in
+    let T : List (List ℕ) → Type 0 = λ l. AreThere rows l nodes.supersedes nodes.there.items in
     made_cut content rows members nodes ascend
     (subst P ids_are ids_inside)
     (subst Q (sights_are ∙ ap (map (sight_of content rows)) ids_are) needs_inside)

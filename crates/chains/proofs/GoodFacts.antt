@@ -7,7 +7,7 @@ use Rattle.zone_lists.specs.Installed.{is_installed}
 use Rattle.catalogue.specs.Content.{Content, ids_of, is_of}
 use Rattle.catalogue.specs.Ids.{same_id}
 use Rattle.catalogue.specs.declared.sysmod.Sysmod.{Sysmod}
-use Rattle.catalogue.proofs.IdOrder.{itself, one_id}
+use Rattle.catalogue.proofs.IdFacts.{itself, one_id}
 use Rattle.supersede.specs.Giving.{fmids_of, gives, is_candidate, is_there, needs_of}
 use Rattle.supersede.specs.Leading.{IsThere}
 use Rattle.supersede.proofs.LeadingFacts.{gives_is, there_is}

@@ -1,6 +1,5 @@
 -- Ids by their places in a list that ascends.
 use Rattle.std.proofs.Common.{◌≡◌, ◌⊎◌, ◌∙◌, ℕ, zero, suc, ◌+◌, ◌<◌, ◌≤◌, Bool, true, false, List, [], ◌∷◌, ◌++◌, length, map, take, get_or, Option, Some, None, Result, Ok, Err, refl, sym, ap, subst, inl, inr, append_assoc, arith}
-use Rattle.std.specs.Global.{Vec}
 use Rattle.std.specs.List.{AllByRecursion, Contains, flat_map, slice_get}
 use Rattle.std.specs.List.Sorted.{IsStrictlySortedBy}
 use Rattle.std.specs.Ordering.{ordering_reverse}
@@ -10,7 +9,7 @@ use Rattle.std.proofs.lemmas.Grind.{common_steps, flat_map-append}
 use Rattle.std.proofs.lemmas.List.{append-nil, get_or-map, get_or_append_left, get_or_push, map-append, take_more}
 use Rattle.std.proofs.lemmas.List.Elements.{Contains-append_left, Contains-append_right, Contains-push, Contains-push_cases}
 use Rattle.catalogue.specs.Ids.{Ascend, id_cmp, same_id}
-use Rattle.catalogue.proofs.IdOrder.{ids_total, itself}
+use Rattle.catalogue.proofs.IdFacts.{ids_total, itself}
 use Rattle.chains.specs.Cuts.{PlaceOf, id_at}
 use Rattle.std.specs.Prelude.{◌↔◌, IfNone, IfOk, IfSome, is_some}
 use Rattle.supersede.specs.Reach.{has}
@@ -169,13 +168,13 @@ seen_at f ids sights id place sight are at is = record {
 pub length-push : {X : Type 0} (xs : List X) (x : X) → length (xs ++ x ∷ []) ≡ length xs + 1
 length-push xs x = grind (arith, common_steps)
 
-pub rows_none : (P : ℕ → List ℕ → Type 0) (rows : List (Vec ℕ)) → rows ≡ [] → RowsAre P 0 rows
+pub rows_none : (P : ℕ → List ℕ → Type 0) (rows : List (List ℕ)) → rows ≡ [] → RowsAre P 0 rows
 rows_none P rows is = record { len = ap length is; each = λ p below. absurd (omega (arith, below)) }
 
-pub rows_more : (P : ℕ → List ℕ → Type 0) (n : ℕ) (old new : List (Vec ℕ)) (row_of_it : Vec ℕ) → RowsAre P n old → P n row_of_it.items → new ≡ old ++ row_of_it ∷ [] → RowsAre P (n + 1) new
+pub rows_more : (P : ℕ → List ℕ → Type 0) (n : ℕ) (old new : List (List ℕ)) (row_of_it : List ℕ) → RowsAre P n old → P n row_of_it → new ≡ old ++ row_of_it ∷ [] → RowsAre P (n + 1) new
 rows_more P n old new v are own is = record {
   len = ap length is ∙ length-push old v ∙ ap (λ (k : ℕ). k + 1) are.len;
-  each = λ p below. (let Q : List (Vec ℕ) → Type 0 = λ rows. P p (row rows p) in subst Q (sym is) (here p below));
+  each = λ p below. (let Q : List (List ℕ) → Type 0 = λ rows. P p (row rows p) in subst Q (sym is) (here p below));
 } where
   as_many : length old ≡ n
   as_many = are.len
@@ -214,9 +213,9 @@ seen_here f ids members i member sight Q below at seen so = record {
   so = so;
 }
 
-pub seen_more : (f : List ℕ → Sight) (ids members : List (List ℕ)) (i : ℕ) (member : List ℕ) (sight : Sight) (old_marks new_marks : List Bool) (old_needs new_needs old_supersedes new_supersedes : List (Vec ℕ)) (mark : Bool) (needs supersedes : Vec ℕ)
+pub seen_more : (f : List ℕ → Sight) (ids members : List (List ℕ)) (i : ℕ) (member : List ℕ) (sight : Sight) (old_marks new_marks : List Bool) (old_needs new_needs old_supersedes new_supersedes : List (List ℕ)) (mark : Bool) (needs supersedes : List ℕ)
     → i < length members → member ≡ get_or members i member → IsSeen f ids member sight
-    → mark ≡ sight.candidate → ArePlacesOf members sight.needs needs.items → ArePlacesOf members sight.superseded supersedes.items
+    → mark ≡ sight.candidate → ArePlacesOf members sight.needs needs → ArePlacesOf members sight.superseded supersedes
     → AreSeen f ids members i old_marks old_needs old_supersedes
     → new_marks ≡ old_marks ++ mark ∷ [] → new_needs ≡ old_needs ++ needs ∷ [] → new_supersedes ≡ old_supersedes ++ supersedes ∷ []
     → AreSeen f ids members (i + 1) new_marks new_needs new_supersedes
@@ -224,9 +223,9 @@ seen_more f ids members i member sight old_marks new_marks old_needs new_needs o
   candidates_are = marks_more (λ p m. SeenAs f ids (id_at members p) (λ s. m ≡ s.candidate)) i old_marks new_marks mark are.candidates_are
       (seen_here f ids members i member sight (λ s. mark ≡ s.candidate) below at seen mark_is) marks_now;
   needs_are = rows_more (λ p places. SeenAs f ids (id_at members p) (λ s. ArePlacesOf members s.needs places)) i old_needs new_needs needs are.needs_are
-      (seen_here f ids members i member sight (λ s. ArePlacesOf members s.needs needs.items) below at seen needs_are) needs_now;
+      (seen_here f ids members i member sight (λ s. ArePlacesOf members s.needs needs) below at seen needs_are) needs_now;
   supersedes_are = rows_more (λ p places. SeenAs f ids (id_at members p) (λ s. ArePlacesOf members s.superseded places)) i old_supersedes new_supersedes supersedes are.supersedes_are
-      (seen_here f ids members i member sight (λ s. ArePlacesOf members s.superseded supersedes.items) below at seen supersedes_are) supersedes_now;
+      (seen_here f ids members i member sight (λ s. ArePlacesOf members s.superseded supersedes) below at seen supersedes_are) supersedes_now;
 }
 
 -- ---- what is there
@@ -239,7 +238,7 @@ there_more rows members Given i member old new mark below at are is now =
     (let P : List ℕ → Type 0 = λ x. (mark ≡ true) ↔ ((is_listed rows x ≡ true) ⊎ Given i) in subst P (at ∙ get_any members i member [] below) is) now
 
 -- what has a source has an installed member from which superseding leads there
-pub there_from : (rows : List ZoneRow) (members : List (List ℕ)) (supersedes : List (Vec ℕ)) (installed marks : List Bool) (sources : List (Option ℕ))
+pub there_from : (rows : List ZoneRow) (members : List (List ℕ)) (supersedes : List (List ℕ)) (installed marks : List Bool) (sources : List (Option ℕ))
     → MarksAre (λ p mark. mark ≡ is_installed rows (id_at members p)) (length members) installed → AreLeastSources supersedes installed sources
     → MarksAre (IsThereAt rows members (HasSource sources)) (length members) marks → AreThere rows members supersedes marks
 there_from rows members supersedes installed marks sources are least there = record {

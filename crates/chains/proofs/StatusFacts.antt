@@ -9,7 +9,7 @@ use Rattle.zone_lists.specs.Installed.{is_installed}
 use Rattle.catalogue.specs.Content.{Content, ids_of, record_of}
 use Rattle.catalogue.specs.Ids.{in_order, same_id}
 use Rattle.catalogue.specs.declared.sysmod.Sysmod.{Sysmod}
-use Rattle.catalogue.proofs.IdOrder.{in_order_has, itself}
+use Rattle.catalogue.proofs.IdFacts.{in_order_has, itself}
 use Rattle.supersede.specs.Giving.{fmids_of, gives, is_candidate, is_there, needs_of, sup_of, supersedes_within}
 use Rattle.supersede.specs.Leading.{IsThere}
 use Rattle.supersede.proofs.LeadingFacts.{gives_is, there_is}

@@ -7,7 +7,7 @@ use Rattle.std.proofs.lemmas.List.Kept.{IsStrictlySortedBy-filter}
 use Rattle.zone_lists.specs.declared.zones.ZoneRow.{ZoneRow}
 use Rattle.catalogue.specs.Content.{Content, ids_of}
 use Rattle.catalogue.specs.Ids.{Ascend, id_cmp, in_order, same_id}
-use Rattle.catalogue.proofs.IdOrder.{in_order_ascends, in_order_has, itself, one_id}
+use Rattle.catalogue.proofs.IdFacts.{in_order_ascends, in_order_has, itself, one_id}
 use Rattle.supersede.specs.Giving.{gives, is_candidate, is_there, needs_of}
 use Rattle.supersede.specs.Leading.{IsThere}
 use Rattle.supersede.proofs.GivingFacts.{In}

@@ -1,6 +1,5 @@
 -- No part of what is promised: ids by their places in a list that ascends, and what is listed for each place.
 use Rattle.std.specs.Prelude.{◌≡◌, ◌<◌, ◌↔◌, ◌⊎◌, ℕ, Bool, true, List, length, map, Contains}
-use Rattle.std.specs.Global.{Vec}
 use Rattle.zone_lists.specs.Installed.{is_installed, is_listed}
 use Rattle.zone_lists.specs.declared.zones.ZoneRow.{ZoneRow}
 use Rattle.requisites.specs.Leads.{Leads}
@@ -30,7 +29,7 @@ pub record SeenAs (f : List ℕ → Sight) (ids : List (List ℕ)) (id : List �
   pub so : Q sight
 
 -- there are n rows, and of each P says what it has
-pub record RowsAre (P : ℕ → List ℕ → Type 0) (n : ℕ) (rows : List (Vec ℕ)) : Type 0 where
+pub record RowsAre (P : ℕ → List ℕ → Type 0) (n : ℕ) (rows : List (List ℕ)) : Type 0 where
   pub len : length rows ≡ n
   pub each : (p : ℕ) → p < n → P p (row rows p)
 
@@ -40,7 +39,7 @@ pub record MarksAre (P : ℕ → Bool → Type 0) (n : ℕ) (marks : List Bool) 
   pub each : (p : ℕ) → p < n → P p (mark_of marks p)
 
 -- the marks and the rows of the first n members, by what is seen of each
-pub record AreSeen (f : List ℕ → Sight) (ids members : List (List ℕ)) (n : ℕ) (candidates : List Bool) (needs supersedes : List (Vec ℕ)) : Type 0 where
+pub record AreSeen (f : List ℕ → Sight) (ids members : List (List ℕ)) (n : ℕ) (candidates : List Bool) (needs supersedes : List (List ℕ)) : Type 0 where
   pub candidates_are : MarksAre (λ p mark. SeenAs f ids (id_at members p) (λ sight. mark ≡ sight.candidate)) n candidates
   pub needs_are : RowsAre (λ p places. SeenAs f ids (id_at members p) (λ sight. ArePlacesOf members sight.needs places)) n needs
   pub supersedes_are : RowsAre (λ p places. SeenAs f ids (id_at members p) (λ sight. ArePlacesOf members sight.superseded places)) n supersedes
@@ -50,20 +49,20 @@ abbrev pub IsThereAt : List ZoneRow → List (List ℕ) → (ℕ → Type 0) →
 IsThereAt rows members Given p mark = (mark ≡ true) ↔ ((is_listed rows (id_at members p) ≡ true) ⊎ Given p)
 
 -- an installed member, from which a list of superseded ones leads to a place
-pub record InstalledAt (rows : List ZoneRow) (members : List (List ℕ)) (supersedes : List (Vec ℕ)) (q : ℕ) : Type 0 where
+pub record InstalledAt (rows : List ZoneRow) (members : List (List ℕ)) (supersedes : List (List ℕ)) (q : ℕ) : Type 0 where
   pub source : ℕ
   pub within : source < length members
   pub installed : is_installed rows (id_at members source) ≡ true
   pub leads : Leads (Links supersedes (length members)) source q
 
 -- the marks of the members that are there
-abbrev pub AreThere : List ZoneRow → List (List ℕ) → List (Vec ℕ) → List Bool → Type 0
+abbrev pub AreThere : List ZoneRow → List (List ℕ) → List (List ℕ) → List Bool → Type 0
 AreThere rows members supersedes marks = MarksAre (IsThereAt rows members (InstalledAt rows members supersedes)) (length members) marks
 
 -- nodes over some members name no other places
 pub record AreNodesWithin (members : List (List ℕ)) (nodes : Nodes) : Type 0 where
   pub len : length nodes.candidates.items ≡ length members
-  pub needs : RowsAre (λ p places. (q : ℕ) → Contains places q → q < length members) (length members) nodes.needs.items
+  pub needs : RowsAre (λ p places. (q : ℕ) → Contains places q → q < length members) (length members) nodes.needs
 
 -- a verdict on a place names places of members alone
 abbrev pub IsWithin : List (List ℕ) → Verdict → Type 0

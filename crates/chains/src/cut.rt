@@ -13,9 +13,9 @@ ghost use Rattle.chains.specs.Sights.{IsSeen, Sight, sight_of};
 ghost use Rattle.chains.specs.Worlds.{world_of};
 
 use crate::listing::Entry;
-use crate::places::{members_of, place_near, places_of};
+use crate::places::{members_of, place_near, put_places};
 use mcs_reader::Id;
-use requisites::{Nodes, least_sources};
+use requisites::{Nodes, Rows, least_sources};
 use std::alloc::{AllocError, Global};
 use supersede::Zone;
 
@@ -59,23 +59,26 @@ fn nodes_of(
     requires ascend { Ascend ids.now }
     requires entries { length entries.now ≡ length ids.now }
     ensures seen { IfOk result (λ nodes. (f : List ℕ → Sight) → entries.now ≡ map f ids.now
-        → AreSeen f ids.now members.now (length members.now) nodes.candidates.items nodes.needs.items nodes.supersedes.items) }
+        → AreSeen f ids.now members.now (length members.now) nodes.candidates.items nodes.needs nodes.supersedes) }
     ensures within { IfOk result (λ nodes. AreNodesWithin members.now nodes) }
-    ensures there { IfOk result (λ nodes. AreThere zone.now members.now nodes.supersedes.items nodes.there.items) }
+    ensures there { IfOk result (λ nodes. AreThere zone.now members.now nodes.supersedes nodes.there.items) }
 {
     let unseen = Entry::unseen(alloc);
     let mut candidates = Vec::with_capacity(alloc, members.len())?;
-    let mut needs = Vec::with_capacity(alloc, members.len())?;
-    let mut supersedes = Vec::with_capacity(alloc, members.len())?;
+    let mut needs = Rows::new(alloc);
+    let mut supersedes = Rows::new(alloc);
+    let mut places = Vec::new(alloc);
     let mut next = 0;
-    for member in members {
+    for (place, member) in members.iter().enumerate() {
         let entry = entry_for(ids, entries, &unseen, member, next);
         if next < ids.len() && ids[next] == *member {
             next += 1;
         }
         candidates.push(entry.is_candidate())?;
-        needs.push(places_of(alloc, members, entry.needs())?)?;
-        supersedes.push(places_of(alloc, members, entry.superseded())?)?;
+        put_places(&mut places, members, place + 1, entry.needs())?;
+        needs.push_row(&places)?;
+        put_places(&mut places, members, place + 1, entry.superseded())?;
+        supersedes.push_row(&places)?;
     }
     let there = there_marks(alloc, zone, members, &supersedes)?;
     Ok(Nodes {
@@ -111,7 +114,7 @@ fn there_marks(
     alloc: Global,
     zone: &Zone,
     members: &[Id],
-    supersedes: &[Vec<usize>],
+    supersedes: &Rows,
 ) -> Result<Vec<bool>, AllocError>
     ensures { IfOk result (λ marks. AreThere zone.now members.now supersedes.now marks.items) }
 {

@@ -105,8 +105,8 @@ fn entry_from(
 ) -> Result<Entry, AllocError>
     ensures { IfOk result (λ entry. entry ≡ sight_from zone.now sysmod holds.now) }
 {
-    let mut needs = Vec::new(alloc);
     let Some(sysmod) = sysmod else {
+        let mut needs = Vec::new(alloc);
         push_reasons(&mut needs, holds)?;
         return Ok(Entry {
             candidate: false,
@@ -114,14 +114,24 @@ fn entry_from(
             superseded: Vec::new(alloc),
         });
     };
-    needs.extend_from_slice(sysmod.pre.as_slice())?;
-    needs.extend_from_slice(sysmod.req.as_slice())?;
+    let mut needs = joined(sysmod.pre.into_vec(), sysmod.req.into_vec())?;
     push_reasons(&mut needs, holds)?;
     Ok(Entry {
         candidate: is_any_installed(zone, &sysmod.fmids),
         needs,
         superseded: sysmod.sup.into_vec(),
     })
+}
+
+// The ids of two lists, one after the other. It takes no memory where one of them is empty.
+fn joined(mut first: Vec<Id>, second: Vec<Id>) -> Result<Vec<Id>, AllocError>
+    ensures { IfOk result (λ both. both.items ≡ first.items ++ second.items) }
+{
+    if first.is_empty() {
+        return Ok(second);
+    }
+    first.extend_from_slice(second.as_slice())?;
+    Ok(first)
 }
 
 fn is_any_installed(zone: &Zone, fmids: &Ids) -> bool

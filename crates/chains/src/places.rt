@@ -66,16 +66,24 @@ pub(crate) fn place_near(members: &[Id], first: usize, id: &Id) -> Option<usize>
     place_of(members, id)
 }
 
-/// The places of the ids that stand somewhere.
-pub(crate) fn places_of(alloc: Global, members: &[Id], ids: &[Id]) -> Result<Vec<usize>, AllocError>
+/// Makes a list that of the places of the ids that stand somewhere. The first is looked for at a place first, and
+/// each other one after the one before: what is listed together often stands together.
+pub(crate) fn put_places(
+    places: &mut Vec<usize>,
+    members: &[Id],
+    first: usize,
+    ids: &[Id],
+) -> Result<(), AllocError>
     requires { Ascend members.now }
-    ensures { IfOk result (λ places. ArePlacesOf members.now ids.now places.items) }
+    ensures { OnOk result (ArePlacesOf members.now ids.now places.new.items) }
 {
-    let mut places = Vec::with_capacity(alloc, ids.len())?;
+    places.clear();
+    let mut next = first;
     for id in ids {
-        if let Some(place) = place_of(members, id) {
+        if let Some(place) = place_near(members, next, id) {
             places.push(place)?;
+            next = place + 1;
         }
     }
-    Ok(places)
+    Ok(())
 }

@@ -1,10 +1,9 @@
 -- What falls and what closes.
-use Rattle.std.proofs.Common.{◌≡◌, ◌≢◌, ℕ, ◌+◌, ◌*◌, ◌<◌, ◌≤◌, ◌^◌, ◌⊎◌, List, [], ◌∷◌, ◌++◌, Bool, true, false, length, get_or, set, take, replicate, refl, sym, ap, ◌∙◌, subst, inl, inr, arith}
+use Rattle.std.proofs.Common.{◌≡◌, ℕ, ◌+◌, ◌*◌, ◌<◌, ◌≤◌, ◌^◌, ◌⊎◌, List, [], Bool, true, false, length, get_or, set, take, replicate, refl, sym, ◌∙◌, subst, inl, inr, arith}
 use Rattle.std.specs.List.{Contains}
-use Rattle.std.specs.Global.{Vec}
 use Rattle.std.proofs.lemmas.Bool.{cases_eq}
 use Rattle.std.proofs.lemmas.Grind.{common_steps}
-use Rattle.std.proofs.lemmas.List.{get_or-replicate, get_or-set_other, take_all, take_more}
+use Rattle.std.proofs.lemmas.List.{get_or-replicate, take_all, take_more}
 use Rattle.std.proofs.lemmas.List.Elements.{Contains-push_cases}
 use Rattle.requisites.specs.Leads.{Leads}
 use Rattle.requisites.specs.World.{IsGood, IsGoodGiver}
@@ -61,12 +60,12 @@ left_falls_inside nodes opens marks p on left a closed = left_falls nodes opens 
 -- ---- what closes
 
 -- no good place gives one of a ring that can close
-pub ring_ungiven : (nodes : Nodes) (superseders : List (Vec ℕ)) (marks opens : List Bool) (ring : List ℕ) (p : ℕ) → AreReversed nodes.supersedes.items (length nodes.candidates.items) superseders → AreMarksLeft nodes marks → AreOpen nodes opens → CanClose superseders marks opens ring p → AreUngiven nodes ring
+pub ring_ungiven : (nodes : Nodes) (superseders : List (List ℕ)) (marks opens : List Bool) (ring : List ℕ) (p : ℕ) → AreReversed nodes.supersedes (length nodes.candidates.items) superseders → AreMarksLeft nodes marks → AreOpen nodes opens → CanClose superseders marks opens ring p → AreUngiven nodes ring
 ring_ungiven nodes superseders marks opens ring p turned left a can = record {
   each = λ r z inside giver. (leads_closed (Outside z) (handed z giver.good) (λ stands. unmarked marks z (can.unmarked.each z stands) (left.keep z giver.good), leads_itself Step z) giver.gives).0 inside;
 } where
   Step : ℕ → ℕ → Type 0
-  Step = Links nodes.supersedes.items (length nodes.candidates.items)
+  Step = Links nodes.supersedes (length nodes.candidates.items)
 
   -- z leads to q, which is none of the ring
   Outside : ℕ → ℕ → Type 0
@@ -97,11 +96,11 @@ pub shut_none : (opens : List Bool) (p : ℕ) → IsShut p opens opens
 shut_none opens p = record { others = λ q ne was. was; fewer = omega arith }
 
 -- a ring that is read through references can close
-pub ring_read : (nodes : Nodes) (superseders : List (Vec ℕ)) (marks opens read : List Bool) (ring : List ℕ) (p : ℕ) → read ≡ opens → AreReversed nodes.supersedes.items (length nodes.candidates.items) superseders → AreMarksLeft nodes marks → AreOpen nodes opens → CanClose superseders marks read ring p → AreUngiven nodes ring
+pub ring_read : (nodes : Nodes) (superseders : List (List ℕ)) (marks opens read : List Bool) (ring : List ℕ) (p : ℕ) → read ≡ opens → AreReversed nodes.supersedes (length nodes.candidates.items) superseders → AreMarksLeft nodes marks → AreOpen nodes opens → CanClose superseders marks read ring p → AreUngiven nodes ring
 ring_read nodes superseders marks opens read ring p same turned left a can =
     ring_ungiven nodes superseders marks opens ring p turned left a (let P : List Bool → Type 0 = λ o. CanClose superseders marks o ring p in subst P same can)
 
-pub ring_begins : (nodes : Nodes) (superseders : List (Vec ℕ)) (marks opens read : List Bool) (ring : List ℕ) (p : ℕ) → read ≡ opens → AreReversed nodes.supersedes.items (length nodes.candidates.items) superseders → AreMarksLeft nodes marks → AreOpen nodes opens → CanClose superseders marks read ring p → AreOpen nodes (set opens p false)
+pub ring_begins : (nodes : Nodes) (superseders : List (List ℕ)) (marks opens read : List Bool) (ring : List ℕ) (p : ℕ) → read ≡ opens → AreReversed nodes.supersedes (length nodes.candidates.items) superseders → AreMarksLeft nodes marks → AreOpen nodes opens → CanClose superseders marks read ring p → AreOpen nodes (set opens p false)
 ring_begins nodes superseders marks opens read ring p same turned left a can =
     let here = (let P : List Bool → Type 0 = λ o. CanClose superseders marks o ring p in subst P same can) in
     open_shut nodes ring opens (set opens p false) p (ring_ungiven nodes superseders marks opens ring p turned left a here) here.member a (shut_one opens p here.place here.was_open)
@@ -122,10 +121,10 @@ closed_but_more opens ring places i h a so = rw (take_more places i 0 h) (record
 pub closed_but_all : (opens : List Bool) (ring places : List ℕ) (i : ℕ) → length places ≤ i → AreClosedBut opens ring (take i places) → AreClosedBut opens ring places
 closed_but_all opens ring places i h a = let P : List ℕ → Type 0 = λ l. AreClosedBut opens ring l in subst P (take_all i places h) a
 
-pub shut_off_none : (superseders : List (Vec ℕ)) (opens : List Bool) (ring : List ℕ) → AreShutOff superseders opens ring []
+pub shut_off_none : (superseders : List (List ℕ)) (opens : List Bool) (ring : List ℕ) → AreShutOff superseders opens ring []
 shut_off_none superseders opens ring = record { each = λ p inside. absurd (omega (arith, inside.1)) }
 
-pub shut_off_more : (superseders : List (Vec ℕ)) (opens : List Bool) (ring places above : List ℕ) (i : ℕ) → i < length places → AreShutOff superseders opens ring (take i places) → above ≡ row superseders (get_or places i 0) → AreClosedBut opens ring above → AreShutOff superseders opens ring (take (i + 1) places)
+pub shut_off_more : (superseders : List (List ℕ)) (opens : List Bool) (ring places above : List ℕ) (i : ℕ) → i < length places → AreShutOff superseders opens ring (take i places) → above ≡ row superseders (get_or places i 0) → AreClosedBut opens ring above → AreShutOff superseders opens ring (take (i + 1) places)
 shut_off_more superseders opens ring places above i h a same so = rw (take_more places i 0 h) (record {
   each = λ p inside. elim (Contains-push_cases (take i places) (get_or places i 0) p inside) [
     | inl before ↦ a.each p before
@@ -133,7 +132,7 @@ shut_off_more superseders opens ring places above i h a same so = rw (take_more 
   ];
 })
 
-pub shut_off_all : (superseders : List (Vec ℕ)) (opens : List Bool) (ring places : List ℕ) (i : ℕ) → length places ≤ i → AreShutOff superseders opens ring (take i places) → AreShutOff superseders opens ring places
+pub shut_off_all : (superseders : List (List ℕ)) (opens : List Bool) (ring places : List ℕ) (i : ℕ) → length places ≤ i → AreShutOff superseders opens ring (take i places) → AreShutOff superseders opens ring places
 shut_off_all superseders opens ring places i h a = let P : List ℕ → Type 0 = λ l. AreShutOff superseders opens ring l in subst P (take_all i places h) a
 
 -- closing brings the end nearer
@@ -141,7 +140,7 @@ pub closing_is_nearer : (opens : List Bool) (p work work' : ℕ) → p < length 
 closing_is_nearer opens p work work' h marked = inl (count_falls opens p h marked)
 
 -- so does the closing of a ring with an open place
-pub ring_is_nearer : (opens read new : List Bool) {superseders : List (Vec ℕ)} {marks : List Bool} {ring : List ℕ} (p work work' : ℕ) → read ≡ opens → CanClose superseders marks read ring p → marked_count new ≤ marked_count (set opens p false) → ComesNearer opens new work work'
+pub ring_is_nearer : (opens read new : List Bool) {superseders : List (List ℕ)} {marks : List Bool} {ring : List ℕ} (p work work' : ℕ) → read ≡ opens → CanClose superseders marks read ring p → marked_count new ≤ marked_count (set opens p false) → ComesNearer opens new work work'
 ring_is_nearer opens read new {superseders} {marks} {ring} p work work' same can fewer =
     let here = (let P : List Bool → Type 0 = λ o. CanClose superseders marks o ring p in subst P same can) in
     inl (omega (arith, count_falls opens p here.place here.was_open, fewer))

@@ -9,3 +9,4 @@ pub mod PickFacts
 pub mod VerdictFacts
 pub mod CascadeFacts
 pub mod ReversedFacts
+pub mod RowsFacts

@@ -1,18 +1,16 @@
 -- Picks, and what they lead to.
-use Rattle.std.proofs.Common.{◌≡◌, ℕ, ◌+◌, ◌<◌, ◌≤◌, ◌⊎◌, List, [], ◌∷◌, ◌++◌, Bool, true, false, Option, Some, None, length, get_or, take, refl, sym, ap, ◌∙◌, subst, inl, inr, arith}
+use Rattle.std.proofs.Common.{◌≡◌, ℕ, ◌+◌, ◌<◌, ◌≤◌, List, [], ◌∷◌, ◌++◌, Bool, true, false, Option, Some, None, length, get_or, take, refl, sym, ◌∙◌, subst, inl, inr, arith}
 use Rattle.std.specs.Prelude.{IfNone, IfSome}
 use Rattle.std.specs.List.{Contains}
-use Rattle.std.specs.Global.{Vec}
-use Rattle.std.proofs.lemmas.Bool.{cases_lt}
 use Rattle.std.proofs.lemmas.List.{take_all, take_more}
 use Rattle.std.proofs.lemmas.List.Elements.{Contains-append_left, Contains-push, Contains-push_cases}
 use Rattle.requisites.specs.Leads.{Leads}
 use Rattle.requisites.proofs.LeadsFacts.{leads_itself}
-use Rattle.requisites.specs.World.{IsGood, IsGoodGiver, IsLeast, IsPick, PicksFor}
+use Rattle.requisites.specs.World.{IsGoodGiver, IsPick}
 use Rattle.requisites.specs.Nodes.{IsMarked, Links, mark_of, row, world}
 use Rattle.requisites.specs.Sources.{IsLeastSource, source_of}
 use Rattle.requisites.specs.Good.{AreGood}
-use Rattle.requisites.specs.Picks.{ArePicks, ArePicksFor, HasNoPick, IsNeedPick}
+use Rattle.requisites.specs.Picks.{ArePicksFor, HasNoPick, IsNeedPick}
 use Rattle.requisites.specs.declared.nodes.Nodes.{Nodes}
 
 pub unmarked : (marks : List Bool) (p : ℕ) → mark_of marks p ≡ false → IsMarked marks p → ⊥
@@ -32,16 +30,16 @@ pick_least nodes good givers need z a absent off e = record {
     },
   );
 } where
-  source : IsLeastSource nodes.supersedes.items good (length good) need z
+  source : IsLeastSource nodes.supersedes good (length good) need z
   source = a.given_by.reached need z e
 
-  at_places : (m n : ℕ) {u : ℕ} → m ≡ n → Leads (Links nodes.supersedes.items m) u need → Leads (Links nodes.supersedes.items n) u need
-  at_places m n {u} same leads = let P : ℕ → Type 0 = λ k. Leads (Links nodes.supersedes.items k) u need in subst P same leads
+  at_places : (m n : ℕ) {u : ℕ} → m ≡ n → Leads (Links nodes.supersedes m) u need → Leads (Links nodes.supersedes n) u need
+  at_places m n {u} same leads = let P : ℕ → Type 0 = λ k. Leads (Links nodes.supersedes k) u need in subst P same leads
 
 pub pick_none : (nodes : Nodes) (good : List Bool) (givers : List (Option ℕ)) (need : ℕ) → AreGood nodes good givers → source_of givers need ≡ None → (z : ℕ) → IsGoodGiver (world nodes) need z → ⊥
 pick_none nodes good givers need a e z giver =
     a.given_by.unreached need z e (a.unmarked z giver.good)
-    (let P : ℕ → Type 0 = λ k. Leads (Links nodes.supersedes.items k) z need in subst P (sym a.len) giver.gives)
+    (let P : ℕ → Type 0 = λ k. Leads (Links nodes.supersedes k) z need in subst P (sym a.len) giver.gives)
 
 pub pick_some : (nodes : Nodes) (good : List Bool) (givers : List (Option ℕ)) (need : ℕ) → AreGood nodes good givers → mark_of nodes.there.items need ≡ false → mark_of good need ≡ false → (o : Option ℕ) → source_of givers need ≡ o → IfSome o (λ z. IsNeedPick nodes need z)
 pick_some nodes good givers need a absent off None e = tt
@@ -72,7 +70,7 @@ no_pick : (nodes : Nodes) (need z : ℕ) → HasNoPick nodes need → IsNeedPick
 no_pick nodes need z (inl there) p = p.absent there
 no_pick nodes need z (inr ungiven) p = go p.pick where
   go : IsPick (world nodes) need z → ⊥
-  go (inl itself) = ungiven need (record { good = itself.0; gives = leads_itself (Links nodes.supersedes.items (length nodes.candidates.items)) need })
+  go (inl itself) = ungiven need (record { good = itself.0; gives = leads_itself (Links nodes.supersedes (length nodes.candidates.items)) need })
   go (inr other) = ungiven z other.1.holds
 
 pub picked_none : (nodes : Nodes) → ArePickedFrom nodes [] []
@@ -110,7 +108,7 @@ picked_skip nodes listed picks need a none = record {
 pub picked_step : (nodes : Nodes) (listed : List ℕ) (i : ℕ) (picks : List ℕ) → i < length listed → ArePickedFrom nodes (take i listed ++ get_or listed i 0 ∷ []) picks → ArePickedFrom nodes (take (i + 1) listed) picks
 picked_step nodes listed i picks inside a = rw (take_more listed i 0 inside) a
 
-pub picked_all : (nodes : Nodes) (p : ℕ) (listed picks : List ℕ) → listed ≡ row nodes.needs.items p → ArePickedFrom nodes listed picks → ArePicksFor nodes p picks
+pub picked_all : (nodes : Nodes) (p : ℕ) (listed picks : List ℕ) → listed ≡ row nodes.needs p → ArePickedFrom nodes listed picks → ArePicksFor nodes p picks
 picked_all nodes p listed picks same a = record {
   picked = λ z inside. let from = a.picked z inside in record {
     need = from.need;
@@ -125,7 +123,7 @@ picked_all nodes p listed picks same a = record {
   });
 }
 
-pub picked_listed : (nodes : Nodes) (p : ℕ) (listed : List ℕ) (i : ℕ) (picks : List ℕ) → listed ≡ row nodes.needs.items p → i ≡ length listed → ArePickedFrom nodes (take i listed) picks → ArePicksFor nodes p picks
+pub picked_listed : (nodes : Nodes) (p : ℕ) (listed : List ℕ) (i : ℕ) (picks : List ℕ) → listed ≡ row nodes.needs p → i ≡ length listed → ArePickedFrom nodes (take i listed) picks → ArePicksFor nodes p picks
 picked_listed nodes p listed i picks same end a =
     picked_all nodes p listed picks same (let P : List ℕ → Type 0 = λ l. ArePickedFrom nodes l picks in subst P (take_all i listed (omega arith)) a)
 

@@ -1,13 +1,12 @@
 -- What is left when nothing falls any more is a plan, and no plan loses a member.
-use Rattle.std.proofs.Common.{◌≡◌, ℕ, ◌+◌, ◌<◌, ◌≤◌, ◌⊎◌, List, [], ◌∷◌, ◌++◌, Bool, true, false, Option, Some, None, length, get_or, take, drop, refl, sym, ap, ◌∙◌, subst, inl, inr, arith, suc, zero}
+use Rattle.std.proofs.Common.{◌≡◌, ℕ, ◌+◌, ◌≤◌, ◌⊎◌, List, [], ◌∷◌, ◌++◌, Bool, true, false, Option, length, take, drop, refl, sym, ◌∙◌, subst, inl, inr, arith, suc, zero}
 use Rattle.std.specs.List.{Contains}
-use Rattle.std.specs.Global.{Vec}
 use Rattle.std.proofs.lemmas.List.{take_all, take-append-le}
 use Rattle.std.proofs.lemmas.List.Elements.{Contains-append_left, Contains-append_right, Contains-append_cases, Contains-push, Contains-push_cases}
 use Rattle.requisites.specs.Leads.{Leads}
-use Rattle.requisites.specs.World.{IsGivenIn, IsGood, IsPlan}
+use Rattle.requisites.specs.World.{IsGood, IsPlan}
 use Rattle.requisites.specs.Nodes.{IsMarked, Links, mark_of, row, world}
-use Rattle.requisites.specs.Sources.{AreLeastSources, HasSource, source_of}
+use Rattle.requisites.specs.Sources.{AreLeastSources}
 use Rattle.requisites.specs.Good.{AreGood, AreMarksLeft, AreMet, AreSwept, HasOpenNeed}
 use Rattle.requisites.specs.declared.nodes.Nodes.{Nodes}
 use Rattle.requisites.proofs.SourceFacts.{marked_inside}
@@ -76,17 +75,17 @@ left_begins nodes marks e = let P : List Bool → Type 0 = λ m. AreMarksLeft no
 })
 
 -- a good place has no open need
-pub good_has_none : (nodes : Nodes) (marks : List Bool) (givers : List (Option ℕ)) (p : ℕ) → AreMarksLeft nodes marks → AreLeastSources nodes.supersedes.items marks givers → IsGood (world nodes) p → HasOpenNeed nodes givers p → ⊥
+pub good_has_none : (nodes : Nodes) (marks : List Bool) (givers : List (Option ℕ)) (p : ℕ) → AreMarksLeft nodes marks → AreLeastSources nodes.supersedes marks givers → IsGood (world nodes) p → HasOpenNeed nodes givers p → ⊥
 good_has_none nodes marks givers p left sources good unmet =
     let r = unmet.need in
     elim (good.plan.needs_met p r good.member unmet.is_open.needs) [
       | inl there ↦ (let on : mark_of nodes.there.items r ≡ true = there.is in let off : mark_of nodes.there.items r ≡ false = unmet.is_open.absent in cc)
       | inr given ↦ sources.unreached r given.giver unmet.is_open.ungiven
           (left.keep given.giver (record { members = good.members; plan = good.plan; member = given.member }))
-          (let P : ℕ → Type 0 = λ n. Leads (Links nodes.supersedes.items n) given.giver r in subst P (sym left.len) given.gives)
+          (let P : ℕ → Type 0 = λ n. Leads (Links nodes.supersedes n) given.giver r in subst P (sym left.len) given.gives)
     ]
 
-pub left_swept : (nodes : Nodes) (i : ℕ) (old new : List Bool) (givers : List (Option ℕ)) (fell : Bool) → AreMarksLeft nodes old → AreLeastSources nodes.supersedes.items old givers → AreSwept nodes givers i old new fell → AreMarksLeft nodes new
+pub left_swept : (nodes : Nodes) (i : ℕ) (old new : List Bool) (givers : List (Option ℕ)) (fell : Bool) → AreMarksLeft nodes old → AreLeastSources nodes.supersedes old givers → AreSwept nodes givers i old new fell → AreMarksLeft nodes new
 left_swept nodes i old new givers fell left sources swept = record {
   len = swept.len ∙ left.len;
   candidates = λ p marked. left.candidates p (swept.falls p marked);
@@ -97,7 +96,7 @@ left_swept nodes i old new givers fell left sources swept = record {
 }
 
 -- where each need of each marked place is met, the marked places are a plan
-pub left_is_plan : (nodes : Nodes) (marks : List Bool) (givers : List (Option ℕ)) → AreMarksLeft nodes marks → AreLeastSources nodes.supersedes.items marks givers → ((p : ℕ) → IsMarked marks p → AreMet nodes givers (row nodes.needs.items p)) → IsPlan (world nodes) (marked_places marks)
+pub left_is_plan : (nodes : Nodes) (marks : List Bool) (givers : List (Option ℕ)) → AreMarksLeft nodes marks → AreLeastSources nodes.supersedes marks givers → ((p : ℕ) → IsMarked marks p → AreMet nodes givers (row nodes.needs p)) → IsPlan (world nodes) (marked_places marks)
 left_is_plan nodes marks givers left sources met = record {
   candidates = λ p inside. left.candidates p (places-marked marks p inside);
   needs_met = λ p r inside needs. elim ((met p (places-marked marks p inside)).met r needs) [
@@ -105,12 +104,12 @@ left_is_plan nodes marks givers left sources met = record {
     | inr had ↦ (let least = sources.reached r had.source had.is in inr (record {
       giver = had.source;
       member = marked-places marks had.source least.marked;
-      gives = (let P : ℕ → Type 0 = λ n. Leads (Links nodes.supersedes.items n) had.source r in subst P left.len least.leads);
+      gives = (let P : ℕ → Type 0 = λ n. Leads (Links nodes.supersedes n) had.source r in subst P left.len least.leads);
     }))
   ];
 }
 
-pub good_found : (nodes : Nodes) (i : ℕ) (old new : List Bool) (givers : List (Option ℕ)) (fell : Bool) → fell ≡ false → i ≡ length old → AreMarksLeft nodes old → AreLeastSources nodes.supersedes.items old givers → AreSwept nodes givers i old new fell → AreGood nodes new givers
+pub good_found : (nodes : Nodes) (i : ℕ) (old new : List Bool) (givers : List (Option ℕ)) (fell : Bool) → fell ≡ false → i ≡ length old → AreMarksLeft nodes old → AreLeastSources nodes.supersedes old givers → AreSwept nodes givers i old new fell → AreGood nodes new givers
 good_found nodes i old new givers fell none whole left sources swept =
     let P : List Bool → Type 0 = λ m. AreGood nodes m givers in
     subst P (sym (swept.same none)) (record {
@@ -132,9 +131,9 @@ lent_whole n new old e =
     take-append-le n new (drop (length new) old) within ∙ take_all n new all
 
 -- the sources that a round found, of lists read through references
-pub read_sources : (nodes : Nodes) (lists : List (Vec ℕ)) (marks : List Bool) (given givers : List (Option ℕ)) → lists ≡ nodes.supersedes.items → given ≡ givers → AreLeastSources lists marks givers → AreLeastSources nodes.supersedes.items marks given
+pub read_sources : (nodes : Nodes) (lists : List (List ℕ)) (marks : List Bool) (given givers : List (Option ℕ)) → lists ≡ nodes.supersedes → given ≡ givers → AreLeastSources lists marks givers → AreLeastSources nodes.supersedes marks given
 read_sources nodes lists marks given givers same_lists same_givers sources =
-    let P : List (Vec ℕ) → Type 0 = λ l. AreLeastSources l marks given in
+    let P : List (List ℕ) → Type 0 = λ l. AreLeastSources l marks given in
     let Q : List (Option ℕ) → Type 0 = λ g. AreLeastSources lists marks g in
     subst P same_lists (subst Q (sym same_givers) sources)
 

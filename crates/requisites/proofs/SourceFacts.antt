@@ -1,8 +1,6 @@
 -- The least sources, start by start.
-use Rattle.std.proofs.Common.{◌≡◌, ℕ, ◌+◌, ◌<◌, ◌≤◌, ◌⊎◌, List, [], ◌∷◌, Bool, true, false, Option, Some, None, length, get_or, refl, sym, ap, ◌∙◌, subst, inl, inr, arith}
-use Rattle.std.specs.List.{Contains}
-use Rattle.std.specs.Global.{Vec}
-use Rattle.std.proofs.lemmas.Bool.{cases_eq, cases_lt}
+use Rattle.std.proofs.Common.{◌≡◌, ℕ, ◌+◌, ◌<◌, List, [], Bool, true, false, Option, Some, None, length, sym, ◌∙◌, subst, inl, inr, arith}
+use Rattle.std.proofs.lemmas.Bool.{cases_lt}
 use Rattle.std.proofs.lemmas.List.{get_or_past}
 use Rattle.requisites.specs.Leads.{Leads}
 use Rattle.requisites.specs.Nodes.{IsMarked, Links, mark_of}
@@ -12,13 +10,13 @@ use Rattle.requisites.proofs.LeadsFacts.{leads_closed}
 use Rattle.requisites.proofs.SpreadFacts.{none≢some}
 
 -- the sources as far as the marked places below p are done
-pub record AreSourcesBelow (lists : List (Vec ℕ)) (marks : List Bool) (n p : ℕ) (sources : List (Option ℕ)) : Type 0 where
+pub record AreSourcesBelow (lists : List (List ℕ)) (marks : List Bool) (n p : ℕ) (sources : List (Option ℕ)) : Type 0 where
   pub len : length sources ≡ n
   pub reached : (q s : ℕ) → source_of sources q ≡ Some s → IsLeastSource lists marks n q s
   pub closed : AreClosed lists sources []
   pub done : (m q : ℕ) → m < p → IsMarked marks m → Leads (Links lists n) m q → HasSource sources q
 
-pub sources_begin : (lists : List (Vec ℕ)) (marks : List Bool) (n : ℕ) (sources : List (Option ℕ)) → length sources ≡ n → ((q : ℕ) → source_of sources q ≡ None) → AreSourcesBelow lists marks n 0 sources
+pub sources_begin : (lists : List (List ℕ)) (marks : List Bool) (n : ℕ) (sources : List (Option ℕ)) → length sources ≡ n → ((q : ℕ) → source_of sources q ≡ None) → AreSourcesBelow lists marks n 0 sources
 sources_begin lists marks n sources len none = record {
   len = len;
   reached = λ q s e. absurd (none≢some (source_of sources q) s (none q) e);
@@ -26,11 +24,11 @@ sources_begin lists marks n sources len none = record {
   done = λ m q h marked leads. absurd (omega arith);
 }
 
-at_length : (lists : List (Vec ℕ)) (m n p q : ℕ) → m ≡ n → Leads (Links lists m) p q → Leads (Links lists n) p q
+at_length : (lists : List (List ℕ)) (m n p q : ℕ) → m ≡ n → Leads (Links lists m) p q → Leads (Links lists n) p q
 at_length lists m n p q e leads = let P : ℕ → Type 0 = λ k. Leads (Links lists k) p q in subst P e leads
 
 -- a marked place is done
-pub sources_more : (lists : List (Vec ℕ)) (marks : List Bool) (n p : ℕ) (old new : List (Option ℕ)) → AreSourcesBelow lists marks n p old → p < n → IsMarked marks p → SourcesSpread lists p old new → AreClosed lists new [] → AreSourcesBelow lists marks n (p + 1) new
+pub sources_more : (lists : List (List ℕ)) (marks : List Bool) (n p : ℕ) (old new : List (Option ℕ)) → AreSourcesBelow lists marks n p old → p < n → IsMarked marks p → SourcesSpread lists p old new → AreClosed lists new [] → AreSourcesBelow lists marks n (p + 1) new
 sources_more lists marks n p old new a inside marked spread closed = record {
   len = spread.len ∙ a.len;
   reached = λ q s e. elim (spread.spread q s e) [
@@ -67,7 +65,7 @@ sources_more lists marks n p old new a inside marked spread closed = record {
   reach q leads = leads_closed (HasSource new) onward (spread.begun (omega (arith, a.len))) leads
 
 -- an unmarked place is passed over
-pub sources_skip : (lists : List (Vec ℕ)) (marks : List Bool) (n p : ℕ) (sources : List (Option ℕ)) → AreSourcesBelow lists marks n p sources → mark_of marks p ≡ false → AreSourcesBelow lists marks n (p + 1) sources
+pub sources_skip : (lists : List (List ℕ)) (marks : List Bool) (n p : ℕ) (sources : List (Option ℕ)) → AreSourcesBelow lists marks n p sources → mark_of marks p ≡ false → AreSourcesBelow lists marks n (p + 1) sources
 sources_skip lists marks n p sources a unmarked = record {
   len = a.len;
   reached = a.reached;
@@ -86,7 +84,7 @@ marked_inside marks m marked =
       | inr past ↦ absurd (let off : mark_of marks m ≡ false = get_or_past marks m false past in let on : mark_of marks m ≡ true = marked.is in cc)
     ]
 
-pub sources_end : (lists : List (Vec ℕ)) (marks : List Bool) (sources : List (Option ℕ)) → AreSourcesBelow lists marks (length marks) (length marks) sources → AreLeastSources lists marks sources
+pub sources_end : (lists : List (List ℕ)) (marks : List Bool) (sources : List (Option ℕ)) → AreSourcesBelow lists marks (length marks) (length marks) sources → AreLeastSources lists marks sources
 sources_end lists marks sources a = record {
   reached = a.reached;
   unreached = λ q m none marked leads.
@@ -95,11 +93,11 @@ sources_end lists marks sources a = record {
 }
 
 -- the invariant for what a branch left
-pub sources_kept : (lists : List (Vec ℕ)) (marks : List Bool) (n p : ℕ) (s s' : List (Option ℕ)) (w w' : List ℕ) → s' ≡ s → w' ≡ w → AreSourcesBelow lists marks n p s → w ≡ [] → AreSourcesBelow lists marks n p s' × (w' ≡ [])
+pub sources_kept : (lists : List (List ℕ)) (marks : List Bool) (n p : ℕ) (s s' : List (Option ℕ)) (w w' : List ℕ) → s' ≡ s → w' ≡ w → AreSourcesBelow lists marks n p s → w ≡ [] → AreSourcesBelow lists marks n p s' × (w' ≡ [])
 sources_kept lists marks n p s s' w w' same_s same_w a idle =
     ((let P : List (Option ℕ) → Type 0 = λ k. AreSourcesBelow lists marks n p k in subst P (sym same_s) a), same_w ∙ idle)
 
-pub all_below : (lists : List (Vec ℕ)) (marks : List Bool) (n p : ℕ) (sources : List (Option ℕ)) → AreSourcesBelow lists marks n p sources → n ≡ length marks → p ≡ length marks → AreLeastSources lists marks sources
+pub all_below : (lists : List (List ℕ)) (marks : List Bool) (n p : ℕ) (sources : List (Option ℕ)) → AreSourcesBelow lists marks n p sources → n ≡ length marks → p ≡ length marks → AreLeastSources lists marks sources
 all_below lists marks n p sources a same_n same_p =
     sources_end lists marks sources
     (let P : ℕ → Type 0 = λ k. AreSourcesBelow lists marks k (length marks) sources in subst P same_n

@@ -1,5 +1,5 @@
 -- The search for sources.
-use Rattle.std.proofs.Common.{◌≡◌, ◌≢◌, ℕ, ◌+◌, ◌*◌, ◌<◌, ◌≤◌, ◌⊎◌, List, [], ◌∷◌, ◌++◌, Bool, true, false, Option, Some, None, length, get_or, set, take, refl, sym, ap, ◌∙◌, subst, inl, inr, arith}
+use Rattle.std.proofs.Common.{◌≡◌, ◌≢◌, ℕ, ◌+◌, ◌*◌, ◌<◌, ◌≤◌, ◌⊎◌, List, [], ◌∷◌, ◌++◌, true, false, Option, Some, None, length, get_or, set, refl, sym, ap, ◌∙◌, subst, inl, inr, arith}
 use Rattle.std.specs.Prelude.{is_none, is_some, if◌then◌else◌}
 use Rattle.std.specs.List.{Contains}
 use Rattle.std.proofs.lemmas.Bool.{cases_eq}
@@ -8,10 +8,9 @@ use Rattle.std.proofs.lemmas.List.Elements.{Contains-append_left, Contains-push,
 use Rattle.std.proofs.lemmas.List.Sums.{sum_by-set}
 use Rattle.std.proofs.lemmas.Grind.{common_steps}
 use Rattle.requisites.specs.Sources.{source_of, HasSource}
-use Rattle.std.specs.Global.{Vec}
 use Rattle.requisites.specs.Leads.{Leads}
 use Rattle.requisites.specs.Nodes.{Links, row}
-use Rattle.requisites.specs.Spread.{AreClosed, AreReached, IsSpread, IsTaken, SourcesSpread, SourcesTaken, sourceless}
+use Rattle.requisites.specs.Spread.{AreClosed, AreReached, IsTaken, SourcesSpread, SourcesTaken, sourceless}
 use Rattle.requisites.proofs.LeadsFacts.{leads_itself, leads_more}
 
 -- what is read after a source was set
@@ -34,7 +33,7 @@ taken_none s old work = record {
   count = refl;
 }
 
-in_one : (p q : ℕ) → Contains (p ∷ []) q → p ≡ q
+pub in_one : (p q : ℕ) → Contains (p ∷ []) q → p ≡ q
 in_one p q inside =
     elim (Contains-push_cases [] p q inside) [ inl none ↦ absurd (omega (arith, none.1)) | inr e ↦ e ]
 
@@ -148,7 +147,7 @@ taken_more row s p old mid new w wm w' a b = record {
   }
 
 -- what holds while sources are spread from s
-pub record IsSpreading (lists : List (Vec ℕ)) (s : ℕ) (old new : List (Option ℕ)) (work : List ℕ) : Type 0 where
+pub record IsSpreading (lists : List (List ℕ)) (s : ℕ) (old new : List (Option ℕ)) (work : List ℕ) : Type 0 where
   pub spread : SourcesSpread lists s old new
   pub closed : AreClosed lists new work
   pub reached : AreReached lists (length old) s work
@@ -164,11 +163,11 @@ had_before row s p old new w work taken had =
 still_had : (row : List ℕ) (s p : ℕ) (old new : List (Option ℕ)) (w work : List ℕ) → SourcesTaken row s old new w work → HasSource old p → HasSource new p
 still_had row s p old new w work taken had = record { source = had.source; is = taken.stays p had.source had.is }
 
-same_links : (lists : List (Vec ℕ)) (m n p q : ℕ) → m ≡ n → Links lists m p q → Links lists n p q
+same_links : (lists : List (List ℕ)) (m n p q : ℕ) → m ≡ n → Links lists m p q → Links lists n p q
 same_links lists m n p q e link = record { listed = link.listed; place = omega (arith, link.place) }
 
 -- the start has a source, and is worked on where it had none
-pub spreading_begins : (lists : List (Vec ℕ)) (s : ℕ) (old new : List (Option ℕ)) (work : List ℕ) → AreClosed lists old [] → SourcesTaken (s ∷ []) s old new [] work → IsSpreading lists s old new work
+pub spreading_begins : (lists : List (List ℕ)) (s : ℕ) (old new : List (Option ℕ)) (work : List ℕ) → AreClosed lists old [] → SourcesTaken (s ∷ []) s old new [] work → IsSpreading lists s old new work
 spreading_begins lists s old new work closed taken = record {
   spread = record {
     len = taken.len;
@@ -199,7 +198,7 @@ spreading_begins lists s old new work closed taken = record {
   from_start q same = let P : ℕ → Type 0 = λ k. Leads (Links lists (length old)) s k in subst P same (leads_itself (Links lists (length old)) s)
 
 -- one place of the work is done
-pub spreading_more : (lists : List (Vec ℕ)) (s p : ℕ) (old mid new : List (Option ℕ)) (rest work : List ℕ) → IsSpreading lists s old mid (rest ++ p ∷ []) → SourcesTaken (row lists p) s mid new rest work → IsSpreading lists s old new work
+pub spreading_more : (lists : List (List ℕ)) (s p : ℕ) (old mid new : List (Option ℕ)) (rest work : List ℕ) → IsSpreading lists s old mid (rest ++ p ∷ []) → SourcesTaken (row lists p) s mid new rest work → IsSpreading lists s old new work
 spreading_more lists s p old mid new rest work a taken = record {
   spread = record {
     len = taken.len ∙ a.spread.len;
@@ -237,14 +236,14 @@ spreading_more lists s p old mid new rest work a taken = record {
   none_before q none (Some t) e = absurd (none≢some (source_of mid q) t none (a.spread.stays q t e))
 
 -- the same, of work that is known to be none
-pub spreading_starts : (lists : List (Vec ℕ)) (s : ℕ) (old new : List (Option ℕ)) (w work : List ℕ) → w ≡ [] → AreClosed lists old w → SourcesTaken (s ∷ []) s old new w work → IsSpreading lists s old new work
+pub spreading_starts : (lists : List (List ℕ)) (s : ℕ) (old new : List (Option ℕ)) (w work : List ℕ) → w ≡ [] → AreClosed lists old w → SourcesTaken (s ∷ []) s old new w work → IsSpreading lists s old new work
 spreading_starts lists s old new w work idle closed taken =
     spreading_begins lists s old new work
     (let P : List ℕ → Type 0 = λ u. AreClosed lists old u in subst P idle closed)
     (let P : List ℕ → Type 0 = λ u. SourcesTaken (s ∷ []) s old new u work in subst P idle taken)
 
 -- the same, of work that is known to end with p
-pub spreading_steps : (lists : List (Vec ℕ)) (s p : ℕ) (old mid new : List (Option ℕ)) (places before rest work : List ℕ) → IsSpreading lists s old mid before → before ≡ rest ++ p ∷ [] → places ≡ row lists p → SourcesTaken places s mid new rest work → IsSpreading lists s old new work
+pub spreading_steps : (lists : List (List ℕ)) (s p : ℕ) (old mid new : List (Option ℕ)) (places before rest work : List ℕ) → IsSpreading lists s old mid before → before ≡ rest ++ p ∷ [] → places ≡ row lists p → SourcesTaken places s mid new rest work → IsSpreading lists s old new work
 spreading_steps lists s p old mid new places before rest work a is_before is_row taken =
     spreading_more lists s p old mid new rest work
     (let P : List ℕ → Type 0 = λ u. IsSpreading lists s old mid u in subst P is_before a)

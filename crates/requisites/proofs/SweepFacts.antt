@@ -1,5 +1,5 @@
 -- Places that lose their marks.
-use Rattle.std.proofs.Common.{◌≡◌, ◌≢◌, ℕ, ◌+◌, ◌<◌, ◌≤◌, ◌⊎◌, List, Bool, true, false, Option, length, get_or, set, refl, sym, ap, ◌∙◌, subst, inl, inr, arith}
+use Rattle.std.proofs.Common.{◌≡◌, ◌≢◌, ℕ, ◌+◌, ◌<◌, List, Bool, true, false, Option, length, get_or, set, refl, sym, ap, ◌∙◌, subst, inl, inr, arith}
 use Rattle.std.specs.Prelude.{if◌then◌else◌}
 use Rattle.std.proofs.lemmas.Bool.{cases_eq, cases_lt}
 use Rattle.std.proofs.lemmas.List.{get_or-set_same, get_or-set_other}
@@ -57,7 +57,7 @@ swept_falls nodes givers i old marks fell a h marked unmet = record {
 }
 
 -- the needs of the place i are met, if it is marked
-pub swept_stays : (nodes : Nodes) (givers : List (Option ℕ)) (i : ℕ) (old marks : List Bool) (fell : Bool) → AreSwept nodes givers i old marks fell → (IsMarked marks i → AreMet nodes givers (row nodes.needs.items i)) → AreSwept nodes givers (i + 1) old marks fell
+pub swept_stays : (nodes : Nodes) (givers : List (Option ℕ)) (i : ℕ) (old marks : List Bool) (fell : Bool) → AreSwept nodes givers i old marks fell → (IsMarked marks i → AreMet nodes givers (row nodes.needs i)) → AreSwept nodes givers (i + 1) old marks fell
 swept_stays nodes givers i old marks fell a met = record {
   len = a.len;
   falls = a.falls;
@@ -69,7 +69,7 @@ swept_stays nodes givers i old marks fell a met = record {
     | inl before ↦ a.met e p before was
     | inr after ↦
         (let same : p ≡ i = omega arith in
-        let P : ℕ → Type 0 = λ k. AreMet nodes givers (row nodes.needs.items k) in
+        let P : ℕ → Type 0 = λ k. AreMet nodes givers (row nodes.needs k) in
         subst P (sym same) (met (let Q : ℕ → Type 0 = λ k. IsMarked marks k in subst Q same (let R : List Bool → Type 0 = λ m. IsMarked m p in subst R (sym (a.same e)) was))))
   ];
 }

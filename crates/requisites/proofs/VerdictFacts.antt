@@ -1,20 +1,17 @@
 -- Verdicts by place.
-use Rattle.std.proofs.Common.{◌≡◌, ◌≢◌, ℕ, ◌+◌, ◌<◌, ◌≤◌, ◌⊎◌, List, [], ◌∷◌, ◌++◌, Bool, true, false, Option, Some, None, length, get_or, set, replicate, refl, sym, ap, ◌∙◌, subst, inl, inr, arith}
-use Rattle.std.specs.Prelude.{IfNone, IfSome, is_some, slice_get}
-use Rattle.std.specs.Option.{option_map_or}
-use Rattle.std.proofs.lemmas.Option.{slice_get-get_or}
+use Rattle.std.proofs.Common.{◌≡◌, ℕ, ◌+◌, ◌<◌, ◌≤◌, List, [], ◌∷◌, ◌++◌, Bool, true, false, Option, Some, None, length, get_or, set, replicate, refl, sym, ap, ◌∙◌, subst, inl, inr, arith}
+use Rattle.std.specs.Prelude.{is_some}
 use Rattle.std.specs.List.{Contains}
 use Rattle.std.specs.List.Sorted.{IsStrictlyIncreasing}
-use Rattle.std.specs.Global.{Vec}
-use Rattle.std.proofs.lemmas.Bool.{cases_Bool, cases_eq, cases_lt}
-use Rattle.std.proofs.lemmas.Grind.{common_steps, elements}
+use Rattle.std.proofs.lemmas.Bool.{cases_eq, cases_lt}
+use Rattle.std.proofs.lemmas.Grind.{common_steps}
 use Rattle.std.proofs.lemmas.List.{get_or-set_same, get_or-set_other, get_or-replicate, get_or_append_left, get_or_push, get_or_past}
 use Rattle.std.proofs.lemmas.List.Elements.{Contains-append_left, Contains-get_or, Contains-push, Contains-push_cases}
 use Rattle.requisites.specs.Leads.{Leads}
-use Rattle.requisites.specs.World.{IsChosen, IsChosenPlan, IsGivenIn, IsGood, IsGoodGiver, IsHeldFor, IsLeast, IsPick, IsPlan, IsUnmetNeed, PicksFor}
+use Rattle.requisites.specs.World.{IsChosen, IsChosenPlan, IsGood, IsGoodGiver, IsHeldFor, IsPick, IsPlan, PicksFor}
 use Rattle.requisites.specs.Nodes.{IsMarked, Links, mark_of, row, world}
 use Rattle.requisites.specs.Sources.{AreLeastSources, HasSource, IsLeastSource, source_of}
-use Rattle.requisites.specs.Good.{AreGood, AreMet, IsLeastOpen, IsOpenNeed}
+use Rattle.requisites.specs.Good.{AreGood, AreMet, IsLeastOpen}
 use Rattle.requisites.specs.Picks.{ArePicks, ArePicksFor}
 use Rattle.requisites.specs.declared.nodes.Nodes.{Nodes}
 use Rattle.requisites.proofs.LeadsFacts.{leads_closed, leads_itself, leads_more}
@@ -25,32 +22,25 @@ use Rattle.requisites.proofs.PickFacts.{pick_none, unmarked}
 
 -- ---- rows of picks
 
-row_of_element : (lists : List (Vec ℕ)) (v : Vec ℕ) (p : ℕ) → p < length lists → row lists p ≡ (get_or lists p v).items
-row_of_element lists v p h = let e = slice_get-get_or lists p v h in ap (λ (o : Option (Vec ℕ)). option_map_or (λ (w : Vec ℕ). w.items) o []) e
-
 length-push : {X : Type 0} (xs : List X) (x : X) → length (xs ++ x ∷ []) ≡ length xs + 1
 length-push xs x = grind (arith, common_steps)
 
-pub row_before : (lists : List (Vec ℕ)) (v : Vec ℕ) (p : ℕ) → p < length lists → row (lists ++ v ∷ []) p ≡ row lists p
-row_before lists v p h =
-    let longer : p < length (lists ++ v ∷ []) = omega (arith, length-push lists v) in
-    row_of_element (lists ++ v ∷ []) v p longer ∙ ap (λ (w : Vec ℕ). w.items) (get_or_append_left lists (v ∷ []) v p h) ∙ sym (row_of_element lists v p h)
+pub row_before : (lists : List (List ℕ)) (v : List ℕ) (p : ℕ) → p < length lists → row (lists ++ v ∷ []) p ≡ row lists p
+row_before lists v p h = get_or_append_left lists (v ∷ []) [] p h
 
-pub row_last : (lists : List (Vec ℕ)) (v : Vec ℕ) (p : ℕ) → p ≡ length lists → row (lists ++ v ∷ []) p ≡ v.items
-row_last lists v p e =
-    let longer : p < length (lists ++ v ∷ []) = omega (arith, length-push lists v) in
-    row_of_element (lists ++ v ∷ []) v p longer ∙ ap (λ (w : Vec ℕ). w.items) (get_or_push lists v v p (sym e))
+pub row_last : (lists : List (List ℕ)) (v : List ℕ) (p : ℕ) → p ≡ length lists → row (lists ++ v ∷ []) p ≡ v
+row_last lists v p e = get_or_push lists v [] p (sym e)
 
-pub picks_none : (nodes : Nodes) (picks : List (Vec ℕ)) → ArePicks nodes 0 picks
+pub picks_none : (nodes : Nodes) (picks : List (List ℕ)) → ArePicks nodes 0 picks
 picks_none nodes picks = record { rows = λ p h. absurd (omega arith) }
 
-pub picks_more : (nodes : Nodes) (n : ℕ) (picks : List (Vec ℕ)) (v : Vec ℕ) → length picks ≡ n → ArePicks nodes n picks → ArePicksFor nodes n v.items → ArePicks nodes (n + 1) (picks ++ v ∷ [])
+pub picks_more : (nodes : Nodes) (n : ℕ) (picks : List (List ℕ)) (v : List ℕ) → length picks ≡ n → ArePicks nodes n picks → ArePicksFor nodes n v → ArePicks nodes (n + 1) (picks ++ v ∷ [])
 picks_more nodes n picks v len a own = record {
   rows = λ p h. elim (cases_lt p n) [
     | inl below ↦ (let P : List ℕ → Type 0 = λ l. ArePicksFor nodes p l in subst P (sym (row_before picks v p (omega arith))) (a.rows p below))
     | inr above ↦ (let same : p ≡ n = omega arith in
         let P : List ℕ → Type 0 = λ l. ArePicksFor nodes p l in
-        subst P (sym (row_last picks v p (omega arith))) (let Q : ℕ → Type 0 = λ k. ArePicksFor nodes k v.items in subst Q (sym same) own))
+        subst P (sym (row_last picks v p (omega arith))) (let Q : ℕ → Type 0 = λ k. ArePicksFor nodes k v in subst Q (sym same) own))
   ];
 }
 
@@ -159,11 +149,11 @@ record IsChosenPlace (nodes : Nodes) (x p : ℕ) : Type 0 where
   chosen : IsChosen (world nodes) x p
   place : p < length nodes.candidates.items
 
-record IsReachedPlace (nodes : Nodes) (picks : List (Vec ℕ)) (x p : ℕ) : Type 0 where
+record IsReachedPlace (nodes : Nodes) (picks : List (List ℕ)) (x p : ℕ) : Type 0 where
   leads : Leads (Links picks (length nodes.candidates.items)) x p
   place : p < length nodes.candidates.items
 
-pub plan_found : (nodes : Nodes) (x : ℕ) (picks : List (Vec ℕ)) (start : List Bool) (sources : List (Option ℕ)) (plan : List ℕ) → IsGood (world nodes) x → ArePicks nodes (length nodes.candidates.items) picks → length start ≡ length nodes.candidates.items → IsMarked start x → ((p : ℕ) → IsMarked start p → p ≡ x) → AreLeastSources picks start sources → ((p : ℕ) → Contains plan p → HasSource sources p) → ((p : ℕ) → HasSource sources p → Contains plan p) → IsChosenPlan (world nodes) x plan
+pub plan_found : (nodes : Nodes) (x : ℕ) (picks : List (List ℕ)) (start : List Bool) (sources : List (Option ℕ)) (plan : List ℕ) → IsGood (world nodes) x → ArePicks nodes (length nodes.candidates.items) picks → length start ≡ length nodes.candidates.items → IsMarked start x → ((p : ℕ) → IsMarked start p → p ≡ x) → AreLeastSources picks start sources → ((p : ℕ) → Contains plan p → HasSource sources p) → ((p : ℕ) → HasSource sources p → Contains plan p) → IsChosenPlan (world nodes) x plan
 plan_found nodes x picks start sources plan good rows len own alone found reached whole = record {
   good = good;
   chosen = λ y inside. (let had = reached y inside in from_source y (found.reached y had.source had.is)).chosen;
@@ -200,7 +190,7 @@ plan_found nodes x picks start sources plan good rows len own alone found reache
 
 -- ---- the blocked need
 
-pub held_for : (nodes : Nodes) (good : List Bool) (givers : List (Option ℕ)) (x need : ℕ) → AreGood nodes good givers → mark_of good x ≡ false → mark_of nodes.candidates.items x ≡ true → IsLeastOpen nodes givers (row nodes.needs.items x) need → IsHeldFor (world nodes) x need
+pub held_for : (nodes : Nodes) (good : List Bool) (givers : List (Option ℕ)) (x need : ℕ) → AreGood nodes good givers → mark_of good x ≡ false → mark_of nodes.candidates.items x ≡ true → IsLeastOpen nodes givers (row nodes.needs x) need → IsHeldFor (world nodes) x need
 held_for nodes good givers x need a off candidate least = record {
   candidate = record { is = candidate };
   held = λ is_good. unmarked good x off (a.unmarked x is_good);
@@ -225,10 +215,10 @@ held_for nodes good givers x need a off candidate least = record {
   not_given y ungiven None e = e
   not_given y ungiven (Some s) e =
       let source = a.given_by.reached y s e in
-      absurd (ungiven s (record { good = a.marked s source.marked; gives = (let P : ℕ → Type 0 = λ k. Leads (Links nodes.supersedes.items k) s y in subst P a.len source.leads) }))
+      absurd (ungiven s (record { good = a.marked s source.marked; gives = (let P : ℕ → Type 0 = λ k. Leads (Links nodes.supersedes k) s y in subst P a.len source.leads) }))
 
 -- a candidate each of whose needs is there or given by a good place is good
-pub met_is_good : (nodes : Nodes) (good : List Bool) (givers : List (Option ℕ)) (x : ℕ) → AreGood nodes good givers → mark_of nodes.candidates.items x ≡ true → AreMet nodes givers (row nodes.needs.items x) → IsGood (world nodes) x
+pub met_is_good : (nodes : Nodes) (good : List Bool) (givers : List (Option ℕ)) (x : ℕ) → AreGood nodes good givers → mark_of nodes.candidates.items x ≡ true → AreMet nodes givers (row nodes.needs x) → IsGood (world nodes) x
 met_is_good nodes good givers x a candidate met = record { members = with_x; plan = plan; member = Contains-push (marked_places good) x } where
   with_x : List ℕ
   with_x = marked_places good ++ x ∷ []
@@ -248,21 +238,21 @@ met_is_good nodes good givers x a candidate met = record { members = with_x; pla
           gives = given.gives;
         })
       ])
-      | inr same ↦ elim (met.met r (let P : ℕ → Type 0 = λ k. Contains (row nodes.needs.items k) r in subst P (sym same) needs)) [
+      | inr same ↦ elim (met.met r (let P : ℕ → Type 0 = λ k. Contains (row nodes.needs k) r in subst P (sym same) needs)) [
         | inl there ↦ inl there
         | inr had ↦ (let source = a.given_by.reached r had.source had.is in inr (record {
           giver = had.source;
           member = Contains-append_left (marked_places good) (x ∷ []) had.source (marked-places good had.source source.marked);
-          gives = (let P : ℕ → Type 0 = λ k. Leads (Links nodes.supersedes.items k) had.source r in subst P a.len source.leads);
+          gives = (let P : ℕ → Type 0 = λ k. Leads (Links nodes.supersedes k) had.source r in subst P a.len source.leads);
         }))
       ]
     ];
   }
 
 -- what is chosen, read through references
-pub sources_read : (picks lists : List (Vec ℕ)) (start marks : List Bool) (sources : List (Option ℕ)) → lists ≡ picks → marks ≡ start → AreLeastSources lists marks sources → AreLeastSources picks start sources
+pub sources_read : (picks lists : List (List ℕ)) (start marks : List Bool) (sources : List (Option ℕ)) → lists ≡ picks → marks ≡ start → AreLeastSources lists marks sources → AreLeastSources picks start sources
 sources_read picks lists start marks sources same_lists same_marks a =
-    let P : List (Vec ℕ) → Type 0 = λ l. AreLeastSources l start sources in
+    let P : List (List ℕ) → Type 0 = λ l. AreLeastSources l start sources in
     let Q : List Bool → Type 0 = λ m. AreLeastSources lists m sources in
     subst P same_lists (subst Q same_marks a)
 
@@ -270,7 +260,7 @@ pub none_found : (sources : List (Option ℕ)) (i : ℕ) (o : Option ℕ) → o 
 none_found sources i None same e = sym same
 none_found sources i (Some s) same e = absurd (cc)
 
-pub picks_pushed : (nodes : Nodes) (n : ℕ) (picks new : List (Vec ℕ)) (v : Vec ℕ) → new ≡ picks ++ v ∷ [] → length picks ≡ n → ArePicks nodes n picks → ArePicksFor nodes n v.items → ArePicks nodes (n + 1) new × (length new ≡ n + 1)
+pub picks_pushed : (nodes : Nodes) (n : ℕ) (picks new : List (List ℕ)) (v : List ℕ) → new ≡ picks ++ v ∷ [] → length picks ≡ n → ArePicks nodes n picks → ArePicksFor nodes n v → ArePicks nodes (n + 1) new × (length new ≡ n + 1)
 picks_pushed nodes n picks new v same len a own =
-    let P : List (Vec ℕ) → Type 0 = λ l. ArePicks nodes (n + 1) l in
+    let P : List (List ℕ) → Type 0 = λ l. ArePicks nodes (n + 1) l in
     (subst P (sym same) (picks_more nodes n picks v len a own), ap length same ∙ length-push picks v ∙ ap (λ (k : ℕ). k + 1) len)

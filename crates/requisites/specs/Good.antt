@@ -1,6 +1,5 @@
 -- Which places are good, and what gives what.
-use Rattle.std.specs.Prelude.{◌≡◌, ◌<◌, ◌≤◌, ◌⊎◌, ℕ, List, Bool, true, false, Option, Some, None, length, Contains, sum_by, if◌then◌else◌}
-use Rattle.std.specs.Global.{Vec}
+use Rattle.std.specs.Prelude.{◌≡◌, ◌<◌, ◌≤◌, ◌⊎◌, ℕ, List, Bool, true, false, Option, None, length, Contains, sum_by, if◌then◌else◌}
 use Rattle.requisites.specs.World.{IsGood, IsGoodGiver}
 use Rattle.requisites.specs.Nodes.{IsMarked, Links, mark_of, row, world}
 use Rattle.requisites.specs.Sources.{AreLeastSources, HasSource, source_of}
@@ -11,7 +10,9 @@ pub record AreGood (nodes : Nodes) (good : List Bool) (givers : List (Option ℕ
   pub len : length good ≡ length nodes.candidates.items
   pub marked : (p : ℕ) → IsMarked good p → IsGood (world nodes) p
   pub unmarked : (p : ℕ) → IsGood (world nodes) p → IsMarked good p
-  pub given_by : AreLeastSources nodes.supersedes.items good givers
+  pub given_by : AreLeastSources nodes.supersedes good givers
+
+-- ---- No part of what is promised: how what isn't good falls. Private contracts cite what follows.
 
 -- one of these needs, which isn't there and has no giver
 pub record IsOpenNeed (nodes : Nodes) (givers : List (Option ℕ)) (listed : List ℕ) (r : ℕ) : Type 0 where
@@ -35,7 +36,7 @@ marked_count marks = sum_by (λ b. if b then 1 else 0) marks
 -- p has an open need
 pub record HasOpenNeed (nodes : Nodes) (givers : List (Option ℕ)) (p : ℕ) : Type 0 where
   pub need : ℕ
-  pub is_open : IsOpenNeed nodes givers (row nodes.needs.items p) need
+  pub is_open : IsOpenNeed nodes givers (row nodes.needs p) need
 
 -- what is left when the marked places below i with an open need have lost their marks
 pub record AreSwept (nodes : Nodes) (givers : List (Option ℕ)) (i : ℕ) (old new : List Bool) (fell : Bool) : Type 0 where
@@ -45,7 +46,7 @@ pub record AreSwept (nodes : Nodes) (givers : List (Option ℕ)) (i : ℕ) (old 
   pub at_most : marked_count new ≤ marked_count old
   pub fewer : fell ≡ true → marked_count new < marked_count old
   pub same : fell ≡ false → new ≡ old
-  pub met : fell ≡ false → (p : ℕ) → p < i → IsMarked old p → AreMet nodes givers (row nodes.needs.items p)
+  pub met : fell ≡ false → (p : ℕ) → p < i → IsMarked old p → AreMet nodes givers (row nodes.needs p)
 
 -- the marks that are left: of candidates alone, and of each good place
 pub record AreMarksLeft (nodes : Nodes) (marks : List Bool) : Type 0 where
@@ -58,13 +59,13 @@ pub record AreOpen (nodes : Nodes) (marks : List Bool) : Type 0 where
   pub given : (r z : ℕ) → IsGoodGiver (world nodes) r z → IsMarked marks r
 
 -- the rows have, for each place, those that link to it
-pub record AreReversed (lists : List (Vec ℕ)) (n : ℕ) (reversed : List (Vec ℕ)) : Type 0 where
+pub record AreReversed (lists : List (List ℕ)) (n : ℕ) (reversed : List (List ℕ)) : Type 0 where
   pub turned : (p q : ℕ) → Links lists n p q → Contains (row reversed q) p
 
 -- a need of p isn't there, and isn't open
 pub record HasClosedNeed (nodes : Nodes) (marks : List Bool) (p : ℕ) : Type 0 where
   pub need : ℕ
-  pub needs : Contains (row nodes.needs.items p) need
+  pub needs : Contains (row nodes.needs p) need
   pub absent : mark_of nodes.there.items need ≡ false
   pub closed : mark_of marks need ≡ false
 
@@ -81,11 +82,11 @@ pub record AreClosedBut (opens : List Bool) (ring places : List ℕ) : Type 0 wh
   pub each : (p : ℕ) → Contains places p → (mark_of opens p ≡ false) ⊎ Contains ring p
 
 -- what supersedes one of these places is closed, or one of a ring
-pub record AreShutOff (superseders : List (Vec ℕ)) (opens : List Bool) (ring places : List ℕ) : Type 0 where
+pub record AreShutOff (superseders : List (List ℕ)) (opens : List Bool) (ring places : List ℕ) : Type 0 where
   pub each : (p : ℕ) → Contains places p → AreClosedBut opens ring (row superseders p)
 
 -- a ring in which an open place stands, of which none is marked, and that nothing open from outside supersedes
-pub record CanClose (superseders : List (Vec ℕ)) (marks opens : List Bool) (ring : List ℕ) (p : ℕ) : Type 0 where
+pub record CanClose (superseders : List (List ℕ)) (marks opens : List Bool) (ring : List ℕ) (p : ℕ) : Type 0 where
   pub place : p < length opens
   pub was_open : IsMarked opens p
   pub member : Contains ring p

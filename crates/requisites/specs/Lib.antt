@@ -7,3 +7,4 @@ pub mod Good
 pub mod Picks
 pub mod Verdict
 pub mod Reversed
+pub mod Rows

@@ -1,14 +1,12 @@
 -- Ids by their places in a list, and the world that they make.
-use Rattle.std.specs.Prelude.{◌≡◌, ◌<◌, ◌≤◌, ℕ, List, [], Bool, true, false, Option, Some, None, length, Contains, slice_get, slice_index_or, IsTrue}
-use Rattle.std.specs.Global.{Vec}
-use Rattle.std.specs.Option.{option_map_or}
+use Rattle.std.specs.Prelude.{◌≡◌, ◌<◌, ◌≤◌, ℕ, List, [], Bool, true, false, length, Contains, slice_index_or}
 use Rattle.requisites.specs.Leads.{Leads}
 use Rattle.requisites.specs.World.{World}
 use Rattle.requisites.specs.declared.nodes.Nodes.{Nodes}
 
 -- the places that are listed for a place
-abbrev pub row : List (Vec ℕ) → ℕ → List ℕ
-row lists p = option_map_or (λ v. v.items) (slice_get lists p) []
+abbrev pub row : List (List ℕ) → ℕ → List ℕ
+row lists p = slice_index_or lists p []
 
 -- whether a place is marked
 abbrev pub mark_of : List Bool → ℕ → Bool
@@ -18,7 +16,7 @@ pub record IsMarked (marks : List Bool) (p : ℕ) : Type 0 where
   pub is : mark_of marks p ≡ true
 
 -- q is listed for p, and is one of the n places
-pub record Links (lists : List (Vec ℕ)) (n p q : ℕ) : Type 0 where
+pub record Links (lists : List (List ℕ)) (n p q : ℕ) : Type 0 where
   pub listed : Contains (row lists p) q
   pub place : q < n
 
@@ -26,8 +24,8 @@ pub record Links (lists : List (Vec ℕ)) (n p q : ℕ) : Type 0 where
 abbrev pub world : Nodes → World ℕ
 world nodes = record {
   Candidate = λ p. IsMarked nodes.candidates.items p;
-  Needs = λ p r. Contains (row nodes.needs.items p) r;
+  Needs = λ p r. Contains (row nodes.needs p) r;
   There = λ r. IsMarked nodes.there.items r;
-  Gives = λ p r. Leads (Links nodes.supersedes.items (length nodes.candidates.items)) p r;
+  Gives = λ p r. Leads (Links nodes.supersedes (length nodes.candidates.items)) p r;
   AtMost = λ p q. p ≤ q;
 }

@@ -1,6 +1,5 @@
--- Picks by place.
-use Rattle.std.specs.Prelude.{◌≡◌, ◌<◌, ◌⊎◌, ℕ, List, Contains}
-use Rattle.std.specs.Global.{Vec}
+-- Picks by place. No part of what is promised: private contracts cite it.
+use Rattle.std.specs.Prelude.{◌<◌, ◌⊎◌, ℕ, List, Contains}
 use Rattle.requisites.specs.World.{IsGoodGiver, IsPick, PicksFor}
 use Rattle.requisites.specs.Nodes.{IsMarked, row, world}
 use Rattle.requisites.specs.declared.nodes.Nodes.{Nodes}
@@ -20,5 +19,5 @@ pub record ArePicksFor (nodes : Nodes) (p : ℕ) (picks : List ℕ) : Type 0 whe
   pub whole : (z : ℕ) → PicksFor (world nodes) p z → Contains picks z
 
 -- each place below n has the row of its picks
-pub record ArePicks (nodes : Nodes) (n : ℕ) (picks : List (Vec ℕ)) : Type 0 where
+pub record ArePicks (nodes : Nodes) (n : ℕ) (picks : List (List ℕ)) : Type 0 where
   pub rows : (p : ℕ) → p < n → ArePicksFor nodes p (row picks p)

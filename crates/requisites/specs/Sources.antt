@@ -1,6 +1,5 @@
 -- From which marked place each place is reached first.
-use Rattle.std.specs.Prelude.{◌≡◌, ◌<◌, ◌≤◌, ℕ, List, [], Bool, Option, Some, None, length, Contains, count_by, is_none, slice_index_or}
-use Rattle.std.specs.Global.{Vec}
+use Rattle.std.specs.Prelude.{◌≡◌, ◌≤◌, ℕ, List, Bool, Option, Some, None, length, slice_index_or}
 use Rattle.requisites.specs.Leads.{Leads}
 use Rattle.requisites.specs.Nodes.{IsMarked, Links}
 
@@ -13,12 +12,12 @@ pub record HasSource (sources : List (Option ℕ)) (q : ℕ) : Type 0 where
   pub is : source_of sources q ≡ Some source
 
 -- s is the least marked place from which a list leads to q
-pub record IsLeastSource (lists : List (Vec ℕ)) (marks : List Bool) (n q s : ℕ) : Type 0 where
+pub record IsLeastSource (lists : List (List ℕ)) (marks : List Bool) (n q s : ℕ) : Type 0 where
   pub marked : IsMarked marks s
   pub leads : Leads (Links lists n) s q
   pub least : (m : ℕ) → IsMarked marks m → Leads (Links lists n) m q → s ≤ m
 
 -- each place's source is the least marked place that leads to it; it has none where no marked place does
-pub record AreLeastSources (lists : List (Vec ℕ)) (marks : List Bool) (sources : List (Option ℕ)) : Type 0 where
+pub record AreLeastSources (lists : List (List ℕ)) (marks : List Bool) (sources : List (Option ℕ)) : Type 0 where
   pub reached : (q s : ℕ) → source_of sources q ≡ Some s → IsLeastSource lists marks (length marks) q s
   pub unreached : (q m : ℕ) → source_of sources q ≡ None → IsMarked marks m → Leads (Links lists (length marks)) m q → ⊥

@@ -1,6 +1,5 @@
--- What the search for sources has done so far.
+-- What the search for sources has done so far. No part of what is promised: private contracts cite it.
 use Rattle.std.specs.Prelude.{◌≡◌, ◌<◌, ◌≤◌, ◌⊎◌, ◌+◌, ℕ, List, Option, Some, None, length, Contains, is_none, sum_by, if◌then◌else◌}
-use Rattle.std.specs.Global.{Vec}
 use Rattle.requisites.specs.Leads.{Leads}
 use Rattle.requisites.specs.Nodes.{Links}
 use Rattle.requisites.specs.Sources.{source_of, HasSource}
@@ -29,21 +28,21 @@ pub record SourcesTaken (row : List ℕ) (s : ℕ) (old new : List (Option ℕ))
   pub count : length work' + sourceless new ≡ length work + sourceless old
 
 -- what a place with a source links to has one too, unless the place is still to be worked on
-pub record AreClosed (lists : List (Vec ℕ)) (sources : List (Option ℕ)) (work : List ℕ) : Type 0 where
+pub record AreClosed (lists : List (List ℕ)) (sources : List (Option ℕ)) (work : List ℕ) : Type 0 where
   pub closed : (p q : ℕ) → HasSource sources p → Links lists (length sources) p q → HasSource sources q ⊎ Contains work p
 
 -- a list leads from s to each of these
-pub record AreReached (lists : List (Vec ℕ)) (n s : ℕ) (work : List ℕ) : Type 0 where
+pub record AreReached (lists : List (List ℕ)) (n s : ℕ) (work : List ℕ) : Type 0 where
   pub reached : (q : ℕ) → Contains work q → Leads (Links lists n) s q
 
 -- q had no source, and a list leads from s to it
-pub record IsSpread (lists : List (Vec ℕ)) (s : ℕ) (old : List (Option ℕ)) (q t : ℕ) : Type 0 where
+pub record IsSpread (lists : List (List ℕ)) (s : ℕ) (old : List (Option ℕ)) (q t : ℕ) : Type 0 where
   pub source : t ≡ s
   pub leads : Leads (Links lists (length old)) s q
   pub before : source_of old q ≡ None
 
 -- the places to which lists lead from s have sources; those that had none have s
-pub record SourcesSpread (lists : List (Vec ℕ)) (s : ℕ) (old new : List (Option ℕ)) : Type 0 where
+pub record SourcesSpread (lists : List (List ℕ)) (s : ℕ) (old new : List (Option ℕ)) : Type 0 where
   pub len : length new ≡ length old
   pub stays : (q t : ℕ) → source_of old q ≡ Some t → source_of new q ≡ Some t
   pub begun : s < length old → HasSource new s

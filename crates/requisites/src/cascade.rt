@@ -8,7 +8,8 @@ ghost use Rattle.std.specs.Bool.{OnTrue};
 ghost use Rattle.requisites.specs.Good.{AreAmong, AreClosedBut, AreMarksLeft, AreOpen, AreReversed, AreShutOff, AreUngiven, AreUnmarked, CanClose, ComesNearer, HasClosedNeed, IsShut, marked_count};
 ghost use Rattle.requisites.specs.Nodes.{mark_of, row};
 
-use crate::nodes::{Nodes, is_marked, row_at};
+use crate::Rows;
+use crate::nodes::{Nodes, is_marked};
 use crate::reversed::reversed;
 use crate::rings::Rings;
 use std::alloc::{AllocError, Global};
@@ -16,13 +17,13 @@ use std::alloc::{AllocError, Global};
 /// What leads to each place: what supersedes it, and what needs it.
 #[derive(Debug, Drop)]
 pub(crate) struct Around {
-    pub(crate) superseders: Vec<Vec<usize>>,
-    needed_by: Vec<Vec<usize>>,
+    pub(crate) superseders: Rows,
+    needed_by: Rows,
 }
 
 impl Around {
     pub(crate) fn of(alloc: Global, nodes: &Nodes) -> Result<Around, AllocError>
-        ensures { IfOk result (λ around. AreReversed nodes.now.supersedes.items (length nodes.now.candidates.items) around.superseders.items) }
+        ensures { IfOk result (λ around. AreReversed nodes.now.supersedes (length nodes.now.candidates.items) around.superseders) }
     {
         let len = nodes.candidates.len();
         let superseders = reversed(alloc, &nodes.supersedes, len)?;
@@ -51,7 +52,7 @@ pub(crate) fn cascade(
     marks: &mut [bool],
 ) -> Result<(), AllocError>
     requires left { AreMarksLeft nodes.now marks.old }
-    requires superseders { AreReversed nodes.now.supersedes.items (length nodes.now.candidates.items) around.now.superseders.items }
+    requires superseders { AreReversed nodes.now.supersedes (length nodes.now.candidates.items) around.now.superseders }
     ensures left { OnOk result (AreMarksLeft nodes.now marks.new) }
     ensures fewer { OnOk result (marked_count marks.new ≤ marked_count marks.old) }
 {
@@ -95,7 +96,7 @@ fn support_from_outside(
     name: usize,
     place: usize,
 ) {
-    for above in row_at(&around.superseders, place) {
+    for above in around.superseders.row(place) {
         if rings.name_of(*above) != name {
             add_support(supports, name);
         }
@@ -119,7 +120,7 @@ fn look(
 ) -> Result<(), AllocError>
     requires left { AreMarksLeft nodes.now marks.old }
     requires opens { AreOpen nodes.now opening.old.open.items }
-    requires superseders { AreReversed nodes.now.supersedes.items (length nodes.now.candidates.items) around.now.superseders.items }
+    requires superseders { AreReversed nodes.now.supersedes (length nodes.now.candidates.items) around.now.superseders }
     ensures left { AreMarksLeft nodes.now marks.new }
     ensures opens { AreOpen nodes.now opening.new.open.items }
     ensures fewer { marked_count marks.new ≤ marked_count marks.old }
@@ -191,7 +192,7 @@ fn can_close(
     ring: &[usize],
     place: usize,
 ) -> bool
-    ensures { OnTrue result (CanClose around.now.superseders.items marks.now opens.now ring.now place) }
+    ensures { OnTrue result (CanClose around.now.superseders marks.now opens.now ring.now place) }
 {
     supports.get(rings.name_of(place)).copied() == Some(0)
         && is_marked(opens, place)
@@ -213,10 +214,10 @@ fn are_unmarked(marks: &[bool], places: &[usize]) -> bool
 
 // Whether what supersedes a place of a ring is closed or stands in the ring.
 fn are_shut_off(around: &Around, rings: &Rings, opens: &[bool], ring: &[usize]) -> bool
-    ensures { OnTrue result (AreShutOff around.now.superseders.items opens.now ring.now ring.now) }
+    ensures { OnTrue result (AreShutOff around.now.superseders opens.now ring.now ring.now) }
 {
     for place in ring {
-        if !are_closed_but(rings, opens, ring, row_at(&around.superseders, *place)) {
+        if !are_closed_but(rings, opens, ring, around.superseders.row(*place)) {
             return false;
         }
     }
@@ -287,17 +288,17 @@ fn wake(
     work: &mut Vec<usize>,
     place: usize,
 ) -> Result<(), AllocError>
-    ensures needed { OnOk result (mark_of nodes.now.there.items place ≡ false → AreAmong (row around.now.needed_by.items place) work.new.items) }
+    ensures needed { OnOk result (mark_of nodes.now.there.items place ≡ false → AreAmong (row around.now.needed_by place) work.new.items) }
 {
     let name = rings.name_of(place);
-    for below in row_at(&nodes.supersedes, place) {
+    for below in nodes.supersedes.row(place) {
         let below_name = rings.name_of(*below);
         if below_name != name && lose_support(supports, below_name) {
             work.push(*below)?;
         }
     }
     if !nodes.is_there(place) {
-        work.extend_from_slice(row_at(&around.needed_by, place))?;
+        work.extend_from_slice(around.needed_by.row(place))?;
     }
     Ok(())
 }

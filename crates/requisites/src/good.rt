@@ -2,7 +2,7 @@
 ghost use Rattle.std.specs.Prelude.{◌≡◌, ◌⊎◌, [], ◌∷◌, length, min, IfNone, IfOk, IfSome};
 ghost use Rattle.std.specs.Bool.{OnFalse, OnTrue};
 ghost use Rattle.std.specs.Option.{option_map_or};
-ghost use Rattle.requisites.specs.Good.{AreGood, AreMet, AreSwept, HasOpenNeed, IsLeastOpen, IsOpenNeed};
+ghost use Rattle.requisites.specs.Good.{AreGood, AreMarksLeft, AreMet, AreSwept, HasOpenNeed, IsLeastOpen, IsOpenNeed};
 ghost use Rattle.requisites.specs.Nodes.{IsMarked, mark_of, row};
 ghost use Rattle.requisites.specs.Sources.{HasSource, source_of};
 
@@ -50,9 +50,27 @@ pub fn resolve(alloc: Global, nodes: &Nodes) -> Result<Resolution, AllocError>
     Ok(Resolution { good, givers })
 }
 
-// Takes the marks from what isn't good, and finds what gives what among the rest.
+// Takes the marks from what isn't good, and finds what gives what among the rest. Where nothing falls,
+// what leads to each place isn't asked for.
 fn fall(alloc: Global, nodes: &Nodes, marks: &mut [bool]) -> Result<Vec<Option<usize>>, AllocError>
     requires { marks.old ≡ nodes.now.candidates.items }
+    ensures good { IfOk result (λ givers. AreGood nodes.now marks.new givers.items) }
+    ensures len { IfOk result (λ givers. length givers.items ≡ length marks.old) }
+{
+    let givers = least_sources(alloc, &nodes.supersedes, marks)?;
+    if !sweep(nodes, &givers, marks) {
+        return Ok(givers);
+    }
+    fall_on(alloc, nodes, marks)
+}
+
+// The same, where some have lost their marks: what falls with them falls in a cascade.
+fn fall_on(
+    alloc: Global,
+    nodes: &Nodes,
+    marks: &mut [bool],
+) -> Result<Vec<Option<usize>>, AllocError>
+    requires { AreMarksLeft nodes.now marks.old }
     ensures good { IfOk result (λ givers. AreGood nodes.now marks.new givers.items) }
     ensures len { IfOk result (λ givers. length givers.items ≡ length marks.old) }
 {
@@ -86,7 +104,7 @@ fn sweep(nodes: &Nodes, givers: &[Option<usize>], marks: &mut [bool]) -> bool
 // Whether a place is marked and has an open need.
 fn must_fall(nodes: &Nodes, givers: &[Option<usize>], marks: &[bool], place: usize) -> bool
     ensures yes { OnTrue result (IsMarked marks.now place × HasOpenNeed nodes.now givers.now place) }
-    ensures no { OnFalse result (IsMarked marks.now place → AreMet nodes.now givers.now (row nodes.now.needs.items place)) }
+    ensures no { OnFalse result (IsMarked marks.now place → AreMet nodes.now givers.now (row nodes.now.needs place)) }
 {
     is_marked(marks, place) && least_open_need(nodes, givers, place).is_some()
 }
@@ -97,8 +115,8 @@ pub(crate) fn least_open_need(
     givers: &[Option<usize>],
     place: usize,
 ) -> Option<usize>
-    ensures some { IfSome result (λ need. IsLeastOpen nodes.now givers.now (row nodes.now.needs.items place) need) }
-    ensures none { IfNone result (AreMet nodes.now givers.now (row nodes.now.needs.items place)) }
+    ensures some { IfSome result (λ need. IsLeastOpen nodes.now givers.now (row nodes.now.needs place) need) }
+    ensures none { IfNone result (AreMet nodes.now givers.now (row nodes.now.needs place)) }
 {
     let mut least = None;
     for need in nodes.needs_of(place) {

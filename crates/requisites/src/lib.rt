@@ -1,7 +1,7 @@
 //! What can be installed together, by what each needs and what supersedes what (IBM z/OS SMP/E
 //! Reference, `++VER`, operands PRE, REQ and SUP), over nodes by their places in a list.
 //!
-//! - [`Nodes`]: what a zone and the catalogue say of each place
+//! - [`Nodes`]: what a zone and the catalogue say of each place; [`Rows`]: for each place a row of places
 //! - [`resolve`]: which places some plan holds, and what gives what, as a [`Resolution`]
 //! - [`verdict_of_place`]: a place's chosen plan or its blocked need, as a [`Verdict`]
 //! - [`least_sources`]: for each place the least marked one that leads to it
@@ -12,6 +12,7 @@ mod good;
 mod nodes;
 mod reversed;
 mod rings;
+mod rows;
 mod sources;
 #[cfg(test)]
 mod tests;
@@ -19,5 +20,6 @@ mod verdict;
 
 pub use good::{Resolution, resolve};
 pub use nodes::Nodes;
+pub use rows::Rows;
 pub use sources::least_sources;
 pub use verdict::{Verdict, verdict_of_place};

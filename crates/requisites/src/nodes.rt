@@ -2,6 +2,8 @@
 ghost use Rattle.std.specs.Prelude.{◌≡◌};
 ghost use Rattle.requisites.specs.Nodes.{mark_of, row};
 
+use crate::Rows;
+
 /// Ids by their places in an ascending list, with what a zone and the catalogue say of each.
 ///
 /// A place that a list leaves out has no mark, or no places listed for it.
@@ -13,9 +15,9 @@ pub struct Nodes {
     pub there: Vec<bool>,
     /// What the id needs. A need past the end of `candidates` is no place: nothing gives it, and it is there
     /// just where `there` is long enough to mark it.
-    pub needs: Vec<Vec<usize>>,
+    pub needs: Rows,
     /// What the id supersedes.
-    pub supersedes: Vec<Vec<usize>>,
+    pub supersedes: Rows,
 }
 
 impl Nodes {
@@ -32,19 +34,9 @@ impl Nodes {
     }
 
     pub(crate) fn needs_of(&self, place: usize) -> &[usize]
-        ensures { result.now ≡ row self.now.needs.items place }
+        ensures { result.now ≡ row self.now.needs place }
     {
-        row_at(&self.needs, place)
-    }
-}
-
-// The places listed for a place.
-pub(crate) fn row_at(lists: &[Vec<usize>], place: usize) -> &[usize]
-    ensures { result.now ≡ row lists.now place }
-{
-    match lists.get(place) {
-        Some(places) => places.as_slice(),
-        None => &[],
+        self.needs.row(place)
     }
 }
 

@@ -1,49 +1,93 @@
 //! Links the other way round.
-ghost use Rattle.std.specs.Prelude.{◌≡◌, ◌<◌, ℕ, [], ◌∷◌, length, Contains, IfOk, OnOk};
+ghost use Rattle.std.specs.Prelude.{◌≡◌, ◌≤◌, [], ◌∷◌, length, map, IfOk, OnOk};
 ghost use Rattle.requisites.specs.Good.{AreReversed};
-ghost use Rattle.requisites.specs.Nodes.{row};
-ghost use Rattle.requisites.specs.Reversed.{RowAdded};
+ghost use Rattle.requisites.specs.Reversed.{AreChained, RowAdded, chain, chains_of};
 
-use crate::nodes::row_at;
+use crate::Rows;
 use std::alloc::{AllocError, Global};
 
 /// For each of `len` places those in whose rows it is listed.
-pub(crate) fn reversed(
-    alloc: Global,
-    lists: &[Vec<usize>],
-    len: usize,
-) -> Result<Vec<Vec<usize>>, AllocError>
-    ensures { IfOk result (λ reversed. AreReversed lists.now len reversed.items) }
+pub(crate) fn reversed(alloc: Global, lists: &Rows, len: usize) -> Result<Rows, AllocError>
+    ensures { IfOk result (λ reversed. AreReversed lists.now len reversed) }
 {
-    let mut rows = vec![in alloc; Vec::new(alloc); len]?;
-    turn(lists, &mut rows)?;
+    let mut chains = Chains {
+        last: vec![in alloc; 0; len]?,
+        from: Vec::new(alloc),
+        before: Vec::new(alloc),
+    };
+    turn(lists, &mut chains)?;
+    rows_of(alloc, &chains)
+}
+
+// Links by the places to which they lead: of each place the last one that was found, and of each link the place
+// from which it comes and the link to the same place that was found before it. Links are counted from 1; 0 is none.
+#[derive(Debug, Drop)]
+struct Chains {
+    last: Vec<usize>,
+    from: Vec<usize>,
+    before: Vec<usize>,
+}
+
+fn turn(lists: &Rows, chains: &mut Chains) -> Result<(), AllocError>
+    requires { AreChained chains.old }
+    ensures chained { OnOk result (AreChained chains.new) }
+    ensures turned { OnOk result (AreReversed lists.now (length chains.old.last.items) (chains_of chains.new)) }
+{
+    for place in 0..lists.len() {
+        add_row(chains, lists.row(place), place)?;
+    }
+    Ok(())
+}
+
+// Adds a link from a place to each that is listed for it.
+fn add_row(chains: &mut Chains, listed: &[usize], place: usize) -> Result<(), AllocError>
+    requires { AreChained chains.old }
+    ensures chained { OnOk result (AreChained chains.new) }
+    ensures added { OnOk result (RowAdded listed.now place (chains_of chains.old) (chains_of chains.new)) }
+{
+    for below in listed {
+        add_link(chains, *below, place)?;
+    }
+    Ok(())
+}
+
+fn add_link(chains: &mut Chains, below: usize, place: usize) -> Result<(), AllocError>
+    requires { AreChained chains.old }
+    ensures chained { OnOk result (AreChained chains.new) }
+    ensures added { OnOk result (RowAdded (below ∷ []) place (chains_of chains.old) (chains_of chains.new)) }
+{
+    if below < chains.last.len() {
+        chains.from.push(place)?;
+        chains.before.push(chains.last[below])?;
+        chains.last[below] = chains.from.len();
+    }
+    Ok(())
+}
+
+fn rows_of(alloc: Global, chains: &Chains) -> Result<Rows, AllocError>
+    requires { AreChained chains.now }
+    ensures { IfOk result (λ rows. rows ≡ chains_of chains.now) }
+{
+    let mut rows = Rows::new(alloc);
+    let mut row = Vec::new(alloc);
+    for last in &chains.last {
+        put_chain(&mut row, chains, *last)?;
+        rows.push_row(&row)?;
+    }
     Ok(rows)
 }
 
-fn turn(lists: &[Vec<usize>], rows: &mut [Vec<usize>]) -> Result<(), AllocError>
-    ensures { OnOk result (AreReversed lists.now (length rows.old) rows.new) }
+// Makes a row that of the places from which a link and those before it come.
+fn put_chain(row: &mut Vec<usize>, chains: &Chains, last: usize) -> Result<(), AllocError>
+    requires chained { AreChained chains.now }
+    requires within { last ≤ length chains.now.from.items }
+    ensures { OnOk result (row.new.items ≡ chain chains.now.from.items chains.now.before.items last last) }
 {
-    for place in 0..lists.len() {
-        add_row(rows, row_at(lists, place), place)?;
-    }
-    Ok(())
-}
-
-// Adds a place to the row of each that is listed for it.
-fn add_row(rows: &mut [Vec<usize>], listed: &[usize], place: usize) -> Result<(), AllocError>
-    ensures { OnOk result (RowAdded listed.now place rows.old rows.new) }
-{
-    for below in listed {
-        add_place(rows, *below, place)?;
-    }
-    Ok(())
-}
-
-fn add_place(rows: &mut [Vec<usize>], below: usize, place: usize) -> Result<(), AllocError>
-    ensures { OnOk result (RowAdded (below ∷ []) place rows.old rows.new) }
-{
-    if below < rows.len() {
-        rows[below].push(place)?;
+    row.clear();
+    let mut link = last;
+    while link > 0 {
+        row.push(chains.from[link - 1])?;
+        link = chains.before[link - 1];
     }
     Ok(())
 }

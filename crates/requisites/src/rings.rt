@@ -2,12 +2,13 @@
 //!
 //! No clause says that what is found are the rings: who closes the places of one together looks whether
 //! they may be closed. Rings make that quick.
-ghost use Rattle.std.specs.Prelude.{◌≡◌, ℕ, [], None, length, Contains, OnOk};
+ghost use Rattle.std.specs.Prelude.{◌≡◌, ℕ, None, length, Contains, OnOk};
 ghost use Rattle.std.specs.Bool.{OnTrue};
 ghost use Rattle.requisites.specs.Good.{ComesNearer};
 ghost use Rattle.requisites.specs.Sources.{source_of};
 
-use crate::nodes::{is_marked, row_at};
+use crate::Rows;
+use crate::nodes::is_marked;
 use crate::sources::{source_at, spread};
 use std::alloc::{AllocError, Global};
 
@@ -32,11 +33,7 @@ impl Rings {
     }
 
     /// The rings of links, which are given both ways. It takes time in proportion to the links.
-    pub(crate) fn of(
-        alloc: Global,
-        lists: &[Vec<usize>],
-        reversed: &[Vec<usize>],
-    ) -> Result<Rings, AllocError> {
+    pub(crate) fn of(alloc: Global, lists: &Rows, reversed: &Rows) -> Result<Rings, AllocError> {
         let order = left_in_order(alloc, lists, reversed.len())?;
         let names = names_of(alloc, reversed, order)?;
         rings_by(alloc, &names)
@@ -84,11 +81,7 @@ struct Walk {
 }
 
 // The places in the order in which walks along the links leave them.
-fn left_in_order(
-    alloc: Global,
-    lists: &[Vec<usize>],
-    len: usize,
-) -> Result<Vec<usize>, AllocError> {
+fn left_in_order(alloc: Global, lists: &Rows, len: usize) -> Result<Vec<usize>, AllocError> {
     let mut walk = Walk {
         unseen: vec![in alloc; true; len]?,
         work: Vec::new(alloc),
@@ -100,7 +93,7 @@ fn left_in_order(
     Ok(walk.order)
 }
 
-fn walk_from(walk: &mut Walk, lists: &[Vec<usize>], start: usize) -> Result<(), AllocError> {
+fn walk_from(walk: &mut Walk, lists: &Rows, start: usize) -> Result<(), AllocError> {
     walk.work.push(Step::Enter(start))?;
     while let Some(step) = walk.work.pop() {
         take_step(walk, lists, step)?;
@@ -108,7 +101,7 @@ fn walk_from(walk: &mut Walk, lists: &[Vec<usize>], start: usize) -> Result<(), 
     Ok(())
 }
 
-fn take_step(walk: &mut Walk, lists: &[Vec<usize>], step: Step) -> Result<(), AllocError>
+fn take_step(walk: &mut Walk, lists: &Rows, step: Step) -> Result<(), AllocError>
     ensures { OnOk result (ComesNearer walk.old.unseen.items walk.new.unseen.items (length walk.old.work.items) (length walk.new.work.items)) }
 {
     match step {
@@ -117,12 +110,12 @@ fn take_step(walk: &mut Walk, lists: &[Vec<usize>], step: Step) -> Result<(), Al
     }
 }
 
-fn enter(walk: &mut Walk, lists: &[Vec<usize>], place: usize) -> Result<(), AllocError>
+fn enter(walk: &mut Walk, lists: &Rows, place: usize) -> Result<(), AllocError>
     ensures { OnOk result (ComesNearer walk.old.unseen.items walk.new.unseen.items (length walk.old.work.items) (length walk.new.work.items)) }
 {
     if is_marked(&walk.unseen, place) {
         walk.unseen[place] = false;
-        put_steps(&mut walk.work, row_at(lists, place), place)?;
+        put_steps(&mut walk.work, lists.row(place), place)?;
     }
     Ok(())
 }
@@ -139,7 +132,7 @@ fn put_steps(work: &mut Vec<Step>, listed: &[usize], place: usize) -> Result<(),
 // For each place the one after which its ring is called: of all that lead to it the last that was left.
 fn names_of(
     alloc: Global,
-    reversed: &[Vec<usize>],
+    reversed: &Rows,
     order: Vec<usize>,
 ) -> Result<Vec<Option<usize>>, AllocError> {
     let mut names = vec![in alloc; None; reversed.len()]?;
@@ -150,7 +143,7 @@ fn names_of(
 fn spread_from_last(
     alloc: Global,
     names: &mut [Option<usize>],
-    reversed: &[Vec<usize>],
+    reversed: &Rows,
     mut order: Vec<usize>,
 ) -> Result<(), AllocError>
     requires { (q : ℕ) → source_of names.old q ≡ None }

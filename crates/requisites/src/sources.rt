@@ -3,7 +3,8 @@ ghost use Rattle.std.specs.Prelude.{◌≡◌, ℕ, [], ◌∷◌, length, IfOk,
 ghost use Rattle.requisites.specs.Sources.{AreLeastSources, source_of};
 ghost use Rattle.requisites.specs.Spread.{AreClosed, SourcesSpread, SourcesTaken};
 
-use crate::nodes::{is_marked, row_at};
+use crate::Rows;
+use crate::nodes::is_marked;
 use std::alloc::{AllocError, Global};
 
 /// For each place the least marked place from which a list of links leads to it, by way of nothing
@@ -16,7 +17,7 @@ use std::alloc::{AllocError, Global};
 /// `AllocError` where memory ran out.
 pub fn least_sources(
     alloc: Global,
-    lists: &[Vec<usize>],
+    lists: &Rows,
     marks: &[bool],
 ) -> Result<Vec<Option<usize>>, AllocError>
     ensures sources { IfOk result (λ sources. AreLeastSources lists.now marks.now sources.items) }
@@ -30,7 +31,7 @@ pub fn least_sources(
 fn spread_all(
     alloc: Global,
     sources: &mut [Option<usize>],
-    lists: &[Vec<usize>],
+    lists: &Rows,
     marks: &[bool],
 ) -> Result<(), AllocError>
     requires len { length sources.old ≡ length marks.now }
@@ -50,7 +51,7 @@ fn spread_all(
 pub(crate) fn spread(
     sources: &mut [Option<usize>],
     work: &mut Vec<usize>,
-    lists: &[Vec<usize>],
+    lists: &Rows,
     start: usize,
 ) -> Result<(), AllocError>
     requires closed { AreClosed lists.now sources.old work.old.items }
@@ -61,7 +62,7 @@ pub(crate) fn spread(
 {
     take_row(sources, work, &[start], start)?;
     while let Some(place) = work.pop() {
-        take_row(sources, work, row_at(lists, place), start)?;
+        take_row(sources, work, lists.row(place), start)?;
     }
     Ok(())
 }

@@ -1,20 +1,20 @@
 //! Verdicts on places: worked cases, and hard shapes at length.
-use crate::{Nodes, Verdict, resolve, verdict_of_place};
+use crate::{Nodes, Rows, Verdict, resolve, verdict_of_place};
 use std::alloc::{AllocError, Global};
 use std::test::Fail;
 
 const LONG: usize = 10_000;
 
-fn rows(
-    alloc: Global,
-    links: &[(usize, usize)],
-    len: usize,
-) -> Result<Vec<Vec<usize>>, AllocError> {
-    let mut rows = vec![in alloc; Vec::new(alloc); len]?;
+fn rows(alloc: Global, links: &[(usize, usize)], len: usize) -> Result<Rows, AllocError> {
+    let mut lists = vec![in alloc; Vec::new(alloc); len]?;
     for (from, to) in links {
-        if *from < rows.len() {
-            rows[*from].push(*to)?;
+        if *from < lists.len() {
+            lists[*from].push(*to)?;
         }
+    }
+    let mut rows = Rows::new(alloc);
+    for list in &lists {
+        rows.push_row(list)?;
     }
     Ok(rows)
 }

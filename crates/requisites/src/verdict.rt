@@ -1,5 +1,5 @@
 //! The verdict on one place: its chosen plan, or why it has none.
-ghost use Rattle.std.specs.Prelude.{◌≡◌, ◌<◌, ℕ, length, Contains, IfNone, IfOk, IfSome};
+ghost use Rattle.std.specs.Prelude.{◌≡◌, ◌<◌, ℕ, length, Contains, IfNone, IfOk, IfSome, OnOk};
 ghost use Rattle.std.specs.List.Sorted.{IsStrictlyIncreasing};
 ghost use Rattle.requisites.specs.Good.{AreGood};
 ghost use Rattle.requisites.specs.Nodes.{IsMarked, world};
@@ -8,6 +8,7 @@ ghost use Rattle.requisites.specs.Sources.{HasSource};
 ghost use Rattle.requisites.specs.Verdict.{IsVerdict};
 ghost use Rattle.requisites.specs.World.{IsChosenPlan};
 
+use crate::Rows;
 use crate::good::{Resolution, least_open_need};
 use crate::nodes::Nodes;
 use crate::sources::{least_sources, source_at};
@@ -96,38 +97,36 @@ fn reached_places(alloc: Global, sources: &[Option<usize>]) -> Result<Vec<usize>
 }
 
 // For each place the picks for its needs.
-fn all_picks(
-    alloc: Global,
-    nodes: &Nodes,
-    resolution: &Resolution,
-) -> Result<Vec<Vec<usize>>, AllocError>
+fn all_picks(alloc: Global, nodes: &Nodes, resolution: &Resolution) -> Result<Rows, AllocError>
     requires { AreGood nodes.now resolution.now.good.items resolution.now.givers.items }
-    ensures { IfOk result (λ picks. ArePicks nodes.now (length nodes.now.candidates.items) picks.items) }
+    ensures { IfOk result (λ picks. ArePicks nodes.now (length nodes.now.candidates.items) picks) }
 {
-    let mut picks = Vec::new(alloc);
+    let mut picks = Rows::new(alloc);
+    let mut own = Vec::new(alloc);
     for place in 0..nodes.candidates.len() {
-        picks.push(picks_for(alloc, nodes, resolution, place)?)?;
+        put_picks(&mut own, nodes, resolution, place)?;
+        picks.push_row(&own)?;
     }
     Ok(picks)
 }
 
-// The picks for the needs of a place that aren't there.
-fn picks_for(
-    alloc: Global,
+// Makes a list that of the picks for the needs of a place that aren't there.
+fn put_picks(
+    picks: &mut Vec<usize>,
     nodes: &Nodes,
     resolution: &Resolution,
     place: usize,
-) -> Result<Vec<usize>, AllocError>
+) -> Result<(), AllocError>
     requires { AreGood nodes.now resolution.now.good.items resolution.now.givers.items }
-    ensures { IfOk result (λ picks. ArePicksFor nodes.now place picks.items) }
+    ensures { OnOk result (ArePicksFor nodes.now place picks.new.items) }
 {
-    let mut picks = Vec::new(alloc);
+    picks.clear();
     for need in nodes.needs_of(place) {
         if let Some(picked) = pick(nodes, resolution, *need) {
             picks.push(picked)?;
         }
     }
-    Ok(picks)
+    Ok(())
 }
 
 // The pick for a need that isn't there: the need itself where it is good, else the least good

@@ -4,9 +4,9 @@ use Rattle.chains.specs.Places.{AreSeen, RowsAre}
 use Rattle.chains.specs.Sights.{Sight}
 use Rattle.chains.proofs.cut.nodes_of.Given as goal
 
-abbrev pub invariant-loop-member : goal.invariant-loop-member
-invariant-loop-member l = record {
-  seen : (f : List ℕ → Sight) → l.entries ≡ map f l.ids → AreSeen f l.ids l.members l.member-index l.candidates.items l.needs.items l.supersedes.items;
-  len : length l.candidates.items ≡ l.member-index;
-  within : RowsAre (λ p places. (q : ℕ) → Contains places q → q < length l.members) l.member-index l.needs.items;
+abbrev pub invariant-loop-place : goal.invariant-loop-place
+invariant-loop-place l = record {
+  seen : (f : List ℕ → Sight) → l.entries ≡ map f l.ids → AreSeen f l.ids l.members l.place l.candidates.items l.needs l.supersedes;
+  len : length l.candidates.items ≡ l.place;
+  within : RowsAre (λ p places. (q : ℕ) → Contains places q → q < length l.members) l.place l.needs;
 }

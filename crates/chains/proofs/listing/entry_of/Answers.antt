@@ -1,6 +1,6 @@
 use Rattle.std.proofs.Common.{◌∙◌, ap}
 use Rattle.catalogue.specs.Content.{holds_on}
-use Rattle.catalogue.proofs.Sources.{told_both, told_later, told_so, told_sooner}
+use Rattle.catalogue.proofs.SourceFacts.{told_both, told_later, told_so, told_sooner}
 use Rattle.chains.specs.Sights.{sight_from}
 use Rattle.chains.proofs.listing.entry_of.Goals as goal
 

@@ -2,7 +2,7 @@ use Rattle.std.specs.Cmp.Lexicographic.{nat_list_eq_equiv}
 use Rattle.std.proofs.lemmas.List.Filters.{dedup_is}
 use Rattle.std.proofs.lemmas.List.Kept.{Contains-dedup, IsStrictlySortedBy-dedup}
 use Rattle.std.proofs.lemmas.List.Sorted.{Contains-permutation}
-use Rattle.catalogue.proofs.IdOrder.{ids_total, one_id, same_is}
+use Rattle.catalogue.proofs.IdFacts.{ids_total, one_id, same_is}
 use Rattle.chains.proofs.places.sort_each_once.Goals as goal
 
 pub returns-clause-ascend : goal.returns-clause-ascend

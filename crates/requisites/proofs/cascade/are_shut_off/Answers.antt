@@ -1,14 +1,13 @@
-use Rattle.std.proofs.Common.{◌∙◌, get_or, ap, arith}
-use Rattle.requisites.specs.Nodes.{row}
+use Rattle.std.proofs.Common.{arith}
 use Rattle.requisites.proofs.CascadeFacts.{shut_off_all, shut_off_more, shut_off_none}
 use Rattle.requisites.proofs.TestFacts.{from_true}
 use Rattle.requisites.proofs.cascade.are_shut_off.Goals as goal
 
 pub loop-place-init : goal.loop-place-init
-loop-place-init c = shut_off_none c.args.around.now.superseders.items c.args.opens.now c.args.ring.now
+loop-place-init c = shut_off_none c.args.around.now.superseders c.args.opens.now c.args.ring.now
 
 pub loop-place-preserved : goal.loop-place-preserved
-loop-place-preserved c = shut_off_more c.args.around.now.superseders.items c.args.opens.now c.args.ring.now c.args.ring.now c.row_at.result.now c.loop-place.place-index (omega arith) c.loop-place.invariant (c.row_at.ensures ∙ ap (λ lists. row lists (get_or c.args.ring.now c.loop-place.place-index 0)) c.deref.ensures.value) (from_true c.are_closed_but.result c.are_closed_but.ensures c.if-not-are_closed_but.false)
+loop-place-preserved c = shut_off_more c.args.around.now.superseders c.args.opens.now c.args.ring.now c.args.ring.now c.row.result.now c.loop-place.place-index (omega arith) c.loop-place.invariant c.row.ensures (from_true c.are_closed_but.result c.are_closed_but.ensures c.if-not-are_closed_but.false)
 
 pub returns : goal.returns
-returns c = shut_off_all c.args.around.now.superseders.items c.args.opens.now c.args.ring.now c.args.ring.now c.loop-place.place-index (omega arith) c.loop-place.invariant
+returns c = shut_off_all c.args.around.now.superseders c.args.opens.now c.args.ring.now c.args.ring.now c.loop-place.place-index (omega arith) c.loop-place.invariant

@@ -1,4 +1,4 @@
-use Rattle.std.proofs.Common.{◌≡◌, ◌∙◌, sym, get_or, arith}
+use Rattle.std.proofs.Common.{◌∙◌, sym, arith}
 use Rattle.requisites.proofs.CascadeFacts.{unmarked_all, unmarked_more, unmarked_none}
 use Rattle.requisites.proofs.cascade.are_unmarked.Goals as goal
 

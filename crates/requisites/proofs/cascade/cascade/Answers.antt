@@ -1,5 +1,5 @@
-use Rattle.std.proofs.Common.{◌≡◌, length, arith, rules}
-use Rattle.requisites.proofs.CascadeFacts.{looked_first, looked_more, nearer_falls}
+use Rattle.std.proofs.Common.{rules}
+use Rattle.requisites.proofs.CascadeFacts.{looked_first}
 use Rattle.requisites.proofs.cascade.cascade.Goals as goal
 
 pub first-init : goal.first-init

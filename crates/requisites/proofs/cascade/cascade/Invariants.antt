@@ -1,5 +1,5 @@
-use Rattle.std.proofs.Common.{◌+◌, ◌*◌, ◌^◌, ◌≤◌, length}
-use Rattle.requisites.specs.Good.{AreMarksLeft, AreOpen, marked_count}
+use Rattle.std.proofs.Common.{◌+◌, ◌*◌, ◌^◌, length}
+use Rattle.requisites.specs.Good.{marked_count}
 use Rattle.requisites.proofs.CascadeFacts.{AreLooked}
 use Rattle.requisites.proofs.cascade.cascade.Given as goal
 

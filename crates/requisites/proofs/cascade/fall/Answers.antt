@@ -1,4 +1,4 @@
-use Rattle.std.proofs.Common.{◌≡◌, ◌∙◌, sym, arith}
+use Rattle.std.proofs.Common.{◌∙◌, sym}
 use Rattle.requisites.proofs.TestFacts.{from_true}
 use Rattle.requisites.proofs.CascadeFacts.{left_falls_inside}
 use Rattle.requisites.proofs.cascade.fall.Goals as goal

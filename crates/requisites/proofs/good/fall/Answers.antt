@@ -1,30 +1,27 @@
-use Rattle.std.proofs.Common.{◌≡◌, ◌∙◌, length, refl, sym, arith}
+use Rattle.std.proofs.Common.{length, refl, arith}
 use Rattle.requisites.proofs.PlanFacts.{left_begins, left_swept, good_found, good_given, read_sources}
 use Rattle.requisites.proofs.good.fall.Goals as goal
-
-pub rounds-init : goal.rounds-init
-rounds-init c = left_begins c.args.nodes.now c.args.marks.now c.requires
 
 pub returns-then-not-sweep : goal.returns-then-not-sweep
 returns-then-not-sweep c =
     let nodes = c.args.nodes.now in
-    let marks = c.cascade.new.marks in
-    let given = c.deref-in-rounds.result.now in
+    let marks = c.args.marks.now in
+    let given = c.deref.result.now in
     let givers = c.in_ok-givers.givers.items in
     record {
-      good = good_given nodes c.sweep.new.marks given givers c.deref-in-rounds.ensures.value
-          (good_found nodes (length marks) marks c.sweep.new.marks given c.sweep.result c.if-not-sweep.true refl c.in_ok-cascade.ensures.left
-          (read_sources nodes c.deref.result.now marks given givers c.deref.ensures.value c.deref-in-rounds.ensures.value c.in_ok-givers.ensures.sources)
+      good = good_given nodes c.sweep.new.marks given givers c.deref.ensures.value
+          (good_found nodes (length marks) marks c.sweep.new.marks given c.sweep.result c.if-not-sweep.true refl (left_begins nodes marks c.requires)
+          (read_sources nodes nodes.supersedes marks given givers refl c.deref.ensures.value c.in_ok-givers.ensures.sources)
           c.sweep.ensures);
-      len = omega (arith, c.in_ok-givers.ensures.len, c.rounds.auto.marks, c.cascade.auto.marks);
+      len = omega (arith, c.in_ok-givers.ensures.len);
     }
 
-pub rounds-preserved : goal.rounds-preserved
-rounds-preserved c =
+pub fall_on-requires : goal.fall_on-requires
+fall_on-requires c =
     let nodes = c.args.nodes.now in
-    let marks = c.cascade.new.marks in
-    let given = c.deref-in-rounds.result.now in
+    let marks = c.args.marks.now in
+    let given = c.deref.result.now in
     let givers = c.in_ok-givers.givers.items in
-    left_swept nodes (length marks) marks c.sweep.new.marks given c.sweep.result c.in_ok-cascade.ensures.left
-    (read_sources nodes c.deref.result.now marks given givers c.deref.ensures.value c.deref-in-rounds.ensures.value c.in_ok-givers.ensures.sources)
+    left_swept nodes (length marks) marks c.sweep.new.marks given c.sweep.result (left_begins nodes marks c.requires)
+    (read_sources nodes nodes.supersedes marks given givers refl c.deref.ensures.value c.in_ok-givers.ensures.sources)
     c.sweep.ensures

@@ -1,5 +1,4 @@
-use Rattle.std.proofs.Common.{◌≡◌, ◌∙◌, ◌+◌, ◌++◌, ◌∷◌, [], ℕ, Option, Some, min, get_or, take, subst, sym, ap, arith}
-use Rattle.std.specs.Option.{option_map_or}
+use Rattle.std.proofs.Common.{◌∙◌, ◌++◌, ◌∷◌, [], ℕ, Option, Some, get_or, take, subst, sym, ap, arith}
 use Rattle.requisites.proofs.TestFacts.{from_true, from_false}
 use Rattle.requisites.proofs.OpenFacts.{IsLeastSoFar, least_begins, least_skips, least_takes, least_step}
 use Rattle.requisites.proofs.good.least_open_need.Goals as goal

@@ -1,5 +1,4 @@
 use Rattle.std.proofs.Common.{take}
-use Rattle.requisites.specs.Nodes.{row}
 use Rattle.requisites.proofs.OpenFacts.{IsLeastSoFar}
 use Rattle.requisites.proofs.good.least_open_need.Given as goal
 

@@ -1,5 +1,4 @@
-use Rattle.std.proofs.Common.{◌≡◌, ◌+◌, List, Bool, true, subst, sym, arith}
-use Rattle.requisites.specs.Good.{AreSwept}
+use Rattle.std.proofs.Common.{◌+◌, true, arith}
 use Rattle.requisites.proofs.TestFacts.{from_true, from_false}
 use Rattle.requisites.proofs.SweepFacts.{swept_none, swept_falls, swept_stays, swept_left}
 use Rattle.requisites.proofs.good.sweep.Goals as goal

@@ -1,12 +1,16 @@
 use Rattle.std.proofs.Common.{length, arith}
-use Rattle.requisites.proofs.ReversedFacts.{turned_all, turned_more, turned_none}
+use Rattle.requisites.specs.Reversed.{chains_of}
+use Rattle.requisites.proofs.ReversedFacts.{chained_none, turned_all, turned_more}
 use Rattle.requisites.proofs.reversed.turn.Goals as goal
 
 pub loop-place-init : goal.loop-place-init
-loop-place-init c = turned_none c.args.lists.now c.args.rows.now
+loop-place-init c = record { chained = c.requires; turned = chained_none c.args.lists.now c.args.chains.now }
 
 pub loop-place-preserved : goal.loop-place-preserved
-loop-place-preserved c = turned_more c.args.lists.now (length c.args.rows.now) c.loop-place.place c.row_at.result.now c.loop-place.rows c.add_row.new.rows c.row_at.ensures c.loop-place.invariant c.in_ok-add_row.ensures
+loop-place-preserved c = record {
+  chained = c.in_ok-add_row.ensures.chained;
+  turned = turned_more c.args.lists.now (length c.args.chains.now.last.items) c.loop-place.place c.row.result.now (chains_of c.loop-place.chains) (chains_of c.add_row.new.chains) c.row.ensures c.loop-place.invariant.turned c.in_ok-add_row.ensures.added;
+}
 
-pub returns : goal.returns
-returns c = turned_all c.args.lists.now (length c.args.rows.now) c.loop-place.place c.loop-place.rows (omega arith) c.loop-place.invariant
+pub returns-clause-turned : goal.returns-clause-turned
+returns-clause-turned c = turned_all c.args.lists.now (length c.args.chains.now.last.items) c.loop-place.place (chains_of c.loop-place.chains) (omega arith) c.loop-place.invariant.turned

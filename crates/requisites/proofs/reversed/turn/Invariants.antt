@@ -1,6 +1,10 @@
 use Rattle.std.proofs.Common.{length}
+use Rattle.requisites.specs.Reversed.{AreChained, chains_of}
 use Rattle.requisites.proofs.ReversedFacts.{AreTurnedBelow}
 use Rattle.requisites.proofs.reversed.turn.Given as goal
 
 abbrev pub invariant-loop-place : goal.invariant-loop-place
-invariant-loop-place l = AreTurnedBelow l.lists (length l.fn.rows) l.place l.rows
+invariant-loop-place l = record {
+  chained : AreChained l.chains;
+  turned : AreTurnedBelow l.lists (length l.fn.chains.last.items) l.place (chains_of l.chains);
+}

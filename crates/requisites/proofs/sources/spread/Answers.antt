@@ -17,5 +17,5 @@ loop-place-smaller c =
 pub loop-place-preserved : goal.loop-place-preserved
 loop-place-preserved c =
     spreading_steps c.args.lists.now c.args.start c.in-Some.place c.args.sources.now c.loop-place.sources c.take_row-in-Some.new.sources
-    c.row_at.result.now c.loop-place.work.items c.pop.new.self.items c.take_row-in-Some.new.work.items
-    c.loop-place.invariant c.in-Some.ensures.items c.row_at.ensures c.in_ok-take_row-2.ensures
+    c.row.result.now c.loop-place.work.items c.pop.new.self.items c.take_row-in-Some.new.work.items
+    c.loop-place.invariant c.in-Some.ensures.items c.row.ensures c.in_ok-take_row-2.ensures

@@ -1,5 +1,5 @@
-use Rattle.std.proofs.Common.{◌+◌, ◌*◌, ◌≡◌, length, vec_len}
-use Rattle.requisites.specs.Spread.{AreClosed, AreReached, SourcesSpread, sourceless}
+use Rattle.std.proofs.Common.{◌+◌, ◌*◌, length}
+use Rattle.requisites.specs.Spread.{sourceless}
 use Rattle.requisites.proofs.SpreadFacts.{IsSpreading}
 use Rattle.requisites.proofs.sources.spread.Given as goal
 

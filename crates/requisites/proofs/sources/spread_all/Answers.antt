@@ -1,5 +1,4 @@
-use Rattle.std.proofs.Common.{◌≡◌, ◌+◌, length, refl, sym, ap, ◌∙◌, true, false, arith}
-use Rattle.requisites.specs.Nodes.{mark_of}
+use Rattle.std.proofs.Common.{◌+◌, length, refl, sym, ap, ◌∙◌, arith}
 use Rattle.requisites.proofs.SourceFacts.{sources_begin, sources_more, sources_skip, sources_kept, all_below}
 use Rattle.requisites.proofs.sources.spread_all.Goals as goal
 use Rattle.requisites.proofs.sources.spread_all.Goals.{then-is_marked+in_ok-spread, else-is_marked}

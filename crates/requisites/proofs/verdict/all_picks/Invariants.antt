@@ -3,4 +3,4 @@ use Rattle.requisites.specs.Picks.{ArePicks}
 use Rattle.requisites.proofs.verdict.all_picks.Given as goal
 
 abbrev pub invariant-loop-place : goal.invariant-loop-place
-invariant-loop-place l = ArePicks l.nodes l.place l.picks.items × (length l.picks.items ≡ l.place)
+invariant-loop-place l = ArePicks l.nodes l.place l.picks × (length l.picks ≡ l.place)

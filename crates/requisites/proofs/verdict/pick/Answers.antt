@@ -1,5 +1,5 @@
-use Rattle.std.proofs.Common.{◌∙◌, sym, refl}
-use Rattle.requisites.proofs.PickFacts.{pick_itself, pick_some, pick_lacks}
+use Rattle.std.proofs.Common.{◌∙◌, sym}
+use Rattle.requisites.proofs.PickFacts.{pick_some, pick_lacks}
 use Rattle.requisites.proofs.verdict.pick.Goals as goal
 
 pub returns-clause-some : goal.returns-clause-some

@@ -1,4 +1,4 @@
-use Rattle.std.proofs.Common.{◌≡◌, ◌∙◌, ◌+◌, ◌++◌, ◌∷◌, [], sym, ap, arith}
+use Rattle.std.proofs.Common.{◌∙◌, ◌+◌, ◌++◌, ◌∷◌, [], sym, ap, arith}
 use Rattle.requisites.proofs.SpreadFacts.{some_from_test}
 use Rattle.requisites.proofs.VerdictFacts.{none_found, reached_left, reached_more, reached_none, reached_skip, reached_whole}
 use Rattle.requisites.proofs.verdict.reached_places.Goals as goal

@@ -1,6 +1,5 @@
-use Rattle.std.proofs.Common.{length, ◌≡◌}
 use Rattle.requisites.specs.Good.{AreMarksLeft, marked_count}
-use Rattle.requisites.proofs.good.fall.Given as goal
+use Rattle.requisites.proofs.good.fall_on.Given as goal
 
 abbrev pub invariant-rounds : goal.invariant-rounds
 invariant-rounds l = AreMarksLeft l.nodes l.marks

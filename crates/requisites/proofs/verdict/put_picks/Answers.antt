@@ -1,11 +1,11 @@
-use Rattle.std.proofs.Common.{◌≡◌, ◌∙◌, ◌+◌, ◌++◌, ◌∷◌, [], ℕ, List, Option, Some, get_or, take, subst, sym, ap, arith}
-use Rattle.requisites.proofs.PickFacts.{ArePickedFrom, picked_none, picked_more, picked_skip, picked_step, picked_listed, picked_left}
+use Rattle.std.proofs.Common.{◌∙◌, ◌++◌, ◌∷◌, [], get_or, take, ap, arith}
+use Rattle.requisites.proofs.PickFacts.{picked_none, picked_more, picked_skip, picked_step, picked_listed, picked_left}
 use Rattle.requisites.proofs.TestFacts.{from_none}
-use Rattle.requisites.proofs.verdict.picks_for.Goals as goal
-use Rattle.requisites.proofs.verdict.picks_for.Goals.{in-Some+in_ok-push, in_default}
+use Rattle.requisites.proofs.verdict.put_picks.Goals as goal
+use Rattle.requisites.proofs.verdict.put_picks.Goals.{in-Some+in_ok-push, in_default}
 
 pub loop-need-init : goal.loop-need-init
-loop-need-init c = picked_left c.args.nodes.now [] [] c.new-picks.result.items c.new-picks.ensures.items (picked_none c.args.nodes.now)
+loop-need-init c = picked_left c.args.nodes.now [] [] c.clear.new.self.items c.clear.ensures.items (picked_none c.args.nodes.now)
 
 pub loop-need-preserved : goal.loop-need-preserved
 loop-need-preserved c =

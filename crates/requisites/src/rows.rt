@@ -1,0 +1,102 @@
+//! `Rows`.
+ghost use Rattle.std.specs.Prelude.{◌≡◌, ◌≤◌, ◌<◌, ◌++◌, [], ◌∷◌, length, slice_index, OnErr, OnOk};
+ghost use Rattle.std.specs.List.{slice_range};
+ghost use Rattle.requisites.specs.Nodes.{row};
+ghost use Rattle.requisites.specs.Rows.{start_at};
+
+use std::alloc::{AllocError, Global};
+use std::marker::Model;
+
+/// For each place a row of places, all of them in one list. A contract sees the list of the rows.
+#[derive(Debug, Drop)]
+pub struct Rows {
+    // The entries of all rows, and where each row ends among them: there the next one starts.
+    entries: Vec<usize>,
+    ends: Vec<usize>,
+}
+
+impl Model for Rows {
+    ghost use Rattle.std.specs.Prelude.{ℕ, List, length};
+    ghost use Rattle.requisites.specs.Rows.{AreEnds, rows_from};
+
+    ghost Value = { List (List ℕ) };
+
+    ghost view = { λ rows. rows_from rows.entries.items 0 rows.ends.items };
+
+    ghost invariant = { λ rows. AreEnds 0 rows.ends.items (length rows.entries.items) };
+}
+
+impl Rows {
+    /// No rows. It takes no memory.
+    pub fn new(alloc: Global) -> Self
+        ensures { result ≡ [] }
+    {
+        Rows {
+            entries: Vec::new(alloc),
+            ends: Vec::new(alloc),
+        }
+    }
+
+    /// How many rows there are.
+    pub fn len(&self) -> usize
+        ensures { result ≡ length self.now }
+    {
+        self.ends.len()
+    }
+
+    /// The row of a place. It has no entries where there are fewer rows.
+    pub fn row(&self, place: usize) -> &[usize]
+        ensures { result.now ≡ row self.now place }
+    {
+        if place >= self.ends.len() {
+            return &[];
+        }
+        let start = start_of(&self.ends, place);
+        let end = end_of(&self.ends, place);
+        between(&self.entries, start, end)
+    }
+
+    /// Puts a row after the others.
+    ///
+    /// # Errors
+    ///
+    /// `AllocError` where memory ran out: the rows are as they were.
+    pub fn push_row(&mut self, row: &[usize]) -> Result<(), AllocError>
+        ensures rows { OnOk result (self.new ≡ self.old ++ row.now ∷ []) }
+        ensures err { OnErr result (self.new ≡ self.old) }
+    {
+        self.ends.reserve(1)?;
+        self.entries.extend_from_slice(row)?;
+        match self.ends.push(self.entries.len()) {
+            Ok(()) => Ok(()),
+            Err(_) => unreachable!(),
+        }
+    }
+}
+
+// Where the row of a place starts.
+fn start_of(ends: &[usize], place: usize) -> usize
+    requires { place < length ends.now }
+    ensures { result ≡ start_at 0 ends.now place }
+{
+    if place == 0 {
+        return 0;
+    }
+    ends[place - 1]
+}
+
+// Where it ends.
+fn end_of(ends: &[usize], place: usize) -> usize
+    requires { place < length ends.now }
+    ensures { result ≡ slice_index ends.now place }
+{
+    ends[place]
+}
+
+fn between(entries: &[usize], start: usize, end: usize) -> &[usize]
+    requires start { start ≤ end }
+    requires end { end ≤ length entries.now }
+    ensures { result.now ≡ slice_range entries.now start end }
+{
+    &entries[start..end]
+}
