@@ -1,12 +1,13 @@
+pub mod GatheredFacts
 pub mod IdFacts
 pub mod Comments
 pub mod Raws
-pub mod ScanSteps
+pub mod ScanFacts
 pub mod RoleFacts
 pub mod ScanPieces
 pub mod Decompose
 pub mod Runs
-pub mod ReadSteps
+pub mod ReadFacts
 pub mod Rows
 pub mod Segments
 pub mod Cut
@@ -17,7 +18,7 @@ pub mod PassFacts
 pub mod ScanPlaces
 pub mod Alone
 pub mod Outside
-pub mod AnySteps
-pub mod SourceSteps
+pub mod StepCountFacts
+pub mod SourceFacts
 pub mod Examples
 pub mod IdOrder

@@ -14,7 +14,7 @@ use Rattle.mcs_reader.proofs.Runs.{IsLines}
 use Rattle.mcs_reader.specs.ReadLines.{read_lines, read_text}
 use Rattle.mcs_reader.specs.ReadingOf.{reading_of}
 use Rattle.mcs_reader.specs.Unread.{IsRead, Read, with_statements}
-use Rattle.mcs_reader.proofs.ReadSteps.{read_lines-end}
+use Rattle.mcs_reader.proofs.ReadFacts.{read_lines-end}
 use Rattle.mcs_reader.proofs.Segments.{read_row, read_stopped}
 use Rattle.mcs_reader.proofs.Cut.{Cut, Ending, at_end, stopped, spell_ending, IsEnding, cut_all}
 

@@ -13,7 +13,7 @@ use Rattle.mcs_reader.proofs.RoleFacts.{role-is_name, role-is_open}
 use Rattle.mcs_reader.proofs.Comments.{plain}
 use Rattle.mcs_reader.proofs.Raws.{RawAt, raw_cut, behind_raw-ends, behind_raw-open}
 use Rattle.mcs_reader.proofs.Runs.{run-append-behind_run, begins_with-behind_run, is_word-run}
-use Rattle.mcs_reader.proofs.ScanSteps.{skip-step, scan-gap, scan-comment_step, scan-name_step, scan-open, scan-close, scan-period, scan-other}
+use Rattle.mcs_reader.proofs.ScanFacts.{skip-step, scan-gap, scan-comment_step, scan-name_step, scan-open, scan-close, scan-period, scan-other}
 use Rattle.mcs_reader.proofs.ScanPieces.{scan-word, scan-raw_list, scan-open_raw}
 use Rattle.mcs_reader.proofs.ScanPlaces.{here, shorter_behind_run}
 

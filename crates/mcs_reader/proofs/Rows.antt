@@ -14,7 +14,7 @@ use Rattle.mcs_reader.specs.Place.{name_behind, text_behind, verb_at}
 use Rattle.mcs_reader.specs.Run.{run, behind_run}
 use Rattle.mcs_reader.proofs.Runs.{run_is, behind_run_is, begins_with-append, after_line-line, IsLine-append, IsLine-of, in_line, line_ends-append, line_ends-line, begins_statement-line}
 use Rattle.mcs_reader.specs.ReadLines.{at_verb, read_lines}
-use Rattle.mcs_reader.proofs.ReadSteps.{read_lines-step}
+use Rattle.mcs_reader.proofs.ReadFacts.{read_lines-step}
 
 -- heads
 

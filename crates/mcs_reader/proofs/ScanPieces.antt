@@ -12,7 +12,7 @@ use Rattle.mcs_reader.specs.Verb.{begins_with}
 use Rattle.mcs_reader.specs.declared.fault.McsFault.{McsFault}
 use Rattle.mcs_reader.specs.declared.fault.McsFault.TheVariants.{NoPeriod, Unbalanced, BadByte}
 use Rattle.mcs_reader.specs.Scan.{pass, scan, Outcome, on_found, with_name, with_values, with_list, closing, past, past_raw}
-use Rattle.mcs_reader.proofs.ScanSteps.{pass-front, passed, scan-gap, scan-comment_step, scan-name_step, scan-open, scan-close, scan-period, scan-other, scan-end, scan-inside-end, scan-inside-gap, scan-inside-comment_step, scan-inside-open, scan-inside-close, scan-inside-value_step}
+use Rattle.mcs_reader.proofs.ScanFacts.{pass-front, passed, scan-gap, scan-comment_step, scan-name_step, scan-open, scan-close, scan-period, scan-other, scan-end, scan-inside-end, scan-inside-gap, scan-inside-comment_step, scan-inside-open, scan-inside-close, scan-inside-value_step}
 use Rattle.mcs_reader.proofs.RoleFacts.{both, role_of-name, not_name, first_of_word, role_of-40, role_of-41, role_of-43, role_of-46}
 use Rattle.mcs_reader.proofs.Comments.{here_of, plain, value_run_is, behind_comment-ends, behind_comment-open}
 use Rattle.mcs_reader.proofs.Raws.{behind_raw-ends, behind_raw-open}

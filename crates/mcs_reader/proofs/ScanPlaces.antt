@@ -1,7 +1,7 @@
 -- What the machine does at a place, by the role of the byte there.
 use Rattle.std.proofs.Common.{◌≡◌, ℕ, zero, suc, ◌+◌, ◌-◌, ◌==◌, ◌≤◌, ◌<◌, ◌&&◌, ◌⊎◌, inl, inr, Bool, true, false, cond, List, [], ◌∷◌, ◌++◌, length, drop, Some, None, IsSome, Err, refl, sym, ◌∙◌, ap, subst, arith, length-append}
 use Rattle.std.proofs.lemmas.Bool.Decides.{nat_tests}
-use Rattle.mcs_reader.specs.Byte.{role_of, belongs_to_value, line_end}
+use Rattle.mcs_reader.specs.Byte.{role_of, is_blank, belongs_to_value, line_end}
 use Rattle.mcs_reader.specs.Comment.{role_here, IsCommentText}
 use Rattle.mcs_reader.specs.declared.byte.ByteRole.{ByteRole}
 use Rattle.mcs_reader.specs.declared.byte.ByteRole.TheVariants.{Gap, Comment, Name, Open, Close, Period, Other}
@@ -12,10 +12,10 @@ use Rattle.mcs_reader.specs.Place.{Place, IsBehind, role_at, after_line}
 use Rattle.mcs_reader.specs.Run.{run, behind_run, begins_value, value_run, behind_value}
 use Rattle.mcs_reader.specs.Scan.{pass, scan, Outcome, on_found, with_list, with_values, closing, behind_comment}
 use Rattle.mcs_reader.proofs.RoleFacts.{role_of-43}
-use Rattle.mcs_reader.proofs.Comments.{value_run-append-behind_value, comment_at, Ended, comment_cut, behind_comment-ends, behind_comment-open}
+use Rattle.mcs_reader.proofs.Comments.{here_of, value_run-append-behind_value, comment_at, Ended, comment_cut, behind_comment-ends, behind_comment-open}
 use Rattle.mcs_reader.proofs.Cut.{begins_with_pluses}
 use Rattle.mcs_reader.proofs.Runs.{run-append-behind_run}
-use Rattle.mcs_reader.proofs.ScanSteps.{pass-front, scan-gap, scan-other, scan-end, scan-inside-end, scan-inside-gap, scan-inside-open, scan-inside-close, scan-inside-value_step}
+use Rattle.mcs_reader.proofs.ScanFacts.{pass-front, scan-gap, scan-other, scan-end, scan-inside-end, scan-inside-gap, scan-inside-open, scan-inside-close, scan-inside-value_step}
 use Rattle.mcs_reader.proofs.ScanPieces.{scan-comment, scan-open_comment, scan-inside-comment, scan-inside-open_comment}
 
 role_of-end : role_of line_end ≡ Gap
@@ -226,6 +226,38 @@ outside_gap line before (b ∷ text) h =
     let some_gap : Some (role_here b text) ≡ Some Gap = sym (ap (λ t. cond t None (Some (role_here b text))) no_end) ∙ sym h in
     let gap_is : role_here b text ≡ Gap = cc in
     scan-gap line before false b text gap_is ∙ ap (λ t. scan line zero before t text) no_end
+
+-- blanks
+
+blank_is_gap : (b : ℕ) → is_blank b ≡ true → role_of b ≡ Gap
+unfolding role_of
+blank_is_gap b h = rw h refl
+
+blank_ends_no_line : (b : ℕ) → is_blank b ≡ true → (b == line_end) ≡ false
+blank_ends_no_line b h = grind (arith, nat_tests)
+
+pub outside_blanks : (line : ℕ) (before : Before) (text : List ℕ) → scan line zero before false text ≡ scan line zero before false (behind_run is_blank text)
+outside_blanks line before [] = refl
+outside_blanks line before (b ∷ text) = by_test (is_blank b) refl (outside_blanks line before text) where
+  by_test : (t : Bool) → is_blank b ≡ t → scan line zero before false text ≡ scan line zero before false (behind_run is_blank text)
+      → scan line zero before false (b ∷ text) ≡ scan line zero before false (cond t (behind_run is_blank text) (b ∷ text))
+  by_test false is behind = refl
+  by_test true is behind =
+      scan-gap line before false b text (here_of b text Gap (blank_is_gap b is) (λ e. cc))
+      ∙ ap (λ t. scan line zero before t text) (blank_ends_no_line b is)
+      ∙ behind
+
+blanks_inside : (line depth : ℕ) (text : List ℕ) → scan line (suc depth) no_name false text ≡ scan line (suc depth) no_name false (behind_run is_blank text)
+blanks_inside line depth [] = refl
+blanks_inside line depth (b ∷ text) = by_test (is_blank b) refl (blanks_inside line depth text) where
+  by_test : (t : Bool) → is_blank b ≡ t → scan line (suc depth) no_name false text ≡ scan line (suc depth) no_name false (behind_run is_blank text)
+      → scan line (suc depth) no_name false (b ∷ text) ≡ scan line (suc depth) no_name false (cond t (behind_run is_blank text) (b ∷ text))
+  by_test false is behind = refl
+  by_test true is behind = scan-inside-gap line depth b text (here_of b text Gap (blank_is_gap b is) (λ e. cc)) ∙ behind
+
+pub inside_blanks : (line depth : ℕ) (text : List ℕ) → 0 < depth → scan line depth no_name false text ≡ scan line depth no_name false (behind_run is_blank text)
+inside_blanks line zero text deep = absurd (omega arith)
+inside_blanks line (suc depth) text deep = blanks_inside line depth text
 
 pub outside_line : (line : ℕ) (before : Before) (text : List ℕ) → None ≡ role_at text → 0 < length (after_line text) → begins_statement (after_line text) ≡ false
     → scan line zero before false text ≡ scan line zero before false (after_line text)

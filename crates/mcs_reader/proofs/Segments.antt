@@ -17,7 +17,7 @@ use Rattle.mcs_reader.proofs.ScanPieces.{begins_name, scan-statement, scan-fault
 use Rattle.mcs_reader.proofs.Runs.{begins_with-append, after_line-line, IsLine-append, line_ends-append, line_ends-line}
 use Rattle.mcs_reader.specs.ReadLines.{go_on, at_verb, read_lines}
 use Rattle.mcs_reader.specs.Unread.{with_statements}
-use Rattle.mcs_reader.proofs.ReadSteps.{with_statements-append, with_statements-none}
+use Rattle.mcs_reader.proofs.ReadFacts.{with_statements-append, with_statements-none}
 use Rattle.mcs_reader.proofs.Rows.{verb_at-head, verb_at-statement, IsLine-head, step, step-passed, steps-passed}
 
 -- what it is to be read so: the statements, and then the text behind, in fewer steps

@@ -1,7 +1,9 @@
 pub mod Byte
+pub mod Asking
 pub mod Bytes
 pub mod Category
 pub mod Comment
+pub mod Gathered
 pub mod Held
 pub mod Id
 pub mod Line

@@ -116,9 +116,19 @@ impl<'a> Cursor<'a> {
         self.card = rest;
     }
 
+    /// Passes the blanks from here on.
+    #[inline]
+    pub(crate) fn pass_blanks(&mut self)
+        ensures text { self.new.text ≡ behind_run is_blank self.old.text }
+        ensures behind { IsBehind self.new self.old }
+    {
+        let rest = behind_blanks(self.card);
+        self.card = rest;
+    }
+
     /// Passes the name bytes from here on, and gives them.
     #[inline]
-    pub(crate) fn name(&mut self) -> &'a [u8]
+    pub(crate) fn take_name(&mut self) -> &'a [u8]
         ensures name { result.now ≡ run is_name_byte self.old.text }
         ensures text { self.new.text ≡ behind_run is_name_byte self.old.text }
         ensures behind { IsBehind self.new self.old }
@@ -130,7 +140,7 @@ impl<'a> Cursor<'a> {
 
     /// Passes the bytes of a value from here on, and gives them.
     #[inline]
-    pub(crate) fn value(&mut self) -> &'a [u8]
+    pub(crate) fn take_value(&mut self) -> &'a [u8]
         ensures value { result.now ≡ value_run self.old.text }
         ensures text { self.new.text ≡ behind_value self.old.text }
         ensures behind { IsBehind self.new self.old }
@@ -188,7 +198,7 @@ impl<'a> Cursor<'a> {
 
     /// Passes `++`, blanks and a verb that is known, at a line's beginning.
     #[inline]
-    pub(crate) fn verb(&mut self) -> Option<Verb>
+    pub(crate) fn take_verb(&mut self) -> Option<Verb>
         ensures verb { MatchOption result (verb_at self.old.text ≡ None) (λ verb. verb_at self.old.text ≡ Some (verb, self.new.text)) }
         ensures unmoved { MatchOption result (self.new ≡ self.old) (λ _. self.new.line ≡ self.old.line) }
         ensures behind { IsBehind self.new self.old }

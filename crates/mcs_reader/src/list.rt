@@ -1,5 +1,6 @@
 //! The lists of a statement: values between matching parentheses, at any depth.
-ghost use Rattle.std.specs.Prelude.{◌≡◌, ◌≢◌, ◌+◌, ◌^◌, ◌<◌, ◌≤◌, [], ◌∷◌, false, Err, Some, None, IfOk, IfErr, MatchOption, length, option_map};
+ghost use Rattle.std.specs.Prelude.{◌≡◌, ◌+◌, ◌^◌, ◌<◌, ◌≤◌, [], ◌∷◌, false, Err, Some, None, IfOk, IfErr, MatchOption, length, option_map};
+ghost use Rattle.faults.specs.Refusal.{IsRefusal};
 ghost use Rattle.mcs_reader.specs.Pieces.{no_name};
 ghost use Rattle.mcs_reader.specs.Place.{IsBehind};
 ghost use Rattle.mcs_reader.specs.Scan.{on_found, scan, with_list, with_values};
@@ -9,7 +10,7 @@ ghost use Rattle.mcs_reader.specs.declared.fault.McsFault.TheVariants.{Memory};
 use crate::byte::ByteRole;
 use crate::cursor::Cursor;
 use crate::passing::pass_comment;
-use crate::{McsFault, Values};
+use crate::{ListValues, McsFault};
 
 /// The next value of the list, or `None` behind the parenthesis that closes it. `depth` counts the
 /// parentheses that are open.
@@ -36,7 +37,10 @@ pub(crate) fn next_value<'a>(
             return Err(McsFault::Unbalanced(line));
         };
         match role {
-            ByteRole::Gap => cursor.advance(),
+            ByteRole::Gap => {
+                cursor.advance();
+                cursor.pass_blanks();
+            }
             ByteRole::Comment => pass_comment(cursor, line)?,
             ByteRole::Open => {
                 cursor.advance();
@@ -49,21 +53,21 @@ pub(crate) fn next_value<'a>(
                     return Ok(None);
                 }
             }
-            _ => return Ok(Some(cursor.value())),
+            _ => return Ok(Some(cursor.take_value())),
         }
     }
 }
 
 /// The values of the list whose opening parenthesis was passed, up to the one that closes it.
-pub(crate) fn values<'a>(
+pub(crate) fn gather_values<'a>(
     cursor: &mut Cursor<'a>,
     scratch: &mut Vec<&'a [u8]>,
     line: u32,
-) -> Result<Values<'a>, McsFault>
+) -> Result<ListValues<'a>, McsFault>
     requires depth_room { length cursor.old.text < 2 ^ 63 }
 
     ensures ok { IfOk result (λ values. scan line 1 no_name false cursor.old.text ≡ on_found (with_list values) (scan line 0 no_name false cursor.new.text)) }
-    ensures err { IfErr result (λ fault. fault ≢ Memory → scan line 1 no_name false cursor.old.text ≡ Err fault) }
+    ensures err { IfErr result (IsRefusal Memory (λ fault. scan line 1 no_name false cursor.old.text ≡ Err fault)) }
     ensures behind { IsBehind cursor.new cursor.old }
 {
     scratch.clear();
@@ -71,11 +75,11 @@ pub(crate) fn values<'a>(
     'values: while let Some(value) = next_value(cursor, &mut depth, line)? {
         scratch.push(value)?;
     }
-    Ok(Values::take_gathered(scratch)?)
+    Ok(ListValues::take_gathered(scratch)?)
 }
 
 /// The value of the list whose opening parenthesis was passed, where it has just one.
-pub(crate) fn sole_value<'a>(
+pub(crate) fn take_sole_value<'a>(
     cursor: &mut Cursor<'a>,
     line: u32,
 ) -> Result<Option<&'a [u8]>, McsFault>

@@ -1,20 +1,23 @@
 //! The operands of a statement: names, each with the list that may follow it.
 ghost use Rattle.std.specs.Prelude.{◌≡◌, ◌≢◌, ◌<◌, [], ◌∷◌, ℕ, List, false, Ok, Err, Some, None, IfOk, IfErr, OnOk, length, option_map};
+ghost use Rattle.faults.specs.Refusal.{IsRefusal};
 ghost use Rattle.mcs_reader.specs.Lists.{HasSubject};
-ghost use Rattle.mcs_reader.specs.Operand.{operand_text};
+ghost use Rattle.mcs_reader.specs.Gathered.{GathersOperand, HasOperands, PassesList};
+ghost use Rattle.mcs_reader.specs.Operand.{operand_texts};
 ghost use Rattle.mcs_reader.specs.Pieces.{Before, a_name, before_behind, is_comment_name, no_name};
 ghost use Rattle.mcs_reader.specs.Place.{IsBehind, role_at};
-ghost use Rattle.mcs_reader.specs.Scan.{on_found, scan, with_list_behind, with_operands};
+ghost use Rattle.mcs_reader.specs.Scan.{on_found, scan, with_list_behind, with_name, with_operands};
 ghost use Rattle.mcs_reader.specs.StatementText.{sole, subject_by as subject_by_list};
 ghost use Rattle.mcs_reader.specs.declared.byte.ByteRole.TheVariants.{Gap, Comment, Name};
 ghost use Rattle.mcs_reader.specs.declared.fault.McsFault.TheVariants.{Memory};
 
+use crate::asked::Asked;
 use crate::byte::ByteRole;
 use crate::cursor::Cursor;
-use crate::list::{sole_value, values};
+use crate::list::{gather_values, take_sole_value};
 use crate::passing::{pass_comment, pass_raw_list};
 use crate::scratch::{Scratch, take_gathered};
-use crate::{Id, McsFault, Operand, Operands, Values, Verb};
+use crate::{Id, ListValues, McsFault, Operand, Operands, Verb};
 
 /// Goes to the next byte behind gaps and comments, and gives its role.
 fn skip_gap(cursor: &mut Cursor<'_>, line: u32) -> Result<ByteRole, McsFault>
@@ -33,7 +36,10 @@ fn skip_gap(cursor: &mut Cursor<'_>, line: u32) -> Result<ByteRole, McsFault>
             continue;
         };
         match role {
-            ByteRole::Gap => cursor.advance(),
+            ByteRole::Gap => {
+                cursor.advance();
+                cursor.pass_blanks();
+            }
             ByteRole::Comment => pass_comment(cursor, line)?,
             _ => return Ok(role),
         }
@@ -46,9 +52,9 @@ fn list_behind<'a>(
     scratch: &mut Vec<&'a [u8]>,
     name: &[u8],
     line: u32,
-) -> Result<Option<Values<'a>>, McsFault>
+) -> Result<Option<ListValues<'a>>, McsFault>
     ensures ok { IfOk result (λ list. scan line 0 (before_behind name.now) false cursor.old.text ≡ with_list_behind list (scan line 0 no_name false cursor.new.text)) }
-    ensures err { IfErr result (λ fault. fault ≢ Memory → scan line 0 (before_behind name.now) false cursor.old.text ≡ Err fault) }
+    ensures err { IfErr result (IsRefusal Memory (λ fault. scan line 0 (before_behind name.now) false cursor.old.text ≡ Err fault)) }
     ensures behind { IsBehind cursor.new cursor.old }
 {
     match skip_gap(cursor, line)? {
@@ -56,9 +62,9 @@ fn list_behind<'a>(
             cursor.advance();
             if is_comment(name) {
                 pass_raw_list(cursor, line)?;
-                Ok(Some(Values::from_vec(Vec::new(*scratch.allocator()))))
+                Ok(Some(ListValues::from_vec(Vec::new(*scratch.allocator()))))
             } else {
-                Ok(Some(values(cursor, scratch, line)?))
+                Ok(Some(gather_values(cursor, scratch, line)?))
             }
         }
         _ => Ok(None),
@@ -74,7 +80,7 @@ fn is_comment(name: &[u8]) -> bool
 }
 
 /// The subject that a verb has by the list behind it, if the list is as the verb wants it.
-pub(crate) fn subject(
+pub(crate) fn pass_subject(
     cursor: &mut Cursor<'_>,
     verb: Verb,
     line: u32,
@@ -86,7 +92,7 @@ pub(crate) fn subject(
     match skip_gap(cursor, line)? {
         ByteRole::Open => {
             cursor.advance();
-            let value = sole_value(cursor, line)?;
+            let value = take_sole_value(cursor, line)?;
             Ok(subject_by(verb, value))
         }
         _ => Ok(None),
@@ -105,46 +111,84 @@ fn subject_by(verb: Verb, value: Option<&[u8]>) -> Option<Option<Id>>
     }
 }
 
-/// The operand whose name begins here.
-fn operand<'a>(
+/// The values of the list that follows a name, none where no list does.
+fn values_behind<'a>(
     cursor: &mut Cursor<'a>,
     scratch: &mut Vec<&'a [u8]>,
+    name: &[u8],
     line: u32,
-) -> Result<Operand<'a>, McsFault>
-    requires name { role_at cursor.old.text ≡ Some Name }
-
-    ensures ok { IfOk result (λ operand. scan line 0 no_name false cursor.old.text
-        ≡ on_found (with_operands (operand_text operand ∷ [])) (scan line 0 no_name false cursor.new.text)) }
-    ensures shorter { OnOk result (length cursor.new.text < length cursor.old.text) }
-    ensures err { IfErr result (λ fault. fault ≢ Memory → scan line 0 no_name false cursor.old.text ≡ Err fault) }
+) -> Result<ListValues<'a>, McsFault>
+    ensures ok { IfOk result (λ values. on_found (with_name name.now) (scan line 0 (before_behind name.now) false cursor.old.text)
+        ≡ on_found (with_operands (record { name = name.now; values = values } ∷ [])) (scan line 0 no_name false cursor.new.text)) }
+    ensures err { IfErr result (IsRefusal Memory (λ fault. scan line 0 (before_behind name.now) false cursor.old.text ≡ Err fault)) }
     ensures behind { IsBehind cursor.new cursor.old }
 {
-    let name = cursor.name();
-    let values = match list_behind(cursor, scratch, name, line)? {
+    Ok(match list_behind(cursor, scratch, name, line)? {
         Some(values) => values,
-        None => Values::from_vec(Vec::new(*scratch.allocator())),
-    };
-    Ok(Operand { name, values })
+        None => ListValues::from_vec(Vec::new(*scratch.allocator())),
+    })
 }
 
-/// The operands up to the period, which is passed.
-pub(crate) fn operands<'a>(
+/// Passes the list that follows a name, gaps and comments aside, if one does.
+fn pass_list_behind(cursor: &mut Cursor<'_>, name: &[u8], line: u32) -> Result<(), McsFault>
+    ensures ok { OnOk result (PassesList line name.now cursor.old.text cursor.new.text) }
+    ensures err { IfErr result (λ fault. scan line 0 (before_behind name.now) false cursor.old.text ≡ Err fault) }
+    ensures behind { IsBehind cursor.new cursor.old }
+{
+    match skip_gap(cursor, line)? {
+        ByteRole::Open => {
+            cursor.advance();
+            if is_comment(name) {
+                pass_raw_list(cursor, line)?;
+            } else {
+                take_sole_value(cursor, line)?;
+            }
+            Ok(())
+        }
+        _ => Ok(()),
+    }
+}
+
+/// The operand whose name begins here: it is gathered if it is asked for, and passed over if not.
+fn gather_operand<'a>(
     cursor: &mut Cursor<'a>,
     scratch: &mut Scratch<'a>,
+    asked: Asked<'_>,
+    line: u32,
+) -> Result<(), McsFault>
+    requires name { role_at cursor.old.text ≡ Some Name }
+
+    ensures ok { OnOk result (GathersOperand asked.entry line cursor.old.text
+        (operand_texts scratch.old.operands.items) (operand_texts scratch.new.operands.items) cursor.new.text) }
+    ensures shorter { OnOk result (length cursor.new.text < length cursor.old.text) }
+    ensures err { IfErr result (IsRefusal Memory (λ fault. scan line 0 no_name false cursor.old.text ≡ Err fault)) }
+    ensures behind { IsBehind cursor.new cursor.old }
+{
+    let name = cursor.take_name();
+    if asked.asks_for(name) {
+        let values = values_behind(cursor, &mut scratch.values, name, line)?;
+        scratch.operands.push(Operand { name, values })?;
+    } else {
+        pass_list_behind(cursor, name, line)?;
+    }
+    Ok(())
+}
+
+/// The operands up to the period, which is passed, of those that are asked for.
+pub(crate) fn gather_operands<'a>(
+    cursor: &mut Cursor<'a>,
+    scratch: &mut Scratch<'a>,
+    asked: Asked<'_>,
     line: u32,
 ) -> Result<Operands<'a>, McsFault>
-    ensures ok { IfOk result (λ operands. scan line 0 no_name false cursor.old.text
-        ≡ Ok (record { values = None; operands = operands; rest = cursor.new.text })) }
-    ensures err { IfErr result (λ fault. fault ≢ Memory → scan line 0 no_name false cursor.old.text ≡ Err fault) }
+    ensures ok { IfOk result (λ operands. HasOperands asked.entry line cursor.old.text operands cursor.new.text) }
+    ensures err { IfErr result (IsRefusal Memory (λ fault. scan line 0 no_name false cursor.old.text ≡ Err fault)) }
     ensures behind { IsBehind cursor.new cursor.old }
 {
     scratch.operands.clear();
     'names: loop {
         match skip_gap(cursor, line)? {
-            ByteRole::Name => {
-                let operand = operand(cursor, &mut scratch.values, line)?;
-                scratch.operands.push(operand)?;
-            }
+            ByteRole::Name => gather_operand(cursor, scratch, asked, line)?,
             ByteRole::Period => {
                 cursor.advance();
                 return Ok(Operands::from_vec(take_gathered(&mut scratch.operands)?));

@@ -1,5 +1,6 @@
 //! A source, read whole.
-ghost use Rattle.std.specs.Prelude.{◌≡◌, ◌≢◌, Ok, Err, IfOk, IfErr, IsErrAnd, MatchResult, List};
+ghost use Rattle.std.specs.Prelude.{◌≡◌, Ok, Err, IfOk, IfErr, IsErrAnd, MatchResult, List};
+ghost use Rattle.faults.specs.Refusal.{IsRefusal};
 ghost use Rattle.mcs_reader.specs.Reading.{HasOneOutcome, IsFirstFault, IsReading};
 ghost use Rattle.mcs_reader.specs.ReadingOf.{reading_of};
 ghost use Rattle.mcs_reader.specs.Unread.{IsRead};
@@ -29,19 +30,19 @@ pub const MOST_BYTES: usize = 67_108_864;
 pub fn read(alloc: Global, source: &[u8]) -> Result<Vec<Statement<'_>>, McsFault>
     // What is returned is the source's reading, or its first fault.
     ensures reading { IfOk result (λ statements. IsReading source.now statements.items) }
-    ensures fault { IfErr result (λ fault. fault ≢ Memory → IsFirstFault source.now fault) }
+    ensures fault { IfErr result (IsRefusal Memory (λ fault. IsFirstFault source.now fault)) }
 
     // A source that has a reading is read, and one that has a first fault is refused for it, unless memory runs out.
     ensures read { (statements : List Statement) → IsReading source.now statements
         → MatchResult result (λ found. found.items ≡ statements) (λ fault. fault ≡ Memory) }
     ensures refused { (first : McsFault) → IsFirstFault source.now first
-        → IsErrAnd result (λ fault. fault ≢ Memory → fault ≡ first) }
+        → IsErrAnd result (IsRefusal Memory (λ fault. fault ≡ first)) }
     ensures one_outcome { HasOneOutcome source.now }
 
     // Each source has an outcome, and it is what is returned.
     ensures outcome { IsRead source.now (reading_of source.now) }
     ensures ok { IfOk result (λ statements. reading_of source.now ≡ Ok statements.items) }
-    ensures err { IfErr result (λ fault. fault ≢ Memory → reading_of source.now ≡ Err fault) }
+    ensures err { IfErr result (IsRefusal Memory (λ fault. reading_of source.now ≡ Err fault)) }
 {
     collect(alloc, Statements::new(alloc, source)?)
 }
@@ -49,7 +50,7 @@ pub fn read(alloc: Global, source: &[u8]) -> Result<Vec<Statement<'_>>, McsFault
 // The statements that are left, in order.
 fn collect<'a>(alloc: Global, left: Statements<'a>) -> Result<Vec<Statement<'a>>, McsFault>
     ensures ok { IfOk result (λ statements. left.entry.reading ≡ Ok statements.items) }
-    ensures err { IfErr result (λ fault. fault ≢ Memory → left.entry.reading ≡ Err fault) }
+    ensures err { IfErr result (IsRefusal Memory (λ fault. left.entry.reading ≡ Err fault)) }
 {
     let mut left = left;
     let mut statements = Vec::new(alloc);

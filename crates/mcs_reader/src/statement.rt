@@ -56,7 +56,7 @@ impl Verb {
 /// The values of one list, in order. A contract sees the list of their bytes. A value that stands alone
 /// takes no memory.
 #[derive(Debug, Drop)]
-pub struct Values<'a> {
+pub struct ListValues<'a> {
     held: Held<'a>,
 }
 
@@ -67,7 +67,7 @@ enum Held<'a> {
     Any(Vec<&'a [u8]>),
 }
 
-impl<'a> Model for Values<'a> {
+impl<'a> Model for ListValues<'a> {
     ghost use Rattle.std.specs.Prelude.{ℕ, List};
     ghost use Rattle.mcs_reader.specs.Held.{bytes_held};
 
@@ -76,12 +76,12 @@ impl<'a> Model for Values<'a> {
     ghost view = { λ v. bytes_held v.held };
 }
 
-impl<'a> Values<'a> {
+impl<'a> ListValues<'a> {
     /// These values, as slices of one source. It takes no memory.
     pub fn from_vec(items: Vec<&'a [u8]>) -> Self
         ensures { result ≡ bytes_of_each items.entry.items }
     {
-        Values {
+        ListValues {
             held: Held::Any(items),
         }
     }
@@ -91,11 +91,11 @@ impl<'a> Values<'a> {
         ensures { IfOk result (λ values. values ≡ bytes_of_each scratch.old.items) }
     {
         if let [value] = scratch.as_slice() {
-            return Ok(Values {
+            return Ok(ListValues {
                 held: Held::One(value),
             });
         }
-        Ok(Values::from_vec(take_gathered(scratch)?))
+        Ok(ListValues::from_vec(take_gathered(scratch)?))
     }
 
     /// The values in order, as slices of the source.
@@ -115,7 +115,7 @@ pub struct Operand<'a> {
     /// The operand's name as it was written; names are compared without regard to ASCII case.
     pub name: &'a [u8],
     /// The values of the operand's list, none where it has no list.
-    pub values: Values<'a>,
+    pub values: ListValues<'a>,
 }
 
 /// The operands of one statement, in order. A contract sees each as its name and its values.

@@ -1,16 +1,21 @@
 //! A source, statement by statement.
-ghost use Rattle.std.specs.Prelude.{◌≡◌, ◌≢◌, false, [], Ok, Err, IfOk, IfErr, OnOk, OnErr, IsOk, MatchOption, length};
+ghost use Rattle.std.specs.Prelude.{◌≡◌, false, [], Ok, Err, IfOk, IfErr, OnOk, OnErr, IsOk, MatchOption, length};
+ghost use Rattle.faults.specs.Refusal.{IsRefusal};
+ghost use Rattle.mcs_reader.specs.Asking.{reading_asking};
+ghost use Rattle.mcs_reader.specs.Bytes.{bytes_of_each};
+ghost use Rattle.mcs_reader.specs.Gathered.{GivesNextFor, States, reading_for};
 ghost use Rattle.mcs_reader.specs.Pieces.{a_name};
 ghost use Rattle.mcs_reader.specs.Place.{IsBehind};
-ghost use Rattle.mcs_reader.specs.ReadLines.{GivesNext, read_behind};
+ghost use Rattle.mcs_reader.specs.ReadLines.{read_behind};
 ghost use Rattle.mcs_reader.specs.Reading.{HasOneOutcome, IsFirstFault};
 ghost use Rattle.mcs_reader.specs.ReadingOf.{reading_of};
 ghost use Rattle.mcs_reader.specs.Scan.{scan, stated};
 ghost use Rattle.mcs_reader.specs.Unread.{GivesStatement, IsRead};
 ghost use Rattle.mcs_reader.specs.declared.fault.McsFault.TheVariants.{Memory};
 
+use crate::asked::Asked;
 use crate::cursor::Cursor;
-use crate::operand::{operands, subject};
+use crate::operand::{gather_operands, pass_subject};
 use crate::scratch::Scratch;
 use crate::source::MOST_BYTES;
 use crate::{McsFault, Statement, Verb};
@@ -26,16 +31,18 @@ use std::marker::Model;
 pub struct Statements<'a> {
     cursor: Cursor<'a>,
     scratch: Scratch<'a>,
+    asked: Asked<'a>,
 }
 
 impl<'a> Model for Statements<'a> {
     ghost use Rattle.std.specs.Prelude.{length};
+    ghost use Rattle.mcs_reader.specs.Gathered.{reading_for};
     ghost use Rattle.mcs_reader.specs.ReadLines.{read_behind};
     ghost use Rattle.mcs_reader.specs.Unread.{Unread};
 
     ghost Value = { Unread };
 
-    ghost view = { λ s. record { reading = read_behind s.cursor; bytes = length s.cursor.text } };
+    ghost view = { λ s. record { reading = reading_for s.asked (read_behind s.cursor); bytes = length s.cursor.text } };
 }
 
 impl<'a> Statements<'a> {
@@ -52,12 +59,39 @@ impl<'a> Statements<'a> {
         ensures ok { IfOk result (λ statements. statements.reading ≡ reading_of source.now) }
         ensures err { IfErr result (λ fault. reading_of source.now ≡ Err fault) }
     {
+        Statements::begin(alloc, source, Asked::All)
+    }
+
+    /// All statements of a source, each with those operands alone that have one of these names, without regard to
+    /// ASCII case. Of the others neither names nor values take memory. It takes no memory itself.
+    ///
+    /// # Errors
+    ///
+    /// [`McsFault::TooLong`] where the source has more than [`MOST_BYTES`](crate::MOST_BYTES) bytes.
+    pub fn asking(alloc: Global, source: &'a [u8], names: &'a [&'a [u8]]) -> Result<Self, McsFault>
+        ensures fault { IfErr result (λ fault. IsFirstFault source.now fault) }
+        ensures one_outcome { HasOneOutcome source.now }
+        ensures outcome { IsRead source.now (reading_of source.now) }
+        ensures ok { IfOk result (λ statements. statements.reading ≡ reading_asking (bytes_of_each names.now) (reading_of source.now)) }
+        ensures err { IfErr result (λ fault. reading_of source.now ≡ Err fault) }
+    {
+        Statements::begin(alloc, source, Asked::Named(names))
+    }
+
+    fn begin(alloc: Global, source: &'a [u8], asked: Asked<'a>) -> Result<Self, McsFault>
+        ensures fault { IfErr result (λ fault. IsFirstFault source.now fault) }
+        ensures one_outcome { HasOneOutcome source.now }
+        ensures outcome { IsRead source.now (reading_of source.now) }
+        ensures ok { IfOk result (λ statements. statements.reading ≡ reading_for asked.entry (reading_of source.now)) }
+        ensures err { IfErr result (λ fault. reading_of source.now ≡ Err fault) }
+    {
         if source.len() > MOST_BYTES {
             return Err(McsFault::TooLong);
         }
         Ok(Statements {
             cursor: Cursor::new(source),
             scratch: Scratch::new(alloc),
+            asked,
         })
     }
 
@@ -71,12 +105,12 @@ impl<'a> Statements<'a> {
         ensures next { IfOk result (λ next. MatchOption next
             (self.old.reading ≡ Ok [])
             (λ statement. GivesStatement self.old statement self.new)) }
-        ensures fault { IfErr result (λ fault. fault ≢ Memory → self.old.reading ≡ Err fault) }
+        ensures fault { IfErr result (IsRefusal Memory (λ fault. self.old.reading ≡ Err fault)) }
         ensures end { IfOk result (λ next. MatchOption next (self.new ≡ self.old) (λ _. Unit)) }
         ensures err { OnErr result (self.new ≡ self.old) }
     {
         let mut cursor = self.cursor.copy();
-        let next = next_statement(&mut cursor, &mut self.scratch)?;
+        let next = next_statement(&mut cursor, &mut self.scratch, self.asked)?;
         if next.is_some() {
             self.cursor = cursor;
         }
@@ -90,7 +124,7 @@ impl<'a> Statements<'a> {
     /// The first fault of what is left, or [`McsFault::Memory`].
     pub fn finish(self) -> Result<(), McsFault>
         ensures ok { OnOk result (IsOk self.entry.reading) }
-        ensures fault { IfErr result (λ fault. fault ≢ Memory → self.entry.reading ≡ Err fault) }
+        ensures fault { IfErr result (IsRefusal Memory (λ fault. self.entry.reading ≡ Err fault)) }
     {
         let mut left = self;
         'left: while let Some(_) = left.next()? {}
@@ -102,36 +136,38 @@ impl<'a> Statements<'a> {
 fn next_statement<'a>(
     cursor: &mut Cursor<'a>,
     scratch: &mut Scratch<'a>,
+    asked: Asked<'_>,
 ) -> Result<Option<Statement<'a>>, McsFault>
     ensures ok { IfOk result (λ next. MatchOption next
         (read_behind cursor.old ≡ Ok [])
-        (λ statement. GivesNext cursor.old statement cursor.new)) }
-    ensures err { IfErr result (λ fault. fault ≢ Memory → read_behind cursor.old ≡ Err fault) }
+        (λ statement. GivesNextFor asked.entry cursor.old statement cursor.new)) }
+    ensures err { IfErr result (IsRefusal Memory (λ fault. read_behind cursor.old ≡ Err fault)) }
     ensures behind { IsBehind cursor.new cursor.old }
 {
     'lines: while cursor.next_line() {
-        if let Some(verb) = cursor.verb() {
-            return Ok(Some(statement(cursor, scratch, verb)?));
+        if let Some(verb) = cursor.take_verb() {
+            return Ok(Some(read_statement(cursor, scratch, asked, verb)?));
         }
     }
     Ok(None)
 }
 
 /// The statement whose verb was passed, up to its period.
-fn statement<'a>(
+fn read_statement<'a>(
     cursor: &mut Cursor<'a>,
     scratch: &mut Scratch<'a>,
+    asked: Asked<'_>,
     verb: Verb,
 ) -> Result<Statement<'a>, McsFault>
-    ensures ok { IfOk result (λ statement. stated verb cursor.old.line (scan cursor.old.line 0 a_name false cursor.old.text)
-        ≡ Ok (statement, cursor.new.text)) }
-    ensures err { IfErr result (λ fault. fault ≢ Memory
-        → stated verb cursor.old.line (scan cursor.old.line 0 a_name false cursor.old.text) ≡ Err fault) }
+    ensures ok { IfOk result (λ statement.
+        States asked.entry (stated verb cursor.old.line (scan cursor.old.line 0 a_name false cursor.old.text)) statement cursor.new.text) }
+    ensures err { IfErr result (IsRefusal Memory (λ fault.
+        stated verb cursor.old.line (scan cursor.old.line 0 a_name false cursor.old.text) ≡ Err fault)) }
     ensures behind { IsBehind cursor.new cursor.old }
 {
     let line = cursor.line();
-    let subject = subject(cursor, verb, line)?;
-    let operands = operands(cursor, scratch, line)?;
+    let subject = pass_subject(cursor, verb, line)?;
+    let operands = gather_operands(cursor, scratch, asked, line)?;
     let Some(subject) = subject else {
         return Err(McsFault::BadVerbSubject(line));
     };

@@ -193,6 +193,29 @@ fn statements_come_one_at_a_time(rt: HostRuntime) -> Result<(), Fail> {
 
 // More values than are copied, and a short list behind the long one.
 #[test]
+fn operands_that_nobody_asks_for_are_passed_over(rt: HostRuntime) -> Result<(), Fail> {
+    let source =
+        b"++HOLD(A) ERROR reason(B,(C) D) OTHER(X (REASON(Y)))\n COMMENT(FMID( . /* )) FMID.\n++HOLD(B) Q /* REASON(C) */ Reason(D)\n REASON.\n++PTF(C) REWORK(1).\n++HOLD(D) OTHER(A. REASON(B).";
+    let cases: [(&[&[u8]], [&str; 3]); 3] = [
+        (
+            &[b"REASON", b"fmid"],
+            ["1 A reason=B=C=D FMID", "3 B Reason=D REASON", "5 C"],
+        ),
+        (&[b"OTHER"], ["1 A OTHER=X=REASON=Y", "3 B", "5 C"]),
+        (&[], ["1 A", "3 B", "5 C"]),
+    ];
+    for (names, texts) in cases {
+        let mut statements = Statements::asking(rt.alloc(), source, names)?;
+        for text in texts {
+            let statement = statements.next()?.ok_or("a statement")?;
+            assert_eq!(rt; shown(&rt, &statement)?.as_str(), text);
+        }
+        assert_eq!(rt; statements.next().err(), Some(McsFault::Unbalanced(6)));
+    }
+    Ok(())
+}
+
+#[test]
 fn a_list_may_be_long(rt: HostRuntime) -> Result<(), Fail> {
     let mut text = b"++HOLD(A) LONG(\n".to_vec(rt.alloc())?;
     for _ in 0..100 {

@@ -3,7 +3,7 @@ use Rattle.std.proofs.Common.{◌+◌, ◌-◌, [], ◌∷◌, false, Some, Err,
 use Rattle.mcs_reader.specs.Pieces.{no_name}
 use Rattle.mcs_reader.specs.Run.{behind_value}
 use Rattle.mcs_reader.specs.Scan.{on_found, scan, with_list, with_values}
-use Rattle.mcs_reader.proofs.ScanPlaces.{inside_end, inside_last, inside_gap, inside_comment, inside_open_comment, inside_open, inside_close_last, inside_close, inside_value, shorter_at, IsBehind-trans, else_value}
+use Rattle.mcs_reader.proofs.ScanPlaces.{inside_blanks, inside_end, inside_last, inside_gap, inside_comment, inside_open_comment, inside_open, inside_close_last, inside_close, inside_value, shorter_at, IsBehind-trans, else_value}
 use Rattle.mcs_reader.proofs.list.next_value.Goals as goal
 
 pub bytes-preserved-then-next_line : goal.bytes-preserved-then-next_line
@@ -32,10 +32,14 @@ bytes-preserved-in-Gap c =
       found =
           loop.invariant.found
           ∙ inside_gap c.args.line loop.depth loop.cursor.text loop.invariant.still_open (ap (λ k. Some k) (sym c.in-Gap.is) ∙ c.in-Some.ensures)
-          ∙ ap (scan c.args.line loop.depth no_name false) (sym c.advance.ensures.text);
+          ∙ ap (scan c.args.line loop.depth no_name false) (sym c.advance.ensures.text)
+          ∙ inside_blanks c.args.line loop.depth c.advance.new.self.text loop.invariant.still_open
+          ∙ ap (scan c.args.line loop.depth no_name false) (sym c.pass_blanks.ensures.text);
       still_open = loop.invariant.still_open;
-      no_deeper = omega (arith, loop.invariant.no_deeper, c.advance.ensures.behind.text);
-      behind = IsBehind-trans c.advance.new.self loop.cursor c.args.cursor.now c.advance.ensures.behind loop.invariant.behind;
+      no_deeper = omega (arith, loop.invariant.no_deeper, c.advance.ensures.behind.text, c.pass_blanks.ensures.behind.text);
+      behind =
+          IsBehind-trans c.pass_blanks.new.self loop.cursor c.args.cursor.now
+          (IsBehind-trans c.pass_blanks.new.self c.advance.new.self loop.cursor c.pass_blanks.ensures.behind c.advance.ensures.behind) loop.invariant.behind;
     }
 
 pub bytes-preserved-in-Open : goal.bytes-preserved-in-Open
@@ -81,15 +85,15 @@ returns-in_default-role-clause-ok c =
     let value =
     inside_value c.args.line loop.depth loop.cursor.text c.in-Some.role loop.invariant.still_open c.in-Some.ensures
     (else_value c.in-Some.role here.not-Gap here.not-Comment here.not-Open here.not-Close) in
-    let size = ap length c.value.ensures.text in
+    let size = ap length c.take_value.ensures.text in
     record {
       found =
           loop.invariant.found
           ∙ value.0
-          ∙ ap (λ w. on_found (with_values (w ∷ [])) (scan c.args.line loop.depth no_name false (behind_value loop.cursor.text))) (sym c.value.ensures.value)
-          ∙ ap (λ t. on_found (with_values (c.value.result.now ∷ [])) (scan c.args.line loop.depth no_name false t)) (sym c.value.ensures.text);
+          ∙ ap (λ w. on_found (with_values (w ∷ [])) (scan c.args.line loop.depth no_name false (behind_value loop.cursor.text))) (sym c.take_value.ensures.value)
+          ∙ ap (λ t. on_found (with_values (c.take_value.result.now ∷ [])) (scan c.args.line loop.depth no_name false t)) (sym c.take_value.ensures.text);
       still_open = loop.invariant.still_open;
-      no_deeper = omega (arith, loop.invariant.no_deeper, c.value.ensures.behind.text);
+      no_deeper = omega (arith, loop.invariant.no_deeper, c.take_value.ensures.behind.text);
       shorter = omega (arith, value.1, size, loop.invariant.behind.text);
     }
 

@@ -2,7 +2,7 @@ use Rattle.std.proofs.lemmas.Result.{err_from_is_err_and}
 use Rattle.std.proofs.Common.{ℕ, ◌<◌, List, false, Some, Err, length, sym, ◌∙◌, ap, subst}
 use Rattle.mcs_reader.specs.Scan.{scan}
 use Rattle.mcs_reader.specs.Line.{begins_statement}
-use Rattle.mcs_reader.proofs.ScanPlaces.{IsBehind-trans, outside_gap, outside_comment, outside_open_comment, outside_line, outside_statement, outside_last}
+use Rattle.mcs_reader.proofs.ScanPlaces.{IsBehind-trans, outside_blanks, outside_gap, outside_comment, outside_open_comment, outside_line, outside_statement, outside_last}
 use Rattle.mcs_reader.proofs.operand.skip_gap.Goals as goal
 use Rattle.mcs_reader.proofs.operand.skip_gap.Goals.{then-not-next_line-via-then-not-next_line, then-not-next_line-via-else-not-next_line+then-begins_statement}
 
@@ -39,8 +39,12 @@ gap-preserved-in-Gap c =
       found = λ before.
           loop.invariant.found before
           ∙ outside_gap c.args.line before loop.cursor.text (ap (λ k. Some k) (sym c.in-Gap.is) ∙ c.in-Some.ensures)
-          ∙ ap (scan c.args.line 0 before false) (sym c.advance.ensures.text);
-      behind = IsBehind-trans c.advance.new.self loop.cursor c.args.cursor.now c.advance.ensures.behind loop.invariant.behind;
+          ∙ ap (scan c.args.line 0 before false) (sym c.advance.ensures.text)
+          ∙ outside_blanks c.args.line before c.advance.new.self.text
+          ∙ ap (scan c.args.line 0 before false) (sym c.pass_blanks.ensures.text);
+      behind =
+          IsBehind-trans c.pass_blanks.new.self loop.cursor c.args.cursor.now
+          (IsBehind-trans c.pass_blanks.new.self c.advance.new.self loop.cursor c.pass_blanks.ensures.behind c.advance.ensures.behind) loop.invariant.behind;
     }
 
 pub gap-preserved : goal.gap-preserved

@@ -5,8 +5,9 @@ use Rattle.mcs_reader.specs.Place.{Place, IsBehind, after_line}
 use Rattle.mcs_reader.specs.ReadLines.{read_behind}
 use Rattle.mcs_reader.specs.Scan.{Stated, scan, stated}
 use Rattle.mcs_reader.specs.declared.statement.Verb.{Verb}
+use Rattle.mcs_reader.proofs.GatheredFacts.{refusal_so}
 use Rattle.mcs_reader.proofs.ScanPlaces.{IsBehind-trans}
-use Rattle.mcs_reader.proofs.SourceSteps.{Begins, no_line, passed_line, refused_line, statement_line}
+use Rattle.mcs_reader.proofs.SourceFacts.{Begins, no_line, passed_line, refused_line, statement_line}
 use Rattle.mcs_reader.proofs.statements.next_statement.Goals as goal
 
 -- a verb moves nothing but the text
@@ -17,33 +18,40 @@ same_line verb now moved found unmoved is = ap (λ l. stated verb l (scan l 0 a_
 begins : (now last : Place) → now.text ≡ after_line last.text → now.line ≡ last.line + 1 → 0 < length now.text → Begins now last
 begins now last text line more = record { text = text; line = line; more = more }
 
-pub returns-in_err-statement-clause-err : goal.returns-in_err-statement-clause-err
-returns-in_err-statement-clause-err c =
+pub returns-in_err-read_statement-clause-err : goal.returns-in_err-read_statement-clause-err
+returns-in_err-read_statement-clause-err c =
     let p = err_from_is_err_and c.from_residual.result c.from_residual.ensures.1 in
     let last = c.lines.cursor in
     let now = c.next_line.new.self in
-    let moved = c.verb.new.self in
-    let fault = c.in_err-statement.field-0.0 in
-    rw (p.1, p.2) (λ other.
+    let moved = c.take_verb.new.self in
+    let fault = c.in_err-read_statement.field-0.0 in
+    rw (p.1, p.2)
+    (refusal_so (λ f. stated c.in-Some.verb moved.line (scan moved.line 0 a_name false moved.text) ≡ Err f) (λ f. read_behind c.args.cursor.now ≡ Err f) fault
+    (λ is.
     c.lines.invariant.read
     ∙ refused_line last now c.in-Some.verb moved.text fault (begins now last c.lines-test.ensures.text c.lines-test.ensures.line c.lines-test.ensures.more) c.in-Some.ensures.verb
-    (same_line c.in-Some.verb now moved (Err fault) c.in-Some.ensures.unmoved (c.in_err-statement.ensures.err other)))
+    (same_line c.in-Some.verb now moved (Err fault) c.in-Some.ensures.unmoved is))
+    c.in_err-read_statement.ensures.err)
 
 pub returns-in-Some-clause-ok : goal.returns-in-Some-clause-ok
 returns-in-Some-clause-ok c =
     let last = c.lines.cursor in
     let now = c.next_line.new.self in
-    let moved = c.verb.new.self in
-    let end = c.statement.new.cursor in
-    let statement = c.in_ok-statement.field-0 in
-    let behind = IsBehind-trans end moved now c.in_ok-statement.ensures.behind c.in-Some.ensures.behind in
+    let moved = c.take_verb.new.self in
+    let end = c.read_statement.new.cursor in
+    let states = c.in_ok-read_statement.ensures.ok in
+    let behind = IsBehind-trans end moved now c.in_ok-read_statement.ensures.behind c.in-Some.ensures.behind in
     let shorter = c.lines-test.ensures.shorter in
     record {
-      first =
-          c.lines.invariant.read
-          ∙ statement_line last now end c.in-Some.verb moved.text statement (begins now last c.lines-test.ensures.text c.lines-test.ensures.line c.lines-test.ensures.more) c.in-Some.ensures.verb
-          (same_line c.in-Some.verb now moved (Ok (statement, end.text)) c.in-Some.ensures.unmoved c.in_ok-statement.ensures.ok) behind;
-      further = omega (arith, behind.text, shorter, c.lines.invariant.behind.text);
+      whole = states.whole;
+      gives = record {
+        first =
+            c.lines.invariant.read
+            ∙ statement_line last now end c.in-Some.verb moved.text states.whole (begins now last c.lines-test.ensures.text c.lines-test.ensures.line c.lines-test.ensures.more) c.in-Some.ensures.verb
+            (same_line c.in-Some.verb now moved (Ok (states.whole, end.text)) c.in-Some.ensures.unmoved states.stated) behind;
+        further = omega (arith, behind.text, shorter, c.lines.invariant.behind.text);
+      };
+      statement_is = states.statement_is;
     }
 
 pub lines-preserved : goal.lines-preserved

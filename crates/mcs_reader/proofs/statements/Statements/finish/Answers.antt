@@ -1,6 +1,6 @@
 use Rattle.std.proofs.Common.{[], ◌∷◌, ◌++◌, ◌∙◌, ap}
 use Rattle.mcs_reader.specs.Unread.{with_statements}
-use Rattle.mcs_reader.proofs.ReadSteps.{with_statements-append}
+use Rattle.mcs_reader.proofs.ReadFacts.{with_statements-append}
 use Rattle.mcs_reader.proofs.statements.Statements.finish.Goals as goal
 
 pub left-preserved-in-Some : goal.left-preserved-in-Some

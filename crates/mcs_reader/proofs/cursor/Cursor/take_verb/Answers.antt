@@ -2,7 +2,7 @@ use Rattle.std.proofs.Common.{sym, ◌∙◌, ap}
 use Rattle.mcs_reader.specs.Line.{text_of}
 use Rattle.mcs_reader.specs.Place.{Place, verb_at}
 use Rattle.mcs_reader.proofs.PlaceFacts.{with_text_behind, verb_at-line, verb_at-rest, IsLine-verb, HasRoom-rest, IsBehind-card}
-use Rattle.mcs_reader.proofs.cursor.Cursor.verb.Goals as goal
+use Rattle.mcs_reader.proofs.cursor.Cursor.take_verb.Goals as goal
 
 pub invariant_of-self : goal.invariant_of-self
 invariant_of-self c =

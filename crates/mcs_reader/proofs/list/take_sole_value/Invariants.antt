@@ -3,7 +3,7 @@ use Rattle.mcs_reader.specs.Pieces.{no_name}
 use Rattle.mcs_reader.specs.Place.{IsBehind}
 use Rattle.mcs_reader.specs.Scan.{on_found, scan, with_values}
 use Rattle.mcs_reader.proofs.Alone.{is_nil}
-use Rattle.mcs_reader.proofs.list.sole_value.Given as goal
+use Rattle.mcs_reader.proofs.list.take_sole_value.Given as goal
 
 -- the first value and those passed since stand in front of what is found behind them
 abbrev pub invariant-others : goal.invariant-others

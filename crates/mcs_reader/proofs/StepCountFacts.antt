@@ -15,10 +15,10 @@ use Rattle.mcs_reader.specs.Unread.{with_statements}
 use Rattle.mcs_reader.specs.Verb.{verb_named}
 use Rattle.mcs_reader.specs.declared.statement.Statement.{Statement}
 use Rattle.mcs_reader.specs.declared.statement.Verb.{Verb}
-use Rattle.mcs_reader.proofs.ReadSteps.{read_lines-end, read_lines-step}
+use Rattle.mcs_reader.proofs.ReadFacts.{read_lines-end, read_lines-step}
 use Rattle.mcs_reader.proofs.Runs.{run-append-behind_run}
 use Rattle.mcs_reader.proofs.ScanPlaces.{shorter_after_line}
-use Rattle.mcs_reader.proofs.ScanSteps.{skip-step}
+use Rattle.mcs_reader.proofs.ScanFacts.{skip-step}
 
 -- what is behind the statement is no longer than this
 abbrev Within : ℕ → Outcome → Type 0

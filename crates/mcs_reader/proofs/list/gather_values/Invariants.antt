@@ -3,7 +3,7 @@ use Rattle.mcs_reader.specs.Pieces.{no_name}
 use Rattle.mcs_reader.specs.Bytes.{bytes_of_each}
 use Rattle.mcs_reader.specs.Place.{IsBehind}
 use Rattle.mcs_reader.specs.Scan.{on_found, scan, with_values}
-use Rattle.mcs_reader.proofs.list.values.Given as goal
+use Rattle.mcs_reader.proofs.list.gather_values.Given as goal
 
 -- the values so far stand in front of what is found behind them
 abbrev pub invariant-values : goal.invariant-values

@@ -3,7 +3,7 @@ use Rattle.mcs_reader.specs.Pieces.{no_name, a_name}
 use Rattle.std.proofs.lemmas.Result.{err_from_is_err_and}
 use Rattle.mcs_reader.specs.Scan.{scan}
 use Rattle.mcs_reader.proofs.Outside.{outside_open, outside_no_list}
-use Rattle.mcs_reader.proofs.operand.subject.Goals as goal
+use Rattle.mcs_reader.proofs.operand.pass_subject.Goals as goal
 
 pub returns-in_err-value-in-Open-clause-err : goal.returns-in_err-value-in-Open-clause-err
 returns-in_err-value-in-Open-clause-err c =

@@ -10,9 +10,9 @@ use Rattle.mcs_reader.specs.Scan.{scan, stated}
 use Rattle.mcs_reader.specs.declared.fault.McsFault.{McsFault}
 use Rattle.mcs_reader.specs.declared.statement.Statement.{Statement}
 use Rattle.mcs_reader.specs.declared.statement.Verb.{Verb}
-use Rattle.mcs_reader.proofs.ReadSteps.{read_lines-end}
+use Rattle.mcs_reader.proofs.ReadFacts.{read_lines-end}
 use Rattle.mcs_reader.proofs.Rows.{step}
-use Rattle.mcs_reader.proofs.AnySteps.{any_steps, fits_behind}
+use Rattle.mcs_reader.proofs.StepCountFacts.{any_steps, fits_behind}
 
 -- the size of a text
 

@@ -7,7 +7,7 @@ use Rattle.mcs_reader.specs.Segment.{IsLine}
 use Rattle.mcs_reader.proofs.Comments.{value_run-append-behind_value}
 use Rattle.mcs_reader.proofs.PassFacts.{value_run-line, behind_value-line}
 use Rattle.mcs_reader.proofs.PlaceFacts.{HasRoom-rest, IsBehind-card, IsLine-rest}
-use Rattle.mcs_reader.proofs.cursor.Cursor.value.Goals as goal
+use Rattle.mcs_reader.proofs.cursor.Cursor.take_value.Goals as goal
 
 pub invariant_of-self : goal.invariant_of-self
 invariant_of-self c =

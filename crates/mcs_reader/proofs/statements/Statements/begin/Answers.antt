@@ -1,11 +1,12 @@
 use Rattle.std.proofs.Common.{◌≡◌, ◌+◌, ◌∷◌, List, ℕ, length, sym, ◌∙◌, ap, arith}
 use Rattle.mcs_reader.specs.Byte.{line_end}
+use Rattle.mcs_reader.specs.Gathered.{reading_for}
 use Rattle.mcs_reader.specs.Line.{line_ends, text_of}
 use Rattle.mcs_reader.specs.Place.{Place, after_line}
 use Rattle.mcs_reader.specs.ReadLines.{read_behind, read_lines, read_text}
-use Rattle.mcs_reader.proofs.Outcomes.{has_one_outcome, has_outcome, is_read_as, reading_of-fits, reading_of-too_long}
-use Rattle.mcs_reader.proofs.SourceSteps.{length-text_of, line_ends-le-length}
-use Rattle.mcs_reader.proofs.statements.Statements.new.Goals as goal
+use Rattle.mcs_reader.proofs.Outcomes.{has_one_outcome, has_outcome, reading_of-fits, reading_of-too_long}
+use Rattle.mcs_reader.proofs.SourceFacts.{length-text_of, line_ends-le-length}
+use Rattle.mcs_reader.proofs.statements.Statements.begin.Goals as goal
 
 -- before the first line, the whole text is left
 before_first : (source : List ℕ) (place : Place) → place.text ≡ line_end ∷ text_of source → place.line ≡ 0 → read_text (text_of source) ≡ read_behind place
@@ -25,11 +26,6 @@ new-requires c =
       };
     }
 
-pub returns-clause-reading : goal.returns-clause-reading
-returns-clause-reading c =
-    is_read_as c.args.source.now (read_behind c.new.result) c.if-source-gt-MOST_BYTES.false
-    (before_first c.args.source.now c.new.result c.new.ensures.text c.new.ensures.line)
-
 pub returns-clause-one_outcome : goal.returns-clause-one_outcome
 returns-clause-one_outcome c = has_one_outcome c.args.source.now
 
@@ -38,7 +34,7 @@ returns-clause-outcome c = has_outcome c.args.source.now
 
 pub returns-clause-ok : goal.returns-clause-ok
 returns-clause-ok c =
-    sym (reading_of-fits c.args.source.now c.if-source-gt-MOST_BYTES.false ∙ before_first c.args.source.now c.new.result c.new.ensures.text c.new.ensures.line)
+    ap (reading_for c.args.asked) (sym (reading_of-fits c.args.source.now c.if-source-gt-MOST_BYTES.false ∙ before_first c.args.source.now c.new.result c.new.ensures.text c.new.ensures.line))
 
 pub returns-then-source-gt-MOST_BYTES-clause-one_outcome : goal.returns-then-source-gt-MOST_BYTES-clause-one_outcome
 returns-then-source-gt-MOST_BYTES-clause-one_outcome c = has_one_outcome c.args.source.now

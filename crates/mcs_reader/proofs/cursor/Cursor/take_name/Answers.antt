@@ -6,7 +6,7 @@ use Rattle.mcs_reader.specs.Run.{run, behind_run}
 use Rattle.mcs_reader.specs.Segment.{IsLine}
 use Rattle.mcs_reader.proofs.Runs.{run-append-behind_run}
 use Rattle.mcs_reader.proofs.PlaceFacts.{run-line, behind_run-line, HasRoom-rest, IsBehind-card, IsLine-behind_run}
-use Rattle.mcs_reader.proofs.cursor.Cursor.name.Goals as goal
+use Rattle.mcs_reader.proofs.cursor.Cursor.take_name.Goals as goal
 
 pub invariant_of-self : goal.invariant_of-self
 invariant_of-self c =

@@ -4,7 +4,7 @@ use Rattle.mcs_reader.specs.Scan.{on_found, scan, with_values}
 use Rattle.mcs_reader.proofs.Alone.{not_nil, on_found-list, sole_first}
 use Rattle.mcs_reader.proofs.ScanPieces.{on_found-values}
 use Rattle.mcs_reader.proofs.ScanPlaces.{IsBehind-trans}
-use Rattle.mcs_reader.proofs.list.sole_value.Goals as goal
+use Rattle.mcs_reader.proofs.list.take_sole_value.Goals as goal
 
 pub others-preserved : goal.others-preserved
 others-preserved c =
