@@ -17,16 +17,16 @@ use Rattle.holddata.specs.HoldKey.{key_cmp, is_same_key}
 use Rattle.holddata.specs.BookPlace.{place_of, place_cmp}
 use Rattle.holddata.specs.HoldChange.{key_of, names, hold_put, hold_left, IsRearranged}
 use Rattle.holddata.specs.HoldBook.{book_of, IsLeft}
-use Rattle.holddata.proofs.KeyOrder.{keys_total, same_is}
-use Rattle.holddata.proofs.PlaceOrder.{place_order}
-use Rattle.holddata.proofs.BookLaws.{book_of_is_left, book_of_only}
+use Rattle.holddata.proofs.KeyFacts.{keys_total, same_is}
+use Rattle.holddata.proofs.PlaceFacts.{place_order}
+use Rattle.holddata.proofs.BookFacts.{book_of_is_left, book_of_only}
 
 pub map_itself : (changes : List HoldChange) → map (λ change. change) changes ≡ changes
 map_itself [] = refl
 map_itself (change ∷ changes) = ap (λ cs. change ∷ cs) (map_itself changes)
 
 -- the last that a test finds
-last_found : (test : HoldChange → Bool) (change : HoldChange) (changes : List HoldChange) → find test (reverse (change ∷ changes)) ≡ option_or (find test (reverse changes)) (cond (test change) (Some change) None)
+pub last_found : (test : HoldChange → Bool) (change : HoldChange) (changes : List HoldChange) → find test (reverse (change ∷ changes)) ≡ option_or (find test (reverse changes)) (cond (test change) (Some change) None)
 last_found test change changes = ap (find test) (reverse-append (change ∷ []) changes) ∙ find-append test (reverse changes) (change ∷ [])
 
 or_none : (o : Option HoldChange) → option_or o None ≡ o

@@ -1,12 +1,15 @@
 mod Examples
-pub mod InsertLemmas
-pub mod CategoryLemmas
-pub mod OperandLemmas
-pub mod StatementLemmas
-pub mod KeyOrder
-pub mod PlaceOrder
-pub mod BookLemmas
-pub mod TextLemmas
-pub mod BookLaws
-pub mod DateLemmas
+pub mod InsertFacts
+pub mod CategoryFacts
+pub mod OperandFacts
+pub mod AskedFacts
+pub mod StatementFacts
+pub mod KeyFacts
+pub mod PlaceFacts
+pub mod EntryFacts
+pub mod TextFacts
+pub mod BookFacts
+pub mod DateFacts
 pub mod BatchFacts
+pub mod LastFacts
+pub mod JoinedFacts

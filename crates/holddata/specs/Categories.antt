@@ -1,6 +1,5 @@
 -- Fix categories (IBM z/OS SMP/E Reference, `++HOLD`, operand CATEGORY).
-use Rattle.std.specs.Prelude.{◌≡◌, ℕ, ◌&&◌, Bool, true, IsTrue, List, [], ◌∷◌, map, bytes_eq, Vec}
-use Rattle.std.specs.declared.alloc.Global.{Global}
+use Rattle.std.specs.Prelude.{◌≡◌, ℕ, ◌&&◌, Bool, true, IsTrue, List, [], ◌∷◌, bytes_eq}
 use Rattle.std.specs.BTreeSet.{insert_key}
 use Rattle.std.specs.List.{list_all, list_any}
 use Rattle.std.specs.Ordering.{nat_cmp, is_lt}
@@ -30,7 +29,3 @@ in_order texts = with_each [] texts
 pub record IsInOrder (texts kept : List (List ℕ)) : Type 0 where
   pub ascending : IsTrue (ascends kept)
   pub same : (text : List ℕ) → list_any (bytes_eq text) kept ≡ list_any (bytes_eq text) texts
-
--- the bytes of each
-abbrev pub texts_of : List (Vec ℕ Global) → List (List ℕ)
-texts_of items = map (λ item. item.items) items

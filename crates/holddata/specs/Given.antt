@@ -28,3 +28,4 @@ pub record IsGathered (given : Gathered) (operands : List OperandText) : Type 0 
   pub class : Shows given.class (values_of (codes "CLASS") operands)
   pub resolver : Shows given.resolver (values_of (codes "RESOLVER") operands)
   pub date : Shows given.date (values_of (codes "DATE") operands)
+  pub category : Shows given.category (values_of (codes "CATEGORY") operands)

@@ -3,9 +3,12 @@ pub mod Categories
 pub mod HoldKey
 pub mod HoldFault
 pub mod Operands
+pub mod Asked
 pub mod Given
 pub mod HoldChange
 pub mod Statements
 pub mod HoldBook
 pub mod BookPlace
 pub mod BookText
+pub mod Last
+pub mod Joined

@@ -7,6 +7,7 @@ ghost use Rattle.holddata.specs.declared.hold.Hold.{Hold};
 ghost use Rattle.holddata.specs.declared.hold.HoldChange.{HoldChange};
 ghost use Rattle.holddata.specs.HoldChange.{hold_put, IsRearranged};
 ghost use Rattle.holddata.specs.HoldBook.{hold_under, holds_on, IsInKeyOrder, IsChanged, IsLeft, book_of};
+ghost use Rattle.holddata.specs.Last.{AscendByKey};
 ghost use Rattle.holddata.specs.BookText.{book_text};
 ghost use Rattle.holddata.specs.Statements.{change_of, changes_of, faults_of, first_of};
 ghost use Rattle.holddata.specs.declared.fault.HoldFault.TheVariants.{Memory};
@@ -186,9 +187,8 @@ impl HoldBook {
         ensures { IfOk result (λ text. text.items ≡ book_text self.now) }
     {
         let mut table = hold_table(self.alloc)?;
-        let mut joined = Vec::new(self.alloc);
         for hold in self.holds.values() {
-            push_hold(&mut table, &mut joined, hold)?;
+            push_hold(&mut table, hold)?;
         }
         table.finish()
     }
@@ -208,9 +208,10 @@ pub fn book_left(alloc: Global, changes: Vec<HoldChange>) -> Result<HoldBook, No
     HoldBook::new(alloc).with_changes(changes)
 }
 
-// Puts changes in the order of the keys that they name. Those that name one key stay in their order.
-fn sort_by_key(changes: &mut Vec<HoldChange>) -> Result<(), NoMemory>
-    ensures { IsRearranged changes.old.items changes.new.items }
+/// Puts changes in the order of the keys that they name. Those that name one key stay in their order.
+pub(crate) fn sort_by_key(changes: &mut Vec<HoldChange>) -> Result<(), NoMemory>
+    ensures same { IsRearranged changes.old.items changes.new.items }
+    ensures ascending { OnOk result (AscendByKey changes.new.items) }
 {
     changes.sort_by_cached_key(|change| place_of(&change.key()))
 }

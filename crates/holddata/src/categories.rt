@@ -1,9 +1,10 @@
 //! The fix categories of a hold.
-ghost use Rattle.std.specs.Prelude.{◌≡◌, ◌&&◌, [], IfOk, IsTrue, if◌then◌else◌};
-ghost use Rattle.std.specs.List.{list_all};
+ghost use Rattle.std.specs.Prelude.{◌≡◌, ◌↔◌, ◌&&◌, [], ◌∷◌, Some, None, IfOk, IsTrue, if◌then◌else◌};
+ghost use Rattle.std.specs.List.{join_with_byte, list_all, slice_split};
 ghost use Rattle.mcs_reader.specs.Bytes.{bytes_of_each};
 ghost use Rattle.mcs_reader.specs.Category.{is_category};
-ghost use Rattle.holddata.specs.Categories.{are_categories, ascends, texts_of};
+ghost use Rattle.holddata.specs.Categories.{are_categories, ascends};
+ghost use Rattle.holddata.specs.Joined.{is_comma};
 
 use crate::NoMemory;
 use mcs_reader::is_category;
@@ -17,18 +18,20 @@ use std::marker::Model;
 /// none is a blank, an apostrophe, a comma or a parenthesis. A contract sees the list of their bytes.
 #[derive(Debug, Drop)]
 pub struct Categories {
-    items: Vec<Vec<u8>>,
+    // With commas between: a hold has few, and no category has a comma.
+    joined: Vec<u8>,
 }
 
 impl Model for Categories {
     ghost use Rattle.std.specs.Prelude.{ℕ, List, IsTrue};
-    ghost use Rattle.holddata.specs.Categories.{are_categories, texts_of};
+    ghost use Rattle.holddata.specs.Categories.{are_categories};
+    ghost use Rattle.holddata.specs.Joined.{between_commas};
 
     ghost Value = { List (List ℕ) };
 
-    ghost view = { λ c. texts_of c.items.items };
+    ghost view = { λ c. between_commas c.joined.items };
 
-    ghost invariant = { λ c. IsTrue (are_categories (texts_of c.items.items)) };
+    ghost invariant = { λ c. IsTrue (are_categories (between_commas c.joined.items)) };
 }
 
 impl Categories {
@@ -37,19 +40,33 @@ impl Categories {
         ensures { result ≡ [] }
     {
         Categories {
-            items: Vec::new(alloc),
+            joined: Vec::new(alloc),
         }
     }
 
-    /// These categories, or `None` where one is none or they don't ascend. It takes no memory.
-    pub fn from_vec(items: Vec<Vec<u8>>) -> Option<Self>
-        ensures { result ≡ (if are_categories (texts_of items.items) then Some (texts_of items.items) else None) }
+    /// These categories, or `None` where one is none or they don't ascend.
+    ///
+    /// # Errors
+    ///
+    /// Memory ran out.
+    pub fn from_ascending(alloc: Global, texts: &[&[u8]]) -> Result<Option<Self>, NoMemory>
+        ensures { IfOk result (λ categories. categories ≡ (if are_categories (bytes_of_each texts.now) then Some (bytes_of_each texts.now) else None)) }
     {
-        if are_in_order(&items) {
-            Some(Categories { items })
-        } else {
-            None
+        if !are_in_order(texts) {
+            return Ok(None);
         }
+        Ok(Some(Categories::of(alloc, texts)?))
+    }
+
+    // One category.
+    #[tactic(auto, using(crate::proofs::JoinedFacts::one_between))]
+    pub(crate) fn from_one(alloc: Global, text: &[u8]) -> Result<Self, NoMemory>
+        requires { IsTrue (is_category text.now) }
+        ensures { IfOk result (λ categories. categories ≡ text.now ∷ []) }
+    {
+        Ok(Categories {
+            joined: Vec::from_slice(alloc, text)?,
+        })
     }
 
     // The categories of a set.
@@ -57,27 +74,53 @@ impl Categories {
         requires { IsTrue (are_categories (bytes_of_each texts.now.keys)) }
         ensures { IfOk result (λ categories. categories ≡ bytes_of_each texts.now.keys) }
     {
-        let mut items = Vec::with_capacity(alloc, texts.len())?;
+        let mut list = Vec::with_capacity(alloc, texts.len())?;
         for text in texts {
-            items.push(Vec::from_slice(alloc, text)?)?;
+            list.push(*text)?;
         }
-        Ok(Categories { items })
+        Categories::of(alloc, list.as_slice())
+    }
+
+    // Some categories.
+    #[tactic(auto, using(crate::proofs::JoinedFacts::all_between))]
+    fn of(alloc: Global, texts: &[&[u8]]) -> Result<Self, NoMemory>
+        requires { IsTrue (are_categories (bytes_of_each texts.now)) }
+        ensures { IfOk result (λ categories. categories ≡ bytes_of_each texts.now) }
+    {
+        Ok(Categories {
+            joined: join(alloc, texts)?,
+        })
+    }
+
+    /// Whether there are none.
+    pub fn is_empty(&self) -> bool
+        ensures { IsTrue result ↔ (self.now ≡ []) }
+    {
+        self.joined.is_empty()
+    }
+
+    /// The categories with commas between. It takes no memory.
+    #[tactic(auto, using(crate::proofs::JoinedFacts::joined_again))]
+    pub fn joined(&self) -> &[u8]
+        ensures { result.now ≡ join_with_byte 44 self.now }
+    {
+        self.joined.as_slice()
     }
 
     /// The categories in ascending order of their bytes, each once.
-    pub fn as_slice(&self) -> &[Vec<u8>]
-        ensures value { texts_of result.now ≡ self.now }
+    ///
+    /// # Errors
+    ///
+    /// Memory ran out.
+    pub fn to_list(&self) -> Result<Vec<&[u8]>, NoMemory>
+        ensures texts { IfOk result (λ list. bytes_of_each list.items ≡ self.now) }
         ensures allowed { IsTrue (are_categories self.now) }
     {
-        self.items.as_slice()
-    }
-
-    /// Gives the list back. It takes no memory.
-    pub fn into_vec(self) -> Vec<Vec<u8>>
-        ensures value { texts_of result.items ≡ self }
-        ensures allowed { IsTrue (are_categories self) }
-    {
-        self.items
+        let alloc = *self.joined.allocator();
+        if self.joined.is_empty() {
+            return Ok(Vec::new(alloc));
+        }
+        split(alloc, self.joined.as_slice())
     }
 
     /// The same categories once more.
@@ -89,46 +132,60 @@ impl Categories {
         ensures { IfOk result (λ copy. copy ≡ self.now) }
     {
         Ok(Categories {
-            items: copied(*self.items.allocator(), &self.items)?,
+            joined: Vec::from_slice(*self.joined.allocator(), self.joined.as_slice())?,
         })
     }
 }
 
-fn copied(alloc: Global, items: &[Vec<u8>]) -> Result<Vec<Vec<u8>>, NoMemory>
-    ensures { IfOk result (λ copy. texts_of copy.items ≡ texts_of items.now) }
+// The texts with commas between.
+#[tactic(auto, using(crate::proofs::TextFacts::join_is))]
+fn join(alloc: Global, texts: &[&[u8]]) -> Result<Vec<u8>, NoMemory>
+    ensures { IfOk result (λ joined. joined.items ≡ join_with_byte 44 (bytes_of_each texts.now)) }
 {
-    let mut copy = Vec::with_capacity(alloc, items.len())?;
-    for item in items {
-        copy.push(Vec::from_slice(alloc, item)?)?;
+    let mut joined = Vec::new(alloc);
+    let Some((first, rest)) = texts.split_first() else {
+        return Ok(joined);
+    };
+    joined.extend_from_slice(first)?;
+    for text in rest {
+        joined.push(b',')?;
+        joined.extend_from_slice(text)?;
     }
-    Ok(copy)
+    Ok(joined)
+}
+
+// The parts between the commas.
+fn split(alloc: Global, joined: &[u8]) -> Result<Vec<&[u8]>, NoMemory>
+    ensures { IfOk result (λ parts. bytes_of_each parts.items ≡ slice_split is_comma joined.now) }
+{
+    joined.split(|b| *b == b',').collect(alloc)
 }
 
 // Whether these are categories in ascending order, each once.
-fn are_in_order(items: &[Vec<u8>]) -> bool
-    ensures { result ≡ are_categories (texts_of items.now) }
+fn are_in_order(texts: &[&[u8]]) -> bool
+    ensures { result ≡ are_categories (bytes_of_each texts.now) }
 {
-    are_allowed(items) && are_ascending(items)
+    are_allowed(texts) && are_ascending(texts)
 }
 
-fn are_allowed(items: &[Vec<u8>]) -> bool
-    ensures { result ≡ list_all (λ item. is_category item.items) items.now }
+pub(crate) fn are_allowed(texts: &[&[u8]]) -> bool
+    ensures { result ≡ list_all (λ text. is_category text.now) texts.now }
 {
-    items.iter().all(|item| is_category(item))
+    texts.iter().all(|text| is_category(text))
 }
 
-fn are_ascending(items: &[Vec<u8>]) -> bool
-    ensures { result ≡ ascends (texts_of items.now) }
+fn are_ascending(texts: &[&[u8]]) -> bool
+    ensures { result ≡ ascends (bytes_of_each texts.now) }
 {
-    let Some((first, rest)) = items.split_first() else {
+    let Some((first, rest)) = texts.split_first() else {
         return true;
     };
-    let mut below = first;
-    for item in rest {
-        if below.as_slice().cmp(&item.as_slice()) != Ordering::Less {
+    let mut below = *first;
+    for text in rest {
+        if below.cmp(text) != Ordering::Less {
             return false;
         }
-        below = item;
+        below = *text;
     }
     true
 }

@@ -1,28 +1,31 @@
 //! The fix categories that operands give.
-ghost use Rattle.std.specs.Prelude.{◌≡◌, codes, IfOk, OnOk};
+ghost use Rattle.std.specs.Prelude.{◌≡◌, codes, IfOk};
 ghost use Rattle.std.specs.List.{list_all};
 ghost use Rattle.mcs_reader.specs.Bytes.{bytes_of_each};
 ghost use Rattle.mcs_reader.specs.Category.{is_category};
 ghost use Rattle.mcs_reader.specs.Operand.{operand_text, operand_texts};
-ghost use Rattle.holddata.specs.Categories.{in_order, with_each};
+ghost use Rattle.holddata.specs.Categories.{in_order};
 ghost use Rattle.holddata.specs.Operands.{named_values, values_of};
 
 use crate::NoMemory;
+use crate::categories::are_allowed;
 use crate::operands::is_named;
-use mcs_reader::{Operand, is_category};
+use mcs_reader::Operand;
 use std::alloc::Global;
 use std::collections::BTreeSet;
 
-/// Whether all values of the operands CATEGORY are fix categories.
-pub(crate) fn are_categories_given(operands: &[Operand]) -> bool
-    ensures { result ≡ list_all is_category (values_of (codes "CATEGORY") (operand_texts operands.now)) }
+/// The values of the operands CATEGORY, in order.
+pub(crate) fn category_values<'a>(
+    alloc: Global,
+    operands: &[Operand<'a>],
+) -> Result<Vec<&'a [u8]>, NoMemory>
+    ensures { IfOk result (λ values. bytes_of_each values.items ≡ values_of (codes "CATEGORY") (operand_texts operands.now)) }
 {
+    let mut values = Vec::new(alloc);
     for operand in operands {
-        if !are_categories(values_in(operand)) {
-            return false;
-        }
+        values.extend_from_slice(values_in(operand))?;
     }
-    true
+    Ok(values)
 }
 
 // The values of an operand CATEGORY; other operands give none.
@@ -36,31 +39,23 @@ fn values_in<'b, 'a>(operand: &'b Operand<'a>) -> &'b [&'a [u8]]
     }
 }
 
-fn are_categories(values: &[&[u8]]) -> bool
-    ensures { result ≡ list_all (λ value. is_category value.now) values.now }
+/// Whether all of these are fix categories.
+pub(crate) fn are_categories(values: &[&[u8]]) -> bool
+    ensures { result ≡ list_all is_category (bytes_of_each values.now) }
 {
-    values.iter().all(|value| is_category(value))
+    are_allowed(values)
 }
 
-/// The values of the operands CATEGORY, in ascending order, each once.
+/// These texts in ascending order, each once.
 pub(crate) fn category_set<'a>(
     alloc: Global,
-    operands: &[Operand<'a>],
+    values: &[&'a [u8]],
 ) -> Result<BTreeSet<&'a [u8]>, NoMemory>
-    ensures { IfOk result (λ set. bytes_of_each set.keys ≡ in_order (values_of (codes "CATEGORY") (operand_texts operands.now))) }
+    ensures { IfOk result (λ set. bytes_of_each set.keys ≡ in_order (bytes_of_each values.now)) }
 {
     let mut set = BTreeSet::new(alloc);
-    for operand in operands {
-        add_each(&mut set, values_in(operand))?;
-    }
-    Ok(set)
-}
-
-fn add_each<'a>(set: &mut BTreeSet<&'a [u8]>, values: &[&'a [u8]]) -> Result<(), NoMemory>
-    ensures { OnOk result (bytes_of_each set.new.keys ≡ with_each (bytes_of_each set.old.keys) (bytes_of_each values.now)) }
-{
     for value in values {
         set.insert(*value)?;
     }
-    Ok(())
+    Ok(set)
 }

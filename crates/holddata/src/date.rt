@@ -40,7 +40,7 @@ impl Date {
     }
 
     /// The date that the five digits write, or `None` for any other text.
-    #[tactic(auto, using(crate::proofs::DateLemmas::digits_again))]
+    #[tactic(auto, using(crate::proofs::DateFacts::digits_again))]
     pub fn from_text(text: &[u8]) -> Option<Self>
         ensures date { result ≡ date_of text.now }
         ensures digits { IfSome result (λ date. date_digits date ≡ text.now) }

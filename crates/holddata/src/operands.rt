@@ -29,10 +29,11 @@ pub(crate) struct Gathered<'a> {
     pub(crate) class: Given<&'a [u8]>,
     pub(crate) resolver: Given<&'a [u8]>,
     pub(crate) date: Given<&'a [u8]>,
+    pub(crate) category: Given<&'a [u8]>,
 }
 
-#[tactic(auto, using(crate::proofs::OperandLemmas::gathered_more))]
 /// What the operands give. They may be many, so they are gone through once.
+#[tactic(auto, using(crate::proofs::OperandFacts::gathered_more))]
 pub(crate) fn given_by_operands<'a>(operands: &[Operand<'a>]) -> Gathered<'a>
     ensures { IsGathered result (operand_texts operands.now) }
 {
@@ -43,6 +44,7 @@ pub(crate) fn given_by_operands<'a>(operands: &[Operand<'a>]) -> Gathered<'a>
         class: Given::Nothing,
         resolver: Given::Nothing,
         date: Given::Nothing,
+        category: Given::Nothing,
     };
     for operand in operands {
         gather(&mut given, operand);
@@ -50,7 +52,7 @@ pub(crate) fn given_by_operands<'a>(operands: &[Operand<'a>]) -> Gathered<'a>
     given
 }
 
-// Puts what one more operand gives behind what was given.
+// Puts what one more operand gives after what was given.
 fn gather<'a>(given: &mut Gathered<'a>, operand: &Operand<'a>)
     ensures { (seen : List OperandText) → IsGathered given.old seen → IsGathered given.new (seen ++ operand_text operand.now ∷ []) }
 {
@@ -60,6 +62,7 @@ fn gather<'a>(given: &mut Gathered<'a>, operand: &Operand<'a>)
     given.class = with_named(given.class, operand, b"CLASS");
     given.resolver = with_named(given.resolver, operand, b"RESOLVER");
     given.date = with_named(given.date, operand, b"DATE");
+    given.category = with_named(given.category, operand, b"CATEGORY");
 }
 
 fn with_named<'a>(given: Given<&'a [u8]>, operand: &Operand<'a>, name: &[u8]) -> Given<&'a [u8]>

@@ -1,16 +1,14 @@
 //! The hold book in print.
 ghost use Rattle.std.specs.Prelude.{◌≡◌, ◌++◌, ◌∷◌, [], ℕ, List, map, Option, OnOk, IfOk};
-ghost use Rattle.std.specs.List.{join_with_byte};
 ghost use Rattle.std.specs.Option.{option_copied, option_map};
 ghost use Rattle.mcs_reader.specs.Bytes.{bytes_of_each};
 ghost use Rattle.holddata.specs.declared.hold.Hold.{Hold};
-ghost use Rattle.holddata.specs.Categories.{texts_of};
 ghost use Rattle.holddata.specs.HoldKey.{kind_name};
 ghost use Rattle.columns.specs.Table.{table_with};
 ghost use Rattle.holddata.specs.BookText.{hold_columns, hold_fields, id_field, date_field, category_field};
 ghost use Rattle.holddata.specs.Date.{date_digits};
 
-use crate::{Date, Hold, Kind, NoMemory};
+use crate::{Categories, Date, Hold, Kind, NoMemory};
 use columns::{Column, Table};
 use mcs_reader::Id;
 use std::alloc::Global;
@@ -61,25 +59,19 @@ pub(crate) fn hold_table(alloc: Global) -> Result<Table<'static>, NoMemory>
     Table::new(alloc, &COLUMNS, None)
 }
 
-/// Puts the row of a hold under those of others. `joined` is room for its categories.
-pub(crate) fn push_hold(
-    table: &mut Table,
-    joined: &mut Vec<u8>,
-    hold: &Hold,
-) -> Result<(), NoMemory>
+/// Puts the row of a hold under those of others.
+pub(crate) fn push_hold(table: &mut Table, hold: &Hold) -> Result<(), NoMemory>
     ensures { (holds : List Hold) → table.old ≡ table_with hold_columns None (map hold_fields holds) →
         OnOk result (table.new ≡ table_with hold_columns None (map hold_fields (holds ++ hold.now ∷ []))) }
 {
-    join_categories(joined, hold.categories.as_slice())?;
     let digits = hold.dated.map(Date::digits);
-    let fields = fields_of(hold, date_field(&digits), joined.as_slice());
+    let fields = fields_of(hold, date_field(&digits));
     table.push(&fields)
 }
 
 // What stands in the columns.
-fn fields_of<'a>(hold: &'a Hold, date: &'a [u8], categories: &'a [u8]) -> [&'a [u8]; 8]
-    ensures { date.now ≡ date_field hold.now.dated → categories.now ≡ category_field hold.now.categories →
-        bytes_of_each result ≡ hold_fields hold.now }
+fn fields_of<'a>(hold: &'a Hold, date: &'a [u8]) -> [&'a [u8]; 8]
+    ensures { date.now ≡ date_field hold.now.dated → bytes_of_each result ≡ hold_fields hold.now }
 {
     [
         hold.key.sysmod.as_bytes(),
@@ -89,7 +81,7 @@ fn fields_of<'a>(hold: &'a Hold, date: &'a [u8], categories: &'a [u8]) -> [&'a [
         id_field(&hold.class),
         date,
         id_field(&hold.resolver),
-        categories,
+        category_field(&hold.categories),
     ]
 }
 
@@ -117,20 +109,13 @@ fn date_field(digits: &Option<[u8; 5]>) -> &[u8]
     }
 }
 
-// Leaves the categories with commas between in `joined`, or what stands for none.
-#[tactic(auto, using(crate::proofs::TextLemmas::join_is))]
-fn join_categories(joined: &mut Vec<u8>, categories: &[Vec<u8>]) -> Result<(), NoMemory>
-    ensures { OnOk result (joined.new.items ≡ category_field (texts_of categories.now)) }
+// The categories with commas between, or what stands for none.
+fn category_field(categories: &Categories) -> &[u8]
+    ensures { result.now ≡ category_field categories.now }
 {
-    joined.clear();
-    let Some((first, rest)) = categories.split_first() else {
-        joined.extend_from_slice(ABSENT)?;
-        return Ok(());
-    };
-    joined.extend_from_slice(first)?;
-    for category in rest {
-        joined.push(b',')?;
-        joined.extend_from_slice(category)?;
+    if categories.is_empty() {
+        ABSENT
+    } else {
+        categories.joined()
     }
-    Ok(())
 }

@@ -10,13 +10,14 @@ ghost use Rattle.mcs_reader.specs.declared.statement.Verb.TheVariants as verb;
 ghost use Rattle.holddata.specs.declared.fault.HoldFault.TheVariants.{NoReason, BadId, BadDate, BadCategory, Memory};
 ghost use Rattle.faults.specs.Refusal.{IsRefusal};
 ghost use Rattle.std.specs.List.{list_all};
+ghost use Rattle.mcs_reader.specs.Bytes.{bytes_of_each};
 ghost use Rattle.mcs_reader.specs.Category.{is_category};
 ghost use Rattle.holddata.specs.Categories.{in_order, IsInOrder};
 
-use crate::category_values::{are_categories_given, category_set};
+use crate::category_values::{are_categories, category_set, category_values};
 use crate::operands::{Gathered, Given, given_by_operands};
 use crate::{Categories, Date, Hold, HoldChange, HoldFault, HoldKey, Kind};
-use mcs_reader::{Id, Operand, Statement, Verb};
+use mcs_reader::{Id, Operand, Statement, Verb, is_category};
 use std::alloc::Global;
 
 /// What the statements do to the holds, in order (IBM z/OS SMP/E Reference, `++HOLD`, `++RELEASE`).
@@ -24,7 +25,7 @@ use std::alloc::Global;
 /// # Errors
 ///
 /// The fault with the lowest number of the first statement that has a fault, or [`HoldFault::Memory`].
-#[tactic(auto, using(crate::proofs::StatementLemmas::first_of_longer))]
+#[tactic(auto, using(crate::proofs::StatementFacts::first_of_longer))]
 pub fn changes(alloc: Global, statements: &[Statement]) -> Result<Vec<HoldChange>, HoldFault>
     ensures changes { IfOk result (λ changes. changes.items ≡ changes_of statements.now) }
     ensures no_fault { OnOk result (first_fault statements.now ≡ None) }
@@ -63,7 +64,7 @@ pub fn change(alloc: Global, statement: &Statement) -> Result<Option<HoldChange>
 }
 
 // The hold that a `++HOLD` statement puts.
-#[tactic(auto, using(crate::proofs::StatementLemmas::first_of_longer))]
+#[tactic(auto, using(crate::proofs::StatementFacts::first_of_longer))]
 fn hold_by(alloc: Global, statement: &Statement) -> Result<Hold, HoldFault>
     requires { statement.now.verb ≡ verb.Hold }
     ensures hold { IfOk result (λ hold. hold_of statement.now ≡ Some hold) }
@@ -78,7 +79,7 @@ fn hold_by(alloc: Global, statement: &Statement) -> Result<Hold, HoldFault>
     let class = optional_id(line, given.class)?;
     let resolver = optional_id(line, given.resolver)?;
     let dated = optional_date(line, given.date)?;
-    let categories = categories_in(alloc, line, operands)?;
+    let categories = categories_in(alloc, line, given.category, operands)?;
     Ok(Hold {
         key,
         fmid,
@@ -91,7 +92,7 @@ fn hold_by(alloc: Global, statement: &Statement) -> Result<Hold, HoldFault>
 
 // The key of the hold that a `++RELEASE` statement takes away. The FMID plays no role in that, but has to be
 // an id where it is given.
-#[tactic(auto, using(crate::proofs::StatementLemmas::first_of_longer))]
+#[tactic(auto, using(crate::proofs::StatementFacts::first_of_longer))]
 fn released_by(statement: &Statement) -> Result<HoldKey, HoldFault>
     requires { statement.now.verb ≡ verb.Release }
     ensures key { IfOk result (λ key. key_named statement.now ≡ Some key) }
@@ -104,19 +105,67 @@ fn released_by(statement: &Statement) -> Result<HoldKey, HoldFault>
     Ok(key)
 }
 
-// The categories that operands give, in ascending order, each once.
-#[tactic(auto, using(crate::proofs::CategoryLemmas::in_order_allowed))]
-fn categories_in(alloc: Global, line: u32, operands: &[Operand]) -> Result<Categories, HoldFault>
+// The categories that operands give, in ascending order, each once. Only several have to be put in order.
+fn categories_in(
+    alloc: Global,
+    line: u32,
+    given: Given<&[u8]>,
+    operands: &[Operand],
+) -> Result<Categories, HoldFault>
+    requires { Shows given (values_of (codes "CATEGORY") (operand_texts operands.now)) }
     ensures categories { IfOk result (λ categories. categories ≡ in_order (values_of (codes "CATEGORY") (operand_texts operands.now))) }
     ensures good { OnOk result (list_all is_category (values_of (codes "CATEGORY") (operand_texts operands.now)) ≡ true) }
     ensures bad { IfErr result (IsRefusal Memory (λ fault.
         (fault ≡ BadCategory line) × (list_all is_category (values_of (codes "CATEGORY") (operand_texts operands.now)) ≡ false))) }
 {
-    if !are_categories_given(operands) {
+    match given {
+        Given::Nothing => Ok(Categories::new(alloc)),
+        Given::One(text) => one_category(alloc, line, text),
+        Given::Several => several_categories(alloc, line, operands),
+    }
+}
+
+fn one_category(alloc: Global, line: u32, text: &[u8]) -> Result<Categories, HoldFault>
+    ensures categories { IfOk result (λ categories. categories ≡ text.now ∷ []) }
+    ensures good { OnOk result (is_category text.now ≡ true) }
+    ensures bad { IfErr result (IsRefusal Memory (λ fault. (fault ≡ BadCategory line) × (is_category text.now ≡ false))) }
+{
+    if !is_category(text) {
         return Err(HoldFault::BadCategory(line));
     }
-    let texts = category_set(alloc, operands)?;
-    Ok(Categories::from_set(alloc, &texts)?)
+    Ok(Categories::from_one(alloc, text)?)
+}
+
+fn several_categories(
+    alloc: Global,
+    line: u32,
+    operands: &[Operand],
+) -> Result<Categories, HoldFault>
+    ensures categories { IfOk result (λ categories. categories ≡ in_order (values_of (codes "CATEGORY") (operand_texts operands.now))) }
+    ensures good { OnOk result (list_all is_category (values_of (codes "CATEGORY") (operand_texts operands.now)) ≡ true) }
+    ensures bad { IfErr result (IsRefusal Memory (λ fault.
+        (fault ≡ BadCategory line) × (list_all is_category (values_of (codes "CATEGORY") (operand_texts operands.now)) ≡ false))) }
+{
+    let values = category_values(alloc, operands)?;
+    put_in_order(alloc, line, values.as_slice())
+}
+
+// Categories in ascending order, each once. Most come so.
+#[tactic(auto, using(crate::proofs::CategoryFacts::in_order_allowed, crate::proofs::CategoryFacts::in_order_already, crate::proofs::CategoryFacts::all_allowed))]
+fn put_in_order(alloc: Global, line: u32, values: &[&[u8]]) -> Result<Categories, HoldFault>
+    ensures categories { IfOk result (λ categories. categories ≡ in_order (bytes_of_each values.now)) }
+    ensures good { OnOk result (list_all is_category (bytes_of_each values.now) ≡ true) }
+    ensures bad { IfErr result (IsRefusal Memory (λ fault.
+        (fault ≡ BadCategory line) × (list_all is_category (bytes_of_each values.now) ≡ false))) }
+{
+    if let Some(categories) = Categories::from_ascending(alloc, values)? {
+        return Ok(categories);
+    }
+    if !are_categories(values) {
+        return Err(HoldFault::BadCategory(line));
+    }
+    let set = category_set(alloc, values)?;
+    Ok(Categories::from_set(alloc, &set)?)
 }
 
 // The key that a statement names.

@@ -1,46 +1,19 @@
 use crate::{
     Categories, Date, Hold, HoldBook, HoldChange, HoldFault, HoldKey, Kind, book_left, changes,
 };
-use mcs_reader::{Id, Operand, Operands, Statement, Values, Verb, read};
+use mcs_reader::{Id, read};
 use std::alloc::Global;
 use std::test::Fail;
 
 const HEADING: &str = "SYSMOD   KIND    REASON   FMID     CLASS    DATE   RESOLVER CATEGORY\n";
 
-// An operand with at most one value: an empty text stands for none.
-type Given<'a> = (&'a [u8], &'a [u8]);
+const IN_ERROR: &str =
+    "++HOLD(UA10001) ERROR FMID(HBB7790) REASON(AA20002)\n CLASS(PE) DATE(12045).\n";
 
-const IN_ERROR: [Given<'static>; 5] = [
-    (b"ERROR", b""),
-    (b"FMID", b"HBB7790"),
-    (b"REASON", b"AA20002"),
-    (b"CLASS", b"PE"),
-    (b"DATE", b"12045"),
-];
-
-// `++HOLD(UA10001)` with these operands.
-fn statement<'a>(alloc: Global, line: u32, given: &[Given<'a>]) -> Result<Statement<'a>, Fail> {
-    let mut operands = Vec::new(alloc);
-    for (name, value) in given {
-        let mut values = Vec::new(alloc);
-        if !value.is_empty() {
-            values.push(*value)?;
-        }
-        operands.push(Operand {
-            name: *name,
-            values: Values::from_vec(values),
-        })?;
-    }
-    Ok(Statement {
-        verb: Verb::Hold,
-        subject: Id::new(b"UA10001"),
-        operands: Operands::from_vec(operands),
-        line,
-    })
-}
-
-fn book_by(alloc: Global, statements: &[Statement]) -> Result<HoldBook, Fail> {
-    Ok(book_left(alloc, changes(alloc, statements)?)?)
+// The book that the statements of a source leave.
+fn book_by(alloc: Global, source: &[u8]) -> Result<HoldBook, Fail> {
+    let statements = read(alloc, source)?;
+    Ok(book_left(alloc, changes(alloc, &statements)?)?)
 }
 
 fn key(kind: Kind) -> Option<HoldKey> {
@@ -54,9 +27,9 @@ fn key(kind: Kind) -> Option<HoldKey> {
 #[test]
 fn a_book_prints_its_rows(rt: HostRuntime) -> Result<(), Fail> {
     let alloc = rt.alloc();
-    let none = book_by(alloc, &[])?.text()?;
+    let none = book_by(alloc, b"")?.text()?;
     assert_eq!(rt; none, format!(in alloc; "{HEADING}ROWS 0\n")?.into_bytes());
-    let one = book_by(alloc, &[statement(alloc, 1, &IN_ERROR)?])?.text()?;
+    let one = book_by(alloc, IN_ERROR.as_bytes())?.text()?;
     let row = "UA10001  ERROR   AA20002  HBB7790  PE       12045  -        -";
     assert_eq!(rt;
         one,
@@ -68,75 +41,29 @@ fn a_book_prints_its_rows(rt: HostRuntime) -> Result<(), Fail> {
 #[test]
 fn a_statement_with_a_fault_is_refused(rt: HostRuntime) -> Result<(), Fail> {
     let alloc = rt.alloc();
-    let cases: [(&[Given], u8); 14] = [
-        (&[(b"REASON", b"AA20002")], 11),
-        (
-            &[(b"ERROR", b""), (b"SYSTEM", b""), (b"REASON", b"AA20002")],
-            12,
-        ),
-        (&[(b"ERROR", b"")], 13),
-        (
-            &[(b"ERROR", b""), (b"REASON", b""), (b"FMID", b"hbb7790")],
-            13,
-        ),
-        (&[(b"ERROR", b""), (b"REASON", b"A"), (b"REASON", b"A")], 14),
-        (
-            &[(b"ERROR", b""), (b"REASON", b"A"), (b"FMID", b"HBB77901")],
-            14,
-        ),
-        (
-            &[(b"ERROR", b""), (b"REASON", b"A"), (b"CLASS", b"PE,")],
-            14,
-        ),
-        (
-            &[(b"ERROR", b""), (b"REASON", b"A"), (b"DATE", b"12367")],
-            15,
-        ),
-        (
-            &[(b"ERROR", b""), (b"REASON", b"A"), (b"DATE", b"012366")],
-            15,
-        ),
-        (
-            &[(b"ERROR", b""), (b"REASON", b"A"), (b"RESOLVER", b"ua1")],
-            14,
-        ),
-        (
-            &[
-                (b"ERROR", b""),
-                (b"REASON", b"A"),
-                (b"RESOLVER", b"UA1"),
-                (b"RESOLVER", b"UA1"),
-            ],
-            14,
-        ),
-        (
-            &[(b"ERROR", b""), (b"REASON", b"A"), (b"CATEGORY", b"A'B")],
-            16,
-        ),
-        (
-            &[
-                (b"ERROR", b""),
-                (b"REASON", b"A"),
-                (b"CATEGORY", b"A'B"),
-                (b"DATE", b"1"),
-            ],
-            15,
-        ),
-        (
-            &[
-                (b"ERROR", b""),
-                (b"REASON", b"A"),
-                (b"CATEGORY", b"A'B"),
-                (b"FMID", b"a"),
-            ],
-            14,
-        ),
+    let cases: [(&str, u8); 15] = [
+        ("REASON(AA20002)", 11),
+        ("ERROR SYSTEM REASON(AA20002)", 12),
+        ("ERROR", 13),
+        ("ERROR REASON FMID(hbb7790)", 13),
+        ("ERROR REASON() CATEGORY(A'B)", 13),
+        ("ERROR REASON(A) REASON(A)", 14),
+        ("ERROR REASON(A) FMID(HBB77901)", 14),
+        ("ERROR REASON(A) CLASS(P+E)", 14),
+        ("ERROR REASON(A) DATE(12367)", 15),
+        ("ERROR REASON(A) DATE(012366)", 15),
+        ("ERROR REASON(A) RESOLVER(ua1)", 14),
+        ("ERROR REASON(A) RESOLVER(UA1) RESOLVER(UA1)", 14),
+        ("ERROR REASON(A) CATEGORY(A'B)", 16),
+        ("ERROR REASON(A) CATEGORY(A'B) DATE(1)", 15),
+        ("ERROR REASON(A) CATEGORY(A'B) FMID(a)", 14),
     ];
-    for (given, number) in cases {
-        let statements = [statement(alloc, 1, &IN_ERROR)?, statement(alloc, 3, given)?];
+    for (operands, number) in cases {
+        let source = format!(in alloc; "{IN_ERROR}++HOLD(UA10001) {operands}.\n")?;
+        let statements = read(alloc, source.as_bytes())?;
         let fault = changes(alloc, &statements).err().ok_or("a fault")?;
-        assert_eq!(rt; fault.number(), number);
-        assert_eq!(rt; fault.line(), Some(3));
+        assert_eq!(rt; fault.number(), number, "{operands}");
+        assert_eq!(rt; fault.line(), Some(3), "{operands}");
     }
     let text = format!(in alloc; "{}", HoldFault::NoKind(3))?;
     assert_eq!(rt; text.as_str(), "line 3: the hold has no kind");
@@ -148,34 +75,29 @@ fn a_statement_with_a_fault_is_refused(rt: HostRuntime) -> Result<(), Fail> {
 #[test]
 fn other_spellings_are_accepted(rt: HostRuntime) -> Result<(), Fail> {
     let alloc = rt.alloc();
-    let cases: [(&[Given], Kind, Option<u32>); 3] = [
+    let cases: [(&[u8], Kind, Option<u32>); 3] = [
         (
-            &[(b"reason", b"AA20002"), (b"Err", b""), (b"error", b"X")],
+            b"++HOLD(UA10001) reason(AA20002) Err error(X).\n",
             Kind::ErrorHold,
             None,
         ),
         (
-            &[(b"SYS", b""), (b"Date", b"12366"), (b"REASON", b"AA20002")],
+            b"++HOLD(UA10001) SYS Date(12366) REASON(AA20002).\n",
             Kind::SystemHold,
             Some(12366),
         ),
         (
-            &[
-                (b"FIXCAT", b""),
-                (b"REASON", b"AA20002"),
-                (b"SMPTLIB", b"ua"),
-                (b"COMMENT", b"A'B"),
-            ],
+            b"++HOLD(UA10001) FIXCAT REASON(AA20002) SMPTLIB(ua) COMMENT(A'B).\n",
             Kind::FixcatHold,
             None,
         ),
     ];
-    for (given, kind, dated) in cases {
-        let book = book_by(alloc, &[statement(alloc, 1, given)?])?;
+    for (source, kind, dated) in cases {
+        let book = book_by(alloc, source)?;
         let hold = book.get(&key(kind).ok_or("a key")?).ok_or("a hold")?;
         assert_eq!(rt; hold.dated.map(Date::number), dated);
         assert!(rt; hold.resolver.is_none());
-        assert!(rt; hold.categories.as_slice().is_empty());
+        assert!(rt; hold.categories.is_empty());
     }
     Ok(())
 }
@@ -248,8 +170,7 @@ fn the_holds_on_one_sysmod(rt: HostRuntime) -> Result<(), Fail> {
     let alloc = rt.alloc();
     let source =
         b"++HOLD(B) USER REASON(Z).\n++HOLD(A) ERR REASON(Z).\n++HOLD(B) ERR REASON(Z).\n++HOLD(B) ERR REASON(#).\n++HOLD(B) FIXCAT REASON(ZZZZZZZ).\n++HOLD(BA) ERR REASON(A).\n++HOLD(C) ERR REASON(A).\n";
-    let statements = read(alloc, source)?;
-    let book = book_left(alloc, changes(alloc, &statements)?)?;
+    let book = book_by(alloc, source)?;
     for (sysmod, count) in [
         (b"A" as &[u8], 1),
         (b"B", 4),
@@ -275,19 +196,9 @@ fn the_holds_on_one_sysmod(rt: HostRuntime) -> Result<(), Fail> {
 #[test]
 fn the_last_change_of_a_key_decides(rt: HostRuntime) -> Result<(), Fail> {
     let alloc = rt.alloc();
-    let first = statement(alloc, 1, &IN_ERROR)?;
-    let user = statement(alloc, 2, &[(b"USER", b""), (b"REASON", b"AA20002")])?;
-    let last = statement(
-        alloc,
-        3,
-        &[
-            (b"ERROR", b""),
-            (b"REASON", b"AA20002"),
-            (b"CLASS", b"HIPER"),
-        ],
-    )?;
     let in_error = key(Kind::ErrorHold).ok_or("a key")?;
-    let mut book = book_by(alloc, &[user, first])?;
+    let user = format!(in alloc; "++HOLD(UA10001) USER REASON(AA20002).\n{IN_ERROR}")?;
+    let mut book = book_by(alloc, user.as_bytes())?;
     assert_eq!(rt; book.iter().count(), 2);
     let release = HoldChange::Release(in_error);
     book.apply(release.copy()?)?;
@@ -296,7 +207,11 @@ fn the_last_change_of_a_key_decides(rt: HostRuntime) -> Result<(), Fail> {
     assert!(rt; !book.is_empty());
     assert!(rt; book.get(&in_error).is_none());
     assert!(rt; book.get(&key(Kind::UserHold).ok_or("a key")?).is_some());
-    for change in changes(alloc, &[last])? {
+    let last = read(
+        alloc,
+        b"++HOLD(UA10001) ERROR REASON(AA20002) CLASS(HIPER).\n",
+    )?;
+    for change in changes(alloc, &last)? {
         book.apply(change)?;
     }
     let rows =
@@ -312,21 +227,24 @@ fn the_last_change_of_a_key_decides(rt: HostRuntime) -> Result<(), Fail> {
 #[test]
 fn a_book_takes_one_statement_after_the_other(rt: HostRuntime) -> Result<(), Fail> {
     let alloc = rt.alloc();
-    let in_error = statement(alloc, 1, &IN_ERROR)?;
-    let kindless = statement(alloc, 2, &[(b"REASON", b"AA20002")])?;
+    let in_error = read(alloc, IN_ERROR.as_bytes())?;
+    let kindless = read(alloc, b"\n++HOLD(UA10001) REASON(AA20002).\n")?;
     let mut book = HoldBook::new(alloc);
-    book.apply_statement(&in_error)?;
-    assert!(rt; book.apply_statement(&kindless) == Err(HoldFault::NoKind(2)));
-    assert_eq!(rt; book.text()?, book_by(alloc, &[in_error])?.text()?);
+    for statement in &in_error {
+        book.apply_statement(statement)?;
+    }
+    for statement in &kindless {
+        assert!(rt; book.apply_statement(statement) == Err(HoldFault::NoKind(2)));
+    }
+    assert_eq!(rt; book.text()?, book_by(alloc, IN_ERROR.as_bytes())?.text()?);
     Ok(())
 }
 
 #[test]
 fn a_hold_keeps_its_categories(rt: HostRuntime) -> Result<(), Fail> {
     let alloc = rt.alloc();
-    let device = b"IBM.Device".to_vec(alloc)?;
-    let server = b"IBM.Device.Server".to_vec(alloc)?;
-    let categories = Categories::from_vec(vec![in alloc; device, server]?).ok_or("categories")?;
+    let texts: [&[u8]; 2] = [b"IBM.Device", b"IBM.Device.Server"];
+    let categories = Categories::from_ascending(alloc, &texts)?.ok_or("categories")?;
     let hold = Hold {
         key: HoldKey {
             sysmod: Id::new(b"HBB7790").ok_or("an id")?,
@@ -340,7 +258,7 @@ fn a_hold_keeps_its_categories(rt: HostRuntime) -> Result<(), Fail> {
         categories,
     };
     let copy = hold.copy()?;
-    assert_eq!(rt; copy.categories.as_slice(), hold.categories.as_slice());
+    assert_eq!(rt; copy.categories.joined(), hold.categories.joined());
     let mut book = HoldBook::new(alloc);
     book.apply(HoldChange::Put(hold))?;
     let row =
@@ -349,7 +267,7 @@ fn a_hold_keeps_its_categories(rt: HostRuntime) -> Result<(), Fail> {
         book.text()?,
         format!(in alloc; "{HEADING}{row}\nROWS 1\n")?.into_bytes()
     );
-    assert_eq!(rt; copy.categories.into_vec().len(), 2);
+    assert_eq!(rt; copy.categories.to_list()?.as_slice(), texts.as_slice());
     Ok(())
 }
 
@@ -358,17 +276,17 @@ fn categories_ascend_and_are_allowed(rt: HostRuntime) -> Result<(), Fail> {
     let alloc = rt.alloc();
     let refused: [&[&[u8]]; 5] = [&[b""], &[b"A'B"], &[b"A B"], &[b"B", b"A"], &[b"A", b"A"]];
     for texts in refused {
-        let mut items = Vec::new(alloc);
-        for text in texts {
-            items.push(text.to_vec(alloc)?)?;
-        }
-        assert!(rt; Categories::from_vec(items).is_none());
+        assert!(rt; Categories::from_ascending(alloc, texts)?.is_none());
     }
     for (len, accepted) in [(64, true), (65, false)] {
-        let mut items = Vec::new(alloc);
-        items.push(vec![in alloc; b'x'; len]?)?;
-        assert_eq!(rt; Categories::from_vec(items).is_some(), accepted);
+        let text = vec![in alloc; b'x'; len]?;
+        assert_eq!(rt;
+            Categories::from_ascending(alloc, &[text.as_slice()])?.is_some(),
+            accepted
+        );
     }
-    assert!(rt; Categories::new(alloc).into_vec().is_empty());
+    let none = Categories::from_ascending(alloc, &[])?.ok_or("no categories")?;
+    assert!(rt; none.is_empty() && none.to_list()?.is_empty());
+    assert!(rt; Categories::new(alloc).is_empty());
     Ok(())
 }

@@ -1,7 +1,7 @@
 use Rattle.std.proofs.Common.{List, []}
 use Rattle.std.proofs.lemmas.Result.{IfOk-weaker}
 use Rattle.holddata.specs.declared.hold.Hold.{Hold}
-use Rattle.holddata.proofs.BookLaws.{book_of_is_left, book_of_only}
+use Rattle.holddata.proofs.BookFacts.{book_of_is_left, book_of_only}
 use Rattle.holddata.proofs.book.book_left.Goals as goal
 
 pub returns-clause-book : goal.returns-clause-book

@@ -1,7 +1,8 @@
 use Rattle.std.proofs.Common.{◌≡◌, ◌∷◌, drop}
-use Rattle.holddata.specs.Categories.{ascends, texts_of}
+use Rattle.mcs_reader.specs.Bytes.{bytes_of_each}
+use Rattle.holddata.specs.Categories.{ascends}
 use Rattle.holddata.proofs.categories.are_ascending.Given as goal
 
 -- the answer is that of the last text seen and those to come
-abbrev pub invariant-loop-item : goal.invariant-loop-item
-invariant-loop-item l = ascends (l.below.items ∷ texts_of (drop l.item-index l.rest)) ≡ ascends (texts_of l.items)
+abbrev pub invariant-loop-text : goal.invariant-loop-text
+invariant-loop-text l = ascends (l.below ∷ bytes_of_each (drop l.text-index l.rest)) ≡ ascends (bytes_of_each l.texts)

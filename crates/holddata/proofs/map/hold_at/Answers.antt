@@ -3,8 +3,8 @@ use Rattle.std.specs.declared.cmp.Ordering.{Ordering}
 use Rattle.std.specs.BTreeMap.{get}
 use Rattle.holddata.specs.declared.place.BookPlace.{BookPlace}
 use Rattle.holddata.specs.BookPlace.{place_cmp}
-use Rattle.holddata.proofs.PlaceOrder.{derived_order}
-use Rattle.holddata.proofs.BookLemmas.{hold_under_is}
+use Rattle.holddata.proofs.PlaceFacts.{derived_order}
+use Rattle.holddata.proofs.EntryFacts.{hold_under_is}
 use Rattle.holddata.proofs.map.hold_at.Goals as goal
 
 pub returns : goal.returns

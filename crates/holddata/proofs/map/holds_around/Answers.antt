@@ -6,8 +6,8 @@ use Rattle.std.specs.BTreeMap.Range.{entries_between}
 use Rattle.std.specs.Map.{values_of}
 use Rattle.holddata.specs.declared.place.BookPlace.{BookPlace}
 use Rattle.holddata.specs.BookPlace.{before_all, place_cmp}
-use Rattle.holddata.proofs.PlaceOrder.{derived_order, before_after}
-use Rattle.holddata.proofs.BookLemmas.{holds_between}
+use Rattle.holddata.proofs.PlaceFacts.{derived_order, before_after}
+use Rattle.holddata.proofs.EntryFacts.{holds_between}
 use Rattle.holddata.proofs.map.holds_around.Goals as goal
 
 pub range-requires : goal.range-requires

@@ -5,7 +5,7 @@ use Rattle.std.proofs.lemmas.Result.{on_ok_weaker}
 use Rattle.holddata.specs.declared.hold.HoldChange.{HoldChange}
 use Rattle.holddata.specs.declared.hold.HoldChange.TheVariants.{Put, Release}
 use Rattle.holddata.specs.HoldBook.{IsChanged}
-use Rattle.holddata.proofs.BookLemmas.{is_changed}
+use Rattle.holddata.proofs.EntryFacts.{is_changed}
 use Rattle.holddata.proofs.map.make_change.Goals as goal
 
 pub returns-in-Put-clause-changed : goal.returns-in-Put-clause-changed

@@ -3,8 +3,8 @@ use Rattle.std.specs.declared.cmp.Ordering.{Ordering}
 use Rattle.std.specs.BTreeMap.{get, insert_entry, is_at, IsOrdered}
 use Rattle.holddata.specs.declared.place.BookPlace.{BookPlace}
 use Rattle.holddata.specs.BookPlace.{IsPlaced, place_cmp}
-use Rattle.holddata.proofs.BookLemmas.{placed_insert, under_updated}
-use Rattle.holddata.proofs.PlaceOrder.{derived_order}
+use Rattle.holddata.proofs.EntryFacts.{placed_insert, under_updated}
+use Rattle.holddata.proofs.PlaceFacts.{derived_order}
 use Rattle.holddata.proofs.map.put.Goals as goal
 
 pub returns-in_err-insert-clause-ordered : goal.returns-in_err-insert-clause-ordered

@@ -4,8 +4,8 @@ use Rattle.std.specs.BTreeMap.{get, is_at, IsOrdered}
 use Rattle.std.specs.Map.{remove_entry}
 use Rattle.holddata.specs.declared.place.BookPlace.{BookPlace}
 use Rattle.holddata.specs.BookPlace.{IsPlaced, place_of, place_cmp}
-use Rattle.holddata.proofs.BookLemmas.{placed_remove, under_updated}
-use Rattle.holddata.proofs.PlaceOrder.{derived_order}
+use Rattle.holddata.proofs.EntryFacts.{placed_remove, under_updated}
+use Rattle.holddata.proofs.PlaceFacts.{derived_order}
 use Rattle.holddata.proofs.map.release.Goals as goal
 
 pub returns-clause-ordered : goal.returns-clause-ordered

@@ -3,7 +3,7 @@ use Rattle.std.specs.Option.{option_to_list}
 use Rattle.mcs_reader.specs.Operand.{operand_text}
 use Rattle.holddata.specs.Operands.{kinds_of}
 use Rattle.holddata.specs.Given.{Shows, ShowsKinds}
-use Rattle.holddata.proofs.OperandLemmas.{kinds_then, values_then}
+use Rattle.holddata.proofs.OperandFacts.{kinds_then, values_then}
 use Rattle.holddata.proofs.operands.gather.Goals as goal
 
 pub returns : goal.returns
@@ -18,4 +18,5 @@ returns c seen given =
       class = subst (Shows c.with_named-given-3.result) (values_then (codes "CLASS") seen operand) (c.with_named-given-3.ensures _ given.class);
       resolver = subst (Shows c.with_named-given-4.result) (values_then (codes "RESOLVER") seen operand) (c.with_named-given-4.ensures _ given.resolver);
       date = subst (Shows c.with_named-given-5.result) (values_then (codes "DATE") seen operand) (c.with_named-given-5.ensures _ given.date);
+      category = subst (Shows c.with_named-given-6.result) (values_then (codes "CATEGORY") seen operand) (c.with_named-given-6.ensures _ given.category);
     }

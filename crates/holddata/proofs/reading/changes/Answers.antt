@@ -4,8 +4,8 @@ use Rattle.faults.specs.Refusal.{IsRefusal}
 use Rattle.holddata.specs.declared.fault.HoldFault.{HoldFault}
 use Rattle.holddata.specs.declared.fault.HoldFault.TheVariants.{Memory}
 use Rattle.holddata.specs.Statements.{faults_of, first_fault}
-use Rattle.holddata.proofs.StatementLemmas.{first_of_longer}
-use Rattle.holddata.proofs.CategoryLemmas.{in_order_is}
+use Rattle.holddata.proofs.StatementFacts.{first_of_longer}
+use Rattle.holddata.proofs.CategoryFacts.{in_order_is}
 use Rattle.holddata.proofs.reading.changes.Goals as goal
 
 pub returns-in_err-change-clause-fault : goal.returns-in_err-change-clause-fault

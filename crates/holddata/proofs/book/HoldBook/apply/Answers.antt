@@ -5,8 +5,8 @@ use Rattle.std.proofs.lemmas.Result.{on_ok_weaker}
 use Rattle.holddata.specs.declared.hold.Hold.{Hold}
 use Rattle.holddata.specs.declared.hold.HoldChange.{HoldChange}
 use Rattle.holddata.specs.HoldBook.{IsChanged, IsLeft, book_of}
-use Rattle.holddata.proofs.BookLaws.{book_of_more, left_after}
-use Rattle.holddata.proofs.BookLemmas.{holds_in_order}
+use Rattle.holddata.proofs.BookFacts.{book_of_more, left_after}
+use Rattle.holddata.proofs.EntryFacts.{holds_in_order}
 use Rattle.holddata.proofs.book.HoldBook.apply.Goals as goal
 
 pub returns-clause-changed : goal.returns-clause-changed

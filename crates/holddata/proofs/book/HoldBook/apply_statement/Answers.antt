@@ -2,7 +2,7 @@ use Rattle.std.proofs.Common.{List, sym, ◌∙◌, ap, subst}
 use Rattle.holddata.specs.declared.hold.HoldChange.{HoldChange}
 use Rattle.holddata.specs.HoldBook.{IsLeft, book_of}
 use Rattle.holddata.specs.Statements.{changes_of}
-use Rattle.holddata.proofs.StatementLemmas.{changes_more, changes_same, none_left}
+use Rattle.holddata.proofs.StatementFacts.{changes_more, changes_same, none_left}
 use Rattle.holddata.proofs.book.HoldBook.apply_statement.Goals as goal
 
 pub returns-in_ok-apply-clause-left : goal.returns-in_ok-apply-clause-left

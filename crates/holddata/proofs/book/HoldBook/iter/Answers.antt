@@ -1,6 +1,6 @@
 use Rattle.std.proofs.Common.{subst}
 use Rattle.holddata.specs.HoldBook.{IsInKeyOrder}
-use Rattle.holddata.proofs.BookLemmas.{holds_in_order}
+use Rattle.holddata.proofs.EntryFacts.{holds_in_order}
 use Rattle.holddata.proofs.book.HoldBook.iter.Goals as goal
 
 pub returns-clause-in_key_order : goal.returns-clause-in_key_order

@@ -20,7 +20,7 @@ left c before was =
     let len : into_iter_len c.into_iter-change-iterator.result ≡ length sorted = search rules in
     let end = YieldsList-end (YieldsList-from_vec sorted given.0 len) c.loop-change.yielded c.loop-change.change-iterator c.loop-change.yielded_by c.next.result c.next.new.self c.in-None.is c.next.ensures.steps in
     let all : c.loop-change.yielded ≡ sorted = sym (map_itself c.loop-change.yielded) ∙ end.0 in
-    left_by c.loop-change.book before c.args.changes.items sorted c.sort_by_key.ensures
+    left_by c.loop-change.book before c.args.changes.items sorted c.sort_by_key.ensures.same
     (subst (λ (changes : List HoldChange). IsLeft (before ++ changes) c.loop-change.book) all (c.loop-change.invariant before was))
 
 pub returns-clause-left : goal.returns-clause-left

@@ -1,23 +1,19 @@
 -- On texts in ascending order, each once.
-use Rattle.std.proofs.Common.{◌≡◌, ℕ, suc, ◌+◌, ◌<◌, Bool, true, false, ◌||◌, ◌&&◌, List, [], ◌∷◌, ◌++◌, length, drop, get_or, refl, sym, ◌∙◌, ap, add-one, drop-cons}
+use Rattle.std.proofs.Common.{◌≡◌, ℕ, suc, ◌+◌, ◌<◌, Bool, true, false, ◌||◌, ◌&&◌, List, [], ◌∷◌, ◌++◌, length, drop, get_or, refl, sym, ◌∙◌, ap, add-one, drop-cons, append-nil, append_assoc}
 use Rattle.std.specs.Borrow.{Bor}
 use Rattle.std.specs.declared.cmp.Ordering.{Ordering}
 use Rattle.std.specs.declared.cmp.Ordering.TheVariants.{Less, Equal, Greater}
-use Rattle.std.specs.Ordering.{match_ordering, nat_cmp, is_lt}
+use Rattle.std.specs.Ordering.{match_ordering, nat_cmp, is_lt, ordering_reverse}
 use Rattle.std.specs.Cmp.Lexicographic.{slice_cmp, nat_list_cmp_total}
-use Rattle.std.specs.List.{list_all, list_any}
+use Rattle.std.specs.List.{list_all, list_any, AllByRecursion}
 use Rattle.std.specs.List.Sorted.{IsStrictlySortedBy}
 use Rattle.std.specs.Str.{bytes_eq}
 use Rattle.std.specs.BTreeSet.{insert_key}
 use Rattle.std.proofs.lemmas.Map.Lookups.{exact_bytes}
-use Rattle.std.proofs.lemmas.List.Folds.{list_all-append}
 use Rattle.mcs_reader.specs.Bytes.{bytes_of_each}
-use Rattle.mcs_reader.specs.declared.statement.Operand.{Operand}
-use Rattle.mcs_reader.specs.Operand.{operand_text, operand_texts}
-use Rattle.holddata.specs.Operands.{named_values, values_of}
 use Rattle.mcs_reader.specs.Category.{is_category}
 use Rattle.holddata.specs.Categories.{ascends, are_categories, with_each, in_order, IsInOrder}
-use Rattle.holddata.proofs.InsertLemmas.{any_insert, every_insert, sorted_insert}
+use Rattle.holddata.proofs.InsertFacts.{all_below, any_insert, every_insert, sorted_insert}
 
 -- a slice put among others, and their bytes
 pub bytes_inserted : (keys : List (Bor (List ℕ))) (key : Bor (List ℕ)) → bytes_of_each (insert_key (λ x y. slice_cmp nat_cmp x.now y.now) keys key) ≡ insert_key (slice_cmp nat_cmp) (bytes_of_each keys) key.now
@@ -28,10 +24,6 @@ bytes_inserted (x ∷ xs) key = by (bytes_inserted xs key) (slice_cmp nat_cmp ke
     by rest Less = refl
     by rest Equal = refl
     by rest Greater = ap (λ ks. x.now ∷ ks) rest
-
-pub with_each-append : (kept xs ys : List (List ℕ)) → with_each kept (xs ++ ys) ≡ with_each (with_each kept xs) ys
-with_each-append kept [] ys = refl
-with_each-append kept (x ∷ xs) ys = with_each-append (insert_key (slice_cmp nat_cmp) kept x) xs ys
 
 sorted_each : (kept texts : List (List ℕ)) → IsStrictlySortedBy (slice_cmp nat_cmp) kept → IsStrictlySortedBy (slice_cmp nat_cmp) (with_each kept texts)
 sorted_each kept [] h = h
@@ -89,29 +81,6 @@ value_added keys more values i d below is =
     ∙ ap (λ ks. with_each ks (bytes_of_each (drop (suc i) values))) (bytes_inserted keys (get_or values i d))
     ∙ sym (ap (λ vs. with_each (bytes_of_each keys) (bytes_of_each vs)) (drop-cons values i d below))
 
--- the values of the operands from one on
-values_from : (name : List ℕ) (operands : List Operand) (i : ℕ) (operand : Operand) → i < length operands → operand ≡ get_or operands i operand
-    → values_of name (operand_texts (drop i operands)) ≡ named_values name (operand_text operand) ++ values_of name (operand_texts (drop (i + 1) operands))
-values_from name operands i operand below is =
-    ap (λ os. values_of name (operand_texts os)) (drop-cons operands i operand below ∙ ap (λ o. o ∷ drop (suc i) operands) (sym is))
-    ∙ ap (λ n. named_values name (operand_text operand) ++ values_of name (operand_texts (drop n operands))) (sym (add-one i))
-
-pub operand_added : (name : List ℕ) (operands : List Operand) (i : ℕ) (operand : Operand) (kept more values : List (List ℕ)) → i < length operands → operand ≡ get_or operands i operand
-    → more ≡ with_each kept values → values ≡ named_values name (operand_text operand)
-    → with_each more (values_of name (operand_texts (drop (i + 1) operands))) ≡ with_each kept (values_of name (operand_texts (drop i operands)))
-operand_added name operands i operand kept more values below is adds gives =
-    ap (λ ks. with_each ks (values_of name (operand_texts (drop (i + 1) operands)))) (adds ∙ ap (with_each kept) gives)
-    ∙ sym (with_each-append kept (named_values name (operand_text operand)) (values_of name (operand_texts (drop (i + 1) operands))))
-    ∙ sym (ap (with_each kept) (values_from name operands i operand below is))
-
-pub operand_tested : (name : List ℕ) (operands : List Operand) (i : ℕ) (operand : Operand) (values : List (List ℕ)) → i < length operands → operand ≡ get_or operands i operand
-    → values ≡ named_values name (operand_text operand)
-    → list_all is_category (values_of name (operand_texts (drop i operands))) ≡ (list_all is_category values && list_all is_category (values_of name (operand_texts (drop (i + 1) operands))))
-operand_tested name operands i operand values below is gives =
-    ap (list_all is_category) (values_from name operands i operand below is)
-    ∙ list_all-append is_category (named_values name (operand_text operand)) (values_of name (operand_texts (drop (i + 1) operands)))
-    ∙ ap (λ vs. list_all is_category vs && list_all is_category (values_of name (operand_texts (drop (i + 1) operands)))) (sym gives)
-
 -- texts in order are what they should be
 pub in_order_is : (texts : List (List ℕ)) → IsInOrder texts (in_order texts)
 in_order_is texts = record { ascending = in_order_ascends texts; same = λ text. any_each (bytes_eq text) [] texts }
@@ -119,3 +88,59 @@ in_order_is texts = record { ascending = in_order_ascends texts; same = λ text.
 pub in_order_allowed : (texts : List (List ℕ)) → list_all is_category texts ≡ true → are_categories (in_order texts) ≡ true
 in_order_allowed texts h =
     ap (λ b. b && ascends (in_order texts)) (every_each is_category [] texts refl h) ∙ in_order_ascends texts
+
+-- ---- texts that ascend are in order already
+
+both_first : (a b : Bool) → (a && b) ≡ true → a ≡ true
+both_first true b h = refl
+both_first false b h = cc
+
+both_last : (a b : Bool) → (a && b) ≡ true → b ≡ true
+both_last true b h = h
+both_last false b h = cc
+
+less_by : (o : Ordering) → is_lt o ≡ true → o ≡ Less
+less_by Less h = refl
+less_by Equal h = cc
+less_by Greater h = cc
+
+tail_ascends : (x : List ℕ) (xs : List (List ℕ)) → ascends (x ∷ xs) ≡ true → ascends xs ≡ true
+tail_ascends x [] h = refl
+tail_ascends x (y ∷ xs) h = both_last (is_lt (slice_cmp nat_cmp x y)) (ascends (y ∷ xs)) h
+
+below_rest : (x : List ℕ) (xs : List (List ℕ)) → ascends (x ∷ xs) ≡ true → AllByRecursion (λ y. slice_cmp nat_cmp x y ≡ Less) xs
+below_rest x [] h = tt
+below_rest x (y ∷ xs) h =
+    let less = less_by (slice_cmp nat_cmp x y) (both_first (is_lt (slice_cmp nat_cmp x y)) (ascends (y ∷ xs)) h) in
+    (less, all_below nat_list_cmp_total x y xs less (below_rest y xs (both_last (is_lt (slice_cmp nat_cmp x y)) (ascends (y ∷ xs)) h)))
+
+at_front : (P : List ℕ → Type 0) (xs : List (List ℕ)) (y : List ℕ) (ys : List (List ℕ)) → AllByRecursion P (xs ++ y ∷ ys) → P y
+at_front P [] y ys h = h.0
+at_front P (x ∷ xs) y ys h = at_front P xs y ys h.1
+
+front_below : (kept : List (List ℕ)) (text : List ℕ) (texts : List (List ℕ)) → ascends (kept ++ text ∷ texts) ≡ true → AllByRecursion (λ k. slice_cmp nat_cmp k text ≡ Less) kept
+front_below [] text texts h = tt
+front_below (k ∷ kept) text texts h = (
+  at_front (λ y. slice_cmp nat_cmp k y ≡ Less) kept text texts (below_rest k (kept ++ text ∷ texts) h),
+  front_below kept text texts (tail_ascends k (kept ++ text ∷ texts) h),
+)
+
+put_last : (kept : List (List ℕ)) (text : List ℕ) → AllByRecursion (λ k. slice_cmp nat_cmp k text ≡ Less) kept → insert_key (slice_cmp nat_cmp) kept text ≡ kept ++ text ∷ []
+put_last [] text h = refl
+put_last (k ∷ kept) text h =
+    ap (λ o. match_ordering o (text ∷ k ∷ kept) (k ∷ kept) (k ∷ insert_key (slice_cmp nat_cmp) kept text)) (nat_list_cmp_total.antisymm text k ∙ ap ordering_reverse h.0)
+    ∙ ap (λ ks. k ∷ ks) (put_last kept text h.1)
+
+each_last : (kept texts : List (List ℕ)) → ascends (kept ++ texts) ≡ true → with_each kept texts ≡ kept ++ texts
+each_last kept [] h = sym (append-nil kept)
+each_last kept (text ∷ texts) h =
+    let on : (kept ++ text ∷ []) ++ texts ≡ kept ++ text ∷ texts = append_assoc kept (text ∷ []) texts in
+    ap (λ ks. with_each ks texts) (put_last kept text (front_below kept text texts h))
+    ∙ each_last (kept ++ text ∷ []) texts (ap ascends on ∙ h)
+    ∙ on
+
+pub in_order_already : (texts : List (List ℕ)) → are_categories texts ≡ true → in_order texts ≡ texts
+in_order_already texts h = each_last [] texts (both_last (list_all is_category texts) (ascends texts) h)
+
+pub all_allowed : (texts : List (List ℕ)) → are_categories texts ≡ true → list_all is_category texts ≡ true
+all_allowed texts h = both_first (list_all is_category texts) (ascends texts) h

@@ -20,8 +20,8 @@ use Rattle.holddata.specs.HoldKey.{is_same_key}
 use Rattle.holddata.specs.HoldChange.{key_of, names, hold_put, hold_left}
 use Rattle.holddata.specs.HoldBook.{keys_in, hold_under, holds_on, IsChanged, IsLeft, IsInKeyOrder}
 use Rattle.holddata.specs.BookPlace.{place_of, place_cmp, before_all, after_all, IsPlaced}
-use Rattle.holddata.proofs.KeyOrder.{exact_keys, same_key, itself, differ, others_differ}
-use Rattle.holddata.proofs.PlaceOrder.{at_place, place_order, keys_in_order, around}
+use Rattle.holddata.proofs.KeyFacts.{exact_keys, same_key, itself, differ, others_differ}
+use Rattle.holddata.proofs.PlaceFacts.{at_place, place_order, keys_in_order, around}
 
 pub placed_tail : (e : BookPlace × Hold) (es : List (BookPlace × Hold)) → IsPlaced (e ∷ es) → IsPlaced es
 placed_tail e es h = cc

@@ -16,9 +16,9 @@ use Rattle.holddata.specs.declared.hold.HoldChange.TheVariants.{Put, Release}
 use Rattle.holddata.specs.HoldKey.{key_cmp, is_same_key}
 use Rattle.holddata.specs.HoldChange.{key_of, names, hold_put, hold_left}
 use Rattle.holddata.specs.HoldBook.{keys_in, hold_under, keys_named, book_of, IsChanged, IsLeft, IsInKeyOrder}
-use Rattle.holddata.proofs.KeyOrder.{exact_keys, keys_total, same_is, same_key, itself, turned_same}
-use Rattle.holddata.proofs.InsertLemmas.{any_insert, all_below, sorted_insert, turned}
-use Rattle.holddata.proofs.BookLemmas.{left_more, under_each}
+use Rattle.holddata.proofs.KeyFacts.{exact_keys, keys_total, same_is, same_key, itself, turned_same}
+use Rattle.holddata.proofs.InsertFacts.{any_insert, all_below, sorted_insert, turned}
+use Rattle.holddata.proofs.EntryFacts.{left_more, under_each}
 
 -- ---- keys in order
 
@@ -92,7 +92,7 @@ any_named (change ∷ changes) key =
     ∙ ap (λ b. b || list_any (is_same_key key) (keys_named changes)) (turned_same key (key_of change))
     ∙ ap (λ b. names key change || b) (any_named changes key)
 
-none_found : (test : HoldChange → Bool) (changes : List HoldChange) → list_any test changes ≡ false → find test (reverse changes) ≡ None
+pub none_found : (test : HoldChange → Bool) (changes : List HoldChange) → list_any test changes ≡ false → find test (reverse changes) ≡ None
 none_found test [] h = refl
 none_found test (change ∷ changes) h =
     ap (find test) (reverse-append (change ∷ []) changes)

@@ -3,9 +3,9 @@ use Rattle.std.proofs.Common.{◌≡◌, ℕ, List, [], ◌∷◌, ◌++◌, ap,
 use Rattle.std.specs.List.{join_with_byte, flat_map}
 
 -- each text with a comma before it
-abbrev pub each_behind_comma : List (List ℕ) → List ℕ
-each_behind_comma texts = flat_map (λ text. 44 ∷ text) texts
+abbrev pub each_after_comma : List (List ℕ) → List ℕ
+each_after_comma texts = flat_map (λ text. 44 ∷ text) texts
 
-pub join_is : (first : List ℕ) (rest : List (List ℕ)) → first ++ each_behind_comma rest ≡ join_with_byte 44 (first ∷ rest)
+pub join_is : (first : List ℕ) (rest : List (List ℕ)) → first ++ each_after_comma rest ≡ join_with_byte 44 (first ∷ rest)
 join_is first [] = append-nil first
 join_is first (next ∷ rest) = ap (λ text. first ++ 44 ∷ text) (join_is next rest)

@@ -22,7 +22,7 @@ use Rattle.holddata.specs.contracts.place.RankOrd.TheImpl as ranks
 use Rattle.holddata.specs.contracts.place.BookPlaceOrd.TheImpl as places
 use Rattle.holddata.specs.HoldKey.{kind_cmp, key_cmp, is_same_key}
 use Rattle.holddata.specs.BookPlace.{rank_of, rank_number, place_of, place_cmp, before_all, after_all}
-use Rattle.holddata.proofs.KeyOrder.{same_is}
+use Rattle.holddata.proofs.KeyFacts.{same_is}
 
 derived_ranks : (a b : Rank) → ranks.cmp-value.it a b ≡ nat_cmp (rank_number a) (rank_number b)
 derived_ranks rank.BeforeAll rank.BeforeAll = refl
