@@ -15,8 +15,8 @@ use Rattle.holddata.specs.declared.hold.HoldChange.TheVariants.{Put}
 use Rattle.holddata.specs.HoldKey.{key_cmp, is_same_key}
 use Rattle.holddata.specs.HoldChange.{names, hold_put, hold_left}
 use Rattle.holddata.specs.HoldBook.{keys_in, hold_under, book_of, IsInKeyOrder}
-use Rattle.holddata.proofs.BookLaws.{book_of_is_left, book_of_only}
-use Rattle.holddata.proofs.KeyOrder.{same_is, same_key, turned_same}
+use Rattle.holddata.proofs.BookFacts.{book_of_is_left, book_of_only}
+use Rattle.holddata.proofs.KeyFacts.{same_is, same_key, turned_same}
 
 -- ---- how keys are compared
 

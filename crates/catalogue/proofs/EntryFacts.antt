@@ -14,9 +14,9 @@ use Rattle.catalogue.specs.Changes.{records_in, hold_changes_in}
 use Rattle.catalogue.specs.Content.{ids_in}
 use Rattle.catalogue.specs.Ids.{id_cmp, same_id, Ascend}
 use Rattle.catalogue.specs.ListPublished.{IsKeyed}
-use Rattle.catalogue.proofs.IdOrder.{exact_ids, same_is, same_back}
-use Rattle.catalogue.proofs.PublicationLaws.{records_append, hold_changes_append}
-use Rattle.catalogue.proofs.RecordLaws.{found}
+use Rattle.catalogue.proofs.IdFacts.{exact_ids, same_is, same_back}
+use Rattle.catalogue.proofs.PublicationFacts.{records_append, hold_changes_append}
+use Rattle.catalogue.proofs.RecordFacts.{found}
 
 abbrev pub Records : Type 0
 Records = BTreeMap (List ℕ) Sysmod

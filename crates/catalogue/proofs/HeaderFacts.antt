@@ -1,19 +1,21 @@
 -- The ids that values and operands give, from one place on.
-use Rattle.std.proofs.Common.{◌≡◌, ℕ, ◌+◌, ◌<◌, true, false, ◌||◌, List, [], ◌∷◌, ◌++◌, length, drop, get_or, refl, sym, ◌∙◌, ap, add-one, drop-cons, Bor}
-use Rattle.std.specs.Prelude.{Some, None, is_none}
+use Rattle.std.proofs.Common.{◌≡◌, ℕ, Bool, codes, inl, inr, ◌+◌, ◌<◌, ◌≤◌, true, false, ◌||◌, List, [], ◌∷◌, ◌++◌, length, drop, get_or, refl, sym, ◌∙◌, ap, subst, add-one, drop-cons}
 use Rattle.std.specs.BTreeSet.{insert_key}
-use Rattle.std.specs.List.{cons_option, filter_map, list_any}
+use Rattle.std.specs.List.{filter_map, list_any}
+use Rattle.std.proofs.Math.ListN.{drop_of_length-le}
 use Rattle.std.proofs.lemmas.List.Elements.{filter_map-append}
 use Rattle.std.proofs.lemmas.List.Folds.{list_any-append}
 use Rattle.std.proofs.lemmas.List.Sums.{fold-append}
-use Rattle.mcs_reader.specs.Bytes.{bytes_of_each}
 use Rattle.mcs_reader.specs.Id.{id_of}
 use Rattle.mcs_reader.specs.Operand.{operand_text, operand_texts}
 use Rattle.mcs_reader.specs.declared.statement.Operand.{Operand}
-use Rattle.holddata.specs.Operands.{values_of}
+use Rattle.mcs_reader.specs.declared.statement.Statement.{Statement}
+use Rattle.holddata.specs.Operands.{named_values, values_of}
+use Rattle.faults.specs.Refusal.{IsRefusal}
+use Rattle.catalogue.specs.declared.fault.CatFault.{CatFault}
+use Rattle.catalogue.specs.declared.fault.CatFault.TheVariants.{BadId, Memory}
 use Rattle.catalogue.specs.Ids.{id_cmp, put_among}
-use Rattle.catalogue.specs.Opened.{values_under}
-use Rattle.catalogue.specs.Reading.{is_no_id}
+use Rattle.catalogue.specs.Reading.{gives_no_id, has_bad_id, ids_given, is_no_id}
 
 -- what is put, and whether a value is no id, of all values of a list
 pub record Puts (keys values : List (List ℕ)) (all_keys all_values : List (List ℕ)) : Type 0 where
@@ -43,23 +45,79 @@ pub bad_front : (keys front rest all_keys all_values : List (List ℕ)) → Puts
 bad_front keys front rest all_keys all_values puts bad =
     sym (sym (list_any-append is_no_id front rest ∙ ap (λ b. b || list_any is_no_id rest) bad) ∙ puts.bad)
 
--- ---- values
-
-pub values_rest : (values : List (Bor (List ℕ))) (i : ℕ) (value : Bor (List ℕ)) → i < length values → value ≡ get_or values i value
-    → bytes_of_each (drop i values) ≡ (value.now ∷ []) ++ bytes_of_each (drop (i + 1) values)
-values_rest values i value below at = ap bytes_of_each (rest_at values i value below at)
-
-pub put_one : (keys : List (List ℕ)) (value id : List ℕ) → id_of value ≡ Some id → insert_key id_cmp keys id ≡ put_among keys (filter_map id_of (value ∷ []))
-put_one keys value id is = ap (λ o. put_among keys (cons_option o [])) (sym is)
-
-pub good_one : (value id : List ℕ) → id_of value ≡ Some id → list_any is_no_id (value ∷ []) ≡ false
-good_one value id is = ap (λ o. is_none o || false) is
-
-pub bad_one : (value : List ℕ) → id_of value ≡ None → list_any is_no_id (value ∷ []) ≡ true
-bad_one value is = ap (λ o. is_none o || false) is
-
 -- ---- operands
 
-pub operands_rest : (name : List ℕ) (operands : List Operand) (i : ℕ) (operand : Operand) → i < length operands → operand ≡ get_or operands i operand
-    → values_of name (operand_texts (drop i operands)) ≡ values_under name (operand_text operand) ++ values_of name (operand_texts (drop (i + 1) operands))
+-- what the operands from one place on put, of all operands
+abbrev pub PutsFrom : List ℕ → List Operand → ℕ → List (List ℕ) → List (List ℕ) → Type 0
+PutsFrom name operands i keys all_keys = Puts keys (values_of name (operand_texts (drop i operands))) all_keys (values_of name (operand_texts operands))
+
+operands_rest : (name : List ℕ) (operands : List Operand) (i : ℕ) (operand : Operand) → i < length operands → operand ≡ get_or operands i operand
+    → values_of name (operand_texts (drop i operands)) ≡ named_values name (operand_text operand) ++ values_of name (operand_texts (drop (i + 1) operands))
 operands_rest name operands i operand below at = ap (λ os. values_of name (operand_texts os)) (rest_at operands i operand below at)
+
+pub puts_operand : (name : List ℕ) (operands : List Operand) (i : ℕ) (operand : Operand) (keys new all_keys : List (List ℕ)) → i < length operands → operand ≡ get_or operands i operand
+    → PutsFrom name operands i keys all_keys
+    → new ≡ put_among keys (filter_map id_of (named_values name (operand_text operand))) → list_any is_no_id (named_values name (operand_text operand)) ≡ false
+    → PutsFrom name operands (i + 1) new all_keys
+puts_operand name operands i operand keys new all_keys below at puts now good =
+    let all = values_of name (operand_texts operands) in
+    puts_front keys new (named_values name (operand_text operand)) (values_of name (operand_texts (drop (i + 1) operands))) all_keys all
+    (subst (λ values. Puts keys values all_keys all) (operands_rest name operands i operand below at) puts) now good
+
+-- an operand with a value that is no id
+bad_operand : (name : List ℕ) (operands : List Operand) (i : ℕ) (operand : Operand) (keys all_keys : List (List ℕ)) → i < length operands → operand ≡ get_or operands i operand
+    → PutsFrom name operands i keys all_keys
+    → list_any is_no_id (named_values name (operand_text operand)) ≡ true → list_any is_no_id (values_of name (operand_texts operands)) ≡ true
+bad_operand name operands i operand keys all_keys below at puts bad =
+    let all = values_of name (operand_texts operands) in
+    bad_front keys (named_values name (operand_text operand)) (values_of name (operand_texts (drop (i + 1) operands))) all_keys all
+    (subst (λ values. Puts keys values all_keys all) (operands_rest name operands i operand below at) puts) bad
+
+-- ---- a `++VER` statement
+
+-- its operands are read to the end
+pub read_whole : (name : List ℕ) (operands : List Operand) (ver : Statement) (i : ℕ) (keys all_keys : List (List ℕ)) → operand_texts operands ≡ ver.operands → length operands ≤ i
+    → PutsFrom name operands i keys all_keys → (keys ≡ put_among all_keys (ids_given name ver)) × (gives_no_id ver name ≡ false)
+read_whole name operands ver i keys all_keys are passed puts = (
+  ended.ids ∙ ap (λ os. put_among all_keys (filter_map id_of (values_of name os))) are,
+  sym (ended.bad ∙ ap (λ os. list_any is_no_id (values_of name os)) are),
+)
+  where
+    ended : Puts keys [] all_keys (values_of name (operand_texts operands))
+    ended = subst (λ rest. Puts keys (values_of name (operand_texts rest)) all_keys (values_of name (operand_texts operands))) (drop_of_length-le operands passed) puts
+
+-- one of its operands has a value that is no id
+gives_bad : (name : List ℕ) (operands : List Operand) (ver : Statement) (i : ℕ) (operand : Operand) (keys all_keys : List (List ℕ)) → operand_texts operands ≡ ver.operands
+    → i < length operands → operand ≡ get_or operands i operand → PutsFrom name operands i keys all_keys
+    → list_any is_no_id (named_values name (operand_text operand)) ≡ true → gives_no_id ver name ≡ true
+gives_bad name operands ver i operand keys all_keys are below at puts bad =
+    sym (ap (λ os. list_any is_no_id (values_of name os)) are) ∙ bad_operand name operands i operand keys all_keys below at puts bad
+
+left_true : (a b : Bool) → a ≡ true → (a || b) ≡ true
+left_true a b h = ap (λ x. x || b) h
+
+right_true : (a b : Bool) → b ≡ true → (a || b) ≡ true
+right_true true b h = refl
+right_true false b h = h
+
+pub bad_fmid : (ver : Statement) → gives_no_id ver (codes "FMID") ≡ true → has_bad_id ver ≡ true
+bad_fmid ver bad = left_true _ _ (left_true _ _ (left_true _ _ bad))
+
+pub bad_pre : (ver : Statement) → gives_no_id ver (codes "PRE") ≡ true → has_bad_id ver ≡ true
+bad_pre ver bad = left_true _ _ (left_true _ _ (right_true (gives_no_id ver (codes "FMID")) _ bad))
+
+pub bad_req : (ver : Statement) → gives_no_id ver (codes "REQ") ≡ true → has_bad_id ver ≡ true
+bad_req ver bad = left_true _ _ (right_true (gives_no_id ver (codes "FMID") || gives_no_id ver (codes "PRE")) _ bad)
+
+pub bad_sup : (ver : Statement) → gives_no_id ver (codes "SUP") ≡ true → has_bad_id ver ≡ true
+bad_sup ver bad = right_true (gives_no_id ver (codes "FMID") || gives_no_id ver (codes "PRE") || gives_no_id ver (codes "REQ")) _ bad
+
+-- it is refused for one of its operands
+pub refused : (name : List ℕ) (operands : List Operand) (ver : Statement) (i : ℕ) (operand : Operand) (keys all_keys : List (List ℕ)) (fault : CatFault)
+    → operand_texts operands ≡ ver.operands → i < length operands → operand ≡ get_or operands i operand → PutsFrom name operands i keys all_keys
+    → (gives_no_id ver name ≡ true → has_bad_id ver ≡ true)
+    → IsRefusal Memory (λ f. (f ≡ BadId ver.line) × (list_any is_no_id (named_values name (operand_text operand)) ≡ true)) fault
+    → IsRefusal Memory (λ f. (f ≡ BadId ver.line) × (has_bad_id ver ≡ true)) fault
+refused name operands ver i operand keys all_keys fault are below at puts counts (inl memory) = inl memory
+refused name operands ver i operand keys all_keys fault are below at puts counts (inr bad) =
+    inr (bad.0, counts (gives_bad name operands ver i operand keys all_keys are below at puts bad.1))

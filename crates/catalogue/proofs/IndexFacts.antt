@@ -13,12 +13,12 @@ use Rattle.catalogue.specs.declared.sysmod.Sysmod.{Sysmod}
 use Rattle.catalogue.specs.Content.{ids_in, sup_names}
 use Rattle.catalogue.specs.Ids.{id_cmp, same_id, Ascend}
 use Rattle.catalogue.specs.ListPublished.{listed}
-use Rattle.catalogue.proofs.IdOrder.{one_id, same_is, same_back, apart_back}
+use Rattle.catalogue.proofs.IdFacts.{one_id, same_is, same_back, apart_back}
 
 abbrev pub Lists : Type 0
 Lists = BTreeMap (List ℕ) (Vec (List ℕ))
 
--- what stands under one id is replaced by the same with an id behind it
+-- what stands under one id is replaced by the same with an id after it
 pub put_under : (old new : Lists) (under id : List ℕ) (ids : Vec (List ℕ)) → ids.items ≡ listed (get id_cmp old under) ++ id ∷ []
     → ((q : List ℕ) → get id_cmp new q ≡ cond (is_at (id_cmp under) q) (Some ids) (get id_cmp old q))
     → (q : List ℕ) → listed (get id_cmp new q) ≡ (if same_id under q then listed (get id_cmp old q) ++ id ∷ [] else listed (get id_cmp old q))

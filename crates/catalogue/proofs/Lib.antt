@@ -1,13 +1,14 @@
 mod Examples
-pub mod IdOrder
-pub mod RecordLaws
-pub mod SupersedeLaws
+pub mod IdFacts
+pub mod RecordFacts
+pub mod SupersedeFacts
+pub mod TouchingFacts
 pub mod TouchedFacts
-pub mod TouchedLaws
 pub mod BookFacts
 pub mod EntryFacts
 pub mod HeaderFacts
 pub mod IndexFacts
-pub mod PublicationLaws
-pub mod ReadingLaws
-pub mod Sources
+pub mod PublicationFacts
+pub mod ReadingFacts
+pub mod AskedFacts
+pub mod SourceFacts

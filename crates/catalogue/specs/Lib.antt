@@ -6,6 +6,7 @@ pub mod Touched
 pub mod SourceFault
 pub mod CatFault
 pub mod Reading
+pub mod Asked
 pub mod Opened
 pub mod Published
 pub mod ListPublished

@@ -20,7 +20,7 @@ last_of sysmods id = find (is_of id) (reverse sysmods)
 abbrev pub catalogue_of : List Sysmod → List Sysmod
 catalogue_of sysmods = filter_map (last_of sysmods) (in_order (ids_in sysmods))
 
--- the content behind a publication: for each id the last record among the old ones and those that are published,
+-- the content after a publication: for each id the last record among the old ones and those that are published,
 -- and the book that the old holds and then the changes to them leave
 abbrev pub after : Content → List Change → Content
 after content changes = record {

@@ -120,18 +120,18 @@ first_fault begun (statement ∷ statements) =
 -- ---- one statement at a time
 
 -- what was read so far: what stands before the last header, the record of that header, if there is one, as far as it
--- was read, and what its holds do that stand behind it
+-- was read, and what its holds do that stand after it
 pub record Begun : Type 0 where
   pub before : List Change
   pub open_record : Option Sysmod
-  pub behind : List Change
+  pub after : List Change
 
 abbrev pub nothing_begun : Begun
-nothing_begun = record { before = []; open_record = None; behind = [] }
+nothing_begun = record { before = []; open_record = None; after = [] }
 
 -- the changes of what was read
 abbrev pub changes_in : Begun → List Change
-changes_in begun = begun.before ++ (option_to_list (option_map Whole begun.open_record) ++ begun.behind)
+changes_in begun = begun.before ++ (option_to_list (option_map Whole begun.open_record) ++ begun.after)
 
 -- the record with what one more `++VER` statement says
 abbrev pub with_ver : Statement → Sysmod → Sysmod
@@ -142,15 +142,15 @@ with_ver ver sysmod = record sysmod {
   sup = put_among sysmod.sup (ids_given (codes "SUP") ver);
 }
 
--- one more statement is read: a header ends what was read so far, a VER belongs to the open record, a hold stands behind
+-- one more statement is read: a header ends what was read so far, a VER belongs to the open record, a hold stands after
 abbrev pub with_part : Part → Statement → Begun → Begun
 with_part (Header kind) statement begun = record {
   before = changes_in begun;
   open_record = option_map (λ id. record_by kind id []) statement.subject;
-  behind = [];
+  after = [];
 }
 with_part More statement begun = record begun { open_record = option_map (with_ver statement) begun.open_record }
-with_part OnHold statement begun = record begun { behind = begun.behind ++ option_to_list (option_map OfHold (holddata.change_of statement)) }
+with_part OnHold statement begun = record begun { after = begun.after ++ option_to_list (option_map OfHold (holddata.change_of statement)) }
 
 abbrev pub with_statement : Begun → Statement → Begun
 with_statement begun statement = with_part (part_of statement) statement begun

@@ -1,4 +1,4 @@
--- What a publication touches: every id of which the record, the direct superseders or the ERROR holds may differ behind it.
+-- What a publication touches: every id of which the record, the direct superseders or the ERROR holds may differ after it.
 use Rattle.std.specs.Prelude.{◌≡◌, ℕ, List, [], ◌∷◌, ◌++◌, Option, Some, None, Contains}
 use Rattle.std.specs.List.{flat_map}
 use Rattle.holddata.specs.declared.key.Kind.{Kind}

@@ -1,13 +1,14 @@
 //! A SYSMOD that was begun.
-ghost use Rattle.std.specs.Prelude.{◌≡◌, ◌≢◌, ◌++◌, [], true, false, IfOk, OnOk, IfErr};
+ghost use Rattle.std.specs.Prelude.{◌≡◌, ◌++◌, [], true, false, IfOk, OnOk, IfErr};
+ghost use Rattle.faults.specs.Refusal.{IsRefusal};
 ghost use Rattle.mcs_reader.specs.Bytes.{bytes_of_each};
 ghost use Rattle.mcs_reader.specs.Id.{id_of};
 ghost use Rattle.mcs_reader.specs.Operand.{operand_text, operand_texts};
 ghost use Rattle.std.specs.List.{filter_map, list_any};
-ghost use Rattle.holddata.specs.Operands.{values_of};
+ghost use Rattle.holddata.specs.Operands.{named_values};
 ghost use Rattle.catalogue.specs.declared.fault.CatFault.TheVariants.{BadId, Memory};
 ghost use Rattle.catalogue.specs.Ids.{put_among};
-ghost use Rattle.catalogue.specs.Opened.{sysmod_opened, values_under};
+ghost use Rattle.catalogue.specs.Opened.{sysmod_opened};
 ghost use Rattle.catalogue.specs.Reading.{has_bad_id, is_no_id, record_by, with_ver};
 
 use crate::{CatFault, Ids, NoMemory, Sysmod, SysmodKind};
@@ -45,9 +46,8 @@ impl Open {
     pub(crate) fn with(self, ver: &Statement) -> Result<Self, CatFault>
         ensures read { IfOk result (λ now. sysmod_opened now ≡ with_ver ver.now (sysmod_opened self)) }
         ensures no_fault { OnOk result (has_bad_id ver.now ≡ false) }
-        ensures fault { IfErr result (λ fault. fault ≢ Memory → (fault ≡ BadId ver.now.line) × (has_bad_id ver.now ≡ true)) }
+        ensures fault { IfErr result (IsRefusal Memory (λ fault. (fault ≡ BadId ver.now.line) × (has_bad_id ver.now ≡ true))) }
     {
-        let operands = ver.operands.as_slice();
         let line = ver.line;
         let Open {
             id,
@@ -57,10 +57,13 @@ impl Open {
             mut req,
             mut sup,
         } = self;
-        put_ids(&mut fmids, line, operands, b"FMID")?;
-        put_ids(&mut pre, line, operands, b"PRE")?;
-        put_ids(&mut req, line, operands, b"REQ")?;
-        put_ids(&mut sup, line, operands, b"SUP")?;
+        let operands = ver.operands.as_slice();
+        for operand in operands {
+            put_operand(&mut fmids, line, operand, b"FMID")?;
+            put_operand(&mut pre, line, operand, b"PRE")?;
+            put_operand(&mut req, line, operand, b"REQ")?;
+            put_operand(&mut sup, line, operand, b"SUP")?;
+        }
         Ok(Open {
             id,
             kind,
@@ -94,24 +97,6 @@ impl Open {
     }
 }
 
-// Puts the ids that operands of a name give among the others.
-fn put_ids(
-    ids: &mut BTreeSet<Id>,
-    line: u32,
-    operands: &[Operand],
-    name: &[u8],
-) -> Result<(), CatFault>
-    ensures ids { OnOk result (ids.new.keys ≡ put_among ids.old.keys (filter_map id_of (values_of name.now (operand_texts operands.now)))) }
-    ensures no_fault { OnOk result (list_any is_no_id (values_of name.now (operand_texts operands.now)) ≡ false) }
-    ensures fault { IfErr result (λ fault. fault ≢ Memory → (fault ≡ BadId line)
-        × (list_any is_no_id (values_of name.now (operand_texts operands.now)) ≡ true)) }
-{
-    for operand in operands {
-        put_operand(ids, line, operand, name)?;
-    }
-    Ok(())
-}
-
 // Puts the ids of an operand among the others if it has the name.
 fn put_operand(
     ids: &mut BTreeSet<Id>,
@@ -119,10 +104,10 @@ fn put_operand(
     operand: &Operand,
     name: &[u8],
 ) -> Result<(), CatFault>
-    ensures ids { OnOk result (ids.new.keys ≡ put_among ids.old.keys (filter_map id_of (values_under name.now (operand_text operand.now)))) }
-    ensures no_fault { OnOk result (list_any is_no_id (values_under name.now (operand_text operand.now)) ≡ false) }
-    ensures fault { IfErr result (λ fault. fault ≢ Memory → (fault ≡ BadId line)
-        × (list_any is_no_id (values_under name.now (operand_text operand.now)) ≡ true)) }
+    ensures ids { OnOk result (ids.new.keys ≡ put_among ids.old.keys (filter_map id_of (named_values name.now (operand_text operand.now)))) }
+    ensures no_fault { OnOk result (list_any is_no_id (named_values name.now (operand_text operand.now)) ≡ false) }
+    ensures fault { IfErr result (IsRefusal Memory (λ fault. (fault ≡ BadId line)
+        × (list_any is_no_id (named_values name.now (operand_text operand.now)) ≡ true))) }
 {
     if !operand.name.eq_ignore_ascii_case(name) {
         return Ok(());
@@ -134,8 +119,8 @@ fn put_operand(
 fn put_values(ids: &mut BTreeSet<Id>, line: u32, values: &[&[u8]]) -> Result<(), CatFault>
     ensures ids { OnOk result (ids.new.keys ≡ put_among ids.old.keys (filter_map id_of (bytes_of_each values.now))) }
     ensures no_fault { OnOk result (list_any is_no_id (bytes_of_each values.now) ≡ false) }
-    ensures fault { IfErr result (λ fault. fault ≢ Memory → (fault ≡ BadId line)
-        × (list_any is_no_id (bytes_of_each values.now) ≡ true)) }
+    ensures fault { IfErr result (IsRefusal Memory (λ fault. (fault ≡ BadId line)
+        × (list_any is_no_id (bytes_of_each values.now) ≡ true))) }
 {
     for value in values {
         let id = Id::new(value).ok_or(CatFault::BadId(line))?;

@@ -45,7 +45,7 @@ fn list_superseder(alloc: Global, index: &mut Index, sysmod: &Sysmod) -> Result<
     Ok(())
 }
 
-// Lists an id behind those that stand under another.
+// Lists an id after those that stand under another.
 fn list_under(alloc: Global, index: &mut Index, under: Id, id: Id) -> Result<(), NoMemory>
     ensures { OnOk result ((q : List ℕ) → listed (get id_cmp index.new q)
         ≡ (if same_id under q then listed (get id_cmp index.old q) ++ id ∷ [] else listed (get id_cmp index.old q))) }

@@ -5,6 +5,7 @@
 //! `Publication` and `Touched`.
 #![tactic(auto)]
 
+mod asked;
 mod change;
 mod fault;
 mod header;
@@ -18,6 +19,7 @@ mod sysmod;
 mod tests;
 mod touching;
 
+pub use asked::publication_operands;
 pub use change::Change;
 pub use fault::{CatFault, SourceFault};
 pub use ids::Ids;

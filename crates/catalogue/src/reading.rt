@@ -1,6 +1,7 @@
 //! From statements to changes.
-ghost use Rattle.std.specs.Prelude.{◌≡◌, ◌≢◌, ◌++◌, false, List, [], Option, Some, None, is_some, IfOk, OnOk, IfErr};
+ghost use Rattle.std.specs.Prelude.{◌≡◌, ◌++◌, false, List, [], Option, Some, None, is_some, IfOk, OnOk, IfErr};
 ghost use Rattle.std.specs.List.{fold};
+ghost use Rattle.faults.specs.Refusal.{IsRefusal};
 ghost use Rattle.holddata.specs.Statements.{first_of};
 ghost use Rattle.mcs_reader.specs.declared.statement.Statement.{Statement};
 ghost use Rattle.catalogue.specs.declared.fault.CatFault.TheVariants.{Memory};
@@ -25,7 +26,7 @@ use std::marker::Model;
 pub fn read_changes(alloc: Global, statements: &[Statement]) -> Result<Vec<Change>, CatFault>
     ensures changes { IfOk result (λ changes. changes.items ≡ changes_of statements.now) }
     ensures no_fault { OnOk result (first_fault false statements.now ≡ None) }
-    ensures fault { IfErr result (λ fault. fault ≢ Memory → first_fault false statements.now ≡ Some fault) }
+    ensures fault { IfErr result (IsRefusal Memory (λ fault. first_fault false statements.now ≡ Some fault)) }
 {
     let mut reader = ChangeReader::new(alloc);
     for statement in statements {
@@ -41,7 +42,7 @@ pub struct ChangeReader {
     alloc: Global,
     before: Vec<Change>,
     header: Option<Open>,
-    behind: Vec<Change>,
+    after: Vec<Change>,
 }
 
 impl Model for ChangeReader {
@@ -50,7 +51,7 @@ impl Model for ChangeReader {
 
     ghost Value = { Begun };
 
-    ghost view = { λ reader. record { before = reader.before.items; open_record = record_opened reader.header; behind = reader.behind.items } };
+    ghost view = { λ reader. record { before = reader.before.items; open_record = record_opened reader.header; after = reader.after.items } };
 }
 
 impl ChangeReader {
@@ -62,7 +63,7 @@ impl ChangeReader {
             alloc,
             before: Vec::new(alloc),
             header: None,
-            behind: Vec::new(alloc),
+            after: Vec::new(alloc),
         }
     }
 
@@ -74,7 +75,7 @@ impl ChangeReader {
     pub fn take(self, statement: &Statement) -> Result<Self, CatFault>
         ensures read { IfOk result (λ now. now ≡ with_statement self statement.now) }
         ensures no_fault { OnOk result (faults_of (is_some self.open_record) statement.now ≡ []) }
-        ensures fault { IfErr result (λ fault. fault ≢ Memory → first_of (faults_of (is_some self.open_record) statement.now) ≡ Some fault) }
+        ensures fault { IfErr result (IsRefusal Memory (λ fault. first_of (faults_of (is_some self.open_record) statement.now) ≡ Some fault)) }
     {
         match statement.verb {
             Verb::Func => self.begin(SysmodKind::Func, statement),
@@ -99,14 +100,14 @@ impl ChangeReader {
             changes_in (fold with_statement nothing_begun statements) ≡ changes_of statements) }
         ensures headers { OnOk result HeadersOpen }
     {
-        Ok(closed(self.alloc, self.before, self.header, self.behind)?)
+        Ok(closed(self.alloc, self.before, self.header, self.after)?)
     }
 
     // A header ends what was read so far.
     fn begin(self, kind: SysmodKind, statement: &Statement) -> Result<Self, CatFault>
         ensures read { IfOk result (λ now. now ≡ with_part (Header kind) statement.now self) }
         ensures no_fault { OnOk result (faults_by (Header kind) (is_some self.open_record) statement.now ≡ []) }
-        ensures fault { IfErr result (λ fault. fault ≢ Memory → first_of (faults_by (Header kind) (is_some self.open_record) statement.now) ≡ Some fault) }
+        ensures fault { IfErr result (IsRefusal Memory (λ fault. first_of (faults_by (Header kind) (is_some self.open_record) statement.now) ≡ Some fault)) }
     {
         let Some(id) = statement.subject else {
             return Err(CatFault::BadId(statement.line));
@@ -114,9 +115,9 @@ impl ChangeReader {
         let alloc = self.alloc;
         Ok(ChangeReader {
             alloc,
-            before: closed(self.alloc, self.before, self.header, self.behind)?,
+            before: closed(self.alloc, self.before, self.header, self.after)?,
             header: Some(Open::new(alloc, id, kind)),
-            behind: Vec::new(alloc),
+            after: Vec::new(alloc),
         })
     }
 
@@ -124,13 +125,13 @@ impl ChangeReader {
     fn join(self, ver: &Statement) -> Result<Self, CatFault>
         ensures read { IfOk result (λ now. now ≡ with_part More ver.now self) }
         ensures no_fault { OnOk result (faults_by More (is_some self.open_record) ver.now ≡ []) }
-        ensures fault { IfErr result (λ fault. fault ≢ Memory → first_of (faults_by More (is_some self.open_record) ver.now) ≡ Some fault) }
+        ensures fault { IfErr result (IsRefusal Memory (λ fault. first_of (faults_by More (is_some self.open_record) ver.now) ≡ Some fault)) }
     {
         let ChangeReader {
             alloc,
             before,
             header,
-            behind,
+            after,
         } = self;
         let Some(header) = header else {
             return Err(CatFault::VerOutside(ver.line));
@@ -139,25 +140,25 @@ impl ChangeReader {
             alloc,
             before,
             header: Some(header.with(ver)?),
-            behind,
+            after,
         })
     }
 
-    // A hold or a release stands behind what was read.
+    // A hold or a release stands after what was read.
     fn hold(self, statement: &Statement) -> Result<Self, CatFault>
         ensures read { IfOk result (λ now. now ≡ with_part OnHold statement.now self) }
         ensures no_fault { OnOk result (faults_by OnHold (is_some self.open_record) statement.now ≡ []) }
-        ensures fault { IfErr result (λ fault. fault ≢ Memory → first_of (faults_by OnHold (is_some self.open_record) statement.now) ≡ Some fault) }
+        ensures fault { IfErr result (IsRefusal Memory (λ fault. first_of (faults_by OnHold (is_some self.open_record) statement.now) ≡ Some fault)) }
     {
-        let mut behind = self.behind;
+        let mut after = self.after;
         if let Some(change) = holddata::change(self.alloc, statement)? {
-            behind.push(Change::OfHold(change))?;
+            after.push(Change::OfHold(change))?;
         }
         Ok(ChangeReader {
             alloc: self.alloc,
             before: self.before,
             header: self.header,
-            behind,
+            after,
         })
     }
 }
@@ -167,16 +168,16 @@ fn closed(
     alloc: Global,
     before: Vec<Change>,
     header: Option<Open>,
-    behind: Vec<Change>,
+    after: Vec<Change>,
 ) -> Result<Vec<Change>, NoMemory>
     ensures { IfOk result (λ changes. changes.items
-        ≡ changes_in (record { before = before.items; open_record = record_opened header; behind = behind.items })) }
+        ≡ changes_in (record { before = before.items; open_record = record_opened header; after = after.items })) }
 {
     let mut changes = before;
-    let mut behind = behind;
+    let mut after = after;
     if let Some(header) = header {
         changes.push(Change::Whole(header.record(alloc)?))?;
     }
-    changes.append(&mut behind)?;
+    changes.append(&mut after)?;
     Ok(changes)
 }

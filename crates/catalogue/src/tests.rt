@@ -254,7 +254,7 @@ fn ids_are_made_of_lists_that_ascend(rt: HostRuntime) -> Result<(), Fail> {
         (&[a, a], false),
     ];
     for (list, ascends) in rows {
-        let ids = Ids::from_vec(Vec::from_slice(alloc, list)?);
+        let ids = Ids::from_ascending(Vec::from_slice(alloc, list)?);
         assert_eq!(rt; ids.is_some(), ascends);
         if let Some(ids) = ids {
             assert_eq!(rt; ids.copy()?.as_slice(), list);
@@ -269,13 +269,13 @@ fn ids_are_made_of_lists_that_ascend(rt: HostRuntime) -> Result<(), Fail> {
 #[test]
 fn long_publications_are_read_and_published(rt: HostRuntime) -> Result<(), Fail> {
     let alloc = rt.alloc();
-    assert_eq!(rt; vers_behind_one_header(alloc, 20_000)?, 20_000);
+    assert_eq!(rt; vers_after_one_header(alloc, 20_000)?, 20_000);
     assert_eq!(rt; superseders_of_one(alloc, 20_000)?, (20_000, 20_001));
     assert_eq!(rt; one_again(alloc, 20_000)?.as_str(), " S0");
     Ok(())
 }
 
-fn vers_behind_one_header(alloc: Global, rows: u32) -> Result<usize, Fail> {
+fn vers_after_one_header(alloc: Global, rows: u32) -> Result<usize, Fail> {
     let mut reader = taken(ChangeReader::new(alloc), alloc, b"++PTF(UA1).\n")?;
     for i in 0..rows {
         let ver = format!(in alloc; "++VER(Z038) PRE(P{i}) SUP(AA1).\n")?;
@@ -328,9 +328,10 @@ fn ptf(alloc: Global, number: u32, superseded: u32) -> Result<Change, Fail> {
         fmids: Ids::new(alloc),
         pre: Ids::new(alloc),
         req: Ids::new(alloc),
-        sup: Ids::from_vec(Vec::from_slice(alloc, &[numbered(alloc, 'S', superseded)?])?).ok_or(
-            "it ascends",
-        )?,
+        sup: Ids::from_ascending(Vec::from_slice(
+            alloc,
+            &[numbered(alloc, 'S', superseded)?],
+        )?).ok_or("it ascends")?,
     }))
 }
 

@@ -12,7 +12,7 @@ use Rattle.holddata.specs.declared.hold.Hold.{Hold}
 use Rattle.zone_lists.specs.declared.zones.ZoneRow.{ZoneRow}
 use Rattle.catalogue.specs.Content.{Content}
 use Rattle.catalogue.specs.Ids.{in_order, same_id}
-use Rattle.catalogue.proofs.IdOrder.{in_order_any, itself}
+use Rattle.catalogue.proofs.IdFacts.{in_order_any, itself}
 use Rattle.supersede.specs.Giving.{is_there}
 use Rattle.supersede.specs.Reach.{has}
 use Rattle.reports.specs.ErrRows.{by_fmid, err_rows_of, err_rows_of_hold}

@@ -7,14 +7,14 @@ use Rattle.std.proofs.lemmas.Bool.{cases_Bool}
 use Rattle.std.proofs.lemmas.List.{map-append, take_more}
 use Rattle.std.proofs.lemmas.List.Elements.{filter-append}
 use Rattle.std.proofs.lemmas.List.Sums.{fold-append}
-use Rattle.std.specs.Global.{Vec}
-use Rattle.holddata.specs.Categories.{texts_of}
+use Rattle.std.specs.Borrow.{Bor}
+use Rattle.mcs_reader.specs.Bytes.{bytes_of_each}
 use Rattle.holddata.specs.declared.hold.Hold.{Hold}
 use Rattle.zone_lists.specs.Pattern.{does_match}
 use Rattle.zone_lists.specs.declared.zones.ZoneRow.{ZoneRow}
 use Rattle.catalogue.specs.Content.{Content}
 use Rattle.catalogue.specs.Ids.{in_order, same_id}
-use Rattle.catalogue.proofs.IdOrder.{in_order_any, itself}
+use Rattle.catalogue.proofs.IdFacts.{in_order_any, itself}
 use Rattle.supersede.specs.Giving.{is_there}
 use Rattle.supersede.specs.Reach.{has}
 use Rattle.reports.specs.MissingFound.{both_of, held_cmp, held_in_order, missing_held, put_held, resolvers_in, row_found, row_told, rows_by, rows_each, rows_found, rows_of, rows_with, unless_resolver_there, unless_there}
@@ -39,22 +39,22 @@ asked_on patterns hold first more =
     ap (map (λ category. record { category = category; hold = hold })) (filter-append (λ category. list_any (λ pattern. does_match pattern category) patterns) first more)
     ∙ map-append (λ category. record { category = category; hold = hold }) _ _
 
-pub asked_more : (patterns : List (List ℕ)) (hold : Hold) (texts : List (Vec ℕ)) (i : ℕ) (text : Vec ℕ) (keys old new : List MissingHeld) (b : Bool) → i < length texts → text ≡ get_or texts i text
-    → old ≡ put_held keys (asked_among patterns hold (texts_of (take i texts)))
-    → b ≡ list_any (λ pattern. does_match pattern text.items) patterns
-    → new ≡ (if b then insert_key held_cmp old (missing_held (record { category = text.items; hold = hold })) else old)
-    → new ≡ put_held keys (asked_among patterns hold (texts_of (take (i + 1) texts)))
+pub asked_more : (patterns : List (List ℕ)) (hold : Hold) (texts : List (Bor (List ℕ))) (i : ℕ) (text : Bor (List ℕ)) (keys old new : List MissingHeld) (b : Bool) → i < length texts → text ≡ get_or texts i text
+    → old ≡ put_held keys (asked_among patterns hold (bytes_of_each (take i texts)))
+    → b ≡ list_any (λ pattern. does_match pattern text.now) patterns
+    → new ≡ (if b then insert_key held_cmp old (missing_held (record { category = text.now; hold = hold })) else old)
+    → new ≡ put_held keys (asked_among patterns hold (bytes_of_each (take (i + 1) texts)))
 asked_more patterns hold texts i text keys old new b below at was is now =
     now
     ∙ by b (sym is)
-    ∙ ap (λ front. put_held front (asked_among patterns hold (text.items ∷ []))) was
-    ∙ sym (put_held_on keys (asked_among patterns hold (texts_of (take i texts))) (asked_among patterns hold (text.items ∷ [])))
-    ∙ ap (put_held keys) (sym (asked_on patterns hold (texts_of (take i texts)) (text.items ∷ [])))
-    ∙ ap (λ categories. put_held keys (asked_among patterns hold categories)) (sym (map-append (λ (item : Vec ℕ). item.items) (take i texts) (text ∷ [])))
-    ∙ ap (λ items. put_held keys (asked_among patterns hold (texts_of items))) (sym (take_more texts i text below ∙ ap (λ t. take i texts ++ t ∷ []) (sym at)))
+    ∙ ap (λ front. put_held front (asked_among patterns hold (text.now ∷ []))) was
+    ∙ sym (put_held_on keys (asked_among patterns hold (bytes_of_each (take i texts))) (asked_among patterns hold (text.now ∷ [])))
+    ∙ ap (put_held keys) (sym (asked_on patterns hold (bytes_of_each (take i texts)) (text.now ∷ [])))
+    ∙ ap (λ categories. put_held keys (asked_among patterns hold categories)) (sym (map-append (λ (item : Bor (List ℕ)). item.now) (take i texts) (text ∷ [])))
+    ∙ ap (λ items. put_held keys (asked_among patterns hold (bytes_of_each items))) (sym (take_more texts i text below ∙ ap (λ t. take i texts ++ t ∷ []) (sym at)))
   where
-    by : (b : Bool) → list_any (λ pattern. does_match pattern text.items) patterns ≡ b
-        → (if b then insert_key held_cmp old (missing_held (record { category = text.items; hold = hold })) else old) ≡ put_held old (asked_among patterns hold (text.items ∷ []))
+    by : (b : Bool) → list_any (λ pattern. does_match pattern text.now) patterns ≡ b
+        → (if b then insert_key held_cmp old (missing_held (record { category = text.now; hold = hold })) else old) ≡ put_held old (asked_among patterns hold (text.now ∷ []))
     by true h = rw h refl
     by false h = rw h refl
 

@@ -15,7 +15,7 @@ use Rattle.holddata.specs.declared.hold.Hold.{Hold}
 use Rattle.zone_lists.specs.declared.zones.ZoneRow.{ZoneRow}
 use Rattle.catalogue.specs.Content.{Content, IsInOrder, ids_of}
 use Rattle.catalogue.specs.Ids.{Ascend, id_cmp}
-use Rattle.catalogue.proofs.IdOrder.{ids_total, in_order_ascends}
+use Rattle.catalogue.proofs.IdFacts.{ids_total, in_order_ascends}
 use Rattle.supersede.specs.Giving.{gives, is_candidate, is_there}
 use Rattle.reports.specs.ErrRows.{ErrRowsAscend, by_fmid, err_row, err_row_cmp, err_rows_of_hold, hold_cmp}
 use Rattle.reports.specs.MissingRows.{Missing, MissingRowsAscend, by_category, categories_asked, is_missing, missing_cmp, missing_row, missing_row_cmp, missing_rows_of_category, resolvers_by, resolvers_of}

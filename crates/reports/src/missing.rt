@@ -94,7 +94,8 @@ fn put_asked(
 ) -> Result<(), NoMemory>
     ensures { OnOk result (held.new.keys ≡ put_held held.old.keys (categories_asked patterns.now hold.now)) }
 {
-    for category in hold.categories.as_slice() {
+    let categories = hold.categories.to_list()?;
+    for category in &categories {
         if is_asked(patterns, category) {
             held.insert(held_of(alloc, category, hold)?)?;
         }

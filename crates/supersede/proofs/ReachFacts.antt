@@ -14,8 +14,8 @@ use Rattle.std.proofs.lemmas.Map.Views.{Contains-from_any, list_any-from_Contain
 use Rattle.std.specs.Cmp.Lexicographic.{nat_list_eq_equiv}
 use Rattle.catalogue.specs.Content.{Content, ids_of, superseders, Supersedes}
 use Rattle.catalogue.specs.Ids.{Ascend, id_cmp, put_among, same_id}
-use Rattle.catalogue.proofs.IdOrder.{any_insert, apart, exact_ids, ids_total, itself, one_id, turned}
-use Rattle.catalogue.proofs.SupersedeLaws.{superseder_is}
+use Rattle.catalogue.proofs.IdFacts.{any_insert, apart, exact_ids, ids_total, itself, one_id, turned}
+use Rattle.catalogue.proofs.SupersedeFacts.{superseder_is}
 use Rattle.supersede.specs.Giving.{gives, givers_of}
 use Rattle.supersede.specs.Leading.{Gives, IsWay}
 use Rattle.supersede.specs.Reach.{Alike, Continues, IsReach, Leads, has}

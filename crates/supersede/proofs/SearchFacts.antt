@@ -7,7 +7,7 @@ use Rattle.std.specs.declared.cmp.Ordering.{Ordering}
 use Rattle.std.specs.declared.cmp.Ordering.TheVariants.{Less, Equal, Greater}
 use Rattle.std.proofs.lemmas.Bool.{cases_lt}
 use Rattle.catalogue.specs.Ids.{Ascend, id_cmp, same_id}
-use Rattle.catalogue.proofs.IdOrder.{apart, apart_back, exact_ids, ids_total, itself, turned}
+use Rattle.catalogue.proofs.IdFacts.{apart, apart_back, exact_ids, ids_total, itself, turned}
 use Rattle.supersede.specs.Reach.{has}
 
 -- the comparison with an id rises with the ids

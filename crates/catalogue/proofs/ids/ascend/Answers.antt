@@ -2,7 +2,7 @@ use Rattle.std.proofs.Common.{ℕ, Bool, List, rules}
 use Rattle.std.proofs.lemmas.List.Sorted.{answers_always}
 use Rattle.std.specs.Ordering.{is_lt}
 use Rattle.catalogue.specs.Ids.{id_cmp}
-use Rattle.catalogue.proofs.IdOrder.{ascend_by_neighbours}
+use Rattle.catalogue.proofs.IdFacts.{ascend_by_neighbours}
 use Rattle.catalogue.proofs.ids.ascend.Goals as goal
 
 pub returns : goal.returns

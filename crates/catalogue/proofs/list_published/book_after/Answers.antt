@@ -21,7 +21,7 @@ pub loop-change-preserved : goal.loop-change-preserved
 loop-change-preserved c =
     let puts : List HoldChange = map Put c.args.old.now in
     let front : List HoldChange = hold_changes_in (take c.loop-change.change-index c.args.changes.now) in
-    let behind : Change → List HoldChange = λ change. front ++ hold_changes_in (change ∷ []) in
+    let with_change : Change → List HoldChange = λ change. front ++ hold_changes_in (change ∷ []) in
     let all : List HoldChange → List HoldChange = λ changes. puts ++ changes in
     let one : HoldChange → List HoldChange = λ change. front ++ change ∷ [] in
     let more = hold_changes_more c.args.changes.now c.loop-change.change-index c.change-item.result c.loop-change-test.true c.change-item.is in
@@ -30,11 +30,11 @@ loop-change-preserved c =
         book =
             w.book-is
             ∙ w.in_ok-apply.ensures.book (puts ++ front) c.loop-change.invariant.book
-            ∙ ap book_of (append_assoc puts front (w.in_ok-copy.field-0 ∷ []) ∙ ap all (ap one w.in_ok-copy.ensures ∙ sym (more ∙ ap behind w.in-OfHold.is)));
+            ∙ ap book_of (append_assoc puts front (w.in_ok-copy.field-0 ∷ []) ∙ ap all (ap one w.in_ok-copy.ensures ∙ sym (more ∙ ap with_change w.in-OfHold.is)));
         in_key_order = subst IsInKeyOrder (sym w.book-is) w.apply.ensures.in_key_order;
       }
       | in_default w ↦ record {
-        book = w.book-is ∙ c.loop-change.invariant.book ∙ ap book_of (ap all (sym (more ∙ ap behind w.in_default.is ∙ append-nil front)));
+        book = w.book-is ∙ c.loop-change.invariant.book ∙ ap book_of (ap all (sym (more ∙ ap with_change w.in_default.is ∙ append-nil front)));
         in_key_order = subst IsInKeyOrder (sym w.book-is) c.loop-change.invariant.in_key_order;
       }
     ]

@@ -10,7 +10,7 @@ use Rattle.catalogue.specs.Changes.{records_in}
 use Rattle.catalogue.specs.Ids.{id_cmp}
 use Rattle.catalogue.specs.ListPublished.{IsKeyed}
 use Rattle.catalogue.proofs.EntryFacts.{Records, records_ascend, records_more}
-use Rattle.catalogue.proofs.RecordLaws.{IsCatalogue, own_catalogue, catalogue_more, catalogue_only}
+use Rattle.catalogue.proofs.RecordFacts.{IsCatalogue, own_catalogue, catalogue_more, catalogue_only}
 use Rattle.catalogue.proofs.list_published.catalogue_after.Goals as goal
 use Rattle.catalogue.proofs.list_published.catalogue_after.Goals.{in-Whole+in_ok-copy+in_ok-put, in_default}
 
@@ -33,7 +33,7 @@ pub loop-change-preserved : goal.loop-change-preserved
 loop-change-preserved c =
     let old : List Sysmod = values c.args.old.now in
     let front : List Sysmod = records_in (take c.loop-change.change-index c.args.changes.now) in
-    let behind : Change → List Sysmod = λ change. front ++ records_in (change ∷ []) in
+    let with_change : Change → List Sysmod = λ change. front ++ records_in (change ∷ []) in
     let all : List Sysmod → List Sysmod = λ sysmods. old ++ sysmods in
     let one : Sysmod → List Sysmod = λ sysmod. front ++ sysmod ∷ [] in
     let more = records_more c.args.changes.now c.loop-change.change-index c.change-item.result c.loop-change-test.true c.change-item.is in
@@ -46,7 +46,7 @@ loop-change-preserved c =
             records =
                 subst (λ (m : Records). IsCatalogue (old ++ records_in (take (c.loop-change.change-index + 1) c.args.changes.now)) (values m)) (sym w.sysmods-is) (
                 subst (λ xs. IsCatalogue xs (values w.put.new.sysmods))
-                (append_assoc old front (w.in_ok-copy.field-0 ∷ []) ∙ ap all (ap one w.in_ok-copy.ensures ∙ sym (more ∙ ap behind w.in-Whole.is)))
+                (append_assoc old front (w.in_ok-copy.field-0 ∷ []) ∙ ap all (ap one w.in_ok-copy.ensures ∙ sym (more ∙ ap with_change w.in-Whole.is)))
                 (catalogue_more (old ++ front) (values c.loop-change.sysmods) (values w.put.new.sysmods) w.in_ok-copy.field-0 c.loop-change.invariant.records ascend w.in_ok-put.ensures.found)
                 );
           }
@@ -55,7 +55,7 @@ loop-change-preserved c =
         keyed = subst (λ (m : Records). IsKeyed m.entries) (sym w.sysmods-is) c.loop-change.invariant.keyed;
         records =
             subst (λ (m : Records). IsCatalogue (old ++ records_in (take (c.loop-change.change-index + 1) c.args.changes.now)) (values m)) (sym w.sysmods-is) (
-            subst (λ xs. IsCatalogue xs (values c.loop-change.sysmods)) (ap all (sym (more ∙ ap behind w.in_default.is ∙ append-nil front))) c.loop-change.invariant.records
+            subst (λ xs. IsCatalogue xs (values c.loop-change.sysmods)) (ap all (sym (more ∙ ap with_change w.in_default.is ∙ append-nil front))) c.loop-change.invariant.records
             );
       }
     ]

@@ -3,7 +3,7 @@ use Rattle.std.specs.BTreeMap.{IsOrdered, values}
 use Rattle.catalogue.specs.Changes.{records_in}
 use Rattle.catalogue.specs.Ids.{id_cmp}
 use Rattle.catalogue.specs.ListPublished.{IsKeyed}
-use Rattle.catalogue.proofs.RecordLaws.{IsCatalogue}
+use Rattle.catalogue.proofs.RecordFacts.{IsCatalogue}
 use Rattle.catalogue.proofs.list_published.catalogue_after.Given as goal
 
 abbrev pub invariant-loop-change : goal.invariant-loop-change

@@ -2,7 +2,7 @@ use Rattle.std.proofs.Common.{◌+◌, drop, false}
 use Rattle.std.specs.List.{fold}
 use Rattle.catalogue.specs.Reading.{first_fault, nothing_begun, with_statement}
 use Rattle.catalogue.proofs.HeaderFacts.{rest_at}
-use Rattle.catalogue.proofs.ReadingLaws.{reads_next, faults_next}
+use Rattle.catalogue.proofs.ReadingFacts.{reads_next, faults_next}
 use Rattle.catalogue.proofs.reading.read_changes.Goals as goal
 
 pub loop-statement-preserved : goal.loop-statement-preserved

@@ -4,10 +4,10 @@ use Rattle.std.specs.List.{flat_map}
 use Rattle.std.proofs.lemmas.List.{take_all}
 use Rattle.catalogue.specs.Ids.{in_order}
 use Rattle.catalogue.specs.Touched.{IsTouched, touched_by}
-use Rattle.catalogue.proofs.IdOrder.{in_order_has}
-use Rattle.catalogue.proofs.Sources.{no_fault, told_both, told_later, told_so, told_sooner}
-use Rattle.catalogue.proofs.TouchedFacts.{touched_more}
-use Rattle.catalogue.proofs.TouchedLaws.{touches_all}
+use Rattle.catalogue.proofs.IdFacts.{in_order_has}
+use Rattle.catalogue.proofs.SourceFacts.{no_fault, told_both, told_later, told_so, told_sooner}
+use Rattle.catalogue.proofs.TouchingFacts.{touched_more}
+use Rattle.catalogue.proofs.TouchedFacts.{touches_all}
 use Rattle.catalogue.proofs.touching.touched.Goals as goal
 
 pub loop-change-preserved : goal.loop-change-preserved

@@ -1,6 +1,6 @@
 use Rattle.std.proofs.Common.{◌∙◌, ap}
 use Rattle.std.proofs.lemmas.List.{take_all}
-use Rattle.catalogue.proofs.Sources.{no_fault, told_both, told_later, told_so, told_sooner}
+use Rattle.catalogue.proofs.SourceFacts.{no_fault, told_both, told_later, told_so, told_sooner}
 use Rattle.reports.specs.ChainText.{member_with, plan_items}
 use Rattle.reports.proofs.ChainFacts.{plan_by, plan_more}
 use Rattle.reports.proofs.chain.plan_values.Goals as goal

@@ -1,5 +1,5 @@
 use Rattle.std.proofs.Common.{◌∙◌, map, sym, ap}
-use Rattle.catalogue.proofs.Sources.{told_both, told_later, told_so, told_sooner}
+use Rattle.catalogue.proofs.SourceFacts.{told_both, told_later, told_so, told_sooner}
 use Rattle.reports.specs.Resolvers.{status_in}
 use Rattle.catalogue.specs.Ids.{in_order}
 use Rattle.reports.specs.Found.{resolvers_in}

@@ -1,5 +1,5 @@
 use Rattle.std.proofs.Common.{◌∙◌, ◌++◌, ap}
-use Rattle.catalogue.proofs.Sources.{no_fault, told_both, told_later, told_so, told_sooner}
+use Rattle.catalogue.proofs.SourceFacts.{no_fault, told_both, told_later, told_so, told_sooner}
 use Rattle.reports.specs.Found.{errors_by}
 use Rattle.reports.proofs.ErrorFacts.{errors_more}
 use Rattle.reports.proofs.errors.errors_among.Goals as goal

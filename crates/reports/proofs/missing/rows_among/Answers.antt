@@ -1,5 +1,5 @@
 use Rattle.std.proofs.Common.{◌∙◌, ◌++◌, ap, option_map}
-use Rattle.catalogue.proofs.Sources.{no_fault, told_both, told_later, told_so, told_sooner}
+use Rattle.catalogue.proofs.SourceFacts.{no_fault, told_both, told_later, told_so, told_sooner}
 use Rattle.reports.specs.MissingFound.{both_of, rows_by, rows_of, unless_there}
 use Rattle.reports.proofs.ResolverFacts.{flat_map_more}
 use Rattle.reports.proofs.missing.rows_among.Goals as goal

@@ -1,6 +1,6 @@
 use Rattle.std.proofs.Common.{◌∙◌}
 use Rattle.std.proofs.lemmas.Result.{IfOk-weaker}
-use Rattle.catalogue.proofs.Sources.{told_both, told_later, told_so, told_sooner}
+use Rattle.catalogue.proofs.SourceFacts.{told_both, told_later, told_so, told_sooner}
 use Rattle.reports.proofs.missing.rows_of.Goals as goal
 
 pub returns-clause-rows : goal.returns-clause-rows

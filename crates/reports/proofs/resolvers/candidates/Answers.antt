@@ -2,7 +2,7 @@ use Rattle.std.proofs.Common.{◌≡◌, ◌∙◌, ◌++◌, ◌∷◌, [], fil
 use Rattle.std.specs.List.{list_any}
 use Rattle.std.proofs.lemmas.List.{take_all}
 use Rattle.zone_lists.specs.Installed.{is_installed}
-use Rattle.catalogue.proofs.Sources.{no_fault, told_both, told_later, told_so, told_sooner}
+use Rattle.catalogue.proofs.SourceFacts.{no_fault, told_both, told_later, told_so, told_sooner}
 use Rattle.supersede.specs.Giving.{fmids_of, is_candidate}
 use Rattle.reports.proofs.ResolverFacts.{filter_more}
 use Rattle.reports.proofs.resolvers.candidates.Goals as goal

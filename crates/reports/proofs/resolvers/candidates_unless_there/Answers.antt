@@ -1,5 +1,5 @@
 use Rattle.std.proofs.Common.{◌≡◌, ◌∙◌, Some, false, filter, sym, ap}
-use Rattle.catalogue.proofs.Sources.{told_both, told_later, told_so, told_sooner}
+use Rattle.catalogue.proofs.SourceFacts.{told_both, told_later, told_so, told_sooner}
 use Rattle.supersede.specs.Giving.{is_candidate, is_there}
 use Rattle.reports.proofs.resolvers.candidates_unless_there.Goals as goal
 

@@ -1,6 +1,6 @@
 use Rattle.std.proofs.Common.{◌∙◌}
 use Rattle.std.proofs.lemmas.Result.{IfOk-weaker}
-use Rattle.catalogue.proofs.Sources.{told_both, told_later, told_so, told_sooner}
+use Rattle.catalogue.proofs.SourceFacts.{told_both, told_later, told_so, told_sooner}
 use Rattle.supersede.proofs.ReachFacts.{each_gives}
 use Rattle.supersede.proofs.giving.givers.Goals as goal
 

@@ -1,7 +1,7 @@
 use Rattle.std.proofs.Common.{◌∙◌, filter, sym, ap, subst}
 use Rattle.std.proofs.lemmas.List.Kept.{IsStrictlySortedBy-filter}
 use Rattle.catalogue.specs.Ids.{Ascend, id_cmp}
-use Rattle.catalogue.proofs.Sources.{told_so}
+use Rattle.catalogue.proofs.SourceFacts.{told_so}
 use Rattle.supersede.specs.Reach.{has}
 use Rattle.supersede.proofs.ReachFacts.{reach_gives}
 use Rattle.supersede.proofs.giving.givers_among.Goals as goal

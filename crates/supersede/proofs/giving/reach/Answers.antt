@@ -1,6 +1,6 @@
 use Rattle.std.proofs.Common.{◌≡◌, ◌∙◌, ◌<◌, length, get_or, take, subst, sym, rules}
 use Rattle.std.proofs.lemmas.List.{take_all}
-use Rattle.catalogue.proofs.Sources.{no_fault, told_both, told_later, told_so, told_sooner}
+use Rattle.catalogue.proofs.SourceFacts.{no_fault, told_both, told_later, told_so, told_sooner}
 use Rattle.supersede.specs.Reach.{IsReach}
 use Rattle.supersede.proofs.ReachFacts.{Walked, longer, still_has, walk_ends, walk_goes_on}
 use Rattle.supersede.proofs.giving.reach.Goals as goal

@@ -3,7 +3,7 @@ use Rattle.std.specs.BTreeMap.{values}
 use Rattle.catalogue.specs.Content.{Content}
 use Rattle.catalogue.specs.Publication.{after, IsAfter}
 use Rattle.catalogue.proofs.EntryFacts.{records_ascend}
-use Rattle.catalogue.proofs.PublicationLaws.{same_content, after_is, after_more, after_none, content_joined}
+use Rattle.catalogue.proofs.PublicationFacts.{same_content, after_is, after_more, after_none, content_joined}
 use Rattle.catalogue.proofs.list_published.ListPublished.publish.Goals as goal
 
 pub returns-clause-is_after : goal.returns-clause-is_after

@@ -2,9 +2,9 @@ use Rattle.std.proofs.Common.{sym, ◌∙◌, subst}
 use Rattle.std.specs.BTreeMap.{values}
 use Rattle.catalogue.specs.Ids.{Ascend}
 use Rattle.catalogue.proofs.EntryFacts.{records_ascend}
-use Rattle.catalogue.proofs.RecordLaws.{filtered_ascend}
+use Rattle.catalogue.proofs.RecordFacts.{filtered_ascend}
 use Rattle.catalogue.specs.Content.{sup_names}
-use Rattle.catalogue.proofs.SupersedeLaws.{superseder_is, superseder_catalogued}
+use Rattle.catalogue.proofs.SupersedeFacts.{superseder_is, superseder_catalogued}
 use Rattle.catalogue.proofs.list_published.ListPublishedPublished.superseders.Goals as goal
 
 pub returns-clause-ascend : goal.returns-clause-ascend

@@ -1,4 +1,4 @@
-use Rattle.catalogue.proofs.ReadingLaws.{headers_open, read_all}
+use Rattle.catalogue.proofs.ReadingFacts.{headers_open, read_all}
 use Rattle.catalogue.proofs.reading.ChangeReader.finish.Goals as goal
 
 pub returns-clause-law : goal.returns-clause-law

@@ -9,14 +9,14 @@ use Rattle.holddata.specs.declared.hold.Hold.{Hold}
 use Rattle.holddata.specs.declared.hold.HoldChange.TheVariants.{Put}
 use Rattle.holddata.specs.HoldChange.{names, hold_left}
 use Rattle.holddata.specs.HoldBook.{book_of}
-use Rattle.holddata.proofs.BookLaws.{book_of_is_left, book_of_only}
+use Rattle.holddata.proofs.BookFacts.{book_of_is_left, book_of_only}
 use Rattle.catalogue.specs.declared.sysmod.Sysmod.{Sysmod}
 use Rattle.catalogue.specs.declared.change.Change.{Change}
 use Rattle.catalogue.specs.Changes.{record_in, hold_change_in, records_in, hold_changes_in}
 use Rattle.catalogue.specs.Content.{Content, nothing, IsInOrder}
 use Rattle.catalogue.specs.Publication.{last_of, catalogue_of, after, content_of, IsAfter}
 use Rattle.catalogue.proofs.BookFacts.{left_append, own_left, own_book, book_joined}
-use Rattle.catalogue.proofs.RecordLaws.{catalogue_is, catalogue_only, own_catalogue, catalogue_joined, last_append, last_in_order}
+use Rattle.catalogue.proofs.RecordFacts.{catalogue_is, catalogue_only, own_catalogue, catalogue_joined, last_append, last_in_order}
 
 pub same_content : (a b : Content) → a.sysmods ≡ b.sysmods → a.holds ≡ b.holds → a ≡ b
 same_content a b s h =
@@ -42,7 +42,7 @@ after_joined content a b =
 pub content_joined : (a b : List Change) → content_of (a ++ b) ≡ after (content_of a) b
 content_joined a b = sym (after_joined nothing a b)
 
--- the content behind a publication is in order
+-- the content after a publication is in order
 pub after_in_order : (content : Content) (changes : List Change) → IsInOrder (after content changes)
 after_in_order content changes = record {
   sysmods = (catalogue_is (content.sysmods ++ records_in changes)).ascend;

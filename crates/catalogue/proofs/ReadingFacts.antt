@@ -60,7 +60,7 @@ opened record_open vers = option_to_list (option_map Whole (option_map (λ sysmo
 
 -- what was read so far, and what statements make of it
 abbrev continued : Begun → List Statement → List Change
-continued begun statements = begun.before ++ (opened begun.open_record (vers_in_front statements) ++ (begun.behind ++ changes_of statements))
+continued begun statements = begun.before ++ (opened begun.open_record (vers_in_front statements) ++ (begun.after ++ changes_of statements))
 
 regroup : (a o b x c : List Change) → (a ++ (o ++ b)) ++ (x ++ c) ≡ a ++ (o ++ (b ++ (x ++ c)))
 regroup a o b x c = append_assoc a (o ++ b) (x ++ c) ∙ ap (λ l. a ++ l) (append_assoc o b (x ++ c))
@@ -79,22 +79,22 @@ one_ver None ver vers = refl
 one_ver (Some sysmod) ver vers = refl
 
 one_part : (part : Part) (statement : Statement) (begun : Begun) (vers : List Statement) (rest : List Change)
-    → (with_part part statement begun).before ++ (opened (with_part part statement begun).open_record vers ++ ((with_part part statement begun).behind ++ rest))
-    ≡ begun.before ++ (opened begun.open_record (vers_in part statement vers) ++ (begun.behind ++ (changes_by part statement vers ++ rest)))
+    → (with_part part statement begun).before ++ (opened (with_part part statement begun).open_record vers ++ ((with_part part statement begun).after ++ rest))
+    ≡ begun.before ++ (opened begun.open_record (vers_in part statement vers) ++ (begun.after ++ (changes_by part statement vers ++ rest)))
 one_part (Header kind) statement begun vers rest =
     ap (λ l. changes_in begun ++ (l ++ rest)) (begun_header kind statement.subject vers)
-    ∙ regroup begun.before (option_to_list (option_map Whole begun.open_record)) begun.behind (changes_by (Header kind) statement vers) rest
-    ∙ ap (λ l. begun.before ++ (l ++ (begun.behind ++ (changes_by (Header kind) statement vers ++ rest)))) (plain begun.open_record)
+    ∙ regroup begun.before (option_to_list (option_map Whole begun.open_record)) begun.after (changes_by (Header kind) statement vers) rest
+    ∙ ap (λ l. begun.before ++ (l ++ (begun.after ++ (changes_by (Header kind) statement vers ++ rest)))) (plain begun.open_record)
 one_part More statement begun vers rest =
-    ap (λ l. begun.before ++ (l ++ (begun.behind ++ rest))) (one_ver begun.open_record statement vers)
+    ap (λ l. begun.before ++ (l ++ (begun.after ++ rest))) (one_ver begun.open_record statement vers)
 one_part OnHold statement begun vers rest =
-    ap (λ l. begun.before ++ (opened begun.open_record vers ++ l)) (append_assoc begun.behind (option_to_list (option_map OfHold (holddata.change_of statement))) rest)
+    ap (λ l. begun.before ++ (opened begun.open_record vers ++ l)) (append_assoc begun.after (option_to_list (option_map OfHold (holddata.change_of statement))) rest)
 
 -- what was read so far with more statements, one at a time
 pub read_on : (begun : Begun) (statements : List Statement) → changes_in (fold with_statement begun statements) ≡ continued begun statements
 read_on begun [] =
-    ap (λ l. begun.before ++ (l ++ begun.behind)) (plain begun.open_record)
-    ∙ ap (λ l. begun.before ++ (opened begun.open_record [] ++ l)) (sym (append-nil begun.behind))
+    ap (λ l. begun.before ++ (l ++ begun.after)) (plain begun.open_record)
+    ∙ ap (λ l. begun.before ++ (opened begun.open_record [] ++ l)) (sym (append-nil begun.after))
 read_on begun (statement ∷ statements) =
     read_on (with_statement begun statement) statements
     ∙ one_part (part_of statement) statement begun (vers_in_front statements) (changes_of statements)

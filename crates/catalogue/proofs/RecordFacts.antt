@@ -12,7 +12,7 @@ use Rattle.catalogue.specs.declared.sysmod.Sysmod.{Sysmod}
 use Rattle.catalogue.specs.Content.{ids_in, is_of}
 use Rattle.catalogue.specs.Ids.{id_cmp, same_id, Ascend, in_order}
 use Rattle.catalogue.specs.Publication.{last_of, catalogue_of}
-use Rattle.catalogue.proofs.IdOrder.{one_id, itself, apart_back, turned, exact_ids, all_below, in_order_ascends, in_order_any}
+use Rattle.catalogue.proofs.IdFacts.{one_id, itself, apart_back, turned, exact_ids, all_below, in_order_ascends, in_order_any}
 
 -- the record of an id among records
 abbrev pub found : List Sysmod → List ℕ → Option Sysmod

@@ -5,7 +5,7 @@ use Rattle.catalogue.specs.declared.fault.SourceFault.{SourceFault}
 use Rattle.catalogue.specs.declared.fault.SourceFault.TheVariants.{Device}
 
 module _ {Source Held : Type 0} {is_clean is_ours is_open : Source → Type 0} {held : Source → Held} where
-  -- what an earlier call told is still so behind a later one
+  -- what an earlier call told is still so after a later one
   pub told_sooner : {failures : Source → ℕ} {a b c : Source} {Fact : Held → Type 0} → Tells is_clean is_ours is_open held a b Fact → Keeps is_clean is_ours is_open failures held b c → Tells is_clean is_ours is_open held a c Fact
   told_sooner tells keeps = record { told = λ ours clean this stands. tells.told ours (keeps.clean clean) this stands }
 

@@ -9,8 +9,8 @@ use Rattle.std.proofs.lemmas.Map.Views.{Contains-from_any, list_any-from_Contain
 use Rattle.catalogue.specs.declared.sysmod.Sysmod.{Sysmod}
 use Rattle.catalogue.specs.Content.{Content, IsCatalogued, IsInOrder, Supersedes, ids_in, ids_of, superseders, sup_names}
 use Rattle.catalogue.specs.Ids.{id_cmp, same_id, Ascend}
-use Rattle.catalogue.proofs.IdOrder.{one_id, same_back, apart}
-use Rattle.catalogue.proofs.RecordLaws.{found}
+use Rattle.catalogue.proofs.IdFacts.{one_id, same_back, apart}
+use Rattle.catalogue.proofs.RecordFacts.{found}
 
 has : (ids : List (List ℕ)) (id : List ℕ) → list_any (same_id id) ids ≡ true → Contains ids id
 has ids id h = Contains-from_any {eq = same_id} one_id id ids h

@@ -1,0 +1,143 @@
+-- What statements publish is the same where no other operands are read than those that are asked for.
+use Rattle.std.proofs.Common.{◌≡◌, ℕ, Bool, true, false, ◌||◌, ◌&&◌, ◌++◌, List, [], ◌∷◌, map, codes, refl, sym, ◌∙◌, ap, Option, Some, None}
+use Rattle.std.specs.Prelude.{not, option_map}
+use Rattle.std.specs.List.{filter_map, flat_map, list_all, list_any}
+use Rattle.std.specs.Option.{option_or, option_to_list}
+use Rattle.std.specs.Str.{bytes_eq}
+use Rattle.std.proofs.lemmas.List.Folds.{list_all-append}
+use Rattle.mcs_reader.specs.Asking.{asking}
+use Rattle.mcs_reader.specs.Id.{id_of}
+use Rattle.mcs_reader.specs.declared.statement.Statement.{Statement}
+use Rattle.holddata.specs.Asked.{are_among, hold_operands}
+use Rattle.holddata.specs.Statements as holddata
+use Rattle.holddata.proofs.AskedFacts.{asked_too, change_asked as hold_change_asked, faults_asked as hold_faults_asked, values_asked}
+use Rattle.catalogue.specs.declared.change.Change.TheVariants.{Whole, OfHold}
+use Rattle.catalogue.specs.declared.fault.CatFault.TheVariants.{VerOutside, BadId, Held}
+use Rattle.catalogue.specs.declared.sysmod.Sysmod.{Sysmod}
+use Rattle.catalogue.specs.declared.sysmod.SysmodKind.{SysmodKind}
+use Rattle.catalogue.specs.Asked.{publication_operands}
+use Rattle.catalogue.specs.Ids.{in_order, put_among}
+use Rattle.catalogue.specs.Reading.{Part, Header, More, OnHold, Begun, part_of, ids_given, vers_in, vers_in_front, record_by, changes_by, changes_of, is_header, is_no_id, gives_no_id, has_bad_id, fault_if, faults_by, faults_of, first_fault, with_ver, with_part, with_statement}
+
+front_holds : (a b : Bool) → (a && b) ≡ true → a ≡ true
+front_holds true b h = refl
+front_holds false b h = absurd (cc h)
+
+-- what is asked for on account of holds is among it
+holds_too : (names : List (List ℕ)) → are_among publication_operands names ≡ true → are_among hold_operands names ≡ true
+holds_too names all =
+    let test = λ (name : List ℕ). list_any (bytes_eq name) names in
+    let rest = codes "PRE" ∷ codes "REQ" ∷ codes "SUP" ∷ [] in
+    front_holds (list_all test hold_operands) (list_all test rest) (sym (list_all-append test hold_operands rest) ∙ all)
+
+given_asked : (names : List (List ℕ)) (name : List ℕ) → are_among publication_operands names ≡ true → list_any (bytes_eq name) publication_operands ≡ true → (statement : Statement)
+    → holddata.given (asking names statement) name ≡ holddata.given statement name
+given_asked names name all among statement = values_asked names name (asked_too publication_operands names name all among) statement.operands
+
+ids_asked : (names : List (List ℕ)) (name : List ℕ) → are_among publication_operands names ≡ true → list_any (bytes_eq name) publication_operands ≡ true → (statement : Statement)
+    → ids_given name (asking names statement) ≡ ids_given name statement
+ids_asked names name all among statement = ap (filter_map id_of) (given_asked names name all among statement)
+
+-- ---- faults
+
+no_id_asked : (names : List (List ℕ)) (name : List ℕ) → are_among publication_operands names ≡ true → list_any (bytes_eq name) publication_operands ≡ true → (statement : Statement)
+    → gives_no_id (asking names statement) name ≡ gives_no_id statement name
+no_id_asked names name all among statement = ap (list_any is_no_id) (given_asked names name all among statement)
+
+bad_id_asked : (names : List (List ℕ)) → are_among publication_operands names ≡ true → (statement : Statement) → has_bad_id (asking names statement) ≡ has_bad_id statement
+bad_id_asked names all statement =
+    let fmid = no_id_asked names (codes "FMID") all refl statement in
+    let pre = no_id_asked names (codes "PRE") all refl statement in
+    let req = no_id_asked names (codes "REQ") all refl statement in
+    let sup = no_id_asked names (codes "SUP") all refl statement in
+    cc
+
+faults_part_asked : (part : Part) (names : List (List ℕ)) (begun : Bool) → are_among publication_operands names ≡ true → (statement : Statement)
+    → faults_by part begun (asking names statement) ≡ faults_by part begun statement
+faults_part_asked (Header kind) names begun all statement = refl
+faults_part_asked More names begun all statement =
+    ap (λ bad. fault_if (not begun) (VerOutside statement.line) ++ fault_if bad (BadId statement.line)) (bad_id_asked names all statement)
+faults_part_asked OnHold names begun all statement = ap (map Held) (hold_faults_asked names (holds_too names all) statement)
+
+pub faults_asked : (names : List (List ℕ)) (begun : Bool) → are_among publication_operands names ≡ true → (statement : Statement)
+    → faults_of begun (asking names statement) ≡ faults_of begun statement
+faults_asked names begun all statement = faults_part_asked (part_of statement) names begun all statement
+
+pub first_fault_asked : (names : List (List ℕ)) (begun : Bool) → are_among publication_operands names ≡ true → (statements : List Statement)
+    → first_fault begun (map (asking names) statements) ≡ first_fault begun statements
+first_fault_asked names begun all [] = refl
+first_fault_asked names begun all (statement ∷ statements) =
+    let now = begun || is_header (part_of statement) in
+    ap (λ faults. option_or (holddata.first_of faults) (first_fault now (map (asking names) statements))) (faults_asked names begun all statement)
+    ∙ ap (option_or (holddata.first_of (faults_of begun statement))) (first_fault_asked names now all statements)
+
+-- ---- changes
+
+vers_asked : (names : List (List ℕ)) (statements : List Statement) → vers_in_front (map (asking names) statements) ≡ map (asking names) (vers_in_front statements)
+vers_asked names [] = refl
+vers_asked names (statement ∷ statements) = by (part_of statement) (vers_asked names statements)
+  where
+    by : (part : Part) → vers_in_front (map (asking names) statements) ≡ map (asking names) (vers_in_front statements)
+        → vers_in part (asking names statement) (vers_in_front (map (asking names) statements)) ≡ map (asking names) (vers_in part statement (vers_in_front statements))
+    by (Header kind) rest = refl
+    by More rest = ap (λ vers. asking names statement ∷ vers) rest
+    by OnHold rest = rest
+
+joined_asked : (names : List (List ℕ)) (name : List ℕ) → are_among publication_operands names ≡ true → list_any (bytes_eq name) publication_operands ≡ true → (vers : List Statement)
+    → flat_map (ids_given name) (map (asking names) vers) ≡ flat_map (ids_given name) vers
+joined_asked names name all among [] = refl
+joined_asked names name all among (ver ∷ vers) =
+    ap (λ ids. ids ++ flat_map (ids_given name) (map (asking names) vers)) (ids_asked names name all among ver)
+    ∙ ap (λ ids. ids_given name ver ++ ids) (joined_asked names name all among vers)
+
+record_asked : (kind : SysmodKind) (id : List ℕ) (names : List (List ℕ)) → are_among publication_operands names ≡ true → (vers : List Statement)
+    → record_by kind id (map (asking names) vers) ≡ record_by kind id vers
+record_asked kind id names all vers =
+    let fmids = ap in_order (joined_asked names (codes "FMID") all refl vers) in
+    let pre = ap in_order (joined_asked names (codes "PRE") all refl vers) in
+    let req = ap in_order (joined_asked names (codes "REQ") all refl vers) in
+    let sup = ap in_order (joined_asked names (codes "SUP") all refl vers) in
+    cc
+
+change_asked : (part : Part) (names : List (List ℕ)) → are_among publication_operands names ≡ true → (statement : Statement) (vers : List Statement)
+    → changes_by part (asking names statement) (map (asking names) vers) ≡ changes_by part statement vers
+change_asked (Header kind) names all statement vers = by statement.subject
+  where
+    by : (subject : Option (List ℕ))
+        → option_to_list (option_map (λ id. Whole (record_by kind id (map (asking names) vers))) subject) ≡ option_to_list (option_map (λ id. Whole (record_by kind id vers)) subject)
+    by None = refl
+    by (Some id) = ap (λ sysmod. Whole sysmod ∷ []) (record_asked kind id names all vers)
+change_asked More names all statement vers = refl
+change_asked OnHold names all statement vers = ap (λ change. option_to_list (option_map OfHold change)) (hold_change_asked names (holds_too names all) statement)
+
+pub changes_asked : (names : List (List ℕ)) → are_among publication_operands names ≡ true → (statements : List Statement) → changes_of (map (asking names) statements) ≡ changes_of statements
+changes_asked names all [] = refl
+changes_asked names all (statement ∷ statements) =
+    ap (λ vers. changes_by (part_of statement) (asking names statement) vers ++ changes_of (map (asking names) statements)) (vers_asked names statements)
+    ∙ ap (λ changes. changes ++ changes_of (map (asking names) statements)) (change_asked (part_of statement) names all statement (vers_in_front statements))
+    ∙ ap (λ changes. changes_by (part_of statement) statement (vers_in_front statements) ++ changes) (changes_asked names all statements)
+
+-- ---- one statement at a time
+
+ver_asked : (names : List (List ℕ)) → are_among publication_operands names ≡ true → (ver : Statement) (sysmod : Sysmod) → with_ver (asking names ver) sysmod ≡ with_ver ver sysmod
+ver_asked names all ver sysmod =
+    let fmids = ap (put_among sysmod.fmids) (ids_asked names (codes "FMID") all refl ver) in
+    let pre = ap (put_among sysmod.pre) (ids_asked names (codes "PRE") all refl ver) in
+    let req = ap (put_among sysmod.req) (ids_asked names (codes "REQ") all refl ver) in
+    let sup = ap (put_among sysmod.sup) (ids_asked names (codes "SUP") all refl ver) in
+    cc
+
+read_part_asked : (part : Part) (names : List (List ℕ)) (begun : Begun) → are_among publication_operands names ≡ true → (statement : Statement)
+    → with_part part (asking names statement) begun ≡ with_part part statement begun
+read_part_asked (Header kind) names begun all statement = refl
+read_part_asked More names begun all statement = ap (λ opened. record begun { open_record = opened }) (by begun.open_record)
+  where
+    by : (opened : Option Sysmod) → option_map (with_ver (asking names statement)) opened ≡ option_map (with_ver statement) opened
+    by None = refl
+    by (Some sysmod) = ap Some (ver_asked names all statement sysmod)
+read_part_asked OnHold names begun all statement =
+    ap (λ change. record begun { after = begun.after ++ option_to_list (option_map OfHold change) }) (hold_change_asked names (holds_too names all) statement)
+
+pub read_asked : (names : List (List ℕ)) (begun : Begun) → are_among publication_operands names ≡ true → (statement : Statement)
+    → with_statement begun (asking names statement) ≡ with_statement begun statement
+read_asked names begun all statement = read_part_asked (part_of statement) names begun all statement

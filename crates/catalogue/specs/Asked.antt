@@ -1,0 +1,8 @@
+-- Which operands of a statement say something of what it publishes (IBM z/OS SMP/E Reference, `++VER`, and `++HOLD`
+-- and `++RELEASE` as HOLDDATA is read).
+use Rattle.std.specs.Prelude.{ℕ, ◌++◌, List, [], ◌∷◌, codes}
+use Rattle.holddata.specs.Asked.{hold_operands}
+
+-- the names of those that are read: FMID, which holds have too, and these
+abbrev pub publication_operands : List (List ℕ)
+publication_operands = hold_operands ++ codes "PRE" ∷ codes "REQ" ∷ codes "SUP" ∷ []
