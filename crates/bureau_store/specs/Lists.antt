@@ -53,7 +53,7 @@ client_after effect last client = record {
   received = received_after effect client.received;
 }
 
--- ---- how a store in lists is looked at: clean and open always, failing never, and in order, as each of them is
+-- ---- how a store in lists is looked at: clean and open always, failing and outgrown never, and in order, as each of them is
 
 abbrev pub Always : Lists → Type 0
 Always lists = Unit {0}
@@ -63,6 +63,9 @@ pub record IsOurs (lists : Lists) : Type 0 where
 
 abbrev pub never : Lists → ℕ
 never lists = 0
+
+abbrev pub NeverOutgrown : Lists → Lists → Type 0
+NeverOutgrown old new = ⊥
 
 abbrev pub Same : Lists → Lists → Type 0
 Same old new = new ≡ old

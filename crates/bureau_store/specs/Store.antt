@@ -22,9 +22,11 @@ pub record Makes {Store Held Done : Type 0} (is_clean is_ours is_open : Store �
   pub acknowledged : OnOk answer (is_ours old → is_clean new → is_open new)
   pub refused : OnErr answer (is_ours old → is_clean new → (this : Held) → Stands is_open held old this → Stands is_open held new this)
 
--- a fault of the device is told only where one came, and shuts the store
-abbrev pub FailsForCause : {Store Answer : Type 0} → (Store → Type 0) → (Store → ℕ) → Store → Store → Result Answer StoreFault → Type 0
-FailsForCause is_open failures old new answer = IsErrOf answer Device → HasFailed failures old new × (is_open new → ⊥)
+-- A fault of the device is told only where one came, and shuts the store; that it has no room for more, only where what was
+-- asked has outgrown it.
+abbrev pub FailsForCause : {Store Answer : Type 0} → (Store → Type 0) → (Store → ℕ) → (Store → Store → Type 0) → Store → Store → Result Answer StoreFault → Type 0
+FailsForCause is_open failures outgrown old new answer =
+    (IsErrOf answer Device → HasFailed failures old new × (is_open new → ⊥)) × (IsErrOf answer Size → outgrown old new)
 
 -- What a call of a store may be refused for: want of memory, the device, its size. Whether a file is a
 -- store at all, and of which version, is asked only as it is opened.

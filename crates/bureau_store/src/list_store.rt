@@ -242,9 +242,11 @@ impl Published for ListStore {
 }
 
 impl Store for ListStore {
-    ghost use Rattle.bureau_store.specs.Lists.{lists_keep_tables, lists_content, lists_in_order, tables_of};
+    ghost use Rattle.bureau_store.specs.Lists.{NeverOutgrown, lists_keep_tables, lists_content, lists_in_order, tables_of};
 
     ghost tables = { tables_of };
+
+    ghost outgrown = { NeverOutgrown };
 
     fn caller_of(&mut self, token: &[u8]) -> Result<Option<Caller>, StoreFault>
         ensures same { self.new ≡ self.old }

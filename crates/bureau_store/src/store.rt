@@ -24,11 +24,15 @@ use zone_lists::{Pattern, ZoneRow};
 ///
 /// Reads leave the tables as they are, and a list of what isn't there is empty. Each change replaces
 /// what it names whole and sets the caller's last number and reply, at once; refused, the tables are
-/// unchanged. A call is refused for want of memory, of the device or of its size alone. What is told of the tables is told where the file was this product's own as the call
+/// unchanged. A call is refused for want of memory, of the device or of its size alone, and for the device and its
+/// size only where that was so. What is told of the tables is told where the file was this product's own as the call
 /// began and the disk has returned what was written, up to the call's end; of lists that is always true.
 pub trait Store: Published {
     /// All that is kept.
     ghost tables: { Self → Tables };
+
+    /// Between these two, what was asked has outgrown the device: there was no room on it. In lists that never is.
+    ghost outgrown: { Self → Self → Type 0 };
 
     /// The caller whose token this is, or `None` where no caller has it.
     fn caller_of(&mut self, token: &[u8]) -> Result<Option<Caller>, StoreFault>
@@ -37,7 +41,7 @@ pub trait Store: Published {
             (λ tables. found ≡ caller_with tables.callers token.now)) }
         ensures proper { IfOk result (λ found. IfSome found IsProper) }
         ensures of_call { IfErr result IsOfCall }
-        ensures cause { FailsForCause Self.is_open Self.failures self.old self.new result }
+        ensures cause { FailsForCause Self.is_open Self.failures outgrown self.old self.new result }
         ensures shut { ShutsByFault Self.is_open self.old self.new result };
 
     /// The number of the caller's last change and the reply that is kept for it: 0 and nothing before the first.
@@ -47,7 +51,7 @@ pub trait Store: Published {
         ensures last { IfOk result (λ last. Tells Self.is_clean Self.is_ours Self.is_open tables self.old self.new
             (λ tables. record { number = last.0; reply = last.1.items } ≡ tables.last caller.now)) }
         ensures of_call { IfErr result IsOfCall }
-        ensures cause { FailsForCause Self.is_open Self.failures self.old self.new result }
+        ensures cause { FailsForCause Self.is_open Self.failures outgrown self.old self.new result }
         ensures shut { ShutsByFault Self.is_open self.old self.new result };
 
     /// How many SYSMODs are catalogued and how many holds the book has.
@@ -56,7 +60,7 @@ pub trait Store: Published {
         ensures counts { IfOk result (λ counts. Tells Self.is_clean Self.is_ours Self.is_open tables self.old self.new
             (λ tables. (counts.0 ≡ length tables.content.sysmods) × (counts.1 ≡ length tables.content.holds))) }
         ensures of_call { IfErr result IsOfCall }
-        ensures cause { FailsForCause Self.is_open Self.failures self.old self.new result }
+        ensures cause { FailsForCause Self.is_open Self.failures outgrown self.old self.new result }
         ensures shut { ShutsByFault Self.is_open self.old self.new result };
 
     /// The zones of a client, ascending by name, each with how many SYSMODs its list has.
@@ -67,7 +71,7 @@ pub trait Store: Published {
             (λ tables. zones.items ≡ map (λ zone. (zone.0, length zone.1.rows)) (tables.zones client.now))) }
         ensures ascend { IfOk result (λ zones. IsStrictlySortedBy name_order (map (λ zone. zone.0) zones.items)) }
         ensures of_call { IfErr result IsOfCall }
-        ensures cause { FailsForCause Self.is_open Self.failures self.old self.new result }
+        ensures cause { FailsForCause Self.is_open Self.failures outgrown self.old self.new result }
         ensures shut { ShutsByFault Self.is_open self.old self.new result };
 
     /// The rows of a zone, ascending, or `None` where the client has no such zone.
@@ -78,7 +82,7 @@ pub trait Store: Published {
             (λ tables. option_map (λ rows. rows.items) found ≡ option_map (λ table. table.rows) (zone_named zone.now (tables.zones client.now)))) }
         ensures ascend { IfOk result (λ found. IfSome found (λ rows. RowsAscend rows.items)) }
         ensures of_call { IfErr result IsOfCall }
-        ensures cause { FailsForCause Self.is_open Self.failures self.old self.new result }
+        ensures cause { FailsForCause Self.is_open Self.failures outgrown self.old self.new result }
         ensures shut { ShutsByFault Self.is_open self.old self.new result };
 
     /// The SYSMODs that a client has received, ascending.
@@ -89,7 +93,7 @@ pub trait Store: Published {
             (λ tables. ids.items ≡ tables.received client.now)) }
         ensures ascend { IfOk result (λ ids. Ascend ids.items) }
         ensures of_call { IfErr result IsOfCall }
-        ensures cause { FailsForCause Self.is_open Self.failures self.old self.new result }
+        ensures cause { FailsForCause Self.is_open Self.failures outgrown self.old self.new result }
         ensures shut { ShutsByFault Self.is_open self.old self.new result };
 
     /// The patterns of the fix categories that a client asks for in a zone, ascending.
@@ -100,7 +104,7 @@ pub trait Store: Published {
             (λ tables. patterns.items ≡ patterns_of (zone_named zone.now (tables.zones client.now)))) }
         ensures ascend { IfOk result (λ patterns. IsStrictlySortedBy (slice_cmp nat_cmp) patterns.items) }
         ensures of_call { IfErr result IsOfCall }
-        ensures cause { FailsForCause Self.is_open Self.failures self.old self.new result }
+        ensures cause { FailsForCause Self.is_open Self.failures outgrown self.old self.new result }
         ensures shut { ShutsByFault Self.is_open self.old self.new result };
 
     /// The holds of a kind on SYSMODs that are installed in a zone, in the order of their keys.
@@ -111,7 +115,7 @@ pub trait Store: Published {
             (λ tables. holds.items ≡ held_in tables.content (rows_of (zone_named zone.now (tables.zones client.now))) kind)) }
         ensures in_key_order { IfOk result (λ holds. IsInKeyOrder holds.items) }
         ensures of_call { IfErr result IsOfCall }
-        ensures cause { FailsForCause Self.is_open Self.failures self.old self.new result }
+        ensures cause { FailsForCause Self.is_open Self.failures outgrown self.old self.new result }
         ensures shut { ShutsByFault Self.is_open self.old self.new result };
 
     /// Publishes these changes, as the publisher's change with this number and reply.
@@ -121,7 +125,7 @@ pub trait Store: Published {
             (λ tables. IsAmong tables.callers Publisher)
             (tables_after Publisher (publication changes.now) (record { number = number; reply = reply.now })) }
         ensures of_call { IfErr result IsOfCall }
-        ensures cause { FailsForCause Self.is_open Self.failures self.old self.new result }
+        ensures cause { FailsForCause Self.is_open Self.failures outgrown self.old self.new result }
         ensures shut { ShutsByFault Self.is_open self.old self.new result };
 
     /// Puts a client's zone, which keeps its patterns where it was there before.
@@ -140,7 +144,7 @@ pub trait Store: Published {
             (λ tables. IsAmong tables.callers (Client client.now))
             (tables_after (Client client.now) (zone_put zone.now rows.now) (record { number = number; reply = reply.now })) }
         ensures of_call { IfErr result IsOfCall }
-        ensures cause { FailsForCause Self.is_open Self.failures self.old self.new result }
+        ensures cause { FailsForCause Self.is_open Self.failures outgrown self.old self.new result }
         ensures shut { ShutsByFault Self.is_open self.old self.new result };
 
     /// Drops a client's zone with its patterns.
@@ -157,7 +161,7 @@ pub trait Store: Published {
             (λ tables. IsAmong tables.callers (Client client.now) × (is_some (zone_named zone.now (tables.zones client.now)) ≡ true))
             (tables_after (Client client.now) (zone_dropped zone.now) (record { number = number; reply = reply.now })) }
         ensures of_call { IfErr result IsOfCall }
-        ensures cause { FailsForCause Self.is_open Self.failures self.old self.new result }
+        ensures cause { FailsForCause Self.is_open Self.failures outgrown self.old self.new result }
         ensures shut { ShutsByFault Self.is_open self.old self.new result };
 
     /// Puts the list of SYSMODs that a client has received.
@@ -175,7 +179,7 @@ pub trait Store: Published {
             (λ tables. IsAmong tables.callers (Client client.now))
             (tables_after (Client client.now) (received_put ids.now) (record { number = number; reply = reply.now })) }
         ensures of_call { IfErr result IsOfCall }
-        ensures cause { FailsForCause Self.is_open Self.failures self.old self.new result }
+        ensures cause { FailsForCause Self.is_open Self.failures outgrown self.old self.new result }
         ensures shut { ShutsByFault Self.is_open self.old self.new result };
 
     /// Puts the patterns of the fix categories that a client asks for in a zone that is there.
@@ -194,7 +198,7 @@ pub trait Store: Published {
             (λ tables. IsAmong tables.callers (Client client.now) × (is_some (zone_named zone.now (tables.zones client.now)) ≡ true))
             (tables_after (Client client.now) (patterns_put zone.now patterns.now) (record { number = number; reply = reply.now })) }
         ensures of_call { IfErr result IsOfCall }
-        ensures cause { FailsForCause Self.is_open Self.failures self.old self.new result }
+        ensures cause { FailsForCause Self.is_open Self.failures outgrown self.old self.new result }
         ensures shut { ShutsByFault Self.is_open self.old self.new result };
 
     /// To keep is to leave the tables as they were.
