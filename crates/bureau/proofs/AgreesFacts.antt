@@ -11,7 +11,7 @@ use Rattle.std.proofs.lemmas.List.Elements.{filter-append}
 use Rattle.bureau_store.specs.Caller.{is_caller}
 use Rattle.catalogue.specs.Content.{Content, IsInOrder}
 use Rattle.catalogue.specs.Publication.{after}
-use Rattle.catalogue.proofs.PublicationLaws.{after_only}
+use Rattle.catalogue.proofs.PublicationFacts.{after_only}
 use Rattle.bureau_store.specs.Effect.{Effect, publication, zone_put, zone_dropped, received_put, patterns_put, at_client, content_after, received_after, tables_after, zones_after}
 use Rattle.bureau_store.specs.Tables.{AreInOrder, LastChange, Tables, ZoneTable, Zones, name_order, patterns_of, zone_named}
 use Rattle.bureau_store.specs.declared.caller.Caller.{Caller}

@@ -9,10 +9,11 @@ use Rattle.bureau_store.specs.Store.{Makes}
 use Rattle.bureau_store.specs.Tables.{AreInOrder, Tables}
 use Rattle.bureau_store.specs.declared.caller.Caller.{Caller}
 use Rattle.bureau_store.specs.declared.fault.StoreFault.{StoreFault}
-use Rattle.bureau.specs.Answering.{IsAnswerAlone, IsAnswered, IsKept}
+use Rattle.bureau.specs.Answering.{IsAnswered, IsKept}
 use Rattle.bureau.specs.Call.{Call}
 use Rattle.bureau.specs.Come.{HasZone, IsComing, MayBeMade, TouchesNoMore, answer_in, effect_of, maker_of}
 use Rattle.bureau.specs.Joint.{tables_left}
+use Rattle.bureau.specs.Kept.{IsAnswerAlone}
 use Rattle.bureau.specs.Outcome.{Answer, Outcome, accepted, answer_of, no_room, outcome, plain}
 use Rattle.bureau.specs.Replies.{reply_as}
 use Rattle.bureau.specs.View.{view_of}

@@ -9,7 +9,7 @@ use Rattle.std.specs.Str.{bytes_eq}
 use Rattle.zone_lists.specs.declared.zones.ZoneRow.{ZoneRow}
 use Rattle.bureau_store.specs.Caller.{is_caller}
 use Rattle.catalogue.specs.Publication.{after}
-use Rattle.catalogue.proofs.PublicationLaws.{after_joined}
+use Rattle.catalogue.proofs.PublicationFacts.{after_joined}
 use Rattle.bureau_store.specs.Effect.{Effect, publication, zone_put, zone_dropped, received_put, patterns_put, content_after, received_after, zones_after}
 use Rattle.bureau_store.specs.Tables.{ZoneTable, Zones, name_order, patterns_of, rows_of, zone_named}
 use Rattle.bureau_store.specs.declared.caller.Caller.{Caller}

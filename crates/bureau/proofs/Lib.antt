@@ -9,5 +9,6 @@ pub mod ChangeFacts
 pub mod QuestionFacts
 pub mod CommitFacts
 pub mod AnswerFacts
+pub mod KeptFacts
 pub mod RunFacts
 pub mod RepeatFacts

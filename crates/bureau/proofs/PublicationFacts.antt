@@ -1,12 +1,14 @@
 -- What a body publishes, while it is read.
-use Rattle.std.proofs.Common.{◌≡◌, ◌≢◌, inl, inr, ℕ, false, List, [], ◌∷◌, refl, sym, ◌∙◌, ap, subst}
+use Rattle.std.proofs.Common.{◌≡◌, inl, inr, ℕ, false, List, [], ◌∷◌, refl, sym, ◌∙◌, ap, subst, map}
 use Rattle.std.specs.Prelude.{Option, Some, None, Result, Ok, Err, IsOk, IfErr, IsErrAnd, MatchOption, is_some}
 use Rattle.std.specs.List.{fold}
 use Rattle.faults.specs.FaultText.{text_of}
+use Rattle.faults.specs.Refusal.{IsRefusal}
 use Rattle.faults.specs.declared.any.AnyFault.{AnyFault}
 use Rattle.faults.specs.declared.fault.Cause.{Cause}
 use Rattle.faults.specs.declared.fault.Cause.TheVariants.{Input, Machine}
 use Rattle.holddata.specs.Statements.{first_of}
+use Rattle.mcs_reader.specs.Asking.{asking, reading_asking}
 use Rattle.mcs_reader.specs.McsFault as mcs
 use Rattle.mcs_reader.specs.declared.fault.McsFault.{McsFault}
 use Rattle.mcs_reader.specs.declared.fault.McsFault.TheVariants as mcs_fault
@@ -16,8 +18,8 @@ use Rattle.catalogue.specs.CatFault.{cat_fault_cause, cat_fault_line, cat_fault_
 use Rattle.catalogue.specs.declared.change.Change.{Change}
 use Rattle.catalogue.specs.declared.fault.CatFault.{CatFault}
 use Rattle.catalogue.specs.declared.fault.CatFault.TheVariants as cat_fault
-use Rattle.catalogue.proofs.ReadingLaws.{fault_here, faults_next, read_all, reads_next}
-use Rattle.catalogue.specs.Reading.{Begun, changes_in, faults_of, first_fault, nothing_begun, with_statement}
+use Rattle.catalogue.proofs.ReadingFacts.{fault_here, faults_next, read_all, reads_next}
+use Rattle.catalogue.specs.Reading.{Begun, changes_in, changes_of, faults_of, first_fault, nothing_begun, with_statement}
 use Rattle.bureau.specs.Bodies.{published_by, unless}
 use Rattle.bureau.specs.Faults.{IsTold}
 
@@ -30,6 +32,17 @@ published_from begun (Err fault) = Err (text_of (mcs.fault_number fault) (mcs.fa
 pub published_whole : (read : Read) → published_from nothing_begun read ≡ published_by read
 published_whole (Ok statements) = ap (unless (first_fault false statements)) (read_all statements)
 published_whole (Err fault) = refl
+
+-- whoever asks for the operands that are read has the whole body
+pub published_asking : (names : List (List ℕ)) (read : Read) → ((statements : List Statement) → changes_of (map (asking names) statements) ≡ changes_of statements)
+    → ((statements : List Statement) → first_fault false (map (asking names) statements) ≡ first_fault false statements)
+    → published_from nothing_begun (reading_asking names read) ≡ published_from nothing_begun read
+published_asking names (Ok statements) changes faults =
+    published_whole (Ok (map (asking names) statements))
+    ∙ ap (λ fault. unless fault (changes_of (map (asking names) statements))) (faults statements)
+    ∙ ap (unless (first_fault false statements)) (changes statements)
+    ∙ sym (published_whole (Ok statements))
+published_asking names (Err fault) changes faults = refl
 
 -- one more statement was read
 pub published_next : (begun new : Begun) (statement : Statement) (before left : Read) → before ≡ with_statements (statement ∷ []) left → new ≡ with_statement begun statement
@@ -46,41 +59,25 @@ published_next begun new statement before (Err fault) first now none = ap (publi
 abbrev pub of_source : McsFault → AnyFault
 of_source fault = record { number = mcs.fault_number fault; place = mcs.fault_line fault; cause = mcs.fault_cause fault }
 
--- what is told of a fault of what statements publish
-abbrev pub of_statement : CatFault → AnyFault
-of_statement fault = record { number = cat_fault_number fault; place = cat_fault_line fault; cause = cat_fault_cause fault }
-
-is_no_machine : Machine ≡ Input → ⊥
-is_no_machine e = cc
-
 -- what is left has a fault of reading
 pub told_of_source : (begun : Begun) (whole : Result (List Change) (List ℕ)) (before : Read) (fault : McsFault) → published_from begun before ≡ whole
-    → (fault ≢ mcs_fault.Memory → before ≡ Err fault) → IsTold whole (of_source fault)
-told_of_source begun whole before fault is refused = by (mcs.fault_cause fault) refl
+    → IsRefusal mcs_fault.Memory (λ (told : McsFault). before ≡ Err told) fault → IsTold whole (of_source fault)
+told_of_source begun whole before fault is refusal = elim refusal [
+  | inl memory ↦ inl (ap mcs.fault_cause memory)
+  | inr refused ↦ by (mcs.fault_cause fault) refl (sym is ∙ ap (published_from begun) refused)
+]
   where
-    at : (fault ≢ mcs_fault.Memory) → whole ≡ Err (text_of (mcs.fault_number fault) (mcs.fault_line fault))
-    at other = sym is ∙ ap (published_from begun) (refused other)
+    by : (cause : Cause) → mcs.fault_cause fault ≡ cause → whole ≡ Err (text_of (mcs.fault_number fault) (mcs.fault_line fault)) → IsTold whole (of_source fault)
+    by Machine e told = inl e
+    by Input e told = inr (e, told)
 
-    by : (cause : Cause) → mcs.fault_cause fault ≡ cause → IsTold whole (of_source fault)
-    by Machine e = inl e
-    by Input e = inr (e, at (λ m. is_no_machine (sym (ap mcs.fault_cause m) ∙ e)))
-
--- a statement publishes nothing for a fault, and what is behind it is read
-pub told_of_statement : (begun : Begun) (whole : Result (List Change) (List ℕ)) (statement : Statement) (before left : Read) (fault : CatFault)
-    → published_from begun before ≡ whole → before ≡ with_statements (statement ∷ []) left → IsOk left
-    → (fault ≢ cat_fault.Memory → first_of (faults_of (is_some begun.open_record) statement) ≡ Some fault) → IsTold whole (of_statement fault)
-told_of_statement begun whole statement before (Err other) fault is first ok refused = absurd (cc)
-told_of_statement begun whole statement before (Ok rest) fault is first ok refused = by (cat_fault_cause fault) refl
-  where
-    at : (fault ≢ cat_fault.Memory) → whole ≡ Err (text_of (cat_fault_number fault) (cat_fault_line fault))
-    at other =
-        sym is ∙ ap (published_from begun) first
-        ∙ ap (λ f. unless f (changes_in (fold with_statement begun (statement ∷ rest))))
-        (fault_here (is_some begun.open_record) (first_fault (is_some begun.open_record) (statement ∷ rest)) fault statement (statement ∷ rest) rest refl (refused other) refl)
-
-    by : (cause : Cause) → cat_fault_cause fault ≡ cause → IsTold whole (of_statement fault)
-    by Machine e = inl e
-    by Input e = inr (e, at (λ m. is_no_machine (sym (ap cat_fault_cause m) ∙ e)))
+-- what is refused after a statement is refused with it
+pub refused_before : (before left : Read) (statement : Statement) (fault : McsFault) → before ≡ with_statements (statement ∷ []) left
+    → IsRefusal mcs_fault.Memory (λ (told : McsFault). left ≡ Err told) fault → IsRefusal mcs_fault.Memory (λ (told : McsFault). before ≡ Err told) fault
+refused_before before left statement fault first refusal = elim refusal [
+  | inl memory ↦ inl memory
+  | inr refused ↦ inr (first ∙ ap (with_statements (statement ∷ [])) refused)
+]
 
 -- a fault that is passed on is told
 pub passed_on : {T A : Type 0} → (result : Result T AnyFault) (whole : Result A (List ℕ)) (fault : AnyFault) → IsErrAnd result (λ any. any ≡ fault) → IsTold whole fault → IfErr result (IsTold whole)

@@ -8,7 +8,7 @@ use Rattle.holddata.specs.declared.key.Kind.TheVariants.{ErrorHold, FixcatHold}
 use Rattle.zone_lists.specs.declared.zones.ZoneRow.{ZoneRow}
 use Rattle.catalogue.specs.Content.{Content}
 use Rattle.catalogue.specs.Published.{Keeps, Tells}
-use Rattle.catalogue.proofs.Sources.{told_sooner, told_later, told_both}
+use Rattle.catalogue.proofs.SourceFacts.{told_sooner, told_later, told_both}
 use Rattle.reports.specs.ChainText.{chain_text_of}
 use Rattle.reports.specs.ErrRows.{err_rows_of}
 use Rattle.reports.specs.MissingRows.{missing_rows_of}

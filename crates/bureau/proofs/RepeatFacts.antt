@@ -1,7 +1,8 @@
 -- A change that comes again finds its number taken.
-use Rattle.std.proofs.Common.{◌≡◌, ◌⊎◌, ℕ, ◌+◌, ◌<◌, ◌==◌, ◌&&◌, ◌++◌, Bool, true, false, List, [], ◌∷◌, get_or, nat_le, refl, sym, ◌∙◌, ap, subst, inl, inr, arith}
-use Rattle.std.specs.Prelude.{Option, Some, None, Result, Ok, Err, nat_lt, if◌then◌else◌}
+use Rattle.std.proofs.Common.{◌≡◌, ◌⊎◌, ℕ, ◌+◌, ◌<◌, ◌==◌, ◌&&◌, ◌++◌, Bool, true, false, List, [], ◌∷◌, get_or, nat_le, suc, refl, sym, ◌∙◌, ap, subst, inl, inr, arith}
+use Rattle.std.specs.Prelude.{All, Any, Option, Some, None, Result, Ok, Err, length, nat_lt, if◌then◌else◌}
 use Rattle.std.proofs.lemmas.Bool.Decides.{nat_tests}
+use Rattle.std.proofs.lemmas.List.Elements.{All-cons, All-nil}
 use Rattle.bureau_store.specs.Caller.{is_caller}
 use Rattle.bureau_store.specs.Effect.{Effect}
 use Rattle.bureau_store.specs.Tables.{LastChange, Tables, ZoneTable, zone_named}
@@ -10,8 +11,8 @@ use Rattle.bureau_store.specs.declared.caller.Caller.TheVariants.{Publisher, Cli
 use Rattle.bureau.specs.Bodies.{changes_in, rows_in, ids_in, patterns_in}
 use Rattle.bureau.specs.Call.{Call, publish, put_zone, drop_zone, put_received, put_patterns, list_zones, err_sysmods, missing_fix, chain, counts}
 use Rattle.bureau.specs.Joint.{IsRun, IsStep, Turn, tables_left}
-use Rattle.bureau.specs.Outcome.{Answer, Outcome, answered, accepted, answer_of, bad_number, by_number, gap, greatest_number, has_room, in_turn, may_ask, no_room, of_zone, outcome, outcome_allowed, plain, refused, said, stale, told}
-use Rattle.bureau.specs.Repeat.{ActsOnce, IsChange, StaysStale, number_of}
+use Rattle.bureau.specs.Outcome.{Answer, Outcome, answered, accepted, answer_of, bad_number, by_number, forbidden, gap, greatest_number, has_room, in_turn, may_ask, no_room, of_zone, outcome, outcome_allowed, plain, refused, said, stale, told}
+use Rattle.bureau.specs.Repeat.{ActsOnce, GoesStale, IsChange, IsLater, IsRunWithout, KeepsReply, StaysStale, number_of}
 use Rattle.bureau.specs.View.{View, view_of}
 use Rattle.bureau.proofs.NamesFacts.{own_caller, same_caller}
 
@@ -131,49 +132,108 @@ standing_by false false false last n p q r = is_above (grind (arith, nat_tests))
 standing : (last n : ℕ) → Standing last n
 standing last n = standing_by (n == last) (n == last + 1) (nat_lt n last) last n refl refl refl
 
+-- ---- what is accepted
+
+in_turn_accepted : (last : LastChange) (number : Option ℕ) (change : Outcome) (effect : Effect) (text : List ℕ) → in_turn last number change ≡ accepted effect text
+    → number ≡ Some (last.number + 1)
+in_turn_accepted last None change effect text e = absurd (cc)
+in_turn_accepted last (Some n) change effect text e = by (in_range n) refl
+  where
+    stood : Standing last.number n → by_number n last change ≡ accepted effect text → Some n ≡ Some (last.number + 1)
+    stood (is_last same) f = let again = sym f ∙ again_taken last n change same in absurd (cc)
+    stood (is_next same) f = ap Some same
+    stood (is_below low) f = let passed = sym f ∙ passed_taken last n change low in absurd (cc)
+    stood (is_above over) f = let left_out = sym f ∙ gap_taken last n change over in absurd (cc)
+
+    by : (t : Bool) → in_range n ≡ t → Some n ≡ Some (last.number + 1)
+    by true range = stood (standing last.number n) (sym (ranged last n change range) ∙ e)
+    by false range = let none = sym e ∙ unranged last n change range in absurd (cc)
+
+none_of_zone : {A : Type 0} (found : Option ZoneTable) (answer : ZoneTable → Answer) (effect : Effect) (text : List ℕ)
+    → of_zone found (λ table. answered (answer table)) ≡ accepted effect text → A
+none_of_zone None answer effect text e = absurd (cc)
+none_of_zone (Some table) answer effect text e = absurd (cc)
+
+allowed_accepted : (view : View) (call : Call) (effect : Effect) (text : List ℕ) → outcome_allowed view call ≡ accepted effect text
+    → number_of call ≡ Some (view.last.number + 1)
+allowed_accepted view (publish number body) effect text e = in_turn_accepted view.last number _ effect text e
+allowed_accepted view (put_zone number zone body) effect text e = in_turn_accepted view.last number _ effect text e
+allowed_accepted view (drop_zone number zone) effect text e = in_turn_accepted view.last number _ effect text e
+allowed_accepted view (put_received number body) effect text e = in_turn_accepted view.last number _ effect text e
+allowed_accepted view (put_patterns number zone body) effect text e = in_turn_accepted view.last number _ effect text e
+allowed_accepted view list_zones effect text e = absurd (cc)
+allowed_accepted view (err_sysmods zone) effect text e = none_of_zone (zone_named zone view.zones) _ effect text e
+allowed_accepted view (missing_fix zone) effect text e = none_of_zone (zone_named zone view.zones) _ effect text e
+allowed_accepted view (chain zone sysmod) effect text e = none_of_zone (zone_named zone view.zones) _ effect text e
+allowed_accepted view counts effect text e = absurd (cc)
+
+asked_accepted : (view : View) (call : Call) (effect : Effect) (text : List ℕ) → outcome view call ≡ accepted effect text
+    → (may_ask view.caller call ≡ true) × (number_of call ≡ Some (view.last.number + 1))
+asked_accepted view call effect text e = by (may_ask view.caller call) refl
+  where
+    by : (t : Bool) → may_ask view.caller call ≡ t → (may_ask view.caller call ≡ true) × (number_of call ≡ Some (view.last.number + 1))
+    by true is = (is, allowed_accepted view call effect text (sym (ap (λ b. if b then outcome_allowed view call else answered forbidden) is) ∙ e))
+    by false is = let refused = sym (ap (λ b. if b then outcome_allowed view call else answered forbidden) is) ∙ e in absurd (cc)
+
 -- ---- numbers only rise
 
-last_goes_by : (caller other : Caller) (come : Outcome) (old : Tables)
-    → ((tables_left caller come old).last other ≡ old.last other) ⊎ (((tables_left caller come old).last other).number ≡ (old.last other).number + 1)
-last_goes_by caller other (answered answer) old = inl refl
-last_goes_by caller other (accepted effect text) old = by (is_caller caller other) refl
-  where
-    by : (b : Bool) → is_caller caller other ≡ b
-        → ((tables_left caller (accepted effect text) old).last other ≡ old.last other)
-        ⊎ (((tables_left caller (accepted effect text) old).last other).number ≡ (old.last other).number + 1)
-    by true is = inr (rw is (ap (λ c. (old.last c).number + 1) (same_caller caller other is)))
-    by false is = inl (rw is refl)
+-- a turn at which a caller's change is accepted
+record Accepts (old new : Tables) (turn : Turn) (caller : Caller) : Type 0 where
+  by : turn.caller ≡ caller
+  is : IsChange ((old.last caller).number + 1) turn
+  told_is : turn.answer.status ≡ 200
+  next : (new.last caller).number ≡ (old.last caller).number + 1
 
-last_goes : (old new : Tables) (turn : Turn) → IsStep old turn new → (other : Caller)
-    → (new.last other ≡ old.last other) ⊎ ((new.last other).number ≡ (old.last other).number + 1)
+accepts_by : (old new : Tables) (turn : Turn) (caller : Caller) (effect : Effect) (text : List ℕ) → turn.caller ≡ caller
+    → outcome (view_of turn.caller old) turn.call ≡ accepted effect text → turn.answer ≡ answer_of (outcome (view_of turn.caller old) turn.call)
+    → new ≡ tables_left turn.caller (outcome (view_of turn.caller old) turn.call) old → Accepts old new turn caller
+accepts_by old new turn caller effect text by comes answers leaves =
+    let asked = asked_accepted (view_of turn.caller old) turn.call effect text comes in
+    let left : new.last turn.caller ≡ record { number = (old.last turn.caller).number + 1; reply = text } =
+    ap (λ (t : Tables). t.last turn.caller) (leaves ∙ ap (λ o. tables_left turn.caller o old) comes)
+    ∙ ap (λ b. if b then record { number = (old.last turn.caller).number + 1; reply = text } else old.last turn.caller) (own_caller turn.caller) in
+    let numbered_so = asked.1 ∙ ap (λ (last : LastChange). Some (last.number + 1)) (view_last turn.caller old) in
+    record {
+      by = by;
+      is = record {
+        allowed = ap (λ c. may_ask c turn.call) (sym (view_caller turn.caller old)) ∙ asked.0;
+        number = numbered_so ∙ ap (λ c. Some ((old.last c).number + 1)) by;
+      };
+      told_is = ap (λ (a : Answer). a.status) (answers ∙ ap answer_of comes);
+      next = ap (λ c. (new.last c).number) (sym by) ∙ ap (λ (last : LastChange). last.number) left ∙ ap (λ c. (old.last c).number + 1) by;
+    }
+
+last_goes : (old new : Tables) (turn : Turn) → IsStep old turn new → (other : Caller) → (new.last other ≡ old.last other) ⊎ Accepts old new turn other
 last_goes old new turn (inl none) other = inl (ap (λ (t : Tables). t.last other) none.1)
-last_goes old new turn (inr made) other =
-    subst (λ (t : Tables). (t.last other ≡ old.last other) ⊎ ((t.last other).number ≡ (old.last other).number + 1)) (sym made.1)
-    (last_goes_by turn.caller other (outcome (view_of turn.caller old) turn.call) old)
+last_goes old new turn (inr made) other = comes (outcome (view_of turn.caller old) turn.call) refl
+  where
+    by : (b : Bool) (effect : Effect) (text : List ℕ) → outcome (view_of turn.caller old) turn.call ≡ accepted effect text → is_caller turn.caller other ≡ b
+        → (new.last other ≡ old.last other) ⊎ Accepts old new turn other
+    by true effect text e is = inr (accepts_by old new turn other effect text (same_caller turn.caller other is) e made.0 made.1)
+    by false effect text e is =
+        inl (ap (λ (t : Tables). t.last other) (made.1 ∙ ap (λ o. tables_left turn.caller o old) e)
+        ∙ ap (λ b. if b then record { number = (old.last turn.caller).number + 1; reply = text } else old.last other) is)
+
+    comes : (come : Outcome) → outcome (view_of turn.caller old) turn.call ≡ come → (new.last other ≡ old.last other) ⊎ Accepts old new turn other
+    comes (answered answer) e = inl (ap (λ (t : Tables). t.last other) (made.1 ∙ ap (λ o. tables_left turn.caller o old) e))
+    comes (accepted effect text) e = by (is_caller turn.caller other) effect text e refl
 
 -- the number is a caller's last one, with this reply, or below
-abbrev IsTaken : Caller → ℕ → List ℕ → Tables → Type 0
-IsTaken caller n reply tables =
-    (n < (tables.last caller).number) ⊎ ((n ≡ (tables.last caller).number) × (reply ≡ (tables.last caller).reply))
+abbrev IsLast : Caller → ℕ → List ℕ → Tables → Type 0
+IsLast caller n reply tables = (n ≡ (tables.last caller).number) × (reply ≡ (tables.last caller).reply)
 
 abbrev IsPassed : Caller → ℕ → Tables → Type 0
 IsPassed caller n tables = n < (tables.last caller).number
 
-taken_step : (caller : Caller) (n : ℕ) (reply : List ℕ) (old new : Tables) (turn : Turn) → IsStep old turn new → IsTaken caller n reply old → IsTaken caller n reply new
-taken_step caller n reply old new turn step taken = by (last_goes old new turn step caller) taken
-  where
-    by : (new.last caller ≡ old.last caller) ⊎ ((new.last caller).number ≡ (old.last caller).number + 1) → IsTaken caller n reply old → IsTaken caller n reply new
-    by (inl same) (inl low) = inl (subst (λ (last : LastChange). n < last.number) (sym same) low)
-    by (inl same) (inr last) = inr (last.0 ∙ ap (λ (last : LastChange). last.number) (sym same), last.1 ∙ ap (λ (last : LastChange). last.reply) (sym same))
-    by (inr next) (inl low) = inl (omega (arith, next, low))
-    by (inr next) (inr last) = let e = last.0 in inl (omega (arith, next, e))
+abbrev IsTaken : Caller → ℕ → List ℕ → Tables → Type 0
+IsTaken caller n reply tables = IsPassed caller n tables ⊎ IsLast caller n reply tables
 
 passed_step : (caller : Caller) (n : ℕ) (old new : Tables) (turn : Turn) → IsStep old turn new → IsPassed caller n old → IsPassed caller n new
 passed_step caller n old new turn step low = by (last_goes old new turn step caller)
   where
-    by : (new.last caller ≡ old.last caller) ⊎ ((new.last caller).number ≡ (old.last caller).number + 1) → IsPassed caller n new
+    by : (new.last caller ≡ old.last caller) ⊎ Accepts old new turn caller → IsPassed caller n new
     by (inl same) = subst (λ (last : LastChange). n < last.number) (sym same) low
-    by (inr next) = omega (arith, next, low)
+    by (inr made) = let next = made.next in omega (arith, next, low)
 
 kept_by_run : (P : Tables → Type 0) → ((old new : Tables) (turn : Turn) → IsStep old turn new → P old → P new) → (old new : Tables) (turns : List Turn)
     → IsRun old turns new → P old → P new
@@ -192,7 +252,7 @@ record IsToldTaken (n : ℕ) (first : Turn) (new : Tables) : Type 0 where
   reply : List ℕ
   range : in_range n ≡ true
   told_is : first.answer ≡ plain 200 reply
-  taken : IsTaken first.caller n reply new
+  taken : IsLast first.caller n reply new
 
 no_status : {A : Type 0} (answer : Answer) (a b : ℕ) → answer.status ≡ a → answer.status ≡ b → (a ≡ b → ⊥) → A
 no_status answer a b p q differ = absurd (differ (sym p ∙ q))
@@ -213,7 +273,7 @@ made_taken old new first n come (accepted effect text) refuses is next range ans
       reply = text;
       range = range;
       told_is = answers ∙ ap answer_of is;
-      taken = inr (next ∙ ap (λ (last : LastChange). last.number) (sym left), ap (λ (last : LastChange). last.reply) (sym left));
+      taken = (next ∙ ap (λ (last : LastChange). last.number) (sym left), ap (λ (last : LastChange). last.reply) (sym left));
     }
 
 stood_taken : (old new : Tables) (first : Turn) (n : ℕ) (come change : Outcome) → Refuses change → in_range n ≡ true
@@ -226,7 +286,7 @@ stood_taken old new first n come change refuses range is answers leaves ok (is_l
       reply = (old.last first.caller).reply;
       range = range;
       told_is = answers ∙ ap answer_of again;
-      taken = inr (e ∙ ap (λ (t : Tables). (t.last first.caller).number) (sym same), ap (λ (t : Tables). (t.last first.caller).reply) (sym same));
+      taken = (e ∙ ap (λ (t : Tables). (t.last first.caller).number) (sym same), ap (λ (t : Tables). (t.last first.caller).reply) (sym same));
     }
 stood_taken old new first n come change refuses range is answers leaves ok (is_next e) =
     made_taken old new first n come change refuses (is ∙ next_taken (old.last first.caller) n change e) e range answers leaves ok
@@ -252,21 +312,56 @@ first_taken old new first n (inr made) is ok = by (in_range n) refl
         let e = turned.is ∙ unranged (old.last first.caller) n turned.change range in
         no_status first.answer 400 200 (ap (λ (a : Answer). a.status) made.0 ∙ ap (λ o. (answer_of o).status) e) ok (λ same. omega (arith, same))
 
+-- ---- whether a later one is accepted
+
+any_here : {X : Type 0} (P : X → Type 0) (x : X) (xs : List X) → P x → Any P (x ∷ xs)
+any_here P x xs p = (0, x, omega arith, refl, p)
+
+any_there : {X : Type 0} (P : X → Type 0) (x : X) (xs : List X) → Any P xs → Any P (x ∷ xs)
+any_there P x xs any =
+    let k = any.0 in
+    let low : k < length xs = any.2 in (suc k, any.1, omega arith, any.3, any.4)
+
+-- while the last number stays, no turn is a later one
+none_later : (caller : Caller) (n : ℕ) (old new : Tables) (turn : Turn) → IsStep old turn new → n ≡ (old.last caller).number → new.last caller ≡ old.last caller
+    → IsLater caller n turn → ⊥
+none_later caller n old new turn step is same later =
+    let took = first_taken old new turn later.number step later.is later.accepted in
+    let last : later.number ≡ (old.last caller).number = took.taken.0 ∙ ap (λ c. (new.last c).number) later.by ∙ ap (λ (l : LastChange). l.number) same in
+    let low = later.later in omega (arith, is, last, low)
+
+is_later : (caller : Caller) (n : ℕ) (old new : Tables) (turn : Turn) → n ≡ (old.last caller).number → Accepts old new turn caller → IsLater caller n turn
+is_later caller n old new turn is made = record { by = made.by; number = (old.last caller).number + 1; is = made.is; later = omega (arith, is); accepted = made.told_is }
+
+-- no later change of the caller was accepted, and its last one is the same; or one was, and the number is below the last one
+abbrev Passes : Caller → ℕ → Tables → List Turn → Tables → Type 0
+Passes caller n old turns new =
+    (All (λ turn. IsLater caller n turn → ⊥) turns × (new.last caller ≡ old.last caller)) ⊎ (Any (IsLater caller n) turns × IsPassed caller n new)
+
+passes : (caller : Caller) (n : ℕ) (old new : Tables) (turns : List Turn) → IsRun old turns new → n ≡ (old.last caller).number → Passes caller n old turns new
+passes caller n old new [] run is = inl (All-nil (λ turn. IsLater caller n turn → ⊥), ap (λ (t : Tables). t.last caller) run)
+passes caller n old new (turn ∷ turns) run is = by (passes caller n run.0 new turns run.2) (last_goes old run.0 turn run.1 caller)
+  where
+    rest : run.0.last caller ≡ old.last caller → Passes caller n run.0 turns new → Passes caller n old (turn ∷ turns) new
+    rest same (inl none) = inl (All-cons (λ turn. IsLater caller n turn → ⊥) turn turns (none_later caller n old run.0 turn run.1 is same) none.0, none.1 ∙ same)
+    rest same (inr passed) = inr (any_there (IsLater caller n) turn turns passed.0, passed.1)
+
+    by : (n ≡ (run.0.last caller).number → Passes caller n run.0 turns new) → (run.0.last caller ≡ old.last caller) ⊎ Accepts old run.0 turn caller
+        → Passes caller n old (turn ∷ turns) new
+    by more (inl same) = rest same (more (is ∙ ap (λ (last : LastChange). last.number) (sym same)))
+    by more (inr made) =
+        let next = made.next in
+        inr (any_here (IsLater caller n) turn turns (is_later caller n old run.0 turn is made), kept_by_run (IsPassed caller n) (λ old new turn. passed_step caller n old new turn) run.0 new turns run.2 (omega (arith, next, is)))
+
 -- ---- and again
 
-again_told : (old new : Tables) (again : Turn) (n : ℕ) (reply : List ℕ) → IsStep old again new → IsChange n again → in_range n ≡ true → IsTaken again.caller n reply old
-    → (again.answer ≡ no_room) ⊎ ((again.answer ≡ plain 200 reply) ⊎ (again.answer ≡ stale))
-again_told old new again n reply (inl none) is range taken = inl none.0
-again_told old new again n reply (inr made) is range taken = inr (by taken)
-  where
-    turned : ComesInTurn (old.last again.caller) n (outcome (view_of again.caller old) again.call)
-    turned = turn_in_turn old again n is
-
-    by : IsTaken again.caller n reply old → (again.answer ≡ plain 200 reply) ⊎ (again.answer ≡ stale)
-    by (inl low) = inr (made.0 ∙ ap answer_of (turned.is ∙ ranged (old.last again.caller) n turned.change range ∙ passed_taken (old.last again.caller) n turned.change low))
-    by (inr last) =
-        inl (made.0 ∙ ap answer_of (turned.is ∙ ranged (old.last again.caller) n turned.change range ∙ again_taken (old.last again.caller) n turned.change last.0)
-        ∙ ap (plain 200) (sym last.1))
+again_kept : (old new : Tables) (again : Turn) (n : ℕ) (reply : List ℕ) → IsStep old again new → IsChange n again → in_range n ≡ true → IsLast again.caller n reply old
+    → (again.answer ≡ no_room) ⊎ (again.answer ≡ plain 200 reply)
+again_kept old new again n reply (inl none) is range last = inl none.0
+again_kept old new again n reply (inr made) is range last =
+    let turned = turn_in_turn old again n is in
+    inr (made.0 ∙ ap answer_of (turned.is ∙ ranged (old.last again.caller) n turned.change range ∙ again_taken (old.last again.caller) n turned.change last.0)
+    ∙ ap (plain 200) (sym last.1))
 
 again_stale : (old new : Tables) (again : Turn) (n : ℕ) → IsStep old again new → IsChange n again → in_range n ≡ true → IsPassed again.caller n old
     → (again.answer ≡ no_room) ⊎ (again.answer ≡ stale)
@@ -342,20 +437,43 @@ without opening at mid now closing before first between after run step more rest
 -- ---- over a run
 
 pub acts_once : (opening closing : Tables) (turns : List Turn) → IsRun opening turns closing → ActsOnce opening turns closing
-acts_once opening closing turns run first again comes ok =
-    let whole = subst (λ (ts : List Turn). IsRun opening ts closing) comes.are run in
-    let at = split_run comes.before _ opening closing whole in
-    let took = first_taken at.0 at.2.0 first comes.number at.2.1 comes.first_is ok in
-    let later = split_run comes.between _ at.2.0 closing at.2.2 in
-    let kept = kept_by_run (IsTaken first.caller comes.number took.reply) (λ old new turn. taken_step first.caller comes.number took.reply old new turn) at.2.0 later.0 comes.between later.1 took.taken in
-    let taken = subst (λ caller. IsTaken caller comes.number took.reply later.0) (sym comes.caller) kept in
-    let leaves = again_leaves later.0 later.2.0 again comes.number took.reply later.2.1 comes.again_is took.range taken in (
-      elim (again_told later.0 later.2.0 again comes.number took.reply later.2.1 comes.again_is took.range taken) [
-        | inl none ↦ inl none
-        | inr told_so ↦ inr (elim told_so [ inl same ↦ inl (same ∙ sym took.told_is) | inr passed ↦ inr passed ])
+acts_once opening closing turns run first again comes ok = by (passes first.caller n at.2.0 later.0 comes.between later.1 took.taken.0)
+  where
+    n : ℕ
+    n = comes.number
+
+    at : (at : Tables) × IsRun opening comes.before at × IsRun at (first ∷ (comes.between ++ again ∷ comes.after)) closing
+    at = split_run comes.before _ opening closing (subst (λ (ts : List Turn). IsRun opening ts closing) comes.are run)
+
+    took : IsToldTaken n first at.2.0
+    took = first_taken at.0 at.2.0 first n at.2.1 comes.first_is ok
+
+    later : (now : Tables) × IsRun at.2.0 comes.between now × IsRun now (again ∷ comes.after) closing
+    later = split_run comes.between _ at.2.0 closing at.2.2
+
+    left : IsTaken first.caller n took.reply later.0 → IsRunWithout opening comes closing
+    left taken =
+        without opening at.0 at.2.0 later.0 closing comes.before first comes.between comes.after at.1 at.2.1 later.1
+        (subst (λ (t : Tables). IsRun t comes.after closing)
+        (again_leaves later.0 later.2.0 again n took.reply later.2.1 comes.again_is took.range (subst (λ caller. IsTaken caller n took.reply later.0) (sym comes.caller) taken)) later.2.2)
+
+    by : Passes first.caller n at.2.0 comes.between later.0
+        → ((again.answer ≡ no_room) ⊎ (KeepsReply comes ⊎ GoesStale comes)) × IsRunWithout opening comes closing
+    by (inl none) =
+        let last : IsLast first.caller n took.reply later.0 =
+        (took.taken.0 ∙ ap (λ (last : LastChange). last.number) (sym none.1), took.taken.1 ∙ ap (λ (last : LastChange). last.reply) (sym none.1)) in (
+          elim (again_kept later.0 later.2.0 again n took.reply later.2.1 comes.again_is took.range (subst (λ caller. IsLast caller n took.reply later.0) (sym comes.caller) last)) [
+            | inl none_left ↦ inl none_left
+            | inr same ↦ inr (inl (none.0, same ∙ sym took.told_is))
+          ],
+          left (inr last),
+        )
+    by (inr passed) = (
+      elim (again_stale later.0 later.2.0 again n later.2.1 comes.again_is took.range (subst (λ caller. IsPassed caller n later.0) (sym comes.caller) passed.1)) [
+        | inl none_left ↦ inl none_left
+        | inr gone ↦ inr (inr (passed.0, gone))
       ],
-      without opening at.0 at.2.0 later.0 closing comes.before first comes.between comes.after at.1 at.2.1 later.1
-          (subst (λ (t : Tables). IsRun t comes.after closing) leaves later.2.2),
+      left (inl passed.1),
     )
 
 pub stays_stale : (opening closing : Tables) (turns : List Turn) → IsRun opening turns closing → StaysStale opening turns closing

@@ -1,5 +1,5 @@
 -- What a call leaves of the bureau, whatever its store and its judge are.
-use Rattle.std.specs.Prelude.{◌≡◌, ◌⊎◌, ◌≤◌, ℕ, List, [], ◌∷◌, All}
+use Rattle.std.specs.Prelude.{◌≤◌, ℕ, List, [], ◌∷◌, All}
 use Rattle.catalogue.specs.Content.{Content}
 use Rattle.catalogue.specs.Published.{Stands}
 use Rattle.bureau_store.specs.Caller.{IsAmong}
@@ -9,17 +9,12 @@ use Rattle.bureau_store.specs.declared.caller.CallerRow.{CallerRow}
 use Rattle.bureau.specs.Call.{Call}
 use Rattle.bureau.specs.Calls.{call_as}
 use Rattle.bureau.specs.Joint.{IsStep, Turn}
-use Rattle.bureau.specs.Outcome.{Answer, Outcome, accepted, answered, no_room, outcome}
+use Rattle.bureau.specs.Kept.{IsKeptBy}
+use Rattle.bureau.specs.Outcome.{Answer}
 use Rattle.bureau.specs.Parts.{Parts}
 use Rattle.bureau.specs.Replies.{reply_as}
-use Rattle.bureau.specs.View.{view_of}
 use Rattle.bureau.specs.declared.call.Call as declared
 use Rattle.bureau.specs.declared.reply.Reply.{Reply}
-
--- nothing comes of a call but an answer
-abbrev pub IsAnswerAlone : Outcome → Type 0
-IsAnswerAlone (answered answer) = Unit {0}
-IsAnswerAlone (accepted effect text) = ⊥
 
 -- What is known of the disk is known afterwards, of all that happened so far; that the file is ours stays true, a
 -- store that was shut stays shut, and failures are counted.
@@ -42,13 +37,12 @@ IsAnswered is_clean is_ours is_open tables is_right old new caller call answer =
     is_ours old.store → is_clean new.store → (this : Tables) → Holds is_open tables is_right old this → IsAmong this.callers caller →
     (next : Tables) × IsStep this (record { caller = caller; call = call; answer = answer }) next × Holds is_open tables is_right new next
 
--- A change that is told as accepted was made by a store that is open: there was no room, or nothing comes of the call but
--- its answer, or the store is open now.
+-- A change that is told as accepted was made by a store that is open.
 abbrev pub IsKept : {Store Judge : Type 0} → (Store → Type 0) → (Store → Type 0) → (Store → Type 0) → (Store → Tables) → (Judge → Content → Type 0)
     → Parts Store Judge → Parts Store Judge → Caller → Call → Answer → Type 0
 IsKept is_clean is_ours is_open tables is_right old new caller call answer =
     is_ours old.store → is_clean new.store → (this : Tables) → Holds is_open tables is_right old this → IsAmong this.callers caller →
-    (answer ≡ no_room) ⊎ (IsAnswerAlone (outcome (view_of caller this) call) ⊎ is_open new.store)
+    IsKeptBy (is_open new.store) this (record { caller = caller; call = call; answer = answer })
 
 -- the turns of calls with their answers, as far as both go
 abbrev pub turns_of : List (Caller × declared.Call) → List Reply → List Turn

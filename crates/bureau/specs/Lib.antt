@@ -1,6 +1,7 @@
 pub mod Alone
 pub mod Call
 pub mod Joint
+pub mod Kept
 pub mod Repeat
 pub mod Outcome
 pub mod Own

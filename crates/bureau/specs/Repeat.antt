@@ -1,6 +1,7 @@
 -- Changes that come again: each acts once.
-use Rattle.std.specs.Prelude.{◌≡◌, ◌⊎◌, ◌++◌, ℕ, true, List, ◌∷◌, Option, Some, None}
+use Rattle.std.specs.Prelude.{◌≡◌, ◌<◌, ◌⊎◌, ◌++◌, ℕ, true, List, ◌∷◌, All, Any, Option, Some, None}
 use Rattle.bureau_store.specs.Tables.{Tables}
+use Rattle.bureau_store.specs.declared.caller.Caller.{Caller}
 use Rattle.bureau.specs.Call.{Call, publish, put_zone, drop_zone, put_received, put_patterns, list_zones, err_sysmods, missing_fix, chain, counts}
 use Rattle.bureau.specs.Joint.{IsRun, Turn}
 use Rattle.bureau.specs.Outcome.{may_ask, no_room, stale}
@@ -38,12 +39,28 @@ pub record ComesAgain (turns : List Turn) (first again : Turn) : Type 0 where
 abbrev pub IsRunWithout : Tables → {turns : List Turn} → {first again : Turn} → ComesAgain turns first again → Tables → Type 0
 IsRunWithout opening {turns} {first} comes closing = IsRun opening (comes.before ++ first ∷ (comes.between ++ comes.after)) closing
 
--- A change that was told 200 is told the same when it comes again, or, once a later change was made, STALE; unless
--- there is no room. The tables are those that there are without its second coming.
+-- a change of the same caller with a later number, which was accepted
+pub record IsLater (caller : Caller) (n : ℕ) (turn : Turn) : Type 0 where
+  pub by : turn.caller ≡ caller
+  pub number : ℕ
+  pub is : IsChange number turn
+  pub later : n < number
+  pub accepted : turn.answer.status ≡ 200
+
+-- no later change of its caller was accepted before it came again, and it is told the same
+abbrev pub KeepsReply : {turns : List Turn} → {first again : Turn} → ComesAgain turns first again → Type 0
+KeepsReply {turns} {first} {again} comes = All (λ turn. IsLater first.caller comes.number turn → ⊥) comes.between × (again.answer ≡ first.answer)
+
+-- a later change of its caller was accepted before it came again, and it is told STALE
+abbrev pub GoesStale : {turns : List Turn} → {first again : Turn} → ComesAgain turns first again → Type 0
+GoesStale {turns} {first} {again} comes = Any (IsLater first.caller comes.number) comes.between × (again.answer ≡ stale)
+
+-- A change that was told 200 is told the same when it comes again, as long as no later change of its caller was accepted,
+-- and STALE from then on; unless there is no room. The tables are those that there are without its second coming.
 abbrev pub ActsOnce : Tables → List Turn → Tables → Type 0
 ActsOnce opening turns closing =
     (first again : Turn) → (comes : ComesAgain turns first again) → first.answer.status ≡ 200 →
-    ((again.answer ≡ no_room) ⊎ ((again.answer ≡ first.answer) ⊎ (again.answer ≡ stale))) × IsRunWithout opening comes closing
+    ((again.answer ≡ no_room) ⊎ (KeepsReply comes ⊎ GoesStale comes)) × IsRunWithout opening comes closing
 
 -- A change that was told STALE is told so from then on, unless there is no room, and changes nothing.
 abbrev pub StaysStale : Tables → List Turn → Tables → Type 0

@@ -7,10 +7,11 @@ ghost use Rattle.bureau_store.specs.Tables.{AreInOrder, Tables};
 ghost use Rattle.bureau_store.specs.declared.caller.Caller.{Caller};
 ghost use Rattle.bureau_store.specs.declared.caller.CallerRow.{CallerRow};
 ghost use Rattle.bureau.specs.Alone.{AreAnsweredAlike, IsAlone, opening_of};
-ghost use Rattle.bureau.specs.Answering.{AreAnswered, Goes, IsAnswered, IsKept, turns_of};
+ghost use Rattle.bureau.specs.Answering.{AreAnswered, Goes, Holds, IsAnswered, IsKept, turns_of};
 ghost use Rattle.bureau.specs.Calls.{call_as};
 ghost use Rattle.bureau.specs.Come.{answer_in};
 ghost use Rattle.bureau.specs.Joint.{IsRun, Turn};
+ghost use Rattle.bureau.specs.Kept.{IsKeptRun};
 ghost use Rattle.bureau.specs.Repeat.{ActsOnce, StaysStale};
 ghost use Rattle.bureau.specs.Replies.{reply_as};
 
@@ -88,7 +89,7 @@ impl<S: Store, J: Judge<S>> Bureau<S, J> {
             (λ this. found ≡ caller_with this.callers token.now)) }
         ensures proper { IfOk result (λ found. IfSome found IsProper) }
         ensures of_call { IfErr result IsOfCall }
-        ensures cause { FailsForCause S.is_open S.failures self.old.store self.new.store result }
+        ensures cause { FailsForCause S.is_open S.failures S.outgrown self.old.store self.new.store result }
         ensures shut { ShutsByFault S.is_open self.old.store self.new.store result }
     {
         let found = self.desk.caller_of(token)?;
@@ -114,6 +115,9 @@ impl<S: Store, J: Judge<S>> Bureau<S, J> {
     /// What is answered to calls, one after the other. The room for the list of answers is taken before the first
     /// call.
     ///
+    /// `kept` is the run with the bureau as each call left it: each change that is told as accepted was made by a
+    /// store that was open, and none is told so once a failure has shut it.
+    ///
     /// `alone` and `alike` are isolation (see [`isolation`](crate::isolation)): each caller is answered as by a bureau
     /// that received the publisher's calls and that caller's alone. `once` and `stale` say that a change acts once (see
     /// [`repeats`](crate::repeats)).
@@ -127,6 +131,8 @@ impl<S: Store, J: Judge<S>> Bureau<S, J> {
         ensures length { IfOk result (λ replies. length replies.items ≡ length calls.now) }
         ensures run { IfOk result (λ replies. AreAnswered S.is_clean S.is_ours S.is_open S.tables J.is_right self.old self.new calls.now
             (λ this next. IsRun this (turns_of calls.now replies.items) next)) }
+        ensures kept { IfOk result (λ replies. AreAnswered S.is_clean S.is_ours S.is_open S.tables J.is_right self.old self.new calls.now
+            (λ this next. IsKeptRun (λ bureau. S.is_open bureau.store) (Holds S.is_open S.tables J.is_right) self.old self.new this (turns_of calls.now replies.items) next)) }
         ensures alone { IfOk result (λ replies. AreAnswered S.is_clean S.is_ours S.is_open S.tables J.is_right self.old self.new calls.now
             (λ this next. AreInOrder this → (viewer : Caller) → IsAlone viewer (opening_of viewer this) (turns_of calls.now replies.items))) }
         ensures alike { IfOk result (λ replies. AreAnswered S.is_clean S.is_ours S.is_open S.tables J.is_right self.old self.new calls.now

@@ -5,18 +5,18 @@ ghost use Rattle.catalogue.specs.declared.fault.CatFault.TheVariants.{Memory};
 ghost use Rattle.bureau.specs.Bodies as Bodies;
 ghost use Rattle.bureau.specs.Faults.{IsTold};
 
-use catalogue::{CatFault, Change, ChangeReader};
+use catalogue::{CatFault, Change, ChangeReader, publication_operands};
 use faults::AnyFault;
 use mcs_reader::Statements;
 use std::alloc::Global;
 
-/// What the statements of a body publish. No statement is kept, and what is behind the first that publishes
+/// What the statements of a body publish. No statement is kept, and what stands after the first that publishes
 /// nothing for a fault is read too, since a fault of the text itself comes before it.
 pub(crate) fn changes_in(alloc: Global, body: &[u8]) -> Result<Vec<Change>, AnyFault>
     ensures changes { IfOk result (λ changes. Bodies.changes_in body.now ≡ Ok changes.items) }
     ensures fault { IfErr result (IsTold (Bodies.changes_in body.now)) }
 {
-    let mut statements = Statements::new(alloc, body)?;
+    let mut statements = Statements::asking(alloc, body, publication_operands())?;
     let mut reader = ChangeReader::new(alloc);
     'statements: while let Some(statement) = statements.next()? {
         match reader.take(&statement) {

@@ -1,6 +1,6 @@
 use Rattle.std.proofs.Common.{inl, ap, subst}
 use Rattle.std.specs.Prelude.{is_err}
-use Rattle.catalogue.proofs.Sources.{told_so}
+use Rattle.catalogue.proofs.SourceFacts.{told_so}
 use Rattle.bureau.specs.Calls.{call_as}
 use Rattle.bureau.specs.Come.{IsComing}
 use Rattle.bureau.proofs.AnswerFacts.{alone_kept, answer_decided, made_kept, change_made, change_not_made, no_answer, none_decided}

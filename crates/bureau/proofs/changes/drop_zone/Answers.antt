@@ -1,5 +1,5 @@
 use Rattle.std.proofs.Common.{refl, sym, ◌∙◌, ap}
-use Rattle.catalogue.proofs.Sources.{told_sooner, told_later, told_so}
+use Rattle.catalogue.proofs.SourceFacts.{told_sooner, told_later, told_so}
 use Rattle.bureau_store.specs.Tables.{zone_named}
 use Rattle.bureau_store.specs.Effect.{zone_dropped}
 use Rattle.bureau_store.specs.declared.caller.Caller.TheVariants.{Client}

@@ -1,5 +1,5 @@
 use Rattle.std.proofs.Common.{refl, sym, ◌∙◌, ap, subst}
-use Rattle.catalogue.proofs.Sources.{told_sooner, told_later, told_so}
+use Rattle.catalogue.proofs.SourceFacts.{told_sooner, told_later, told_so}
 use Rattle.catalogue.specs.Publication.{after}
 use Rattle.catalogue.specs.Touched.{AgreeOutside, touched_ids}
 use Rattle.bureau_store.specs.Effect.{publication}

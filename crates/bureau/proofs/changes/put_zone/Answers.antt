@@ -1,6 +1,6 @@
 use Rattle.std.proofs.Common.{refl, sym, ◌∙◌, ap, subst}
 use Rattle.std.specs.Prelude.{codes, if◌then◌else◌}
-use Rattle.catalogue.proofs.Sources.{told_sooner, told_later, told_so}
+use Rattle.catalogue.proofs.SourceFacts.{told_sooner, told_later, told_so}
 use Rattle.zone_lists.specs.ZoneList.{zone_rows_of}
 use Rattle.bureau_store.specs.Effect.{zone_put}
 use Rattle.bureau_store.specs.declared.caller.Caller.TheVariants.{Client}

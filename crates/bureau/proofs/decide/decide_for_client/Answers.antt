@@ -1,5 +1,5 @@
 use Rattle.std.proofs.Common.{sym, ap, subst}
-use Rattle.catalogue.proofs.Sources.{told_so}
+use Rattle.catalogue.proofs.SourceFacts.{told_so}
 use Rattle.bureau_store.specs.declared.caller.Caller.TheVariants.{Client}
 use Rattle.bureau.specs.Calls.{call_as}
 use Rattle.bureau.specs.Come.{IsComing}

@@ -1,8 +1,11 @@
-use Rattle.std.proofs.Common.{◌≡◌, [], ◌∷◌, Ok, ◌∙◌, ap}
+use Rattle.std.proofs.Common.{◌≡◌, false, [], Ok, ◌∙◌, ap, sym, refl, subst, IsTrue}
 use Rattle.bureau.specs.Bodies as Bodies
 use Rattle.mcs_reader.specs.ReadingOf.{reading_of}
-use Rattle.mcs_reader.specs.Unread.{with_statements}
-use Rattle.bureau.proofs.PublicationFacts.{ended_with, of_source, passed_on, published_next, published_whole, told_of_source, where_none}
+use Rattle.mcs_reader.specs.Bytes.{bytes_of_each}
+use Rattle.holddata.specs.Asked.{are_among}
+use Rattle.catalogue.specs.Asked.{publication_operands}
+use Rattle.catalogue.specs.Reading.{nothing_begun}
+use Rattle.bureau.proofs.PublicationFacts.{ended_with, of_source, passed_on, published_asking, published_from, published_next, published_whole, refused_before, told_of_source, where_none}
 use Rattle.bureau.proofs.publication.changes_in.Goals as goal
 
 pub returns-in_err-finish-in-Err-clause-fault : goal.returns-in_err-finish-in-Err-clause-fault
@@ -12,7 +15,17 @@ returns-in_err-finish-in-Err-clause-fault c =
     c.from_residual-in_err-finish-in-Err.ensures.1
     (told_of_source c.statements.reader (Bodies.changes_in c.args.body.now) c.statements.statements.reading c.in_err-finish-in-Err.field-0.0
     (c.statements.invariant ∙ published_whole (reading_of c.args.body.now))
-    (λ other. gives.first ∙ ap (with_statements (c.in-Some.statement ∷ [])) (c.in_err-finish-in-Err.ensures.fault other)))
+    (refused_before c.statements.statements.reading c.next.new.self.reading c.in-Some.statement c.in_err-finish-in-Err.field-0.0 gives.first c.in_err-finish-in-Err.ensures.fault))
+
+pub statements-init : goal.statements-init
+statements-init c =
+    let names = bytes_of_each c.publication_operands.result.now in
+    let among : IsTrue (are_among publication_operands names) = subst (λ ns. IsTrue (are_among publication_operands ns)) (sym c.publication_operands.ensures.names) refl in
+    ap (λ begun. published_from begun c.in_ok-statements.statements.reading) c.new-reader.ensures
+    ∙ ap (published_from nothing_begun) (c.in_ok-statements.ensures.ok)
+    ∙ published_asking names (reading_of c.args.body.now)
+    (λ statements. c.publication_operands.ensures.changes names statements among)
+    (λ statements. c.publication_operands.ensures.first_fault names false statements among)
 
 pub statements-preserved : goal.statements-preserved
 statements-preserved c =

@@ -1,5 +1,5 @@
 use Rattle.std.proofs.Common.{◌∙◌}
-use Rattle.catalogue.proofs.Sources.{told_later, told_so}
+use Rattle.catalogue.proofs.SourceFacts.{told_later, told_so}
 use Rattle.bureau_store.specs.Tables.{zone_named}
 use Rattle.bureau.proofs.ChangeFacts.{told_of_content}
 use Rattle.bureau.proofs.QuestionFacts.{so_ok, told_then, with_rows, chain_told}

@@ -1,5 +1,5 @@
 use Rattle.std.proofs.Common.{◌∙◌, ap}
-use Rattle.catalogue.proofs.Sources.{told_so}
+use Rattle.catalogue.proofs.SourceFacts.{told_so}
 use Rattle.reports.specs.ChainText.{chain_text_of}
 use Rattle.bureau.specs.Outcome.{as_json}
 use Rattle.bureau.proofs.QuestionFacts.{told_then}

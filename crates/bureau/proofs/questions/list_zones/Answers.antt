@@ -1,5 +1,5 @@
 use Rattle.std.proofs.Common.{◌∙◌, ap}
-use Rattle.catalogue.proofs.Sources.{told_so}
+use Rattle.catalogue.proofs.SourceFacts.{told_so}
 use Rattle.bureau.specs.Outcome.{answered, plain}
 use Rattle.bureau.proofs.QuestionFacts.{zones_printed}
 use Rattle.bureau.proofs.questions.list_zones.Goals as goal
