@@ -1,5 +1,5 @@
 -- What a request asks, and what it is told.
-use Rattle.std.proofs.Common.{◌≡◌, ℕ, ◌<◌, Bool, true, false, List, [], ◌∷◌, length, map, Option, Some, None, Result, Ok, Err, refl, sym, ap, ◌∙◌, suc, arith}
+use Rattle.std.proofs.Common.{◌≡◌, inl, subst, ℕ, ◌<◌, Bool, true, false, List, [], ◌∷◌, length, map, Option, Some, None, Ok, Err, refl, sym, ap, ◌∙◌, suc, arith}
 use Rattle.std.specs.Prelude.{is_some}
 use Rattle.std.specs.Str.{bytes_eq}
 use Rattle.requests.specs.Request.{Parts, action_of, number_of, token_of}
@@ -9,7 +9,13 @@ use Rattle.requests.specs.declared.refusal.Refusal.TheVariants.{UnknownToken}
 use Rattle.bureau_store.specs.Caller.{IsAmong, caller_named, caller_with}
 use Rattle.bureau_store.specs.declared.caller.Caller.{Caller}
 use Rattle.bureau_store.specs.declared.caller.CallerRow.{CallerRow}
-use Rattle.bureau_http.specs.Asked.{by_caller, call_of, caller_in, has_token, of_caller, what_of}
+use Rattle.bureau_store.specs.Tables.{Tables}
+use Rattle.bureau.specs.Call.{Call}
+use Rattle.bureau.specs.Kept.{IsKeptRun, IsKeptStep}
+use Rattle.bureau.specs.Outcome.{Answer, no_room}
+use Rattle.bureau.proofs.KeptFacts.{from_before, one_kept}
+use Rattle.bureau_http.specs.Exchange.{turn_by}
+use Rattle.bureau_http.specs.Asked.{What, by_caller, call_of, caller_in, has_token, of_caller, what_of}
 
 -- ---- a caller that has a token is one of the callers
 
@@ -56,3 +62,28 @@ without_token rows parts body is_token = ap (λ t. by_caller (caller_in rows t) 
 
 pub token_there : (parts : Parts) (token : List ℕ) → Some token ≡ token_of parts → has_token parts ≡ true
 token_there parts token is = ap is_some (sym is)
+
+-- ---- the run of a request
+
+module _ {Desk : Type 0} (is_open : Desk → Type 0) (stands : Desk → Tables → Type 0) (old new : Desk) (this : Tables) where
+  -- what makes no call is no turn
+  pub refused_run : (what : What) (refusal : Refusal) (answer : Answer) → what ≡ Err refusal → (is_open new → is_open old) → stands new this
+      → IsKeptRun is_open stands old new this (turn_by what answer) this
+  refused_run what refusal answer is still_open stand =
+      subst (λ what. IsKeptRun is_open stands old new this (turn_by what answer) this) (sym is) (refl, still_open, stand)
+
+  -- what has no room is a turn that changes nothing, or none
+  pub no_room_run : (what : What) → (is_open new → is_open old) → stands new this → IsKeptRun is_open stands old new this (turn_by what no_room) this
+  no_room_run (Ok call) still_open stand =
+      one_kept is_open stands old new this (record { caller = call.0; call = call.1; answer = no_room }) this
+      (record { step = inl (refl, refl); held = stand; kept = inl refl; still_open = still_open })
+  no_room_run (Err refusal) still_open stand = (refl, still_open, stand)
+
+  -- a call that is made is a turn, of a desk that was looked at before
+  pub call_run : (mid : Desk) (what : What) (call : Caller × Call) (answer : Answer) (next : Tables) → what ≡ Ok call → (is_open mid → is_open old)
+      → IsKeptStep is_open stands mid new this (record { caller = call.0; call = call.1; answer = answer }) next
+      → IsKeptRun is_open stands old new this (turn_by what answer) next
+  call_run mid what call answer next is still_open step =
+      subst (λ what. IsKeptRun is_open stands old new this (turn_by what answer) next) (sym is)
+      (from_before is_open stands old mid new this (record { caller = call.0; call = call.1; answer = answer } ∷ []) next still_open
+      (one_kept is_open stands mid new this (record { caller = call.0; call = call.1; answer = answer }) next step))

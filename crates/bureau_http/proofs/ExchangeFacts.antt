@@ -1,5 +1,5 @@
 -- What a request is told, as an exchange.
-use Rattle.std.proofs.Common.{◌≡◌, inl, inr, Bool, Option, Ok, Err, refl, sym, ap, ◌∙◌, subst}
+use Rattle.std.proofs.Common.{◌≡◌, inl, inr, Bool, List, Option, Ok, Err, refl, sym, ap, ◌∙◌, subst}
 use Rattle.requests.specs.Refusal.{allow_of_refusal, status_of}
 use Rattle.requests.specs.Reply.{reply_text}
 use Rattle.requests.specs.Status.{code_of}
@@ -9,8 +9,7 @@ use Rattle.requests.specs.declared.reply.ReplyHead.{ReplyHead}
 use Rattle.requests.specs.declared.resource.Resource.{Resource}
 use Rattle.bureau_store.specs.Tables.{Tables}
 use Rattle.bureau_store.specs.declared.caller.Caller.{Caller}
-use Rattle.bureau.specs.Call.{Call}
-use Rattle.bureau.specs.Joint.{IsRun, IsStep, Turn, tables_left}
+use Rattle.bureau.specs.Joint.{IsStep, Turn, tables_left}
 use Rattle.bureau.specs.Outcome.{Outcome, answered, accepted, outcome}
 use Rattle.bureau.specs.Replies.{reply_as}
 use Rattle.bureau.specs.View.{view_of}
@@ -43,17 +42,6 @@ answered_by this next (Err refusal) has_token (Refused other) is =
     let same : other ≡ refusal = cc in inl (ap refusal_answer same)
 answered_by this next (Err refusal) has_token NoRoom is = inr (is.0, refl)
 
-pub run_by : (this next : Tables) (what : What) (has_token : Bool) (told : Told) → IsTold this what has_token told next → IsRun this (turn_by what (answer_told told)) next
-run_by this next (Ok call) has_token (Answered reply) is =
-    let e = is.1 in
-    let same : is.0 ≡ call = cc in
-    (next, subst (λ (k : Caller × Call). IsStep this (record { caller = k.0; call = k.1; answer = reply_as reply }) next) same is.2, refl)
-run_by this next (Ok call) has_token (Refused refusal) is = absurd (let e = is.0 in cc)
-run_by this next (Ok call) has_token NoRoom is = (this, inl (refl, refl), is.1)
-run_by this next (Err refusal) has_token (Answered reply) is = absurd (let e = is.1 in cc)
-run_by this next (Err refusal) has_token (Refused other) is = is.1
-run_by this next (Err refusal) has_token NoRoom is = is.1
-
 pub callers_by : (this next : Tables) (what : What) (has_token : Bool) (told : Told) → IsTold this what has_token told next → next.callers ≡ this.callers
 callers_by this next what has_token (Answered reply) is =
     step_keeps this next (record { caller = is.0.0; call = is.0.1; answer = reply_as reply }) is.2
@@ -61,13 +49,12 @@ callers_by this next what has_token (Refused refusal) is = ap (λ t. t.callers) 
 callers_by this next what has_token NoRoom is = ap (λ t. t.callers) is.1
 
 -- a call that is told something has exchanged it
-pub has_exchanged : (stands : Tables → Type 0) (this next : Tables) (what : What) (has_token : Bool) (told : Told) (is_bare closes : Bool)
-    → IsTold this what has_token told next → stands next → HasExchanged stands this (asked_as what has_token is_bare closes (answer_told told))
-has_exchanged stands this next what has_token told is_bare closes is stand = record {
+pub has_exchanged : (Runs : Tables → List Turn → Tables → Type 0) (this next : Tables) (what : What) (has_token : Bool) (told : Told) (is_bare closes : Bool)
+    → IsTold this what has_token told next → Runs this (turn_by what (answer_told told)) next → HasExchanged Runs this (asked_as what has_token is_bare closes (answer_told told))
+has_exchanged Runs this next what has_token told is_bare closes is run = record {
   next = next;
   answered = answered_by this next what has_token told is;
-  run = run_by this next what has_token told is;
-  stand = stand;
+  run = run;
   callers = callers_by this next what has_token told is;
 }
 

@@ -1,12 +1,12 @@
 -- From a run in which each caller is answered as if alone to the bytes of the replies.
-use Rattle.std.proofs.Common.{◌≡◌, ◌⊎◌, inl, inr, List, [], ◌∷◌, ◌++◌, Ok, refl, sym, ap, ◌∙◌, subst}
+use Rattle.std.proofs.Common.{◌≡◌, inl, inr, List, [], ◌∷◌, ◌++◌, Ok, refl, sym, ap, ◌∙◌}
 use Rattle.std.proofs.lemmas.Grind.{flat_map-append}
 use Rattle.bureau_store.specs.Tables.{AreInOrder, Tables}
 use Rattle.bureau_store.specs.declared.caller.Caller.{Caller}
-use Rattle.bureau.specs.Alone.{AreAnsweredAlike, IsAlone, opening_of, own_history}
+use Rattle.bureau.specs.Alone.{AreAnsweredAlike, IsAlone, opening_of}
 use Rattle.bureau.specs.Call.{Call}
 use Rattle.bureau.specs.Joint.{IsRun, Turn}
-use Rattle.bureau.specs.Outcome.{Answer, no_room}
+use Rattle.bureau.specs.Outcome.{Answer}
 use Rattle.bureau_http.specs.Asked.{Asked}
 use Rattle.bureau_http.specs.Exchange.{Exchange, exchange_text, turn_by, turn_of, turns_of}
 use Rattle.bureau_http.specs.Isolated.{AreIsolated, AreOwnBytes, HaveSameBytes, joined, own_exchange}

@@ -5,13 +5,13 @@ use Rattle.std.proofs.lemmas.List.{drop-map, drop_more, length-map, length-take,
 use Rattle.std.specs.List.{take-map}
 use Rattle.bureau_store.specs.Tables.{Tables}
 use Rattle.bureau_store.specs.declared.caller.CallerRow.{CallerRow}
-use Rattle.bureau.specs.Joint.{IsRun}
+use Rattle.bureau.specs.Joint.{IsRun, Turn}
 use Rattle.bureau_http.specs.Connection.{IsConnection, cut}
 use Rattle.bureau_http.specs.Exchange.{Exchange, turns_of}
 use Rattle.bureau_http.specs.List.{AreServed, AreServedInPart, AreSoFar, AreWhole, IsInHand, IsOneCut, IsOneServed, IsWhole, turns_in}
 use Rattle.bureau_http.specs.Isolated.{joined}
 use Rattle.bureau_http.proofs.IsolatedFacts.{Alike, Alone, isolated, turns_joined, turns_with_hand}
-use Rattle.bureau_http.proofs.ServingFacts.{run_on}
+use Rattle.bureau_http.proofs.ServingFacts.{ActOnce, Join}
 
 whole_on : (rows : List CallerRow) (cs ws : List (List ℕ)) (es : List (List Exchange)) (c w : List ℕ) (e : List Exchange) → AreWhole rows cs ws es
     → IsWhole rows c w e → AreWhole rows (cs ++ c ∷ []) (ws ++ w ∷ []) (es ++ e ∷ [])
@@ -33,13 +33,12 @@ turns_more : (es : List (List Exchange)) (e : List Exchange) → turns_in (es ++
 turns_more es e = flat_map-append turns_of es (e ∷ []) ∙ ap (λ l. turns_in es ++ l) (append-nil (turns_of e))
 
 -- one connection more
-pub so_more : (stands later : Tables → Type 0) (this : Tables) (cs ws : List (List ℕ)) (so : AreSoFar stands this cs ws) (bytes text : List ℕ)
-    → IsOneServed later so.now bytes text → AreSoFar later this (cs ++ bytes ∷ []) (ws ++ text ∷ [])
-so_more stands later this cs ws so bytes text one = record {
+pub so_more : (First Then Whole : Tables → List Turn → Tables → Type 0) → Join First Then Whole → (this : Tables) (cs ws : List (List ℕ)) (so : AreSoFar First this cs ws) (bytes text : List ℕ)
+    → IsOneServed Then so.now bytes text → AreSoFar Whole this (cs ++ bytes ∷ []) (ws ++ text ∷ [])
+so_more First Then Whole join this cs ws so bytes text one = record {
   exchanges = so.exchanges ++ one.exchanges ∷ [];
   now = one.closing;
-  stand = one.stand;
-  run = subst (λ ts. IsRun this ts one.closing) (sym (turns_more so.exchanges one.exchanges)) (run_on this so.now one.closing (turns_in so.exchanges) (turns_of one.exchanges) so.run one.run);
+  run = subst (λ ts. Whole this ts one.closing) (sym (turns_more so.exchanges one.exchanges)) (join this so.now one.closing (turns_in so.exchanges) (turns_of one.exchanges) so.run one.run);
   callers = one.callers ∙ so.callers;
   whole = whole_on this.callers cs ws so.exchanges bytes text one.exchanges so.whole (subst (λ rows. IsWhole rows bytes text one.exchanges) so.callers one.whole);
 }
@@ -49,18 +48,17 @@ map_more : {V : Type 0} (f : V → List ℕ) (cs : List V) (i : ℕ) (item : V) 
 map_more f cs i item low is =
     ap (λ v. map f (take i cs) ++ f v ∷ []) is ∙ sym (ap (map f) (take_more cs i item low) ∙ map-append f (take i cs) (get_or cs i item ∷ []))
 
-pub one_more : {V : Type 0} (f : V → List ℕ) (stands later : Tables → Type 0) (this : Tables) (cs : List V) (ws : List (List ℕ)) (i : ℕ) (item : V) (text : List ℕ)
-    (so : AreSoFar stands this (map f (take i cs)) ws) → i < length cs → item ≡ get_or cs i item → IsOneServed later so.now (f item) text
-    → AreSoFar later this (map f (take (i + 1) cs)) (ws ++ text ∷ [])
-one_more f stands later this cs ws i item text so low is one =
-    subst (λ l. AreSoFar later this l (ws ++ text ∷ [])) (map_more f cs i item low is)
-    (so_more stands later this (map f (take i cs)) ws so (f item) text one)
+pub one_more : {V : Type 0} (f : V → List ℕ) (First Then Whole : Tables → List Turn → Tables → Type 0) → Join First Then Whole → (this : Tables) (cs : List V) (ws : List (List ℕ)) (i : ℕ) (item : V) (text : List ℕ)
+    (so : AreSoFar First this (map f (take i cs)) ws) → i < length cs → item ≡ get_or cs i item → IsOneServed Then so.now (f item) text
+    → AreSoFar Whole this (map f (take (i + 1) cs)) (ws ++ text ∷ [])
+one_more f First Then Whole join this cs ws i item text so low is one =
+    subst (λ l. AreSoFar Whole this l (ws ++ text ∷ [])) (map_more f cs i item low is)
+    (so_more First Then Whole join this (map f (take i cs)) ws so (f item) text one)
 
-pub as_cut : (stands : Tables → Type 0) (this : Tables) (bytes text : List ℕ) → IsOneServed stands this bytes text → IsOneCut stands this bytes
-as_cut stands this bytes text one = record {
+pub as_cut : (Runs : Tables → List Turn → Tables → Type 0) (this : Tables) (bytes text : List ℕ) → IsOneServed Runs this bytes text → IsOneCut Runs this bytes
+as_cut Runs this bytes text one = record {
   exchanges = one.exchanges;
   closing = one.closing;
-  stand = one.stand;
   run = one.run;
   callers = one.callers;
   answered = one.whole.answered;
@@ -68,28 +66,34 @@ as_cut stands this bytes text one = record {
   connection = one.whole.connection;
 }
 
+-- such a run is a run of the tables
+abbrev pub IsPlain : (Tables → List Turn → Tables → Type 0) → Type 0
+IsPlain Runs = (this next : Tables) (turns : List Turn) → Runs this turns next → IsRun this turns next
+
 -- all connections were served
-pub all_served : (stands : Tables → Type 0) (this : Tables) (cs ws : List (List ℕ)) → Alone → Alike → AreSoFar stands this cs ws → AreServed stands this cs ws
-all_served stands this cs ws alone alike so = record {
+pub all_served : (Runs : Tables → List Turn → Tables → Type 0) → IsPlain Runs → ActOnce Runs → (this : Tables) (cs ws : List (List ℕ)) → Alone → Alike → AreSoFar Runs this cs ws → AreServed Runs this cs ws
+all_served Runs plain once this cs ws alone alike so = record {
   exchanges = so.exchanges;
   closing = so.now;
-  stand = so.stand;
   run = so.run;
+  once = (once this so.now (turns_in so.exchanges) so.run).0;
+  stale = (once this so.now (turns_in so.exchanges) so.run).1;
   callers = so.callers;
   whole = so.whole;
-  isolated = λ in_order. isolated this so.now (joined so.exchanges) alone alike in_order (subst (λ ts. IsRun this ts so.now) (sym (turns_joined so.exchanges)) so.run);
+  isolated = λ in_order. isolated this so.now (joined so.exchanges) alone alike in_order
+      (subst (λ ts. IsRun this ts so.now) (sym (turns_joined so.exchanges)) (plain this so.now (turns_in so.exchanges) so.run));
 }
 
 -- the connection in hand was cut off
-pub in_part : {V : Type 0} (f : V → List ℕ) (stands later : Tables → Type 0) (this : Tables) (cs : List V) (ws : List (List ℕ)) (i : ℕ) (item : V)
-    (so : AreSoFar stands this (map f (take i cs)) ws) → i < length cs → item ≡ get_or cs i item → Alone → Alike → IsOneCut later so.now (f item)
-    → AreServedInPart later this (map f cs) ws
-in_part f stands later this cs ws i item so low is alone alike one =
+pub in_part : {V : Type 0} (f : V → List ℕ) (First Then Whole : Tables → List Turn → Tables → Type 0) → Join First Then Whole → IsPlain Whole → ActOnce Whole → (this : Tables) (cs : List V) (ws : List (List ℕ)) (i : ℕ) (item : V)
+    (so : AreSoFar First this (map f (take i cs)) ws) → i < length cs → item ≡ get_or cs i item → Alone → Alike → IsOneCut Then so.now (f item)
+    → AreServedInPart Whole this (map f cs) ws
+in_part f First Then Whole join plain once this cs ws i item so low is alone alike one =
     let short = length-take i cs in
     let mapped = length-map (take i cs) f in
     let whole = whole_len this.callers (map f (take i cs)) ws so.exchanges so.whole in
     let count : length ws ≡ i = omega arith in
-    let run = run_on this so.now one.closing (turns_in so.exchanges) (turns_of one.exchanges) so.run one.run in
+    let run = join this so.now one.closing (turns_in so.exchanges) (turns_of one.exchanges) so.run one.run in
     let rest : drop (length ws) (map f cs) ≡ f item ∷ map f (drop (i + 1) cs) =
     ap (λ n. drop n (map f cs)) count ∙ drop-map f i cs ∙ ap (map f) (drop_more cs i item low) ∙ ap (λ v. f v ∷ map f (drop (i + 1) cs)) (sym is) in
     let front : map f (take i cs) ≡ take (length ws) (map f cs) = sym (ap (λ n. take n (map f cs)) count ∙ take-map f i cs) in
@@ -97,14 +101,15 @@ in_part f stands later this cs ws i item so low is alone alike one =
       exchanges = so.exchanges;
       hand = one.exchanges;
       closing = one.closing;
-      stand = one.stand;
       run = run;
+      once = (once this one.closing (turns_in so.exchanges ++ turns_of one.exchanges) run).0;
+      stale = (once this one.closing (turns_in so.exchanges ++ turns_of one.exchanges) run).1;
       callers = one.callers ∙ so.callers;
       whole = subst (λ l. AreWhole this.callers l ws so.exchanges) front so.whole;
       in_hand = subst (λ l. IsInHand this.callers l one.exchanges) (sym rest)
           (one.answered, (one.stop, subst (λ rows. IsConnection rows (f item) (map (λ exchange. exchange.asked) one.exchanges) one.stop) so.callers one.connection));
       isolated = λ in_order. isolated this one.closing (joined so.exchanges ++ one.exchanges) alone alike in_order
-          (subst (λ ts. IsRun this ts one.closing) (sym (turns_with_hand so.exchanges one.exchanges)) run);
+          (subst (λ ts. IsRun this ts one.closing) (sym (turns_with_hand so.exchanges one.exchanges)) (plain this one.closing (turns_in so.exchanges ++ turns_of one.exchanges) run));
     }
 
 none_in_hand : (rows : List CallerRow) (all : List (List ℕ)) → IsInHand rows all []
@@ -112,15 +117,16 @@ none_in_hand rows [] = refl
 none_in_hand rows (bytes ∷ all) = (tt, (cut, record { first = []; last = []; behind = bytes; reads = refl; stops = refl; all = refl }))
 
 -- nothing was served
-pub nothing : (stands : Tables → Type 0) (this : Tables) (all : List (List ℕ)) → Alone → Alike → stands this → AreServedInPart stands this all []
-nothing stands this all alone alike stand = record {
+pub nothing : (Runs : Tables → List Turn → Tables → Type 0) → IsPlain Runs → ActOnce Runs → (this : Tables) (all : List (List ℕ)) → Alone → Alike → Runs this [] this → AreServedInPart Runs this all []
+nothing Runs plain once this all alone alike run = record {
   exchanges = [];
   hand = [];
   closing = this;
-  stand = stand;
-  run = refl;
+  run = run;
+  once = (once this this [] run).0;
+  stale = (once this this [] run).1;
   callers = refl;
   whole = tt;
   in_hand = none_in_hand this.callers all;
-  isolated = λ in_order. isolated this this [] alone alike in_order refl;
+  isolated = λ in_order. isolated this this [] alone alike in_order (plain this this [] run);
 }

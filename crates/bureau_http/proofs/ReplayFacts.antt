@@ -3,16 +3,19 @@ use Rattle.std.proofs.Common.{◌≡◌, ℕ, List, Result, IfOk, subst}
 use Rattle.faults.specs.declared.any.AnyFault.{AnyFault}
 use Rattle.bureau_store.specs.Lists.{Lists, tables_of}
 use Rattle.bureau_store.specs.Tables.{Tables}
-use Rattle.bureau_http.specs.List.{AreServed}
+use Rattle.bureau.specs.Joint.{IsRun, Turn}
+use Rattle.bureau_http.specs.List.{AreServed, turns_in}
+use Rattle.bureau_http.proofs.ListFacts.{IsPlain}
 
--- what the tables are at the end is not told
-pub untold : (stands : Tables → Type 0) (this : Tables) (connections written : List (List ℕ)) → AreServed stands this connections written
-    → AreServed (λ closing. Unit {0}) this connections written
-untold stands this connections written served = record {
+-- whether the desk is open, and what it holds at the end, is not told
+pub untold : (Runs : Tables → List Turn → Tables → Type 0) → IsPlain Runs → (this : Tables) (connections written : List (List ℕ)) → AreServed Runs this connections written
+    → AreServed IsRun this connections written
+untold Runs plain this connections written served = record {
   exchanges = served.exchanges;
   closing = served.closing;
-  stand = tt;
-  run = served.run;
+  run = plain this served.closing (turns_in served.exchanges) served.run;
+  once = served.once;
+  stale = served.stale;
   callers = served.callers;
   whole = served.whole;
   isolated = served.isolated;
@@ -20,12 +23,12 @@ untold stands this connections written served = record {
 
 -- tables that are the same
 pub from_same : {Texts : Type 0} (texts : Texts → List (List ℕ)) (result : Result Texts AnyFault) (connections : List (List ℕ)) (this that : Tables) → this ≡ that
-    → IfOk result (λ written. AreServed (λ closing. Unit {0}) this connections (texts written))
-    → IfOk result (λ written. AreServed (λ closing. Unit {0}) that connections (texts written))
+    → IfOk result (λ written. AreServed IsRun this connections (texts written))
+    → IfOk result (λ written. AreServed IsRun that connections (texts written))
 from_same texts result connections this that same served =
-    subst (λ tables. IfOk result (λ written. AreServed (λ closing. Unit {0}) tables connections (texts written))) same served
+    subst (λ tables. IfOk result (λ written. AreServed IsRun tables connections (texts written))) same served
 
 -- a store that is the same
-pub from_store : (connections written : List (List ℕ)) (store that : Lists) → store ≡ that → AreServed (λ closing. Unit {0}) (tables_of store) connections written
-    → AreServed (λ closing. Unit {0}) (tables_of that) connections written
-from_store connections written store that same served = subst (λ (store : Lists). AreServed (λ closing. Unit {0}) (tables_of store) connections written) same served
+pub from_store : (connections written : List (List ℕ)) (store that : Lists) → store ≡ that → AreServed IsRun (tables_of store) connections written
+    → AreServed IsRun (tables_of that) connections written
+from_store connections written store that same served = subst (λ (store : Lists). AreServed IsRun (tables_of store) connections written) same served

@@ -3,26 +3,31 @@ use Rattle.std.proofs.Common.{◌≡◌, ◌⊎◌, inl, inr, take, ℕ, ◌+◌
 use Rattle.std.proofs.KnownBytes.{Appends-nil, Appends-trans}
 use Rattle.std.proofs.lemmas.Grind.{flat_map-append}
 use Rattle.std.proofs.lemmas.List.{length-map, map-append}
-use Rattle.std.specs.Io.KnownBytes.{Appends}
+use Rattle.std.specs.Io.KnownBytes.{Appends, Keeps, prepend_known}
 use Rattle.std.specs.List.{AllByRecursion}
 use Rattle.transfer.specs.Transfer.{AppendsFront}
+use Rattle.transfer.specs.declared.fault.TransferFault.{TransferFault}
+use Rattle.transfer.specs.declared.fault.TransferFault.TheVariants as transfer
+use Rattle.requests.specs.HeadEnd.{head_limit}
 use Rattle.requests.specs.Order.{is_bare}
 use Rattle.requests.specs.Request.{Parts, closes}
-use Rattle.requests.specs.Turn.{IsNext, refused, whole}
+use Rattle.requests.specs.Turn.{IsNext, IsUnfinished, refused, whole}
 use Rattle.requests.specs.declared.refusal.Refusal.{Refusal}
 use Rattle.bureau_store.specs.Tables.{Tables}
 use Rattle.bureau_store.specs.declared.caller.CallerRow.{CallerRow}
-use Rattle.bureau.specs.Joint.{IsRun, Turn}
+use Rattle.bureau.specs.Joint.{Turn}
 use Rattle.bureau.specs.Outcome.{Answer}
+use Rattle.bureau.specs.Repeat.{ActsOnce, StaysStale}
 use Rattle.bureau_http.specs.Asked.{Asked, has_token, most_requests, what_of}
 use Rattle.bureau_http.specs.Connection.{IsConnection, IsLast, IsRequest, ReadsTo, Stop, StopsAt, clean, inside, closed, cut}
 use Rattle.bureau_http.specs.Exchange.{Exchange, IsAnswered, exchange_text, refusal_answer, replies_text, turn_of, turns_of}
 use Rattle.bureau_http.specs.declared.serving.Served.{Served}
 use Rattle.bureau_http.specs.declared.serving.Step.TheVariants as step
-use Rattle.bureau_http.specs.Served.{AreWritten, IsAsked, IsCutOff, StopsBy, Exchanged, HasExchanged, HasRun, asked_as, IsExchanged, IsFailedWrite, IsServed, IsSoFar, IsWritten, Serves}
+use Rattle.bureau_http.specs.Served.{AreWritten, IsAsked, IsCutOff, StopsBy, Exchanged, HasExchanged, HasRun, asked_as, IsExchanged, IsFailedWrite, IsServed, IsSoFar, IsUnfinishedOf, IsWritten, Serves, StopsUnfinished}
 use Rattle.bureau_http.specs.Told.{told_text}
 use Rattle.bureau_http.specs.declared.reply.Told.TheVariants.{Refused}
 use Rattle.bureau_http.proofs.ExchangeFacts.{has_exchanged, same_text}
+use Rattle.bureau_http.specs.ConnFault.{of_transfer}
 use Rattle.bureau_http.specs.declared.fault.ConnFault.{ConnFault}
 use Rattle.bureau_http.specs.declared.fault.ConnFault.TheVariants.{Read, Write, EndInside, Memory}
 
@@ -41,9 +46,9 @@ written_as {A} (Err fault) old new text ok err = front_as A fault old new text e
 
 -- ---- one more
 
-pub run_on : (a b c : Tables) (xs ys : List Turn) → IsRun a xs b → IsRun b ys c → IsRun a (xs ++ ys) c
-run_on a b c [] ys h k = subst (λ t. IsRun t ys c) h k
-run_on a b c (x ∷ xs) ys h k = (h.0, h.1, run_on h.0 b c xs ys h.2 k)
+-- one run after another makes a run
+abbrev pub Join : (First Then Whole : Tables → List Turn → Tables → Type 0) → Type 0
+Join First Then Whole = (this mid next : Tables) (xs ys : List Turn) → First this xs mid → Then mid ys next → Whole this (xs ++ ys) next
 
 all_on : (P : Exchange → Type 0) (xs ys : List Exchange) → AllByRecursion P xs → AllByRecursion P ys → AllByRecursion P (xs ++ ys)
 all_on P [] ys h k = k
@@ -86,21 +91,28 @@ here P this now place exchanges same count p =
 more_count : (exchanges : List Exchange) (exchange : Exchange) → length (exchanges ++ exchange ∷ []) ≡ 1 + length exchanges
 more_count exchanges exchange = let e = length-append exchanges (exchange ∷ []) in omega arith
 
-run_more : (this now next : Tables) (exchanges : List Exchange) (exchange : Exchange) → IsRun this (turns_of exchanges) now
-    → IsRun now (turn_of exchange) next → IsRun this (turns_of (exchanges ++ exchange ∷ [])) next
-run_more this now next exchanges exchange first then =
-    subst (λ ts. IsRun this ts next) (sym (turns_more exchanges exchange)) (run_on this now next (turns_of exchanges) (turn_of exchange) first then)
+run_more : (First Then Whole : Tables → List Turn → Tables → Type 0) → Join First Then Whole → (this now next : Tables) (exchanges : List Exchange) (exchange : Exchange)
+    → First this (turns_of exchanges) now → Then now (turn_of exchange) next → Whole this (turns_of (exchanges ++ exchange ∷ [])) next
+run_more First Then Whole join this now next exchanges exchange first then =
+    subst (λ ts. Whole this ts next) (sym (turns_more exchanges exchange)) (join this now next (turns_of exchanges) (turn_of exchange) first then)
+
+run_same : (First Then Whole : Tables → List Turn → Tables → Type 0) → Join First Then Whole → (this now : Tables) (turns : List Turn)
+    → First this turns now → Then now [] now → Whole this turns now
+run_same First Then Whole join this now turns first none = subst (λ ts. Whole this ts now) (append-nil turns) (join this now now turns [] first none)
+
+-- in such a run a change acts once
+abbrev pub ActOnce : (Tables → List Turn → Tables → Type 0) → Type 0
+ActOnce Runs = (this next : Tables) (turns : List Turn) → Runs this turns next → ActsOnce this turns next × StaysStale this turns next
 
 -- ---- the loop
 
 -- nothing was served yet
-pub begun : (stands : Tables → Type 0) (this : Tables) (left old new : Option (List ℕ)) (bytes : List ℕ) → stands this → left ≡ Some bytes
-    → Appends old new [] → IsSoFar stands this 1 left old new bytes
-begun stands this left old new bytes stand left_are written = record {
+pub begun : (Runs : Tables → List Turn → Tables → Type 0) (this : Tables) (left old new : Option (List ℕ)) (bytes : List ℕ) → Runs this [] this → left ≡ Some bytes
+    → Appends old new [] → IsSoFar Runs this 1 left old new bytes
+begun Runs this left old new bytes run left_are written = record {
   exchanges = [];
   now = this;
-  stand = stand;
-  run = refl;
+  run = run;
   callers = refl;
   answered = tt;
   behind = bytes;
@@ -110,8 +122,8 @@ begun stands this left old new bytes stand left_are written = record {
   written = written;
 }
 
-module _ (stands later : Tables → Type 0) (this : Tables) (place : ℕ) (left old mid new : Option (List ℕ)) (bytes : List ℕ)
-    (so : IsSoFar stands this place left old mid bytes) where
+module _ (First Then Whole : Tables → List Turn → Tables → Type 0) (join : Join First Then Whole) (once : ActOnce Whole) (this : Tables) (place : ℕ) (rest left old mid new : Option (List ℕ)) (bytes : List ℕ)
+    (so : IsSoFar First this place left old mid bytes) where
   reads_more : (exchange : Exchange) (behind : List ℕ) → IsRequest so.now.callers place so.behind exchange.asked behind
       → ReadsTo this.callers 1 bytes (map asked_in (so.exchanges ++ exchange ∷ [])) behind
   reads_more exchange behind is =
@@ -128,13 +140,12 @@ module _ (stands later : Tables → Type 0) (this : Tables) (place : ℕ) (left 
       subst (Appends old new) (append-nil (replies_text so.exchanges)) (Appends-trans old mid new (replies_text so.exchanges) [] so.written none)
 
   pub stays : (behind : List ℕ) (left1 : Option (List ℕ)) → left1 ≡ Some behind
-      → Exchanged later so.now (λ asked. IsRequest so.now.callers place so.behind asked behind) (Appends mid new)
-      → IsSoFar later this (place + 1) left1 old new bytes
+      → Exchanged Then so.now (λ asked. IsRequest so.now.callers place so.behind asked behind) (Appends mid new)
+      → IsSoFar Whole this (place + 1) left1 old new bytes
   stays behind left1 left_are done = record {
     exchanges = so.exchanges ++ done.exchange ∷ [];
     now = done.has.next;
-    stand = done.has.stand;
-    run = run_more this so.now done.has.next so.exchanges done.exchange so.run done.has.run;
+    run = run_more First Then Whole join this so.now done.has.next so.exchanges done.exchange so.run done.has.run;
     callers = done.has.callers ∙ so.callers;
     answered = all_on IsAnswered so.exchanges (done.exchange ∷ []) so.answered (done.has.answered, tt);
     behind = behind;
@@ -180,45 +191,55 @@ module _ (stands later : Tables → Type 0) (this : Tables) (place : ℕ) (left 
     all = sym (append-nil (map asked_in (so.exchanges ++ exchange ∷ [])));
   }
 
-  without : (answer : Result Served ConnFault) (stop : Stop) → later so.now → StopsAt stop this.callers (1 + length (map asked_in so.exchanges)) so.behind []
-      → StopsBy answer stop (length so.exchanges) → AreWritten answer old new so.exchanges → IsServed later this old new answer bytes
-  without answer stop stand stops by written = record {
-    exchanges = so.exchanges;
-    closing = so.now;
-    stand = stand;
-    run = so.run;
-    callers = so.callers;
-    answered = so.answered;
-    stop = stop;
-    connection = connection_here stop stops;
-    stops = by;
-    written = written;
-  }
+  without : (answer : Result Served ConnFault) (stop : Stop) → Then so.now [] so.now → StopsAt stop this.callers (1 + length (map asked_in so.exchanges)) so.behind []
+      → StopsUnfinished answer rest so.behind
+      → StopsBy answer stop (length so.exchanges) → AreWritten answer old new so.exchanges → IsServed Whole this rest old new answer bytes
+  unfolding connection_here
+  without answer stop run stops unfinished by written =
+      let ran = run_same First Then Whole join this so.now (turns_of so.exchanges) so.run run in
+      let repeats = once this so.now (turns_of so.exchanges) ran in record {
+        exchanges = so.exchanges;
+        closing = so.now;
+        run = ran;
+        once = repeats.0;
+        stale = repeats.1;
+        callers = so.callers;
+        answered = so.answered;
+        stop = stop;
+        connection = connection_here stop stops;
+        stops = by;
+        unfinished = unfinished;
+        written = written;
+      }
 
-  with_one : (answer : Result Served ConnFault) (stop : Stop) (exchange : Exchange) → HasExchanged later so.now exchange
+  with_one : (answer : Result Served ConnFault) (stop : Stop) (exchange : Exchange) → ((behind : List ℕ) → StopsUnfinished answer rest behind) → HasExchanged Then so.now exchange
       → IsConnection this.callers bytes (map asked_in (so.exchanges ++ exchange ∷ [])) stop
       → StopsBy answer stop (length (so.exchanges ++ exchange ∷ [])) → AreWritten answer old new (so.exchanges ++ exchange ∷ [])
-      → IsServed later this old new answer bytes
-  with_one answer stop exchange has connection by written = record {
-    exchanges = so.exchanges ++ exchange ∷ [];
-    closing = has.next;
-    stand = has.stand;
-    run = run_more this so.now has.next so.exchanges exchange so.run has.run;
-    callers = has.callers ∙ so.callers;
-    answered = all_on IsAnswered so.exchanges (exchange ∷ []) so.answered (has.answered, tt);
-    stop = stop;
-    connection = connection;
-    stops = by;
-    written = written;
-  }
+      → IsServed Whole this rest old new answer bytes
+  with_one answer stop exchange unfinished has connection by written =
+      let ran = run_more First Then Whole join this so.now has.next so.exchanges exchange so.run has.run in
+      let repeats = once this has.next (turns_of (so.exchanges ++ exchange ∷ [])) ran in record {
+        exchanges = so.exchanges ++ exchange ∷ [];
+        closing = has.next;
+        run = ran;
+        once = repeats.0;
+        stale = repeats.1;
+        callers = has.callers ∙ so.callers;
+        answered = all_on IsAnswered so.exchanges (exchange ∷ []) so.answered (has.answered, tt);
+        stop = stop;
+        connection = connection;
+        stops = by;
+        unfinished = unfinished connection.behind;
+        written = written;
+      }
 
 -- a last exchange, or none, by what serving the next request answers
-module _ (stands later : Tables → Type 0) (this : Tables) (place : ℕ) (left left1 old mid new : Option (List ℕ)) (bytes : List ℕ)
-    (so : IsSoFar stands this place left old mid bytes) where
+module _ (First Then Whole : Tables → List Turn → Tables → Type 0) (join : Join First Then Whole) (once : ActOnce Whole) (this : Tables) (place : ℕ) (held : List ℕ) (rest left old mid new : Option (List ℕ)) (bytes : List ℕ)
+    (so : IsSoFar First this place left old mid bytes) where
   last_of : (exchange : Exchange) → IsAsked so.now.callers place so.behind exchange.asked
       → (stop : Stop) × ((stop ≡ cut) ⊎ (stop ≡ closed)) × IsConnection this.callers bytes (map asked_in (so.exchanges ++ exchange ∷ [])) stop
-  last_of exchange (inl is) = (closed, inr refl, connection_last stands later this place left old mid new bytes so exchange is)
-  last_of exchange (inr is) = (cut, inl refl, connection_cut stands later this place left old mid new bytes so exchange is.0 is.1)
+  last_of exchange (inl is) = (closed, inr refl, connection_last First Then Whole join once this place rest left old mid new bytes so exchange is)
+  last_of exchange (inr is) = (cut, inl refl, connection_cut First Then Whole join once this place rest left old mid new bytes so exchange is.0 is.1)
 
   cut_off : (exchange : Exchange) → AppendsFront mid new (exchange_text exchange) → IsCutOff old new (so.exchanges ++ exchange ∷ [])
   cut_off exchange front = record {
@@ -229,55 +250,58 @@ module _ (stands later : Tables → Type 0) (this : Tables) (place : ℕ) (left 
     written = Appends-trans old mid new (replies_text so.exchanges) (take front.0 (exchange_text exchange)) so.written front.1;
   }
 
-  pub served_err : (fault : ConnFault) → Serves later so.now place left1 mid new (Err fault) so.behind → IsServed later this old new (Err fault) bytes
+  pub served_err : (fault : ConnFault) → Serves Then so.now place held rest mid new (Err fault) so.behind → IsServed Whole this rest old new (Err fault) bytes
   served_err Read is =
-      without stands later this place left old mid new bytes so (Err Read) cut is.0 refl refl
-      (written_none stands later this place left old mid new bytes so is.1)
+      without First Then Whole join once this place rest left old mid new bytes so (Err Read) cut is.0 refl (held, is.2) refl
+      (written_none First Then Whole join once this place rest left old mid new bytes so is.1)
   served_err Write is =
       let last = last_of is.exchange is.asked in
-      with_one stands later this place left old mid new bytes so (Err Write) last.0 is.exchange is.has last.2 last.1 (cut_off is.exchange is.written)
+      with_one First Then Whole join once this place rest left old mid new bytes so (Err Write) last.0 is.exchange (λ behind. tt) is.has last.2 last.1 (cut_off is.exchange is.written)
   served_err EndInside is =
-      without stands later this place left old mid new bytes so (Err EndInside) inside is.1 (refl, is.0) refl
-      (written_none stands later this place left old mid new bytes so is.2)
+      without First Then Whole join once this place rest left old mid new bytes so (Err EndInside) inside is.1 (refl, is.0) tt refl
+      (written_none First Then Whole join once this place rest left old mid new bytes so is.2)
   served_err Memory is =
-      without stands later this place left old mid new bytes so (Err Memory) cut is.0 refl refl
-      (written_none stands later this place left old mid new bytes so is.1)
+      without First Then Whole join once this place rest left old mid new bytes so (Err Memory) cut is.0 refl (held, is.2) refl
+      (written_none First Then Whole join once this place rest left old mid new bytes so is.1)
 
-  pub served_end : (count : ℕ) → 1 + count ≡ place → Serves later so.now place left1 mid new (Ok step.CleanEnd) so.behind
-      → IsServed later this old new (Ok (record { requests = count })) bytes
+  pub served_end : (count : ℕ) → 1 + count ≡ place → Serves Then so.now place held rest mid new (Ok step.CleanEnd) so.behind
+      → IsServed Whole this rest old new (Ok (record { requests = count })) bytes
   served_end count e is =
       let at = so.count in
-      without stands later this place left old mid new bytes so (Ok (record { requests = count })) clean is.1 (refl, is.0) (inl refl, omega arith)
-      (written_none stands later this place left old mid new bytes so is.2)
+      without First Then Whole join once this place rest left old mid new bytes so (Ok (record { requests = count })) clean is.1 (refl, is.0) tt (inl refl, omega arith)
+      (written_none First Then Whole join once this place rest left old mid new bytes so is.2)
 
-  pub served_last : Serves later so.now place left1 mid new (Ok step.Ends) so.behind
-      → IsServed later this old new (Ok (record { requests = place })) bytes
+  pub served_last : Serves Then so.now place held rest mid new (Ok step.Ends) so.behind
+      → IsServed Whole this rest old new (Ok (record { requests = place })) bytes
   served_last is =
       let at = so.count in
       let e = more_count so.exchanges is.exchange in
-      with_one stands later this place left old mid new bytes so (Ok (record { requests = place })) closed is.exchange is.has
-      (connection_last stands later this place left old mid new bytes so is.exchange is.asked) (inr refl, omega arith)
-      (written_more stands later this place left old mid new bytes so is.exchange is.written)
+      with_one First Then Whole join once this place rest left old mid new bytes so (Ok (record { requests = place })) closed is.exchange (λ behind. tt) is.has
+      (connection_last First Then Whole join once this place rest left old mid new bytes so is.exchange is.asked) (inr refl, omega arith)
+      (written_more First Then Whole join once this place rest left old mid new bytes so is.exchange is.written)
 
 -- nothing is served
-pub nothing_served : (stands : Tables → Type 0) (this : Tables) (kept : Option (List ℕ)) (bytes : List ℕ) → stands this
-    → IsServed stands this kept kept (Err Memory) bytes
-nothing_served stands this kept bytes stand = record {
+pub nothing_served : (Runs : Tables → List Turn → Tables → Type 0) → ActOnce Runs → (this : Tables) (left kept : Option (List ℕ)) (bytes : List ℕ) → Runs this [] this → left ≡ Some bytes
+    → IsServed Runs this left kept kept (Err Memory) bytes
+unfolding head_limit
+nothing_served Runs once this left kept bytes run is_left = record {
   exchanges = [];
   closing = this;
-  stand = stand;
-  run = refl;
+  run = run;
+  once = (once this this [] run).0;
+  stale = (once this this [] run).1;
   callers = refl;
   answered = tt;
   stop = cut;
   connection = record { first = []; last = []; behind = bytes; reads = refl; stops = refl; all = refl };
   stops = refl;
+  unfinished = ([], (ap (λ known. prepend_known [] known) is_left, inl refl));
   written = Appends-nil kept;
 }
 
-pub each : {A : Type 0} (P : A → Type 0) (o : Option A) → ((a : A) → P a) → IfSome o P
-each P None h = tt
-each P (Some a) h = h a
+pub each_is : {A : Type 0} (P : A → Type 0) (o : Option A) → ((a : A) → o ≡ Some a → P a) → IfSome o P
+each_is P None h = tt
+each_is P (Some a) h = h a refl
 
 pub some_at : {A : Type 0} (P : A → Type 0) (o : Option A) (a : A) → o ≡ Some a → IfSome o P → P a
 some_at P o a e h = (subst (λ x. IfSome x P) e h)
@@ -293,19 +317,19 @@ pub exit_as : {A E : Type 0} (P : Result A E → Type 0) (r : Result A E) (e f :
 exit_as P r e f exit same p = subst P (sym (exit.1 ∙ ap (λ x. Err x) (exit.2 ∙ same))) p
 
 -- a head that is refused ends the connection
-pub head_refused : (stands : Tables → Type 0) (this : Tables) (place : ℕ) (refusal : Refusal) (bare : Bool) (bytes : List ℕ) (Writes : List ℕ → Type 0)
-    → stands this → IsNext bytes (refused refusal bare) → Writes (told_text (Refused refusal) bare true)
-    → Exchanged stands this (IsLast this.callers place bytes) Writes
-head_refused stands this place refusal bare bytes Writes stand next written = record {
+pub head_refused : (Runs : Tables → List Turn → Tables → Type 0) (this : Tables) (place : ℕ) (refusal : Refusal) (bare : Bool) (bytes : List ℕ) (Writes : List ℕ → Type 0)
+    → Runs this [] this → IsNext bytes (refused refusal bare) → Writes (told_text (Refused refusal) bare true)
+    → Exchanged Runs this (IsLast this.callers place bytes) Writes
+head_refused Runs this place refusal bare bytes Writes run next written = record {
   exchange = asked_as (Err refusal) false bare true (refusal_answer refusal);
   asked = (refused refusal bare, next, refl);
-  has = has_exchanged stands this this (Err refusal) false (Refused refusal) bare true (refl, refl) stand;
+  has = has_exchanged Runs this this (Err refusal) false (Refused refusal) bare true (refl, refl) run;
   written = subst Writes (same_text this this (Err refusal) false (Refused refusal) bare true (refl, refl)) written;
 }
 
-pub also_asked : (stands : Tables → Type 0) (this : Tables) (place : ℕ) (bytes : List ℕ) (Writes : List ℕ → Type 0)
-    → Exchanged stands this (IsLast this.callers place bytes) Writes → Exchanged stands this (IsAsked this.callers place bytes) Writes
-also_asked stands this place bytes Writes done = record { exchange = done.exchange; asked = inl done.asked; has = done.has; written = done.written }
+pub also_asked : (Runs : Tables → List Turn → Tables → Type 0) (this : Tables) (place : ℕ) (bytes : List ℕ) (Writes : List ℕ → Type 0)
+    → Exchanged Runs this (IsLast this.callers place bytes) Writes → Exchanged Runs this (IsAsked this.callers place bytes) Writes
+also_asked Runs this place bytes Writes done = record { exchange = done.exchange; asked = inl done.asked; has = done.has; written = done.written }
 
 asked_test : (ends : Bool) (rows : List CallerRow) (place : ℕ) (bytes : List ℕ) (parts : Parts) (body behind : List ℕ) (answer : Answer)
     → IsNext bytes (whole parts body behind) → ends ≡ (closes parts || nat_le most_requests place)
@@ -325,11 +349,11 @@ asked_test false rows place bytes parts body behind answer next e =
     )
 
 -- a whole request whose reply wasn't written whole
-pub whole_cut : (stands : Tables → Type 0) (this : Tables) (place : ℕ) (bytes : List ℕ) (parts : Parts) (body behind : List ℕ) (ends : Bool) (old new : Option (List ℕ))
+pub whole_cut : (Runs : Tables → List Turn → Tables → Type 0) (this : Tables) (place : ℕ) (bytes : List ℕ) (parts : Parts) (body behind : List ℕ) (ends : Bool) (old new : Option (List ℕ))
     (answer : Result (Unit {0}) ConnFault) (fault : ConnFault) → IsNext bytes (whole parts body behind) → ends ≡ (closes parts || nat_le most_requests place)
-    → answer ≡ Err fault → IsExchanged stands this (what_of this.callers parts body) (has_token parts) (is_bare parts) ends old new answer
-    → (fault ≡ Write) × Exchanged stands this (IsAsked this.callers place bytes) (AppendsFront old new)
-whole_cut stands this place bytes parts body behind ends old new answer fault next e is done =
+    → answer ≡ Err fault → IsExchanged Runs this (what_of this.callers parts body) (has_token parts) (is_bare parts) ends old new answer
+    → (fault ≡ Write) × Exchanged Runs this (IsAsked this.callers place bytes) (AppendsFront old new)
+whole_cut Runs this place bytes parts body behind ends old new answer fault next e is done =
     let failed : fault ≡ Write = subst IsFailedWrite is done.failed in (
       failed,
       record {
@@ -343,16 +367,34 @@ whole_cut stands this place bytes parts body behind ends old new answer fault ne
 
 -- ---- what the desk did, whatever it was asked
 
-pub stayed : (stands : Tables → Type 0) (this : Tables) → stands this → HasRun stands this
-stayed stands this stand = record { turns = []; closing = this; run = refl; stand = stand }
+pub stayed : (Runs : Tables → List Turn → Tables → Type 0) (this : Tables) → Runs this [] this → HasRun Runs this
+stayed Runs this run = record { turns = []; closing = this; run = run }
 
-pub ran_more : (stands later : Tables → Type 0) (this : Tables) (so : HasRun stands this) → HasRun later so.closing → HasRun later this
-ran_more stands later this so more = record {
+pub ran_more : (First Then Whole : Tables → List Turn → Tables → Type 0) → Join First Then Whole → (this : Tables) (so : HasRun First this) → HasRun Then so.closing → HasRun Whole this
+ran_more First Then Whole join this so more = record {
   turns = so.turns ++ more.turns;
   closing = more.closing;
-  run = run_on this so.closing more.closing so.turns more.turns so.run more.run;
-  stand = more.stand;
+  run = join this so.closing more.closing so.turns more.turns so.run more.run;
 }
 
-pub exchanged_ran : (stands : Tables → Type 0) (this : Tables) (exchange : Exchange) → HasExchanged stands this exchange → HasRun stands this
-exchanged_ran stands this exchange has = record { turns = turn_of exchange; closing = has.next; run = has.run; stand = has.stand }
+pub exchanged_ran : (Runs : Tables → List Turn → Tables → Type 0) (this : Tables) (exchange : Exchange) → HasExchanged Runs this exchange → HasRun Runs this
+exchanged_ran Runs this exchange has = record { turns = turn_of exchange; closing = has.next; run = has.run }
+
+-- ---- a read that failed
+
+kept_some : (old new : Option (List ℕ)) (bytes : List ℕ) → old ≡ Some bytes → Keeps old new → new ≡ Some bytes
+kept_some None new bytes is kept = absurd (cc)
+kept_some (Some xs) None bytes is kept = absurd kept
+kept_some (Some xs) (Some ys) bytes is kept = ap (λ l. Some l) kept ∙ is
+
+-- what was held and read and what is left are the bytes that there were
+pub unfinished_of : (old : Option (List ℕ)) (held : List ℕ) (left : Option (List ℕ)) → Keeps old (prepend_known held left) → IsUnfinished held
+    → IfSome old (IsUnfinishedOf held left)
+unfinished_of None held left kept unfinished = tt
+unfinished_of (Some bytes) held left kept unfinished = (kept_some (Some bytes) (prepend_known held left) bytes refl kept, unfinished)
+
+-- a read that failed or found no memory
+pub read_failed : (Runs : Tables → List Turn → Tables → Type 0) (this : Tables) (place : ℕ) (held : List ℕ) (left old new : Option (List ℕ)) (bytes : List ℕ) (fault : TransferFault)
+    → Runs this [] this → Appends old new [] → IsUnfinishedOf held left bytes → Serves Runs this place held left old new (Err (of_transfer fault)) bytes
+read_failed Runs this place held left old new bytes (transfer.Read error) run written unfinished = (run, written, unfinished)
+read_failed Runs this place held left old new bytes transfer.Memory run written unfinished = (run, written, unfinished)

@@ -3,7 +3,8 @@ use Rattle.std.specs.Prelude.{◌≡◌, ℕ, List, [], ◌∷◌, ◌++◌, len
 use Rattle.std.specs.List.{AllByRecursion, flat_map}
 use Rattle.bureau_store.specs.Tables.{AreInOrder, Tables}
 use Rattle.bureau_store.specs.declared.caller.CallerRow.{CallerRow}
-use Rattle.bureau.specs.Joint.{IsRun, Turn}
+use Rattle.bureau.specs.Joint.{Turn}
+use Rattle.bureau.specs.Repeat.{ActsOnce, StaysStale}
 use Rattle.bureau_http.specs.Connection.{IsConnection, IsOwn, Stop}
 use Rattle.bureau_http.specs.Exchange.{Exchange, IsAnswered, replies_text, turns_of}
 use Rattle.bureau_http.specs.Isolated.{AreIsolated, joined}
@@ -29,13 +30,14 @@ AreWhole rows (bytes ∷ connections) (text ∷ written) (exchanges ∷ more) = 
 abbrev pub turns_in : List (List Exchange) → List Turn
 turns_in connections = flat_map turns_of connections
 
--- All connections were served: their requests are one run of the bureau, in order, in which each caller is
--- answered, to the byte, as if alone.
-pub record AreServed (stands : Tables → Type 0) (this : Tables) (connections written : List (List ℕ)) : Type 0 where
+-- All connections were served: their requests are one run of the bureau, in order, in which a change acts once, over
+-- whichever of them it is sent, and each caller is answered, to the byte, as if alone.
+pub record AreServed (Runs : Tables → List Turn → Tables → Type 0) (this : Tables) (connections written : List (List ℕ)) : Type 0 where
   pub exchanges : List (List Exchange)
   pub closing : Tables
-  pub stand : stands closing
-  pub run : IsRun this (turns_in exchanges) closing
+  pub run : Runs this (turns_in exchanges) closing
+  pub once : ActsOnce this (turns_in exchanges) closing
+  pub stale : StaysStale this (turns_in exchanges) closing
   pub callers : closing.callers ≡ this.callers
   pub whole : AreWhole this.callers connections written exchanges
   pub isolated : AreInOrder this → AreIsolated this (joined exchanges)
@@ -46,12 +48,13 @@ IsInHand rows [] hand = hand ≡ []
 IsInHand rows (bytes ∷ more) hand = AllByRecursion IsAnswered hand × ((stop : Stop) × IsConnection rows bytes (map (λ exchange. exchange.asked) hand) stop)
 
 -- The first connections were served, and perhaps a part of the next one.
-pub record AreServedInPart (stands : Tables → Type 0) (this : Tables) (connections written : List (List ℕ)) : Type 0 where
+pub record AreServedInPart (Runs : Tables → List Turn → Tables → Type 0) (this : Tables) (connections written : List (List ℕ)) : Type 0 where
   pub exchanges : List (List Exchange)
   pub hand : List Exchange
   pub closing : Tables
-  pub stand : stands closing
-  pub run : IsRun this (turns_in exchanges ++ turns_of hand) closing
+  pub run : Runs this (turns_in exchanges ++ turns_of hand) closing
+  pub once : ActsOnce this (turns_in exchanges ++ turns_of hand) closing
+  pub stale : StaysStale this (turns_in exchanges ++ turns_of hand) closing
   pub callers : closing.callers ≡ this.callers
   pub whole : AreWhole this.callers (take (length written) connections) written exchanges
   pub in_hand : IsInHand this.callers (drop (length written) connections) hand
@@ -59,29 +62,26 @@ pub record AreServedInPart (stands : Tables → Type 0) (this : Tables) (connect
 
 -- ---- private: one connection of a list
 
-pub record IsOneServed (stands : Tables → Type 0) (this : Tables) (bytes written : List ℕ) : Type 0 where
+pub record IsOneServed (Runs : Tables → List Turn → Tables → Type 0) (this : Tables) (bytes written : List ℕ) : Type 0 where
   pub exchanges : List Exchange
   pub closing : Tables
-  pub stand : stands closing
-  pub run : IsRun this (turns_of exchanges) closing
+  pub run : Runs this (turns_of exchanges) closing
   pub callers : closing.callers ≡ this.callers
   pub whole : IsWhole this.callers bytes written exchanges
 
-pub record IsOneCut (stands : Tables → Type 0) (this : Tables) (bytes : List ℕ) : Type 0 where
+pub record IsOneCut (Runs : Tables → List Turn → Tables → Type 0) (this : Tables) (bytes : List ℕ) : Type 0 where
   pub exchanges : List Exchange
   pub closing : Tables
-  pub stand : stands closing
-  pub run : IsRun this (turns_of exchanges) closing
+  pub run : Runs this (turns_of exchanges) closing
   pub callers : closing.callers ≡ this.callers
   pub answered : AllByRecursion IsAnswered exchanges
   pub stop : Stop
   pub connection : IsConnection this.callers bytes (map (λ exchange. exchange.asked) exchanges) stop
 
 -- the connections that were served so far
-pub record AreSoFar (stands : Tables → Type 0) (this : Tables) (connections written : List (List ℕ)) : Type 0 where
+pub record AreSoFar (Runs : Tables → List Turn → Tables → Type 0) (this : Tables) (connections written : List (List ℕ)) : Type 0 where
   pub exchanges : List (List Exchange)
   pub now : Tables
-  pub stand : stands now
-  pub run : IsRun this (turns_in exchanges) now
+  pub run : Runs this (turns_in exchanges) now
   pub callers : now.callers ≡ this.callers
   pub whole : AreWhole this.callers connections written exchanges

@@ -7,6 +7,7 @@ use Rattle.bureau_store.specs.Tables.{opened}
 use Rattle.bureau_store.specs.declared.caller.CallerRow.{CallerRow}
 use Rattle.bureau_store.specs.declared.fault.CallerFault.{CallerFault}
 use Rattle.bureau_store.specs.declared.fault.CallerFault.TheVariants.{CallerHeader, BadCaller, NoPublisher, Memory}
+use Rattle.bureau.specs.Joint.{IsRun}
 use Rattle.bureau_http.specs.List.{AreServed}
 
 -- The callers are those of the file, the store begins with them and nothing else, and all connections were
@@ -14,7 +15,7 @@ use Rattle.bureau_http.specs.List.{AreServed}
 pub record IsReplayed (callers : List ℕ) (connections written : List (List ℕ)) : Type 0 where
   pub rows : List CallerRow
   pub read : callers_of callers ≡ Ok rows
-  pub served : AreServed (λ closing. Unit {0}) (opened rows) connections written
+  pub served : AreServed IsRun (opened rows) connections written
 
 -- what is told of a fault of the callers file
 abbrev pub of_callers : CallerFault → AnyFault

@@ -1,13 +1,15 @@
--- What serving a connection does: the bureau's turns, and the bytes that are written.
+-- What serving a connection does: the bureau's turns, and the bytes that are written. What a run is here is for the
+-- contracts to say: one of the tables alone, or one in which what is told as accepted is kept.
 use Rattle.std.specs.Prelude.{◌≡◌, ◌⊎◌, ℕ, ◌+◌, Bool, List, [], ◌∷◌, ◌++◌, length, map, take, Option, Some, Result, Ok, Err}
-use Rattle.std.specs.Io.KnownBytes.{Appends}
+use Rattle.std.specs.Io.KnownBytes.{Appends, prepend_known}
 use Rattle.std.specs.List.{AllByRecursion}
 use Rattle.transfer.specs.Transfer.{AppendsFront}
-use Rattle.requests.specs.Turn.{IsNext, clean_end, end_inside}
+use Rattle.requests.specs.Turn.{IsNext, IsUnfinished, clean_end, end_inside}
 use Rattle.bureau_store.specs.Tables.{Tables}
 use Rattle.bureau_store.specs.declared.caller.CallerRow.{CallerRow}
-use Rattle.bureau.specs.Joint.{IsRun, Turn}
+use Rattle.bureau.specs.Joint.{Turn}
 use Rattle.bureau.specs.Outcome.{Answer}
+use Rattle.bureau.specs.Repeat.{ActsOnce, StaysStale}
 use Rattle.bureau_http.specs.Asked.{Asked, What}
 use Rattle.bureau_http.specs.Connection.{IsConnection, IsLast, IsRequest, ReadsTo, Stop, clean, inside, closed, cut}
 use Rattle.bureau_http.specs.Exchange.{Exchange, IsAnswered, exchange_text, replies_text, turn_of, turns_of}
@@ -17,20 +19,18 @@ use Rattle.bureau_http.specs.declared.serving.Served.{Served}
 use Rattle.bureau_http.specs.declared.serving.Step.{Step}
 use Rattle.bureau_http.specs.declared.serving.Step.TheVariants as step
 
--- an exchange over these tables, which leaves tables that stand
-pub record HasExchanged (stands : Tables → Type 0) (this : Tables) (exchange : Exchange) : Type 0 where
+-- an exchange over these tables
+pub record HasExchanged (Runs : Tables → List Turn → Tables → Type 0) (this : Tables) (exchange : Exchange) : Type 0 where
   pub next : Tables
   pub answered : IsAnswered exchange
-  pub run : IsRun this (turn_of exchange) next
-  pub stand : stands next
+  pub run : Runs this (turn_of exchange) next
   pub callers : next.callers ≡ this.callers
 
 -- What the desk did is a run of the bureau from these tables, whatever it was asked.
-pub record HasRun (stands : Tables → Type 0) (this : Tables) : Type 0 where
+pub record HasRun (Runs : Tables → List Turn → Tables → Type 0) (this : Tables) : Type 0 where
   pub turns : List Turn
   pub closing : Tables
-  pub run : IsRun this turns closing
-  pub stand : stands closing
+  pub run : Runs this turns closing
 
 -- the whole text was written, or a front part of it where a write failed
 abbrev pub IsWritten : {A : Type 0} → Result A ConnFault → Option (List ℕ) → Option (List ℕ) → List ℕ → Type 0
@@ -50,6 +50,20 @@ StopsBy (Err Write) stop count = (stop ≡ cut) ⊎ (stop ≡ closed)
 StopsBy (Err EndInside) stop count = stop ≡ inside
 StopsBy (Err Memory) stop count = stop ≡ cut
 
+-- What was read and what is left to read are these bytes, and what was read has neither a whole request at its front nor
+-- a head that is refused.
+abbrev pub IsUnfinishedOf : List ℕ → Option (List ℕ) → List ℕ → Type 0
+IsUnfinishedOf held left bytes = (prepend_known held left ≡ Some bytes) × IsUnfinished held
+
+-- Where a read failed or memory ran out, every request that had come whole was answered: behind the last of them no other
+-- stands whole in what was read.
+abbrev pub StopsUnfinished : Result Served ConnFault → Option (List ℕ) → List ℕ → Type 0
+StopsUnfinished (Ok served) left behind = Unit {0}
+StopsUnfinished (Err Read) left behind = (held : List ℕ) × IsUnfinishedOf held left behind
+StopsUnfinished (Err Write) left behind = Unit {0}
+StopsUnfinished (Err EndInside) left behind = Unit {0}
+StopsUnfinished (Err Memory) left behind = (held : List ℕ) × IsUnfinishedOf held left behind
+
 -- Where a write failed, the replies before the last one were written whole, and of that one a front part. No
 -- request behind it was served.
 pub record IsCutOff (old new : Option (List ℕ)) (exchanges : List Exchange) : Type 0 where
@@ -67,18 +81,21 @@ AreWritten (Err Write) old new exchanges = IsCutOff old new exchanges
 AreWritten (Err EndInside) old new exchanges = Appends old new (replies_text exchanges)
 AreWritten (Err Memory) old new exchanges = Appends old new (replies_text exchanges)
 
--- The bytes are requests and a stop. Those that make calls are a run of the bureau, in order; the others are
--- answered as the bytes and the callers alone decide. The replies are written, in order.
-pub record IsServed (stands : Tables → Type 0) (this : Tables) (old new : Option (List ℕ)) (answer : Result Served ConnFault) (bytes : List ℕ) : Type 0 where
+-- The bytes are requests and a stop. Those that make calls are a run of the bureau, in order, in which a change acts
+-- once, however often it is sent; the others are answered as the bytes and the callers alone decide. The replies are
+-- written, in order.
+pub record IsServed (Runs : Tables → List Turn → Tables → Type 0) (this : Tables) (left old new : Option (List ℕ)) (answer : Result Served ConnFault) (bytes : List ℕ) : Type 0 where
   pub exchanges : List Exchange
   pub closing : Tables
-  pub stand : stands closing
-  pub run : IsRun this (turns_of exchanges) closing
+  pub run : Runs this (turns_of exchanges) closing
+  pub once : ActsOnce this (turns_of exchanges) closing
+  pub stale : StaysStale this (turns_of exchanges) closing
   pub callers : closing.callers ≡ this.callers
   pub answered : AllByRecursion IsAnswered exchanges
   pub stop : Stop
   pub connection : IsConnection this.callers bytes (map (λ exchange. exchange.asked) exchanges) stop
   pub stops : StopsBy answer stop (length exchanges)
+  pub unfinished : StopsUnfinished answer left connection.behind
   pub written : AreWritten answer old new exchanges
 
 -- ---- a step of it, and what is so far: these serve private contracts alone
@@ -87,21 +104,21 @@ pub record IsServed (stands : Tables → Type 0) (this : Tables) (old new : Opti
 abbrev pub IsAsked : List CallerRow → ℕ → List ℕ → Asked → Type 0
 IsAsked rows place bytes asked = IsLast rows place bytes asked ⊎ ((behind : List ℕ) × IsRequest rows place bytes asked behind)
 
-pub record Exchanged (stands : Tables → Type 0) (this : Tables) (IsNow : Asked → Type 0) (Writes : List ℕ → Type 0) : Type 0 where
+pub record Exchanged (Runs : Tables → List Turn → Tables → Type 0) (this : Tables) (IsNow : Asked → Type 0) (Writes : List ℕ → Type 0) : Type 0 where
   pub exchange : Exchange
   pub asked : IsNow exchange.asked
-  pub has : HasExchanged stands this exchange
+  pub has : HasExchanged Runs this exchange
   pub written : Writes (exchange_text exchange)
 
-abbrev pub Serves : (Tables → Type 0) → Tables → ℕ → Option (List ℕ) → Option (List ℕ) → Option (List ℕ) → Result Step ConnFault → List ℕ → Type 0
-Serves stands this place left old new (Ok step.CleanEnd) bytes = IsNext bytes clean_end × stands this × Appends old new []
-Serves stands this place left old new (Ok step.Stays) bytes =
-    (behind : List ℕ) × (left ≡ Some behind) × Exchanged stands this (λ asked. IsRequest this.callers place bytes asked behind) (Appends old new)
-Serves stands this place left old new (Ok step.Ends) bytes = Exchanged stands this (IsLast this.callers place bytes) (Appends old new)
-Serves stands this place left old new (Err Read) bytes = stands this × Appends old new []
-Serves stands this place left old new (Err Write) bytes = Exchanged stands this (IsAsked this.callers place bytes) (AppendsFront old new)
-Serves stands this place left old new (Err EndInside) bytes = IsNext bytes end_inside × stands this × Appends old new []
-Serves stands this place left old new (Err Memory) bytes = stands this × Appends old new []
+abbrev pub Serves : (Tables → List Turn → Tables → Type 0) → Tables → ℕ → List ℕ → Option (List ℕ) → Option (List ℕ) → Option (List ℕ) → Result Step ConnFault → List ℕ → Type 0
+Serves Runs this place held left old new (Ok step.CleanEnd) bytes = IsNext bytes clean_end × Runs this [] this × Appends old new []
+Serves Runs this place held left old new (Ok step.Stays) bytes =
+    (behind : List ℕ) × (prepend_known held left ≡ Some behind) × Exchanged Runs this (λ asked. IsRequest this.callers place bytes asked behind) (Appends old new)
+Serves Runs this place held left old new (Ok step.Ends) bytes = Exchanged Runs this (IsLast this.callers place bytes) (Appends old new)
+Serves Runs this place held left old new (Err Read) bytes = Runs this [] this × Appends old new [] × IsUnfinishedOf held left bytes
+Serves Runs this place held left old new (Err Write) bytes = Exchanged Runs this (IsAsked this.callers place bytes) (AppendsFront old new)
+Serves Runs this place held left old new (Err EndInside) bytes = IsNext bytes end_inside × Runs this [] this × Appends old new []
+Serves Runs this place held left old new (Err Memory) bytes = Runs this [] this × Appends old new [] × IsUnfinishedOf held left bytes
 
 -- what serving a whole request does
 abbrev pub asked_as : What → Bool → Bool → Bool → Answer → Exchange
@@ -112,18 +129,17 @@ abbrev pub IsFailedWrite : {A : Type 0} → Result A ConnFault → Type 0
 IsFailedWrite (Ok a) = Unit {0}
 IsFailedWrite (Err fault) = fault ≡ Write
 
-pub record IsExchanged (stands : Tables → Type 0) (this : Tables) (what : What) (has_token is_bare closes : Bool) (old new : Option (List ℕ)) (answer : Result (Unit {0}) ConnFault) : Type 0 where
+pub record IsExchanged (Runs : Tables → List Turn → Tables → Type 0) (this : Tables) (what : What) (has_token is_bare closes : Bool) (old new : Option (List ℕ)) (answer : Result (Unit {0}) ConnFault) : Type 0 where
   pub told : Answer
-  pub has : HasExchanged stands this (asked_as what has_token is_bare closes told)
+  pub has : HasExchanged Runs this (asked_as what has_token is_bare closes told)
   pub failed : IsFailedWrite answer
   pub written : IsWritten answer old new (exchange_text (asked_as what has_token is_bare closes told))
 
 -- the requests that were served so far, none of which ends the connection
-pub record IsSoFar (stands : Tables → Type 0) (this : Tables) (place : ℕ) (left old new : Option (List ℕ)) (bytes : List ℕ) : Type 0 where
+pub record IsSoFar (Runs : Tables → List Turn → Tables → Type 0) (this : Tables) (place : ℕ) (left old new : Option (List ℕ)) (bytes : List ℕ) : Type 0 where
   pub exchanges : List Exchange
   pub now : Tables
-  pub stand : stands now
-  pub run : IsRun this (turns_of exchanges) now
+  pub run : Runs this (turns_of exchanges) now
   pub callers : now.callers ≡ this.callers
   pub answered : AllByRecursion IsAnswered exchanges
   pub behind : List ℕ

@@ -3,7 +3,9 @@ ghost use Rattle.std.specs.Prelude.{◌≡◌};
 ghost use Rattle.bureau.specs.Calls.{call_as};
 ghost use Rattle.bureau_http.specs.Asked as Spec;
 ghost use Rattle.bureau_http.specs.Asked.{has_token, what_of};
-ghost use Rattle.bureau_http.specs.Told.{IsTold};
+ghost use Rattle.bureau_http.specs.Exchange.{turn_by};
+ghost use Rattle.bureau_http.specs.Told.{IsTold, answer_told};
+ghost use Rattle.bureau.specs.Kept.{IsKeptRun};
 ghost use Rattle.bureau_store.specs.Tables.{Tables};
 ghost use Rattle.requests.specs.Turn.{IsAt, body_in, parts_in};
 
@@ -24,7 +26,8 @@ pub(crate) fn answer_to<D: Desk>(
     requires { IsAt bytes.now request.now }
     ensures clean { D.is_clean desk.new → D.is_clean desk.old }
     ensures told { D.is_clean desk.new → (this : Tables) → D.stands desk.old this →
-        (next : Tables) × IsTold this (what_of this.callers (parts_in bytes.now request.now) (body_in bytes.now request.now)) (has_token (parts_in bytes.now request.now)) result next × D.stands desk.new next }
+        (next : Tables) × IsTold this (what_of this.callers (parts_in bytes.now request.now) (body_in bytes.now request.now)) (has_token (parts_in bytes.now request.now)) result next
+        × IsKeptRun D.is_open D.stands desk.old desk.new this (turn_by (what_of this.callers (parts_in bytes.now request.now) (body_in bytes.now request.now)) (answer_told result)) next }
 {
     let Some(token) = request.token(bytes) else {
         return Told::Refused(Refusal::UnknownToken);

@@ -11,6 +11,8 @@ impl<S: Store, J: Judge<S>> Desk for Bureau<S, J> {
 
     ghost is_clean = { λ bureau. S.is_clean bureau.store };
 
+    ghost is_open = { λ bureau. S.is_open bureau.store };
+
     fn caller_of(&mut self, token: &[u8]) -> Result<Option<Caller>, StoreFault> {
         Bureau::caller_of(self, token)
     }

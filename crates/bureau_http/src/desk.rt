@@ -1,7 +1,7 @@
 //! What answers calls.
 ghost use Rattle.std.specs.Prelude.{◌≡◌, IfOk, IfSome};
 ghost use Rattle.bureau.specs.Calls.{call_as};
-ghost use Rattle.bureau.specs.Joint.{IsStep};
+ghost use Rattle.bureau.specs.Kept.{IsKeptStep};
 ghost use Rattle.bureau.specs.Replies.{reply_as};
 ghost use Rattle.bureau_store.specs.Caller.{IsAmong, IsProper, caller_with};
 ghost use Rattle.bureau_store.specs.Tables.{Tables};
@@ -19,17 +19,22 @@ pub trait Desk {
     /// What lies below it returned what was written.
     ghost is_clean: { Self → Type 0 };
 
+    /// No failure has shut it.
+    ghost is_open: { Self → Type 0 };
+
     /// The caller whose token this is, or `None` where no caller has it.
     fn caller_of(&mut self, token: &[u8]) -> Result<Option<Caller>, StoreFault>
         ensures clean { is_clean self.new → is_clean self.old }
+        ensures still_open { is_open self.new → is_open self.old }
         ensures stays { is_clean self.new → (this : Tables) → stands self.old this → stands self.new this }
         ensures caller { IfOk result (λ found. is_clean self.new → (this : Tables) → stands self.old this → found ≡ caller_with this.callers token.now) }
         ensures proper { IfOk result (λ found. IfSome found IsProper) };
 
-    /// What is answered to a call: a step of the bureau that all callers share.
+    /// What is answered to a call: a step of the bureau that all callers share. A change that is told as accepted was
+    /// made by a desk that is open.
     fn answer(&mut self, caller: &Caller, call: &Call<'_>) -> Reply
         requires { IsProper caller.now }
         ensures clean { is_clean self.new → is_clean self.old }
         ensures step { is_clean self.new → (this : Tables) → stands self.old this → IsAmong this.callers caller.now →
-            (next : Tables) × IsStep this (record { caller = caller.now; call = call_as call.now; answer = reply_as result }) next × stands self.new next };
+            (next : Tables) × IsKeptStep is_open stands self.old self.new this (record { caller = caller.now; call = call_as call.now; answer = reply_as result }) next };
 }

@@ -1,12 +1,13 @@
 //! Connections in memory, one after the other.
 ghost use Rattle.std.specs.Prelude.{map, IfErr, IfOk, OnErr};
 ghost use Rattle.bureau_http.specs.List.{AreServed, AreServedInPart, IsOneCut, IsOneServed};
+ghost use Rattle.bureau.specs.Kept.{IsKeptRun};
 ghost use Rattle.bureau_store.specs.Tables.{Tables};
 
 use crate::desk::Desk;
 use crate::fault::{ConnFault, RunFault};
 use crate::serving::serve_connection;
-use bureau::isolation;
+use bureau::{isolation, repeats};
 use faults::NoMemory;
 use requests::Routes;
 use std::alloc::Global;
@@ -26,9 +27,9 @@ pub fn serve_list<D: Desk>(
 ) -> Result<Vec<Vec<u8>>, (RunFault, Vec<Vec<u8>>)>
     ensures clean { D.is_clean desk.new → D.is_clean desk.old }
     ensures served { IfOk result (λ written. D.is_clean desk.new → (this : Tables) → D.stands desk.old this →
-        AreServed (D.stands desk.new) this (map (λ connection. connection.items) connections.items) (map (λ text. text.items) written.items)) }
+        AreServed (IsKeptRun D.is_open D.stands desk.old desk.new) this (map (λ connection. connection.items) connections.items) (map (λ text. text.items) written.items)) }
     ensures in_part { IfErr result (λ fault. D.is_clean desk.new → (this : Tables) → D.stands desk.old this →
-        AreServedInPart (D.stands desk.new) this (map (λ connection. connection.items) connections.items) (map (λ text. text.items) fault.1.items)) }
+        AreServedInPart (IsKeptRun D.is_open D.stands desk.old desk.new) this (map (λ connection. connection.items) connections.items) (map (λ text. text.items) fault.1.items)) }
 {
     serve_each(alloc, desk, connections.as_slice())
 }
@@ -41,11 +42,12 @@ fn serve_each<D: Desk>(
 ) -> Result<Vec<Vec<u8>>, (RunFault, Vec<Vec<u8>>)>
     ensures clean { D.is_clean desk.new → D.is_clean desk.old }
     ensures served { IfOk result (λ written. D.is_clean desk.new → (this : Tables) → D.stands desk.old this →
-        AreServed (D.stands desk.new) this (map (λ connection. connection.items) connections.now) (map (λ text. text.items) written.items)) }
+        AreServed (IsKeptRun D.is_open D.stands desk.old desk.new) this (map (λ connection. connection.items) connections.now) (map (λ text. text.items) written.items)) }
     ensures in_part { IfErr result (λ fault. D.is_clean desk.new → (this : Tables) → D.stands desk.old this →
-        AreServedInPart (D.stands desk.new) this (map (λ connection. connection.items) connections.now) (map (λ text. text.items) fault.1.items)) }
+        AreServedInPart (IsKeptRun D.is_open D.stands desk.old desk.new) this (map (λ connection. connection.items) connections.now) (map (λ text. text.items) fault.1.items)) }
 {
     isolation();
+    repeats();
     let mut written = Vec::new(alloc);
     let Ok(routes) = Routes::new(alloc) else {
         return Err((RunFault::Memory, written));
@@ -70,8 +72,8 @@ fn replies_to<D: Desk>(
     bytes: &[u8],
 ) -> Result<Vec<u8>, NoMemory>
     ensures clean { D.is_clean desk.new → D.is_clean desk.old }
-    ensures served { IfOk result (λ text. D.is_clean desk.new → (this : Tables) → D.stands desk.old this → IsOneServed (D.stands desk.new) this bytes.now text.items) }
-    ensures cut { OnErr result (D.is_clean desk.new → (this : Tables) → D.stands desk.old this → IsOneCut (D.stands desk.new) this bytes.now) }
+    ensures served { IfOk result (λ text. D.is_clean desk.new → (this : Tables) → D.stands desk.old this → IsOneServed (IsKeptRun D.is_open D.stands desk.old desk.new) this bytes.now text.items) }
+    ensures cut { OnErr result (D.is_clean desk.new → (this : Tables) → D.stands desk.old this → IsOneCut (IsKeptRun D.is_open D.stands desk.old desk.new) this bytes.now) }
 {
     let mut reader = bytes;
     let mut writer = Vec::new(alloc);

@@ -1,5 +1,6 @@
 //! Connections from a listener, one after the other.
 ghost use Rattle.bureau_http.specs.Served.{HasRun};
+ghost use Rattle.bureau.specs.Kept.{IsKeptRun};
 ghost use Rattle.bureau_store.specs.Tables.{Tables};
 
 use crate::desk::Desk;
@@ -22,7 +23,7 @@ pub fn serve_listener<D: Desk>(
     connections: u32,
 )
     ensures clean { D.is_clean desk.new → D.is_clean desk.old }
-    ensures ran { D.is_clean desk.new → (this : Tables) → D.stands desk.old this → HasRun (D.stands desk.new) this }
+    ensures ran { D.is_clean desk.new → (this : Tables) → D.stands desk.old this → HasRun (IsKeptRun D.is_open D.stands desk.old desk.new) this }
 {
     for _ in 0..connections {
         serve_accepted(alloc, desk, listener);
@@ -32,7 +33,7 @@ pub fn serve_listener<D: Desk>(
 // Serves the next connection, if it can be accepted.
 fn serve_accepted<D: Desk>(alloc: Global, desk: &mut D, listener: &TcpListener)
     ensures clean { D.is_clean desk.new → D.is_clean desk.old }
-    ensures ran { D.is_clean desk.new → (this : Tables) → D.stands desk.old this → HasRun (D.stands desk.new) this }
+    ensures ran { D.is_clean desk.new → (this : Tables) → D.stands desk.old this → HasRun (IsKeptRun D.is_open D.stands desk.old desk.new) this }
 {
     if let Ok((stream, _)) = listener.accept() {
         let _ = serve_stream(alloc, desk, &stream);
@@ -46,7 +47,7 @@ fn serve_stream<D: Desk>(
     stream: &TcpStream,
 ) -> Result<Served, ConnFault>
     ensures clean { D.is_clean desk.new → D.is_clean desk.old }
-    ensures ran { D.is_clean desk.new → (this : Tables) → D.stands desk.old this → HasRun (D.stands desk.new) this }
+    ensures ran { D.is_clean desk.new → (this : Tables) → D.stands desk.old this → HasRun (IsKeptRun D.is_open D.stands desk.old desk.new) this }
 {
     let patience = Some(Duration::from_secs(PATIENCE));
     if stream.set_nodelay(true).is_err()

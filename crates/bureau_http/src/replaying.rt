@@ -1,5 +1,6 @@
 //! Connections over a store in memory.
 ghost use Rattle.std.specs.Prelude.{◌≡◌, map, Ok, IfErr, IfOk};
+ghost use Rattle.bureau.specs.Joint.{IsRun};
 ghost use Rattle.bureau_store.specs.Callers.{callers_of};
 ghost use Rattle.bureau_store.specs.Lists.{IsOurs, tables_of};
 ghost use Rattle.bureau_store.specs.Tables.{opened};
@@ -46,7 +47,7 @@ fn serve_rows(
     rows: &[CallerRow],
     connections: Vec<Vec<u8>>,
 ) -> Result<Vec<Vec<u8>>, AnyFault>
-    ensures served { IfOk result (λ written. AreServed (λ closing. Unit {0}) (opened rows.now)
+    ensures served { IfOk result (λ written. AreServed IsRun (opened rows.now)
         (map (λ connection. connection.items) connections.items) (map (λ text. text.items) written.items)) }
     ensures memory { IfErr result IsOutOfMemory }
 {
@@ -61,7 +62,7 @@ fn serve_store(
     connections: Vec<Vec<u8>>,
 ) -> Result<Vec<Vec<u8>>, AnyFault>
     requires { IsOurs store }
-    ensures served { IfOk result (λ written. AreServed (λ closing. Unit {0}) (tables_of store)
+    ensures served { IfOk result (λ written. AreServed IsRun (tables_of store)
         (map (λ connection. connection.items) connections.items) (map (λ text. text.items) written.items)) }
     ensures memory { IfErr result IsOutOfMemory }
 {

@@ -3,6 +3,7 @@ ghost use Rattle.std.specs.Prelude.{◌≡◌, ◌<◌, ◌||◌, nat_le, IfOk, 
 ghost use Rattle.std.specs.Io.KnownBytes.{prepend_known};
 ghost use Rattle.bureau_http.specs.Asked.{has_token, most_requests, what_of};
 ghost use Rattle.bureau_http.specs.Served.{HasRun, IsExchanged, IsServed, Serves};
+ghost use Rattle.bureau.specs.Kept.{IsKeptRun};
 ghost use Rattle.bureau_store.specs.Tables.{Tables};
 ghost use Rattle.requests.specs.Order.{is_bare};
 ghost use Rattle.requests.specs.Request.{closes};
@@ -12,6 +13,7 @@ use crate::asking::answer_to;
 use crate::desk::Desk;
 use crate::fault::ConnFault;
 use crate::reply::Told;
+use bureau::repeats;
 use requests::{Request, Routes, Turn, read_turn};
 use std::alloc::Global;
 use std::io::{Read, Write};
@@ -54,7 +56,8 @@ pub(crate) struct Retries {
 /// [`ConnFault::Read`] and [`ConnFault::Write`] where a read or write fails, or is interrupted for the 65th
 /// time in this connection; [`ConnFault::EndInside`] where its input ends inside a request; and
 /// [`ConnFault::Memory`] where memory runs out before the request in hand stands whole. The replies to the
-/// requests before it were written whole, and no request behind it was served.
+/// requests before it were written whole, and no request behind it was served. After `Read` and `Memory` no request that
+/// had come whole is left unanswered.
 pub fn serve_one<D: Desk, R: Read, W: Write>(
     alloc: Global,
     desk: &mut D,
@@ -62,10 +65,11 @@ pub fn serve_one<D: Desk, R: Read, W: Write>(
     writer: &mut W,
 ) -> Result<Served, ConnFault>
     ensures clean { D.is_clean desk.new → D.is_clean desk.old }
-    ensures ran { D.is_clean desk.new → (this : Tables) → D.stands desk.old this → HasRun (D.stands desk.new) this }
+    ensures ran { D.is_clean desk.new → (this : Tables) → D.stands desk.old this → HasRun (IsKeptRun D.is_open D.stands desk.old desk.new) this }
     ensures served { D.is_clean desk.new → (this : Tables) → D.stands desk.old this →
-        IfSome (R.remaining reader.old) (IsServed (D.stands desk.new) this (W.contents writer.old) (W.contents writer.new) result) }
+        IfSome (R.remaining reader.old) (IsServed (IsKeptRun D.is_open D.stands desk.old desk.new) this (R.remaining reader.new) (W.contents writer.old) (W.contents writer.new) result) }
 {
+    repeats();
     let routes = Routes::new(alloc)?;
     serve_connection(alloc, desk, &routes, reader, writer)
 }
@@ -78,10 +82,11 @@ pub(crate) fn serve_connection<D: Desk, R: Read, W: Write>(
     writer: &mut W,
 ) -> Result<Served, ConnFault>
     ensures clean { D.is_clean desk.new → D.is_clean desk.old }
-    ensures ran { D.is_clean desk.new → (this : Tables) → D.stands desk.old this → HasRun (D.stands desk.new) this }
+    ensures ran { D.is_clean desk.new → (this : Tables) → D.stands desk.old this → HasRun (IsKeptRun D.is_open D.stands desk.old desk.new) this }
     ensures served { D.is_clean desk.new → (this : Tables) → D.stands desk.old this →
-        IfSome (R.remaining reader.old) (IsServed (D.stands desk.new) this (W.contents writer.old) (W.contents writer.new) result) }
+        IfSome (R.remaining reader.old) (IsServed (IsKeptRun D.is_open D.stands desk.old desk.new) this (R.remaining reader.new) (W.contents writer.old) (W.contents writer.new) result) }
 {
+    repeats();
     let mut intake = Intake::new(alloc);
     let mut retries = Retries {
         reads: RETRIES,
@@ -120,11 +125,11 @@ fn serve_next<D: Desk, R: Read, W: Write>(
     retries: &mut Retries,
 ) -> Result<Step, ConnFault>
     ensures clean { D.is_clean desk.new → D.is_clean desk.old }
-    ensures ran { D.is_clean desk.new → (this : Tables) → D.stands desk.old this → HasRun (D.stands desk.new) this }
+    ensures ran { D.is_clean desk.new → (this : Tables) → D.stands desk.old this → HasRun (IsKeptRun D.is_open D.stands desk.old desk.new) this }
     ensures within { IfOk result (λ step. step ≡ Step.Stays → place < 10000) }
     ensures next { D.is_clean desk.new → (this : Tables) → D.stands desk.old this →
         IfSome (prepend_known intake.old (R.remaining reader.old))
-        (Serves (D.stands desk.new) this place (prepend_known intake.new (R.remaining reader.new)) (W.contents writer.old) (W.contents writer.new) result) }
+        (Serves (IsKeptRun D.is_open D.stands desk.old desk.new) this place intake.new (R.remaining reader.new) (W.contents writer.old) (W.contents writer.new) result) }
 {
     match read_turn(intake, reader, &mut retries.reads)? {
         Turn::CleanEnd => Ok(Step::CleanEnd),
@@ -172,7 +177,7 @@ fn serve_request<D: Desk, W: Write>(
     requires { IsAt bytes.now request.now }
     ensures clean { D.is_clean desk.new → D.is_clean desk.old }
     ensures exchanged { D.is_clean desk.new → (this : Tables) → D.stands desk.old this →
-        IsExchanged (D.stands desk.new) this (what_of this.callers (parts_in bytes.now request.now) (body_in bytes.now request.now)) (has_token (parts_in bytes.now request.now)) (is_bare (parts_in bytes.now request.now)) closes
+        IsExchanged (IsKeptRun D.is_open D.stands desk.old desk.new) this (what_of this.callers (parts_in bytes.now request.now) (body_in bytes.now request.now)) (has_token (parts_in bytes.now request.now)) (is_bare (parts_in bytes.now request.now)) closes
         (W.contents writer.old) (W.contents writer.new) result }
 {
     let told = answer_to(desk, routes, request, bytes);

@@ -27,6 +27,8 @@ impl Desk for Echo {
 
     ghost is_clean = { λ _. Unit {0} };
 
+    ghost is_open = { λ _. Unit {0} };
+
     fn caller_of(&mut self, token: &[u8]) -> Result<Option<Caller>, StoreFault> {
         if self.is_shut {
             return Err(StoreFault::Memory);

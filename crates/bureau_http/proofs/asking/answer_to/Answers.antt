@@ -1,8 +1,11 @@
-use Rattle.std.proofs.Common.{sym, ap, ◌∙◌, Ok}
+use Rattle.std.proofs.Common.{◌≡◌, sym, ap, ◌∙◌, Ok}
+use Rattle.bureau_store.specs.declared.caller.Caller.{Caller}
+use Rattle.bureau.specs.Call.{Call}
 use Rattle.bureau.specs.Calls.{call_as}
-use Rattle.bureau_http.specs.Asked.{call_of}
+use Rattle.bureau.specs.Replies.{reply_as}
+use Rattle.bureau_http.specs.Asked.{call_of, what_of}
 use Rattle.requests.specs.Turn.{body_in, parts_in}
-use Rattle.bureau_http.proofs.AskingFacts.{among, made}
+use Rattle.bureau_http.proofs.AskingFacts.{among, call_run, made}
 use Rattle.bureau_http.proofs.asking.answer_to.Goals as goal
 
 pub returns-in-Ok-action-clause-told : goal.returns-in-Ok-action-clause-told
@@ -14,6 +17,12 @@ returns-in-Ok-action-clause-told g c clean this stands =
     let is_caller = sym c.in-Some-found.is ∙ c.in-Ok.ensures.caller before this stands in
     let is_action = sym c.in-Ok-action.is ∙ c.action-action.ensures.action in
     let step = c.answer.ensures.step clean this (c.caller_of.ensures.stays before this stands) (among this.callers _ _ is_caller) in
-    let what = made this.callers parts body c.in-Some.token.now c.in-Some-found.caller c.in-Ok-action.action c.number.result is_token is_caller is_action c.number.ensures in
     let call = c.call_of-call.ensures ∙ ap (call_of c.in-Ok-action.action c.number.result) c.body.ensures in
-    (step.0, ((c.in-Some-found.caller, call_as c.call_of-call.result), what ∙ ap (λ k. Ok (c.in-Some-found.caller, k)) (sym call), step.1), step.2)
+    let asked : Caller × Call = (c.in-Some-found.caller, call_as c.call_of-call.result) in
+    let what : what_of this.callers parts body ≡ Ok asked = made this.callers parts body c.in-Some.token.now c.in-Some-found.caller c.in-Ok-action.action c.number.result is_token is_caller is_action c.number.ensures
+    ∙ ap (λ k. Ok (c.in-Some-found.caller, k)) (sym call) in (
+      step.0,
+      (asked, what, step.1.step),
+      call_run g.D.Desk.is_open g.D.Desk.stands c.args.desk.now c.answer.new.self this c.caller_of.new.self (what_of this.callers parts body) asked (reply_as c.answer.result) step.0 what
+          c.caller_of.ensures.still_open step.1,
+    )

@@ -1,4 +1,5 @@
 use Rattle.std.proofs.Common.{ap, ◌∙◌, subst}
+use Rattle.bureau.specs.Kept.{IsKeptRun}
 use Rattle.bureau_http.proofs.ExchangeFacts.{has_exchanged, same_text}
 use Rattle.bureau_http.specs.Served.{IsWritten}
 use Rattle.bureau_http.specs.Told.{answer_told, told_text}
@@ -16,7 +17,7 @@ returns-clause-exchanged g c clean this stands =
     let bare = c.is_bare.ensures in
     record {
       told = answer_told c.answer_to-told.result;
-      has = has_exchanged (g.D.Desk.stands c.answer_to-told.new.desk) this told.0 what (has_token parts) c.answer_to-told.result (is_bare parts) c.args.closes told.1 told.2;
+      has = has_exchanged (IsKeptRun g.D.Desk.is_open g.D.Desk.stands c.args.desk.now c.answer_to-told.new.desk) this told.0 what (has_token parts) c.answer_to-told.result (is_bare parts) c.args.closes told.1 told.2;
       failed = failed_as _ c.write.result c.write.ensures.err;
       written = subst (IsWritten c.write.result (g.W.Write.contents c.args.writer.now) (g.W.Write.contents c.write.new.writer))
           (ap (λ b. told_text c.answer_to-told.result b c.args.closes) bare ∙ same_text this told.0 what (has_token parts) c.answer_to-told.result (is_bare parts) c.args.closes told.1)

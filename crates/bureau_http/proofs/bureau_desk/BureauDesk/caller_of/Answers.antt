@@ -10,3 +10,6 @@ returns-clause-stays g c clean this held =
         right = subst (λ judge. g.J.Judge.is_right judge this.content) (sym c.caller_of.ensures.judge) held.1.right;
       },
     )
+
+pub returns-clause-still_open : goal.returns-clause-still_open
+returns-clause-still_open g c = (g.met.S.Store.keeps_tables _ _ c.caller_of.ensures.keeps).still_open
