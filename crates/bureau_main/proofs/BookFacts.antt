@@ -1,19 +1,34 @@
 -- One more statement that is done to a hold book, or is refused.
-use Rattle.std.proofs.Common.{◌≡◌, ◌⊎◌, inl, inr, List, [], ◌∷◌, ◌++◌, Option, Some, None, Ok, Err, IsOk, refl, sym, ◌∙◌, ap, append_assoc}
+use Rattle.std.proofs.Common.{◌≡◌, ◌⊎◌, inl, inr, ℕ, List, [], ◌∷◌, ◌++◌, Option, Some, None, Ok, Err, IsOk, refl, sym, ◌∙◌, ap, map}
 use Rattle.std.proofs.lemmas.List.Elements.{filter_map-append}
 use Rattle.std.specs.Option.{option_to_list}
 use Rattle.std.proofs.lemmas.Grind.{flat_map-append}
 use Rattle.std.specs.List.{flat_map, cons_option}
+use Rattle.mcs_reader.specs.Asking.{asking, reading_asking}
 use Rattle.mcs_reader.specs.Unread.{Read, with_statements}
 use Rattle.mcs_reader.specs.declared.statement.Statement.{Statement}
-use Rattle.mcs_reader.proofs.ReadSteps.{with_statements-append}
+use Rattle.mcs_reader.proofs.ReadFacts.{with_statements-append}
 use Rattle.faults.specs.Refusal.{IsRefusal}
-use Rattle.holddata.proofs.StatementLemmas.{first_of_longer}
+use Rattle.holddata.proofs.StatementFacts.{first_of_longer}
+use Rattle.holddata.specs.BookText.{book_text}
+use Rattle.holddata.specs.HoldBook.{book_of}
 use Rattle.holddata.specs.Statements.{change_of, changes_of, faults_of, first_fault, first_of}
 use Rattle.holddata.specs.declared.hold.HoldChange.{HoldChange}
 use Rattle.holddata.specs.declared.fault.HoldFault.{HoldFault}
 use Rattle.holddata.specs.declared.fault.HoldFault.TheVariants.{Memory}
 use Rattle.bureau_main.specs.Holds.{book_print, of_holds, print_of_read, IsMemory}
+
+-- whoever asks for the operands that say something of a hold has the whole print
+pub print_asking : (names : List (List ℕ)) (read : Read) → ((statements : List Statement) → changes_of (map (asking names) statements) ≡ changes_of statements)
+    → ((statements : List Statement) → first_fault (map (asking names) statements) ≡ first_fault statements)
+    → print_of_read (reading_asking names read) ≡ print_of_read read
+print_asking names (Ok statements) changes faults =
+    ap (λ fault. book_print fault (map (asking names) statements)) (faults statements) ∙ by (first_fault statements)
+  where
+    by : (fault : Option HoldFault) → book_print fault (map (asking names) statements) ≡ book_print fault statements
+    by None = ap (λ cs. Ok (book_text (book_of cs))) (changes statements)
+    by (Some fault) = refl
+print_asking names (Err fault) changes faults = refl
 
 -- before the first statement
 pub none_read : (whole left : Read) → whole ≡ left → whole ≡ with_statements [] left
@@ -28,21 +43,21 @@ pub faultless_more : (done : List Statement) (statement : Statement) → flat_ma
 faultless_more done statement none last =
     flat_map-append faults_of done (statement ∷ []) ∙ ap (λ faults. faults ++ flat_map faults_of (statement ∷ [])) none ∙ ap (λ faults. faults ++ []) last
 
--- the first statement with a fault decides, whatever stands behind it
-first_behind : (done rest : List Statement) (statement : Statement) (fault : HoldFault) → flat_map faults_of done ≡ [] → first_of (faults_of statement) ≡ Some fault
+-- the first statement with a fault decides, whatever stands after it
+first_among : (done rest : List Statement) (statement : Statement) (fault : HoldFault) → flat_map faults_of done ≡ [] → first_of (faults_of statement) ≡ Some fault
     → first_fault (done ++ statement ∷ rest) ≡ Some fault
-first_behind done rest statement fault none first =
+first_among done rest statement fault none first =
     ap first_of (flat_map-append faults_of done (statement ∷ rest) ∙ ap (λ faults. faults ++ flat_map faults_of (statement ∷ rest)) none)
     ∙ first_of_longer (faults_of statement) (flat_map faults_of rest) fault first
 
--- a statement is refused as a hold, where what is behind it is read
+-- a statement is refused as a hold, where what stands after it is read
 refused : (whole before left : Read) (done : List Statement) (statement : Statement) (fault : HoldFault)
     → whole ≡ with_statements done before → before ≡ with_statements (statement ∷ []) left → flat_map faults_of done ≡ [] → IsOk left
     → first_of (faults_of statement) ≡ Some fault → print_of_read whole ≡ Err (of_holds fault)
 refused whole before (Err other) done statement fault read first none ok refuses = absurd (cc)
 refused whole before (Ok rest) done statement fault read first none ok refuses =
     ap print_of_read (read ∙ ap (with_statements done) first)
-    ∙ ap (λ fault. book_print fault (done ++ statement ∷ rest)) (first_behind done rest statement fault none refuses)
+    ∙ ap (λ fault. book_print fault (done ++ statement ∷ rest)) (first_among done rest statement fault none refuses)
 
 -- what is told where a statement is refused as a hold
 pub told_of_hold : (whole before left : Read) (done : List Statement) (statement : Statement) (fault : HoldFault)
@@ -53,14 +68,13 @@ told_of_hold whole before left done statement fault read first none ok refusal =
   | inr refuses ↦ inr (refused whole before left done statement fault read first none ok refuses)
 ]
 
--- what one more statement does comes behind
-pub changes_then : (done : List Statement) (statement : Statement) (made waiting : List HoldChange) (change : Option HoldChange) → change ≡ change_of statement
-    → changes_of done ≡ made ++ waiting → changes_of (done ++ statement ∷ []) ≡ made ++ (waiting ++ option_to_list change)
-changes_then done statement made waiting change is before =
+-- what one more statement does comes after
+pub changes_then : (done : List Statement) (statement : Statement) (made : List HoldChange) (change : Option HoldChange) → change ≡ change_of statement
+    → changes_of done ≡ made → changes_of (done ++ statement ∷ []) ≡ made ++ option_to_list change
+changes_then done statement made change is before =
     filter_map-append change_of done (statement ∷ [])
     ∙ ap (λ last. changes_of done ++ last) (alone (change_of statement) ∙ ap option_to_list (sym is))
     ∙ ap (λ changes. changes ++ option_to_list change) before
-    ∙ append_assoc made waiting (option_to_list change)
   where
     alone : (o : Option HoldChange) → cons_option o [] ≡ option_to_list o
     alone None = refl

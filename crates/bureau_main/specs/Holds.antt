@@ -1,5 +1,5 @@
 -- What `holds` makes of the bytes of a source (IBM z/OS SMP/E Reference, `++HOLD`).
-use Rattle.std.specs.Prelude.{◌≡◌, ℕ, ◌⊎◌, ◌++◌, List, take, Option, Some, None, Result, Ok, Err, IfSome}
+use Rattle.std.specs.Prelude.{◌≡◌, ℕ, ◌⊎◌, List, take, Option, Some, None, Result, Ok, Err, IfSome}
 use Rattle.std.specs.Io.KnownBytes.{Appends, Keeps}
 use Rattle.faults.specs.FaultText as fault_line
 use Rattle.faults.specs.declared.any.AnyFault.{AnyFault}
@@ -11,8 +11,6 @@ use Rattle.mcs_reader.specs.declared.fault.McsFault.TheVariants as mcs_fault
 use Rattle.mcs_reader.specs.declared.statement.Statement.{Statement}
 use Rattle.holddata.specs.BookText.{book_text}
 use Rattle.holddata.specs.HoldBook.{book_of}
-use Rattle.holddata.specs.declared.hold.Hold.{Hold}
-use Rattle.holddata.specs.declared.hold.HoldChange.{HoldChange}
 use Rattle.holddata.specs.HoldFault as hold
 use Rattle.holddata.specs.Statements.{changes_of, first_fault}
 use Rattle.holddata.specs.declared.fault.HoldFault.{HoldFault}
@@ -91,9 +89,3 @@ pub record IsHoldsRun (input rest old new old_errors new_errors : Option (List �
   pub printed : IsPrinted input old new outcome
   pub told : IsTold outcome old_errors new_errors
   pub status_is : status ≡ run_status outcome
-
--- Serves private contracts alone: some of the changes before, and of those that waited, are made, and the others wait.
-pub record IsInMaking (before waited : List HoldChange) (book : List Hold) (waiting : List HoldChange) : Type 0 where
-  pub made : List HoldChange
-  pub book_is : book ≡ book_of made
-  pub all : before ++ waited ≡ made ++ waiting

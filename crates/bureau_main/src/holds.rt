@@ -1,30 +1,24 @@
 //! `holds`: from the bytes of HOLDDATA to the hold book in print.
-ghost use Rattle.std.specs.Prelude.{◌≡◌, ◌⊎◌, ◌++◌, List, take, Ok, Err, IfOk, IfErr, IfSome, OnOk};
+ghost use Rattle.std.specs.Prelude.{◌≡◌, ◌⊎◌, ◌++◌, take, Ok, Err, IfOk, IfErr, IfSome, OnOk};
 ghost use Rattle.std.specs.Option.{option_to_list};
 ghost use Rattle.std.specs.Io.KnownBytes.{Appends};
 ghost use Rattle.holddata.specs.BookText.{book_text};
-ghost use Rattle.holddata.specs.HoldBook.{book_of};
-ghost use Rattle.holddata.specs.declared.hold.HoldChange.{HoldChange};
+ghost use Rattle.holddata.specs.HoldBook.{book_of, IsLeft};
 ghost use Rattle.mcs_reader.specs.ReadingOf.{reading_of};
 ghost use Rattle.mcs_reader.specs.Unread.{IsRead};
-ghost use Rattle.bureau_main.specs.Holds.{fault_in, most_read, print_of, IsHoldsRun, IsInMaking, IsMemory, IsPrinted};
+ghost use Rattle.bureau_main.specs.Holds.{fault_in, most_read, print_of, print_of_read, IsHoldsRun, IsMemory, IsPrinted};
 ghost use Rattle.transfer.specs.Transfer.{AppendsFront, ConsumesUpTo};
 
 use crate::fault::{ProgramFault, exit_status, report};
 use faults::AnyFault;
-use holddata::{HoldBook, HoldChange, change};
+use holddata::{HoldChange, book_text_left, change, hold_operands};
 use mcs_reader::Statements;
 use std::alloc::Global;
 use std::io::{Read, Write};
-use std::mem;
 use transfer::{RETRIES, read_source, write_whole};
 
 /// The most bytes that are read of a source: one more than it may have.
 pub const MOST_READ: usize = mcs_reader::MOST_BYTES + 1;
-
-// So many changes wait before they are made, or a fourth of the holds in the book where those are more: a book takes
-// many at once in less time than one after the other.
-const MOST_WAITING: usize = 16_384;
 
 /// Reads HOLDDATA and prints the hold book that its statements leave. Returns the exit status.
 ///
@@ -94,69 +88,58 @@ pub fn hold_book_text(alloc: Global, source: Vec<u8>) -> Result<Vec<u8>, AnyFaul
     // What a source is read as, in the words of the field.
     ensures reading { IsRead source.items (reading_of source.items) }
 {
-    let book = book_in(alloc, source.as_slice())?;
+    let changes = changes_in(alloc, source.as_slice())?;
     drop(source); // The text takes its room.
-    Ok(book_print(&book)?)
+    Ok(text_left(changes)?)
 }
 
-// A book in print.
-fn book_print(book: &HoldBook) -> Result<Vec<u8>, ProgramFault>
-    ensures text { IfOk result (λ text. text.items ≡ book_text book.now) }
+// The book that changes leave, in print.
+fn text_left(changes: Vec<HoldChange>) -> Result<Vec<u8>, ProgramFault>
+    ensures text { IfOk result (λ text. text.items ≡ book_text (book_of changes.items)) }
+    ensures left { IsLeft changes.items (book_of changes.items) }
     ensures err { IfErr result (λ fault. fault ≡ ProgramFault.Memory) }
 {
-    Ok(book.text()?)
+    Ok(book_text_left(changes)?)
 }
 
-// The hold book that the statements of a source leave. No statement is kept, and what is behind the first
-// that has a fault as a hold is read too, since a fault of the text itself comes before it.
-fn book_in(alloc: Global, source: &[u8]) -> Result<HoldBook, AnyFault>
-    ensures book { IfOk result (λ book. print_of source.now ≡ Ok (book_text book)) }
+// What the statements of a source do to the holds, in their order. Only the operands that say something of a hold are
+// asked for.
+fn changes_in(alloc: Global, source: &[u8]) -> Result<Vec<HoldChange>, AnyFault>
+    ensures changes { IfOk result (λ changes. print_of source.now ≡ Ok (book_text (book_of changes.items))) }
     ensures fault { IfErr result (λ fault. IsMemory fault ⊎ (print_of source.now ≡ Err fault)) }
     ensures reading { IsRead source.now (reading_of source.now) }
 {
-    let mut statements = Statements::new(alloc, source)?;
-    let mut book = HoldBook::new(alloc);
-    let mut waiting = Vec::new(alloc);
+    let statements = Statements::asking(alloc, source, hold_operands())?;
+    changes_by(alloc, statements)
+}
+
+// What statements do to the holds, in their order. No statement is kept, and what stands after the first that has a
+// fault as a hold is read too, since a fault of the text itself comes before it.
+fn changes_by(alloc: Global, statements: Statements) -> Result<Vec<HoldChange>, AnyFault>
+    ensures changes { IfOk result (λ changes. print_of_read statements.entry.reading ≡ Ok (book_text (book_of changes.items))) }
+    ensures fault { IfErr result (λ fault. IsMemory fault ⊎ (print_of_read statements.entry.reading ≡ Err fault)) }
+{
+    let mut statements = statements;
+    let mut changes = Vec::new(alloc);
     'statements: while let Some(statement) = statements.next()? {
         match change(alloc, &statement) {
-            Ok(change) => put_among(&mut waiting, change)?,
+            Ok(change) => put_among(&mut changes, change)?,
             Err(fault) => {
                 statements.finish()?;
                 return Err(AnyFault::from(fault));
             }
         }
-        book = with_many(book, &mut waiting)?;
     }
-    Ok(with_waiting(book, waiting)?)
+    Ok(changes)
 }
 
-// Puts the change, where there is one, behind those that wait.
-fn put_among(waiting: &mut Vec<HoldChange>, change: Option<HoldChange>) -> Result<(), ProgramFault>
-    ensures ok { OnOk result (waiting.new.items ≡ waiting.old.items ++ option_to_list change) }
+// Puts the change, where there is one, after the others.
+fn put_among(changes: &mut Vec<HoldChange>, change: Option<HoldChange>) -> Result<(), ProgramFault>
+    ensures ok { OnOk result (changes.new.items ≡ changes.old.items ++ option_to_list change) }
     ensures err { IfErr result (λ fault. fault ≡ ProgramFault.Memory) }
 {
     if let Some(change) = change {
-        waiting.push(change)?;
+        changes.push(change)?;
     }
     Ok(())
-}
-
-// The book after the changes that wait, where they are many. Else they wait on.
-fn with_many(book: HoldBook, waiting: &mut Vec<HoldChange>) -> Result<HoldBook, ProgramFault>
-    ensures book { IfOk result (λ left. (before : List HoldChange) → book ≡ book_of before → IsInMaking before waiting.old.items left waiting.new.items) }
-    ensures err { IfErr result (λ fault. fault ≡ ProgramFault.Memory) }
-{
-    if waiting.len() < MOST_WAITING.max(book.len() / 4) {
-        return Ok(book);
-    }
-    let alloc = *waiting.allocator();
-    with_waiting(book, mem::replace(waiting, Vec::new(alloc)))
-}
-
-// The book after the changes that wait.
-fn with_waiting(book: HoldBook, waiting: Vec<HoldChange>) -> Result<HoldBook, ProgramFault>
-    ensures book { IfOk result (λ left. (before : List HoldChange) → book ≡ book_of before → left ≡ book_of (before ++ waiting.items)) }
-    ensures err { IfErr result (λ fault. fault ≡ ProgramFault.Memory) }
-{
-    Ok(book.with_changes(waiting)?)
 }
