@@ -16,7 +16,7 @@ use Rattle.mcs_reader.specs.declared.fault.McsFault.TheVariants.{NoPeriod, BadVe
 use Rattle.mcs_reader.specs.declared.statement.Statement.{Statement}
 use Rattle.mcs_reader.specs.declared.statement.Verb.{Verb}
 use Rattle.mcs_reader.specs.declared.statement.Verb.TheVariants.{Hold, Release, Ver}
-use Rattle.mcs_reader.proofs.Outcomes.{IsReading-from_read, IsStoppedSource-from_read}
+use Rattle.mcs_reader.proofs.OutcomeFacts.{IsReading-from_read, IsStoppedSource-from_read}
 
 abbrev hold : ℕ → List ℕ → List OperandText → Statement
 hold line subject operands = record { verb = Hold; subject = Some (padded subject); operands = operands; line = line }
@@ -51,7 +51,7 @@ pub sequence_numbers : IsReading (codes "++HOLD(A) USER REASON(B)               
 unfolding text_of read_lines pass verb_at verb_named role_of is_comment_name
 sequence_numbers = reads (codes "++HOLD(A) USER REASON(B)                                                00010000\r\n CLASS(C).\r\n") _ (omega arith) refl
 
--- lines between statements, another verb's statement and what stands behind a period are skipped
+-- lines between statements, another verb's statement and what stands after a period are skipped
 pub skipped_lines : IsReading (codes "HOLDDATA\n++MOD(X)\n) ; (\n++ hold(A) . )))\n") (hold 4 (codes "A") [] ∷ [])
 unfolding text_of read_lines pass verb_at verb_named role_of is_comment_name
 skipped_lines = reads (codes "HOLDDATA\n++MOD(X)\n) ; (\n++ hold(A) . )))\n") _ (omega arith) refl
@@ -71,12 +71,12 @@ pub no_period_before_statement : IsFirstFault (codes "\n++HOLD(A)\n++HOLD(B).") 
 unfolding text_of read_lines pass verb_at verb_named role_of is_comment_name
 no_period_before_statement = fails (codes "\n++HOLD(A)\n++HOLD(B).") (NoPeriod 2) (omega arith) refl
 
--- no list behind the verb
+-- no list after the verb
 pub no_subject : IsFirstFault (codes "++HOLD UA10001 ERROR REASON(AA1).") (BadVerbSubject 1)
 unfolding text_of read_lines pass verb_at verb_named role_of is_comment_name
 no_subject = fails (codes "++HOLD UA10001 ERROR REASON(AA1).") (BadVerbSubject 1) (omega arith) refl
 
--- two values, or no id, behind the verb
+-- two values, or no id, after the verb
 pub two_subjects : IsFirstFault (codes "++HOLD(A,B).") (BadVerbSubject 1)
 unfolding text_of read_lines pass verb_at verb_named role_of is_comment_name
 two_subjects = fails (codes "++HOLD(A,B).") (BadVerbSubject 1) (omega arith) refl

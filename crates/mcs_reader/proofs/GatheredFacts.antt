@@ -8,12 +8,12 @@ use Rattle.mcs_reader.specs.Bytes.{bytes_of_each}
 use Rattle.mcs_reader.specs.Gathered.{is_wanted, operands_for, reading_for, statement_for}
 use Rattle.mcs_reader.specs.Byte.{is_name_byte}
 use Rattle.mcs_reader.specs.OperandText.{OperandText}
-use Rattle.mcs_reader.specs.Pieces.{before_behind, no_name}
+use Rattle.mcs_reader.specs.Pieces.{named_before, no_name}
 use Rattle.mcs_reader.specs.Place.{role_at}
-use Rattle.mcs_reader.specs.Run.{run, behind_run}
+use Rattle.mcs_reader.specs.Run.{run, after_run}
 use Rattle.mcs_reader.specs.Scan.{Found, Outcome, on_found, scan, with_name, with_operands}
 use Rattle.mcs_reader.specs.declared.byte.ByteRole.TheVariants.{Name}
-use Rattle.mcs_reader.proofs.Outside.{outside_name}
+use Rattle.mcs_reader.proofs.OutsideFacts.{outside_name}
 use Rattle.mcs_reader.specs.Unread.{Read, with_statements}
 use Rattle.mcs_reader.specs.declared.asked.Asked.{Asked}
 use Rattle.mcs_reader.specs.declared.asked.Asked.TheVariants.{All, Named}
@@ -80,13 +80,13 @@ fault_for (Named names) fault = refl
 
 -- ---- one operand of a text
 
--- where a name stands, what is found is what is found behind it, with the name
-pub named : (line : ℕ) (text name now : List ℕ) → role_at text ≡ Some Name → name ≡ run is_name_byte text → now ≡ behind_run is_name_byte text
-    → scan line 0 no_name false text ≡ on_found (with_name name) (scan line 0 (before_behind name) false now)
-named line text name now role is_name is_behind =
+-- where a name stands, what is found is what is found after it, with the name
+pub named : (line : ℕ) (text name now : List ℕ) → role_at text ≡ Some Name → name ≡ run is_name_byte text → now ≡ after_run is_name_byte text
+    → scan line 0 no_name false text ≡ on_found (with_name name) (scan line 0 (named_before name) false now)
+named line text name now role is_name is_after =
     (outside_name line no_name text role).0
-    ∙ ap (λ w. on_found (with_name w) (scan line 0 (before_behind w) false (behind_run is_name_byte text))) (sym is_name)
-    ∙ ap (λ t. on_found (with_name name) (scan line 0 (before_behind name) false t)) (sym is_behind)
+    ∙ ap (λ w. on_found (with_name w) (scan line 0 (named_before w) false (after_run is_name_byte text))) (sym is_name)
+    ∙ ap (λ t. on_found (with_name name) (scan line 0 (named_before name) false t)) (sym is_after)
 
 -- operands in front of others
 pub operands_then : (front next : List OperandText) (outcome : Outcome) → on_found (with_operands front) (on_found (with_operands next) outcome) ≡ on_found (with_operands (front ++ next)) outcome

@@ -53,7 +53,7 @@ text_begins (b ∷ bs) =
 pub text_fits : (bs : List ℕ) → prefix_len (λ b. not (b == 32)) bs ≤ length bs
 text_fits bs = prefix_len-le-length (λ b. not (b == 32)) bs
 
--- blanks behind a text are no part of it
+-- blanks after a text are no part of it
 text_of-blanks : (n : ℕ) → text_of (replicate n 32) ≡ []
 text_of-blanks zero = refl
 text_of-blanks (suc n) = refl

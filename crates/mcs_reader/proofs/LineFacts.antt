@@ -5,7 +5,7 @@ use Rattle.std.specs.List.{list_all}
 use Rattle.mcs_reader.specs.Byte.{line_end}
 use Rattle.mcs_reader.specs.Line.{with_front, lines, without_return, columns_1_to_72, text_of, text_of_lines}
 use Rattle.mcs_reader.specs.Segment.{IsLine}
-use Rattle.mcs_reader.proofs.Runs.{in_line}
+use Rattle.mcs_reader.proofs.RunFacts.{in_line}
 
 eqb_false : (b : ℕ) → ((b == line_end) ≡ true → ⊥) → (b == line_end) ≡ false
 eqb_false b wrong = by_test (b == line_end) refl where
@@ -74,10 +74,10 @@ pub text_of-nil : text_of [] ≡ []
 unfolding text_of
 text_of-nil = refl
 
-pub text_of-line : (source line behind : List ℕ) → lines source ≡ line ∷ lines behind → text_of source ≡ columns_1_to_72 line ++ line_end ∷ text_of behind
+pub text_of-line : (source line after : List ℕ) → lines source ≡ line ∷ lines after → text_of source ≡ columns_1_to_72 line ++ line_end ∷ text_of after
 unfolding text_of
-text_of-line source line behind is =
-    ap text_of_lines is ∙ append_assoc (columns_1_to_72 line) (line_end ∷ []) (text_of_lines (lines behind))
+text_of-line source line after is =
+    ap text_of_lines is ∙ append_assoc (columns_1_to_72 line) (line_end ∷ []) (text_of_lines (lines after))
 
 -- part of a line is one
 pub IsLine-take : (n : ℕ) (line : List ℕ) → IsLine line → IsLine (take n line)

@@ -5,9 +5,9 @@ use Rattle.mcs_reader.specs.Comment.{role_here}
 use Rattle.mcs_reader.specs.declared.byte.ByteRole.{ByteRole}
 use Rattle.mcs_reader.specs.declared.byte.ByteRole.TheVariants.{Gap, Comment, Name, Open, Close, Period, Other}
 use Rattle.mcs_reader.specs.declared.fault.McsFault.TheVariants.{NoPeriod, Unbalanced}
-use Rattle.mcs_reader.specs.Pieces.{Before, no_name, before_behind}
+use Rattle.mcs_reader.specs.Pieces.{Before, no_name, named_before}
 use Rattle.mcs_reader.specs.Run.{run, value_run}
-use Rattle.mcs_reader.specs.Scan.{pass, scan, on_found, with_name, with_values, closing, stray, behind_comment, past, opening}
+use Rattle.mcs_reader.specs.Scan.{pass, scan, on_found, with_name, with_values, closing, stray, after_comment, past, opening}
 
 -- bytes that are passed over
 
@@ -34,13 +34,13 @@ unfolding pass
 scan-gap line before begun b text is = rw (is, pass) refl
 
 pub scan-comment_step : (line : ℕ) (before : Before) (begun : Bool) (b : ℕ) (text : List ℕ) → role_here b text ≡ Comment
-    → scan line zero before begun (b ∷ text) ≡ past line text (behind_comment (drop 1 text)) (λ skip. pass line skip zero before false text)
+    → scan line zero before begun (b ∷ text) ≡ past line text (after_comment (drop 1 text)) (λ skip. pass line skip zero before false text)
 unfolding pass
 scan-comment_step line before begun b text is = rw (is, pass) refl
 
 pub scan-name_step : (line : ℕ) (before : Before) (begun : Bool) (b : ℕ) (text : List ℕ) → role_here b text ≡ Name
     → scan line zero before begun (b ∷ text)
-    ≡ on_found (with_name (run is_name_byte (b ∷ text))) (pass line (length (run is_name_byte text)) zero (before_behind (run is_name_byte (b ∷ text))) false text)
+    ≡ on_found (with_name (run is_name_byte (b ∷ text))) (pass line (length (run is_name_byte text)) zero (named_before (run is_name_byte (b ∷ text))) false text)
 unfolding pass
 scan-name_step line before begun b text is = rw (is, pass) refl
 
@@ -76,7 +76,7 @@ unfolding pass
 scan-inside-gap line depth b text is = rw (is, pass) refl
 
 pub scan-inside-comment_step : (line depth : ℕ) (b : ℕ) (text : List ℕ) → role_here b text ≡ Comment
-    → scan line (suc depth) no_name false (b ∷ text) ≡ past line text (behind_comment (drop 1 text)) (λ skip. pass line skip (suc depth) no_name false text)
+    → scan line (suc depth) no_name false (b ∷ text) ≡ past line text (after_comment (drop 1 text)) (λ skip. pass line skip (suc depth) no_name false text)
 unfolding pass
 scan-inside-comment_step line depth b text is = rw (is, pass) refl
 

@@ -3,16 +3,16 @@ use Rattle.std.proofs.Common.{◌≡◌, ℕ, suc, ◌+◌, ◌-◌, ◌==◌, �
 use Rattle.mcs_reader.specs.Byte.{line_end}
 use Rattle.mcs_reader.specs.Line.{with_front, lines, without_return, columns_1_to_72, text_of, text_of_lines, line_ends}
 use Rattle.mcs_reader.specs.Pieces.{a_name}
-use Rattle.mcs_reader.specs.Place.{Place, IsBehind, after_line, verb_at}
-use Rattle.mcs_reader.specs.ReadLines.{at_verb, go_on, read_behind, read_lines}
+use Rattle.mcs_reader.specs.Place.{Place, IsAfter, after_line, verb_at}
+use Rattle.mcs_reader.specs.ReadLines.{at_verb, go_on, read_after, read_lines}
 use Rattle.mcs_reader.specs.Unread.{with_statements}
 use Rattle.mcs_reader.specs.Scan.{scan, stated}
 use Rattle.mcs_reader.specs.declared.fault.McsFault.{McsFault}
 use Rattle.mcs_reader.specs.declared.statement.Statement.{Statement}
 use Rattle.mcs_reader.specs.declared.statement.Verb.{Verb}
 use Rattle.mcs_reader.proofs.ReadFacts.{read_lines-end}
-use Rattle.mcs_reader.proofs.Rows.{step}
-use Rattle.mcs_reader.proofs.StepCountFacts.{any_steps, fits_behind}
+use Rattle.mcs_reader.proofs.RowFacts.{step}
+use Rattle.mcs_reader.proofs.StepCountFacts.{any_steps, fits_after}
 
 -- the size of a text
 
@@ -77,13 +77,13 @@ line_ends-le-length (b ∷ text) = by_test (b == line_end) (line_ends-le-length 
   by_test true fits = omega arith
   by_test false fits = omega arith
 
--- a place within a source that isn't too long has room for its numbers
-pub room : (source : List ℕ) (place : Place) → length source ≤ 67108864 → IsBehind place (record { text = line_end ∷ text_of source; line = 0 })
+-- a place within a source that isn't too long has headroom for its numbers
+pub headroom : (source : List ℕ) (place : Place) → length source ≤ 67108864 → IsAfter place (record { text = line_end ∷ text_of source; line = 0 })
     → (length place.text ≤ 67108866) × (place.line + line_ends place.text ≤ 67108866)
-room source place fits behind =
+headroom source place fits after =
     let size = length-text_of source in
     let ends = line_ends-le-length (text_of source) in
-    (omega (arith, behind.text), omega (arith, behind.lines))
+    (omega (arith, after.text), omega (arith, after.lines))
 
 -- steps
 
@@ -96,26 +96,26 @@ line_ends-after_line (b ∷ text) more = by_test (b == line_end) more (line_ends
   by_test false some rest = omega (arith, rest some)
 
 -- the line that follows a statement, counted from its beginning and from its end
-next_lines : (m line_before line_now : ℕ) (before now : List ℕ) (behind : List ℕ) → after_line now ≡ behind → line_now + line_ends now ≡ line_before + line_ends before → line_before ≤ line_now
-    → read_lines m (line_before + (line_ends before - line_ends behind)) behind ≡ read_lines m (line_now + 1) behind
+next_lines : (m line_before line_now : ℕ) (before now : List ℕ) (after : List ℕ) → after_line now ≡ after → line_now + line_ends now ≡ line_before + line_ends before → line_before ≤ line_now
+    → read_lines m (line_before + (line_ends before - line_ends after)) after ≡ read_lines m (line_now + 1) after
 next_lines m line_before line_now before now [] at sums passed = read_lines-end m (line_before + (line_ends before - 0)) ∙ sym (read_lines-end m (line_now + 1))
-next_lines m line_before line_now before now (b ∷ behind) at sums passed =
+next_lines m line_before line_now before now (b ∷ after) at sums passed =
     let P : List ℕ → Type 0 = λ t. 0 < length t in
     let some : 0 < length (after_line now) = subst P (sym at) (omega arith) in
-    let ends : line_ends now ≡ 1 + line_ends (b ∷ behind) = line_ends-after_line now some ∙ ap (λ t. 1 + line_ends t) at in
-    ap (λ l. read_lines m l (b ∷ behind)) (omega (arith, sums, ends, passed))
+    let ends : line_ends now ≡ 1 + line_ends (b ∷ after) = line_ends-after_line now some ∙ ap (λ t. 1 + line_ends t) at in
+    ap (λ l. read_lines m l (b ∷ after)) (omega (arith, sums, ends, passed))
 
--- What is left to read at the beginning of a line, and behind it.
+-- What is left to read at the beginning of a line, and after it.
 
--- one place begins the line behind another
+-- one place begins the line after another
 pub record Begins (now last : Place) : Type 0 where
   pub text : now.text ≡ after_line last.text
   pub line : now.line ≡ last.line + 1
   pub more : 0 < length now.text
 
--- the step at the beginning of the line, with more steps behind it than are needed
+-- the step at the beginning of the line, with more steps after it than are needed
 abbrev Step : Place → Place → Type 0
-Step last now = (m : ℕ) × (length now.text ≤ suc m) × (read_behind last ≡ at_verb (read_lines m) now.line now.text (verb_at now.text))
+Step last now = (m : ℕ) × (length now.text ≤ suc m) × (read_after last ≡ at_verb (read_lines m) now.line now.text (verb_at now.text))
 
 step_at : (last now : Place) → Begins now last → Step last now
 step_at last now at =
@@ -126,18 +126,18 @@ step_at last now at =
     )
 
 -- a line that is passed over
-pub passed_line : (last now : Place) → Begins now last → verb_at now.text ≡ None → read_behind last ≡ read_behind now
+pub passed_line : (last now : Place) → Begins now last → verb_at now.text ≡ None → read_after last ≡ read_after now
 passed_line last now at none =
     let once = step_at last now at in
     once.2
     ∙ ap (at_verb (read_lines once.0) now.line now.text) none
-    ∙ any_steps once.0 (length (after_line now.text)) (now.line + 1) (after_line now.text) (fits_behind now.text (after_line now.text) once.0 refl once.1) (omega arith)
+    ∙ any_steps once.0 (length (after_line now.text)) (now.line + 1) (after_line now.text) (fits_after now.text (after_line now.text) once.0 refl once.1) (omega arith)
 
 -- a statement
-pub statement_line : (last now end : Place) (what : Verb) (behind : List ℕ) (statement : Statement) → Begins now last → verb_at now.text ≡ Some (what, behind)
-    → stated what now.line (scan now.line 0 a_name false behind) ≡ Ok (statement, end.text) → IsBehind end now
-    → read_behind last ≡ with_statements (statement ∷ []) (read_behind end)
-statement_line last now end what behind statement at verb_is read is =
+pub statement_line : (last now end : Place) (what : Verb) (after : List ℕ) (statement : Statement) → Begins now last → verb_at now.text ≡ Some (what, after)
+    → stated what now.line (scan now.line 0 a_name false after) ≡ Ok (statement, end.text) → IsAfter end now
+    → read_after last ≡ with_statements (statement ∷ []) (read_after end)
+statement_line last now end what after statement at verb_is read is =
     let once = step_at last now at in
     let shorter = is.text in
     once.2
@@ -145,17 +145,17 @@ statement_line last now end what behind statement at verb_is read is =
     ∙ ap (go_on (read_lines once.0) now.line now.text) read
     ∙ ap (with_statements (statement ∷ []))
     (next_lines once.0 now.line end.line now.text end.text (after_line end.text) refl is.lines is.passed
-    ∙ any_steps once.0 (length (after_line end.text)) (end.line + 1) (after_line end.text) (fits_behind end.text (after_line end.text) once.0 refl (omega (arith, once.1, shorter))) (omega arith))
+    ∙ any_steps once.0 (length (after_line end.text)) (end.line + 1) (after_line end.text) (fits_after end.text (after_line end.text) once.0 refl (omega (arith, once.1, shorter))) (omega arith))
 
 -- a statement that is refused
-pub refused_line : (last now : Place) (what : Verb) (behind : List ℕ) (fault : McsFault) → Begins now last → verb_at now.text ≡ Some (what, behind)
-    → stated what now.line (scan now.line 0 a_name false behind) ≡ Err fault → read_behind last ≡ Err fault
-refused_line last now what behind fault at verb_is refused =
+pub refused_line : (last now : Place) (what : Verb) (after : List ℕ) (fault : McsFault) → Begins now last → verb_at now.text ≡ Some (what, after)
+    → stated what now.line (scan now.line 0 a_name false after) ≡ Err fault → read_after last ≡ Err fault
+refused_line last now what after fault at verb_is refused =
     let once = step_at last now at in
     once.2
     ∙ ap (at_verb (read_lines once.0) now.line now.text) verb_is
     ∙ ap (go_on (read_lines once.0) now.line now.text) refused
 
 -- the end of the text
-pub no_line : (last : Place) → after_line last.text ≡ [] → read_behind last ≡ Ok []
+pub no_line : (last : Place) → after_line last.text ≡ [] → read_after last ≡ Ok []
 no_line last end = ap (λ t. read_lines (length t) (last.line + 1) t) end ∙ read_lines-end 0 (last.line + 1)

@@ -4,23 +4,23 @@ use Rattle.mcs_reader.specs.Byte.{is_blank, is_name_byte, line_end}
 use Rattle.mcs_reader.specs.declared.byte.ByteRole.{ByteRole}
 use Rattle.mcs_reader.specs.declared.byte.ByteRole.TheVariants.{Gap, Comment, Name, Open, Close, Period, Other}
 use Rattle.mcs_reader.specs.Line.{begins_statement, line_ends}
-use Rattle.mcs_reader.specs.Place.{after_line, name_behind, text_behind, verb_at}
-use Rattle.mcs_reader.specs.Run.{run, behind_run, value_run}
+use Rattle.mcs_reader.specs.Place.{after_line, name_after, text_after, verb_at}
+use Rattle.mcs_reader.specs.Run.{run, after_run, value_run}
 use Rattle.mcs_reader.specs.ReadLines.{at_verb, go_on, read_lines}
 use Rattle.mcs_reader.specs.Comment.{role_here}
-use Rattle.mcs_reader.specs.Pieces.{Before, no_name, a_name, name_comment, before_behind}
-use Rattle.mcs_reader.specs.Scan.{behind_comment, behind_raw, Found, on_found, opening, Outcome, pass, past, past_raw, Stated, closing, scan, stated, with_list, with_name, with_subject, with_values}
+use Rattle.mcs_reader.specs.Pieces.{Before, no_name, a_name, name_comment, named_before}
+use Rattle.mcs_reader.specs.Scan.{after_comment, after_raw, Found, on_found, opening, Outcome, pass, past, past_raw, Stated, closing, scan, stated, with_list, with_name, with_subject, with_values}
 use Rattle.mcs_reader.specs.StatementText.{subject_of}
 use Rattle.mcs_reader.specs.Unread.{with_statements}
 use Rattle.mcs_reader.specs.Verb.{verb_named}
 use Rattle.mcs_reader.specs.declared.statement.Statement.{Statement}
 use Rattle.mcs_reader.specs.declared.statement.Verb.{Verb}
 use Rattle.mcs_reader.proofs.ReadFacts.{read_lines-end, read_lines-step}
-use Rattle.mcs_reader.proofs.Runs.{run-append-behind_run}
-use Rattle.mcs_reader.proofs.ScanPlaces.{shorter_after_line}
+use Rattle.mcs_reader.proofs.RunFacts.{run-append-after_run}
+use Rattle.mcs_reader.proofs.ScanPlaceFacts.{shorter_after_line}
 use Rattle.mcs_reader.proofs.ScanFacts.{skip-step}
 
--- what is behind the statement is no longer than this
+-- what is after the statement is no longer than this
 abbrev Within : ℕ → Outcome → Type 0
 Within n (Ok found) = length found.rest ≤ n
 Within n (Err fault) = Unit {0}
@@ -49,7 +49,7 @@ within_past_raw n line text (Ok rest) next is = within_found n (with_list []) (n
 within_opening : (n line : ℕ) (before : Before) (text : List ℕ) (inside : Outcome) (next : ℕ → Outcome) → Within n inside → ((skip : ℕ) → Within n (next skip)) → Within n (opening line before text inside next)
 within_opening n line no_name text inside next is more = tt
 within_opening n line a_name text inside next is more = is
-within_opening n line name_comment text inside next is more = within_past_raw n line text (behind_raw zero text) next more
+within_opening n line name_comment text inside next is more = within_past_raw n line text (after_raw zero text) next more
 
 -- no statement goes over the end of its text
 within : (line skip depth : ℕ) (before : Before) (begun : Bool) (text : List ℕ) → Within (length text) (pass line skip depth before begun text)
@@ -62,48 +62,48 @@ within line (suc skip) depth before begun (b ∷ text) =
 within line zero depth before begun (b ∷ text) =
     at depth (λ skip depth before begun. within_more (length text) (length (b ∷ text)) (pass line skip depth before begun text) (omega arith) (within line skip depth before begun text))
   where
-    Behind : Type 0
-    Behind = (skip depth : ℕ) (before : Before) (begun : Bool) → Within (length (b ∷ text)) (pass line skip depth before begun text)
+    After : Type 0
+    After = (skip depth : ℕ) (before : Before) (begun : Bool) → Within (length (b ∷ text)) (pass line skip depth before begun text)
 
-    outside : (role : ByteRole) → role_here b text ≡ role → Behind → Within (length (b ∷ text)) (pass line zero zero before begun (b ∷ text))
-    outside Gap is behind = rw (is, pass) (behind zero zero before (b == line_end))
-    outside Comment is behind = rw (is, pass) (within_past (length (b ∷ text)) line text (behind_comment (drop 1 text)) (λ skip. pass line skip zero before false text) (λ skip. behind skip zero before false))
-    outside Name is behind =
+    outside : (role : ByteRole) → role_here b text ≡ role → After → Within (length (b ∷ text)) (pass line zero zero before begun (b ∷ text))
+    outside Gap is after = rw (is, pass) (after zero zero before (b == line_end))
+    outside Comment is after = rw (is, pass) (within_past (length (b ∷ text)) line text (after_comment (drop 1 text)) (λ skip. pass line skip zero before false text) (λ skip. after skip zero before false))
+    outside Name is after =
         rw (is, pass)
         (within_found (length (b ∷ text)) (with_name (run is_name_byte (b ∷ text)))
-        (pass line (length (run is_name_byte text)) zero (before_behind (run is_name_byte (b ∷ text))) false text) (λ found. refl)
-        (behind (length (run is_name_byte text)) zero (before_behind (run is_name_byte (b ∷ text))) false))
-    outside Open is behind =
+        (pass line (length (run is_name_byte text)) zero (named_before (run is_name_byte (b ∷ text))) false text) (λ found. refl)
+        (after (length (run is_name_byte text)) zero (named_before (run is_name_byte (b ∷ text))) false))
+    outside Open is after =
         rw (is, pass)
-        (within_opening (length (b ∷ text)) line before text (pass line zero 1 no_name false text) (λ skip. pass line skip zero no_name false text) (behind zero 1 no_name false) (λ skip. behind skip zero no_name false))
-    outside Close is behind = rw (is, pass) tt
-    outside Period is behind = rw (is, pass) (omega arith)
-    outside Other is behind = rw (is, pass) tt
+        (within_opening (length (b ∷ text)) line before text (pass line zero 1 no_name false text) (λ skip. pass line skip zero no_name false text) (after zero 1 no_name false) (λ skip. after skip zero no_name false))
+    outside Close is after = rw (is, pass) tt
+    outside Period is after = rw (is, pass) (omega arith)
+    outside Other is after = rw (is, pass) tt
 
-    value : (depth : ℕ) → Behind → Within (length (b ∷ text)) (on_found (with_values (value_run (b ∷ text) ∷ [])) (pass line (length (value_run text)) (suc depth) no_name false text))
-    value depth behind =
+    value : (depth : ℕ) → After → Within (length (b ∷ text)) (on_found (with_values (value_run (b ∷ text) ∷ [])) (pass line (length (value_run text)) (suc depth) no_name false text))
+    value depth after =
         within_found (length (b ∷ text)) (with_values (value_run (b ∷ text) ∷ [])) (pass line (length (value_run text)) (suc depth) no_name false text) (λ found. refl)
-        (behind (length (value_run text)) (suc depth) no_name false)
+        (after (length (value_run text)) (suc depth) no_name false)
 
-    inside : (depth : ℕ) (role : ByteRole) → role_here b text ≡ role → Behind → Within (length (b ∷ text)) (pass line zero (suc depth) before begun (b ∷ text))
-    inside depth Gap is behind = rw (is, pass) (behind zero (suc depth) no_name false)
-    inside depth Comment is behind =
-        rw (is, pass) (within_past (length (b ∷ text)) line text (behind_comment (drop 1 text)) (λ skip. pass line skip (suc depth) no_name false text) (λ skip. behind skip (suc depth) no_name false))
-    inside depth Open is behind = rw (is, pass) (behind zero (suc (suc depth)) no_name false)
-    inside depth Close is behind = rw (is, pass) (within_closing (length (b ∷ text)) depth (pass line zero depth no_name false text) (behind zero depth no_name false))
-    inside depth Name is behind = rw (is, pass) (value depth behind)
-    inside depth Period is behind = rw (is, pass) (value depth behind)
-    inside depth Other is behind = rw (is, pass) (value depth behind)
+    inside : (depth : ℕ) (role : ByteRole) → role_here b text ≡ role → After → Within (length (b ∷ text)) (pass line zero (suc depth) before begun (b ∷ text))
+    inside depth Gap is after = rw (is, pass) (after zero (suc depth) no_name false)
+    inside depth Comment is after =
+        rw (is, pass) (within_past (length (b ∷ text)) line text (after_comment (drop 1 text)) (λ skip. pass line skip (suc depth) no_name false text) (λ skip. after skip (suc depth) no_name false))
+    inside depth Open is after = rw (is, pass) (after zero (suc (suc depth)) no_name false)
+    inside depth Close is after = rw (is, pass) (within_closing (length (b ∷ text)) depth (pass line zero depth no_name false text) (after zero depth no_name false))
+    inside depth Name is after = rw (is, pass) (value depth after)
+    inside depth Period is after = rw (is, pass) (value depth after)
+    inside depth Other is after = rw (is, pass) (value depth after)
 
-    at : (depth : ℕ) → Behind → Within (length (b ∷ text)) (pass line zero depth before begun (b ∷ text))
-    at zero behind = outside (role_here b text) refl behind
-    at (suc depth) behind = inside depth (role_here b text) refl behind
+    at : (depth : ℕ) → After → Within (length (b ∷ text)) (pass line zero depth before begun (b ∷ text))
+    at zero after = outside (role_here b text) refl after
+    at (suc depth) after = inside depth (role_here b text) refl after
 
 abbrev rest_of : Stated → List ℕ
 rest_of (Ok (statement, rest)) = rest
 rest_of (Err fault) = []
 
--- nor does what is behind a statement that has a subject
+-- nor does what is after a statement that has a subject
 stated_within : (n line : ℕ) (what : Verb) (outcome : Outcome) (statement : Statement) (rest : List ℕ) → Within n outcome → stated what line outcome ≡ Ok (statement, rest) → length rest ≤ n
 stated_within n line what (Err fault) statement rest is e = absurd (cc)
 stated_within n line what (Ok found) statement rest is e = by (subject_of what found.values) e where
@@ -111,57 +111,57 @@ stated_within n line what (Ok found) statement rest is e = by (subject_of what f
   by None never = absurd (cc)
   by (Some subject) same = let size : length found.rest ≡ length rest = ap (λ s. length (rest_of s)) same in omega arith
 
-length-behind_run : (test : ℕ → Bool) (text : List ℕ) → length (behind_run test text) ≤ length text
-length-behind_run test text =
-    let whole = ap length (run-append-behind_run test text) in
-    omega (arith, length-append (run test text) (behind_run test text))
+length-after_run : (test : ℕ → Bool) (text : List ℕ) → length (after_run test text) ≤ length text
+length-after_run test text =
+    let whole = ap length (run-append-after_run test text) in
+    omega (arith, length-append (run test text) (after_run test text))
 
 length-drop_2 : (text : List ℕ) → length (drop 2 text) ≤ length text
 length-drop_2 [] = omega arith
 length-drop_2 (a ∷ []) = omega arith
 length-drop_2 (a ∷ b ∷ text) = omega arith
 
-abbrev behind_of : Option (Verb × List ℕ) → List ℕ
-behind_of None = []
-behind_of (Some (what, behind)) = behind
+abbrev after_of : Option (Verb × List ℕ) → List ℕ
+after_of None = []
+after_of (Some (what, after)) = after
 
--- what is behind a line's head
-verb_within : (text : List ℕ) (what : Verb) (behind : List ℕ) → verb_at text ≡ Some (what, behind) → length behind ≤ length text
+-- what is after a line's head
+verb_within : (text : List ℕ) (what : Verb) (after : List ℕ) → verb_at text ≡ Some (what, after) → length after ≤ length text
 unfolding verb_at
-verb_within text what behind e = by (begins_statement text) (verb_named (name_behind (drop 2 text))) e where
-  with_behind : Verb → Verb × List ℕ
-  with_behind what = (what, text_behind (drop 2 text))
+verb_within text what after e = by (begins_statement text) (verb_named (name_after (drop 2 text))) e where
+  with_after : Verb → Verb × List ℕ
+  with_after what = (what, text_after (drop 2 text))
 
-  by : (t : Bool) (found : Option Verb) → cond t (option_map with_behind found) None ≡ Some (what, behind) → length behind ≤ length text
+  by : (t : Bool) (found : Option Verb) → cond t (option_map with_after found) None ≡ Some (what, after) → length after ≤ length text
   by false found never = absurd (cc)
   by true None never = absurd (cc)
   by true (Some found) same =
-      let size : length (text_behind (drop 2 text)) ≡ length behind = ap (λ o. length (behind_of o)) same in
-      omega (arith, length-behind_run is_name_byte (behind_run is_blank (drop 2 text)), length-behind_run is_blank (drop 2 text), length-drop_2 text)
+      let size : length (text_after (drop 2 text)) ≡ length after = ap (λ o. length (after_of o)) same in
+      omega (arith, length-after_run is_name_byte (after_run is_blank (drop 2 text)), length-after_run is_blank (drop 2 text), length-drop_2 text)
 
-pub fits_behind : (now behind : List ℕ) (m : ℕ) → after_line now ≡ behind → length now ≤ suc m → length behind ≤ m
-fits_behind now [] m at fits = omega arith
-fits_behind now (b ∷ behind) m at fits =
+pub fits_after : (now after : List ℕ) (m : ℕ) → after_line now ≡ after → length now ≤ suc m → length after ≤ m
+fits_after now [] m at fits = omega arith
+fits_after now (b ∷ after) m at fits =
     let P : List ℕ → Type 0 = λ t. 0 < length t in
     let some : 0 < length (after_line now) = subst P (sym at) (omega arith) in
     let less = shorter_after_line now some in
     let size = ap length at in
     omega arith
 
--- one step goes on alike where the steps behind it do
+-- one step goes on alike where the steps after it do
 alike : (n m line : ℕ) (text : List ℕ) → length text ≤ suc n → length text ≤ suc m
-    → ((line : ℕ) (behind : List ℕ) → length behind ≤ n → length behind ≤ m → read_lines n line behind ≡ read_lines m line behind)
+    → ((line : ℕ) (after : List ℕ) → length after ≤ n → length after ≤ m → read_lines n line after ≡ read_lines m line after)
     → (at : Option (Verb × List ℕ)) → verb_at text ≡ at → at_verb (read_lines n) line text at ≡ at_verb (read_lines m) line text at
-alike n m line text fits_n fits_m next None e = next (line + 1) (after_line text) (fits_behind text (after_line text) n refl fits_n) (fits_behind text (after_line text) m refl fits_m)
-alike n m line text fits_n fits_m next (Some (what, behind)) e = by (stated what line (scan line zero a_name false behind)) refl where
-  by : (s : Stated) → stated what line (scan line zero a_name false behind) ≡ s → go_on (read_lines n) line text s ≡ go_on (read_lines m) line text s
+alike n m line text fits_n fits_m next None e = next (line + 1) (after_line text) (fits_after text (after_line text) n refl fits_n) (fits_after text (after_line text) m refl fits_m)
+alike n m line text fits_n fits_m next (Some (what, after)) e = by (stated what line (scan line zero a_name false after)) refl where
+  by : (s : Stated) → stated what line (scan line zero a_name false after) ≡ s → go_on (read_lines n) line text s ≡ go_on (read_lines m) line text s
   by (Err fault) is = refl
   by (Ok (statement, rest)) is =
-      let less = verb_within text what behind e in
-      let least = stated_within (length behind) line what (scan line zero a_name false behind) statement rest (within line zero zero a_name false behind) is in
+      let less = verb_within text what after e in
+      let least = stated_within (length after) line what (scan line zero a_name false after) statement rest (within line zero zero a_name false after) is in
       ap (with_statements (statement ∷ []))
       (next (line + (line_ends text - line_ends (after_line rest))) (after_line rest)
-      (fits_behind rest (after_line rest) n refl (omega (arith, less, least))) (fits_behind rest (after_line rest) m refl (omega (arith, less, least))))
+      (fits_after rest (after_line rest) n refl (omega (arith, less, least))) (fits_after rest (after_line rest) m refl (omega (arith, less, least))))
 
 pub any_steps : (n m line : ℕ) (text : List ℕ) → length text ≤ n → length text ≤ m → read_lines n line text ≡ read_lines m line text
 any_steps n m line [] fits_n fits_m = read_lines-end n line ∙ sym (read_lines-end m line)

@@ -1,12 +1,12 @@
--- No part of what is promised: what private contracts say of operands that are asked for, or passed over.
+-- No part of what is promised: private contracts cite it. The operands that are asked for, and those that are passed over.
 use Rattle.std.specs.Prelude.{◌≡◌, ℕ, ◌++◌, Bool, true, false, List, [], ◌∷◌, Option, None, Ok, filter}
 use Rattle.mcs_reader.specs.Asking.{is_asked, reading_asking}
 use Rattle.mcs_reader.specs.Bytes.{bytes_of_each}
 use Rattle.mcs_reader.specs.OperandText.{OperandText}
-use Rattle.mcs_reader.specs.Pieces.{before_behind, no_name}
+use Rattle.mcs_reader.specs.Pieces.{named_before, no_name}
 use Rattle.mcs_reader.specs.Place.{Place}
 use Rattle.mcs_reader.specs.ReadLines.{GivesNext}
-use Rattle.mcs_reader.specs.Scan.{Stated, on_found, scan, with_list_behind, with_operands}
+use Rattle.mcs_reader.specs.Scan.{Stated, on_found, scan, with_list_after, with_operands}
 use Rattle.mcs_reader.specs.Unread.{Read}
 use Rattle.mcs_reader.specs.declared.asked.Asked.{Asked}
 use Rattle.mcs_reader.specs.declared.asked.Asked.TheVariants.{All, Named}
@@ -30,26 +30,26 @@ reading_for All reading = reading
 reading_for (Named names) reading = reading_asking (bytes_of_each names.now) reading
 
 -- a list may follow the name, and is passed
-pub record PassesList (line : ℕ) (name text behind : List ℕ) : Type 0 where
+pub record PassesList (line : ℕ) (name text after : List ℕ) : Type 0 where
   pub list : Option (List (List ℕ))
-  pub found : scan line 0 (before_behind name) false text ≡ with_list_behind list (scan line 0 no_name false behind)
+  pub found : scan line 0 (named_before name) false text ≡ with_list_after list (scan line 0 no_name false after)
 
 -- an operand stands there, and is gathered with those before it if it is asked for
-pub record GathersOperand (asked : Asked) (line : ℕ) (text : List ℕ) (before now : List OperandText) (behind : List ℕ) : Type 0 where
+pub record GathersOperand (asked : Asked) (line : ℕ) (text : List ℕ) (before now : List OperandText) (after : List ℕ) : Type 0 where
   pub operand : OperandText
-  pub found : scan line 0 no_name false text ≡ on_found (with_operands (operand ∷ [])) (scan line 0 no_name false behind)
+  pub found : scan line 0 no_name false text ≡ on_found (with_operands (operand ∷ [])) (scan line 0 no_name false after)
   pub gathered : now ≡ before ++ operands_for asked (operand ∷ [])
 
 -- operands stand there up to the period, and these are gathered of them
-pub record HasOperands (asked : Asked) (line : ℕ) (text : List ℕ) (gathered : List OperandText) (behind : List ℕ) : Type 0 where
+pub record HasOperands (asked : Asked) (line : ℕ) (text : List ℕ) (gathered : List OperandText) (after : List ℕ) : Type 0 where
   pub operands : List OperandText
-  pub found : scan line 0 no_name false text ≡ Ok (record { values = None; operands = operands; rest = behind })
+  pub found : scan line 0 no_name false text ≡ Ok (record { values = None; operands = operands; rest = after })
   pub gathered_are : gathered ≡ operands_for asked operands
 
 -- the statement that is stated there, with what is gathered of it
-pub record States (asked : Asked) (outcome : Stated) (statement : Statement) (behind : List ℕ) : Type 0 where
+pub record States (asked : Asked) (outcome : Stated) (statement : Statement) (after : List ℕ) : Type 0 where
   pub whole : Statement
-  pub stated : outcome ≡ Ok (whole, behind)
+  pub stated : outcome ≡ Ok (whole, after)
   pub statement_is : statement ≡ statement_for asked whole
 
 -- the statement that comes next, with what is gathered of it

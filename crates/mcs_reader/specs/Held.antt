@@ -1,4 +1,4 @@
--- No part of what is promised: how the values of a list are held.
+-- No part of what is promised: private contracts cite it. How the values of a list are held.
 use Rattle.std.specs.Prelude.{ℕ, List, [], ◌∷◌}
 use Rattle.mcs_reader.specs.Bytes.{bytes_of_each}
 use Rattle.mcs_reader.specs.declared.statement.Held.{Held}

@@ -10,7 +10,7 @@ is_id_byte b = (nat_le 65 b && nat_le b 90) || (nat_le 48 b && nat_le b 57) || b
 abbrev pub is_id_text : List ℕ → Bool
 is_id_text t = nat_le 1 (length t) && nat_le (length t) 7 && list_all is_id_byte t
 
--- a text with blanks behind it, seven bytes in all
+-- a text with blanks after it, seven bytes in all
 abbrev pub padded : List ℕ → List ℕ
 padded t = t ++ replicate (7 - length t) 32
 
@@ -27,7 +27,7 @@ text_of (b ∷ bs) = if b == 32 then [] else b ∷ text_of bs
 abbrev pub IsId : List ℕ → Type 0
 IsId bytes = IsTrue (is_id_text (text_of bytes)) × (bytes ≡ padded (text_of bytes))
 
--- Serves private contracts alone: the number whose digits to the base 256 the bytes are, behind those of n.
+-- Serves private contracts alone: the number whose digits to the base 256 the bytes are, after those of n.
 abbrev pub number : ℕ → List ℕ → ℕ
 number n [] = n
 number n (b ∷ bs) = number (n * 256 + b) bs

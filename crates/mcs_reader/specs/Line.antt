@@ -8,7 +8,7 @@ abbrev pub with_front : ℕ → List (List ℕ) → List (List ℕ)
 with_front b [] = (b ∷ []) ∷ []
 with_front b (line ∷ lines) = (b ∷ line) ∷ lines
 
--- the source cut at each line end; a line end behind which nothing stands begins no further line
+-- the source cut at each line end; a line end after which nothing stands begins no further line
 abbrev pub lines : List ℕ → List (List ℕ)
 lines [] = []
 lines (b ∷ source) = if b == line_end then [] ∷ lines source else with_front b (lines source)

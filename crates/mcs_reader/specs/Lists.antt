@@ -1,25 +1,25 @@
--- No part of what is promised: what private contracts say of reading a list.
+-- No part of what is promised: private contracts cite it. How a list is read.
 use Rattle.std.specs.Prelude.{◌≡◌, ℕ, ◌+◌, ◌<◌, ◌≤◌, false, List, [], ◌∷◌, Option, length}
 use Rattle.mcs_reader.specs.Pieces.{no_name, a_name}
-use Rattle.mcs_reader.specs.Scan.{on_found, scan, with_list, with_list_behind, with_values}
+use Rattle.mcs_reader.specs.Scan.{on_found, scan, with_list, with_list_after, with_values}
 use Rattle.mcs_reader.specs.StatementText.{sole, subject_of}
 use Rattle.mcs_reader.specs.declared.statement.Verb.{Verb}
 
--- the value stands in front of what is found behind it, where at least one parenthesis is open
-pub record GivesValue (line depth : ℕ) (text value : List ℕ) (depth_behind : ℕ) (behind : List ℕ) : Type 0 where
-  pub found : scan line depth no_name false text ≡ on_found (with_values (value ∷ [])) (scan line depth_behind no_name false behind)
-  pub still_open : 0 < depth_behind
-  pub no_deeper : depth_behind + length behind ≤ depth + length text
-  pub shorter : length behind < length text
+-- the value stands in front of what is found after it, where at least one parenthesis is open
+pub record GivesValue (line depth : ℕ) (text value : List ℕ) (depth_after : ℕ) (after : List ℕ) : Type 0 where
+  pub found : scan line depth no_name false text ≡ on_found (with_values (value ∷ [])) (scan line depth_after no_name false after)
+  pub still_open : 0 < depth_after
+  pub no_deeper : depth_after + length after ≤ depth + length text
+  pub shorter : length after < length text
 
 -- the list has some values, of which this is the only one if there is one
-pub record HasSoleValue (line : ℕ) (text : List ℕ) (value : Option (List ℕ)) (behind : List ℕ) : Type 0 where
+pub record HasSoleValue (line : ℕ) (text : List ℕ) (value : Option (List ℕ)) (after : List ℕ) : Type 0 where
   pub values : List (List ℕ)
-  pub found : scan line 1 no_name false text ≡ on_found (with_list values) (scan line 0 no_name false behind)
+  pub found : scan line 1 no_name false text ≡ on_found (with_list values) (scan line 0 no_name false after)
   pub value_is : value ≡ sole values
 
 -- A list may follow the verb, and this is the subject that the verb has by it, if it has one.
-pub record HasSubject (verb : Verb) (line : ℕ) (text : List ℕ) (subject : Option (Option (List ℕ))) (behind : List ℕ) : Type 0 where
+pub record HasSubject (verb : Verb) (line : ℕ) (text : List ℕ) (subject : Option (Option (List ℕ))) (after : List ℕ) : Type 0 where
   pub values : Option (List (List ℕ))
-  pub found : scan line 0 a_name false text ≡ with_list_behind values (scan line 0 no_name false behind)
+  pub found : scan line 0 a_name false text ≡ with_list_after values (scan line 0 no_name false after)
   pub subject_is : subject ≡ subject_of verb values

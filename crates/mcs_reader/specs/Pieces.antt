@@ -1,4 +1,4 @@
--- What stands in a statement behind its verb, and in a list: pieces, nested where lists are.
+-- What stands in a statement after its verb, and in a list: pieces, nested where lists are.
 use Rattle.std.specs.Prelude.{◌≡◌, ℕ, Bool, true, false, ◌==◌, List, [], ◌∷◌, ◌++◌, Option, Some, None, unwrap_or, codes, IsTrue, if◌then◌else◌}
 use Rattle.std.specs.Str.{str_eq_ignore_ascii_case}
 use Rattle.mcs_reader.specs.Byte.{role_of, belongs_to_value, is_name_byte, line_end}
@@ -8,7 +8,7 @@ use Rattle.mcs_reader.specs.declared.byte.ByteRole.TheVariants.{Gap}
 use Rattle.mcs_reader.specs.OperandText.{OperandText}
 
 -- Nothing; or a gap byte, a comment, a word, a list in its parentheses, or the list of an operand
--- COMMENT, and the pieces behind it. A word is a name outside lists and a value inside.
+-- COMMENT, and the pieces after it. A word is a name outside lists and a value inside.
 pub data Pieces : Type 0 where
   nothing : Pieces
   gap : ℕ → Pieces → Pieces
@@ -63,8 +63,8 @@ pub data Before : Type 0 where
 unfoldable pub is_comment_name : List ℕ → Bool
 is_comment_name name = str_eq_ignore_ascii_case name (codes "COMMENT")
 
-abbrev pub before_behind : List ℕ → Before
-before_behind name = if is_comment_name name then name_comment else a_name
+abbrev pub named_before : List ℕ → Before
+named_before name = if is_comment_name name then name_comment else a_name
 
 -- The pieces of a statement outside lists: names, which go as far as they can, and lists, with gaps and
 -- comments between. A list belongs to a name: gaps and comments aside, a name stands before it; and
@@ -74,16 +74,16 @@ abbrev pub IsOutside : Before → Pieces → Type 0
 IsOutside before nothing = Unit {0}
 IsOutside before (gap b rest) = (role_of b ≡ Gap) × IsOutside before rest
 IsOutside before (comment body rest) = IsCommentText body × IsOutside before rest
-IsOutside before (word w rest) = IsTrue (is_word is_name_byte w) × (begins_word rest ≡ false) × IsOutside (before_behind w) rest
+IsOutside before (word w rest) = IsTrue (is_word is_name_byte w) × (begins_word rest ≡ false) × IsOutside (named_before w) rest
 IsOutside before (list inside rest) = (before ≡ a_name) × IsInside inside × IsOutside no_name rest
 IsOutside before (raw_list raw rest) = (before ≡ name_comment) × IsRaw raw × IsOutside no_name rest
 
--- what stands before the place behind the pieces
+-- what stands before the place after the pieces
 abbrev pub ends_with : Before → Pieces → Before
 ends_with before nothing = before
 ends_with before (gap b rest) = ends_with before rest
 ends_with before (comment body rest) = ends_with before rest
-ends_with before (word w rest) = ends_with (before_behind w) rest
+ends_with before (word w rest) = ends_with (named_before w) rest
 ends_with before (list inside rest) = ends_with no_name rest
 ends_with before (raw_list raw rest) = ends_with no_name rest
 
@@ -107,19 +107,19 @@ values (raw_list raw rest) = values rest
 
 -- The values of the list that the pieces begin with, gaps and comments aside, where they begin with one.
 -- The list of an operand COMMENT has none.
-abbrev pub list_behind : Pieces → Option (List (List ℕ))
-list_behind nothing = None
-list_behind (gap b rest) = list_behind rest
-list_behind (comment body rest) = list_behind rest
-list_behind (word w rest) = None
-list_behind (list inside rest) = Some (values inside)
-list_behind (raw_list raw rest) = Some []
+abbrev pub take_list : Pieces → Option (List (List ℕ))
+take_list nothing = None
+take_list (gap b rest) = take_list rest
+take_list (comment body rest) = take_list rest
+take_list (word w rest) = None
+take_list (list inside rest) = Some (values inside)
+take_list (raw_list raw rest) = Some []
 
 -- each name is an operand, with the values of the list that belongs to it
 abbrev pub operands : Pieces → List OperandText
 operands nothing = []
 operands (gap b rest) = operands rest
 operands (comment body rest) = operands rest
-operands (word w rest) = record { name = w; values = unwrap_or (list_behind rest) [] } ∷ operands rest
+operands (word w rest) = record { name = w; values = unwrap_or (take_list rest) [] } ∷ operands rest
 operands (list inside rest) = operands rest
 operands (raw_list raw rest) = operands rest

@@ -1,9 +1,8 @@
--- No part of what is promised: the place where the reader stands in the text, of which private contracts
--- speak.
+-- No part of what is promised: private contracts cite it. The place where the reader stands in the text.
 use Rattle.std.specs.Prelude.{◌≡◌, ℕ, ◌+◌, ◌^◌, ◌<◌, ◌≤◌, ◌==◌, List, [], ◌∷◌, length, drop, Option, Some, None, option_map, if◌then◌else◌}
 use Rattle.mcs_reader.specs.Byte.{is_blank, is_name_byte, line_end}
 use Rattle.mcs_reader.specs.Comment.{role_here}
-use Rattle.mcs_reader.specs.Run.{run, behind_run}
+use Rattle.mcs_reader.specs.Run.{run, after_run}
 use Rattle.mcs_reader.specs.declared.byte.ByteRole.{ByteRole}
 use Rattle.mcs_reader.specs.Line.{line_ends, begins_statement}
 use Rattle.mcs_reader.specs.Verb.{verb_named}
@@ -15,12 +14,12 @@ pub record Place : Type 0 where
   pub line : ℕ
 
 -- line numbers and counts of parentheses stay in range up to the text's end
-pub record HasRoom (place : Place) : Type 0 where
+pub record HasHeadroom (place : Place) : Type 0 where
   pub lines : place.line + line_ends place.text < 2 ^ 32
   pub depth : length place.text < 2 ^ 63
 
--- one place stands behind another, or is it: the lines passed and the line ends ahead keep their sum
-pub record IsBehind (now before : Place) : Type 0 where
+-- one place stands after another, or is it: the lines passed and the line ends ahead keep their sum
+pub record IsAfter (now before : Place) : Type 0 where
   pub text : length now.text ≤ length before.text
   pub lines : now.line + line_ends now.text ≡ before.line + line_ends before.text
   pub passed : before.line ≤ now.line
@@ -30,18 +29,18 @@ abbrev pub role_at : List ℕ → Option ByteRole
 role_at [] = None
 role_at (b ∷ text) = if b == line_end then None else Some (role_here b text)
 
--- what stands behind the first line
+-- what stands after the first line
 abbrev pub after_line : List ℕ → List ℕ
 after_line [] = []
 after_line (b ∷ text) = if b == line_end then text else after_line text
 
--- behind ++: the name, and what stands behind it
-abbrev pub name_behind : List ℕ → List ℕ
-name_behind text = run is_name_byte (behind_run is_blank text)
+-- after ++: the name, and what stands after it
+abbrev pub name_after : List ℕ → List ℕ
+name_after text = run is_name_byte (after_run is_blank text)
 
-abbrev pub text_behind : List ℕ → List ℕ
-text_behind text = behind_run is_name_byte (behind_run is_blank text)
+abbrev pub text_after : List ℕ → List ℕ
+text_after text = after_run is_name_byte (after_run is_blank text)
 
--- the verb that a line's head names, and what stands behind the head
+-- the verb that a line's head names, and what stands after the head
 unfoldable pub verb_at : List ℕ → Option (Verb × List ℕ)
-verb_at text = if begins_statement text then option_map (λ what. (what, text_behind (drop 2 text))) (verb_named (name_behind (drop 2 text))) else None
+verb_at text = if begins_statement text then option_map (λ verb. (verb, text_after (drop 2 text))) (verb_named (name_after (drop 2 text))) else None

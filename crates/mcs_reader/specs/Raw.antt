@@ -2,7 +2,7 @@
 -- parentheses count.
 use Rattle.std.specs.Prelude.{◌≡◌, ℕ, Bool, false, ◌==◌, ◌||◌, List, [], ◌∷◌, ◌++◌}
 
--- Nothing; or a byte that is no parenthesis, or text in matching parentheses, and the text behind it.
+-- Nothing; or a byte that is no parenthesis, or text in matching parentheses, and the text after it.
 pub data Raw : Type 0 where
   raw_end : Raw
   raw_byte : ℕ → Raw → Raw

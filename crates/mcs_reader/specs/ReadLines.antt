@@ -1,5 +1,5 @@
--- No part of what is promised: a plain machine that reads a text line by line: a statement where a line's head names a verb, and
--- else the line is passed over. The first argument bounds how many of these steps it takes.
+-- No part of what is promised: private contracts cite it. A plain machine that reads a text line by line: a statement where a
+-- line's head names a verb, and else the line is passed over. The first argument bounds how many of these steps it takes.
 use Rattle.std.specs.Prelude.{◌≡◌, ℕ, zero, suc, ◌+◌, ◌-◌, ◌<◌, false, List, [], ◌∷◌, length, Option, Some, None, Ok, Err}
 use Rattle.mcs_reader.specs.Line.{line_ends}
 use Rattle.mcs_reader.specs.declared.statement.Statement.{Statement}
@@ -9,7 +9,7 @@ use Rattle.mcs_reader.specs.Scan.{scan, Stated, stated}
 use Rattle.mcs_reader.specs.Place.{Place, after_line, verb_at}
 use Rattle.mcs_reader.specs.Unread.{Read, with_statements}
 
--- what comes behind a statement
+-- what comes after a statement
 abbrev pub go_on : (ℕ → List ℕ → Read) → ℕ → List ℕ → Stated → Read
 go_on next line text (Err fault) = Err fault
 go_on next line text (Ok (statement, rest)) = with_statements (statement ∷ []) (next (line + (line_ends text - line_ends (after_line rest))) (after_line rest))
@@ -17,7 +17,7 @@ go_on next line text (Ok (statement, rest)) = with_statements (statement ∷ [])
 -- one step, at a line's beginning
 abbrev pub at_verb : (ℕ → List ℕ → Read) → ℕ → List ℕ → Option (Verb × List ℕ) → Read
 at_verb next line text None = next (line + 1) (after_line text)
-at_verb next line text (Some (what, behind)) = go_on next line text (stated what line (scan line zero a_name false behind))
+at_verb next line text (Some (verb, after)) = go_on next line text (stated verb line (scan line zero a_name false after))
 
 unfoldable pub read_lines : ℕ → ℕ → List ℕ → Read
 read_lines zero line text = Ok []
@@ -28,11 +28,11 @@ read_lines (suc n) line (b ∷ text) = at_verb (read_lines n) line (b ∷ text) 
 abbrev pub read_text : List ℕ → Read
 read_text text = read_lines (length text) 1 text
 
--- what the machine makes of the lines behind the one on which a place lies
-abbrev pub read_behind : Place → Read
-read_behind place = read_lines (length (after_line place.text)) (place.line + 1) (after_line place.text)
+-- what the machine makes of the lines after the one on which a place lies
+abbrev pub read_after : Place → Read
+read_after place = read_lines (length (after_line place.text)) (place.line + 1) (after_line place.text)
 
--- the statement is the first behind one place, and another place, further on, stands behind it
+-- the statement is the first after one place, and another place, further on, stands after it
 pub record GivesNext (before : Place) (statement : Statement) (now : Place) : Type 0 where
-  pub first : read_behind before ≡ with_statements (statement ∷ []) (read_behind now)
+  pub first : read_after before ≡ with_statements (statement ∷ []) (read_after now)
   pub further : length now.text < length before.text

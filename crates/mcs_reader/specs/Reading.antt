@@ -20,7 +20,7 @@ pub record IsReading (source : List ℕ) (statements : List Statement) : Type 0 
   pub whole : spell_row row ≡ text_of source
   pub read : statements_of 1 row ≡ statements
 
--- The source's text is a row of segments, and behind it a statement that something stops.
+-- The source's text is a row of segments, and after it a statement that something stops.
 pub record IsStoppedSource (source : List ℕ) (fault : McsFault) : Type 0 where
   pub fits : length source ≤ most_bytes
   pub row : List Segment

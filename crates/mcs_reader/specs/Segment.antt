@@ -23,7 +23,7 @@ AllPassed (line ∷ lines) = IsPassed line × AllPassed lines
 
 -- A line between statements; a line that begins with ++ and names no known verb, as its head and the
 -- rest of it, with the lines up to the next that begins with ++; or a statement with its subject, and
--- the rest of the line behind its period, which is ignored.
+-- the rest of the line after its period, which is ignored.
 pub data Segment : Type 0 where
   passed : List ℕ → Segment
   skipped : Head → List ℕ → List (List ℕ) → Segment
@@ -42,21 +42,21 @@ abbrev pub ends_or_begins_statement : List ℕ → Bool
 ends_or_begins_statement [] = true
 ends_or_begins_statement (b ∷ text) = begins_statement (b ∷ text)
 
--- what makes it a segment, where the text `behind` follows it
+-- what makes it a segment, where the text `after` follows it
 abbrev pub IsSegment : Segment → List ℕ → Type 0
-IsSegment (passed line) behind = IsPassed line
-IsSegment (skipped head rest lines) behind =
-    IsHead head rest × (verb_named head.name ≡ None) × IsLine rest × AllPassed lines × IsTrue (ends_or_begins_statement behind)
-IsSegment (stated text subject ignored) behind =
+IsSegment (passed line) after = IsPassed line
+IsSegment (skipped head rest lines) after =
+    IsHead head rest × (verb_named head.name ≡ None) × IsLine rest × AllPassed lines × IsTrue (ends_or_begins_statement after)
+IsSegment (stated text subject ignored) after =
     IsStatementText text × (subject_in text ≡ Some subject) × IsLine ignored
 
 abbrev pub spell_row : List Segment → List ℕ
 spell_row row = flat_map spell_segment row
 
--- each of a row is a segment, where the text `behind` follows the row
+-- each of a row is a segment, where the text `after` follows the row
 abbrev pub IsRow : List Segment → List ℕ → Type 0
-IsRow [] behind = Unit {0}
-IsRow (segment ∷ row) behind = IsSegment segment (spell_row row ++ behind) × IsRow row behind
+IsRow [] after = Unit {0}
+IsRow (segment ∷ row) after = IsSegment segment (spell_row row ++ after) × IsRow row after
 
 -- the statement of a segment that begins on this line, if it is one
 abbrev pub statement_of : ℕ → Segment → List Statement

@@ -1,7 +1,7 @@
--- One statement's text up to its period: its head, which names the verb, and the pieces behind.
+-- One statement's text up to its period: its head, which names the verb, and the pieces after.
 use Rattle.std.specs.Prelude.{◌≡◌, ℕ, List, [], ◌∷◌, ◌++◌, Option, Some, None, option_map, option_and_then}
 use Rattle.mcs_reader.specs.Verb.{Head, spell_head, IsHead, verb_named}
-use Rattle.mcs_reader.specs.Pieces.{Pieces, a_name, spell, IsOutside, list_behind}
+use Rattle.mcs_reader.specs.Pieces.{Pieces, a_name, spell, IsOutside, take_list}
 use Rattle.mcs_reader.specs.Id.{id_of}
 use Rattle.mcs_reader.specs.declared.statement.Verb.{Verb}
 use Rattle.mcs_reader.specs.declared.statement.Verb.TheVariants.{Hold, Release, Func, Ptf, Apar, Usermod, Ver}
@@ -14,7 +14,7 @@ pub record StatementText : Type 0 where
 abbrev pub spell_statement : StatementText → List ℕ
 spell_statement text = spell_head text.head ++ spell text.pieces
 
--- The head names the verb, and behind it stand names and lists. The verb is a name too, and not COMMENT:
+-- The head names the verb, and after it stand names and lists. The verb is a name too, and not COMMENT:
 -- the first list may belong to it.
 pub record IsStatementText (text : StatementText) : Type 0 where
   pub head : IsHead text.head (spell text.pieces)
@@ -44,7 +44,7 @@ subject_by Ver values = Some None
 
 -- each verb wants a list
 abbrev pub subject_of : Verb → Option (List (List ℕ)) → Option (Option (List ℕ))
-subject_of what list = option_and_then (subject_by what) list
+subject_of verb list = option_and_then (subject_by verb) list
 
 abbrev pub subject_in : StatementText → Option (Option (List ℕ))
-subject_in text = subject_of text.verb (list_behind text.pieces)
+subject_in text = subject_of text.verb (take_list text.pieces)

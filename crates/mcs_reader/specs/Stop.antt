@@ -9,11 +9,11 @@ use Rattle.mcs_reader.specs.StatementText.{StatementText, IsStatementText, subje
 use Rattle.mcs_reader.specs.declared.fault.McsFault.{McsFault}
 use Rattle.mcs_reader.specs.declared.fault.McsFault.TheVariants.{NoPeriod, BadVerbSubject, Unbalanced, BadByte}
 
--- What stands behind the pieces of a statement, outside lists, where it goes no further:
+-- What stands after the pieces of a statement, outside lists, where it goes no further:
 -- the end of the text; the ++ of the next statement, at a line's beginning; a closing parenthesis that
 -- nothing opened; a byte that can't stand outside lists; an opening parenthesis before which, gaps and
 -- comments aside, no name stands; a comment in which the text ends; a list in which the text ends, or a
--- comment in it, each of whose opening parentheses has pieces behind it; a list of COMMENT in which the
+-- comment in it, each of whose opening parentheses has pieces after it; a list of COMMENT in which the
 -- text ends; or the period, where the verb's list isn't as the verb wants it.
 pub data Stop : Type 0 where
   text_ends : Stop
@@ -73,7 +73,7 @@ abbrev pub HasNoSubject : StatementText → Stop → Type 0
 HasNoSubject text (bad_subject ignored) = subject_in text ≡ None
 HasNoSubject text _ = Unit {0}
 
--- this stops the statement, behind the pieces that its text has
+-- this stops the statement, after the pieces that its text has
 pub record IsStopped (text : StatementText) (stop : Stop) : Type 0 where
   pub statement : IsStatementText text
   pub stops : IsStop (ends_with a_name text.pieces) (ends_line false text.pieces) stop

@@ -31,8 +31,8 @@ abbrev pub spell_head : Head → List ℕ
 spell_head head = 43 ∷ 43 ∷ (head.blanks ++ head.name)
 
 -- the blanks and the name, which may be missing, go as far as they can
-pub record IsHead (head : Head) (behind : List ℕ) : Type 0 where
+pub record IsHead (head : Head) (after : List ℕ) : Type 0 where
   pub blanks : IsTrue (list_all is_blank head.blanks)
   pub name : IsTrue (list_all is_name_byte head.name)
-  pub all_blanks : begins_with is_blank (head.name ++ behind) ≡ false
-  pub all_name : begins_with is_name_byte behind ≡ false
+  pub all_blanks : begins_with is_blank (head.name ++ after) ≡ false
+  pub all_name : begins_with is_name_byte after ≡ false

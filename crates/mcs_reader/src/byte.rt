@@ -1,6 +1,6 @@
 //! What each byte may do in a statement.
 ghost use Rattle.std.specs.Prelude.{◌≡◌};
-ghost use Rattle.mcs_reader.specs.Byte.{role_of as role_of_byte, is_blank, is_gap, is_name_byte, belongs_to_value};
+ghost use Rattle.mcs_reader.specs.Byte.{role_of as role_of_byte, is_blank, is_gap, is_name_byte};
 ghost use Rattle.mcs_reader.specs.Pieces.{is_value_byte};
 
 /// What a byte does in a statement (SMP/E Reference, "MCS coding rules").

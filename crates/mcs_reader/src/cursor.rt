@@ -5,25 +5,24 @@ ghost use Rattle.std.specs.List.{prefix_len};
 ghost use Rattle.mcs_reader.specs.Byte.{is_blank, is_name_byte, line_end};
 ghost use Rattle.mcs_reader.specs.Line.{begins_statement as begins_statement_at, text_of};
 ghost use Rattle.mcs_reader.specs.Comment.{next_is};
-ghost use Rattle.mcs_reader.specs.Place.{HasRoom, IsBehind, after_line, role_at, verb_at};
-ghost use Rattle.mcs_reader.specs.Run.{begins_value, behind_run, behind_value, run, value_run};
-ghost use Rattle.mcs_reader.specs.Scan.{behind_comment, behind_raw};
+ghost use Rattle.mcs_reader.specs.Place.{HasHeadroom, IsAfter, after_line, role_at, verb_at};
+ghost use Rattle.mcs_reader.specs.Run.{begins_value, after_run, after_value, run, value_run};
+ghost use Rattle.mcs_reader.specs.Scan.{after_comment, after_raw};
 ghost use Rattle.mcs_reader.specs.Segment.{IsLine};
-ghost use Rattle.mcs_reader.specs.Verb.{verb_named};
 
 use crate::Verb;
 use crate::byte::{ByteRole, is_blank_byte, role_of, stands_in_name, stands_in_value};
-use crate::line::{columns, split_line};
+use crate::line::{columns_of, split_line};
 use std::marker::Model;
 
-/// A contract sees the text from the place on, in which a line end stands behind each line's columns,
+/// A contract sees the text from the place on, in which a line end stands after each line's columns,
 /// and the line's number. The first line is line 1; before it stands a line end of line 0.
 #[derive(Drop)]
 pub(crate) struct Cursor<'a> {
     /// What is left of the line's columns.
-    card: &'a [u8],
-    /// The lines behind, as they stand in the source.
-    behind: &'a [u8],
+    columns: &'a [u8],
+    /// The lines after this one, as they stand in the source.
+    after: &'a [u8],
     line: u32,
 }
 
@@ -31,29 +30,29 @@ impl<'a> Model for Cursor<'a> {
     ghost use Rattle.std.specs.Prelude.{◌∷◌, ◌++◌};
     ghost use Rattle.mcs_reader.specs.Byte.{line_end};
     ghost use Rattle.mcs_reader.specs.Line.{text_of};
-    ghost use Rattle.mcs_reader.specs.Place.{HasRoom, Place};
+    ghost use Rattle.mcs_reader.specs.Place.{HasHeadroom, Place};
     ghost use Rattle.mcs_reader.specs.Segment.{IsLine};
 
     ghost Value = { Place };
 
-    ghost view = { λ c. record { text = c.card.now ++ line_end ∷ text_of c.behind.now; line = c.line } };
+    ghost view = { λ c. record { text = c.columns.now ++ line_end ∷ text_of c.after.now; line = c.line } };
 
     ghost invariant = { λ c. record {
-      one_line : IsLine c.card.now;
-      room : HasRoom (record { text = c.card.now ++ line_end ∷ text_of c.behind.now; line = c.line });
+      one_line : IsLine c.columns.now;
+      headroom : HasHeadroom (record { text = c.columns.now ++ line_end ∷ text_of c.after.now; line = c.line });
     } };
 }
 
 impl<'a> Cursor<'a> {
     /// Before the first line.
     pub(crate) fn new(source: &'a [u8]) -> Self
-        requires room { HasRoom (record { text = line_end ∷ text_of source.now; line = 0 }) }
+        requires headroom { HasHeadroom (record { text = line_end ∷ text_of source.now; line = 0 }) }
         ensures text { result.text ≡ line_end ∷ text_of source.now }
         ensures line { result.line ≡ 0 }
     {
         Cursor {
-            card: &[],
-            behind: source,
+            columns: &[],
+            after: source,
             line: 0,
         }
     }
@@ -63,8 +62,8 @@ impl<'a> Cursor<'a> {
         ensures { result ≡ self.now }
     {
         Cursor {
-            card: self.card,
-            behind: self.behind,
+            columns: self.columns,
+            after: self.after,
             line: self.line,
         }
     }
@@ -84,14 +83,14 @@ impl<'a> Cursor<'a> {
         ensures more { OnTrue result (0 < length self.new.text) }
         ensures shorter { OnTrue result (length self.new.text < length self.old.text) }
         ensures end { OnFalse result (after_line self.old.text ≡ []) }
-        ensures behind { IsBehind self.new self.old }
+        ensures after { IsAfter self.new self.old }
     {
-        if self.behind.is_empty() {
+        if self.after.is_empty() {
             return false;
         }
-        let (line, behind) = split_line(self.behind);
-        self.card = columns(line);
-        self.behind = behind;
+        let (line, after) = split_line(self.after);
+        self.columns = columns_of(line);
+        self.after = after;
         self.line += 1;
         true
     }
@@ -101,7 +100,7 @@ impl<'a> Cursor<'a> {
     pub(crate) fn role(&self) -> Option<ByteRole>
         ensures { result ≡ role_at self.now.text }
     {
-        role_in(self.card)
+        role_in(self.columns)
     }
 
     /// Passes the next byte.
@@ -109,32 +108,32 @@ impl<'a> Cursor<'a> {
     pub(crate) fn advance(&mut self)
         requires { IsSome (role_at self.old.text) }
         ensures text { self.new.text ≡ drop 1 self.old.text }
-        ensures depth_room { length self.new.text < 2 ^ 63 }
-        ensures behind { IsBehind self.new self.old }
+        ensures depth_headroom { length self.new.text < 2 ^ 63 }
+        ensures after { IsAfter self.new self.old }
     {
-        let (_, rest) = self.card.split_at(1);
-        self.card = rest;
+        let (_, rest) = self.columns.split_at(1);
+        self.columns = rest;
     }
 
     /// Passes the blanks from here on.
     #[inline]
     pub(crate) fn pass_blanks(&mut self)
-        ensures text { self.new.text ≡ behind_run is_blank self.old.text }
-        ensures behind { IsBehind self.new self.old }
+        ensures text { self.new.text ≡ after_run is_blank self.old.text }
+        ensures after { IsAfter self.new self.old }
     {
-        let rest = behind_blanks(self.card);
-        self.card = rest;
+        let rest = after_blanks(self.columns);
+        self.columns = rest;
     }
 
     /// Passes the name bytes from here on, and gives them.
     #[inline]
     pub(crate) fn take_name(&mut self) -> &'a [u8]
         ensures name { result.now ≡ run is_name_byte self.old.text }
-        ensures text { self.new.text ≡ behind_run is_name_byte self.old.text }
-        ensures behind { IsBehind self.new self.old }
+        ensures text { self.new.text ≡ after_run is_name_byte self.old.text }
+        ensures after { IsAfter self.new self.old }
     {
-        let (name, rest) = split_name(self.card);
-        self.card = rest;
+        let (name, rest) = split_name(self.columns);
+        self.columns = rest;
         name
     }
 
@@ -142,43 +141,43 @@ impl<'a> Cursor<'a> {
     #[inline]
     pub(crate) fn take_value(&mut self) -> &'a [u8]
         ensures value { result.now ≡ value_run self.old.text }
-        ensures text { self.new.text ≡ behind_value self.old.text }
-        ensures behind { IsBehind self.new self.old }
+        ensures text { self.new.text ≡ after_value self.old.text }
+        ensures after { IsAfter self.new self.old }
     {
-        let (value, rest) = split_value(self.card);
-        self.card = rest;
+        let (value, rest) = split_value(self.columns);
+        self.columns = rest;
         value
     }
 
-    /// Goes behind the `*/` that ends a comment, if the line has one. Else nothing moves.
+    /// Goes past the `*/` that ends a comment, if the line has one. Else nothing moves.
     pub(crate) fn end_comment(&mut self) -> bool
-        ensures text { OnTrue result (behind_comment self.old.text ≡ Some self.new.text) }
-        ensures none { OnFalse result (behind_comment self.old.text ≡ behind_comment (after_line self.old.text)) }
+        ensures text { OnTrue result (after_comment self.old.text ≡ Some self.new.text) }
+        ensures none { OnFalse result (after_comment self.old.text ≡ after_comment (after_line self.old.text)) }
         ensures unmoved { OnFalse result (self.new ≡ self.old) }
-        ensures behind { IsBehind self.new self.old }
+        ensures after { IsAfter self.new self.old }
     {
-        match behind_comment_in(self.card) {
+        match after_comment_in(self.columns) {
             Some(rest) => {
-                self.card = rest;
+                self.columns = rest;
                 true
             }
             None => false,
         }
     }
 
-    /// Goes behind the parenthesis that closes a list of COMMENT, if the line has it. Else only `depth`
+    /// Goes past the parenthesis that closes a list of COMMENT, if the line has it. Else only `depth`
     /// changes, which counts the parentheses that are open within the list.
     pub(crate) fn end_raw_list(&mut self, depth: &mut usize) -> bool
-        requires depth_room { depth.old + length self.old.text < 2 ^ 64 }
-        ensures text { OnTrue result (behind_raw depth.old self.old.text ≡ Ok self.new.text) }
-        ensures none { OnFalse result (behind_raw depth.old self.old.text ≡ behind_raw depth.new (after_line self.old.text)) }
+        requires depth_headroom { depth.old + length self.old.text < 2 ^ 64 }
+        ensures text { OnTrue result (after_raw depth.old self.old.text ≡ Ok self.new.text) }
+        ensures none { OnFalse result (after_raw depth.old self.old.text ≡ after_raw depth.new (after_line self.old.text)) }
         ensures unmoved { OnFalse result (self.new ≡ self.old) }
         ensures no_deeper { OnFalse result (depth.new + length (after_line self.old.text) ≤ depth.old + length self.old.text) }
-        ensures behind { IsBehind self.new self.old }
+        ensures after { IsAfter self.new self.old }
     {
-        match behind_raw_in(self.card, *depth) {
+        match after_raw_in(self.columns, *depth) {
             Ok(rest) => {
-                self.card = rest;
+                self.columns = rest;
                 true
             }
             Err(unclosed) => {
@@ -193,7 +192,7 @@ impl<'a> Cursor<'a> {
     pub(crate) fn begins_statement(&self) -> bool
         ensures { result ≡ begins_statement_at self.now.text }
     {
-        has_pluses(self.card)
+        has_pluses(self.columns)
     }
 
     /// Passes `++`, blanks and a verb that is known, at a line's beginning.
@@ -201,11 +200,11 @@ impl<'a> Cursor<'a> {
     pub(crate) fn take_verb(&mut self) -> Option<Verb>
         ensures verb { MatchOption result (verb_at self.old.text ≡ None) (λ verb. verb_at self.old.text ≡ Some (verb, self.new.text)) }
         ensures unmoved { MatchOption result (self.new ≡ self.old) (λ _. self.new.line ≡ self.old.line) }
-        ensures behind { IsBehind self.new self.old }
+        ensures after { IsAfter self.new self.old }
     {
-        match split_verb(self.card) {
+        match split_verb(self.columns) {
             Some((verb, rest)) => {
-                self.card = rest;
+                self.columns = rest;
                 Some(verb)
             }
             None => None,
@@ -213,17 +212,17 @@ impl<'a> Cursor<'a> {
     }
 }
 
-/// `++`, blanks and a verb that is known: the verb, and what stands behind it.
+/// `++`, blanks and a verb that is known: the verb, and what stands after it.
 #[inline]
 #[tactic(auto, unfolding(crate::specs::Place::verb_at))]
-fn split_verb(card: &[u8]) -> Option<(Verb, &[u8])>
-    ensures { MatchOption result (verb_at card.now ≡ None) (λ found. verb_at card.now ≡ Some (found.0, found.1.now)) }
+fn split_verb(columns: &[u8]) -> Option<(Verb, &[u8])>
+    ensures { MatchOption result (verb_at columns.now ≡ None) (λ found. verb_at columns.now ≡ Some (found.0, found.1.now)) }
 {
-    if !has_pluses(card) {
+    if !has_pluses(columns) {
         return None;
     }
-    let (_, head) = card.split_at(2);
-    let (name, rest) = split_name(behind_blanks(head));
+    let (_, head) = columns.split_at(2);
+    let (name, rest) = split_name(after_blanks(head));
     match Verb::named(name) {
         Some(verb) => Some((verb, rest)),
         None => None,
@@ -231,45 +230,45 @@ fn split_verb(card: &[u8]) -> Option<(Verb, &[u8])>
 }
 
 #[inline]
-fn has_pluses(card: &[u8]) -> bool
-    ensures { result ≡ begins_statement_at card.now }
+fn has_pluses(columns: &[u8]) -> bool
+    ensures { result ≡ begins_statement_at columns.now }
 {
-    card.len() >= 2 && card[0] == b'+' && card[1] == b'+'
+    columns.len() >= 2 && columns[0] == b'+' && columns[1] == b'+'
 }
 
 #[inline]
 #[tactic(auto, using(crate::proofs::PlaceFacts::take_run, crate::proofs::PlaceFacts::drop_run))]
-fn behind_blanks(card: &[u8]) -> &[u8]
-    ensures { result.now ≡ behind_run is_blank card.now }
+fn after_blanks(columns: &[u8]) -> &[u8]
+    ensures { result.now ≡ after_run is_blank columns.now }
 {
-    let (_, rest) = card.split_at(blank_len(card));
+    let (_, rest) = columns.split_at(blank_len(columns));
     rest
 }
 
 #[inline]
 #[tactic(auto, using(crate::proofs::PlaceFacts::take_run, crate::proofs::PlaceFacts::drop_run))]
-fn split_name(card: &[u8]) -> (&[u8], &[u8])
-    ensures name { result.0.now ≡ run is_name_byte card.now }
-    ensures rest { result.1.now ≡ behind_run is_name_byte card.now }
+fn split_name(columns: &[u8]) -> (&[u8], &[u8])
+    ensures name { result.0.now ≡ run is_name_byte columns.now }
+    ensures rest { result.1.now ≡ after_run is_name_byte columns.now }
 {
-    card.split_at(name_len(card))
+    columns.split_at(name_len(columns))
 }
 
 #[inline]
-fn split_value(card: &[u8]) -> (&[u8], &[u8])
-    ensures value { result.0.now ≡ value_run card.now }
-    ensures rest { result.1.now ≡ behind_value card.now }
+fn split_value(columns: &[u8]) -> (&[u8], &[u8])
+    ensures value { result.0.now ≡ value_run columns.now }
+    ensures rest { result.1.now ≡ after_value columns.now }
 {
-    card.split_at(value_len(card))
+    columns.split_at(value_len(columns))
 }
 
 /// What the first byte of a line's rest does.
 #[inline]
-fn role_in(card: &[u8]) -> Option<ByteRole>
-    requires { IsLine card.now }
-    ensures { result ≡ role_at card.now }
+fn role_in(columns: &[u8]) -> Option<ByteRole>
+    requires { IsLine columns.now }
+    ensures { result ≡ role_at columns.now }
 {
-    let (first, rest) = card.split_first()?;
+    let (first, rest) = columns.split_first()?;
     if *first == b'/' && begins_with(rest, b'*') {
         return Some(ByteRole::Comment);
     }
@@ -277,35 +276,35 @@ fn role_in(card: &[u8]) -> Option<ByteRole>
 }
 
 #[inline]
-fn begins_with(card: &[u8], b: u8) -> bool
-    ensures { result ≡ next_is b card.now }
+fn begins_with(columns: &[u8], b: u8) -> bool
+    ensures { result ≡ next_is b columns.now }
 {
-    !card.is_empty() && card[0] == b
+    !columns.is_empty() && columns[0] == b
 }
 
-/// What stands behind the first `*/`.
-fn behind_comment_in(card: &[u8]) -> Option<&[u8]>
-    ensures { MatchOption result (behind_comment card.now ≡ None) (λ rest. behind_comment card.now ≡ Some rest.now) }
+/// What stands after the first `*/`.
+fn after_comment_in(columns: &[u8]) -> Option<&[u8]>
+    ensures { MatchOption result (after_comment columns.now ≡ None) (λ rest. after_comment columns.now ≡ Some rest.now) }
 {
-    let mut left = card;
+    let mut left = columns;
     'bytes: while let Some((first, rest)) = left.split_first() {
         if *first == b'*' && begins_with(rest, b'/') {
-            let (_, behind) = rest.split_at(1);
-            return Some(behind);
+            let (_, after) = rest.split_at(1);
+            return Some(after);
         }
         left = rest;
     }
     None
 }
 
-/// What stands behind the parenthesis that closes a list of COMMENT, in which `depth` more are open; or
+/// What stands after the parenthesis that closes a list of COMMENT, in which `depth` more are open; or
 /// how many are open at the line's end.
-fn behind_raw_in(card: &[u8], depth: usize) -> Result<&[u8], usize>
-    requires { depth + length card.now < 2 ^ 64 }
-    ensures behind { MatchResult result (λ rest. behind_raw depth card.now ≡ Ok rest.now) (λ unclosed. behind_raw depth card.now ≡ Err unclosed) }
-    ensures no_deeper { IfErr result (λ unclosed. unclosed ≤ depth + length card.now) }
+fn after_raw_in(columns: &[u8], depth: usize) -> Result<&[u8], usize>
+    requires { depth + length columns.now < 2 ^ 64 }
+    ensures after { MatchResult result (λ rest. after_raw depth columns.now ≡ Ok rest.now) (λ unclosed. after_raw depth columns.now ≡ Err unclosed) }
+    ensures no_deeper { IfErr result (λ unclosed. unclosed ≤ depth + length columns.now) }
 {
-    let mut left = card;
+    let mut left = columns;
     let mut depth = depth;
     'bytes: while let Some((first, rest)) = left.split_first() {
         left = rest;
@@ -324,30 +323,30 @@ fn behind_raw_in(card: &[u8], depth: usize) -> Result<&[u8], usize>
 }
 
 #[inline]
-fn blank_len(card: &[u8]) -> usize
-    ensures run { result ≡ prefix_len is_blank card.now }
-    ensures within { result ≤ length card.now }
+fn blank_len(columns: &[u8]) -> usize
+    ensures run { result ≡ prefix_len is_blank columns.now }
+    ensures within { result ≤ length columns.now }
 {
-    card.iter().take_while(|b| is_blank_byte(**b)).count()
+    columns.iter().take_while(|b| is_blank_byte(**b)).count()
 }
 
 #[inline]
-fn name_len(card: &[u8]) -> usize
-    ensures run { result ≡ prefix_len is_name_byte card.now }
-    ensures within { result ≤ length card.now }
+fn name_len(columns: &[u8]) -> usize
+    ensures run { result ≡ prefix_len is_name_byte columns.now }
+    ensures within { result ≤ length columns.now }
 {
-    card.iter().take_while(|b| stands_in_name(**b)).count()
+    columns.iter().take_while(|b| stands_in_name(**b)).count()
 }
 
 /// How many bytes of a value stand at the beginning. A comment ends a value.
 #[inline]
-fn value_len(card: &[u8]) -> usize
-    ensures value { take result card.now ≡ value_run card.now }
-    ensures rest { drop result card.now ≡ behind_value card.now }
-    ensures within { result ≤ length card.now }
+fn value_len(columns: &[u8]) -> usize
+    ensures value { take result columns.now ≡ value_run columns.now }
+    ensures rest { drop result columns.now ≡ after_value columns.now }
+    ensures within { result ≤ length columns.now }
 {
     let mut len = 0;
-    'bytes: while len < card.len() && goes_on(card, len) {
+    'bytes: while len < columns.len() && goes_on(columns, len) {
         len += 1;
     }
     len
@@ -355,10 +354,10 @@ fn value_len(card: &[u8]) -> usize
 
 /// Whether a value has the byte at this place.
 #[inline]
-fn goes_on(card: &[u8], at: usize) -> bool
-    requires { at < length card.now }
-    ensures { result ≡ begins_value (drop at card.now) }
+fn goes_on(columns: &[u8], at: usize) -> bool
+    requires { at < length columns.now }
+    ensures { result ≡ begins_value (drop at columns.now) }
 {
-    let (_, rest) = card.split_at(at);
+    let (_, rest) = columns.split_at(at);
     stands_in_value(rest[0]) && !(rest[0] == b'/' && rest.len() > 1 && rest[1] == b'*')
 }

@@ -14,9 +14,9 @@ pub enum McsFault {
     /// `++`.
     #[error("line {0}: no period ends the statement")]
     NoPeriod(u32),
-    /// The list behind the verb is missing, or holds anything but one value, an [`Id`](crate::Id), where
+    /// The list after the verb is missing, or holds anything but one value, an [`Id`](crate::Id), where
     /// the verb isn't VER.
-    #[error("line {0}: the list behind the verb is not one id")]
+    #[error("line {0}: the list after the verb is not one id")]
     BadVerbSubject(u32),
     /// The text ends inside parentheses or a comment, or `)` stands outside them.
     #[error("line {0}: the parentheses do not match")]

@@ -163,22 +163,11 @@ mod tests {
 
     #[test]
     fn ids_have_one_to_seven_allowed_characters(rt: HostRuntime) {
-        let accepted: [&[u8]; 6] = [b"A", b"UA10001", b"HBB7790", b"@#$", b"0", b"Z9"];
-        for text in accepted {
-            assert!(rt; Id::new(text).is_some());
+        for text in ["A", "UA10001", "HBB7790", "@#$", "0", "Z9"] {
+            assert!(rt; Id::new(text.as_bytes()).is_some(), "{text}");
         }
-        let refused: [&[u8]; 8] = [
-            b"",
-            b"UA100012",
-            b"ua10001",
-            b"UA 1",
-            b"UA1 ",
-            b"A.B",
-            b"*",
-            b"\xC3\x84",
-        ];
-        for text in refused {
-            assert!(rt; Id::new(text).is_none());
+        for text in ["", "UA100012", "ua10001", "UA 1", "UA1 ", "A.B", "*", "Ä"] {
+            assert!(rt; Id::new(text.as_bytes()).is_none(), "{text}");
         }
     }
 

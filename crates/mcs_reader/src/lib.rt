@@ -1,8 +1,17 @@
 //! Statements (MCS) of IBM z/OS SMP/E, read from their lines.
 //!
-//! [`read`] gives the statements of a source in order, or its first fault, and [`Statements`] the same one
-//! statement at a time, with all operands or those that are asked for. [`Id`] is a name of the
-//! field: a SYSMOD, an FMID, a reason, a class. [`is_category`] says which texts are fix categories.
+//! - [`read`]: the statements of a source in order, or its first fault
+//! - [`Statements`]: the same one statement at a time, with all operands or those that are asked for
+//! - [`MOST_BYTES`]: the most bytes that a source may have
+//! - [`Statement`]: its verb, its subject, its operands and its line
+//! - [`Verb`]: what a statement does: the name after its `++`
+//! - [`Operands`]: the operands of one statement, in order
+//! - [`Operand`]: one operand: its name, and the values of its list
+//! - [`ListValues`]: the values of one list, in order
+//! - [`McsFault`]: why a source isn't read; [`NoMemory`]: memory ran out
+//! - [`Id`]: the name of a SYSMOD, an FMID, a reason, a class, a zone or a caller
+//! - [`is_category`]: whether a text is a fix category; [`is_category_byte`]: whether a byte may stand in one
+//!
 //! `specs/` says what a statement is, apart from any code: begin with its `Reading`.
 #![tactic(auto)]
 

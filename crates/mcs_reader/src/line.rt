@@ -8,7 +8,7 @@ use memchr::memchr;
 /// The last column that is read. Columns 73 to 80 are no part of a statement.
 const LAST_COLUMN: usize = 72;
 
-/// The first line, without its end, and the source behind it.
+/// The first line, without its end, and the source after it.
 #[inline]
 pub(crate) fn split_line(source: &[u8]) -> (&[u8], &[u8])
     requires { 0 < length source.now }
@@ -18,9 +18,9 @@ pub(crate) fn split_line(source: &[u8]) -> (&[u8], &[u8])
 {
     match memchr(b'\n', source) {
         Some(end) => {
-            let (line, behind) = source.split_at(end);
-            let (_, behind) = behind.split_at(1);
-            (line, behind)
+            let (line, after) = source.split_at(end);
+            let (_, after) = after.split_at(1);
+            (line, after)
         }
         None => (source, &[]),
     }
@@ -28,7 +28,7 @@ pub(crate) fn split_line(source: &[u8]) -> (&[u8], &[u8])
 
 /// The part of a line that is read.
 #[inline]
-pub(crate) fn columns(line: &[u8]) -> &[u8]
+pub(crate) fn columns_of(line: &[u8]) -> &[u8]
     ensures { result.now ≡ columns_1_to_72 line.now }
 {
     let line = without_return(line);

@@ -1,9 +1,9 @@
 //! The lists of a statement: values between matching parentheses, at any depth.
-ghost use Rattle.std.specs.Prelude.{◌≡◌, ◌+◌, ◌^◌, ◌<◌, ◌≤◌, [], ◌∷◌, false, Err, Some, None, IfOk, IfErr, MatchOption, length, option_map};
+ghost use Rattle.std.specs.Prelude.{◌≡◌, ◌+◌, ◌^◌, ◌<◌, [], false, Err, Some, None, IfOk, IfErr, MatchOption, length, option_map};
 ghost use Rattle.faults.specs.Refusal.{IsRefusal};
 ghost use Rattle.mcs_reader.specs.Pieces.{no_name};
-ghost use Rattle.mcs_reader.specs.Place.{IsBehind};
-ghost use Rattle.mcs_reader.specs.Scan.{on_found, scan, with_list, with_values};
+ghost use Rattle.mcs_reader.specs.Place.{IsAfter};
+ghost use Rattle.mcs_reader.specs.Scan.{on_found, scan, with_list};
 ghost use Rattle.mcs_reader.specs.Lists.{GivesValue, HasSoleValue};
 ghost use Rattle.mcs_reader.specs.declared.fault.McsFault.TheVariants.{Memory};
 
@@ -12,7 +12,7 @@ use crate::cursor::Cursor;
 use crate::passing::pass_comment;
 use crate::{ListValues, McsFault};
 
-/// The next value of the list, or `None` behind the parenthesis that closes it. `depth` counts the
+/// The next value of the list, or `None` after the parenthesis that closes it. `depth` counts the
 /// parentheses that are open.
 #[inline(always)]
 pub(crate) fn next_value<'a>(
@@ -21,13 +21,13 @@ pub(crate) fn next_value<'a>(
     line: u32,
 ) -> Result<Option<&'a [u8]>, McsFault>
     requires open { 0 < depth.old }
-    requires depth_room { depth.old + length cursor.old.text < 2 ^ 64 }
+    requires depth_headroom { depth.old + length cursor.old.text < 2 ^ 64 }
 
     ensures ok { IfOk result (λ next. MatchOption next
         (scan line depth.old no_name false cursor.old.text ≡ on_found (with_list []) (scan line 0 no_name false cursor.new.text))
         (λ value. GivesValue line depth.old cursor.old.text value.now depth.new cursor.new.text)) }
-    ensures err { IfErr result (λ fault. scan line depth.old no_name false cursor.old.text ≡ Err fault) }
-    ensures behind { IsBehind cursor.new cursor.old }
+    ensures fault { IfErr result (λ fault. scan line depth.old no_name false cursor.old.text ≡ Err fault) }
+    ensures after { IsAfter cursor.new cursor.old }
 {
     'bytes: loop {
         let Some(role) = cursor.role() else {
@@ -64,11 +64,11 @@ pub(crate) fn gather_values<'a>(
     scratch: &mut Vec<&'a [u8]>,
     line: u32,
 ) -> Result<ListValues<'a>, McsFault>
-    requires depth_room { length cursor.old.text < 2 ^ 63 }
+    requires depth_headroom { length cursor.old.text < 2 ^ 63 }
 
     ensures ok { IfOk result (λ values. scan line 1 no_name false cursor.old.text ≡ on_found (with_list values) (scan line 0 no_name false cursor.new.text)) }
-    ensures err { IfErr result (IsRefusal Memory (λ fault. scan line 1 no_name false cursor.old.text ≡ Err fault)) }
-    ensures behind { IsBehind cursor.new cursor.old }
+    ensures fault { IfErr result (IsRefusal Memory (λ fault. scan line 1 no_name false cursor.old.text ≡ Err fault)) }
+    ensures after { IsAfter cursor.new cursor.old }
 {
     scratch.clear();
     let mut depth = 1;
@@ -83,11 +83,11 @@ pub(crate) fn take_sole_value<'a>(
     cursor: &mut Cursor<'a>,
     line: u32,
 ) -> Result<Option<&'a [u8]>, McsFault>
-    requires depth_room { length cursor.old.text < 2 ^ 63 }
+    requires depth_headroom { length cursor.old.text < 2 ^ 63 }
 
     ensures ok { IfOk result (λ value. HasSoleValue line cursor.old.text (option_map (λ v. v.now) value) cursor.new.text) }
-    ensures err { IfErr result (λ fault. scan line 1 no_name false cursor.old.text ≡ Err fault) }
-    ensures behind { IsBehind cursor.new cursor.old }
+    ensures fault { IfErr result (λ fault. scan line 1 no_name false cursor.old.text ≡ Err fault) }
+    ensures after { IsAfter cursor.new cursor.old }
 {
     let mut depth = 1;
     let Some(first) = next_value(cursor, &mut depth, line)? else {

@@ -4,9 +4,9 @@ ghost use Rattle.faults.specs.Refusal.{IsRefusal};
 ghost use Rattle.mcs_reader.specs.Lists.{HasSubject};
 ghost use Rattle.mcs_reader.specs.Gathered.{GathersOperand, HasOperands, PassesList};
 ghost use Rattle.mcs_reader.specs.Operand.{operand_texts};
-ghost use Rattle.mcs_reader.specs.Pieces.{Before, a_name, before_behind, is_comment_name, no_name};
-ghost use Rattle.mcs_reader.specs.Place.{IsBehind, role_at};
-ghost use Rattle.mcs_reader.specs.Scan.{on_found, scan, with_list_behind, with_name, with_operands};
+ghost use Rattle.mcs_reader.specs.Pieces.{Before, a_name, named_before, is_comment_name, no_name};
+ghost use Rattle.mcs_reader.specs.Place.{IsAfter, role_at};
+ghost use Rattle.mcs_reader.specs.Scan.{on_found, scan, with_list_after, with_name, with_operands};
 ghost use Rattle.mcs_reader.specs.StatementText.{sole, subject_by as subject_by_list};
 ghost use Rattle.mcs_reader.specs.declared.byte.ByteRole.TheVariants.{Gap, Comment, Name};
 ghost use Rattle.mcs_reader.specs.declared.fault.McsFault.TheVariants.{Memory};
@@ -19,14 +19,14 @@ use crate::passing::{pass_comment, pass_raw_list};
 use crate::scratch::{Scratch, take_gathered};
 use crate::{Id, ListValues, McsFault, Operand, Operands, Verb};
 
-/// Goes to the next byte behind gaps and comments, and gives its role.
+/// Goes to the next byte after gaps and comments, and gives its role.
 fn skip_gap(cursor: &mut Cursor<'_>, line: u32) -> Result<ByteRole, McsFault>
     ensures role { IfOk result (λ role. role_at cursor.new.text ≡ Some role) }
     ensures no_gap { IfOk result (λ role. role ≢ Gap) }
     ensures no_comment { IfOk result (λ role. role ≢ Comment) }
     ensures ok { OnOk result ((before : Before) → scan line 0 before false cursor.old.text ≡ scan line 0 before false cursor.new.text) }
-    ensures err { IfErr result (λ fault. (before : Before) → scan line 0 before false cursor.old.text ≡ Err fault) }
-    ensures behind { IsBehind cursor.new cursor.old }
+    ensures fault { IfErr result (λ fault. (before : Before) → scan line 0 before false cursor.old.text ≡ Err fault) }
+    ensures after { IsAfter cursor.new cursor.old }
 {
     'gap: loop {
         let Some(role) = cursor.role() else {
@@ -47,15 +47,15 @@ fn skip_gap(cursor: &mut Cursor<'_>, line: u32) -> Result<ByteRole, McsFault>
 }
 
 /// The list that follows a name, gaps and comments aside, if one does.
-fn list_behind<'a>(
+fn take_list<'a>(
     cursor: &mut Cursor<'a>,
     scratch: &mut Vec<&'a [u8]>,
     name: &[u8],
     line: u32,
 ) -> Result<Option<ListValues<'a>>, McsFault>
-    ensures ok { IfOk result (λ list. scan line 0 (before_behind name.now) false cursor.old.text ≡ with_list_behind list (scan line 0 no_name false cursor.new.text)) }
-    ensures err { IfErr result (IsRefusal Memory (λ fault. scan line 0 (before_behind name.now) false cursor.old.text ≡ Err fault)) }
-    ensures behind { IsBehind cursor.new cursor.old }
+    ensures ok { IfOk result (λ list. scan line 0 (named_before name.now) false cursor.old.text ≡ with_list_after list (scan line 0 no_name false cursor.new.text)) }
+    ensures fault { IfErr result (IsRefusal Memory (λ fault. scan line 0 (named_before name.now) false cursor.old.text ≡ Err fault)) }
+    ensures after { IsAfter cursor.new cursor.old }
 {
     match skip_gap(cursor, line)? {
         ByteRole::Open => {
@@ -79,15 +79,15 @@ fn is_comment(name: &[u8]) -> bool
     name.eq_ignore_ascii_case(b"COMMENT")
 }
 
-/// The subject that a verb has by the list behind it, if the list is as the verb wants it.
+/// The subject that a verb has by the list after it, if the list is as the verb wants it.
 pub(crate) fn pass_subject(
     cursor: &mut Cursor<'_>,
     verb: Verb,
     line: u32,
 ) -> Result<Option<Option<Id>>, McsFault>
     ensures ok { IfOk result (λ subject. HasSubject verb line cursor.old.text subject cursor.new.text) }
-    ensures err { IfErr result (λ fault. scan line 0 a_name false cursor.old.text ≡ Err fault) }
-    ensures behind { IsBehind cursor.new cursor.old }
+    ensures fault { IfErr result (λ fault. scan line 0 a_name false cursor.old.text ≡ Err fault) }
+    ensures after { IsAfter cursor.new cursor.old }
 {
     match skip_gap(cursor, line)? {
         ByteRole::Open => {
@@ -112,28 +112,28 @@ fn subject_by(verb: Verb, value: Option<&[u8]>) -> Option<Option<Id>>
 }
 
 /// The values of the list that follows a name, none where no list does.
-fn values_behind<'a>(
+fn take_values<'a>(
     cursor: &mut Cursor<'a>,
     scratch: &mut Vec<&'a [u8]>,
     name: &[u8],
     line: u32,
 ) -> Result<ListValues<'a>, McsFault>
-    ensures ok { IfOk result (λ values. on_found (with_name name.now) (scan line 0 (before_behind name.now) false cursor.old.text)
+    ensures ok { IfOk result (λ values. on_found (with_name name.now) (scan line 0 (named_before name.now) false cursor.old.text)
         ≡ on_found (with_operands (record { name = name.now; values = values } ∷ [])) (scan line 0 no_name false cursor.new.text)) }
-    ensures err { IfErr result (IsRefusal Memory (λ fault. scan line 0 (before_behind name.now) false cursor.old.text ≡ Err fault)) }
-    ensures behind { IsBehind cursor.new cursor.old }
+    ensures fault { IfErr result (IsRefusal Memory (λ fault. scan line 0 (named_before name.now) false cursor.old.text ≡ Err fault)) }
+    ensures after { IsAfter cursor.new cursor.old }
 {
-    Ok(match list_behind(cursor, scratch, name, line)? {
+    Ok(match take_list(cursor, scratch, name, line)? {
         Some(values) => values,
         None => ListValues::from_vec(Vec::new(*scratch.allocator())),
     })
 }
 
 /// Passes the list that follows a name, gaps and comments aside, if one does.
-fn pass_list_behind(cursor: &mut Cursor<'_>, name: &[u8], line: u32) -> Result<(), McsFault>
+fn pass_list(cursor: &mut Cursor<'_>, name: &[u8], line: u32) -> Result<(), McsFault>
     ensures ok { OnOk result (PassesList line name.now cursor.old.text cursor.new.text) }
-    ensures err { IfErr result (λ fault. scan line 0 (before_behind name.now) false cursor.old.text ≡ Err fault) }
-    ensures behind { IsBehind cursor.new cursor.old }
+    ensures fault { IfErr result (λ fault. scan line 0 (named_before name.now) false cursor.old.text ≡ Err fault) }
+    ensures after { IsAfter cursor.new cursor.old }
 {
     match skip_gap(cursor, line)? {
         ByteRole::Open => {
@@ -161,15 +161,15 @@ fn gather_operand<'a>(
     ensures ok { OnOk result (GathersOperand asked.entry line cursor.old.text
         (operand_texts scratch.old.operands.items) (operand_texts scratch.new.operands.items) cursor.new.text) }
     ensures shorter { OnOk result (length cursor.new.text < length cursor.old.text) }
-    ensures err { IfErr result (IsRefusal Memory (λ fault. scan line 0 no_name false cursor.old.text ≡ Err fault)) }
-    ensures behind { IsBehind cursor.new cursor.old }
+    ensures fault { IfErr result (IsRefusal Memory (λ fault. scan line 0 no_name false cursor.old.text ≡ Err fault)) }
+    ensures after { IsAfter cursor.new cursor.old }
 {
     let name = cursor.take_name();
     if asked.asks_for(name) {
-        let values = values_behind(cursor, &mut scratch.values, name, line)?;
+        let values = take_values(cursor, &mut scratch.values, name, line)?;
         scratch.operands.push(Operand { name, values })?;
     } else {
-        pass_list_behind(cursor, name, line)?;
+        pass_list(cursor, name, line)?;
     }
     Ok(())
 }
@@ -182,8 +182,8 @@ pub(crate) fn gather_operands<'a>(
     line: u32,
 ) -> Result<Operands<'a>, McsFault>
     ensures ok { IfOk result (λ operands. HasOperands asked.entry line cursor.old.text operands cursor.new.text) }
-    ensures err { IfErr result (IsRefusal Memory (λ fault. scan line 0 no_name false cursor.old.text ≡ Err fault)) }
-    ensures behind { IsBehind cursor.new cursor.old }
+    ensures fault { IfErr result (IsRefusal Memory (λ fault. scan line 0 no_name false cursor.old.text ≡ Err fault)) }
+    ensures after { IsAfter cursor.new cursor.old }
 {
     scratch.operands.clear();
     'names: loop {

@@ -42,7 +42,7 @@ pub fn read(alloc: Global, source: &[u8]) -> Result<Vec<Statement<'_>>, McsFault
     // Each source has an outcome, and it is what is returned.
     ensures outcome { IsRead source.now (reading_of source.now) }
     ensures ok { IfOk result (λ statements. reading_of source.now ≡ Ok statements.items) }
-    ensures err { IfErr result (IsRefusal Memory (λ fault. reading_of source.now ≡ Err fault)) }
+    ensures refusal { IfErr result (IsRefusal Memory (λ fault. reading_of source.now ≡ Err fault)) }
 {
     collect(alloc, Statements::new(alloc, source)?)
 }
@@ -50,7 +50,7 @@ pub fn read(alloc: Global, source: &[u8]) -> Result<Vec<Statement<'_>>, McsFault
 // The statements that are left, in order.
 fn collect<'a>(alloc: Global, left: Statements<'a>) -> Result<Vec<Statement<'a>>, McsFault>
     ensures ok { IfOk result (λ statements. left.entry.reading ≡ Ok statements.items) }
-    ensures err { IfErr result (IsRefusal Memory (λ fault. left.entry.reading ≡ Err fault)) }
+    ensures fault { IfErr result (IsRefusal Memory (λ fault. left.entry.reading ≡ Err fault)) }
 {
     let mut left = left;
     let mut statements = Vec::new(alloc);

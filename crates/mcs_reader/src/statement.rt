@@ -1,4 +1,4 @@
-ghost use Rattle.std.specs.Prelude.{◌≡◌, [], ◌∷◌, IfOk};
+ghost use Rattle.std.specs.Prelude.{◌≡◌, [], IfOk};
 ghost use Rattle.mcs_reader.specs.Bytes.{bytes_of_each};
 
 use crate::scratch::take_gathered;
@@ -6,7 +6,7 @@ use crate::{Id, NoMemory};
 use std::marker::Model;
 use std::slice;
 
-/// What a statement does: the name behind its `++`.
+/// What a statement does: the name after its `++`.
 #[derive(Clone, Copy, Debug, PartialEq, Eq, PartialOrd, Ord, Hash)]
 pub enum Verb {
     /// `++HOLD` puts a SYSMOD in exception status.
@@ -165,9 +165,9 @@ impl<'a> Operands<'a> {
 pub struct Statement<'a> {
     /// What the statement does.
     pub verb: Verb,
-    /// The one value of the list behind the verb; none for `++VER`, whose list isn't used.
+    /// The one value of the list after the verb; none for `++VER`, whose list isn't used.
     pub subject: Option<Id>,
-    /// What stands behind the verb's list, up to the period.
+    /// What stands after the verb's list, up to the period.
     pub operands: Operands<'a>,
     /// The line, counted from 1, on which the statement begins.
     pub line: u32,

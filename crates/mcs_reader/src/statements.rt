@@ -5,8 +5,8 @@ ghost use Rattle.mcs_reader.specs.Asking.{reading_asking};
 ghost use Rattle.mcs_reader.specs.Bytes.{bytes_of_each};
 ghost use Rattle.mcs_reader.specs.Gathered.{GivesNextFor, States, reading_for};
 ghost use Rattle.mcs_reader.specs.Pieces.{a_name};
-ghost use Rattle.mcs_reader.specs.Place.{IsBehind};
-ghost use Rattle.mcs_reader.specs.ReadLines.{read_behind};
+ghost use Rattle.mcs_reader.specs.Place.{IsAfter};
+ghost use Rattle.mcs_reader.specs.ReadLines.{read_after};
 ghost use Rattle.mcs_reader.specs.Reading.{HasOneOutcome, IsFirstFault};
 ghost use Rattle.mcs_reader.specs.ReadingOf.{reading_of};
 ghost use Rattle.mcs_reader.specs.Scan.{scan, stated};
@@ -37,12 +37,12 @@ pub struct Statements<'a> {
 impl<'a> Model for Statements<'a> {
     ghost use Rattle.std.specs.Prelude.{length};
     ghost use Rattle.mcs_reader.specs.Gathered.{reading_for};
-    ghost use Rattle.mcs_reader.specs.ReadLines.{read_behind};
+    ghost use Rattle.mcs_reader.specs.ReadLines.{read_after};
     ghost use Rattle.mcs_reader.specs.Unread.{Unread};
 
     ghost Value = { Unread };
 
-    ghost view = { λ s. record { reading = reading_for s.asked (read_behind s.cursor); bytes = length s.cursor.text } };
+    ghost view = { λ s. record { reading = reading_for s.asked (read_after s.cursor); bytes = length s.cursor.text } };
 }
 
 impl<'a> Statements<'a> {
@@ -57,7 +57,7 @@ impl<'a> Statements<'a> {
         ensures one_outcome { HasOneOutcome source.now }
         ensures outcome { IsRead source.now (reading_of source.now) }
         ensures ok { IfOk result (λ statements. statements.reading ≡ reading_of source.now) }
-        ensures err { IfErr result (λ fault. reading_of source.now ≡ Err fault) }
+        ensures refusal { IfErr result (λ fault. reading_of source.now ≡ Err fault) }
     {
         Statements::begin(alloc, source, Asked::All)
     }
@@ -73,7 +73,7 @@ impl<'a> Statements<'a> {
         ensures one_outcome { HasOneOutcome source.now }
         ensures outcome { IsRead source.now (reading_of source.now) }
         ensures ok { IfOk result (λ statements. statements.reading ≡ reading_asking (bytes_of_each names.now) (reading_of source.now)) }
-        ensures err { IfErr result (λ fault. reading_of source.now ≡ Err fault) }
+        ensures refusal { IfErr result (λ fault. reading_of source.now ≡ Err fault) }
     {
         Statements::begin(alloc, source, Asked::Named(names))
     }
@@ -83,7 +83,7 @@ impl<'a> Statements<'a> {
         ensures one_outcome { HasOneOutcome source.now }
         ensures outcome { IsRead source.now (reading_of source.now) }
         ensures ok { IfOk result (λ statements. statements.reading ≡ reading_for asked.entry (reading_of source.now)) }
-        ensures err { IfErr result (λ fault. reading_of source.now ≡ Err fault) }
+        ensures refusal { IfErr result (λ fault. reading_of source.now ≡ Err fault) }
     {
         if source.len() > MOST_BYTES {
             return Err(McsFault::TooLong);
@@ -139,10 +139,10 @@ fn next_statement<'a>(
     asked: Asked<'_>,
 ) -> Result<Option<Statement<'a>>, McsFault>
     ensures ok { IfOk result (λ next. MatchOption next
-        (read_behind cursor.old ≡ Ok [])
+        (read_after cursor.old ≡ Ok [])
         (λ statement. GivesNextFor asked.entry cursor.old statement cursor.new)) }
-    ensures err { IfErr result (IsRefusal Memory (λ fault. read_behind cursor.old ≡ Err fault)) }
-    ensures behind { IsBehind cursor.new cursor.old }
+    ensures fault { IfErr result (IsRefusal Memory (λ fault. read_after cursor.old ≡ Err fault)) }
+    ensures after { IsAfter cursor.new cursor.old }
 {
     'lines: while cursor.next_line() {
         if let Some(verb) = cursor.take_verb() {
@@ -161,9 +161,9 @@ fn read_statement<'a>(
 ) -> Result<Statement<'a>, McsFault>
     ensures ok { IfOk result (λ statement.
         States asked.entry (stated verb cursor.old.line (scan cursor.old.line 0 a_name false cursor.old.text)) statement cursor.new.text) }
-    ensures err { IfErr result (IsRefusal Memory (λ fault.
+    ensures fault { IfErr result (IsRefusal Memory (λ fault.
         stated verb cursor.old.line (scan cursor.old.line 0 a_name false cursor.old.text) ≡ Err fault)) }
-    ensures behind { IsBehind cursor.new cursor.old }
+    ensures after { IsAfter cursor.new cursor.old }
 {
     let line = cursor.line();
     let subject = pass_subject(cursor, verb, line)?;

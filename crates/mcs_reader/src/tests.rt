@@ -38,20 +38,31 @@ fn assert_reads<R: Abort + AllocGlobal>(
     expected: &[&str],
 ) -> Result<(), Fail> {
     let statements = read(rt.alloc(), source)?;
-    assert_eq!(rt; statements.len(), expected.len());
+    let row = if let [first, ..] = expected {
+        first
+    } else {
+        "none"
+    };
+    assert_eq!(rt; statements.len(), expected.len(), "{row}");
     for (statement, line) in statements.iter().zip(expected) {
-        assert_eq!(rt; statement.verb, Verb::Hold);
+        assert_eq!(rt; statement.verb, Verb::Hold, "{line}");
         let text = shown(rt, statement)?;
         assert_eq!(rt; text.as_str(), *line);
     }
     Ok(())
 }
 
-fn assert_refused(rt: &impl Abort, found: Result<Vec<Statement>, McsFault>, fault: McsFault) {
-    match found {
-        Ok(_) => assert!(rt; false, "read, and not refused"),
-        Err(other) => assert!(rt; other == fault, "{other}"),
+fn assert_refused<R: Abort + AllocGlobal>(
+    rt: &R,
+    source: &[u8],
+    fault: McsFault,
+    row: &str,
+) -> Result<(), Fail> {
+    match read(rt.alloc(), source) {
+        Ok(_) => assert!(rt; false, "read, and not refused: {row}"),
+        Err(other) => assert_eq!(rt; other, fault, "{row}"),
     }
+    Ok(())
 }
 
 #[test]
@@ -117,7 +128,7 @@ fn each_verb_is_read(rt: HostRuntime) -> Result<(), Fail> {
     assert_eq!(rt; statements.len(), verbs.len());
     for (statement, verb) in statements.iter().zip(verbs) {
         assert_eq!(rt; statement.verb, verb);
-        assert_eq!(rt; statement.subject.is_none(), verb == Verb::Ver);
+        assert_eq!(rt; statement.subject.is_none(), verb == Verb::Ver, "{verb:?}");
     }
     Ok(())
 }
@@ -167,7 +178,9 @@ fn the_first_fault_is_told(rt: HostRuntime) -> Result<(), Fail> {
         (b"++HOLD() X ;.\n++HOLD(A)", McsFault::BadByte(1)),
     ];
     for (source, fault) in table {
-        assert_refused(&rt, read(rt.alloc(), source), fault);
+        let mut row = String::new(rt.alloc());
+        push_bytes(&mut row, source)?;
+        assert_refused(&rt, source, fault, row.as_str())?;
     }
     Ok(())
 }
@@ -191,7 +204,7 @@ fn statements_come_one_at_a_time(rt: HostRuntime) -> Result<(), Fail> {
     Ok(())
 }
 
-// More values than are copied, and a short list behind the long one.
+// More values than are copied, and a short list after the long one.
 #[test]
 fn operands_that_nobody_asks_for_are_passed_over(rt: HostRuntime) -> Result<(), Fail> {
     let source =
@@ -210,7 +223,12 @@ fn operands_that_nobody_asks_for_are_passed_over(rt: HostRuntime) -> Result<(), 
             let statement = statements.next()?.ok_or("a statement")?;
             assert_eq!(rt; shown(&rt, &statement)?.as_str(), text);
         }
-        assert_eq!(rt; statements.next().err(), Some(McsFault::Unbalanced(6)));
+        let count = names.len();
+        assert_eq!(rt;
+            statements.next().err(),
+            Some(McsFault::Unbalanced(6)),
+            "{count} names"
+        );
     }
     Ok(())
 }
@@ -234,9 +252,9 @@ fn a_list_may_be_long(rt: HostRuntime) -> Result<(), Fail> {
 
 #[test]
 fn a_source_has_at_most_64_mebibytes(rt: HostRuntime) -> Result<(), Fail> {
-    let source = vec![in rt.alloc(); b' '; crate::MOST_BYTES + 1]?;
-    assert_refused(&rt, read(rt.alloc(), &source), McsFault::TooLong);
-    let (most, _) = source.as_slice().split_at(crate::MOST_BYTES);
+    let source = vec![in rt.alloc(); b' '; 67_108_865]?;
+    assert_refused(&rt, &source, McsFault::TooLong, "67,108,865 bytes")?;
+    let (most, _) = source.as_slice().split_at(67_108_864);
     let statements = read(rt.alloc(), most)?;
     assert_eq!(rt; statements.len(), 0);
     Ok(())
@@ -255,7 +273,7 @@ fn repeated<R: AllocGlobal>(rt: &R, unit: &[u8], times: u32, end: &[u8]) -> Resu
 #[test]
 fn depth_and_length_cost_no_stack(rt: HostRuntime) -> Result<(), Fail> {
     let deep = repeated(&rt, b"\n(", 20_000, b"B")?;
-    assert_refused(&rt, read(rt.alloc(), &deep), McsFault::Unbalanced(1));
+    assert_refused(&rt, &deep, McsFault::Unbalanced(1), "20,000 deep")?;
     let mut closed = repeated(&rt, b"\n(", 20_000, b"B")?;
     for _ in 0..20_000 {
         closed.extend_from_slice(b"\n)")?;
@@ -280,6 +298,6 @@ fn faults_have_numbers_and_lines(rt: HostRuntime) {
     ];
     for (fault, number, line) in table {
         assert_eq!(rt; fault.number(), number);
-        assert_eq!(rt; fault.line(), line);
+        assert_eq!(rt; fault.line(), line, "{number}");
     }
 }

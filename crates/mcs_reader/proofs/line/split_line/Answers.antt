@@ -9,7 +9,7 @@ returns-in-Some-clause-line c =
     let here = lines-at s c.in-Some.end c.in-Some.ensures.0.high c.in-Some.ensures.0.before c.in-Some.ensures.1 in
     here.0
     ∙ ap (λ line. line ∷ lines (drop 1 (drop c.in-Some.end s))) (sym c.split_at.ensures.front)
-    ∙ ap (λ behind. c.split_at.result.0.now ∷ lines behind) (sym (c.split_at-in-Some.ensures.back ∙ ap (drop 1) c.split_at.ensures.back))
+    ∙ ap (λ after. c.split_at.result.0.now ∷ lines after) (sym (c.split_at-in-Some.ensures.back ∙ ap (drop 1) c.split_at.ensures.back))
 
 pub returns-in-Some-clause-one_line : goal.returns-in-Some-clause-one_line
 returns-in-Some-clause-one_line c =

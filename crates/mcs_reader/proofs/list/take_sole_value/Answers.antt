@@ -1,9 +1,9 @@
 use Rattle.std.proofs.Common.{[], ◌∷◌, ◌++◌, false, option_map, ◌∙◌, ap, arith}
 use Rattle.mcs_reader.specs.Pieces.{no_name}
 use Rattle.mcs_reader.specs.Scan.{on_found, scan, with_values}
-use Rattle.mcs_reader.proofs.Alone.{not_nil, on_found-list, sole_first}
-use Rattle.mcs_reader.proofs.ScanPieces.{on_found-values}
-use Rattle.mcs_reader.proofs.ScanPlaces.{IsBehind-trans}
+use Rattle.mcs_reader.proofs.AloneFacts.{not_nil, on_found-list, sole_first}
+use Rattle.mcs_reader.proofs.ScanPiecesFacts.{on_found-values}
+use Rattle.mcs_reader.proofs.ScanPlaceFacts.{IsAfter-trans}
 use Rattle.mcs_reader.proofs.list.take_sole_value.Goals as goal
 
 pub others-preserved : goal.others-preserved
@@ -22,7 +22,7 @@ others-preserved c =
         alone_is = not_nil others value;
         still_open = given.still_open;
         no_deeper = omega (arith, kept.no_deeper, given.no_deeper);
-        behind = IsBehind-trans now.cursor c.others.cursor c.args.cursor.now c.in_ok-next_value.ensures.behind kept.behind;
+        after = IsAfter-trans now.cursor c.others.cursor c.args.cursor.now c.in_ok-next_value.ensures.after kept.after;
       },
     )
 

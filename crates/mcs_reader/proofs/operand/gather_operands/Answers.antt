@@ -4,8 +4,8 @@ use Rattle.mcs_reader.specs.Operand.{operand_texts}
 use Rattle.mcs_reader.specs.Pieces.{no_name}
 use Rattle.mcs_reader.specs.Scan.{on_found, scan, with_operands}
 use Rattle.mcs_reader.proofs.GatheredFacts.{both_for, operands_then}
-use Rattle.mcs_reader.proofs.Outside.{outside_period, outside_close, outside_else}
-use Rattle.mcs_reader.proofs.ScanPlaces.{IsBehind-trans}
+use Rattle.mcs_reader.proofs.OutsideFacts.{outside_period, outside_close, outside_else}
+use Rattle.mcs_reader.proofs.ScanPlaceFacts.{IsAfter-trans}
 use Rattle.mcs_reader.proofs.operand.gather_operands.Goals as goal
 
 pub names-preserved : goal.names-preserved
@@ -22,9 +22,9 @@ names-preserved c =
             ∙ operands_then seen (one.operand ∷ []) (scan c.args.line 0 no_name false moved.text);
         gathered =
             one.gathered ∙ ap (λ texts. texts ++ operands_for c.args.asked (one.operand ∷ [])) kept.gathered ∙ sym (both_for c.args.asked seen (one.operand ∷ []));
-        behind =
-            IsBehind-trans moved c.skip_gap.new.cursor c.args.cursor.now c.in_ok-gather_operand-in-Name.ensures.behind
-            (IsBehind-trans c.skip_gap.new.cursor c.names.cursor c.args.cursor.now c.in_ok-skip_gap.ensures.behind kept.behind);
+        after =
+            IsAfter-trans moved c.skip_gap.new.cursor c.args.cursor.now c.in_ok-gather_operand-in-Name.ensures.after
+            (IsAfter-trans c.skip_gap.new.cursor c.names.cursor c.args.cursor.now c.in_ok-skip_gap.ensures.after kept.after);
       },
     )
 
@@ -44,8 +44,8 @@ returns-in-Period-clause-ok c =
       gathered_are = c.from_vec.ensures ∙ ap operand_texts c.in_ok-take_gathered-in-Period.ensures ∙ kept.gathered;
     }
 
-pub returns-in-Close-clause-err : goal.returns-in-Close-clause-err
-returns-in-Close-clause-err c = inr
+pub returns-in-Close-clause-fault : goal.returns-in-Close-clause-fault
+returns-in-Close-clause-fault c = inr
     (c.names.invariant.1.found
     ∙ ap (on_found (with_operands c.names.invariant.0))
     (c.in_ok-skip_gap.ensures.ok no_name
@@ -54,11 +54,11 @@ returns-in-Close-clause-err c = inr
 pub returns-in_default : goal.returns-in_default
 returns-in_default c = record {
   ok = tt;
-  err = inr
+  fault = inr
       (c.names.invariant.1.found
       ∙ ap (on_found (with_operands c.names.invariant.0))
       (c.in_ok-skip_gap.ensures.ok no_name
       ∙ outside_else c.args.line c.skip_gap.new.cursor.text c.in_ok-skip_gap.field-0 c.in_ok-skip_gap.ensures.role c.in_ok-skip_gap.ensures.no_gap c.in_ok-skip_gap.ensures.no_comment
       c.in_default.not-Name c.in_default.not-Close c.in_default.not-Period));
-  behind = IsBehind-trans c.skip_gap.new.cursor c.names.cursor c.args.cursor.now c.in_ok-skip_gap.ensures.behind c.names.invariant.1.behind;
+  after = IsAfter-trans c.skip_gap.new.cursor c.names.cursor c.args.cursor.now c.in_ok-skip_gap.ensures.after c.names.invariant.1.after;
 }

@@ -1,6 +1,6 @@
 use Rattle.std.proofs.Common.{◌≡◌, false, length}
 use Rattle.mcs_reader.specs.Pieces.{Before}
-use Rattle.mcs_reader.specs.Place.{IsBehind}
+use Rattle.mcs_reader.specs.Place.{IsAfter}
 use Rattle.mcs_reader.specs.Scan.{scan}
 use Rattle.mcs_reader.proofs.operand.skip_gap.Given as goal
 
@@ -8,7 +8,7 @@ use Rattle.mcs_reader.proofs.operand.skip_gap.Given as goal
 abbrev pub invariant-gap : goal.invariant-gap
 invariant-gap l = record {
   found : (before : Before) → scan l.fn.line 0 before false l.fn.cursor.text ≡ scan l.fn.line 0 before false l.cursor.text;
-  behind : IsBehind l.cursor l.fn.cursor;
+  after : IsAfter l.cursor l.fn.cursor;
 }
 
 abbrev pub decreases-gap : goal.decreases-gap

@@ -1,14 +1,14 @@
 use Rattle.std.proofs.Common.{◌≡◌, ◌<◌, length, drop}
-use Rattle.mcs_reader.specs.Place.{IsBehind}
-use Rattle.mcs_reader.specs.Scan.{behind_comment}
+use Rattle.mcs_reader.specs.Place.{IsAfter}
+use Rattle.mcs_reader.specs.Scan.{after_comment}
 use Rattle.mcs_reader.proofs.passing.pass_comment.Given as goal
 
 -- the comment ends further on
 abbrev pub invariant-lines : goal.invariant-lines
 invariant-lines l = record {
-  found : behind_comment (drop 2 l.fn.cursor.text) ≡ behind_comment l.cursor.text;
+  found : after_comment (drop 2 l.fn.cursor.text) ≡ after_comment l.cursor.text;
   shorter : length l.cursor.text < length l.fn.cursor.text;
-  behind : IsBehind l.cursor l.fn.cursor;
+  after : IsAfter l.cursor l.fn.cursor;
 }
 
 abbrev pub decreases-lines : goal.decreases-lines

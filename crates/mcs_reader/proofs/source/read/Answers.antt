@@ -59,10 +59,10 @@ pub returns-clause-read : goal.returns-clause-read
 returns-clause-read c =
     read_if_reading c.args.source.now c.collect.result c.new.ensures.one_outcome
     (is_ok c.args.source.now c.in_ok-new.field-0.reading c.collect.result c.in_ok-new.ensures.reading c.collect.ensures.ok)
-    (is_err c.args.source.now c.in_ok-new.field-0.reading c.collect.result c.in_ok-new.ensures.reading c.collect.ensures.err)
+    (is_err c.args.source.now c.in_ok-new.field-0.reading c.collect.result c.in_ok-new.ensures.reading c.collect.ensures.fault)
 
 pub returns-clause-refused : goal.returns-clause-refused
 returns-clause-refused c =
     refused_if_fault c.args.source.now c.collect.result c.new.ensures.one_outcome
     (is_ok c.args.source.now c.in_ok-new.field-0.reading c.collect.result c.in_ok-new.ensures.reading c.collect.ensures.ok)
-    (is_err c.args.source.now c.in_ok-new.field-0.reading c.collect.result c.in_ok-new.ensures.reading c.collect.ensures.err)
+    (is_err c.args.source.now c.in_ok-new.field-0.reading c.collect.result c.in_ok-new.ensures.reading c.collect.ensures.fault)

@@ -1,13 +1,13 @@
 use Rattle.std.proofs.Common.{◌≡◌, length}
-use Rattle.mcs_reader.specs.Place.{IsBehind}
-use Rattle.mcs_reader.specs.ReadLines.{read_behind}
+use Rattle.mcs_reader.specs.Place.{IsAfter}
+use Rattle.mcs_reader.specs.ReadLines.{read_after}
 use Rattle.mcs_reader.proofs.statements.next_statement.Given as goal
 
 -- the lines so far were passed over
 abbrev pub invariant-lines : goal.invariant-lines
 invariant-lines l = record {
-  read : read_behind l.initial.cursor ≡ read_behind l.cursor;
-  behind : IsBehind l.cursor l.initial.cursor;
+  read : read_after l.initial.cursor ≡ read_after l.cursor;
+  after : IsAfter l.cursor l.initial.cursor;
 }
 
 abbrev pub decreases-lines : goal.decreases-lines

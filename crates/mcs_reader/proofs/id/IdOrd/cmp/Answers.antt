@@ -2,7 +2,7 @@ use Rattle.std.proofs.Common.{◌∙◌, ap}
 use Rattle.std.specs.Ordering.{nat_cmp}
 use Rattle.std.specs.Cmp.Lexicographic.{slice_cmp}
 use Rattle.mcs_reader.specs.Id.{number}
-use Rattle.mcs_reader.proofs.IdOrder.{as_numbers}
+use Rattle.mcs_reader.proofs.IdOrderFacts.{as_numbers}
 use Rattle.mcs_reader.proofs.id.IdOrd.cmp.Goals as goal
 
 pub returns : goal.returns

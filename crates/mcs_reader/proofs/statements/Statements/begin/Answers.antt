@@ -1,15 +1,15 @@
 use Rattle.std.proofs.Common.{◌≡◌, ◌+◌, ◌∷◌, List, ℕ, length, sym, ◌∙◌, ap, arith}
 use Rattle.mcs_reader.specs.Byte.{line_end}
 use Rattle.mcs_reader.specs.Gathered.{reading_for}
-use Rattle.mcs_reader.specs.Line.{line_ends, text_of}
+use Rattle.mcs_reader.specs.Line.{text_of}
 use Rattle.mcs_reader.specs.Place.{Place, after_line}
-use Rattle.mcs_reader.specs.ReadLines.{read_behind, read_lines, read_text}
-use Rattle.mcs_reader.proofs.Outcomes.{has_one_outcome, has_outcome, reading_of-fits, reading_of-too_long}
+use Rattle.mcs_reader.specs.ReadLines.{read_after, read_lines, read_text}
+use Rattle.mcs_reader.proofs.OutcomeFacts.{has_one_outcome, has_outcome, reading_of-fits, reading_of-too_long}
 use Rattle.mcs_reader.proofs.SourceFacts.{length-text_of, line_ends-le-length}
 use Rattle.mcs_reader.proofs.statements.Statements.begin.Goals as goal
 
 -- before the first line, the whole text is left
-before_first : (source : List ℕ) (place : Place) → place.text ≡ line_end ∷ text_of source → place.line ≡ 0 → read_text (text_of source) ≡ read_behind place
+before_first : (source : List ℕ) (place : Place) → place.text ≡ line_end ∷ text_of source → place.line ≡ 0 → read_text (text_of source) ≡ read_after place
 before_first source place text line =
     ap (λ l. read_lines (length (text_of source)) (l + 1) (text_of source)) (sym line)
     ∙ ap (λ t. read_lines (length (after_line t)) (place.line + 1) (after_line t)) (sym text)
@@ -20,7 +20,7 @@ new-requires c =
     let fits = c.if-source-gt-MOST_BYTES.false in
     let most = line_ends-le-length (text_of source) in
     record {
-      room = record {
+      headroom = record {
         depth = omega (arith, fits, length-text_of source);
         lines = omega (arith, fits, most, length-text_of source);
       };
@@ -42,5 +42,5 @@ returns-then-source-gt-MOST_BYTES-clause-one_outcome c = has_one_outcome c.args.
 pub returns-then-source-gt-MOST_BYTES-clause-outcome : goal.returns-then-source-gt-MOST_BYTES-clause-outcome
 returns-then-source-gt-MOST_BYTES-clause-outcome c = has_outcome c.args.source.now
 
-pub returns-then-source-gt-MOST_BYTES-clause-err : goal.returns-then-source-gt-MOST_BYTES-clause-err
-returns-then-source-gt-MOST_BYTES-clause-err c = reading_of-too_long c.args.source.now c.if-source-gt-MOST_BYTES.true
+pub returns-then-source-gt-MOST_BYTES-clause-refusal : goal.returns-then-source-gt-MOST_BYTES-clause-refusal
+returns-then-source-gt-MOST_BYTES-clause-refusal c = reading_of-too_long c.args.source.now c.if-source-gt-MOST_BYTES.true

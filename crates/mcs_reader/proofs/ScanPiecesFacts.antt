@@ -4,7 +4,7 @@ use Rattle.std.specs.List.{list_all}
 use Rattle.mcs_reader.specs.Byte.{is_name_byte, belongs_to_value}
 use Rattle.mcs_reader.specs.Comment.{begins_comment, somewhere, IsCommentText}
 use Rattle.mcs_reader.specs.declared.byte.ByteRole.TheVariants.{Gap, Name, Other}
-use Rattle.mcs_reader.specs.Pieces.{Before, no_name, a_name, name_comment, before_behind, Pieces, nothing, gap, comment, word, list, raw_list, spell, begins_word, is_word, is_value_byte, IsInside, IsOutside, ends_with, ends_line, values, list_behind, operands}
+use Rattle.mcs_reader.specs.Pieces.{Before, no_name, a_name, name_comment, named_before, Pieces, nothing, gap, comment, word, list, raw_list, spell, begins_word, is_word, is_value_byte, IsInside, IsOutside, ends_with, ends_line, values, take_list, operands}
 use Rattle.mcs_reader.specs.Raw.{Raw, spell_raw, IsRaw, spell_raw_open, AllRaw}
 use Rattle.mcs_reader.specs.Run.{run, begins_value, value_run}
 use Rattle.mcs_reader.specs.Stop.{Stop, text_ends, statement_begins, stray_close, stray_byte, nameless_list, open_comment, open_list, open_raw, bad_subject, spell_end, IsEnd, spell_open, AllInside, spell_stop, IsStop, fault_of}
@@ -14,9 +14,9 @@ use Rattle.mcs_reader.specs.declared.fault.McsFault.TheVariants.{NoPeriod, Unbal
 use Rattle.mcs_reader.specs.Scan.{pass, scan, Outcome, on_found, with_name, with_values, with_list, closing, past, past_raw}
 use Rattle.mcs_reader.proofs.ScanFacts.{pass-front, passed, scan-gap, scan-comment_step, scan-name_step, scan-open, scan-close, scan-period, scan-other, scan-end, scan-inside-end, scan-inside-gap, scan-inside-comment_step, scan-inside-open, scan-inside-close, scan-inside-value_step}
 use Rattle.mcs_reader.proofs.RoleFacts.{both, role_of-name, not_name, first_of_word, role_of-40, role_of-41, role_of-43, role_of-46}
-use Rattle.mcs_reader.proofs.Comments.{here_of, plain, value_run_is, behind_comment-ends, behind_comment-open}
-use Rattle.mcs_reader.proofs.Raws.{behind_raw-ends, behind_raw-open}
-use Rattle.mcs_reader.proofs.Runs.{run_is, and_parts}
+use Rattle.mcs_reader.proofs.CommentFacts.{here_of, plain, value_run_is, after_comment-ends, after_comment-open}
+use Rattle.mcs_reader.proofs.RawFacts.{after_raw-ends, after_raw-open}
+use Rattle.mcs_reader.proofs.RunFacts.{run_is, and_parts}
 
 abbrev pub begins_name : List ℕ → Bool
 begins_name text = begins_with is_name_byte text
@@ -66,16 +66,16 @@ scan-value line depth (b ∷ w) text is none ends =
     value_of_run line depth b w text (begins_value (b ∷ (w ++ text))) refl (value_run_is (b ∷ w) text is none ends)
 
 pub scan-word : (line : ℕ) (before : Before) (begun : Bool) (w text : List ℕ) → is_word is_name_byte w ≡ true → begins_name text ≡ false →
-    scan line zero before begun (w ++ text) ≡ on_found (with_name w) (scan line zero (before_behind w) false text)
+    scan line zero before begun (w ++ text) ≡ on_found (with_name w) (scan line zero (named_before w) false text)
 scan-word line before begun [] text is ends = absurd (cc)
 scan-word line before begun (b ∷ w) text is ends =
     let all = all_of_word is_name_byte (b ∷ w) is in
     let whole : run is_name_byte (b ∷ (w ++ text)) ≡ b ∷ w = run_is is_name_byte (b ∷ w) text all ends in
     let more : run is_name_byte (w ++ text) ≡ w = run_is is_name_byte w text (and_parts (is_name_byte b) (list_all is_name_byte w) all).1 ends in
     scan-name_step line before begun b (w ++ text) (here_of b (w ++ text) Name (role_of-name b (first_of_word is_name_byte b w is)) (λ e. cc))
-    ∙ ap (λ v. on_found (with_name v) (pass line (length (run is_name_byte (w ++ text))) zero (before_behind v) false (w ++ text))) whole
-    ∙ ap (λ v. on_found (with_name (b ∷ w)) (pass line (length v) zero (before_behind (b ∷ w)) false (w ++ text))) more
-    ∙ ap (on_found (with_name (b ∷ w))) (pass-front line zero (before_behind (b ∷ w)) false w text)
+    ∙ ap (λ v. on_found (with_name v) (pass line (length (run is_name_byte (w ++ text))) zero (named_before v) false (w ++ text))) whole
+    ∙ ap (λ v. on_found (with_name (b ∷ w)) (pass line (length v) zero (named_before (b ∷ w)) false (w ++ text))) more
+    ∙ ap (on_found (with_name (b ∷ w))) (pass-front line zero (named_before (b ∷ w)) false w text)
 
 -- one comment
 
@@ -87,7 +87,7 @@ pub scan-comment : (line : ℕ) (before : Before) (begun : Bool) (body rest : Li
 scan-comment line before begun body rest is =
     let text : List ℕ = 42 ∷ (body ++ 42 ∷ 47 ∷ rest) in
     scan-comment_step line before begun 47 text refl
-    ∙ ap (λ o. past line text o (λ skip. pass line skip zero before false text)) (behind_comment-ends body rest is)
+    ∙ ap (λ o. past line text o (λ skip. pass line skip zero before false text)) (after_comment-ends body rest is)
     ∙ passed line zero before text (42 ∷ (body ++ 42 ∷ 47 ∷ [])) rest (comment_passed body rest)
 
 pub scan-inside-comment : (line depth : ℕ) (body rest : List ℕ) → IsCommentText body →
@@ -95,18 +95,18 @@ pub scan-inside-comment : (line depth : ℕ) (body rest : List ℕ) → IsCommen
 scan-inside-comment line depth body rest is =
     let text : List ℕ = 42 ∷ (body ++ 42 ∷ 47 ∷ rest) in
     scan-inside-comment_step line depth 47 text refl
-    ∙ ap (λ o. past line text o (λ skip. pass line skip (suc depth) no_name false text)) (behind_comment-ends body rest is)
+    ∙ ap (λ o. past line text o (λ skip. pass line skip (suc depth) no_name false text)) (after_comment-ends body rest is)
     ∙ passed line (suc depth) no_name text (42 ∷ (body ++ 42 ∷ 47 ∷ [])) rest (comment_passed body rest)
 
 pub scan-open_comment : (line : ℕ) (before : Before) (begun : Bool) (body : List ℕ) → IsCommentText body → scan line zero before begun (47 ∷ 42 ∷ body) ≡ Err (Unbalanced line)
 scan-open_comment line before begun body is =
     scan-comment_step line before begun 47 (42 ∷ body) refl
-    ∙ ap (λ o. past line (42 ∷ body) o (λ skip. pass line skip zero before false (42 ∷ body))) (behind_comment-open body is)
+    ∙ ap (λ o. past line (42 ∷ body) o (λ skip. pass line skip zero before false (42 ∷ body))) (after_comment-open body is)
 
 pub scan-inside-open_comment : (line depth : ℕ) (body : List ℕ) → IsCommentText body → scan line (suc depth) no_name false (47 ∷ 42 ∷ body) ≡ Err (Unbalanced line)
 scan-inside-open_comment line depth body is =
     scan-inside-comment_step line depth 47 (42 ∷ body) refl
-    ∙ ap (λ o. past line (42 ∷ body) o (λ skip. pass line skip (suc depth) no_name false (42 ∷ body))) (behind_comment-open body is)
+    ∙ ap (λ o. past line (42 ∷ body) o (λ skip. pass line skip (suc depth) no_name false (42 ∷ body))) (after_comment-open body is)
 
 -- a list of COMMENT
 
@@ -115,32 +115,32 @@ pub scan-raw_list : (line : ℕ) (begun : Bool) (raw : Raw) (rest : List ℕ) �
 scan-raw_list line begun raw rest is =
     let text : List ℕ = spell_raw raw ++ 41 ∷ rest in
     scan-open line name_comment begun 40 text role_of-40
-    ∙ ap (λ o. past_raw line text o (λ skip. pass line skip zero no_name false text)) (behind_raw-ends raw rest is)
+    ∙ ap (λ o. past_raw line text o (λ skip. pass line skip zero no_name false text)) (after_raw-ends raw rest is)
     ∙ ap (on_found (with_list [])) (passed line zero no_name text (spell_raw raw ++ 41 ∷ []) rest (sym (append_assoc (spell_raw raw) (41 ∷ []) rest)))
 
 pub scan-open_raw : (line : ℕ) (begun : Bool) (raw : Raw) (deeper : List Raw) → IsRaw raw → AllRaw deeper → scan line zero name_comment begun (40 ∷ spell_raw_open raw deeper) ≡ Err (Unbalanced line)
 scan-open_raw line begun raw deeper is all =
     let text : List ℕ = spell_raw_open raw deeper in
     scan-open line name_comment begun 40 text role_of-40
-    ∙ ap (λ o. past_raw line text o (λ skip. pass line skip zero no_name false text)) (behind_raw-open zero raw deeper is all).1
+    ∙ ap (λ o. past_raw line text o (λ skip. pass line skip zero no_name false text)) (after_raw-open zero raw deeper is all).1
 
--- no word goes on behind pieces
+-- no word goes on after pieces
 
-pub behind_inside : (rest : Pieces) (text : List ℕ) → IsInside rest → begins_word rest ≡ false → begins_value text ≡ false → begins_value (spell rest ++ text) ≡ false
-behind_inside nothing text is none ends = ends
-behind_inside (gap b rest) text is none ends = ap belongs_to_value (here_of b (spell rest ++ text) Gap is.0 (λ e. cc))
-behind_inside (comment body rest) text is none ends = refl
-behind_inside (word w rest) text is none ends = absurd (cc)
-behind_inside (list inside rest) text is none ends = ap belongs_to_value role_of-40
-behind_inside (raw_list raw rest) text is none ends = absurd is
+pub after_inside : (rest : Pieces) (text : List ℕ) → IsInside rest → begins_word rest ≡ false → begins_value text ≡ false → begins_value (spell rest ++ text) ≡ false
+after_inside nothing text is none ends = ends
+after_inside (gap b rest) text is none ends = ap belongs_to_value (here_of b (spell rest ++ text) Gap is.0 (λ e. cc))
+after_inside (comment body rest) text is none ends = refl
+after_inside (word w rest) text is none ends = absurd (cc)
+after_inside (list inside rest) text is none ends = ap belongs_to_value role_of-40
+after_inside (raw_list raw rest) text is none ends = absurd is
 
-pub behind_outside : (before : Before) (rest : Pieces) (text : List ℕ) → IsOutside before rest → begins_word rest ≡ false → begins_name text ≡ false → begins_name (spell rest ++ text) ≡ false
-behind_outside before nothing text is none ends = ends
-behind_outside before (gap b rest) text is none ends = not_name b Gap is.0 (λ e. cc)
-behind_outside before (comment body rest) text is none ends = refl
-behind_outside before (word w rest) text is none ends = absurd (cc)
-behind_outside before (list inside rest) text is none ends = refl
-behind_outside before (raw_list raw rest) text is none ends = refl
+pub after_outside : (before : Before) (rest : Pieces) (text : List ℕ) → IsOutside before rest → begins_word rest ≡ false → begins_name text ≡ false → begins_name (spell rest ++ text) ≡ false
+after_outside before nothing text is none ends = ends
+after_outside before (gap b rest) text is none ends = not_name b Gap is.0 (λ e. cc)
+after_outside before (comment body rest) text is none ends = refl
+after_outside before (word w rest) text is none ends = absurd (cc)
+after_outside before (list inside rest) text is none ends = refl
+after_outside before (raw_list raw rest) text is none ends = refl
 
 -- the pieces of a list, up to its closing parenthesis
 
@@ -157,7 +157,7 @@ scan-list line depth (comment body rest) text is =
     ∙ scan-list line depth rest text is.1
 scan-list line depth (word w rest) text is =
     ap (scan line (suc depth) no_name false) (append_assoc w (spell rest) (41 ∷ text))
-    ∙ scan-value line depth w (spell rest ++ 41 ∷ text) is.0 is.1 (behind_inside rest (41 ∷ text) is.3 is.2 (ap belongs_to_value role_of-41))
+    ∙ scan-value line depth w (spell rest ++ 41 ∷ text) is.0 is.1 (after_inside rest (41 ∷ text) is.3 is.2 (ap belongs_to_value role_of-41))
     ∙ ap (on_found (with_values (w ∷ []))) (scan-list line depth rest text is.3)
     ∙ on_found-values (w ∷ []) (values rest) (closing depth (scan line depth no_name false text))
 scan-list line depth (list inside rest) text is =
@@ -168,7 +168,7 @@ scan-list line depth (list inside rest) text is =
     ∙ on_found-values (values inside) (values rest) (closing depth (scan line depth no_name false text))
 scan-list line depth (raw_list raw rest) text is = absurd is
 
--- a fault behind the pieces of a list
+-- a fault after the pieces of a list
 pub scan-inside-fault : (line depth : ℕ) (pieces : Pieces) (text : List ℕ) (fault : McsFault) → IsInside pieces → begins_value text ≡ false →
     scan line (suc depth) no_name false text ≡ Err fault → scan line (suc depth) no_name false (spell pieces ++ text) ≡ Err fault
 scan-inside-fault line depth nothing text fault is ends there = there
@@ -180,7 +180,7 @@ scan-inside-fault line depth (comment body rest) text fault is ends there =
     ∙ scan-inside-fault line depth rest text fault is.1 ends there
 scan-inside-fault line depth (word w rest) text fault is ends there =
     ap (scan line (suc depth) no_name false) (append_assoc w (spell rest) text)
-    ∙ scan-value line depth w (spell rest ++ text) is.0 is.1 (behind_inside rest text is.3 is.2 ends)
+    ∙ scan-value line depth w (spell rest ++ text) is.0 is.1 (after_inside rest text is.3 is.2 ends)
     ∙ ap (on_found (with_values (w ∷ []))) (scan-inside-fault line depth rest text fault is.3 ends there)
 scan-inside-fault line depth (list inside rest) text fault is ends there =
     ap (λ t. scan line (suc depth) no_name false (40 ∷ t)) (append_assoc (spell inside) (41 ∷ spell rest) text)
@@ -209,7 +209,7 @@ scan-unclosed line depth pieces (inner ∷ more) end is all ends =
 -- the pieces of a statement, up to its period
 
 pub scan-statement : (line : ℕ) (before : Before) (begun : Bool) (pieces : Pieces) (text : List ℕ) → IsOutside before pieces →
-    scan line zero before begun (spell pieces ++ 46 ∷ text) ≡ Ok (record { values = list_behind pieces; operands = operands pieces; rest = text })
+    scan line zero before begun (spell pieces ++ 46 ∷ text) ≡ Ok (record { values = take_list pieces; operands = operands pieces; rest = text })
 scan-statement line before begun nothing text is = scan-period line before begun 46 text role_of-46
 scan-statement line before begun (gap b rest) text is =
     scan-gap line before begun b (spell rest ++ 46 ∷ text) (here_of b (spell rest ++ 46 ∷ text) Gap is.0 (λ e. cc)) ∙ scan-statement line before (b == 10) rest text is.1
@@ -219,8 +219,8 @@ scan-statement line before begun (comment body rest) text is =
     ∙ scan-statement line before false rest text is.1
 scan-statement line before begun (word w rest) text is =
     ap (scan line zero before begun) (append_assoc w (spell rest) (46 ∷ text))
-    ∙ scan-word line before begun w (spell rest ++ 46 ∷ text) is.0 (behind_outside (before_behind w) rest (46 ∷ text) is.2 is.1 refl)
-    ∙ ap (on_found (with_name w)) (scan-statement line (before_behind w) false rest text is.2)
+    ∙ scan-word line before begun w (spell rest ++ 46 ∷ text) is.0 (after_outside (named_before w) rest (46 ∷ text) is.2 is.1 refl)
+    ∙ ap (on_found (with_name w)) (scan-statement line (named_before w) false rest text is.2)
 scan-statement line before begun (list inside rest) text is =
     ap (λ t. scan line zero before begun (40 ∷ t)) (append_assoc (spell inside) (41 ∷ spell rest) (46 ∷ text))
     ∙ ap (λ n. scan line zero n begun (40 ∷ (spell inside ++ 41 ∷ (spell rest ++ 46 ∷ text)))) is.0
@@ -234,7 +234,7 @@ scan-statement line before begun (raw_list raw rest) text is =
     ∙ scan-raw_list line begun raw (spell rest ++ 46 ∷ text) is.1
     ∙ ap (on_found (with_list [])) (scan-statement line no_name false rest text is.2)
 
--- a fault behind the pieces of a statement
+-- a fault after the pieces of a statement
 pub scan-fault : (line : ℕ) (before : Before) (begun : Bool) (pieces : Pieces) (text : List ℕ) (fault : McsFault) → IsOutside before pieces → begins_name text ≡ false →
     scan line zero (ends_with before pieces) (ends_line begun pieces) text ≡ Err fault → scan line zero before begun (spell pieces ++ text) ≡ Err fault
 scan-fault line before begun nothing text fault is ends there = there
@@ -246,8 +246,8 @@ scan-fault line before begun (comment body rest) text fault is ends there =
     ∙ scan-fault line before false rest text fault is.1 ends there
 scan-fault line before begun (word w rest) text fault is ends there =
     ap (scan line zero before begun) (append_assoc w (spell rest) text)
-    ∙ scan-word line before begun w (spell rest ++ text) is.0 (behind_outside (before_behind w) rest text is.2 is.1 ends)
-    ∙ ap (on_found (with_name w)) (scan-fault line (before_behind w) false rest text fault is.2 ends there)
+    ∙ scan-word line before begun w (spell rest ++ text) is.0 (after_outside (named_before w) rest text is.2 is.1 ends)
+    ∙ ap (on_found (with_name w)) (scan-fault line (named_before w) false rest text fault is.2 ends there)
 scan-fault line before begun (list inside rest) text fault is ends there =
     ap (λ t. scan line zero before begun (40 ∷ t)) (append_assoc (spell inside) (41 ∷ spell rest) text)
     ∙ ap (λ n. scan line zero n begun (40 ∷ (spell inside ++ 41 ∷ (spell rest ++ text)))) is.0
@@ -262,16 +262,16 @@ scan-fault line before begun (raw_list raw rest) text fault is ends there =
 
 -- what stops a statement, where it is no period
 
-pub no_name_behind : (before : Before) (begun : Bool) (stop : Stop) → IsStop before begun stop → begins_name (spell_stop stop) ≡ false
-no_name_behind before begun text_ends is = refl
-no_name_behind before begun (statement_begins text) is = refl
-no_name_behind before begun (stray_close text) is = refl
-no_name_behind before begun (stray_byte b text) is = not_name b Other (plain b text Other is.0 (λ e. cc)).role_is (λ e. cc)
-no_name_behind before begun (nameless_list text) is = refl
-no_name_behind before begun (open_comment body) is = refl
-no_name_behind before begun (open_list pieces deeper end) is = refl
-no_name_behind before begun (open_raw raw deeper) is = refl
-no_name_behind before begun (bad_subject text) is = refl
+pub no_name_after : (before : Before) (begun : Bool) (stop : Stop) → IsStop before begun stop → begins_name (spell_stop stop) ≡ false
+no_name_after before begun text_ends is = refl
+no_name_after before begun (statement_begins text) is = refl
+no_name_after before begun (stray_close text) is = refl
+no_name_after before begun (stray_byte b text) is = not_name b Other (plain b text Other is.0 (λ e. cc)).role_is (λ e. cc)
+no_name_after before begun (nameless_list text) is = refl
+no_name_after before begun (open_comment body) is = refl
+no_name_after before begun (open_list pieces deeper end) is = refl
+no_name_after before begun (open_raw raw deeper) is = refl
+no_name_after before begun (bad_subject text) is = refl
 
 -- not the period
 abbrev pub IsFlaw : Stop → Type 0

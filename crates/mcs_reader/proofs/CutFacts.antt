@@ -11,12 +11,12 @@ use Rattle.mcs_reader.specs.StatementText.{StatementText, IsStatementText, spell
 use Rattle.mcs_reader.specs.Stop.{Stop, text_ends, statement_begins, stray_close, stray_byte, nameless_list, open_comment, open_list, open_raw, bad_subject, spell_stop, IsStop, IsStopped, HasNoSubject}
 use Rattle.mcs_reader.specs.Segment.{Segment, passed, skipped, stated, IsLine, IsPassed, AllPassed, spell_lines, spell_segment, IsSegment, spell_row, IsRow, ends_or_begins_statement}
 use Rattle.mcs_reader.specs.declared.statement.Verb.{Verb}
-use Rattle.mcs_reader.proofs.Decompose.{decomposed}
-use Rattle.mcs_reader.proofs.Rows.{IsLine-head}
-use Rattle.mcs_reader.specs.Run.{run, behind_run}
-use Rattle.mcs_reader.proofs.Runs.{run-append-behind_run, all-run, begins_with-behind_run, begins_with-front, and_parts, IsLines, IsLines-behind, first_line, in_line, begins_statement-line}
+use Rattle.mcs_reader.proofs.DecomposeFacts.{decomposed}
+use Rattle.mcs_reader.proofs.RowFacts.{IsLine-head}
+use Rattle.mcs_reader.specs.Run.{run, after_run}
+use Rattle.mcs_reader.proofs.RunFacts.{run-append-after_run, all-run, begins_with-after_run, begins_with-front, and_parts, IsLines, IsLines-after, first_line, in_line, begins_statement-line}
 
--- what a text ends in behind its row: nothing, or a statement that something stops
+-- what a text ends in after its row: nothing, or a statement that something stops
 pub data Ending : Type 0 where
   at_end : Ending
   stopped : StatementText → Stop → Ending
@@ -41,19 +41,19 @@ ending_begins : (ending : Ending) → ends_or_begins_statement (spell_ending end
 ending_begins at_end = refl
 ending_begins (stopped text stop) = refl
 
--- the lines between statements that a row begins with, and the row behind them
-record Gathered (row : List Segment) (behind : List ℕ) : Type 0 where
+-- the lines between statements that a row begins with, and the row after them
+record Gathered (row : List Segment) (after : List ℕ) : Type 0 where
   pub lines : List (List ℕ)
   pub more : List Segment
   pub all : AllPassed lines
-  pub segments : IsRow more behind
-  pub begins : ends_or_begins_statement (spell_row more ++ behind) ≡ true
+  pub segments : IsRow more after
+  pub begins : ends_or_begins_statement (spell_row more ++ after) ≡ true
   pub whole : spell_row row ≡ spell_lines lines ++ spell_row more
 
-gathered : (row : List Segment) (behind : List ℕ) → IsRow row behind → ends_or_begins_statement behind ≡ true → Gathered row behind
-gathered [] behind is begins = record { lines = []; more = []; all = tt; segments = tt; begins = begins; whole = refl }
-gathered (passed between ∷ row) behind is begins =
-    let r = gathered row behind is.1 begins in
+gathered : (row : List Segment) (after : List ℕ) → IsRow row after → ends_or_begins_statement after ≡ true → Gathered row after
+gathered [] after is begins = record { lines = []; more = []; all = tt; segments = tt; begins = begins; whole = refl }
+gathered (passed between ∷ row) after is begins =
+    let r = gathered row after is.1 begins in
     record {
       lines = between ∷ r.lines;
       more = r.more;
@@ -62,27 +62,27 @@ gathered (passed between ∷ row) behind is begins =
       begins = r.begins;
       whole = ap (λ t. (between ++ line_end ∷ []) ++ t) r.whole ∙ sym (append_assoc (between ++ line_end ∷ []) (spell_lines r.lines) (spell_row r.more));
     }
-gathered (skipped head rest lines ∷ row) behind is begins =
+gathered (skipped head rest lines ∷ row) after is begins =
     record { lines = []; more = skipped head rest lines ∷ row; all = tt; segments = is; begins = refl; whole = refl }
-gathered (stated text subject ignored ∷ row) behind is begins =
+gathered (stated text subject ignored ∷ row) after is begins =
     record { lines = []; more = stated text subject ignored ∷ row; all = tt; segments = is; begins = refl; whole = refl }
 
 -- a segment in front of what is cut already
-in_front : (segment : Segment) (front behind : List ℕ) (cut : Cut behind) → IsSegment segment (spell_row cut.row ++ spell_ending cut.ending) → front ≡ spell_segment segment → Cut (front ++ behind)
-in_front segment front behind cut is front_is = record {
+in_front : (segment : Segment) (front after : List ℕ) (cut : Cut after) → IsSegment segment (spell_row cut.row ++ spell_ending cut.ending) → front ≡ spell_segment segment → Cut (front ++ after)
+in_front segment front after cut is front_is = record {
   row = segment ∷ cut.row;
   ending = cut.ending;
   segments = (is, cut.segments);
   ends = cut.ends;
   whole =
-      ap (λ t. t ++ behind) front_is
+      ap (λ t. t ++ after) front_is
       ∙ ap (λ t. spell_segment segment ++ t) cut.whole
       ∙ sym (append_assoc (spell_segment segment) (spell_row cut.row) (spell_ending cut.ending));
 }
 
 -- a line whose head names no verb, in front of what is cut already
-skipped_in_front : (head : Head) (rest behind : List ℕ) → IsHead head rest → verb_named head.name ≡ None → IsLine rest → Cut behind → Cut (spell_head head ++ (rest ++ line_end ∷ behind))
-skipped_in_front head rest behind is unknown one_line cut =
+skipped_in_front : (head : Head) (rest after : List ℕ) → IsHead head rest → verb_named head.name ≡ None → IsLine rest → Cut after → Cut (spell_head head ++ (rest ++ line_end ∷ after))
+skipped_in_front head rest after is unknown one_line cut =
     let r = gathered cut.row (spell_ending cut.ending) cut.segments (ending_begins cut.ending) in
     record {
       row = skipped head rest r.lines ∷ r.more;
@@ -91,9 +91,9 @@ skipped_in_front head rest behind is unknown one_line cut =
       ends = cut.ends;
       whole =
           let tail : List ℕ = spell_row r.more ++ spell_ending cut.ending in
-          let behind_is : behind ≡ spell_lines r.lines ++ tail =
+          let after_is : after ≡ spell_lines r.lines ++ tail =
           cut.whole ∙ ap (λ t. t ++ spell_ending cut.ending) r.whole ∙ append_assoc (spell_lines r.lines) (spell_row r.more) (spell_ending cut.ending) in
-          ap (λ t. spell_head head ++ (rest ++ line_end ∷ t)) behind_is
+          ap (λ t. spell_head head ++ (rest ++ line_end ∷ t)) after_is
           ∙ ap (λ t. spell_head head ++ t) (sym (append_assoc rest (line_end ∷ spell_lines r.lines) tail))
           ∙ sym (append_assoc (spell_head head) (rest ++ line_end ∷ spell_lines r.lines) tail)
           ∙ sym (append_assoc (spell_segment (skipped head rest r.lines)) (spell_row r.more) (spell_ending cut.ending));
@@ -103,31 +103,31 @@ skipped_in_front head rest behind is unknown one_line cut =
 only_stopped : (statement : StatementText) (stop : Stop) → IsStopped statement stop → Cut (spell_statement statement ++ spell_stop stop)
 only_stopped statement stop is = record { row = []; ending = stopped statement stop; segments = tt; ends = is; whole = refl }
 
--- what makes a text with ++ in front a head and the text behind it
+-- what makes a text with ++ in front a head and the text after it
 pub record Headed (text : List ℕ) : Type 0 where
   pub head : Head
-  pub behind : List ℕ
+  pub after : List ℕ
   pub blanks : list_all is_blank head.blanks ≡ true
   pub name : list_all is_name_byte head.name ≡ true
-  pub all_blanks : begins_with is_blank (head.name ++ behind) ≡ false
-  pub all_name : begins_with is_name_byte behind ≡ false
-  pub whole : 43 ∷ 43 ∷ text ≡ spell_head head ++ behind
+  pub all_blanks : begins_with is_blank (head.name ++ after) ≡ false
+  pub all_name : begins_with is_name_byte after ≡ false
+  pub whole : 43 ∷ 43 ∷ text ≡ spell_head head ++ after
 
 pub headed : (text : List ℕ) → Headed text
 headed text =
     let blanks : List ℕ = run is_blank text in
-    let more : List ℕ = behind_run is_blank text in
+    let more : List ℕ = after_run is_blank text in
     let name : List ℕ = run is_name_byte more in
-    let behind : List ℕ = behind_run is_name_byte more in
-    let name_whole : name ++ behind ≡ more = run-append-behind_run is_name_byte more in
+    let after : List ℕ = after_run is_name_byte more in
+    let name_whole : name ++ after ≡ more = run-append-after_run is_name_byte more in
     record {
       head = record { blanks = blanks; name = name };
-      behind = behind;
+      after = after;
       blanks = all-run is_blank text;
       name = all-run is_name_byte more;
-      all_blanks = ap (begins_with is_blank) name_whole ∙ begins_with-behind_run is_blank text;
-      all_name = begins_with-behind_run is_name_byte more;
-      whole = ap (λ t. 43 ∷ 43 ∷ t) (sym (append_assoc blanks name behind ∙ ap (λ t. blanks ++ t) name_whole ∙ run-append-behind_run is_blank text));
+      all_blanks = ap (begins_with is_blank) name_whole ∙ begins_with-after_run is_blank text;
+      all_name = begins_with-after_run is_name_byte more;
+      whole = ap (λ t. 43 ∷ 43 ∷ t) (sym (append_assoc blanks name after ∙ ap (λ t. blanks ++ t) name_whole ∙ run-append-after_run is_blank text));
     }
 
 -- a text that begins with ++
@@ -157,7 +157,7 @@ pub record Begun (text : List ℕ) : Type 0 where
 
 pub begun : (text : List ℕ) (h : Headed text) (verb : Verb) → verb_named h.head.name ≡ Some verb → Begun (43 ∷ 43 ∷ text)
 begun text h verb verb_is =
-    let outer = decomposed zero zero a_name false h.behind in
+    let outer = decomposed zero zero a_name false h.after in
     record {
       statement = record { head = h.head; verb = verb; pieces = outer.pieces };
       stop = outer.stop;
@@ -197,7 +197,7 @@ cut_period n text statement rest below is whole fits lines None no_subject =
 cut_period n text statement rest below is whole fits lines (Some subject) subject_is =
     let P : List ℕ → Type 0 = λ t. Cut t in
     let Q : List ℕ → Type 0 = λ t. IsLines t in
-    let some = not_empty rest (IsLines-behind (spell_statement statement) (46 ∷ rest) (subst Q whole lines)) in
+    let some = not_empty rest (IsLines-after (spell_statement statement) (46 ∷ rest) (subst Q whole lines)) in
     let line = first_line some.0 some.1 (subst Q some.2 some.3) in
     let rest_is : rest ≡ line.0 ++ line_end ∷ line.1 = some.2 ∙ line.3 in
     let front : List ℕ = spell_statement statement ++ 46 ∷ (line.0 ++ line_end ∷ []) in
@@ -208,8 +208,8 @@ cut_period n text statement rest below is whole fits lines (Some subject) subjec
     let size = ap length text_is ∙ length-append front line.1 in
     let front_size = length-append (spell_statement statement) (46 ∷ (line.0 ++ line_end ∷ [])) in
     let smaller : length line.1 ≤ n = omega arith in
-    let behind = below line.1 smaller (IsLines-behind front line.1 (subst Q text_is lines)) in
-    subst P (sym text_is) (in_front (stated statement subject line.0) front line.1 behind (is, subject_is, line.2) refl)
+    let after = below line.1 smaller (IsLines-after front line.1 (subst Q text_is lines)) in
+    subst P (sym text_is) (in_front (stated statement subject line.0) front line.1 after (is, subject_is, line.2) refl)
 
 cut_begun : (n : ℕ) (text : List ℕ) → CutsBelow n → (b : Begun text) → length text ≤ suc n → IsLines text → Cut text
 cut_begun n text below b fits lines = by_stop b.stop refl where
@@ -236,16 +236,16 @@ no_end b [] one_line ends = absurd (let no : not (b == line_end) ≡ false = ap 
 no_end b (c ∷ line) one_line ends = no_end c line (and_parts (in_line b) (list_all in_line (c ∷ line)) one_line).1 ends
 
 -- the rest of a line that begins with ++ and names no verb
-cut_rest : (n : ℕ) (head : Head) (behind : List ℕ) → CutsBelow n
+cut_rest : (n : ℕ) (head : Head) (after : List ℕ) → CutsBelow n
     → list_all is_blank head.blanks ≡ true → list_all is_name_byte head.name ≡ true
-    → begins_with is_blank (head.name ++ behind) ≡ false → begins_with is_name_byte behind ≡ false
-    → verb_named head.name ≡ None → length (spell_head head ++ behind) ≤ suc n → IsLines (spell_head head ++ behind) → Cut (spell_head head ++ behind)
+    → begins_with is_blank (head.name ++ after) ≡ false → begins_with is_name_byte after ≡ false
+    → verb_named head.name ≡ None → length (spell_head head ++ after) ≤ suc n → IsLines (spell_head head ++ after) → Cut (spell_head head ++ after)
 cut_rest n head [] below blanks name no_blank no_name unknown fits lines =
     let Q : List ℕ → Type 0 = λ t. IsLines t in
     absurd (no_end 43 (43 ∷ (head.blanks ++ head.name)) (IsLine-head head blanks name) (subst Q (append-nil (spell_head head)) lines))
-cut_rest n head (b ∷ behind) below blanks name no_blank no_name unknown fits lines =
+cut_rest n head (b ∷ after) below blanks name no_blank no_name unknown fits lines =
     let P : List ℕ → Type 0 = λ t. Cut t in
-    let line = first_line b behind (IsLines-behind (spell_head head) (b ∷ behind) lines) in
+    let line = first_line b after (IsLines-after (spell_head head) (b ∷ after) lines) in
     let B : List ℕ → Type 0 = λ t. begins_with is_blank t ≡ false in
     let N : List ℕ → Type 0 = λ t. begins_with is_name_byte t ≡ false in
     let Q : List ℕ → Type 0 = λ t. IsLines t in
@@ -256,16 +256,16 @@ cut_rest n head (b ∷ behind) below blanks name no_blank no_name unknown fits l
           (subst B (ap (λ t. head.name ++ t) line.3 ∙ sym (append_assoc head.name line.0 (line_end ∷ line.1))) no_blank);
       all_name = begins_with-front is_name_byte line.0 (line_end ∷ line.1) (subst N line.3 no_name);
     } in
-    let text_is : spell_head head ++ (b ∷ behind) ≡ spell_head head ++ (line.0 ++ line_end ∷ line.1) = ap (λ t. spell_head head ++ t) line.3 in
+    let text_is : spell_head head ++ (b ∷ after) ≡ spell_head head ++ (line.0 ++ line_end ∷ line.1) = ap (λ t. spell_head head ++ t) line.3 in
     let size = ap length text_is ∙ length-append (spell_head head) (line.0 ++ line_end ∷ line.1) in
     let line_size = length-append line.0 (line_end ∷ line.1) in
     let smaller : length line.1 ≤ n = omega arith in
     let line_front : List ℕ = spell_head head ++ (line.0 ++ line_end ∷ []) in
-    let front_is : spell_head head ++ (b ∷ behind) ≡ line_front ++ line.1 =
+    let front_is : spell_head head ++ (b ∷ after) ≡ line_front ++ line.1 =
     text_is
     ∙ ap (λ t. spell_head head ++ t) (sym (append_assoc line.0 (line_end ∷ []) line.1))
     ∙ sym (append_assoc (spell_head head) (line.0 ++ line_end ∷ []) line.1) in
-    subst P (sym text_is) (skipped_in_front head line.0 line.1 is unknown line.2 (below line.1 smaller (IsLines-behind line_front line.1 (subst Q front_is lines))))
+    subst P (sym text_is) (skipped_in_front head line.0 line.1 is unknown line.2 (below line.1 smaller (IsLines-after line_front line.1 (subst Q front_is lines))))
 
 cut_headed : (n : ℕ) (text : List ℕ) → CutsBelow n → (h : Headed text) → (verb : Option Verb) → verb_named h.head.name ≡ verb
     → length (43 ∷ 43 ∷ text) ≤ suc n → IsLines (43 ∷ 43 ∷ text) → Cut (43 ∷ 43 ∷ text)
@@ -273,7 +273,7 @@ cut_headed n text below h None unknown fits lines =
     let P : List ℕ → Type 0 = λ t. Cut t in
     let Q : List ℕ → Type 0 = λ t. IsLines t in
     let R : List ℕ → Type 0 = λ t. length t ≤ suc n in
-    subst P (sym h.whole) (cut_rest n h.head h.behind below h.blanks h.name h.all_blanks h.all_name unknown (subst R h.whole fits) (subst Q h.whole lines))
+    subst P (sym h.whole) (cut_rest n h.head h.after below h.blanks h.name h.all_blanks h.all_name unknown (subst R h.whole fits) (subst Q h.whole lines))
 cut_headed n text below h (Some verb) known fits lines = cut_begun n (43 ∷ 43 ∷ text) below (begun text h verb known) fits lines
 
 -- a line between statements
@@ -287,7 +287,7 @@ cut_passed n b text below none fits lines =
     let size = ap length line.3 ∙ length-append line.0 (line_end ∷ line.1) in
     let smaller : length line.1 ≤ n = omega arith in
     let is : IsPassed line.0 = record { one_line = line.2; no_statement = sym (begins_statement-line line.0 line.1) ∙ subst S line.3 none } in
-    subst P (sym front_is) (in_front (passed line.0) (line.0 ++ line_end ∷ []) line.1 (below line.1 smaller (IsLines-behind (line.0 ++ line_end ∷ []) line.1 (subst Q front_is lines))) is refl)
+    subst P (sym front_is) (in_front (passed line.0) (line.0 ++ line_end ∷ []) line.1 (below line.1 smaller (IsLines-after (line.0 ++ line_end ∷ []) line.1 (subst Q front_is lines))) is refl)
 
 cut_step : (n b : ℕ) (text : List ℕ) → CutsBelow n → length (b ∷ text) ≤ suc n → IsLines (b ∷ text) → Cut (b ∷ text)
 cut_step n b text below fits lines = by_test (begins_statement (b ∷ text)) refl where

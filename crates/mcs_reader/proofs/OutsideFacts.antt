@@ -5,17 +5,17 @@ use Rattle.mcs_reader.specs.Comment.{role_here}
 use Rattle.mcs_reader.specs.declared.byte.ByteRole.{ByteRole}
 use Rattle.mcs_reader.specs.declared.byte.ByteRole.TheVariants.{Gap, Comment, Name, Open, Close, Period, Other}
 use Rattle.mcs_reader.specs.declared.fault.McsFault.TheVariants.{NoPeriod, Unbalanced, BadByte}
-use Rattle.mcs_reader.specs.Pieces.{Before, no_name, a_name, name_comment, before_behind}
+use Rattle.mcs_reader.specs.Pieces.{Before, no_name, a_name, name_comment, named_before}
 use Rattle.mcs_reader.specs.Place.{role_at}
-use Rattle.mcs_reader.specs.Run.{run, behind_run}
-use Rattle.mcs_reader.specs.Scan.{pass, scan, Found, Outcome, on_found, with_name, with_list, with_list_behind, with_operands, stray, behind_comment, behind_raw, past}
+use Rattle.mcs_reader.specs.Run.{run, after_run}
+use Rattle.mcs_reader.specs.Scan.{pass, scan, Found, Outcome, on_found, with_name, with_list, with_list_after, with_operands, stray, after_comment, after_raw, past}
 use Rattle.mcs_reader.proofs.RoleFacts.{role-is_name, role-is_open}
-use Rattle.mcs_reader.proofs.Comments.{plain}
-use Rattle.mcs_reader.proofs.Raws.{RawAt, raw_cut, behind_raw-ends, behind_raw-open}
-use Rattle.mcs_reader.proofs.Runs.{run-append-behind_run, begins_with-behind_run, is_word-run}
+use Rattle.mcs_reader.proofs.CommentFacts.{plain}
+use Rattle.mcs_reader.proofs.RawFacts.{RawAt, raw_cut, after_raw-ends, after_raw-open}
+use Rattle.mcs_reader.proofs.RunFacts.{run-append-after_run, begins_with-after_run, is_word-run}
 use Rattle.mcs_reader.proofs.ScanFacts.{skip-step, scan-gap, scan-comment_step, scan-name_step, scan-open, scan-close, scan-period, scan-other}
-use Rattle.mcs_reader.proofs.ScanPieces.{scan-word, scan-raw_list, scan-open_raw}
-use Rattle.mcs_reader.proofs.ScanPlaces.{here, shorter_behind_run}
+use Rattle.mcs_reader.proofs.ScanPiecesFacts.{scan-word, scan-raw_list, scan-open_raw}
+use Rattle.mcs_reader.proofs.ScanPlaceFacts.{here, shorter_after_run}
 
 -- without a name before it, no list comes before the next name
 
@@ -46,31 +46,31 @@ unnamed line zero begun (b ∷ text) = by_role (role_here b text) refl (λ skip 
 
   by_role : (role : ByteRole) → role_here b text ≡ role → ((skip : ℕ) (begun : Bool) → on_found without_values (pass line skip zero no_name begun text) ≡ pass line skip zero no_name begun text)
       → on_found without_values (scan line zero no_name begun (b ∷ text)) ≡ scan line zero no_name begun (b ∷ text)
-  by_role Gap is behind = from (scan line zero no_name (b == 10) text) (scan-gap line no_name begun b text is) (behind zero (b == 10))
-  by_role Comment is behind =
-      let o = behind_comment (drop 1 text) in
+  by_role Gap is after = from (scan line zero no_name (b == 10) text) (scan-gap line no_name begun b text is) (after zero (b == 10))
+  by_role Comment is after =
+      let o = after_comment (drop 1 text) in
       let next : ℕ → Outcome = λ skip. pass line skip zero no_name false text in
-      from (past line text o next) (scan-comment_step line no_name begun b text is) (without-past line text o next (λ skip. behind skip false))
-  by_role Name is behind =
-      let r = pass line (length (run is_name_byte text)) zero (before_behind (run is_name_byte (b ∷ text))) false text in
+      from (past line text o next) (scan-comment_step line no_name begun b text is) (without-past line text o next (λ skip. after skip false))
+  by_role Name is after =
+      let r = pass line (length (run is_name_byte text)) zero (named_before (run is_name_byte (b ∷ text))) false text in
       from (on_found (with_name (run is_name_byte (b ∷ text))) r) (scan-name_step line no_name begun b text is) (without-name (run is_name_byte (b ∷ text)) r)
-  by_role Open is behind = from (Err (BadByte line)) (scan-open line no_name begun b text is) refl
-  by_role Close is behind = from (Err (Unbalanced line)) (scan-close line no_name begun b text is) refl
-  by_role Period is behind = from (Ok (record { values = None; operands = []; rest = text })) (scan-period line no_name begun b text is) refl
-  by_role Other is behind = from (Err (stray line begun (b ∷ text))) (scan-other line no_name begun b text is) refl
+  by_role Open is after = from (Err (BadByte line)) (scan-open line no_name begun b text is) refl
+  by_role Close is after = from (Err (Unbalanced line)) (scan-close line no_name begun b text is) refl
+  by_role Period is after = from (Ok (record { values = None; operands = []; rest = text })) (scan-period line no_name begun b text is) refl
+  by_role Other is after = from (Err (stray line begun (b ∷ text))) (scan-other line no_name begun b text is) refl
 
 pub no_list_unnamed : (line : ℕ) (begun : Bool) (text : List ℕ) → on_found without_values (scan line zero no_name begun text) ≡ scan line zero no_name begun text
 no_list_unnamed line begun text = unnamed line zero begun text
 
--- a name, and the list behind it, are one operand
+-- a name, and the list after it, are one operand
 
 pub operand_found : (name : List ℕ) (list : Option (List (List ℕ))) (values : List (List ℕ)) (r : Outcome) → on_found without_values r ≡ r → unwrap_or list [] ≡ values
-    → on_found (with_name name) (with_list_behind list r) ≡ on_found (with_operands (record { name = name; values = values } ∷ [])) r
+    → on_found (with_name name) (with_list_after list r) ≡ on_found (with_operands (record { name = name; values = values } ∷ [])) r
 operand_found name list values r h is =
-    let P : Outcome → Type 0 = λ o. on_found (with_name name) (with_list_behind list o) ≡ on_found (with_operands (record { name = name; values = values } ∷ [])) o in
+    let P : Outcome → Type 0 = λ o. on_found (with_name name) (with_list_after list o) ≡ on_found (with_operands (record { name = name; values = values } ∷ [])) o in
     subst P h (by_case list r is) where
       by_case : (l : Option (List (List ℕ))) (o : Outcome) → unwrap_or l [] ≡ values
-          → on_found (with_name name) (with_list_behind l (on_found without_values o)) ≡ on_found (with_operands (record { name = name; values = values } ∷ [])) (on_found without_values o)
+          → on_found (with_name name) (with_list_after l (on_found without_values o)) ≡ on_found (with_operands (record { name = name; values = values } ∷ [])) (on_found without_values o)
       by_case None (Ok found) e = ap (λ vs. Ok (record { values = None; operands = record { name = name; values = vs } ∷ found.operands; rest = found.rest })) e
       by_case None (Err fault) e = refl
       by_case (Some vs) (Ok found) e = ap (λ vs. Ok (record { values = None; operands = record { name = name; values = vs } ∷ found.operands; rest = found.rest })) e
@@ -91,38 +91,38 @@ outside_open line before text named h =
 open_byte : (b : ℕ) (text : List ℕ) → role_here b text ≡ Open → b ≡ 40
 open_byte b text is = role-is_open b (plain b text Open is (λ e. cc)).role_is
 
-pub outside_raw : (line : ℕ) (before : Before) (text rest : List ℕ) → before ≡ name_comment → role_at text ≡ Some Open → behind_raw zero (drop 1 text) ≡ Ok rest
+pub outside_raw : (line : ℕ) (before : Before) (text rest : List ℕ) → before ≡ name_comment → role_at text ≡ Some Open → after_raw zero (drop 1 text) ≡ Ok rest
     → scan line zero before false text ≡ on_found (with_list []) (scan line zero no_name false rest)
-outside_raw line before text rest named h behind =
+outside_raw line before text rest named h after =
     let at = here text Open (sym h) in
-    let behind_is : behind_raw zero at.rest ≡ Ok rest = ap (λ t. behind_raw zero (drop 1 t)) (sym at.whole) ∙ behind in
+    let after_is : after_raw zero at.rest ≡ Ok rest = ap (λ t. after_raw zero (drop 1 t)) (sym at.whole) ∙ after in
     ap (λ n. scan line zero n false text) named
     ∙ ap (scan line zero name_comment false) (at.whole ∙ ap (λ n. n ∷ at.rest) (open_byte at.byte at.rest at.role_is))
-    ∙ by_cut at.rest behind_is (raw_cut 1 at.rest)
+    ∙ by_cut at.rest after_is (raw_cut 1 at.rest)
   where
-    by_cut : (more : List ℕ) → behind_raw zero more ≡ Ok rest → RawAt 1 more → scan line zero name_comment false (40 ∷ more) ≡ on_found (with_list []) (scan line zero no_name false rest)
+    by_cut : (more : List ℕ) → after_raw zero more ≡ Ok rest → RawAt 1 more → scan line zero name_comment false (40 ∷ more) ≡ on_found (with_list []) (scan line zero no_name false rest)
     by_cut more is (inl c) =
-        let same : c.rest ≡ rest = let both = sym (behind_raw-ends c.raw c.rest c.is) ∙ ap (behind_raw zero) (sym c.whole) ∙ is in cc in
+        let same : c.rest ≡ rest = let both = sym (after_raw-ends c.raw c.rest c.is) ∙ ap (after_raw zero) (sym c.whole) ∙ is in cc in
         ap (λ t. scan line zero name_comment false (40 ∷ t)) c.whole
         ∙ scan-raw_list line false c.raw c.rest c.is
         ∙ ap (λ t. on_found (with_list []) (scan line zero no_name false t)) same
-    by_cut more is (inr u) = absurd (let never = sym (behind_raw-open zero u.raw u.deeper u.is u.all).1 ∙ ap (behind_raw zero) (sym u.whole) ∙ is in cc)
+    by_cut more is (inr u) = absurd (let never = sym (after_raw-open zero u.raw u.deeper u.is u.all).1 ∙ ap (after_raw zero) (sym u.whole) ∙ is in cc)
 
 not_ok : (r : Result (List ℕ) ℕ) (rest : List ℕ) → IsErr r → r ≡ Ok rest → ⊥
 not_ok (Ok found) rest err e = cc
 not_ok (Err depth) rest err e = cc
 
-pub outside_open_raw : (line : ℕ) (before : Before) (text : List ℕ) → before ≡ name_comment → role_at text ≡ Some Open → IsErr (behind_raw zero (drop 1 text))
+pub outside_open_raw : (line : ℕ) (before : Before) (text : List ℕ) → before ≡ name_comment → role_at text ≡ Some Open → IsErr (after_raw zero (drop 1 text))
     → scan line zero before false text ≡ Err (Unbalanced line)
 outside_open_raw line before text named h never =
     let at = here text Open (sym h) in
-    let P : List ℕ → Type 0 = λ t. IsErr (behind_raw zero (drop 1 t)) in
+    let P : List ℕ → Type 0 = λ t. IsErr (after_raw zero (drop 1 t)) in
     ap (λ n. scan line zero n false text) named
     ∙ ap (scan line zero name_comment false) (at.whole ∙ ap (λ n. n ∷ at.rest) (open_byte at.byte at.rest at.role_is))
     ∙ by_cut at.rest (subst P at.whole never) (raw_cut 1 at.rest)
   where
-    by_cut : (more : List ℕ) → IsErr (behind_raw zero more) → RawAt 1 more → scan line zero name_comment false (40 ∷ more) ≡ Err (Unbalanced line)
-    by_cut more err (inl c) = absurd (not_ok (behind_raw zero more) c.rest err (ap (behind_raw zero) c.whole ∙ behind_raw-ends c.raw c.rest c.is))
+    by_cut : (more : List ℕ) → IsErr (after_raw zero more) → RawAt 1 more → scan line zero name_comment false (40 ∷ more) ≡ Err (Unbalanced line)
+    by_cut more err (inl c) = absurd (not_ok (after_raw zero more) c.rest err (ap (after_raw zero) c.whole ∙ after_raw-ends c.raw c.rest c.is))
     by_cut more err (inr u) = ap (λ t. scan line zero name_comment false (40 ∷ t)) u.whole ∙ scan-open_raw line false u.raw u.deeper u.is u.all
 
 -- where no list follows a name, the name makes no difference
@@ -146,21 +146,21 @@ outside_no_list line before text role h no_gap no_comment no_open =
 
 name_first : (line : ℕ) (before : Before) (b : ℕ) (text : List ℕ) → is_name_byte b ≡ true
     → scan line zero before false (b ∷ text)
-    ≡ on_found (with_name (run is_name_byte (b ∷ text))) (scan line zero (before_behind (run is_name_byte (b ∷ text))) false (behind_run is_name_byte (b ∷ text)))
+    ≡ on_found (with_name (run is_name_byte (b ∷ text))) (scan line zero (named_before (run is_name_byte (b ∷ text))) false (after_run is_name_byte (b ∷ text)))
 name_first line before b text name =
-    ap (scan line zero before false) (sym (run-append-behind_run is_name_byte (b ∷ text)))
-    ∙ scan-word line before false (run is_name_byte (b ∷ text)) (behind_run is_name_byte (b ∷ text)) (is_word-run is_name_byte b text name) (begins_with-behind_run is_name_byte (b ∷ text))
+    ap (scan line zero before false) (sym (run-append-after_run is_name_byte (b ∷ text)))
+    ∙ scan-word line before false (run is_name_byte (b ∷ text)) (after_run is_name_byte (b ∷ text)) (is_word-run is_name_byte b text name) (begins_with-after_run is_name_byte (b ∷ text))
 
 pub outside_name : (line : ℕ) (before : Before) (text : List ℕ) → role_at text ≡ Some Name
-    → (scan line zero before false text ≡ on_found (with_name (run is_name_byte text)) (scan line zero (before_behind (run is_name_byte text)) false (behind_run is_name_byte text)))
-    × (length (behind_run is_name_byte text) < length text)
+    → (scan line zero before false text ≡ on_found (with_name (run is_name_byte text)) (scan line zero (named_before (run is_name_byte text)) false (after_run is_name_byte text)))
+    × (length (after_run is_name_byte text) < length text)
 outside_name line before text h =
     let at = here text Name (sym h) in
     let name : is_name_byte at.byte ≡ true = role-is_name at.byte (plain at.byte at.rest Name at.role_is (λ e. cc)).role_is in
     let P : List ℕ → Type 0 = λ t.
-    (scan line zero before false t ≡ on_found (with_name (run is_name_byte t)) (scan line zero (before_behind (run is_name_byte t)) false (behind_run is_name_byte t)))
-    × (length (behind_run is_name_byte t) < length t) in
-    let found : P (at.byte ∷ at.rest) = (name_first line before at.byte at.rest name, shorter_behind_run is_name_byte at.byte at.rest name) in
+    (scan line zero before false t ≡ on_found (with_name (run is_name_byte t)) (scan line zero (named_before (run is_name_byte t)) false (after_run is_name_byte t)))
+    × (length (after_run is_name_byte t) < length t) in
+    let found : P (at.byte ∷ at.rest) = (name_first line before at.byte at.rest name, shorter_after_run is_name_byte at.byte at.rest name) in
     subst P (sym at.whole) found
 
 pub outside_period : (line : ℕ) (before : Before) (text : List ℕ) → role_at text ≡ Some Period → scan line zero before false text ≡ Ok (record { values = None; operands = []; rest = drop 1 text })

@@ -6,8 +6,8 @@ use Rattle.mcs_reader.specs.Comment.{next_is, begins_comment, ends_comment, some
 use Rattle.mcs_reader.specs.declared.byte.ByteRole.{ByteRole}
 use Rattle.mcs_reader.specs.declared.byte.ByteRole.TheVariants.{Comment, Other}
 use Rattle.mcs_reader.specs.Pieces.{is_word, is_value_byte}
-use Rattle.mcs_reader.specs.Run.{begins_value, value_run, behind_value}
-use Rattle.mcs_reader.specs.Scan.{behind_comment}
+use Rattle.mcs_reader.specs.Run.{begins_value, value_run, after_value}
+use Rattle.mcs_reader.specs.Scan.{after_comment}
 use Rattle.mcs_reader.proofs.RoleFacts.{both, role_of-42, role_of-47, never_comment}
 
 -- the role of a byte at its place
@@ -68,19 +68,19 @@ no_star (b ∷ text) h = by_test (b == 42) refl where
       absurd (cc)
   by_test false e = e
 
-pub value_run-append-behind_value : (text : List ℕ) → value_run text ++ behind_value text ≡ text
-value_run-append-behind_value [] = refl
-value_run-append-behind_value (b ∷ text) = by_test (begins_value (b ∷ text)) (value_run-append-behind_value text) where
-  by_test : (t : Bool) → value_run text ++ behind_value text ≡ text → cond t (b ∷ value_run text) [] ++ cond t (behind_value text) (b ∷ text) ≡ b ∷ text
+pub value_run-append-after_value : (text : List ℕ) → value_run text ++ after_value text ≡ text
+value_run-append-after_value [] = refl
+value_run-append-after_value (b ∷ text) = by_test (begins_value (b ∷ text)) (value_run-append-after_value text) where
+  by_test : (t : Bool) → value_run text ++ after_value text ≡ text → cond t (b ∷ value_run text) [] ++ cond t (after_value text) (b ∷ text) ≡ b ∷ text
   by_test true whole = ap (λ t. b ∷ t) whole
   by_test false whole = refl
 
-pub begins_value-behind_value : (text : List ℕ) → begins_value (behind_value text) ≡ false
-begins_value-behind_value [] = refl
-begins_value-behind_value (b ∷ text) = by_test (begins_value (b ∷ text)) refl (begins_value-behind_value text) where
-  by_test : (t : Bool) → begins_value (b ∷ text) ≡ t → begins_value (behind_value text) ≡ false → begins_value (cond t (behind_value text) (b ∷ text)) ≡ false
-  by_test true e behind = behind
-  by_test false e behind = e
+pub begins_value-after_value : (text : List ℕ) → begins_value (after_value text) ≡ false
+begins_value-after_value [] = refl
+begins_value-after_value (b ∷ text) = by_test (begins_value (b ∷ text)) refl (begins_value-after_value text) where
+  by_test : (t : Bool) → begins_value (b ∷ text) ≡ t → begins_value (after_value text) ≡ false → begins_value (cond t (after_value text) (b ∷ text)) ≡ false
+  by_test true e after = after
+  by_test false e after = e
 
 no_run : (text : List ℕ) → begins_value text ≡ false → value_run text ≡ []
 no_run [] ends = refl
@@ -108,24 +108,24 @@ value_run_is (b ∷ c ∷ w) text is none ends =
 
 -- the end of a comment
 
-pub behind_comment-ends : (body rest : List ℕ) → IsCommentText body → behind_comment (body ++ 42 ∷ 47 ∷ rest) ≡ Some rest
-behind_comment-ends [] rest is = refl
-behind_comment-ends (b ∷ []) rest is =
+pub after_comment-ends : (body rest : List ℕ) → IsCommentText body → after_comment (body ++ 42 ∷ 47 ∷ rest) ≡ Some rest
+after_comment-ends [] rest is = refl
+after_comment-ends (b ∷ []) rest is =
     let parts = neither (ends_comment (b ∷ [])) false is in
     ap (λ t. cond t (Some (47 ∷ rest)) (Some rest)) parts.0
-behind_comment-ends (b ∷ c ∷ body) rest is =
+after_comment-ends (b ∷ c ∷ body) rest is =
     let parts = neither (ends_comment (b ∷ c ∷ body)) (somewhere ends_comment (c ∷ body)) is in
-    ap (λ t. cond t (Some (body ++ 42 ∷ 47 ∷ rest)) (behind_comment ((c ∷ body) ++ 42 ∷ 47 ∷ rest))) parts.0
-    ∙ behind_comment-ends (c ∷ body) rest parts.1
+    ap (λ t. cond t (Some (body ++ 42 ∷ 47 ∷ rest)) (after_comment ((c ∷ body) ++ 42 ∷ 47 ∷ rest))) parts.0
+    ∙ after_comment-ends (c ∷ body) rest parts.1
 
-pub behind_comment-open : (text : List ℕ) → IsCommentText text → behind_comment text ≡ None
-behind_comment-open [] is = refl
-behind_comment-open (b ∷ []) is =
+pub after_comment-open : (text : List ℕ) → IsCommentText text → after_comment text ≡ None
+after_comment-open [] is = refl
+after_comment-open (b ∷ []) is =
     let parts = neither (ends_comment (b ∷ [])) false is in
     ap (λ t. cond t (Some []) None) parts.0
-behind_comment-open (b ∷ c ∷ text) is =
+after_comment-open (b ∷ c ∷ text) is =
     let parts = neither (ends_comment (b ∷ c ∷ text)) (somewhere ends_comment (c ∷ text)) is in
-    ap (λ t. cond t (Some text) (behind_comment (c ∷ text))) parts.0 ∙ behind_comment-open (c ∷ text) parts.1
+    ap (λ t. cond t (Some text) (after_comment (c ∷ text))) parts.0 ∙ after_comment-open (c ∷ text) parts.1
 
 -- a comment ends, or goes on to the end of the text
 pub record Ended (text : List ℕ) : Type 0 where
@@ -142,7 +142,7 @@ pub comment_cut : (text : List ℕ) → Ended text ⊎ IsCommentText text
 comment_cut [] = inr refl
 comment_cut (b ∷ text) = by_test (ends_comment (b ∷ text)) refl (comment_cut text) where
   by_test : (t : Bool) → ends_comment (b ∷ text) ≡ t → Ended text ⊎ IsCommentText text → Ended (b ∷ text) ⊎ IsCommentText (b ∷ text)
-  by_test true e behind =
+  by_test true e after =
       let parts = both (b == 42) (next_is 47 text) e in
       let next = next_byte 47 text parts.1 in
       let star : b ≡ 42 = grind (arith, nat_tests) in

@@ -1,6 +1,6 @@
 use Rattle.std.proofs.Common.{take, ◌∙◌, ap}
 use Rattle.std.proofs.lemmas.List.{take_min}
-use Rattle.mcs_reader.proofs.line.columns.Goals as goal
+use Rattle.mcs_reader.proofs.line.columns_of.Goals as goal
 
 pub returns : goal.returns
 returns c =

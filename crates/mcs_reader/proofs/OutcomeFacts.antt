@@ -10,13 +10,13 @@ use Rattle.mcs_reader.specs.Reading.{most_bytes, IsReading, IsStoppedSource, IsF
 use Rattle.mcs_reader.specs.declared.fault.McsFault.{McsFault}
 use Rattle.mcs_reader.specs.declared.fault.McsFault.TheVariants.{TooLong}
 use Rattle.mcs_reader.specs.declared.statement.Statement.{Statement}
-use Rattle.mcs_reader.proofs.Runs.{IsLines}
+use Rattle.mcs_reader.proofs.RunFacts.{IsLines}
 use Rattle.mcs_reader.specs.ReadLines.{read_lines, read_text}
 use Rattle.mcs_reader.specs.ReadingOf.{reading_of}
 use Rattle.mcs_reader.specs.Unread.{IsRead, Read, with_statements}
 use Rattle.mcs_reader.proofs.ReadFacts.{read_lines-end}
-use Rattle.mcs_reader.proofs.Segments.{read_row, read_stopped}
-use Rattle.mcs_reader.proofs.Cut.{Cut, Ending, at_end, stopped, spell_ending, IsEnding, cut_all}
+use Rattle.mcs_reader.proofs.SegmentFacts.{read_row, read_stopped}
+use Rattle.mcs_reader.proofs.CutFacts.{Cut, Ending, at_end, stopped, spell_ending, IsEnding, cut_all}
 
 -- the text of a source is one whose lines end
 

@@ -7,15 +7,15 @@ use Rattle.mcs_reader.specs.Comment.{role_here, begins_comment, somewhere, IsCom
 use Rattle.mcs_reader.specs.declared.byte.ByteRole.{ByteRole}
 use Rattle.mcs_reader.specs.declared.byte.ByteRole.TheVariants.{Gap, Comment, Name, Open, Close, Period, Other}
 use Rattle.mcs_reader.specs.Line.{begins_statement}
-use Rattle.mcs_reader.specs.Pieces.{Before, no_name, a_name, name_comment, before_behind, Pieces, nothing, gap, comment, word, list, raw_list, spell, begins_word, is_word, is_value_byte, IsInside, IsOutside, ends_with, ends_line}
+use Rattle.mcs_reader.specs.Pieces.{Before, no_name, a_name, name_comment, named_before, Pieces, nothing, gap, comment, word, list, raw_list, spell, begins_word, is_word, is_value_byte, IsInside, IsOutside, ends_with, ends_line}
 use Rattle.mcs_reader.specs.Raw.{spell_raw}
-use Rattle.mcs_reader.specs.Run.{run, behind_run, begins_value}
+use Rattle.mcs_reader.specs.Run.{run, after_run, begins_value}
 use Rattle.mcs_reader.specs.Stop.{Stop, text_ends, statement_begins, stray_close, stray_byte, nameless_list, open_comment, open_list, open_raw, bad_subject, spell_end, IsEnd, spell_open, AllInside, spell_stop, IsStop}
 use Rattle.mcs_reader.specs.Verb.{begins_with}
 use Rattle.mcs_reader.proofs.RoleFacts.{role-is_name, role-is_open, role-is_close, role-is_period, first_of_word}
-use Rattle.mcs_reader.proofs.Comments.{plain, comment_at, CommentAt, Ended, comment_cut, value_here}
-use Rattle.mcs_reader.proofs.Raws.{RawAt, raw_cut}
-use Rattle.mcs_reader.proofs.Runs.{run-append-behind_run, begins_with-behind_run, is_word-run}
+use Rattle.mcs_reader.proofs.CommentFacts.{plain, comment_at, CommentAt, Ended, comment_cut, value_here}
+use Rattle.mcs_reader.proofs.RawFacts.{RawAt, raw_cut}
+use Rattle.mcs_reader.proofs.RunFacts.{run-append-after_run, begins_with-after_run, is_word-run}
 
 -- outside lists: pieces, and a stop or the period
 pub record Outer (before : Before) (begun : Bool) (text : List ℕ) : Type 0 where
@@ -25,13 +25,13 @@ pub record Outer (before : Before) (begun : Bool) (text : List ℕ) : Type 0 whe
   pub stops : IsStop (ends_with before pieces) (ends_line begun pieces) stop
   pub whole : text ≡ spell pieces ++ spell_stop stop
 
--- in a list: pieces up to its closing parenthesis, behind which P holds
+-- in a list: pieces up to its closing parenthesis, after which P holds
 pub record Closes (P : List ℕ → Type 0) (text : List ℕ) : Type 0 where
   pub pieces : Pieces
   pub rest : List ℕ
   pub inside : IsInside pieces
   pub whole : text ≡ spell pieces ++ 41 ∷ rest
-  pub behind : P rest
+  pub after : P rest
 
 -- in a list that the text ends in
 pub record Unclosed (text : List ℕ) : Type 0 where
@@ -47,9 +47,9 @@ abbrev pub At : ℕ → Before → Bool → List ℕ → Type 0
 At zero before begun text = Outer before begun text
 At (suc depth) before begun text = Closes (At depth no_name false) text ⊎ Unclosed text
 
--- what holds at every place further on, holds behind a front
+-- what holds at every place further on, holds after a front
 at_rest : (P : List ℕ → Type 0) (text front rest : List ℕ) → text ≡ front ++ rest → ((skip : ℕ) → P (drop skip text)) → P rest
-at_rest P text front rest whole behind = subst P (ap (drop (length front)) whole ∙ drop-append_seam front rest) (behind (length front))
+at_rest P text front rest whole after = subst P (ap (drop (length front)) whole ∙ drop-append_seam front rest) (after (length front))
 
 -- pieces don't begin with a word where no name byte stands
 no_word : (before : Before) (pieces : Pieces) (tail : List ℕ) → IsOutside before pieces → begins_with is_name_byte (spell pieces ++ tail) ≡ false → begins_word pieces ≡ false
@@ -101,7 +101,7 @@ open_comment_in_front : (body : List ℕ) (rest : Pieces) (deeper : List Pieces)
 open_comment_in_front body rest [] end = ap (λ t. 47 ∷ 42 ∷ t) (append_assoc body (42 ∷ 47 ∷ spell rest) (spell_end end))
 open_comment_in_front body rest (inner ∷ deeper) end = ap (λ t. 47 ∷ 42 ∷ t) (append_assoc body (42 ∷ 47 ∷ spell rest) (40 ∷ spell_open inner deeper end))
 
--- what stands behind the pieces of a list in which the text ends
+-- what stands after the pieces of a list in which the text ends
 tail_of : (pieces : Pieces) (deeper : List Pieces) (end : Option (List ℕ)) → (tail : List ℕ) × (spell_open pieces deeper end ≡ spell pieces ++ tail)
 tail_of pieces [] end = (spell_end end, refl)
 tail_of pieces (inner ∷ deeper) end = (40 ∷ spell_open inner deeper end, refl)
@@ -121,14 +121,14 @@ outer_gap before begun b text is r = record {
 comment_begins : (b : ℕ) (text : List ℕ) (at : CommentAt b text) → b ∷ text ≡ 47 ∷ 42 ∷ at.rest
 comment_begins b text at = ap (λ n. n ∷ text) at.byte_is ∙ ap (λ t. 47 ∷ t) at.whole
 
--- what stands behind a comment, as a place further on
-behind_ended : (b : ℕ) (text : List ℕ) (at : CommentAt b text) (c : Ended at.rest) → text ≡ (42 ∷ (c.body ++ 42 ∷ 47 ∷ [])) ++ c.rest
-behind_ended b text at c = at.whole ∙ ap (λ t. 42 ∷ t) (c.whole ∙ sym (append_assoc c.body (42 ∷ 47 ∷ []) c.rest))
+-- what stands after a comment, as a place further on
+after_ended : (b : ℕ) (text : List ℕ) (at : CommentAt b text) (c : Ended at.rest) → text ≡ (42 ∷ (c.body ++ 42 ∷ 47 ∷ [])) ++ c.rest
+after_ended b text at c = at.whole ∙ ap (λ t. 42 ∷ t) (c.whole ∙ sym (append_assoc c.body (42 ∷ 47 ∷ []) c.rest))
 
 outer_comment : (before : Before) (begun : Bool) (b : ℕ) (text : List ℕ) (at : CommentAt b text) → ((skip : ℕ) → Outer before false (drop skip text)) → Ended at.rest ⊎ IsCommentText at.rest
     → Outer before begun (b ∷ text)
-outer_comment before begun b text at behind (inl c) =
-    let r = at_rest (Outer before false) text (42 ∷ (c.body ++ 42 ∷ 47 ∷ [])) c.rest (behind_ended b text at c) behind in
+outer_comment before begun b text at after (inl c) =
+    let r = at_rest (Outer before false) text (42 ∷ (c.body ++ 42 ∷ 47 ∷ [])) c.rest (after_ended b text at c) after in
     record {
       pieces = comment c.body r.pieces;
       stop = r.stop;
@@ -138,10 +138,10 @@ outer_comment before begun b text at behind (inl c) =
           comment_begins b text at
           ∙ ap (λ t. 47 ∷ 42 ∷ t) (c.whole ∙ ap (λ t. c.body ++ 42 ∷ 47 ∷ t) r.whole ∙ sym (append_assoc c.body (42 ∷ 47 ∷ spell r.pieces) (spell_stop r.stop)));
     }
-outer_comment before begun b text at behind (inr unclosed) =
+outer_comment before begun b text at after (inr unclosed) =
     record { pieces = nothing; stop = open_comment at.rest; outside = tt; stops = unclosed; whole = comment_begins b text at }
 
-outer_name : (before : Before) (begun : Bool) (b : ℕ) (text : List ℕ) → role_of b ≡ Name → Outer (before_behind (b ∷ run is_name_byte text)) false (behind_run is_name_byte text)
+outer_name : (before : Before) (begun : Bool) (b : ℕ) (text : List ℕ) → role_of b ≡ Name → Outer (named_before (b ∷ run is_name_byte text)) false (after_run is_name_byte text)
     → Outer before begun (b ∷ text)
 outer_name before begun b text is r =
     let w : List ℕ = b ∷ run is_name_byte text in
@@ -154,25 +154,25 @@ outer_name before begun b text is r =
       stop = r.stop;
       outside = (
         subst Q cut (is_word-run is_name_byte b text name),
-        no_word (before_behind w) r.pieces (spell_stop r.stop) r.outside (subst P r.whole (begins_with-behind_run is_name_byte text)),
+        no_word (named_before w) r.pieces (spell_stop r.stop) r.outside (subst P r.whole (begins_with-after_run is_name_byte text)),
         r.outside,
       );
       stops = r.stops;
       whole =
-          ap (λ t. b ∷ t) (sym (run-append-behind_run is_name_byte text))
+          ap (λ t. b ∷ t) (sym (run-append-after_run is_name_byte text))
           ∙ ap (λ t. w ++ t) r.whole
           ∙ sym (append_assoc w (spell r.pieces) (spell_stop r.stop));
     }
 
 outer_list : (begun : Bool) (text : List ℕ) → At 1 no_name false text → Outer a_name begun (40 ∷ text)
 outer_list begun text (inl c) = record {
-  pieces = list c.pieces c.behind.pieces;
-  stop = c.behind.stop;
-  outside = (refl, c.inside, c.behind.outside);
-  stops = c.behind.stops;
+  pieces = list c.pieces c.after.pieces;
+  stop = c.after.stop;
+  outside = (refl, c.inside, c.after.outside);
+  stops = c.after.stops;
   whole =
-      ap (λ t. 40 ∷ t) (c.whole ∙ ap (λ t. spell c.pieces ++ 41 ∷ t) c.behind.whole)
-      ∙ ap (λ t. 40 ∷ t) (sym (append_assoc (spell c.pieces) (41 ∷ spell c.behind.pieces) (spell_stop c.behind.stop)));
+      ap (λ t. 40 ∷ t) (c.whole ∙ ap (λ t. spell c.pieces ++ 41 ∷ t) c.after.whole)
+      ∙ ap (λ t. 40 ∷ t) (sym (append_assoc (spell c.pieces) (41 ∷ spell c.after.pieces) (spell_stop c.after.stop)));
 }
 outer_list begun text (inr u) = record {
   pieces = nothing;
@@ -183,8 +183,8 @@ outer_list begun text (inr u) = record {
 }
 
 outer_raw : (begun : Bool) (text : List ℕ) → ((skip : ℕ) → Outer no_name false (drop skip text)) → RawAt 1 text → Outer name_comment begun (40 ∷ text)
-outer_raw begun text behind (inl c) =
-    let r = at_rest (Outer no_name false) text (spell_raw c.raw ++ 41 ∷ []) c.rest (c.whole ∙ sym (append_assoc (spell_raw c.raw) (41 ∷ []) c.rest)) behind in
+outer_raw begun text after (inl c) =
+    let r = at_rest (Outer no_name false) text (spell_raw c.raw ++ 41 ∷ []) c.rest (c.whole ∙ sym (append_assoc (spell_raw c.raw) (41 ∷ []) c.rest)) after in
     record {
       pieces = raw_list c.raw r.pieces;
       stop = r.stop;
@@ -194,7 +194,7 @@ outer_raw begun text behind (inl c) =
           ap (λ t. 40 ∷ t) (c.whole ∙ ap (λ t. spell_raw c.raw ++ 41 ∷ t) r.whole)
           ∙ ap (λ t. 40 ∷ t) (sym (append_assoc (spell_raw c.raw) (41 ∷ spell r.pieces) (spell_stop r.stop)));
     }
-outer_raw begun text behind (inr u) = record {
+outer_raw begun text after (inr u) = record {
   pieces = nothing;
   stop = open_raw u.raw u.deeper;
   outside = tt;
@@ -203,9 +203,9 @@ outer_raw begun text behind (inr u) = record {
 }
 
 outer_open : (before : Before) (begun : Bool) (text : List ℕ) → At 1 no_name false text → ((skip : ℕ) → Outer no_name false (drop skip text)) → Outer before begun (40 ∷ text)
-outer_open a_name begun text r behind = outer_list begun text r
-outer_open name_comment begun text r behind = outer_raw begun text behind (raw_cut 1 text)
-outer_open no_name begun text r behind = record { pieces = nothing; stop = nameless_list text; outside = tt; stops = refl; whole = refl }
+outer_open a_name begun text r after = outer_list begun text r
+outer_open name_comment begun text r after = outer_raw begun text after (raw_cut 1 text)
+outer_open no_name begun text r after = record { pieces = nothing; stop = nameless_list text; outside = tt; stops = refl; whole = refl }
 
 -- a line that begins with ++
 pluses : (begun : Bool) (b : ℕ) (text : List ℕ) → (begun && begins_statement (b ∷ text)) ≡ true → (begun ≡ true) × (rest : List ℕ) × (b ∷ text ≡ 43 ∷ 43 ∷ rest)
@@ -231,7 +231,7 @@ outer_other before begun b text is = by_test (begun && begins_statement (b ∷ t
 -- in a list
 
 inner_gap : (P : List ℕ → Type 0) (b : ℕ) (text : List ℕ) → role_of b ≡ Gap → Closes P text ⊎ Unclosed text → Closes P (b ∷ text) ⊎ Unclosed (b ∷ text)
-inner_gap P b text is (inl c) = inl (record { pieces = gap b c.pieces; rest = c.rest; inside = (is, c.inside); whole = ap (λ t. b ∷ t) c.whole; behind = c.behind })
+inner_gap P b text is (inl c) = inl (record { pieces = gap b c.pieces; rest = c.rest; inside = (is, c.inside); whole = ap (λ t. b ∷ t) c.whole; after = c.after })
 inner_gap P b text is (inr u) = inr (record {
   pieces = gap b u.pieces;
   deeper = u.deeper;
@@ -246,7 +246,7 @@ inner_value : (P : List ℕ → Type 0) (b : ℕ) (text : List ℕ) → begins_v
 inner_value P b text is (inl c) =
     let here = value_here b text is in
     let more = value_in_front b c.pieces (41 ∷ c.rest) here.0 (ap (λ t. begins_comment (b ∷ t)) (sym c.whole) ∙ here.1) c.inside in
-    inl (record { pieces = more.0; rest = c.rest; inside = more.1; whole = ap (λ t. b ∷ t) c.whole ∙ ap (λ t. t ++ 41 ∷ c.rest) (sym more.2); behind = c.behind })
+    inl (record { pieces = more.0; rest = c.rest; inside = more.1; whole = ap (λ t. b ∷ t) c.whole ∙ ap (λ t. t ++ 41 ∷ c.rest) (sym more.2); after = c.after })
 inner_value P b text is (inr u) =
     let here = value_here b text is in
     let tail = tail_of u.pieces u.deeper u.end in
@@ -269,7 +269,7 @@ comment_then P b text at c (inl r) = inl (record {
   whole =
       comment_begins b text at
       ∙ ap (λ t. 47 ∷ 42 ∷ t) (c.whole ∙ ap (λ t. c.body ++ 42 ∷ 47 ∷ t) r.whole ∙ sym (append_assoc c.body (42 ∷ 47 ∷ spell r.pieces) (41 ∷ r.rest)));
-  behind = r.behind;
+  after = r.after;
 })
 comment_then P b text at c (inr u) = inr (record {
   pieces = comment c.body u.pieces;
@@ -286,9 +286,9 @@ comment_then P b text at c (inr u) = inr (record {
 
 inner_comment : (P : List ℕ → Type 0) (b : ℕ) (text : List ℕ) (at : CommentAt b text) → ((skip : ℕ) → Closes P (drop skip text) ⊎ Unclosed (drop skip text)) → Ended at.rest ⊎ IsCommentText at.rest
     → Closes P (b ∷ text) ⊎ Unclosed (b ∷ text)
-inner_comment P b text at behind (inl c) =
-    comment_then P b text at c (at_rest (λ t. Closes P t ⊎ Unclosed t) text (42 ∷ (c.body ++ 42 ∷ 47 ∷ [])) c.rest (behind_ended b text at c) behind)
-inner_comment P b text at behind (inr unclosed) =
+inner_comment P b text at after (inl c) =
+    comment_then P b text at c (at_rest (λ t. Closes P t ⊎ Unclosed t) text (42 ∷ (c.body ++ 42 ∷ 47 ∷ [])) c.rest (after_ended b text at c) after)
+inner_comment P b text at after (inr unclosed) =
     inr (record { pieces = nothing; deeper = []; end = Some at.rest; inside = tt; all = tt; ends = unclosed; whole = comment_begins b text at })
 
 -- what follows a list within a list
@@ -300,7 +300,7 @@ list_then P pieces text rest is whole (inl c) = inl (record {
   whole =
       ap (λ t. 40 ∷ t) (whole ∙ ap (λ t. spell pieces ++ 41 ∷ t) c.whole)
       ∙ ap (λ t. 40 ∷ t) (sym (append_assoc (spell pieces) (41 ∷ spell c.pieces) (41 ∷ c.rest)));
-  behind = c.behind;
+  after = c.after;
 })
 list_then P pieces text rest is whole (inr u) = inr (record {
   pieces = list pieces u.pieces;
@@ -313,7 +313,7 @@ list_then P pieces text rest is whole (inr u) = inr (record {
 })
 
 inner_open : (depth : ℕ) (text : List ℕ) → At (suc (suc depth)) no_name false text → At (suc depth) no_name false (40 ∷ text)
-inner_open depth text (inl c) = list_then (At depth no_name false) c.pieces text c.rest c.inside c.whole c.behind
+inner_open depth text (inl c) = list_then (At depth no_name false) c.pieces text c.rest c.inside c.whole c.after
 inner_open depth text (inr u) = inr (record {
   pieces = nothing;
   deeper = u.pieces ∷ u.deeper;
@@ -330,40 +330,40 @@ at_end zero before begun = record { pieces = nothing; stop = text_ends; outside 
 at_end (suc depth) before begun = inr (record { pieces = nothing; deeper = []; end = None; inside = tt; all = tt; ends = tt; whole = refl })
 
 -- from the cuts at every place further on, that at a place
-abbrev Behind : List ℕ → Type 0
-Behind text = (skip depth : ℕ) (before : Before) (begun : Bool) → At depth before begun (drop skip text)
+abbrev After : List ℕ → Type 0
+After text = (skip depth : ℕ) (before : Before) (begun : Bool) → At depth before begun (drop skip text)
 
-outer : (before : Before) (begun : Bool) (b : ℕ) (text : List ℕ) (role : ByteRole) → role_here b text ≡ role → Behind text → Outer before begun (b ∷ text)
-outer before begun b text Gap is behind = outer_gap before begun b text is (behind zero zero before (b == 10))
-outer before begun b text Comment is behind =
+outer : (before : Before) (begun : Bool) (b : ℕ) (text : List ℕ) (role : ByteRole) → role_here b text ≡ role → After text → Outer before begun (b ∷ text)
+outer before begun b text Gap is after = outer_gap before begun b text is (after zero zero before (b == 10))
+outer before begun b text Comment is after =
     let at = comment_at b text is in
-    outer_comment before begun b text at (λ skip. behind skip zero before false) (comment_cut at.rest)
-outer before begun b text Name is behind =
+    outer_comment before begun b text at (λ skip. after skip zero before false) (comment_cut at.rest)
+outer before begun b text Name is after =
     outer_name before begun b text (plain b text Name is (λ e. cc)).role_is
-    (at_rest (Outer (before_behind (b ∷ run is_name_byte text)) false) text (run is_name_byte text) (behind_run is_name_byte text) (sym (run-append-behind_run is_name_byte text))
-    (λ skip. behind skip zero (before_behind (b ∷ run is_name_byte text)) false))
-outer before begun b text Open is behind =
+    (at_rest (Outer (named_before (b ∷ run is_name_byte text)) false) text (run is_name_byte text) (after_run is_name_byte text) (sym (run-append-after_run is_name_byte text))
+    (λ skip. after skip zero (named_before (b ∷ run is_name_byte text)) false))
+outer before begun b text Open is after =
     let P : ℕ → Type 0 = λ n. Outer before begun (n ∷ text) in
-    subst P (sym (role-is_open b (plain b text Open is (λ e. cc)).role_is)) (outer_open before begun text (behind zero 1 no_name false) (λ skip. behind skip zero no_name false))
-outer before begun b text Close is behind =
+    subst P (sym (role-is_open b (plain b text Open is (λ e. cc)).role_is)) (outer_open before begun text (after zero 1 no_name false) (λ skip. after skip zero no_name false))
+outer before begun b text Close is after =
     record { pieces = nothing; stop = stray_close text; outside = tt; stops = tt; whole = ap (λ n. n ∷ text) (role-is_close b (plain b text Close is (λ e. cc)).role_is) }
-outer before begun b text Period is behind =
+outer before begun b text Period is after =
     record { pieces = nothing; stop = bad_subject text; outside = tt; stops = tt; whole = ap (λ n. n ∷ text) (role-is_period b (plain b text Period is (λ e. cc)).role_is) }
-outer before begun b text Other is behind = outer_other before begun b text is
+outer before begun b text Other is after = outer_other before begun b text is
 
-inner : (depth : ℕ) (before : Before) (begun : Bool) (b : ℕ) (text : List ℕ) (role : ByteRole) → role_here b text ≡ role → Behind text → At (suc depth) before begun (b ∷ text)
-inner depth before begun b text Gap is behind = inner_gap (At depth no_name false) b text (plain b text Gap is (λ e. cc)).role_is (behind zero (suc depth) no_name false)
-inner depth before begun b text Comment is behind =
+inner : (depth : ℕ) (before : Before) (begun : Bool) (b : ℕ) (text : List ℕ) (role : ByteRole) → role_here b text ≡ role → After text → At (suc depth) before begun (b ∷ text)
+inner depth before begun b text Gap is after = inner_gap (At depth no_name false) b text (plain b text Gap is (λ e. cc)).role_is (after zero (suc depth) no_name false)
+inner depth before begun b text Comment is after =
     let at = comment_at b text is in
-    inner_comment (At depth no_name false) b text at (λ skip. behind skip (suc depth) no_name false) (comment_cut at.rest)
-inner depth before begun b text Name is behind = inner_value (At depth no_name false) b text (ap belongs_to_value is) (behind zero (suc depth) no_name false)
-inner depth before begun b text Open is behind =
+    inner_comment (At depth no_name false) b text at (λ skip. after skip (suc depth) no_name false) (comment_cut at.rest)
+inner depth before begun b text Name is after = inner_value (At depth no_name false) b text (ap belongs_to_value is) (after zero (suc depth) no_name false)
+inner depth before begun b text Open is after =
     let P : ℕ → Type 0 = λ n. At (suc depth) no_name false (n ∷ text) in
-    subst P (sym (role-is_open b (plain b text Open is (λ e. cc)).role_is)) (inner_open depth text (behind zero (suc (suc depth)) no_name false))
-inner depth before begun b text Close is behind =
-    inl (record { pieces = nothing; rest = text; inside = tt; whole = ap (λ n. n ∷ text) (role-is_close b (plain b text Close is (λ e. cc)).role_is); behind = behind zero depth no_name false })
-inner depth before begun b text Period is behind = inner_value (At depth no_name false) b text (ap belongs_to_value is) (behind zero (suc depth) no_name false)
-inner depth before begun b text Other is behind = inner_value (At depth no_name false) b text (ap belongs_to_value is) (behind zero (suc depth) no_name false)
+    subst P (sym (role-is_open b (plain b text Open is (λ e. cc)).role_is)) (inner_open depth text (after zero (suc (suc depth)) no_name false))
+inner depth before begun b text Close is after =
+    inl (record { pieces = nothing; rest = text; inside = tt; whole = ap (λ n. n ∷ text) (role-is_close b (plain b text Close is (λ e. cc)).role_is); after = after zero depth no_name false })
+inner depth before begun b text Period is after = inner_value (At depth no_name false) b text (ap belongs_to_value is) (after zero (suc depth) no_name false)
+inner depth before begun b text Other is after = inner_value (At depth no_name false) b text (ap belongs_to_value is) (after zero (suc depth) no_name false)
 
 pub decomposed : (skip depth : ℕ) (before : Before) (begun : Bool) (text : List ℕ) → At depth before begun (drop skip text)
 decomposed zero depth before begun [] = at_end depth before begun

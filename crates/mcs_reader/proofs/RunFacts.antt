@@ -1,4 +1,4 @@
--- The longest run of bytes of a kind, and what stands behind it; lines of a text.
+-- The longest run of bytes of a kind, and what stands after it; lines of a text.
 use Rattle.std.proofs.Common.{◌≡◌, ℕ, ◌+◌, ◌==◌, ◌&&◌, not, Bool, true, false, cond, List, [], ◌∷◌, ◌++◌, refl, ◌∙◌, ap, subst, arith}
 use Rattle.std.proofs.lemmas.Bool.Decides.{nat_tests}
 use Rattle.std.specs.List.{list_all}
@@ -8,12 +8,12 @@ use Rattle.mcs_reader.specs.Verb.{begins_with}
 use Rattle.mcs_reader.specs.Segment.{IsLine}
 use Rattle.mcs_reader.specs.Pieces.{is_word}
 use Rattle.mcs_reader.specs.Place.{after_line}
-use Rattle.mcs_reader.specs.Run.{run, behind_run}
+use Rattle.mcs_reader.specs.Run.{run, after_run}
 
-pub run-append-behind_run : (test : ℕ → Bool) (text : List ℕ) → run test text ++ behind_run test text ≡ text
-run-append-behind_run test [] = refl
-run-append-behind_run test (b ∷ text) = by_test (test b) (run-append-behind_run test text) where
-  by_test : (t : Bool) → run test text ++ behind_run test text ≡ text → cond t (b ∷ run test text) [] ++ cond t (behind_run test text) (b ∷ text) ≡ b ∷ text
+pub run-append-after_run : (test : ℕ → Bool) (text : List ℕ) → run test text ++ after_run test text ≡ text
+run-append-after_run test [] = refl
+run-append-after_run test (b ∷ text) = by_test (test b) (run-append-after_run test text) where
+  by_test : (t : Bool) → run test text ++ after_run test text ≡ text → cond t (b ∷ run test text) [] ++ cond t (after_run test text) (b ∷ text) ≡ b ∷ text
   by_test true whole = ap (λ t. b ∷ t) whole
   by_test false whole = refl
 
@@ -24,12 +24,12 @@ all-run test (b ∷ text) = by_test (test b) refl (all-run test text) where
   by_test true e all = ap (λ t. t && list_all test (run test text)) e ∙ all
   by_test false e all = refl
 
-pub begins_with-behind_run : (test : ℕ → Bool) (text : List ℕ) → begins_with test (behind_run test text) ≡ false
-begins_with-behind_run test [] = refl
-begins_with-behind_run test (b ∷ text) = by_test (test b) refl (begins_with-behind_run test text) where
-  by_test : (t : Bool) → test b ≡ t → begins_with test (behind_run test text) ≡ false → begins_with test (cond t (behind_run test text) (b ∷ text)) ≡ false
-  by_test true e behind = behind
-  by_test false e behind = e
+pub begins_with-after_run : (test : ℕ → Bool) (text : List ℕ) → begins_with test (after_run test text) ≡ false
+begins_with-after_run test [] = refl
+begins_with-after_run test (b ∷ text) = by_test (test b) refl (begins_with-after_run test text) where
+  by_test : (t : Bool) → test b ≡ t → begins_with test (after_run test text) ≡ false → begins_with test (cond t (after_run test text) (b ∷ text)) ≡ false
+  by_test true e after = after
+  by_test false e after = e
 
 pub and_parts : (x y : Bool) → (x && y) ≡ true → (x ≡ true) × (y ≡ true)
 and_parts true y h = (refl, h)
@@ -42,12 +42,12 @@ run_is test (b ∷ front) text all ends =
     let parts = and_parts (test b) (list_all test front) all in
     ap (λ t. cond t (b ∷ run test (front ++ text)) []) parts.0 ∙ ap (λ t. b ∷ t) (run_is test front text parts.1 ends)
 
-pub behind_run_is : (test : ℕ → Bool) (front text : List ℕ) → list_all test front ≡ true → begins_with test text ≡ false → behind_run test (front ++ text) ≡ text
-behind_run_is test [] [] all ends = refl
-behind_run_is test [] (b ∷ text) all ends = ap (λ t. cond t (behind_run test text) (b ∷ text)) ends
-behind_run_is test (b ∷ front) text all ends =
+pub after_run_is : (test : ℕ → Bool) (front text : List ℕ) → list_all test front ≡ true → begins_with test text ≡ false → after_run test (front ++ text) ≡ text
+after_run_is test [] [] all ends = refl
+after_run_is test [] (b ∷ text) all ends = ap (λ t. cond t (after_run test text) (b ∷ text)) ends
+after_run_is test (b ∷ front) text all ends =
     let parts = and_parts (test b) (list_all test front) all in
-    ap (λ t. cond t (behind_run test (front ++ text)) (b ∷ (front ++ text))) parts.0 ∙ behind_run_is test front text parts.1 ends
+    ap (λ t. cond t (after_run test (front ++ text)) (b ∷ (front ++ text))) parts.0 ∙ after_run_is test front text parts.1 ends
 
 pub begins_with-front : (test : ℕ → Bool) (front text : List ℕ) → begins_with test (front ++ text) ≡ false → begins_with test front ≡ false
 begins_with-front test [] text h = refl
@@ -81,11 +81,11 @@ IsLines [] = Unit {0}
 IsLines (b ∷ []) = b ≡ line_end
 IsLines (b ∷ c ∷ text) = IsLines (c ∷ text)
 
-pub IsLines-behind : (front text : List ℕ) → IsLines (front ++ text) → IsLines text
-IsLines-behind [] text h = h
-IsLines-behind (b ∷ []) [] h = tt
-IsLines-behind (b ∷ []) (c ∷ text) h = h
-IsLines-behind (b ∷ c ∷ front) text h = IsLines-behind (c ∷ front) text h
+pub IsLines-after : (front text : List ℕ) → IsLines (front ++ text) → IsLines text
+IsLines-after [] text h = h
+IsLines-after (b ∷ []) [] h = tt
+IsLines-after (b ∷ []) (c ∷ text) h = h
+IsLines-after (b ∷ c ∷ front) text h = IsLines-after (c ∷ front) text h
 
 pub after_line-line : (line text : List ℕ) → IsLine line → after_line (line ++ line_end ∷ text) ≡ text
 after_line-line [] text is = refl

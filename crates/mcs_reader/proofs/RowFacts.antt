@@ -1,4 +1,4 @@
--- What a row of segments spells is read as its statements, and behind it a statement that something
+-- What a row of segments spells is read as its statements, and after it a statement that something
 -- stops as its fault.
 use Rattle.std.proofs.Common.{◌≡◌, ℕ, zero, suc, ◌+◌, ◌≤◌, ◌<◌, true, false, cond, List, [], ◌∷◌, ◌++◌, length, drop, Some, None, option_map, refl, ◌∙◌, ap, subst, arith, append_assoc, length-append}
 use Rattle.std.proofs.lemmas.Bool.Decides.{nat_tests}
@@ -10,32 +10,32 @@ use Rattle.mcs_reader.specs.Pieces.{spell}
 use Rattle.mcs_reader.specs.StatementText.{StatementText, IsStatementText, spell_statement}
 use Rattle.mcs_reader.specs.Segment.{IsLine, IsPassed, AllPassed, spell_lines}
 use Rattle.mcs_reader.specs.declared.statement.Verb.{Verb}
-use Rattle.mcs_reader.specs.Place.{name_behind, text_behind, verb_at}
-use Rattle.mcs_reader.specs.Run.{run, behind_run}
-use Rattle.mcs_reader.proofs.Runs.{run_is, behind_run_is, begins_with-append, after_line-line, IsLine-append, IsLine-of, in_line, line_ends-append, line_ends-line, begins_statement-line}
+use Rattle.mcs_reader.specs.Place.{name_after, text_after, verb_at}
+use Rattle.mcs_reader.specs.Run.{run, after_run}
+use Rattle.mcs_reader.proofs.RunFacts.{run_is, after_run_is, begins_with-append, after_line-line, IsLine-append, IsLine-of, in_line, line_ends-append, line_ends-line, begins_statement-line}
 use Rattle.mcs_reader.specs.ReadLines.{at_verb, read_lines}
 use Rattle.mcs_reader.proofs.ReadFacts.{read_lines-step}
 
 -- heads
 
-pub verb_at-head : (head : Head) (behind : List ℕ) → list_all is_blank head.blanks ≡ true → list_all is_name_byte head.name ≡ true
-    → begins_with is_blank (head.name ++ behind) ≡ false → begins_with is_name_byte behind ≡ false
-    → verb_at (spell_head head ++ behind) ≡ option_map (λ what. (what, behind)) (verb_named head.name)
+pub verb_at-head : (head : Head) (after : List ℕ) → list_all is_blank head.blanks ≡ true → list_all is_name_byte head.name ≡ true
+    → begins_with is_blank (head.name ++ after) ≡ false → begins_with is_name_byte after ≡ false
+    → verb_at (spell_head head ++ after) ≡ option_map (λ what. (what, after)) (verb_named head.name)
 unfolding verb_at
-verb_at-head head behind blanks name no_blank no_name =
-    let assoc : (head.blanks ++ head.name) ++ behind ≡ head.blanks ++ (head.name ++ behind) = append_assoc head.blanks head.name behind in
-    let behind_blanks : behind_run is_blank ((head.blanks ++ head.name) ++ behind) ≡ head.name ++ behind =
-    ap (behind_run is_blank) assoc ∙ behind_run_is is_blank head.blanks (head.name ++ behind) blanks no_blank in
-    let name_is : name_behind ((head.blanks ++ head.name) ++ behind) ≡ head.name =
-    ap (run is_name_byte) behind_blanks ∙ run_is is_name_byte head.name behind name no_name in
-    let text_is : text_behind ((head.blanks ++ head.name) ++ behind) ≡ behind =
-    ap (behind_run is_name_byte) behind_blanks ∙ behind_run_is is_name_byte head.name behind name no_name in
-    ap (λ t. option_map (λ (what : Verb). (what, t)) (verb_named (name_behind ((head.blanks ++ head.name) ++ behind)))) text_is
-    ∙ ap (λ n. option_map (λ (what : Verb). (what, behind)) (verb_named n)) name_is
+verb_at-head head after blanks name no_blank no_name =
+    let assoc : (head.blanks ++ head.name) ++ after ≡ head.blanks ++ (head.name ++ after) = append_assoc head.blanks head.name after in
+    let after_blanks : after_run is_blank ((head.blanks ++ head.name) ++ after) ≡ head.name ++ after =
+    ap (after_run is_blank) assoc ∙ after_run_is is_blank head.blanks (head.name ++ after) blanks no_blank in
+    let name_is : name_after ((head.blanks ++ head.name) ++ after) ≡ head.name =
+    ap (run is_name_byte) after_blanks ∙ run_is is_name_byte head.name after name no_name in
+    let text_is : text_after ((head.blanks ++ head.name) ++ after) ≡ after =
+    ap (after_run is_name_byte) after_blanks ∙ after_run_is is_name_byte head.name after name no_name in
+    ap (λ t. option_map (λ (what : Verb). (what, t)) (verb_named (name_after ((head.blanks ++ head.name) ++ after)))) text_is
+    ∙ ap (λ n. option_map (λ (what : Verb). (what, after)) (verb_named n)) name_is
 
 pub verb_at-no_statement : (text : List ℕ) → begins_statement text ≡ false → verb_at text ≡ None
 unfolding verb_at
-verb_at-no_statement text none = ap (λ t. cond t (option_map (λ (what : Verb). (what, text_behind (drop 2 text))) (verb_named (name_behind (drop 2 text)))) None) none
+verb_at-no_statement text none = ap (λ t. cond t (option_map (λ (what : Verb). (what, text_after (drop 2 text))) (verb_named (name_after (drop 2 text)))) None) none
 
 -- a verb's name is not empty
 pub no_empty_verb : (what : Verb) → verb_named [] ≡ Some what → ⊥
@@ -52,17 +52,17 @@ pub IsLine-head : (head : Head) → list_all is_blank head.blanks ≡ true → l
 IsLine-head head blanks name =
     IsLine-append head.blanks head.name (IsLine-of is_blank head.blanks blank_in_line blanks) (IsLine-of is_name_byte head.name name_in_line name)
 
--- the head of a statement's text goes no further, whatever stands behind its pieces, if no name does
-pub verb_at-statement : (text : StatementText) (behind : List ℕ) → IsStatementText text → begins_with is_name_byte behind ≡ false
-    → verb_at (spell_statement text ++ behind) ≡ Some (text.verb, spell text.pieces ++ behind)
-verb_at-statement text behind is no_name =
-    ap verb_at (append_assoc (spell_head text.head) (spell text.pieces) behind)
-    ∙ verb_at-head text.head (spell text.pieces ++ behind) is.head.blanks is.head.name
+-- the head of a statement's text goes no further, whatever stands after its pieces, if no name does
+pub verb_at-statement : (text : StatementText) (after : List ℕ) → IsStatementText text → begins_with is_name_byte after ≡ false
+    → verb_at (spell_statement text ++ after) ≡ Some (text.verb, spell text.pieces ++ after)
+verb_at-statement text after is no_name =
+    ap verb_at (append_assoc (spell_head text.head) (spell text.pieces) after)
+    ∙ verb_at-head text.head (spell text.pieces ++ after) is.head.blanks is.head.name
     (not_blank text.head.name is.verb is.head.all_blanks)
-    (begins_with-append is_name_byte (spell text.pieces) behind is.head.all_name no_name)
-    ∙ ap (option_map (λ what. (what, spell text.pieces ++ behind))) is.verb where
+    (begins_with-append is_name_byte (spell text.pieces) after is.head.all_name no_name)
+    ∙ ap (option_map (λ what. (what, spell text.pieces ++ after))) is.verb where
       not_blank : (name : List ℕ) → verb_named name ≡ Some text.verb → begins_with is_blank (name ++ spell text.pieces) ≡ false
-          → begins_with is_blank (name ++ (spell text.pieces ++ behind)) ≡ false
+          → begins_with is_blank (name ++ (spell text.pieces ++ after)) ≡ false
       not_blank [] what none = absurd (no_empty_verb text.verb what)
       not_blank (b ∷ name) what none = none
 

@@ -8,15 +8,15 @@ use Rattle.mcs_reader.specs.declared.byte.ByteRole.TheVariants.{Gap, Comment, Na
 use Rattle.mcs_reader.specs.declared.fault.McsFault.TheVariants.{NoPeriod, Unbalanced, BadByte}
 use Rattle.mcs_reader.specs.Line.{begins_statement}
 use Rattle.mcs_reader.specs.Pieces.{Before, no_name}
-use Rattle.mcs_reader.specs.Place.{Place, IsBehind, role_at, after_line}
-use Rattle.mcs_reader.specs.Run.{run, behind_run, begins_value, value_run, behind_value}
-use Rattle.mcs_reader.specs.Scan.{pass, scan, Outcome, on_found, with_list, with_values, closing, behind_comment}
+use Rattle.mcs_reader.specs.Place.{Place, IsAfter, role_at, after_line}
+use Rattle.mcs_reader.specs.Run.{run, after_run, begins_value, value_run, after_value}
+use Rattle.mcs_reader.specs.Scan.{pass, scan, Outcome, on_found, with_list, with_values, closing, after_comment}
 use Rattle.mcs_reader.proofs.RoleFacts.{role_of-43}
-use Rattle.mcs_reader.proofs.Comments.{here_of, value_run-append-behind_value, comment_at, Ended, comment_cut, behind_comment-ends, behind_comment-open}
-use Rattle.mcs_reader.proofs.Cut.{begins_with_pluses}
-use Rattle.mcs_reader.proofs.Runs.{run-append-behind_run}
+use Rattle.mcs_reader.proofs.CommentFacts.{here_of, value_run-append-after_value, comment_at, Ended, comment_cut, after_comment-ends, after_comment-open}
+use Rattle.mcs_reader.proofs.CutFacts.{begins_with_pluses}
+use Rattle.mcs_reader.proofs.RunFacts.{run-append-after_run}
 use Rattle.mcs_reader.proofs.ScanFacts.{pass-front, scan-gap, scan-other, scan-end, scan-inside-end, scan-inside-gap, scan-inside-open, scan-inside-close, scan-inside-value_step}
-use Rattle.mcs_reader.proofs.ScanPieces.{scan-comment, scan-open_comment, scan-inside-comment, scan-inside-open_comment}
+use Rattle.mcs_reader.proofs.ScanPiecesFacts.{scan-comment, scan-open_comment, scan-inside-comment, scan-inside-open_comment}
 
 role_of-end : role_of line_end ≡ Gap
 unfolding role_of
@@ -54,11 +54,11 @@ ended (b ∷ text) h = by_test (b == line_end) refl h where
   by_test true e none =
       let is_end : b ≡ line_end = grind (arith, nat_tests) in
       let gap_is : role_here b text ≡ Gap = ap (λ n. role_here n text) is_end ∙ role_of-end in
-      let behind : after_line (b ∷ text) ≡ text = ap (λ t. cond t text (after_line text)) e in
+      let after : after_line (b ∷ text) ≡ text = ap (λ t. cond t text (after_line text)) e in
       record {
-        found = λ line depth. scan-inside-gap line depth b text gap_is ∙ ap (scan line (suc depth) no_name false) (sym behind);
-        outside = λ line before begun more. scan-gap line before begun b text gap_is ∙ ap (λ t. scan line zero before t text) e ∙ ap (scan line zero before true) (sym behind);
-        at_end = λ line before begun last. scan-gap line before begun b text gap_is ∙ ap (scan line zero before (b == line_end)) (sym behind ∙ last) ∙ scan-end line before (b == line_end);
+        found = λ line depth. scan-inside-gap line depth b text gap_is ∙ ap (scan line (suc depth) no_name false) (sym after);
+        outside = λ line before begun more. scan-gap line before begun b text gap_is ∙ ap (λ t. scan line zero before t text) e ∙ ap (scan line zero before true) (sym after);
+        at_end = λ line before begun last. scan-gap line before begun b text gap_is ∙ ap (scan line zero before (b == line_end)) (sym after ∙ last) ∙ scan-end line before (b == line_end);
       }
 
 -- in a list, where at least one parenthesis is open
@@ -111,47 +111,47 @@ inside_close line (suc (suc depth)) text deep h more =
     let less : suc depth ≡ suc (suc depth) - 1 = omega arith in
     close_at line (suc depth) text h ∙ ap (λ d. scan line d no_name false (drop 1 text)) less
 
-pub shorter_behind_run : (test : ℕ → Bool) (b : ℕ) (text : List ℕ) → test b ≡ true → length (behind_run test (b ∷ text)) < length (b ∷ text)
-shorter_behind_run test b text h =
-    let cut : behind_run test (b ∷ text) ≡ behind_run test text = ap (λ t. cond t (behind_run test text) (b ∷ text)) h in
+pub shorter_after_run : (test : ℕ → Bool) (b : ℕ) (text : List ℕ) → test b ≡ true → length (after_run test (b ∷ text)) < length (b ∷ text)
+shorter_after_run test b text h =
+    let cut : after_run test (b ∷ text) ≡ after_run test text = ap (λ t. cond t (after_run test text) (b ∷ text)) h in
     let P : List ℕ → Type 0 = λ l. length l < length (b ∷ text) in
-    let whole = ap length (run-append-behind_run test text) in
-    let size = length-append (run test text) (behind_run test text) in
+    let whole = ap length (run-append-after_run test text) in
+    let size = length-append (run test text) (after_run test text) in
     subst P (sym cut) (omega arith)
 
-shorter_behind_value : (b : ℕ) (text : List ℕ) → begins_value (b ∷ text) ≡ true → length (behind_value (b ∷ text)) < length (b ∷ text)
-shorter_behind_value b text h =
-    let cut : behind_value (b ∷ text) ≡ behind_value text = ap (λ t. cond t (behind_value text) (b ∷ text)) h in
+shorter_after_value : (b : ℕ) (text : List ℕ) → begins_value (b ∷ text) ≡ true → length (after_value (b ∷ text)) < length (b ∷ text)
+shorter_after_value b text h =
+    let cut : after_value (b ∷ text) ≡ after_value text = ap (λ t. cond t (after_value text) (b ∷ text)) h in
     let P : List ℕ → Type 0 = λ l. length l < length (b ∷ text) in
-    let whole = ap length (value_run-append-behind_value text) in
-    let size = length-append (value_run text) (behind_value text) in
+    let whole = ap length (value_run-append-after_value text) in
+    let size = length-append (value_run text) (after_value text) in
     subst P (sym cut) (omega arith)
 
 value_first : (line depth b : ℕ) (text : List ℕ) → begins_value (b ∷ text) ≡ true
-    → scan line (suc depth) no_name false (b ∷ text) ≡ on_found (with_values (value_run (b ∷ text) ∷ [])) (scan line (suc depth) no_name false (behind_value (b ∷ text)))
+    → scan line (suc depth) no_name false (b ∷ text) ≡ on_found (with_values (value_run (b ∷ text) ∷ [])) (scan line (suc depth) no_name false (after_value (b ∷ text)))
 value_first line depth b text h =
-    let cut : behind_value (b ∷ text) ≡ behind_value text = ap (λ t. cond t (behind_value text) (b ∷ text)) h in
+    let cut : after_value (b ∷ text) ≡ after_value text = ap (λ t. cond t (after_value text) (b ∷ text)) h in
     scan-inside-value_step line depth b text h
     ∙ ap (on_found (with_values (value_run (b ∷ text) ∷ [])))
-    (ap (pass line (length (value_run text)) (suc depth) no_name false) (sym (value_run-append-behind_value text))
-    ∙ pass-front line (suc depth) no_name false (value_run text) (behind_value text)
+    (ap (pass line (length (value_run text)) (suc depth) no_name false) (sym (value_run-append-after_value text))
+    ∙ pass-front line (suc depth) no_name false (value_run text) (after_value text)
     ∙ ap (scan line (suc depth) no_name false) (sym cut))
 
 value_at : (line depth : ℕ) (text : List ℕ) (role : ByteRole) → Some role ≡ role_at text → belongs_to_value role ≡ true
-    → (scan line (suc depth) no_name false text ≡ on_found (with_values (value_run text ∷ [])) (scan line (suc depth) no_name false (behind_value text)))
-    × (length (behind_value text) < length text)
+    → (scan line (suc depth) no_name false text ≡ on_found (with_values (value_run text ∷ [])) (scan line (suc depth) no_name false (after_value text)))
+    × (length (after_value text) < length text)
 value_at line depth text role h belongs =
     let at = here text role h in
     let is : begins_value (at.byte ∷ at.rest) ≡ true = ap belongs_to_value at.role_is ∙ belongs in
     let P : List ℕ → Type 0 = λ t.
-    (scan line (suc depth) no_name false t ≡ on_found (with_values (value_run t ∷ [])) (scan line (suc depth) no_name false (behind_value t)))
-    × (length (behind_value t) < length t) in
-    let found : P (at.byte ∷ at.rest) = (value_first line depth at.byte at.rest is, shorter_behind_value at.byte at.rest is) in
+    (scan line (suc depth) no_name false t ≡ on_found (with_values (value_run t ∷ [])) (scan line (suc depth) no_name false (after_value t)))
+    × (length (after_value t) < length t) in
+    let found : P (at.byte ∷ at.rest) = (value_first line depth at.byte at.rest is, shorter_after_value at.byte at.rest is) in
     subst P (sym at.whole) found
 
 pub inside_value : (line depth : ℕ) (text : List ℕ) (role : ByteRole) → 0 < depth → Some role ≡ role_at text → belongs_to_value role ≡ true
-    → (scan line depth no_name false text ≡ on_found (with_values (value_run text ∷ [])) (scan line depth no_name false (behind_value text)))
-    × (length (behind_value text) < length text)
+    → (scan line depth no_name false text ≡ on_found (with_values (value_run text ∷ [])) (scan line depth no_name false (after_value text)))
+    × (length (after_value text) < length text)
 inside_value line zero text role deep h belongs = absurd (omega arith)
 inside_value line (suc depth) text role deep h belongs = value_at line depth text role h belongs
 
@@ -176,8 +176,8 @@ shorter_after_line (b ∷ text) more = by_test (b == line_end) (shorter_line tex
   by_test true less = omega arith
   by_test false less = omega arith
 
-pub IsBehind-trans : (now between before : Place) → IsBehind now between → IsBehind between before → IsBehind now before
-IsBehind-trans now between before one two = record { text = omega (arith, one.text, two.text); lines = one.lines ∙ two.lines; passed = omega (arith, one.passed, two.passed) }
+pub IsAfter-trans : (now between before : Place) → IsAfter now between → IsAfter between before → IsAfter now before
+IsAfter-trans now between before one two = record { text = omega (arith, one.text, two.text); lines = one.lines ∙ two.lines; passed = omega (arith, one.passed, two.passed) }
 
 -- what is no gap and no parenthesis belongs to a value
 pub else_value : (role : ByteRole) → (role ≡ Gap → ⊥) → (role ≡ Comment → ⊥) → (role ≡ Open → ⊥) → (role ≡ Close → ⊥) → belongs_to_value role ≡ true
@@ -236,26 +236,26 @@ blank_is_gap b h = rw h refl
 blank_ends_no_line : (b : ℕ) → is_blank b ≡ true → (b == line_end) ≡ false
 blank_ends_no_line b h = grind (arith, nat_tests)
 
-pub outside_blanks : (line : ℕ) (before : Before) (text : List ℕ) → scan line zero before false text ≡ scan line zero before false (behind_run is_blank text)
+pub outside_blanks : (line : ℕ) (before : Before) (text : List ℕ) → scan line zero before false text ≡ scan line zero before false (after_run is_blank text)
 outside_blanks line before [] = refl
 outside_blanks line before (b ∷ text) = by_test (is_blank b) refl (outside_blanks line before text) where
-  by_test : (t : Bool) → is_blank b ≡ t → scan line zero before false text ≡ scan line zero before false (behind_run is_blank text)
-      → scan line zero before false (b ∷ text) ≡ scan line zero before false (cond t (behind_run is_blank text) (b ∷ text))
-  by_test false is behind = refl
-  by_test true is behind =
+  by_test : (t : Bool) → is_blank b ≡ t → scan line zero before false text ≡ scan line zero before false (after_run is_blank text)
+      → scan line zero before false (b ∷ text) ≡ scan line zero before false (cond t (after_run is_blank text) (b ∷ text))
+  by_test false is after = refl
+  by_test true is after =
       scan-gap line before false b text (here_of b text Gap (blank_is_gap b is) (λ e. cc))
       ∙ ap (λ t. scan line zero before t text) (blank_ends_no_line b is)
-      ∙ behind
+      ∙ after
 
-blanks_inside : (line depth : ℕ) (text : List ℕ) → scan line (suc depth) no_name false text ≡ scan line (suc depth) no_name false (behind_run is_blank text)
+blanks_inside : (line depth : ℕ) (text : List ℕ) → scan line (suc depth) no_name false text ≡ scan line (suc depth) no_name false (after_run is_blank text)
 blanks_inside line depth [] = refl
 blanks_inside line depth (b ∷ text) = by_test (is_blank b) refl (blanks_inside line depth text) where
-  by_test : (t : Bool) → is_blank b ≡ t → scan line (suc depth) no_name false text ≡ scan line (suc depth) no_name false (behind_run is_blank text)
-      → scan line (suc depth) no_name false (b ∷ text) ≡ scan line (suc depth) no_name false (cond t (behind_run is_blank text) (b ∷ text))
-  by_test false is behind = refl
-  by_test true is behind = scan-inside-gap line depth b text (here_of b text Gap (blank_is_gap b is) (λ e. cc)) ∙ behind
+  by_test : (t : Bool) → is_blank b ≡ t → scan line (suc depth) no_name false text ≡ scan line (suc depth) no_name false (after_run is_blank text)
+      → scan line (suc depth) no_name false (b ∷ text) ≡ scan line (suc depth) no_name false (cond t (after_run is_blank text) (b ∷ text))
+  by_test false is after = refl
+  by_test true is after = scan-inside-gap line depth b text (here_of b text Gap (blank_is_gap b is) (λ e. cc)) ∙ after
 
-pub inside_blanks : (line depth : ℕ) (text : List ℕ) → 0 < depth → scan line depth no_name false text ≡ scan line depth no_name false (behind_run is_blank text)
+pub inside_blanks : (line depth : ℕ) (text : List ℕ) → 0 < depth → scan line depth no_name false text ≡ scan line depth no_name false (after_run is_blank text)
 inside_blanks line zero text deep = absurd (omega arith)
 inside_blanks line (suc depth) text deep = blanks_inside line depth text
 
@@ -284,63 +284,63 @@ comment_here text h =
     let cut = comment_at at.byte at.rest at.role_is in
     record { rest = cut.rest; whole = at.whole ∙ ap (λ n. n ∷ at.rest) cut.byte_is ∙ ap (λ t. 47 ∷ t) cut.whole }
 
--- the byte behind the first one of a comment's beginning stands in the same line
+-- the byte after the first one of a comment's beginning stands in the same line
 pub comment_goes_on : (text : List ℕ) → role_at text ≡ Some Comment → IsSome (role_at (drop 1 text))
 comment_goes_on text h =
     let P : List ℕ → Type 0 = λ t. IsSome (role_at (drop 1 t)) in
     let some : P (47 ∷ 42 ∷ (comment_here text h).rest) = refl in
     subst P (sym (comment_here text h).whole) some
 
--- whatever is found behind a comment, is found before it
+-- whatever is found after a comment, is found before it
 passes : (found : List ℕ → Outcome) (line : ℕ)
     → ((body rest : List ℕ) → IsCommentText body → found (47 ∷ 42 ∷ (body ++ 42 ∷ 47 ∷ rest)) ≡ found rest)
-    → (text rest : List ℕ) → role_at text ≡ Some Comment → behind_comment (drop 2 text) ≡ Some rest → found text ≡ found rest
-passes found line over text rest h behind = by_cut (comment_cut at.rest) where
+    → (text rest : List ℕ) → role_at text ≡ Some Comment → after_comment (drop 2 text) ≡ Some rest → found text ≡ found rest
+passes found line over text rest h after = by_cut (comment_cut at.rest) where
   at : CommentHere text
   at = comment_here text h
 
-  behind_is : behind_comment at.rest ≡ Some rest
-  behind_is = ap (λ t. behind_comment (drop 2 t)) (sym at.whole) ∙ behind
+  after_is : after_comment at.rest ≡ Some rest
+  after_is = ap (λ t. after_comment (drop 2 t)) (sym at.whole) ∙ after
 
   by_cut : Ended at.rest ⊎ IsCommentText at.rest → found text ≡ found rest
   by_cut (inl c) =
-      let ends : Some c.rest ≡ Some rest = sym (behind_comment-ends c.body c.rest c.is) ∙ ap behind_comment (sym c.whole) ∙ behind_is in
+      let ends : Some c.rest ≡ Some rest = sym (after_comment-ends c.body c.rest c.is) ∙ ap after_comment (sym c.whole) ∙ after_is in
       let same : c.rest ≡ rest = cc in
       ap found (at.whole ∙ ap (λ t. 47 ∷ 42 ∷ t) c.whole) ∙ over c.body c.rest c.is ∙ ap found same
-  by_cut (inr unclosed) = absurd (let never = sym (behind_comment-open at.rest unclosed) ∙ behind_is in cc)
+  by_cut (inr unclosed) = absurd (let never = sym (after_comment-open at.rest unclosed) ∙ after_is in cc)
 
 -- and what an open comment gives
 stays_open : (found : List ℕ → Outcome) (line : ℕ)
     → ((body : List ℕ) → IsCommentText body → found (47 ∷ 42 ∷ body) ≡ Err (Unbalanced line))
-    → (text : List ℕ) → role_at text ≡ Some Comment → behind_comment (drop 2 text) ≡ None → found text ≡ Err (Unbalanced line)
-stays_open found line opens text h behind = by_cut (comment_cut at.rest) where
+    → (text : List ℕ) → role_at text ≡ Some Comment → after_comment (drop 2 text) ≡ None → found text ≡ Err (Unbalanced line)
+stays_open found line opens text h after = by_cut (comment_cut at.rest) where
   at : CommentHere text
   at = comment_here text h
 
-  behind_is : behind_comment at.rest ≡ None
-  behind_is = ap (λ t. behind_comment (drop 2 t)) (sym at.whole) ∙ behind
+  after_is : after_comment at.rest ≡ None
+  after_is = ap (λ t. after_comment (drop 2 t)) (sym at.whole) ∙ after
 
   by_cut : Ended at.rest ⊎ IsCommentText at.rest → found text ≡ Err (Unbalanced line)
-  by_cut (inl c) = absurd (let ends = sym (behind_comment-ends c.body c.rest c.is) ∙ ap behind_comment (sym c.whole) ∙ behind_is in cc)
+  by_cut (inl c) = absurd (let ends = sym (after_comment-ends c.body c.rest c.is) ∙ ap after_comment (sym c.whole) ∙ after_is in cc)
   by_cut (inr unclosed) = ap found at.whole ∙ opens at.rest unclosed
 
-pub outside_comment : (line : ℕ) (before : Before) (text rest : List ℕ) → role_at text ≡ Some Comment → behind_comment (drop 2 text) ≡ Some rest
+pub outside_comment : (line : ℕ) (before : Before) (text rest : List ℕ) → role_at text ≡ Some Comment → after_comment (drop 2 text) ≡ Some rest
     → scan line zero before false text ≡ scan line zero before false rest
-outside_comment line before text rest h behind =
-    passes (scan line zero before false) line (λ body rest is. scan-comment line before false body rest is) text rest h behind
+outside_comment line before text rest h after =
+    passes (scan line zero before false) line (λ body rest is. scan-comment line before false body rest is) text rest h after
 
-pub outside_open_comment : (line : ℕ) (before : Before) (text : List ℕ) → role_at text ≡ Some Comment → behind_comment (drop 2 text) ≡ None → scan line zero before false text ≡ Err (Unbalanced line)
-outside_open_comment line before text h behind =
-    stays_open (scan line zero before false) line (λ body is. scan-open_comment line before false body is) text h behind
+pub outside_open_comment : (line : ℕ) (before : Before) (text : List ℕ) → role_at text ≡ Some Comment → after_comment (drop 2 text) ≡ None → scan line zero before false text ≡ Err (Unbalanced line)
+outside_open_comment line before text h after =
+    stays_open (scan line zero before false) line (λ body is. scan-open_comment line before false body is) text h after
 
-pub inside_comment : (line depth : ℕ) (text rest : List ℕ) → 0 < depth → role_at text ≡ Some Comment → behind_comment (drop 2 text) ≡ Some rest
+pub inside_comment : (line depth : ℕ) (text rest : List ℕ) → 0 < depth → role_at text ≡ Some Comment → after_comment (drop 2 text) ≡ Some rest
     → scan line depth no_name false text ≡ scan line depth no_name false rest
-inside_comment line zero text rest deep h behind = absurd (omega arith)
-inside_comment line (suc depth) text rest deep h behind =
-    passes (scan line (suc depth) no_name false) line (λ body rest is. scan-inside-comment line depth body rest is) text rest h behind
+inside_comment line zero text rest deep h after = absurd (omega arith)
+inside_comment line (suc depth) text rest deep h after =
+    passes (scan line (suc depth) no_name false) line (λ body rest is. scan-inside-comment line depth body rest is) text rest h after
 
-pub inside_open_comment : (line depth : ℕ) (text : List ℕ) → 0 < depth → role_at text ≡ Some Comment → behind_comment (drop 2 text) ≡ None
+pub inside_open_comment : (line depth : ℕ) (text : List ℕ) → 0 < depth → role_at text ≡ Some Comment → after_comment (drop 2 text) ≡ None
     → scan line depth no_name false text ≡ Err (Unbalanced line)
-inside_open_comment line zero text deep h behind = absurd (omega arith)
-inside_open_comment line (suc depth) text deep h behind =
-    stays_open (scan line (suc depth) no_name false) line (λ body is. scan-inside-open_comment line depth body is) text h behind
+inside_open_comment line zero text deep h after = absurd (omega arith)
+inside_open_comment line (suc depth) text deep h after =
+    stays_open (scan line (suc depth) no_name false) line (λ body is. scan-inside-open_comment line depth body is) text h after

@@ -19,7 +19,7 @@ then_equal Less = refl
 then_equal Equal = refl
 then_equal Greater = refl
 
--- one more digit behind x and y
+-- one more digit after x and y
 more_digits : (x y a b : ℕ) → a < 256 → b < 256 → ordering_then (nat_cmp x y) (nat_cmp a b) ≡ nat_cmp (x * 256 + a) (y * 256 + b)
 more_digits x y a b p q = nat_cmp_is (x * 256 + a) (y * 256 + b) _ (by (nat_cmp x y) (nat_cmp a b) (ranks x y) (ranks a b))
   where
