@@ -1,19 +1,19 @@
 //! Bytes that come in piece by piece.
-ghost use Rattle.std.specs.Prelude.{◌≡◌, ℕ, ◌+◌, ◌-◌, ◌<◌, ◌≤◌, [], ◌++◌, length, take, drop, IfOk, IfErr, OnErr, OnOk};
+ghost use Rattle.std.specs.Prelude.{◌≡◌, ℕ, ◌+◌, ◌-◌, ◌<◌, ◌≤◌, [], length, take, drop, IfOk, IfErr, OnErr, OnOk};
 ghost use Rattle.std.specs.Io.KnownBytes.{Keeps, Consumes, IsAtEnd};
 ghost use Rattle.std.specs.IoError.{error_kind};
 ghost use Rattle.transfer.specs.Transfer.{IsGivenUp, TakesIn};
 
 use crate::{TransferFault, read_some};
 use faults::NoMemory;
-use std::alloc::{AllocError, Global};
+use std::alloc::Global;
 use std::io::{self, ErrorKind, Read};
 use std::marker::Model;
 
 // How many bytes of room are made at a time.
 const CHUNK: usize = 65536;
 
-/// Bytes that came from a reader and were not yet taken off, with room for more behind them.
+/// Bytes that came from a reader and were not yet taken off, with room for more after them.
 ///
 /// A contract sees it as the list of these bytes. A read goes straight into the room.
 #[derive(Drop)]
@@ -28,11 +28,11 @@ impl Model for Intake {
 
     ghost Value = { List ℕ };
 
-    ghost use Rattle.transfer.specs.Intake.{bytes_in, IsRoom};
+    ghost use Rattle.transfer.specs.Intake.{bytes_in, LiesInRoom};
 
     ghost view = { bytes_in };
 
-    ghost invariant = { IsRoom };
+    ghost invariant = { LiesInRoom };
 }
 
 impl Intake {
@@ -116,14 +116,14 @@ impl Intake {
         ensures given_up { IfErr result (λ fault. IsGivenUp fault retries.new) }
         ensures counted { retries.new ≤ retries.old }
     {
-        let count = read_behind(reader, &mut self.room, self.end, most, retries)?;
+        let count = read_into_room(reader, &mut self.room, self.end, most, retries)?;
         self.end += count;
         Ok(count)
     }
 }
 
-// One read into the room, behind the bytes that end there.
-fn read_behind<R: Read>(
+// One read into the room, after the bytes that end there.
+fn read_into_room<R: Read>(
     reader: &mut R,
     room: &mut Vec<u8>,
     end: usize,
@@ -147,7 +147,7 @@ fn read_behind<R: Read>(
     Ok(read_at(reader, room.as_mut_slice(), end, until, retries)?)
 }
 
-// Room behind the bytes that are there, where there is none.
+// Room after the bytes that are there, where there is none.
 fn make_room(room: &mut Vec<u8>, end: usize) -> Result<(), NoMemory>
     requires { end ≤ length room.old.items }
     ensures kept { take end room.new.items ≡ take end room.old.items }
@@ -155,7 +155,7 @@ fn make_room(room: &mut Vec<u8>, end: usize) -> Result<(), NoMemory>
     ensures ok { OnOk result (end < length room.new.items) }
 {
     if end == room.len() {
-        room.resize(end.checked_add(CHUNK).ok_or(AllocError)?, 0)?;
+        room.resize(end.checked_add(CHUNK).ok_or(NoMemory)?, 0)?;
     }
     Ok(())
 }

@@ -1,6 +1,7 @@
 //! Readers and writers that give and take a piece at a time, are interrupted, or fail.
 use crate::{Intake, RETRIES, TransferFault, read_source, write_whole};
-use std::alloc::{AllocError, Global};
+use faults::NoMemory;
+use std::alloc::Global;
 use std::io::{self, ErrorKind, Read, Write};
 use std::test::Fail;
 
@@ -27,18 +28,23 @@ impl Read for Pieces<'_> {
     }
 }
 
-// A writer that takes a piece at a time while it has room, and whose flush fails in one way so often.
+// A writer that takes a piece at a time while it has room. Its first writes and flushes fail in one way, so many of each.
 #[derive(Drop)]
 struct Slow {
     taken: Vec<u8>,
     piece: usize,
     room: usize,
+    write_failures: u32,
     flush_failures: u32,
     kind: ErrorKind,
 }
 
 impl Write for Slow {
     fn write(&mut self, buf: &[u8]) -> io::Result<usize> {
+        if self.write_failures > 0 {
+            self.write_failures -= 1;
+            return Err(io::Error::from(self.kind));
+        }
         let count = self.piece.min(self.room).min(buf.len());
         self.taken.extend_from_slice(&buf[..count])?;
         self.room -= count;
@@ -55,7 +61,7 @@ impl Write for Slow {
 }
 
 // 70,000 bytes, more than are read at once, no two neighbours the same.
-fn long_text(alloc: Global) -> Result<Vec<u8>, AllocError> {
+fn long_text(alloc: Global) -> Result<Vec<u8>, NoMemory> {
     let mut text = Vec::new(alloc);
     let mut byte = 0u8;
     for _ in 0..70_000u32 {
@@ -128,39 +134,64 @@ fn bytes_are_taken_off_while_more_come_in(rt: HostRuntime) -> Result<(), Fail> {
     Ok(())
 }
 
+// Some bytes are always left, so the room is never empty, and yet no longer than what is left at once.
+#[test]
+fn the_room_stays_small_while_bytes_come_and_go(rt: HostRuntime) -> Result<(), Fail> {
+    let text = long_text(rt.alloc())?;
+    let mut intake = Intake::new(rt.alloc());
+    for _ in 0..3u32 {
+        let mut reader = text.as_slice();
+        for _ in 0..70u32 {
+            intake.read_more(&mut reader, 1_000, &mut { RETRIES })?;
+            let off = intake.len().saturating_sub(1_000);
+            assert!(rt; off <= intake.len());
+            intake.take_off(off);
+        }
+    }
+    let room = intake.into_vec().capacity();
+    assert!(rt; room <= 131_072, "{room}");
+    Ok(())
+}
+
 #[test]
 fn texts(rt: HostRuntime) -> Result<(), Fail> {
     let text = b"EXCEPTION SYSMOD REPORT";
     let interrupted = ErrorKind::Interrupted;
-    // piece, room, flushes that fail, their kind, bytes taken, whether all is well
-    let rows: [(usize, usize, u32, ErrorKind, usize, bool); 6] = [
-        (100, 100, 0, interrupted, 23, true),
-        (2, 100, 64, interrupted, 23, true),
-        (2, 100, 65, interrupted, 23, false),
-        (2, 100, 1, ErrorKind::StorageFull, 23, false),
-        (2, 5, 0, interrupted, 5, false),
-        (0, 100, 0, interrupted, 0, false),
+    let (full, reset) = (ErrorKind::StorageFull, ErrorKind::ConnectionReset);
+    // piece, room, writes and flushes that fail, their kind, bytes taken, whether all is well, retries left
+    let rows: [(usize, usize, u32, u32, ErrorKind, usize, bool, u32); 13] = [
+        (100, 100, 0, 0, interrupted, 23, true, 64),
+        (2, 100, 0, 64, interrupted, 23, true, 0),
+        (2, 100, 0, 65, interrupted, 23, false, 0),
+        (2, 100, 64, 0, interrupted, 23, true, 0),
+        (2, 100, 65, 0, interrupted, 0, false, 0),
+        (2, 100, 40, 23, interrupted, 23, true, 1),
+        (2, 100, 40, 25, interrupted, 23, false, 0),
+        (2, 100, 1, 0, full, 0, false, 64),
+        (2, 100, 1, 0, reset, 0, false, 64),
+        (2, 100, 0, 1, full, 23, false, 64),
+        (2, 100, 0, 1, reset, 23, false, 64),
+        (2, 5, 0, 0, interrupted, 5, false, 64),
+        (0, 100, 0, 0, interrupted, 0, false, 64),
     ];
-    for (piece, room, flush_failures, kind, count, is_written) in rows {
+    for (piece, room, write_failures, flush_failures, kind, count, is_written, left) in rows {
+        let row = format!(in rt.alloc();
+            "{piece} {room} {write_failures} {flush_failures} {kind:?}"
+        )?;
+        let mut retries = RETRIES;
         let mut writer = Slow {
             taken: Vec::new(rt.alloc()),
             piece,
             room,
+            write_failures,
             flush_failures,
             kind,
         };
-        let written = write_whole(&mut writer, text, &mut { RETRIES });
-        assert_eq!(rt;
-            written.is_ok(),
-            is_written,
-            "{piece} {room} {flush_failures}"
-        );
-        assert_eq!(rt;
-            writer.taken.len(),
-            count,
-            "{piece} {room} {flush_failures}"
-        );
-        assert!(rt; text.starts_with(writer.taken.as_slice()), "{piece} {room}");
+        let written = write_whole(&mut writer, text, &mut retries);
+        assert_eq!(rt; written.is_ok(), is_written, "{row}");
+        assert_eq!(rt; writer.taken.len(), count, "{row}");
+        assert!(rt; text.starts_with(writer.taken.as_slice()), "{row}");
+        assert_eq!(rt; retries, left, "{row}");
     }
     Ok(())
 }

@@ -5,7 +5,7 @@ use Rattle.transfer.proofs.intake.Intake.read_more.Goals as goal
 pub returns-clause-bytes : goal.returns-clause-bytes
 returns-clause-bytes g c =
     let read = c.in_ok-count.ensures in
-    let new = c.read_behind.new.room.items in
+    let new = c.read_into_room.new.room.items in
     let end = c.self.inside.end in
     record {
       bytes = take c.in_ok-count.count (drop end new);
