@@ -1,7 +1,7 @@
 //! The lines of a text in columns.
-ghost use Rattle.std.specs.Prelude.{◌≡◌, ◌++◌, ◌∷◌, [], ℕ, List, length, drop, take, OnOk};
+ghost use Rattle.std.specs.Prelude.{◌≡◌, ◌++◌, [], ℕ, List, length, drop, take, OnOk};
 ghost use Rattle.std.specs.Option.{option_copied};
-ghost use Rattle.columns.specs.Columns.{columns_of, texts_of, in_width, width_of, fields_in, row_of, heading_of, title_line, count_line};
+ghost use Rattle.columns.specs.Columns.{columns_of, texts_of, in_width, width_of, row_of, heading_of, title_line, count_line};
 
 use crate::{Column, NoMemory};
 use itoa::Buffer;

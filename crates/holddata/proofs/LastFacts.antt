@@ -46,7 +46,7 @@ ascend (change ∷ changes) up = (first changes up, ascend changes (λ k d low h
     first [] sorted = tt
     first (next ∷ rest) sorted = at_most (key_of change) (key_of next) (ap is_lt (sym (place_order (key_of next) (key_of change))) ∙ sorted 0 change (omega arith) (omega arith))
 
--- ---- keys behind a change
+-- ---- keys after a change
 
 below_all : (a b : HoldKey) (changes : List HoldChange) → key_cmp a b ≡ Less → AllByRecursion (λ k. IsAtMost b k) (map key_of changes) → AllByRecursion (λ k. key_cmp a k ≡ Less) (map key_of changes)
 below_all a b [] less h = tt
@@ -69,7 +69,7 @@ no_lower : (change : HoldChange) (changes : List HoldChange) → AscendByKey (ch
 no_lower change [] up = tt
 no_lower change (next ∷ changes) up = (up.0, at_most_all (key_of change) (key_of next) changes up.0 (no_lower next changes up.1))
 
--- behind the last change that names a key all keys are higher
+-- after the last change that names a key all keys are higher
 higher : (change : HoldChange) (changes : List HoldChange) → AscendByKey (change ∷ changes) → is_renamed (key_of change) changes ≡ false → AllByRecursion (λ k. key_cmp (key_of change) k ≡ Less) (map key_of changes)
 higher change [] up last = tt
 higher change (next ∷ changes) up last = by up.0
@@ -201,11 +201,11 @@ last_is changes others same up =
     (left_by (holds_last others) [] changes others same (record { in_key_order = last_in_order others up; holds = each_under others up }))
 
 -- the rows so far, and one more
-pub more : (done : List Hold) (hold : Hold) (change : HoldChange) (behind left : List HoldChange) (all : List Hold) → left ≡ change ∷ behind → put_last change behind ≡ Some hold
-    → done ++ holds_last left ≡ all → (done ++ hold ∷ []) ++ holds_last behind ≡ all
-more done hold change behind left all is put so =
-    append_assoc done (hold ∷ []) (holds_last behind)
-    ∙ ap (λ o. done ++ cons_option o (holds_last behind)) (sym put)
+pub more : (done : List Hold) (hold : Hold) (change : HoldChange) (after left : List HoldChange) (all : List Hold) → left ≡ change ∷ after → put_last change after ≡ Some hold
+    → done ++ holds_last left ≡ all → (done ++ hold ∷ []) ++ holds_last after ≡ all
+more done hold change after left all is put so =
+    append_assoc done (hold ∷ []) (holds_last after)
+    ∙ ap (λ o. done ++ cons_option o (holds_last after)) (sym put)
     ∙ ap (λ cs. done ++ holds_last cs) (sym is)
     ∙ so
 

@@ -1,4 +1,4 @@
--- Serves private contracts alone: where the book's map keeps a hold.
+-- No part of what is promised: private contracts cite it. Where the book's map keeps a hold.
 use Rattle.std.specs.Prelude.{◌≡◌, ℕ, List, map}
 use Rattle.std.specs.Map.{keys_of, values_of}
 use Rattle.std.specs.declared.cmp.Ordering.{Ordering}

@@ -1,4 +1,4 @@
--- Serves private contracts alone: categories in one text, with commas between.
+-- No part of what is promised: private contracts cite it. Categories in one text, with commas between.
 use Rattle.std.specs.Prelude.{ℕ, Bool, ◌==◌, List, [], ◌∷◌}
 use Rattle.std.specs.List.{slice_split}
 

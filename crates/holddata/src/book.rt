@@ -1,5 +1,5 @@
 //! The hold book.
-ghost use Rattle.std.specs.Prelude.{◌≡◌, ◌≢◌, ◌↔◌, length, IsTrue, ◌++◌, [], ◌∷◌, List, IfOk, IfErr, OnOk, OnErr, IsOk, Some, None, if◌then◌else◌};
+ghost use Rattle.std.specs.Prelude.{◌≡◌, ◌↔◌, length, IsTrue, ◌++◌, [], ◌∷◌, List, IfOk, IfErr, OnOk, OnErr, IsOk, Some, None, if◌then◌else◌};
 ghost use Rattle.std.specs.Option.{option_copied};
 ghost use Rattle.std.specs.Map.Iter.{ShowsInOrder, deref};
 ghost use Rattle.holddata.specs.declared.key.HoldKey.{HoldKey};

@@ -3,8 +3,8 @@ ghost use Rattle.std.specs.Prelude.{◌≡◌};
 ghost use Rattle.holddata.specs.HoldFault.{fault_number, fault_line};
 ghost use Rattle.holddata.specs.declared.fault.HoldFault.TheVariants.{Memory};
 
-use faults::{Cause, Fault};
-use std::alloc::{AllocError, AllocFailed};
+use faults::{Cause, Fault, NoMemory};
+use std::alloc::AllocFailed;
 use thiserror::Error;
 
 /// Why statements give no hold changes. Lines are numbered from 1, and each line here is the one on
@@ -100,10 +100,10 @@ impl Fault for HoldFault {
     }
 }
 
-impl From<AllocError> for HoldFault {
+impl From<NoMemory> for HoldFault {
     ghost from_gives = { λ _ e. e ≡ Memory };
 
-    fn from(_: AllocError) -> HoldFault {
+    fn from(_: NoMemory) -> HoldFault {
         HoldFault::Memory
     }
 }

@@ -1,11 +1,16 @@
 //! HOLDDATA: the holds that `++HOLD` statements put and `++RELEASE` statements take away, kept in a book by
 //! SYSMOD, kind and reason.
 //!
-//! [`change`] gives the [`HoldChange`] that a statement makes, if it makes one, or its [`HoldFault`]; [`changes`] says the
-//! same of a list. A [`HoldBook`] takes changes one by one or many at a time, and gives its [`Hold`]s by [`HoldKey`], by
-//! SYSMOD or in key order, and as text; [`book_left`] is the book that a list of changes leaves, and
-//! [`book_text_left`] its text. [`Kind`], [`Date`] and
-//! [`Categories`] are parts of a hold. `specs/` says what each is: begin with its `HoldBook`.
+//! - [`change`]: the [`HoldChange`] that a statement makes, if it makes one, or its [`HoldFault`]; [`changes`]: those of a
+//!   list of statements
+//! - [`hold_operands`]: the operands that are read, for those who ask for these alone
+//! - [`HoldBook`]: takes changes one by one or many at a time, and gives its holds by key, by SYSMOD, in key order, and as
+//!   text; [`BookPlace`]: its order
+//! - [`book_left`]: the book that a list of changes leaves; [`book_text_left`]: its text
+//! - [`Hold`], [`HoldKey`]: a hold, and what it is known by; [`Kind`], [`Date`], [`Categories`]: parts of it
+//! - [`NoMemory`]: memory ran out
+//!
+//! `specs/` says what each is: begin with its `HoldBook`.
 #![tactic(auto)]
 
 mod asked;

@@ -1,6 +1,6 @@
 //! The hold book in print.
 ghost use Rattle.std.specs.Prelude.{◌≡◌, ◌++◌, ◌∷◌, [], ℕ, List, map, Option, OnOk, IfOk};
-ghost use Rattle.std.specs.Option.{option_copied, option_map};
+ghost use Rattle.std.specs.Option.{option_map};
 ghost use Rattle.mcs_reader.specs.Bytes.{bytes_of_each};
 ghost use Rattle.holddata.specs.declared.hold.Hold.{Hold};
 ghost use Rattle.holddata.specs.HoldKey.{kind_name};

@@ -1,5 +1,6 @@
 use crate::{
-    Categories, Date, Hold, HoldBook, HoldChange, HoldFault, HoldKey, Kind, book_left, changes,
+    Categories, Date, Hold, HoldBook, HoldChange, HoldFault, HoldKey, Kind, book_left,
+    book_text_left, changes,
 };
 use mcs_reader::{Id, read};
 use std::alloc::Global;
@@ -114,7 +115,11 @@ fn print_of(alloc: Global, source: &[u8]) -> Result<Result<Vec<u8>, (u8, Option<
 #[test]
 fn sources_and_their_books(rt: HostRuntime) -> Result<(), Fail> {
     let alloc = rt.alloc();
-    let cases: [(&[u8], &str); 7] = [
+    let cases: [(&[u8], &str); 8] = [
+        (
+            b"++HOLD(UA10001) ERR REASON(AA20002) CLASS(PE).\n++HOLD(UA10001) ERR REASON(AA20002).\n++HOLD(UA10001) ERR REASON(AA20001).\n",
+            "UA10001  ERROR   AA20001  -        -        -      -        -\nUA10001  ERROR   AA20002  -        -        -      -        -\nROWS 2\n",
+        ),
         (
             b"++HOLD(HBB7790) FIXCAT FMID(HBB7790) REASON(AA40001)\n RESOLVER(UA10009) COMMENT(SEE (2.1). AND /* TOO)\n CATEGORY(IBM.Device.Server,IBM.Device).\n",
             "HBB7790  FIXCAT  AA40001  HBB7790  -        -      UA10009  IBM.Device,IBM.Device.Server\nROWS 1\n",
@@ -143,7 +148,10 @@ fn sources_and_their_books(rt: HostRuntime) -> Result<(), Fail> {
     ];
     for (source, rows) in cases {
         let want = format!(in alloc; "{HEADING}{rows}")?.into_bytes();
-        assert!(rt; print_of(alloc, source)? == Ok(want));
+        let statements = read(alloc, source)?;
+        let left = book_text_left(changes(alloc, &statements)?)?;
+        assert_eq!(rt; left, want, "{rows}");
+        assert!(rt; print_of(alloc, source)? == Ok(want), "{rows}");
     }
     let refused: [(&[u8], u8, u32); 4] = [
         (

@@ -4,7 +4,7 @@ pub mod FieldFacts
 pub mod FirstFacts
 pub mod KeyFacts
 pub mod ListFacts
-pub mod OwnFaults
+pub mod OwnFaultFacts
 pub mod PatternFacts
 pub mod ReaderFacts
 pub mod RowFacts

@@ -1,4 +1,5 @@
--- What a reader of `csv` over the bytes of a text has yet to read.
+-- No part of what is promised: private contracts cite it. What a reader of `csv` over the bytes of a text has yet to
+-- read.
 use Rattle.std.specs.Prelude.{◌≡◌, ℕ, ◌+◌, List, [], ◌∷◌, length, Option, Some, None}
 use Rattle.std.specs.Borrow.{Bor}
 use Rattle.csv.specs.Reading.{Ready, default_config, reader_config, reader_state, reader_trim, records_from, source_of}

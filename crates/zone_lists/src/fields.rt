@@ -1,5 +1,5 @@
 //! The fields of a record, without the blanks around them.
-ghost use Rattle.std.specs.Prelude.{◌≡◌, ◌-◌, take, drop, length, option_map};
+ghost use Rattle.std.specs.Prelude.{◌≡◌, ◌-◌, option_map};
 ghost use Rattle.std.specs.List.{prefix_len, suffix_len};
 ghost use Rattle.csv.specs.Records.{fields_of};
 ghost use Rattle.zone_lists.specs.Fields as Spec;

@@ -1,9 +1,8 @@
 //! Reading a list, of whatever kind.
-ghost use Rattle.std.specs.Prelude.{◌≡◌, ◌+◌, false, List, [], ◌∷◌, ◌++◌, length, Some, Ok, Err, IfOk, IfErr, OnOk};
+ghost use Rattle.std.specs.Prelude.{◌≡◌, ◌+◌, List, [], ◌∷◌, ◌++◌, Some, Ok, Err, IfOk, IfErr, OnOk};
 ghost use Rattle.csv.specs.Records.{fields_of};
 ghost use Rattle.faults.specs.Refusal.{IsRefusal};
 ghost use Rattle.zone_lists.specs.Lists as Spec;
-ghost use Rattle.zone_lists.specs.Reader.{ReadsRecords, records_left};
 
 use crate::fault::ListFault;
 use crate::records::Records;

@@ -6,10 +6,10 @@ use std::alloc::Global;
 use std::test::Fail;
 
 // A header and the same record so many times.
-fn repeated(alloc: Global, header: &[u8], row: &[u8], times: u32) -> Result<Vec<u8>, NoMemory> {
+fn repeated(alloc: Global, header: &[u8], record: &[u8], times: u32) -> Result<Vec<u8>, NoMemory> {
     let mut text = Vec::from_slice(alloc, header)?;
     for _ in 0..times {
-        text.extend_from_slice(row)?;
+        text.extend_from_slice(record)?;
     }
     Ok(text)
 }
@@ -35,15 +35,20 @@ fn a_zone_lists_its_sysmods_in_order(rt: HostRuntime) -> Result<(), Fail> {
         b"SYSMOD,STATE\nUA10001,APPLIED\nUA10001,APPLIED\n",
     ];
     for text in one_row {
-        assert!(rt; zone_rows(rt.alloc(), text)?.as_slice() == [fix].as_slice());
+        assert!(rt;
+            zone_rows(rt.alloc(), text)?.as_slice() == [fix].as_slice(),
+            "{text:?}"
+        );
     }
     assert!(rt; zone_rows(rt.alloc(), b"SYSMOD,STATE\n")?.is_empty());
 
-    let states = b"SYSMOD,STATE\nA,SUPERSEDED\nB,ACCEPTED\n@,APPLIED\n";
+    // An id may begin with `#`, which begins no comment.
+    let states = b"SYSMOD,STATE\nA,SUPERSEDED\nB,ACCEPTED\n@,APPLIED\n#1,APPLIED\n";
+    let sign = row(b"#1", ZoneState::Applied)?;
     let at = row(b"@", ZoneState::Applied)?;
     let a = row(b"A", ZoneState::Superseded)?;
     let b = row(b"B", ZoneState::Accepted)?;
-    assert!(rt; zone_rows(rt.alloc(), states)?.as_slice() == [at, a, b].as_slice());
+    assert!(rt; zone_rows(rt.alloc(), states)?.as_slice() == [sign, at, a, b].as_slice());
     Ok(())
 }
 
@@ -78,7 +83,10 @@ fn a_zone_has_its_first_fault(rt: HostRuntime) {
         ),
     ];
     for (text, fault) in faulty {
-        assert!(rt; zone_rows(rt.alloc(), text) == Err(fault), "{fault}");
+        assert!(rt;
+            zone_rows(rt.alloc(), text) == Err(fault),
+            "{text:?} {fault}"
+        );
     }
 }
 
@@ -94,7 +102,10 @@ fn received_sysmods_ascend(rt: HostRuntime) -> Result<(), Fail> {
         (b"SYSMOD\nUA 1\n", ListFault::BadId(1)),
     ];
     for (text, fault) in faulty {
-        assert!(rt; received_rows(rt.alloc(), text) == Err(fault), "{fault}");
+        assert!(rt;
+            received_rows(rt.alloc(), text) == Err(fault),
+            "{text:?} {fault}"
+        );
     }
     Ok(())
 }
@@ -106,7 +117,7 @@ fn patterns_ascend_by_their_bytes(rt: HostRuntime) -> Result<(), Fail> {
     let texts: [&[u8]; 3] = [b"A\"B", b"IBM.Device", b"ibm.device.*"];
     assert_eq!(rt; found.len(), 3);
     for (pattern, text) in found.iter().zip(texts) {
-        assert!(rt; pattern.text() == text);
+        assert!(rt; pattern.text() == text, "{text:?}");
     }
     let faulty: [(&[u8], ListFault); 5] = [
         (b"category\n", ListFault::Header),
@@ -116,7 +127,10 @@ fn patterns_ascend_by_their_bytes(rt: HostRuntime) -> Result<(), Fail> {
         (b"CATEGORY\n\"\"\n", ListFault::BadPattern(1)),
     ];
     for (text, fault) in faulty {
-        assert!(rt; patterns(rt.alloc(), text) == Err(fault), "{fault}");
+        assert!(rt;
+            patterns(rt.alloc(), text) == Err(fault),
+            "{text:?} {fault}"
+        );
     }
     Ok(())
 }
@@ -151,11 +165,15 @@ fn a_pattern_keeps_its_text(rt: HostRuntime) -> Result<(), Fail> {
     assert!(rt; copy == pattern);
     let refused: [&[u8]; 5] = [b"", b"A*B", b"**", b"A B", b"\x7F"];
     for text in refused {
-        assert!(rt; Pattern::new(rt.alloc(), text)?.is_none());
+        assert!(rt; Pattern::new(rt.alloc(), text)?.is_none(), "{text:?}");
     }
     for (length, is_one) in [(1, true), (64, true), (65, false)] {
         let text = repeated(rt.alloc(), b"", b"A", length)?;
-        assert!(rt; Pattern::new(rt.alloc(), &text)?.is_some() == is_one);
+        assert_eq!(rt;
+            Pattern::new(rt.alloc(), &text)?.is_some(),
+            is_one,
+            "{length}"
+        );
     }
     Ok(())
 }
@@ -196,7 +214,7 @@ fn faults_have_their_numbers(rt: HostRuntime) -> Result<(), Fail> {
         (ListFault::Memory, "FAULT 38\n"),
     ];
     for (fault, line) in rows {
-        assert_eq!(rt; fault_text(fault).as_str(), line);
+        assert_eq!(rt; fault_text(fault).as_str(), line, "{fault}");
     }
     let words = format!(in rt.alloc(); "{}", ListFault::Repeated(2))?;
     assert_eq!(rt;

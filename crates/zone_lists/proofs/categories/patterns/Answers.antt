@@ -3,7 +3,7 @@ use Rattle.faults.specs.Refusal.{IsRefusal}
 use Rattle.zone_lists.specs.FirstFault.{IsFirstFault}
 use Rattle.zone_lists.specs.PatternList.{IsPatternFault, pattern_list}
 use Rattle.zone_lists.specs.declared.fault.ListFault.TheVariants.{Memory}
-use Rattle.zone_lists.proofs.OwnFaults.{first_of_patterns}
+use Rattle.zone_lists.proofs.OwnFaultFacts.{first_of_patterns}
 use Rattle.zone_lists.specs.Lists.{records_of}
 use Rattle.zone_lists.proofs.KeyFacts.{each_pattern}
 use Rattle.zone_lists.proofs.categories.patterns.Goals as goal

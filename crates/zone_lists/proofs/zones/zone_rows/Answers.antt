@@ -3,7 +3,7 @@ use Rattle.faults.specs.Refusal.{IsRefusal}
 use Rattle.zone_lists.specs.FirstFault.{IsFirstFault}
 use Rattle.zone_lists.specs.ZoneList.{IsZoneFault, zone_list}
 use Rattle.zone_lists.specs.declared.fault.ListFault.TheVariants.{Memory}
-use Rattle.zone_lists.proofs.OwnFaults.{first_of_zone}
+use Rattle.zone_lists.proofs.OwnFaultFacts.{first_of_zone}
 use Rattle.zone_lists.specs.Lists.{records_of}
 use Rattle.zone_lists.proofs.RowFacts.{each_row, rows_ascend}
 use Rattle.zone_lists.proofs.zones.zone_rows.Goals as goal
