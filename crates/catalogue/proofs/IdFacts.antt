@@ -6,7 +6,7 @@ use Rattle.std.specs.Cmp.Lexicographic.{nat_list_cmp_total, nat_list_eq_equiv}
 use Rattle.std.specs.Bool.{IsTrue}
 use Rattle.std.specs.List.{fold, list_any, AllByRecursion, IsAllAdjacentAnswer}
 use Rattle.std.specs.List.Sorted.{IsStrictlySortedBy}
-use Rattle.std.specs.Ordering.{match_ordering, ordering_reverse, is_eq, is_lt}
+use Rattle.std.specs.Ordering.{ordering_reverse, is_eq, is_lt}
 use Rattle.std.specs.Prelude.{Contains, ◌↔◌}
 use Rattle.std.specs.declared.cmp.Ordering.{Ordering}
 use Rattle.std.specs.declared.cmp.Ordering.TheVariants.{Less, Equal, Greater}
@@ -15,6 +15,7 @@ use Rattle.std.proofs.lemmas.Map.Lookups.{CmpEqualImpliesEq, exact_bytes}
 use Rattle.std.proofs.lemmas.Map.Text.{is_eq-slice_cmp}
 use Rattle.std.proofs.lemmas.Map.Views.{Contains-from_any, list_any-from_Contains}
 use Rattle.std.proofs.lemmas.Slice.Eq.{bytes_eq-Decides}
+use Rattle.holddata.proofs.InsertFacts as keys
 use Rattle.catalogue.specs.Ids.{id_cmp, same_id, Ascend, in_order}
 
 pub ids_total : IsTotalOrder id_cmp
@@ -47,46 +48,13 @@ apart_back a b h = same_is b a ∙ ap is_eq (ids_total.antisymm b a ∙ ap order
 -- ---- one id put in its place
 
 pub any_insert : (test : List ℕ → Bool) (ks : List (List ℕ)) (k : List ℕ) → list_any test (insert_key id_cmp ks k) ≡ (test k || list_any test ks)
-any_insert test [] k = refl
-any_insert test (x ∷ xs) k = by (any_insert test xs k) (id_cmp k x) refl
-  where
-    twice : (a b : Bool) → (a || b) ≡ (a || (a || b))
-    twice true b = refl
-    twice false b = refl
-
-    swap : (a b c : Bool) → (a || (b || c)) ≡ (b || (a || c))
-    swap true true c = refl
-    swap true false c = refl
-    swap false true c = refl
-    swap false false c = refl
-
-    by : list_any test (insert_key id_cmp xs k) ≡ (test k || list_any test xs) → (o : Ordering) → id_cmp k x ≡ o → list_any test (match_ordering o (k ∷ x ∷ xs) (x ∷ xs) (x ∷ insert_key id_cmp xs k)) ≡ (test k || (test x || list_any test xs))
-    by rest Less is = refl
-    by rest Equal is = twice (test x) (list_any test xs) ∙ ap (λ y. test y || (test x || list_any test xs)) (sym (exact_ids k x is))
-    by rest Greater is = ap (λ b. test x || b) rest ∙ swap (test x) (test k) (list_any test xs)
-
-all_insert : (P : List ℕ → Type 0) (ks : List (List ℕ)) (k : List ℕ) → AllByRecursion P ks → P k → AllByRecursion P (insert_key id_cmp ks k)
-all_insert P [] k h p = (p, tt)
-all_insert P (x ∷ xs) k h p = by (all_insert P xs k h.1 p) (id_cmp k x)
-  where
-    by : AllByRecursion P (insert_key id_cmp xs k) → (o : Ordering) → AllByRecursion P (match_ordering o (k ∷ x ∷ xs) (x ∷ xs) (x ∷ insert_key id_cmp xs k))
-    by rest Less = (p, h)
-    by rest Equal = h
-    by rest Greater = (h.0, rest)
+any_insert = keys.any_insert id_cmp exact_ids
 
 pub all_below : (k x : List ℕ) (xs : List (List ℕ)) → id_cmp k x ≡ Less → AllByRecursion (λ y. id_cmp x y ≡ Less) xs → AllByRecursion (λ y. id_cmp k y ≡ Less) xs
-all_below k x [] h g = tt
-all_below k x (y ∷ ys) h g = (ids_total.trans k x y h g.0, all_below k x ys h g.1)
+all_below = keys.all_below ids_total
 
 pub insert_ascends : (ks : List (List ℕ)) (k : List ℕ) → Ascend ks → Ascend (insert_key id_cmp ks k)
-unfolding IsStrictlySortedBy
-insert_ascends [] k h = (tt, tt)
-insert_ascends (x ∷ xs) k h = by (insert_ascends xs k h.1) (id_cmp k x) refl
-  where
-    by : Ascend (insert_key id_cmp xs k) → (o : Ordering) → id_cmp k x ≡ o → Ascend (match_ordering o (k ∷ x ∷ xs) (x ∷ xs) (x ∷ insert_key id_cmp xs k))
-    by rest Less is = ((is, all_below k x xs is h.0), h)
-    by rest Equal is = h
-    by rest Greater is = (all_insert (λ y. id_cmp x y ≡ Less) xs k h.0 (turned k x is), rest)
+insert_ascends = keys.sorted_insert id_cmp ids_total
 
 -- ---- all ids of a list
 
@@ -94,7 +62,8 @@ fold_ascends : (ks ids : List (List ℕ)) → Ascend ks → Ascend (fold (insert
 fold_ascends ks [] h = h
 fold_ascends ks (id ∷ ids) h = fold_ascends (insert_key id_cmp ks id) ids (insert_ascends ks id h)
 
-fold_any : (test : List ℕ → Bool) (ks ids : List (List ℕ)) → list_any test (fold (insert_key id_cmp) ks ids) ≡ (list_any test ks || list_any test ids)
+-- those that are put among ids, and these
+pub fold_any : (test : List ℕ → Bool) (ks ids : List (List ℕ)) → list_any test (fold (insert_key id_cmp) ks ids) ≡ (list_any test ks || list_any test ids)
 fold_any test ks [] = plain (list_any test ks)
   where
     plain : (b : Bool) → b ≡ (b || false)

@@ -1,4 +1,4 @@
--- No part of what is promised: how the record of a header is kept until its last `++VER` is read.
+-- No part of what is promised: private contracts cite it. How the record of a header is kept until its last `++VER` is read.
 use Rattle.std.specs.Prelude.{Option, option_map}
 use Rattle.catalogue.specs.declared.header.Open.{Open}
 use Rattle.catalogue.specs.declared.sysmod.Sysmod.{Sysmod}

@@ -5,9 +5,9 @@ ghost use Rattle.catalogue.specs.CatFault.{cat_fault_number, cat_fault_line, cat
 ghost use Rattle.catalogue.specs.declared.fault.CatFault.TheVariants as cat;
 ghost use Rattle.catalogue.specs.declared.fault.SourceFault.TheVariants as source;
 
-use faults::{Cause, Fault};
+use faults::{Cause, Fault, NoMemory};
 use holddata::HoldFault;
-use std::alloc::{AllocError, AllocFailed};
+use std::alloc::AllocFailed;
 use thiserror::Error;
 
 /// Why statements publish nothing. Lines are numbered from 1, and each line here is the one on which
@@ -120,10 +120,10 @@ impl From<HoldFault> for CatFault {
     }
 }
 
-impl From<AllocError> for CatFault {
+impl From<NoMemory> for CatFault {
     ghost from_gives = { λ _ e. e ≡ cat.Memory };
 
-    fn from(_: AllocError) -> CatFault {
+    fn from(_: NoMemory) -> CatFault {
         CatFault::Memory
     }
 }
@@ -159,10 +159,10 @@ impl SourceFault {
     }
 }
 
-impl From<AllocError> for SourceFault {
+impl From<NoMemory> for SourceFault {
     ghost from_gives = { λ _ e. e ≡ source.Memory };
 
-    fn from(_: AllocError) -> SourceFault {
+    fn from(_: NoMemory) -> SourceFault {
         SourceFault::Memory
     }
 }

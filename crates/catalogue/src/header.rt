@@ -3,7 +3,7 @@ ghost use Rattle.std.specs.Prelude.{◌≡◌, ◌++◌, [], true, false, IfOk, 
 ghost use Rattle.faults.specs.Refusal.{IsRefusal};
 ghost use Rattle.mcs_reader.specs.Bytes.{bytes_of_each};
 ghost use Rattle.mcs_reader.specs.Id.{id_of};
-ghost use Rattle.mcs_reader.specs.Operand.{operand_text, operand_texts};
+ghost use Rattle.mcs_reader.specs.Operand.{operand_text};
 ghost use Rattle.std.specs.List.{filter_map, list_any};
 ghost use Rattle.holddata.specs.Operands.{named_values};
 ghost use Rattle.catalogue.specs.declared.fault.CatFault.TheVariants.{BadId, Memory};

@@ -1,8 +1,16 @@
 //! The catalogue: which SYSMODs there are, what of it is published, and what a publication touches.
 //!
-//! [`Published`] is what every layer above reads the published content by, whether it is kept in lists
-//! or in a file. `specs/` says what the content is: begin with its `Content`,
-//! `Publication` and `Touched`.
+//! - [`Published`]: what every layer above reads the published content by, whether it is kept in lists or in a file;
+//!   [`SourceFault`]: why it tells nothing
+//! - [`ListPublished`]: the content in lists
+//! - [`Sysmod`], [`SysmodKind`], [`Ids`]: a record of the catalogue and its parts
+//! - [`Change`]: a record that is put or a change to the holds; a list of them is a publication
+//! - [`read_changes`]: the changes that statements make, or their [`CatFault`]; [`ChangeReader`]: one statement at a time
+//! - [`publication_operands`]: the operands that are read, for those who ask for these alone
+//! - [`touched`]: the ids that a publication touches
+//! - [`NoMemory`]: memory ran out
+//!
+//! `specs/` says what the content is: begin with its `Content`, `Publication` and `Touched`.
 #![tactic(auto)]
 
 mod asked;

@@ -4,9 +4,9 @@ pub mod StatusFacts
 pub mod CutFacts
 pub mod OrderFacts
 pub mod PathFacts
-pub mod VerdictLaws
+pub mod VerdictFacts
 pub mod SightFacts
 pub mod PlaceFacts
-pub mod CutMade
-pub mod VerdictsAt
+pub mod MadeCutFacts
+pub mod PlaceVerdictFacts
 mod Examples

@@ -1,5 +1,5 @@
--- A part of the content by places. No part of what is promised: private contracts cite it. What is found of plans, picks
--- and verdicts over the places of a part holds over the whole content, where the part is closed.
+-- No part of what is promised: private contracts cite it. A part of the content by places: what is found of plans,
+-- picks and verdicts over the places of a part holds over the whole content, where the part is closed.
 use Rattle.std.specs.Prelude.{◌≡◌, ◌<◌, ◌↔◌, ℕ, List, [], length, slice_index_or}
 use Rattle.requisites.specs.World.{World}
 

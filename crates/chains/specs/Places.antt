@@ -1,4 +1,5 @@
--- No part of what is promised: ids by their places in a list that ascends, and what is listed for each place.
+-- No part of what is promised: private contracts cite it. Ids by their places in a list that ascends, and what is
+-- listed for each place.
 use Rattle.std.specs.Prelude.{◌≡◌, ◌<◌, ◌↔◌, ◌⊎◌, ℕ, Bool, true, List, length, map, Contains}
 use Rattle.zone_lists.specs.Installed.{is_installed, is_listed}
 use Rattle.zone_lists.specs.declared.zones.ZoneRow.{ZoneRow}

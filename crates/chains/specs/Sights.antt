@@ -1,5 +1,5 @@
--- What is read of a SYSMOD: whether it may be installed in a zone, what it needs and what it supersedes. No part of what is
--- promised: private contracts cite it.
+-- No part of what is promised: private contracts cite it. What is read of a SYSMOD: whether it may be installed in a
+-- zone, what it needs and what it supersedes.
 use Rattle.std.specs.Prelude.{◌≡◌, ◌++◌, ◌==◌, ℕ, Bool, false, List, [], Option, filter, map}
 use Rattle.std.specs.List.{Contains, list_any}
 use Rattle.holddata.specs.HoldKey.{kind_place}

@@ -14,9 +14,9 @@ ghost use Rattle.chains.specs.Worlds.{world_of};
 
 use crate::listing::Entry;
 use crate::places::{members_of, place_near, put_places};
-use mcs_reader::Id;
+use mcs_reader::{Id, NoMemory};
 use requisites::{Nodes, Rows, least_sources};
-use std::alloc::{AllocError, Global};
+use std::alloc::Global;
 use supersede::Zone;
 
 /// Ids in ascending order, and what a zone and the catalogue say of each, by places.
@@ -33,7 +33,7 @@ impl Cut {
         zone: &Zone,
         ids: &[Id],
         entries: &[Entry],
-    ) -> Result<Cut, AllocError>
+    ) -> Result<Cut, NoMemory>
         requires ascend { Ascend ids.now }
         requires entries { length entries.now ≡ length ids.now }
         ensures ascend { IfOk result (λ cut. Ascend cut.members.items) }
@@ -54,7 +54,7 @@ fn nodes_of(
     members: &[Id],
     ids: &[Id],
     entries: &[Entry],
-) -> Result<Nodes, AllocError>
+) -> Result<Nodes, NoMemory>
     requires members { Ascend members.now }
     requires ascend { Ascend ids.now }
     requires entries { length entries.now ≡ length ids.now }
@@ -115,7 +115,7 @@ fn there_marks(
     zone: &Zone,
     members: &[Id],
     supersedes: &Rows,
-) -> Result<Vec<bool>, AllocError>
+) -> Result<Vec<bool>, NoMemory>
     ensures { IfOk result (λ marks. AreThere zone.now members.now supersedes.now marks.items) }
 {
     let installed = installed_marks(alloc, zone, members)?;
@@ -123,7 +123,7 @@ fn there_marks(
     listed_or_given(alloc, zone, members, &sources)
 }
 
-fn installed_marks(alloc: Global, zone: &Zone, members: &[Id]) -> Result<Vec<bool>, AllocError>
+fn installed_marks(alloc: Global, zone: &Zone, members: &[Id]) -> Result<Vec<bool>, NoMemory>
     ensures { IfOk result (λ marks. MarksAre (λ p mark. mark ≡ is_installed zone.now (id_at members.now p)) (length members.now) marks.items) }
 {
     let mut marks = Vec::with_capacity(alloc, members.len())?;
@@ -138,7 +138,7 @@ fn listed_or_given(
     zone: &Zone,
     members: &[Id],
     sources: &[Option<usize>],
-) -> Result<Vec<bool>, AllocError>
+) -> Result<Vec<bool>, NoMemory>
     ensures { IfOk result (λ marks. MarksAre (IsThereAt zone.now members.now (HasSource sources.now)) (length members.now) marks.items) }
 {
     let mut marks = Vec::with_capacity(alloc, members.len())?;

@@ -9,7 +9,7 @@
 
 mod cut;
 mod judge;
-mod laws;
+mod law;
 mod listing;
 mod places;
 #[cfg(test)]
@@ -18,6 +18,6 @@ mod verdict;
 mod whole;
 
 pub use judge::Judge;
-pub use laws::{good_is_planned, verdicts_are_right};
+pub use law::{good_is_planned, verdicts_are_right};
 pub use verdict::{Status, Verdict};
 pub use whole::Whole;

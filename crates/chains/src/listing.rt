@@ -7,8 +7,8 @@ ghost use Rattle.chains.specs.Sights.{reasons_in, sight_from, sight_of, unseen};
 
 use catalogue::{Ids, Published, SourceFault, Sysmod};
 use holddata::{Hold, Kind};
-use mcs_reader::Id;
-use std::alloc::{AllocError, Global};
+use mcs_reader::{Id, NoMemory};
+use std::alloc::Global;
 use std::marker::Model;
 use supersede::Zone;
 
@@ -102,7 +102,7 @@ fn entry_from(
     zone: &Zone,
     sysmod: Option<Sysmod>,
     holds: &[Hold],
-) -> Result<Entry, AllocError>
+) -> Result<Entry, NoMemory>
     ensures { IfOk result (λ entry. entry ≡ sight_from zone.now sysmod holds.now) }
 {
     let Some(sysmod) = sysmod else {
@@ -124,7 +124,7 @@ fn entry_from(
 }
 
 // The ids of two lists, one after the other. It takes no memory where one of them is empty.
-fn joined(mut first: Vec<Id>, second: Vec<Id>) -> Result<Vec<Id>, AllocError>
+fn joined(mut first: Vec<Id>, second: Vec<Id>) -> Result<Vec<Id>, NoMemory>
     ensures { IfOk result (λ both. both.items ≡ first.items ++ second.items) }
 {
     if first.is_empty() {
@@ -141,7 +141,7 @@ fn is_any_installed(zone: &Zone, fmids: &Ids) -> bool
 }
 
 // Adds the reasons of the ERROR holds.
-fn push_reasons(needs: &mut Vec<Id>, holds: &[Hold]) -> Result<(), AllocError>
+fn push_reasons(needs: &mut Vec<Id>, holds: &[Hold]) -> Result<(), NoMemory>
     ensures { OnOk result (needs.new.items ≡ needs.old.items ++ reasons_in holds.now) }
 {
     for hold in holds {

@@ -5,16 +5,12 @@ ghost use Rattle.catalogue.specs.Ids.{Ascend};
 ghost use Rattle.chains.specs.Places.{ArePlacesOf, IsAt};
 
 use crate::listing::Entry;
-use mcs_reader::Id;
-use std::alloc::{AllocError, Global};
+use mcs_reader::{Id, NoMemory};
+use std::alloc::Global;
 use supersede::place_among;
 
 /// The catalogued ids and all that they need, ascending, each once.
-pub(crate) fn members_of(
-    alloc: Global,
-    ids: &[Id],
-    entries: &[Entry],
-) -> Result<Vec<Id>, AllocError>
+pub(crate) fn members_of(alloc: Global, ids: &[Id], entries: &[Entry]) -> Result<Vec<Id>, NoMemory>
     ensures ascend { IfOk result (λ members. Ascend members.items) }
     ensures ids { IfOk result (λ members. (id : List ℕ) → Contains ids.now id → Contains members.items id) }
     ensures needs { IfOk result (λ members. (id : List ℕ) →
@@ -25,7 +21,7 @@ pub(crate) fn members_of(
     Ok(members)
 }
 
-fn listed_with_needs(alloc: Global, ids: &[Id], entries: &[Entry]) -> Result<Vec<Id>, AllocError>
+fn listed_with_needs(alloc: Global, ids: &[Id], entries: &[Entry]) -> Result<Vec<Id>, NoMemory>
     ensures { IfOk result (λ all. all.items ≡ ids.now ++ flat_map (λ entry. entry.needs) entries.now) }
 {
     let mut all = Vec::from_slice(alloc, ids)?;
@@ -36,7 +32,7 @@ fn listed_with_needs(alloc: Global, ids: &[Id], entries: &[Entry]) -> Result<Vec
 }
 
 // The ids in order, each once. Those that ascend already are not sorted again.
-fn sort_each_once(ids: &mut Vec<Id>) -> Result<(), AllocError>
+fn sort_each_once(ids: &mut Vec<Id>) -> Result<(), NoMemory>
     ensures ascend { OnOk result (Ascend ids.new.items) }
     ensures keeps { (id : List ℕ) → Contains ids.old.items id → Contains ids.new.items id }
 {
@@ -73,7 +69,7 @@ pub(crate) fn put_places(
     members: &[Id],
     first: usize,
     ids: &[Id],
-) -> Result<(), AllocError>
+) -> Result<(), NoMemory>
     requires { Ascend members.now }
     ensures { OnOk result (ArePlacesOf members.now ids.now places.new.items) }
 {

@@ -2,7 +2,6 @@
 ghost use Rattle.std.specs.Prelude.{◌≡◌, ◌<◌, ℕ, List, Contains, IfOk, length, map};
 ghost use Rattle.catalogue.specs.Content.{Content, ids_of};
 ghost use Rattle.catalogue.specs.Ids.{Ascend};
-ghost use Rattle.catalogue.specs.Published.{FailsWithCause, Tells};
 ghost use Rattle.requisites.specs.Good.{AreGood};
 ghost use Rattle.requisites.specs.Nodes.{mark_of, world};
 ghost use Rattle.chains.specs.Cuts as cuts;
@@ -20,9 +19,9 @@ use crate::listing::{Entry, entries_of};
 use crate::places::place_of;
 use crate::{Judge, Status, Verdict};
 use catalogue::{Published, SourceFault};
-use mcs_reader::Id;
+use mcs_reader::{Id, NoMemory};
 use requisites::{Resolution, resolve, verdict_of_place};
-use std::alloc::{AllocError, Global};
+use std::alloc::Global;
 use supersede::Zone;
 
 /// Judges over the whole catalogue: each call reads all that is catalogued, once. It keeps nothing, so it
@@ -78,7 +77,7 @@ fn verdict_in(
     catalogued: &[Id],
     entries: &[Entry],
     id: &Id,
-) -> Result<Verdict, AllocError>
+) -> Result<Verdict, NoMemory>
     requires ascend { Ascend catalogued.now }
     requires entries { length entries.now ≡ length catalogued.now }
     ensures { IfOk result (λ verdict. (content : Content) → catalogued.now ≡ ids_of content → entries.now ≡ map (sight_of content zone.now) catalogued.now
@@ -94,11 +93,7 @@ fn verdict_in(
 }
 
 // A verdict on a place as one on the id that stands there.
-fn by_ids(
-    alloc: Global,
-    members: &[Id],
-    verdict: requisites::Verdict,
-) -> Result<Verdict, AllocError>
+fn by_ids(alloc: Global, members: &[Id], verdict: requisites::Verdict) -> Result<Verdict, NoMemory>
     requires { IsWithin members.now verdict }
     ensures { IfOk result (λ judged. judge.judged_by judged ≡ verdict_at members.now verdict) }
 {
@@ -110,7 +105,7 @@ fn by_ids(
 }
 
 // The ids that stand at places.
-fn ids_at(alloc: Global, members: &[Id], places: &[usize]) -> Result<Vec<Id>, AllocError>
+fn ids_at(alloc: Global, members: &[Id], places: &[usize]) -> Result<Vec<Id>, NoMemory>
     requires { (q : ℕ) → Contains places.now q → q < length members.now }
     ensures { IfOk result (λ ids. ids.items ≡ map (cuts.id_at members.now) places.now) }
 {
@@ -135,7 +130,7 @@ fn statuses_in(
     catalogued: &[Id],
     entries: &[Entry],
     ids: &[Id],
-) -> Result<Vec<Status>, AllocError>
+) -> Result<Vec<Status>, NoMemory>
     requires ascend { Ascend catalogued.now }
     requires entries { length entries.now ≡ length catalogued.now }
     ensures { IfOk result (λ statuses. (content : Content) → catalogued.now ≡ ids_of content → entries.now ≡ map (sight_of content zone.now) catalogued.now

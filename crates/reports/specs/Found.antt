@@ -1,4 +1,4 @@
--- How the rows of the reports are found. No part of what is promised: private contracts cite it.
+-- No part of what is promised: private contracts cite it. How the rows of the reports are found.
 use Rattle.std.specs.Prelude.{ℕ, List, [], Option, Some, None, filter_map, map, option_map, if◌then◌else◌}
 use Rattle.std.specs.BTreeSet.{insert_key}
 use Rattle.std.specs.List.{flat_map, fold}

@@ -1,6 +1,7 @@
 //! Reports: exception SYSMODs and missing fixes, as rows and in print.
 //!
-//! - [`ErrRow`], [`MissingRow`]: a row of each report
+//! - [`err_rows`], [`missing_rows`]: the rows of the reports over what is published and a zone
+//! - [`ErrRow`], [`MissingRow`]: a row of each report; [`MissingCategory`]: a fix category of its row
 //! - [`Status`]: what is said of a resolver: which verdict it has
 //! - [`err_text`], [`missing_text`]: the reports in print
 //! - [`plan_json`]: a verdict as JSON

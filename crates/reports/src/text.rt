@@ -1,7 +1,5 @@
 //! The two reports in print.
-ghost use Rattle.std.specs.Prelude.{◌≡◌, ◌++◌, Some, IfOk, map};
-ghost use Rattle.columns.specs.Columns.{columns_of};
-ghost use Rattle.columns.specs.Table.{table_with};
+ghost use Rattle.std.specs.Prelude.{◌≡◌, ◌++◌, Some, IfOk};
 ghost use Rattle.mcs_reader.specs.Bytes.{bytes_of_each};
 ghost use Rattle.mcs_reader.specs.Id.{text_of};
 ghost use Rattle.holddata.specs.BookText.{id_field};

@@ -1,4 +1,4 @@
--- Picks by place. No part of what is promised: private contracts cite it.
+-- No part of what is promised: private contracts cite it. Picks by place.
 use Rattle.std.specs.Prelude.{◌<◌, ◌⊎◌, ℕ, List, Contains}
 use Rattle.requisites.specs.World.{IsGoodGiver, IsPick, PicksFor}
 use Rattle.requisites.specs.Nodes.{IsMarked, row, world}

@@ -1,4 +1,4 @@
--- Links the other way round, while they are gathered. No part of what is promised: private contracts cite it.
+-- No part of what is promised: private contracts cite it. Links the other way round, while they are gathered.
 use Rattle.std.specs.Prelude.{◌≡◌, ◌<◌, ◌≤◌, ℕ, zero, suc, List, [], ◌∷◌, length, map, slice_index, Contains}
 use Rattle.requisites.specs.Nodes.{row}
 use Rattle.requisites.specs.declared.reversed.Chains.{Chains}

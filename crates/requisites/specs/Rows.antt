@@ -1,4 +1,4 @@
--- Rows in one list. No part of what is promised: private contracts cite it.
+-- No part of what is promised: private contracts cite it. Rows in one list.
 use Rattle.std.specs.Prelude.{◌≡◌, ◌≤◌, ℕ, zero, suc, List, [], ◌∷◌, slice_index}
 use Rattle.std.specs.List.{slice_range}
 

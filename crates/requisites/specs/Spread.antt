@@ -1,4 +1,4 @@
--- What the search for sources has done so far. No part of what is promised: private contracts cite it.
+-- No part of what is promised: private contracts cite it. What the search for sources has done so far.
 use Rattle.std.specs.Prelude.{◌≡◌, ◌<◌, ◌≤◌, ◌⊎◌, ◌+◌, ℕ, List, Option, Some, None, length, Contains, is_none, sum_by, if◌then◌else◌}
 use Rattle.requisites.specs.Leads.{Leads}
 use Rattle.requisites.specs.Nodes.{Links}

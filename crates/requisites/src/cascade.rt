@@ -8,11 +8,11 @@ ghost use Rattle.std.specs.Bool.{OnTrue};
 ghost use Rattle.requisites.specs.Good.{AreAmong, AreClosedBut, AreMarksLeft, AreOpen, AreReversed, AreShutOff, AreUngiven, AreUnmarked, CanClose, ComesNearer, HasClosedNeed, IsShut, marked_count};
 ghost use Rattle.requisites.specs.Nodes.{mark_of, row};
 
-use crate::Rows;
 use crate::nodes::{Nodes, is_marked};
 use crate::reversed::reversed;
 use crate::rings::Rings;
-use std::alloc::{AllocError, Global};
+use crate::{NoMemory, Rows};
+use std::alloc::Global;
 
 /// What leads to each place: what supersedes it, and what needs it.
 #[derive(Debug, Drop)]
@@ -22,7 +22,7 @@ pub(crate) struct Around {
 }
 
 impl Around {
-    pub(crate) fn of(alloc: Global, nodes: &Nodes) -> Result<Around, AllocError>
+    pub(crate) fn of(alloc: Global, nodes: &Nodes) -> Result<Around, NoMemory>
         ensures { IfOk result (λ around. AreReversed nodes.now.supersedes (length nodes.now.candidates.items) around.superseders) }
     {
         let len = nodes.candidates.len();
@@ -50,7 +50,7 @@ pub(crate) fn cascade(
     around: &Around,
     rings: &Rings,
     marks: &mut [bool],
-) -> Result<(), AllocError>
+) -> Result<(), NoMemory>
     requires left { AreMarksLeft nodes.now marks.old }
     requires superseders { AreReversed nodes.now.supersedes (length nodes.now.candidates.items) around.now.superseders }
     ensures left { OnOk result (AreMarksLeft nodes.now marks.new) }
@@ -77,7 +77,7 @@ fn first_supports(
     around: &Around,
     rings: &Rings,
     marks: &[bool],
-) -> Result<Vec<usize>, AllocError> {
+) -> Result<Vec<usize>, NoMemory> {
     let mut supports = vec![in alloc; 0; marks.len()]?;
     for place in 0..marks.len() {
         let name = rings.name_of(place);
@@ -117,7 +117,7 @@ fn look(
     marks: &mut [bool],
     opening: &mut Opening,
     place: usize,
-) -> Result<(), AllocError>
+) -> Result<(), NoMemory>
     requires left { AreMarksLeft nodes.now marks.old }
     requires opens { AreOpen nodes.now opening.old.open.items }
     requires superseders { AreReversed nodes.now.supersedes (length nodes.now.candidates.items) around.now.superseders }
@@ -251,7 +251,7 @@ fn close(
     rings: &Rings,
     opening: &mut Opening,
     ring: &[usize],
-) -> Result<(), AllocError>
+) -> Result<(), NoMemory>
     requires ungiven { AreUngiven nodes.now ring.now }
     requires opens { AreOpen nodes.now opening.old.open.items }
     ensures opens { AreOpen nodes.now opening.new.open.items }
@@ -287,7 +287,7 @@ fn wake(
     supports: &mut [usize],
     work: &mut Vec<usize>,
     place: usize,
-) -> Result<(), AllocError>
+) -> Result<(), NoMemory>
     ensures needed { OnOk result (mark_of nodes.now.there.items place ≡ false → AreAmong (row around.now.needed_by place) work.new.items) }
 {
     let name = rings.name_of(place);

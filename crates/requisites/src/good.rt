@@ -6,11 +6,12 @@ ghost use Rattle.requisites.specs.Good.{AreGood, AreMarksLeft, AreMet, AreSwept,
 ghost use Rattle.requisites.specs.Nodes.{IsMarked, mark_of, row};
 ghost use Rattle.requisites.specs.Sources.{HasSource, source_of};
 
+use crate::NoMemory;
 use crate::cascade::{Around, cascade};
 use crate::nodes::{Nodes, is_marked};
 use crate::rings::Rings;
 use crate::sources::{least_sources, source_at};
-use std::alloc::{AllocError, Global};
+use std::alloc::Global;
 
 /// Which places are good, and what gives what.
 #[derive(Debug, Drop)]
@@ -40,8 +41,8 @@ impl Resolution {
 ///
 /// # Errors
 ///
-/// `AllocError` where memory ran out.
-pub fn resolve(alloc: Global, nodes: &Nodes) -> Result<Resolution, AllocError>
+/// `NoMemory` where memory ran out.
+pub fn resolve(alloc: Global, nodes: &Nodes) -> Result<Resolution, NoMemory>
     ensures good { IfOk result (λ found. AreGood nodes.now found.good.items found.givers.items) }
     ensures len { IfOk result (λ found. length found.givers.items ≡ length nodes.now.candidates.items) }
 {
@@ -52,7 +53,7 @@ pub fn resolve(alloc: Global, nodes: &Nodes) -> Result<Resolution, AllocError>
 
 // Takes the marks from what isn't good, and finds what gives what among the rest. Where nothing falls,
 // what leads to each place isn't asked for.
-fn fall(alloc: Global, nodes: &Nodes, marks: &mut [bool]) -> Result<Vec<Option<usize>>, AllocError>
+fn fall(alloc: Global, nodes: &Nodes, marks: &mut [bool]) -> Result<Vec<Option<usize>>, NoMemory>
     requires { marks.old ≡ nodes.now.candidates.items }
     ensures good { IfOk result (λ givers. AreGood nodes.now marks.new givers.items) }
     ensures len { IfOk result (λ givers. length givers.items ≡ length marks.old) }
@@ -65,11 +66,7 @@ fn fall(alloc: Global, nodes: &Nodes, marks: &mut [bool]) -> Result<Vec<Option<u
 }
 
 // The same, where some have lost their marks: what falls with them falls in a cascade.
-fn fall_on(
-    alloc: Global,
-    nodes: &Nodes,
-    marks: &mut [bool],
-) -> Result<Vec<Option<usize>>, AllocError>
+fn fall_on(alloc: Global, nodes: &Nodes, marks: &mut [bool]) -> Result<Vec<Option<usize>>, NoMemory>
     requires { AreMarksLeft nodes.now marks.old }
     ensures good { IfOk result (λ givers. AreGood nodes.now marks.new givers.items) }
     ensures len { IfOk result (λ givers. length givers.items ≡ length marks.old) }

@@ -22,4 +22,6 @@ pub use good::{Resolution, resolve};
 pub use nodes::Nodes;
 pub use rows::Rows;
 pub use sources::least_sources;
+/// Memory ran out.
+pub use std::alloc::AllocError as NoMemory;
 pub use verdict::{Verdict, verdict_of_place};

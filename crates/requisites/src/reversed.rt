@@ -1,13 +1,13 @@
 //! Links the other way round.
-ghost use Rattle.std.specs.Prelude.{◌≡◌, ◌≤◌, [], ◌∷◌, length, map, IfOk, OnOk};
+ghost use Rattle.std.specs.Prelude.{◌≡◌, ◌≤◌, [], ◌∷◌, length, IfOk, OnOk};
 ghost use Rattle.requisites.specs.Good.{AreReversed};
 ghost use Rattle.requisites.specs.Reversed.{AreChained, RowAdded, chain, chains_of};
 
-use crate::Rows;
-use std::alloc::{AllocError, Global};
+use crate::{NoMemory, Rows};
+use std::alloc::Global;
 
 /// For each of `len` places those in whose rows it is listed.
-pub(crate) fn reversed(alloc: Global, lists: &Rows, len: usize) -> Result<Rows, AllocError>
+pub(crate) fn reversed(alloc: Global, lists: &Rows, len: usize) -> Result<Rows, NoMemory>
     ensures { IfOk result (λ reversed. AreReversed lists.now len reversed) }
 {
     let mut chains = Chains {
@@ -28,7 +28,7 @@ struct Chains {
     before: Vec<usize>,
 }
 
-fn turn(lists: &Rows, chains: &mut Chains) -> Result<(), AllocError>
+fn turn(lists: &Rows, chains: &mut Chains) -> Result<(), NoMemory>
     requires { AreChained chains.old }
     ensures chained { OnOk result (AreChained chains.new) }
     ensures turned { OnOk result (AreReversed lists.now (length chains.old.last.items) (chains_of chains.new)) }
@@ -40,7 +40,7 @@ fn turn(lists: &Rows, chains: &mut Chains) -> Result<(), AllocError>
 }
 
 // Adds a link from a place to each that is listed for it.
-fn add_row(chains: &mut Chains, listed: &[usize], place: usize) -> Result<(), AllocError>
+fn add_row(chains: &mut Chains, listed: &[usize], place: usize) -> Result<(), NoMemory>
     requires { AreChained chains.old }
     ensures chained { OnOk result (AreChained chains.new) }
     ensures added { OnOk result (RowAdded listed.now place (chains_of chains.old) (chains_of chains.new)) }
@@ -51,7 +51,7 @@ fn add_row(chains: &mut Chains, listed: &[usize], place: usize) -> Result<(), Al
     Ok(())
 }
 
-fn add_link(chains: &mut Chains, below: usize, place: usize) -> Result<(), AllocError>
+fn add_link(chains: &mut Chains, below: usize, place: usize) -> Result<(), NoMemory>
     requires { AreChained chains.old }
     ensures chained { OnOk result (AreChained chains.new) }
     ensures added { OnOk result (RowAdded (below ∷ []) place (chains_of chains.old) (chains_of chains.new)) }
@@ -64,7 +64,7 @@ fn add_link(chains: &mut Chains, below: usize, place: usize) -> Result<(), Alloc
     Ok(())
 }
 
-fn rows_of(alloc: Global, chains: &Chains) -> Result<Rows, AllocError>
+fn rows_of(alloc: Global, chains: &Chains) -> Result<Rows, NoMemory>
     requires { AreChained chains.now }
     ensures { IfOk result (λ rows. rows ≡ chains_of chains.now) }
 {
@@ -78,7 +78,7 @@ fn rows_of(alloc: Global, chains: &Chains) -> Result<Rows, AllocError>
 }
 
 // Makes a row that of the places from which a link and those before it come.
-fn put_chain(row: &mut Vec<usize>, chains: &Chains, last: usize) -> Result<(), AllocError>
+fn put_chain(row: &mut Vec<usize>, chains: &Chains, last: usize) -> Result<(), NoMemory>
     requires chained { AreChained chains.now }
     requires within { last ≤ length chains.now.from.items }
     ensures { OnOk result (row.new.items ≡ chain chains.now.from.items chains.now.before.items last last) }

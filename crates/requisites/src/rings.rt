@@ -7,10 +7,10 @@ ghost use Rattle.std.specs.Bool.{OnTrue};
 ghost use Rattle.requisites.specs.Good.{ComesNearer};
 ghost use Rattle.requisites.specs.Sources.{source_of};
 
-use crate::Rows;
 use crate::nodes::is_marked;
 use crate::sources::{source_at, spread};
-use std::alloc::{AllocError, Global};
+use crate::{NoMemory, Rows};
+use std::alloc::Global;
 
 /// Places in rings: those that lead to each other stand together, and each other place alone.
 #[derive(Debug, Drop)]
@@ -33,7 +33,7 @@ impl Rings {
     }
 
     /// The rings of links, which are given both ways. It takes time in proportion to the links.
-    pub(crate) fn of(alloc: Global, lists: &Rows, reversed: &Rows) -> Result<Rings, AllocError> {
+    pub(crate) fn of(alloc: Global, lists: &Rows, reversed: &Rows) -> Result<Rings, NoMemory> {
         let order = left_in_order(alloc, lists, reversed.len())?;
         let names = names_of(alloc, reversed, order)?;
         rings_by(alloc, &names)
@@ -81,7 +81,7 @@ struct Walk {
 }
 
 // The places in the order in which walks along the links leave them.
-fn left_in_order(alloc: Global, lists: &Rows, len: usize) -> Result<Vec<usize>, AllocError> {
+fn left_in_order(alloc: Global, lists: &Rows, len: usize) -> Result<Vec<usize>, NoMemory> {
     let mut walk = Walk {
         unseen: vec![in alloc; true; len]?,
         work: Vec::new(alloc),
@@ -93,7 +93,7 @@ fn left_in_order(alloc: Global, lists: &Rows, len: usize) -> Result<Vec<usize>, 
     Ok(walk.order)
 }
 
-fn walk_from(walk: &mut Walk, lists: &Rows, start: usize) -> Result<(), AllocError> {
+fn walk_from(walk: &mut Walk, lists: &Rows, start: usize) -> Result<(), NoMemory> {
     walk.work.push(Step::Enter(start))?;
     while let Some(step) = walk.work.pop() {
         take_step(walk, lists, step)?;
@@ -101,7 +101,7 @@ fn walk_from(walk: &mut Walk, lists: &Rows, start: usize) -> Result<(), AllocErr
     Ok(())
 }
 
-fn take_step(walk: &mut Walk, lists: &Rows, step: Step) -> Result<(), AllocError>
+fn take_step(walk: &mut Walk, lists: &Rows, step: Step) -> Result<(), NoMemory>
     ensures { OnOk result (ComesNearer walk.old.unseen.items walk.new.unseen.items (length walk.old.work.items) (length walk.new.work.items)) }
 {
     match step {
@@ -110,7 +110,7 @@ fn take_step(walk: &mut Walk, lists: &Rows, step: Step) -> Result<(), AllocError
     }
 }
 
-fn enter(walk: &mut Walk, lists: &Rows, place: usize) -> Result<(), AllocError>
+fn enter(walk: &mut Walk, lists: &Rows, place: usize) -> Result<(), NoMemory>
     ensures { OnOk result (ComesNearer walk.old.unseen.items walk.new.unseen.items (length walk.old.work.items) (length walk.new.work.items)) }
 {
     if is_marked(&walk.unseen, place) {
@@ -121,7 +121,7 @@ fn enter(walk: &mut Walk, lists: &Rows, place: usize) -> Result<(), AllocError>
 }
 
 // Puts what is listed for a place to the work, to be entered before the place is left.
-fn put_steps(work: &mut Vec<Step>, listed: &[usize], place: usize) -> Result<(), AllocError> {
+fn put_steps(work: &mut Vec<Step>, listed: &[usize], place: usize) -> Result<(), NoMemory> {
     work.push(Step::Leave(place))?;
     for below in listed {
         work.push(Step::Enter(*below))?;
@@ -134,7 +134,7 @@ fn names_of(
     alloc: Global,
     reversed: &Rows,
     order: Vec<usize>,
-) -> Result<Vec<Option<usize>>, AllocError> {
+) -> Result<Vec<Option<usize>>, NoMemory> {
     let mut names = vec![in alloc; None; reversed.len()]?;
     spread_from_last(alloc, &mut names, reversed, order)?;
     Ok(names)
@@ -145,7 +145,7 @@ fn spread_from_last(
     names: &mut [Option<usize>],
     reversed: &Rows,
     mut order: Vec<usize>,
-) -> Result<(), AllocError>
+) -> Result<(), NoMemory>
     requires { (q : ℕ) → source_of names.old q ≡ None }
 {
     let mut work = Vec::new(alloc);
@@ -155,7 +155,7 @@ fn spread_from_last(
     Ok(())
 }
 
-fn rings_by(alloc: Global, names: &[Option<usize>]) -> Result<Rings, AllocError> {
+fn rings_by(alloc: Global, names: &[Option<usize>]) -> Result<Rings, NoMemory> {
     let mut rings = Rings {
         named: Vec::with_capacity(alloc, names.len())?,
         at: Vec::with_capacity(alloc, names.len())?,
@@ -167,7 +167,7 @@ fn rings_by(alloc: Global, names: &[Option<usize>]) -> Result<Rings, AllocError>
     Ok(rings)
 }
 
-fn add_member(rings: &mut Rings, place: usize, name: usize) -> Result<(), AllocError> {
+fn add_member(rings: &mut Rings, place: usize, name: usize) -> Result<(), NoMemory> {
     rings.named.push(name)?;
     if name < rings.members.len() {
         rings.at.push(rings.members[name].len())?;

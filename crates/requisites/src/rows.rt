@@ -4,7 +4,8 @@ ghost use Rattle.std.specs.List.{slice_range};
 ghost use Rattle.requisites.specs.Nodes.{row};
 ghost use Rattle.requisites.specs.Rows.{start_at};
 
-use std::alloc::{AllocError, Global};
+use crate::NoMemory;
+use std::alloc::Global;
 use std::marker::Model;
 
 /// For each place a row of places, all of them in one list. A contract sees the list of the rows.
@@ -60,8 +61,8 @@ impl Rows {
     ///
     /// # Errors
     ///
-    /// `AllocError` where memory ran out: the rows are as they were.
-    pub fn push_row(&mut self, row: &[usize]) -> Result<(), AllocError>
+    /// `NoMemory` where memory ran out: the rows are as they were.
+    pub fn push_row(&mut self, row: &[usize]) -> Result<(), NoMemory>
         ensures rows { OnOk result (self.new ≡ self.old ++ row.now ∷ []) }
         ensures err { OnErr result (self.new ≡ self.old) }
     {

@@ -3,9 +3,9 @@ ghost use Rattle.std.specs.Prelude.{◌≡◌, ℕ, [], ◌∷◌, length, IfOk,
 ghost use Rattle.requisites.specs.Sources.{AreLeastSources, source_of};
 ghost use Rattle.requisites.specs.Spread.{AreClosed, SourcesSpread, SourcesTaken};
 
-use crate::Rows;
 use crate::nodes::is_marked;
-use std::alloc::{AllocError, Global};
+use crate::{NoMemory, Rows};
+use std::alloc::Global;
 
 /// For each place the least marked place from which a list of links leads to it, by way of nothing
 /// or of others, or `None` where no marked place leads there.
@@ -14,12 +14,12 @@ use std::alloc::{AllocError, Global};
 ///
 /// # Errors
 ///
-/// `AllocError` where memory ran out.
+/// `NoMemory` where memory ran out.
 pub fn least_sources(
     alloc: Global,
     lists: &Rows,
     marks: &[bool],
-) -> Result<Vec<Option<usize>>, AllocError>
+) -> Result<Vec<Option<usize>>, NoMemory>
     ensures sources { IfOk result (λ sources. AreLeastSources lists.now marks.now sources.items) }
     ensures len { IfOk result (λ sources. vec_len sources ≡ length marks.now) }
 {
@@ -33,7 +33,7 @@ fn spread_all(
     sources: &mut [Option<usize>],
     lists: &Rows,
     marks: &[bool],
-) -> Result<(), AllocError>
+) -> Result<(), NoMemory>
     requires len { length sources.old ≡ length marks.now }
     requires none { (q : ℕ) → source_of sources.old q ≡ None }
     ensures { OnOk result (AreLeastSources lists.now marks.now sources.new) }
@@ -53,7 +53,7 @@ pub(crate) fn spread(
     work: &mut Vec<usize>,
     lists: &Rows,
     start: usize,
-) -> Result<(), AllocError>
+) -> Result<(), NoMemory>
     requires closed { AreClosed lists.now sources.old work.old.items }
     requires idle { work.old.items ≡ [] }
     ensures spread { OnOk result (SourcesSpread lists.now start sources.old sources.new) }
@@ -73,7 +73,7 @@ fn take_row(
     work: &mut Vec<usize>,
     row: &[usize],
     source: usize,
-) -> Result<(), AllocError>
+) -> Result<(), NoMemory>
     ensures { OnOk result (SourcesTaken row.now source sources.old sources.new work.old.items work.new.items) }
 {
     for place in row {
@@ -87,7 +87,7 @@ fn take_place(
     work: &mut Vec<usize>,
     place: usize,
     source: usize,
-) -> Result<(), AllocError>
+) -> Result<(), NoMemory>
     ensures { OnOk result (SourcesTaken (place ∷ []) source sources.old sources.new work.old.items work.new.items) }
 {
     if place < sources.len() && source_at(sources, place).is_none() {

@@ -1,11 +1,11 @@
 //! Verdicts on places: worked cases, and hard shapes at length.
-use crate::{Nodes, Rows, Verdict, resolve, verdict_of_place};
-use std::alloc::{AllocError, Global};
+use crate::{NoMemory, Nodes, Rows, Verdict, resolve, verdict_of_place};
+use std::alloc::Global;
 use std::test::Fail;
 
 const LONG: usize = 10_000;
 
-fn rows(alloc: Global, links: &[(usize, usize)], len: usize) -> Result<Rows, AllocError> {
+fn rows(alloc: Global, links: &[(usize, usize)], len: usize) -> Result<Rows, NoMemory> {
     let mut lists = vec![in alloc; Vec::new(alloc); len]?;
     for (from, to) in links {
         if *from < lists.len() {
@@ -25,7 +25,7 @@ fn nodes(
     len: usize,
     needs: &[(usize, usize)],
     supersedes: &[(usize, usize)],
-) -> Result<Nodes, AllocError> {
+) -> Result<Nodes, NoMemory> {
     Ok(Nodes {
         candidates: vec![in alloc; true; len]?,
         there: vec![in alloc; false; len]?,
@@ -34,19 +34,19 @@ fn nodes(
     })
 }
 
-fn verdict(alloc: Global, nodes: &Nodes, place: usize) -> Result<Verdict, AllocError> {
+fn verdict(alloc: Global, nodes: &Nodes, place: usize) -> Result<Verdict, NoMemory> {
     let resolution = resolve(alloc, nodes)?;
     verdict_of_place(alloc, nodes, &resolution, place)
 }
 
-fn plan(alloc: Global, nodes: &Nodes, place: usize) -> Result<Option<Vec<usize>>, AllocError> {
+fn plan(alloc: Global, nodes: &Nodes, place: usize) -> Result<Option<Vec<usize>>, NoMemory> {
     match verdict(alloc, nodes, place)? {
         Verdict::Good(plan) => Ok(Some(plan)),
         Verdict::Held(_) | Verdict::Lack => Ok(None),
     }
 }
 
-fn held_for(alloc: Global, nodes: &Nodes, place: usize) -> Result<Option<usize>, AllocError> {
+fn held_for(alloc: Global, nodes: &Nodes, place: usize) -> Result<Option<usize>, NoMemory> {
     match verdict(alloc, nodes, place)? {
         Verdict::Held(need) => Ok(Some(need)),
         Verdict::Good(_) | Verdict::Lack => Ok(None),
@@ -85,7 +85,7 @@ fn the_blocked_need_is_the_least_that_nothing_good_gives(rt: HostRuntime) -> Res
 }
 
 // Links from each place to the next, and what the last needs or supersedes.
-fn chain(alloc: Global, last: usize) -> Result<Vec<(usize, usize)>, AllocError> {
+fn chain(alloc: Global, last: usize) -> Result<Vec<(usize, usize)>, NoMemory> {
     let mut links = Vec::with_capacity(alloc, LONG)?;
     for place in 1..LONG {
         links.push((place - 1, place))?;

@@ -8,11 +8,11 @@ ghost use Rattle.requisites.specs.Sources.{HasSource};
 ghost use Rattle.requisites.specs.Verdict.{IsVerdict};
 ghost use Rattle.requisites.specs.World.{IsChosenPlan};
 
-use crate::Rows;
 use crate::good::{Resolution, least_open_need};
 use crate::nodes::Nodes;
 use crate::sources::{least_sources, source_at};
-use std::alloc::{AllocError, Global};
+use crate::{NoMemory, Rows};
+use std::alloc::Global;
 
 /// Whether a place can be installed, and with what, or why not.
 #[derive(Debug, Drop)]
@@ -29,13 +29,13 @@ pub enum Verdict {
 ///
 /// # Errors
 ///
-/// `AllocError` where memory ran out.
+/// `NoMemory` where memory ran out.
 pub fn verdict_of_place(
     alloc: Global,
     nodes: &Nodes,
     resolution: &Resolution,
     place: usize,
-) -> Result<Verdict, AllocError>
+) -> Result<Verdict, NoMemory>
     requires { AreGood nodes.now resolution.now.good.items resolution.now.givers.items }
     ensures { IfOk result (λ verdict. IsVerdict nodes.now place verdict) }
 {
@@ -57,7 +57,7 @@ fn chosen_plan(
     nodes: &Nodes,
     resolution: &Resolution,
     place: usize,
-) -> Result<Vec<usize>, AllocError>
+) -> Result<Vec<usize>, NoMemory>
     requires good { AreGood nodes.now resolution.now.good.items resolution.now.givers.items }
     requires marked { IsMarked resolution.now.good.items place }
     ensures chosen { IfOk result (λ plan. IsChosenPlan (world nodes.now) place plan.items) }
@@ -70,7 +70,7 @@ fn chosen_plan(
 }
 
 // The marks of one place alone.
-fn only(alloc: Global, len: usize, place: usize) -> Result<Vec<bool>, AllocError>
+fn only(alloc: Global, len: usize, place: usize) -> Result<Vec<bool>, NoMemory>
     requires { place < len }
     ensures len { IfOk result (λ marks. length marks.items ≡ len) }
     ensures own { IfOk result (λ marks. IsMarked marks.items place) }
@@ -82,7 +82,7 @@ fn only(alloc: Global, len: usize, place: usize) -> Result<Vec<bool>, AllocError
 }
 
 // The places that have a source, ascending.
-fn reached_places(alloc: Global, sources: &[Option<usize>]) -> Result<Vec<usize>, AllocError>
+fn reached_places(alloc: Global, sources: &[Option<usize>]) -> Result<Vec<usize>, NoMemory>
     ensures reached { IfOk result (λ places. (p : ℕ) → Contains places.items p → HasSource sources.now p) }
     ensures whole { IfOk result (λ places. (p : ℕ) → HasSource sources.now p → Contains places.items p) }
     ensures ascends { IfOk result (λ places. IsStrictlyIncreasing places.items) }
@@ -97,7 +97,7 @@ fn reached_places(alloc: Global, sources: &[Option<usize>]) -> Result<Vec<usize>
 }
 
 // For each place the picks for its needs.
-fn all_picks(alloc: Global, nodes: &Nodes, resolution: &Resolution) -> Result<Rows, AllocError>
+fn all_picks(alloc: Global, nodes: &Nodes, resolution: &Resolution) -> Result<Rows, NoMemory>
     requires { AreGood nodes.now resolution.now.good.items resolution.now.givers.items }
     ensures { IfOk result (λ picks. ArePicks nodes.now (length nodes.now.candidates.items) picks) }
 {
@@ -116,7 +116,7 @@ fn put_picks(
     nodes: &Nodes,
     resolution: &Resolution,
     place: usize,
-) -> Result<(), AllocError>
+) -> Result<(), NoMemory>
     requires { AreGood nodes.now resolution.now.good.items resolution.now.givers.items }
     ensures { OnOk result (ArePicksFor nodes.now place picks.new.items) }
 {

@@ -1,5 +1,5 @@
 -- A bounded search finds every way: a way that comes to one SYSMOD twice can be cut short there.
-use Rattle.std.proofs.Common.{◌≡◌, ◌⊎◌, ◌↔◌, ℕ, zero, suc, ◌≤◌, ◌<◌, ◌&&◌, ◌∙◌, Bool, true, false, not, List, [], ◌∷◌, length, filter, is_some, Option, Some, None, inl, inr, refl, sym, ap, arith}
+use Rattle.std.proofs.Common.{◌≡◌, ◌⊎◌, ◌↔◌, ℕ, zero, suc, ◌≤◌, ◌&&◌, ◌∙◌, Bool, true, false, List, [], ◌∷◌, length, is_some, Option, Some, None, inl, inr, refl, sym, arith}
 use Rattle.std.specs.List.{Contains, find}
 use Rattle.std.specs.Option.{IsSomeAnd}
 use Rattle.std.specs.Str.{bytes_eq}
@@ -15,6 +15,7 @@ use Rattle.catalogue.specs.declared.sysmod.Sysmod.{Sysmod}
 use Rattle.supersede.specs.Giving.{gives, is_there, sup_of, supersedes_within}
 use Rattle.supersede.specs.Leading.{Gives, IsThere, IsWay}
 use Rattle.supersede.proofs.GivingFacts.{In, any_found, any_has, both, catalogued, same_self}
+use Rattle.supersede.proofs.WithoutFacts.{fewer, in_without, without}
 
 -- ---- lists
 
@@ -33,35 +34,6 @@ contains_from_in : {X : Type 0} → (xs : List X) (x : X) → In xs x → Contai
 contains_from_in (y ∷ ys) x (inl same) = rw same (Contains-append_left (x ∷ []) ys x (Contains-push [] x))
 contains_from_in (y ∷ ys) x (inr later) = Contains-append_right (y ∷ []) ys x (contains_from_in ys x later)
 contains_from_in [] x none = absurd none
-
--- the ids but one
-abbrev without : List ℕ → List (List ℕ) → List (List ℕ)
-without x ids = filter (λ id. not (bytes_eq id x)) ids
-
-in_without : (x : List ℕ) (ids : List (List ℕ)) (s : List ℕ) → In ids s → bytes_eq s x ≡ false → In (without x ids) s
-in_without x [] s none apart = absurd none
-in_without x (y ∷ ys) s (inl same) apart = let other : bytes_eq y x ≡ false = ap (λ id. bytes_eq id x) same ∙ apart in rw other (inl same)
-in_without x (y ∷ ys) s (inr later) apart =
-    elim (cases_Bool (bytes_eq y x)) [
-      | inl this ↦ rw this (in_without x ys s later apart)
-      | inr other ↦ rw other (inr (in_without x ys s later apart))
-    ]
-
-at_most : (x : List ℕ) (ids : List (List ℕ)) → length (without x ids) ≤ length ids
-at_most x [] = omega arith
-at_most x (y ∷ ys) =
-    let rest = at_most x ys in
-    elim (cases_Bool (bytes_eq y x)) [ inl this ↦ rw this (omega (arith, rest)) | inr other ↦ rw other (omega (arith, rest)) ]
-
-fewer : (x : List ℕ) (ids : List (List ℕ)) → In ids x → length (without x ids) < length ids
-fewer x [] none = absurd none
-fewer x (y ∷ ys) (inl same) =
-    let this : bytes_eq y x ≡ true = (bytes_eq-Decides y x).1 same in
-    let rest = at_most x ys in
-    rw this (omega (arith, rest))
-fewer x (y ∷ ys) (inr later) =
-    let rest = fewer x ys later in
-    elim (cases_Bool (bytes_eq y x)) [ inl this ↦ rw this (omega (arith, rest)) | inr other ↦ rw other (omega (arith, rest)) ]
 
 module _ (content : Content) where
   -- ---- one step

@@ -14,7 +14,7 @@ use Rattle.std.proofs.lemmas.Map.Views.{Contains-from_any, list_any-from_Contain
 use Rattle.std.specs.Cmp.Lexicographic.{nat_list_eq_equiv}
 use Rattle.catalogue.specs.Content.{Content, ids_of, superseders, Supersedes}
 use Rattle.catalogue.specs.Ids.{Ascend, id_cmp, put_among, same_id}
-use Rattle.catalogue.proofs.IdFacts.{any_insert, apart, exact_ids, ids_total, itself, one_id, turned}
+use Rattle.catalogue.proofs.IdFacts.{any_insert, apart, exact_ids, fold_any, ids_total, itself, one_id, turned}
 use Rattle.catalogue.proofs.SupersedeFacts.{superseder_is}
 use Rattle.supersede.specs.Giving.{gives, givers_of}
 use Rattle.supersede.specs.Leading.{Gives, IsWay}
@@ -45,23 +45,6 @@ has_at : (ids : List (List ℕ)) (k : ℕ) (d : List ℕ) → k < length ids →
 has_at [] k d within = absurd (omega arith)
 has_at (x ∷ ids) zero d within = or_left _ _ (itself x)
 has_at (x ∷ ids) (suc k) d within = or_right (same_id (get_or ids k d) x) _ (has_at ids k d (omega arith))
-
-any_fold : (test : List ℕ → Bool) (ks ids : List (List ℕ)) → list_any test (put_among ks ids) ≡ (list_any test ks || list_any test ids)
-any_fold test ks [] = plain (list_any test ks)
-  where
-    plain : (b : Bool) → b ≡ (b || false)
-    plain true = refl
-    plain false = refl
-any_fold test ks (id ∷ ids) =
-    any_fold test (insert_key id_cmp ks id) ids
-    ∙ ap (λ b. b || list_any test ids) (any_insert test ks id)
-    ∙ swap (test id) (list_any test ks) (list_any test ids)
-  where
-    swap : (a b c : Bool) → ((a || b) || c) ≡ (b || (a || c))
-    swap true true c = refl
-    swap true false c = refl
-    swap false true c = refl
-    swap false false c = refl
 
 -- ---- new ids go to the end
 
@@ -154,7 +137,7 @@ walk_goes_on content ascend id next keys_old keys_new old new above at within is
 
     grown : (y : List ℕ) → has new y ≡ (has old y || has above y)
     grown y =
-        sym (alike_new (same_id y)) ∙ ap (list_any (same_id y)) keys ∙ any_fold (same_id y) keys_old above ∙ ap (λ b. b || has above y) (alike_old (same_id y))
+        sym (alike_new (same_id y)) ∙ ap (list_any (same_id y)) keys ∙ fold_any (same_id y) keys_old above ∙ ap (λ b. b || has above y) (alike_old (same_id y))
 
     front : take (at + 1) new ≡ take at old ++ next ∷ []
     front = ap (take (at + 1)) goes_on.is ∙ take_front old goes_on.more (at + 1) (omega (arith, within)) ∙ take_more old at next within ∙ ap (λ x. take at old ++ x ∷ []) (sym is)

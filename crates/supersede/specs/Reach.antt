@@ -1,4 +1,4 @@
--- How those that give a SYSMOD are gathered. No part of what is promised: private contracts cite it.
+-- No part of what is promised: private contracts cite it. How those that give a SYSMOD are gathered.
 use Rattle.std.specs.Prelude.{◌≡◌, ℕ, ◌++◌, Bool, true, List}
 use Rattle.std.specs.List.{list_any}
 use Rattle.catalogue.specs.Content.{Content}

@@ -42,7 +42,7 @@ const RING: &[u8] = b"++PTF(UA10016).\n++VER(Z038) FMID(HBB7790) SUP(UA10017).\n
 ++PTF(UA10017).\n++VER(Z038) FMID(HBB7790) SUP(UA10016).\n\
 ++PTF(UA10018).\n++VER(Z038) FMID(HBB7790) PRE(UA10017).\n";
 
-// What is published behind the base, the zone, the id, and its verdict.
+// What is published after the base, the zone, the id, and its verdict.
 const ROWS: [(&[u8], &[u8], &[u8], &str); 22] = [
     (b"", ALPHA, b"UA10002", "GOOD UA10002"),
     (b"", BETA, b"UA10002", "GOOD UA10001 UA10002"),

@@ -199,7 +199,7 @@ fn reads_of(alloc: Global, asked: &Asked, which: Call) -> Result<u64, Fail> {
         }
         let again = source.ids();
         if source.failures != 2 || !matches!(again, Err(SourceFault::Device)) {
-            return Err(Fail::from("a call goes on behind a failure"));
+            return Err(Fail::from("a call goes on after a failure"));
         }
     }
     Err(Fail::from("a call never succeeds"))

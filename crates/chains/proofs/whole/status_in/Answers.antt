@@ -2,7 +2,7 @@ use Rattle.std.proofs.Common.{◌∙◌, List, ap, subst, sym, ℕ}
 use Rattle.std.specs.List.{Contains}
 use Rattle.requisites.specs.Nodes.{mark_of}
 use Rattle.chains.specs.Places.{IsAt}
-use Rattle.chains.proofs.VerdictsAt.{is_good_status, is_held_status, is_lack_status, lack_outside}
+use Rattle.chains.proofs.PlaceVerdictFacts.{is_good_status, is_held_status, is_lack_status, lack_outside}
 use Rattle.chains.proofs.whole.status_in.Goals as goal
 
 pub returns-in_default : goal.returns-in_default

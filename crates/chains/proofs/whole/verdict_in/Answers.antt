@@ -2,7 +2,7 @@ use Rattle.std.proofs.Common.{◌∙◌, List, ap, refl, subst, sym, ℕ}
 use Rattle.std.specs.List.{Contains}
 use Rattle.chains.specs.Places.{IsAt, IsWithin, verdict_at}
 use Rattle.chains.proofs.PlaceFacts.{ok_so}
-use Rattle.chains.proofs.VerdictsAt.{verdict_here, verdict_outside, verdict_within}
+use Rattle.chains.proofs.PlaceVerdictFacts.{verdict_here, verdict_outside, verdict_within}
 use Rattle.chains.proofs.whole.verdict_in.Goals as goal
 
 pub returns-in_default : goal.returns-in_default

@@ -1,4 +1,4 @@
-use Rattle.chains.proofs.CutMade.{cut_of}
+use Rattle.chains.proofs.MadeCutFacts.{cut_of}
 use Rattle.chains.specs.Sights.{sight_of}
 use Rattle.chains.proofs.cut.Cut.of.Goals as goal
 

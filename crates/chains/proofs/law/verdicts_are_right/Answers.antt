@@ -1,6 +1,6 @@
 use Rattle.chains.proofs.StatusFacts.{right_status}
-use Rattle.chains.proofs.VerdictLaws.{found_verdict, verdict_is}
-use Rattle.chains.proofs.laws.verdicts_are_right.Goals as goal
+use Rattle.chains.proofs.VerdictFacts.{found_verdict, verdict_is}
+use Rattle.chains.proofs.law.verdicts_are_right.Goals as goal
 
 pub returns : goal.returns
 returns c = record {

@@ -1,5 +1,5 @@
 use Rattle.chains.proofs.GoodFacts.{good_both_ways}
-use Rattle.chains.proofs.laws.good_is_planned.Goals as goal
+use Rattle.chains.proofs.law.good_is_planned.Goals as goal
 
 pub returns : goal.returns
 returns c = λ content rows id. good_both_ways content rows id

@@ -23,11 +23,11 @@ use Rattle.chains.specs.Verdicts.{Judged, lack, verdict_of}
 use Rattle.chains.specs.Worlds.{IsVerdict, world_of}
 use Rattle.chains.specs.declared.verdict.Status.TheVariants as status
 use Rattle.chains.proofs.CutFacts.{chosen_good, chosen_up, good_down, good_up, held_up}
-use Rattle.chains.proofs.CutMade.{candidate_catalogued}
+use Rattle.chains.proofs.MadeCutFacts.{candidate_catalogued}
 use Rattle.chains.proofs.PlaceFacts.{below_at}
 use Rattle.chains.proofs.SearchFacts.{first_inside, rest_inside}
 use Rattle.chains.proofs.StatusFacts.{right_status}
-use Rattle.chains.proofs.VerdictLaws.{verdict_is}
+use Rattle.chains.proofs.VerdictFacts.{verdict_is}
 
 -- ---- verdicts name members
 
