@@ -163,7 +163,7 @@ pub on_err : {T E A B : Type 0} (r : Result T E) → OnErr r A → (A → B) →
 on_err (Ok x) h so = tt
 on_err (Err e) h so = so h
 
--- one client's table is changed, by what a map finds before and behind
+-- one client's table is changed, by what a map finds before and after
 pub change_made : (old new : List (List ℕ × ClientTable)) (client : List ℕ) (before table : ClientTable) (change : ClientTable → ClientTable)
     → unwrap_or (lookup (is_at (slice_cmp nat_cmp client)) old) nothing_sent ≡ before
     → ((name : List ℕ) → lookup (is_at (slice_cmp nat_cmp name)) new ≡ cond (is_at (slice_cmp nat_cmp client) name) (Some table) (lookup (is_at (slice_cmp nat_cmp name)) old))
@@ -224,7 +224,7 @@ installed_put keys keys2 row put is id =
     ∙ ap (λ b. b || list_any (is_at (slice_cmp nat_cmp id)) keys) (nat_list_eq_equiv.symm id row.sysmod)
     ∙ rw is (either_way (bytes_eq row.sysmod id) (list_any (is_at (slice_cmp nat_cmp id)) keys))
 
--- the callers from one row on are known, where that row and those behind it are
+-- the callers from one row on are known, where that row and those after it are
 pub knows_from : {Text : Type 0} (text_of : Text → List ℕ) (entries : List (Text × Caller)) (rows : List CallerRow) (left : ℕ) (row : CallerRow)
     → 0 < left → left ≤ length rows → row ≡ get_or rows (left - 1) row → KnowsTokens text_of entries (row ∷ drop left rows) → KnowsTokens text_of entries (drop (left - 1) rows)
 knows_from text_of entries rows left row some within is knows =

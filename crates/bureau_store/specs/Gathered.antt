@@ -1,4 +1,4 @@
--- What is kept of a callers file while it is read. No part of what is promised: private contracts cite it.
+-- No part of what is promised: private contracts cite it. What is kept of a callers file while it is read.
 use Rattle.std.specs.Prelude.{◌≡◌, ℕ, Bool, List, map, is_some}
 use Rattle.std.specs.BTreeMap.{is_at}
 use Rattle.std.specs.Cmp.Lexicographic.{slice_cmp}

@@ -1,4 +1,4 @@
--- How a client's tables are kept. No part of what is promised: private contracts cite it.
+-- No part of what is promised: private contracts cite it. How a client's tables are kept.
 use Rattle.std.specs.Prelude.{◌≡◌, ℕ, List}
 use Rattle.std.specs.BTreeMap.{is_at}
 use Rattle.std.specs.Cmp.Lexicographic.{slice_cmp}

@@ -40,7 +40,9 @@ pub(crate) fn callers_by_token(
 
 // Puts a caller before those that are known.
 fn put_token(by_token: &mut BTreeMap<Vec<u8>, Caller>, row: &CallerRow) -> Result<(), NoMemory>
-    ensures { OnOk result ((rows : List CallerRow) → KnowsTokens (λ text. text.items) by_token.old.entries rows → KnowsTokens (λ text. text.items) by_token.new.entries (row.now ∷ rows)) }
+    ensures { OnOk result ((rows : List CallerRow)
+        → KnowsTokens (λ text. text.items) by_token.old.entries rows
+        → KnowsTokens (λ text. text.items) by_token.new.entries (row.now ∷ rows)) }
 {
     let token = row.token.copy()?;
     by_token.insert(token.into_vec(), named(&row.name))?;

@@ -38,7 +38,8 @@ pub const CALLER_RECORDS: u32 = 10_000;
 pub fn callers(alloc: Global, text: &[u8]) -> Result<Vec<CallerRow>, CallerFault>
     ensures rows { IfOk result (λ rows. Callers.callers_of text.now ≡ Ok rows.items) }
     ensures fault { IfErr result (IsRefusal CallerFault.Memory (λ fault. Callers.callers_of text.now ≡ Err fault)) }
-    ensures ascending { IfOk result (λ rows. IsStrictlySortedBy (slice_cmp nat_cmp) (map (λ row. row.name) rows.items)) }
+    ensures ascending { IfOk result (λ rows.
+        IsStrictlySortedBy (slice_cmp nat_cmp) (map (λ row. row.name) rows.items)) }
     ensures publisher { IfOk result (λ rows. Callers.has_publisher rows.items ≡ true) }
 {
     let list: Gathered = read_list(alloc, text)?;
@@ -124,10 +125,13 @@ fn put_caller(
     caller: CallerRow,
     n: u32,
 ) -> Result<(), ListFault>
-    ensures names { OnOk result (names.new.entries ≡ insert_entry (slice_cmp nat_cmp) names.old.entries caller.name caller.token) }
+    ensures names { OnOk result (names.new.entries
+        ≡ insert_entry (slice_cmp nat_cmp) names.old.entries caller.name caller.token) }
     ensures named { OnOk result (Updates (slice_cmp nat_cmp) names.old names.new caller.name (Some caller.token)) }
-    ensures tokens { OnOk result ((token : List ℕ) → has_token (λ text. text.items) tokens.new.keys token ≡ (bytes_eq token caller.token || has_token (λ text. text.items) tokens.old.keys token)) }
-    ensures first { OnOk result ((is_some (get (slice_cmp nat_cmp) names.old caller.name) || has_token (λ text. text.items) tokens.old.keys caller.token) ≡ false) }
+    ensures tokens { OnOk result ((token : List ℕ) → has_token (λ text. text.items) tokens.new.keys token
+        ≡ (bytes_eq token caller.token || has_token (λ text. text.items) tokens.old.keys token)) }
+    ensures first { OnOk result ((is_some (get (slice_cmp nat_cmp) names.old caller.name)
+        || has_token (λ text. text.items) tokens.old.keys caller.token) ≡ false) }
     ensures repeated { IfErr result (IsRefusal ListFault.Memory (λ fault. (fault ≡ ListFault.Repeated n)
         × ((is_some (get (slice_cmp nat_cmp) names.old caller.name) || has_token (λ text. text.items) tokens.old.keys caller.token) ≡ true))) }
 {
@@ -141,15 +145,18 @@ fn put_caller(
 
 // Whether the name or the token of a caller came before.
 fn came_before(names: &BTreeMap<Id, Token>, tokens: &BTreeSet<Vec<u8>>, caller: &CallerRow) -> bool
-    ensures { result ≡ (is_some (get (slice_cmp nat_cmp) names.now caller.now.name) || has_token (λ text. text.items) tokens.now.keys caller.now.token) }
+    ensures { result ≡ (is_some (get (slice_cmp nat_cmp) names.now caller.now.name)
+        || has_token (λ text. text.items) tokens.now.keys caller.now.token) }
 {
     names.contains_key(&caller.name) || tokens.contains(caller.token.as_bytes())
 }
 
 // The caller that a record stands for by itself.
 fn caller_row(alloc: Global, row: &ByteRecord, n: u32) -> Result<CallerRow, ListFault>
-    ensures made { IfOk result (λ row_of_it. at_number n (Callers.caller_fields (Spec.two_fields (fields_of row.now))) ≡ Ok row_of_it) }
-    ensures fault { IfErr result (IsRefusal ListFault.Memory (λ fault. at_number n (Callers.caller_fields (Spec.two_fields (fields_of row.now))) ≡ Err fault)) }
+    ensures made { IfOk result (λ row_of_it.
+        at_number n (Callers.caller_fields (Spec.two_fields (fields_of row.now))) ≡ Ok row_of_it) }
+    ensures fault { IfErr result (IsRefusal ListFault.Memory (λ fault.
+        at_number n (Callers.caller_fields (Spec.two_fields (fields_of row.now))) ≡ Err fault)) }
 {
     let Some((name, token)) = two_fields(row) else {
         return Err(ListFault::BadRecord(n));

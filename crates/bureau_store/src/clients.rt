@@ -31,8 +31,10 @@ pub(crate) fn make_for(
     requires { IsFit put }
     ensures done { OnOk result ((name : List ℕ) → client_in clients.new.entries name
         ≡ (if bytes_eq client.now name then client_after (effect_of put) last (client_in clients.old.entries name) else client_in clients.old.entries name)) }
-    ensures err { OnErr result ((name : List ℕ) → client_in clients.new.entries name ≡ client_in clients.old.entries name) }
-    ensures ordered { (name : List ℕ) → IsStrictlySortedBy name_order (keys_of (client_in clients.old.entries name).zones)
+    ensures err { OnErr result ((name : List ℕ)
+        → client_in clients.new.entries name ≡ client_in clients.old.entries name) }
+    ensures ordered { (name : List ℕ)
+        → IsStrictlySortedBy name_order (keys_of (client_in clients.old.entries name).zones)
         → IsStrictlySortedBy name_order (keys_of (client_in clients.new.entries name).zones) }
 {
     if let Some(kept) = clients.get_mut(client) {
@@ -49,7 +51,8 @@ pub(crate) fn counted_in_order(
     alloc: Global,
     zones: &BTreeMap<Id, Zone>,
 ) -> Result<Vec<(Id, u64)>, NoMemory>
-    ensures zones { IfOk result (λ counts. counts.items ≡ map (λ zone. (zone.0, length zone.1.rows)) zones.now.entries) }
+    ensures zones { IfOk result (λ counts. counts.items
+        ≡ map (λ zone. (zone.0, length zone.1.rows)) zones.now.entries) }
     ensures ascend { IfOk result (λ counts. IsStrictlySortedBy name_order (map (λ zone. zone.0) counts.items)) }
 {
     let counts = counted(alloc, zones)?;
@@ -58,7 +61,8 @@ pub(crate) fn counted_in_order(
 
 // Zones with the counts of their rows.
 fn counted(alloc: Global, zones: &BTreeMap<Id, Zone>) -> Result<Vec<(Id, u64)>, NoMemory>
-    ensures zones { IfOk result (λ counts. counts.items ≡ map (λ zone. (zone.0, length zone.1.rows)) zones.now.entries) }
+    ensures zones { IfOk result (λ counts. counts.items
+        ≡ map (λ zone. (zone.0, length zone.1.rows)) zones.now.entries) }
     ensures ascend { OnOk result (IsStrictlySortedBy name_order (keys_of zones.now.entries)) }
 {
     let mut counts = Vec::with_capacity(alloc, zones.len())?;

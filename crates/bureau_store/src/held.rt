@@ -23,7 +23,8 @@ pub(crate) fn held_among(
     rows: &[ZoneRow],
     kind: Kind,
 ) -> Result<Vec<Hold>, NoMemory>
-    ensures holds { IfOk result (λ held. held.items ≡ filter (λ hold. is_installed rows.now hold.key.sysmod && (kind_place hold.key.kind == kind_place kind)) book.now) }
+    ensures holds { IfOk result (λ held. held.items
+        ≡ filter (λ hold. is_installed rows.now hold.key.sysmod && (kind_place hold.key.kind == kind_place kind)) book.now) }
     ensures in_key_order { IfOk result (λ held. IsInKeyOrder held.items) }
 {
     let installed = installed_in(alloc, rows)?;
@@ -38,7 +39,8 @@ pub(crate) fn held_among(
 
 // The SYSMODs that rows have as installed.
 fn installed_in(alloc: Global, rows: &[ZoneRow]) -> Result<BTreeSet<Id>, NoMemory>
-    ensures { IfOk result (λ ids. (id : List ℕ) → list_any (is_at (slice_cmp nat_cmp id)) ids.keys ≡ is_installed rows.now id) }
+    ensures { IfOk result (λ ids. (id : List ℕ) → list_any (is_at (slice_cmp nat_cmp id)) ids.keys
+        ≡ is_installed rows.now id) }
 {
     let mut ids = BTreeSet::new(alloc);
     for row in rows {

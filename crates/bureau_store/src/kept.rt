@@ -21,8 +21,8 @@ use zone_lists::{Pattern, ZoneRow};
 /// A caller's last change. A contract sees its number and the bytes of its reply.
 #[derive(Drop)]
 pub(crate) struct Last {
-    count: u64,
-    text: Vec<u8>,
+    number: u64,
+    reply: Vec<u8>,
 }
 
 impl Model for Last {
@@ -30,7 +30,7 @@ impl Model for Last {
 
     ghost Value = { LastChange };
 
-    ghost view = { λ last. record { number = last.count; reply = last.text.items } };
+    ghost view = { λ last. record { number = last.number; reply = last.reply.items } };
 }
 
 impl Last {
@@ -38,26 +38,23 @@ impl Last {
     pub(crate) fn new(number: u64, reply: Vec<u8>) -> Last
         ensures { result ≡ record { number = number; reply = reply.items } }
     {
-        Last {
-            count: number,
-            text: reply,
-        }
+        Last { number, reply }
     }
 
     /// The number and the reply once more.
-    pub(crate) fn copy(&self) -> Result<(u64, Vec<u8>), NoMemory>
-        ensures { IfOk result (λ copy. record { number = copy.0; reply = copy.1.items } ≡ self.now) }
+    pub(crate) fn to_pair(&self) -> Result<(u64, Vec<u8>), NoMemory>
+        ensures { IfOk result (λ pair. record { number = pair.0; reply = pair.1.items } ≡ self.now) }
     {
-        let text = self.text.clone()?;
-        Ok((self.count, text))
+        let reply = self.reply.clone()?;
+        Ok((self.number, reply))
     }
 }
 
 /// A zone of a client: its rows and its patterns, both ascending.
 #[derive(Drop)]
 pub(crate) struct Zone {
-    states: Vec<ZoneRow>,
-    wanted: Vec<Pattern>,
+    rows: Vec<ZoneRow>,
+    patterns: Vec<Pattern>,
 }
 
 impl Model for Zone {
@@ -69,11 +66,11 @@ impl Model for Zone {
 
     ghost Value = { ZoneTable };
 
-    ghost view = { λ zone. record { rows = zone.states.items; patterns = zone.wanted.items } };
+    ghost view = { λ zone. record { rows = zone.rows.items; patterns = zone.patterns.items } };
 
     ghost invariant = { λ zone. record {
-      rows : RowsAscend zone.states.items;
-      patterns : IsStrictlySortedBy (slice_cmp nat_cmp) zone.wanted.items;
+      rows : RowsAscend zone.rows.items;
+      patterns : IsStrictlySortedBy (slice_cmp nat_cmp) zone.patterns.items;
     } };
 }
 
@@ -84,17 +81,14 @@ impl Zone {
         requires patterns { IsStrictlySortedBy (slice_cmp nat_cmp) patterns.items }
         ensures { result ≡ record { rows = rows.items; patterns = patterns.items } }
     {
-        Zone {
-            states: rows,
-            wanted: patterns,
-        }
+        Zone { rows, patterns }
     }
 
     /// How many rows it has.
     pub(crate) fn row_count(&self) -> u64
         ensures { result ≡ length self.now.rows }
     {
-        self.states.len() as u64
+        self.rows.len() as u64
     }
 
     /// Its rows.
@@ -102,7 +96,7 @@ impl Zone {
         ensures value { result.now ≡ self.now.rows }
         ensures ascend { RowsAscend self.now.rows }
     {
-        self.states.as_slice()
+        self.rows.as_slice()
     }
 
     /// Its patterns.
@@ -110,7 +104,7 @@ impl Zone {
         ensures value { result.now ≡ self.now.patterns }
         ensures ascend { IsStrictlySortedBy (slice_cmp nat_cmp) self.now.patterns }
     {
-        self.wanted.as_slice()
+        self.patterns.as_slice()
     }
 }
 
@@ -131,9 +125,9 @@ pub(crate) enum Put {
 #[derive(Drop)]
 pub(crate) struct Client {
     alloc: Global,
-    change: Last,
-    by_name: BTreeMap<Id, Zone>,
-    ids: Vec<Id>,
+    last: Last,
+    zones: BTreeMap<Id, Zone>,
+    received: Vec<Id>,
 }
 
 impl Model for Client {
@@ -145,11 +139,15 @@ impl Model for Client {
 
     ghost Value = { ClientTable };
 
-    ghost view = { λ client. record { last = client.change; zones = client.by_name.entries; received = client.ids.items } };
+    ghost view = { λ client. record {
+      last = client.last;
+      zones = client.zones.entries;
+      received = client.received.items;
+    } };
 
     ghost invariant = { λ client. record {
-      zones : IsStrictlySortedBy name_order (keys_of client.by_name.entries);
-      received : Ascend client.ids.items;
+      zones : IsStrictlySortedBy name_order (keys_of client.zones.entries);
+      received : Ascend client.received.items;
     } };
 }
 
@@ -160,9 +158,9 @@ impl Client {
     {
         Client {
             alloc,
-            change: Last::new(0, Vec::new(alloc)),
-            by_name: BTreeMap::new(alloc),
-            ids: Vec::new(alloc),
+            last: Last::new(0, Vec::new(alloc)),
+            zones: BTreeMap::new(alloc),
+            received: Vec::new(alloc),
         }
     }
 
@@ -170,7 +168,7 @@ impl Client {
     pub(crate) fn last(&self) -> &Last
         ensures { result.now ≡ self.now.last }
     {
-        &self.change
+        &self.last
     }
 
     /// Its zones by name.
@@ -178,7 +176,7 @@ impl Client {
         ensures value { result.now.entries ≡ self.now.zones }
         ensures ascend { IsStrictlySortedBy name_order (keys_of self.now.zones) }
     {
-        &self.by_name
+        &self.zones
     }
 
     /// What it has received.
@@ -186,7 +184,7 @@ impl Client {
         ensures value { result.now ≡ self.now.received }
         ensures ascend { Ascend self.now.received }
     {
-        self.ids.as_slice()
+        self.received.as_slice()
     }
 
     /// Makes a change, which is the client's last from now on. Where memory runs out, all is as it was.
@@ -216,9 +214,9 @@ impl Client {
         ensures err { OnErr result (self.new ≡ self.old) }
         ensures ascend { IsStrictlySortedBy name_order (keys_of self.new.zones) }
     {
-        let patterns = patterns_kept(self.alloc, &self.by_name, &zone)?;
-        self.by_name.insert(zone, Zone::new(rows, patterns))?;
-        self.change = last;
+        let patterns = patterns_kept(self.alloc, &self.zones, &zone)?;
+        self.zones.insert(zone, Zone::new(rows, patterns))?;
+        self.last = last;
         Ok(())
     }
 
@@ -226,8 +224,8 @@ impl Client {
         ensures done { self.new ≡ client_after (zone_dropped zone.now) last self.old }
         ensures ascend { IsStrictlySortedBy name_order (keys_of self.new.zones) }
     {
-        self.by_name.remove(zone);
-        self.change = last;
+        self.zones.remove(zone);
+        self.last = last;
     }
 
     fn put_received(&mut self, ids: Vec<Id>, last: Last)
@@ -235,8 +233,8 @@ impl Client {
         ensures done { self.new ≡ client_after (received_put ids.items) last self.old }
         ensures ascend { IsStrictlySortedBy name_order (keys_of self.new.zones) }
     {
-        self.ids = ids;
-        self.change = last;
+        self.received = ids;
+        self.last = last;
     }
 
     fn put_patterns(&mut self, zone: Id, patterns: Vec<Pattern>, last: Last) -> Result<(), NoMemory>
@@ -245,9 +243,9 @@ impl Client {
         ensures err { OnErr result (self.new ≡ self.old) }
         ensures ascend { IsStrictlySortedBy name_order (keys_of self.new.zones) }
     {
-        let rows = rows_kept(self.alloc, &self.by_name, &zone)?;
-        self.by_name.insert(zone, Zone::new(rows, patterns))?;
-        self.change = last;
+        let rows = rows_kept(self.alloc, &self.zones, &zone)?;
+        self.zones.insert(zone, Zone::new(rows, patterns))?;
+        self.last = last;
         Ok(())
     }
 }

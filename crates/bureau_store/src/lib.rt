@@ -3,8 +3,9 @@
 //! - [`Store`]: what every layer above keeps and reads all of it by, whether in lists or in a file
 //! - [`ListStore`]: the store in lists
 //! - [`Caller`], [`CallerRow`], [`Token`]: who calls, and by which token a caller is known
-//! - [`callers`]: reads the file of them
-//! - [`StoreFault`], [`CallerFault`]: why a store doesn't do what it is asked, and why no callers file is read
+//! - [`callers`]: reads the file of them; [`CALLER_RECORDS`]: how many it may have
+//! - [`StoreFault`], [`CallerFault`]: why a store doesn't do what it is asked, and why no callers file is read; [`NoMemory`]:
+//!   memory ran out
 #![tactic(auto)]
 
 mod by_token;

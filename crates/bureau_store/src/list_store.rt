@@ -5,7 +5,6 @@ ghost use Rattle.std.specs.List.Sorted.{IsStrictlySortedBy};
 ghost use Rattle.std.specs.Ordering.{nat_cmp};
 ghost use Rattle.holddata.specs.HoldBook.{IsInKeyOrder};
 ghost use Rattle.zone_lists.specs.ZoneList.{RowsAscend};
-ghost use Rattle.catalogue.specs.Content.{ids_of, record_of, superseders, holds_on};
 ghost use Rattle.catalogue.specs.Ids.{Ascend};
 ghost use Rattle.bureau_store.specs.Caller.{IsProper, caller_with};
 ghost use Rattle.bureau_store.specs.Effect.{publication, zone_put, zone_dropped, received_put, patterns_put, tables_after};
@@ -16,14 +15,15 @@ ghost use Rattle.bureau_store.specs.Tables.{name_order, opened, patterns_of, row
 ghost use Rattle.bureau_store.specs.declared.caller.Caller.TheVariants.{Client as OfClient, Publisher as OfPublisher};
 ghost use Rattle.bureau_store.specs.declared.caller.CallerRow.{CallerRow};
 ghost use Rattle.bureau_store.specs.declared.fault.StoreFault.TheVariants.{Memory};
-ghost use Rattle.catalogue.specs.declared.fault.SourceFault.TheVariants.{Memory as SourceMemory};
+
+mod published;
 
 use crate::by_token::{callers_by_token, rows_copied};
 use crate::clients::{client_of, counted_in_order, make_for};
 use crate::held::held_among;
 use crate::kept::{Client, Last, Put, Zone, copied, zone_of};
 use crate::{Caller, CallerRow, Store, StoreFault};
-use catalogue::{Change, ListPublished, Published, SourceFault, Sysmod};
+use catalogue::{Change, ListPublished};
 use faults::NoMemory;
 use holddata::{Hold, Kind};
 use mcs_reader::Id;
@@ -99,16 +99,17 @@ impl ListStore {
         ensures { IfOk result (λ last. record { number = last.0; reply = last.1.items } ≡ last_in self.now caller.now) }
     {
         match caller {
-            Caller::Publisher => self.published_last.copy(),
+            Caller::Publisher => self.published_last.to_pair(),
             Caller::Client(name) => match client_of(&self.by_name, name) {
-                Some(client) => client.last().copy(),
+                Some(client) => client.last().to_pair(),
                 None => Ok((0, Vec::new(self.alloc))),
             },
         }
     }
 
     fn zones_of(&self, client: &Id) -> Result<Vec<(Id, u64)>, NoMemory>
-        ensures zones { IfOk result (λ zones. zones.items ≡ map (λ zone. (zone.0, length zone.1.rows)) (client_in self.now.clients client.now).zones) }
+        ensures zones { IfOk result (λ zones. zones.items
+            ≡ map (λ zone. (zone.0, length zone.1.rows)) (client_in self.now.clients client.now).zones) }
         ensures ascend { IfOk result (λ zones. IsStrictlySortedBy name_order (map (λ zone. zone.0) zones.items)) }
     {
         match client_of(&self.by_name, client) {
@@ -127,7 +128,8 @@ impl ListStore {
     }
 
     fn rows_at(&self, client: &Id, zone: &Id) -> Result<Option<Vec<ZoneRow>>, NoMemory>
-        ensures rows { IfOk result (λ found. option_map (λ rows. rows.items) found ≡ option_map (λ table. table.rows) (zone_named zone.now (client_in self.now.clients client.now).zones)) }
+        ensures rows { IfOk result (λ found. option_map (λ rows. rows.items) found
+            ≡ option_map (λ table. table.rows) (zone_named zone.now (client_in self.now.clients client.now).zones)) }
         ensures ascend { IfOk result (λ found. IfSome found (λ rows. RowsAscend rows.items)) }
     {
         match self.zone_at(client, zone) {
@@ -147,7 +149,8 @@ impl ListStore {
     }
 
     fn patterns_at(&self, client: &Id, zone: &Id) -> Result<Vec<Pattern>, NoMemory>
-        ensures patterns { IfOk result (λ patterns. patterns.items ≡ patterns_of (zone_named zone.now (client_in self.now.clients client.now).zones)) }
+        ensures patterns { IfOk result (λ patterns. patterns.items
+            ≡ patterns_of (zone_named zone.now (client_in self.now.clients client.now).zones)) }
         ensures ascend { IfOk result (λ patterns. IsStrictlySortedBy (slice_cmp nat_cmp) patterns.items) }
     {
         match self.zone_at(client, zone) {
@@ -157,7 +160,9 @@ impl ListStore {
     }
 
     fn held(&self, client: &Id, zone: &Id, kind: Kind) -> Result<Vec<Hold>, NoMemory>
-        ensures holds { IfOk result (λ holds. holds.items ≡ held_in self.now.content (rows_of (zone_named zone.now (client_in self.now.clients client.now).zones)) kind) }
+        ensures holds { IfOk result (λ holds. holds.items
+            ≡ held_in self.now.content
+            (rows_of (zone_named zone.now (client_in self.now.clients client.now).zones)) kind) }
         ensures in_key_order { IfOk result (λ holds. IsInKeyOrder holds.items) }
     {
         match self.zone_at(client, zone) {
@@ -169,7 +174,9 @@ impl ListStore {
     // Makes a client's change. Where memory runs out, the tables are as they were.
     fn make(&mut self, client: &Id, put: Put, number: u64, reply: &[u8]) -> Result<(), NoMemory>
         requires { IsFit put }
-        ensures done { OnOk result (tables_of self.new ≡ tables_after (OfClient client.now) (effect_of put) (record { number = number; reply = reply.now }) (tables_of self.old)) }
+        ensures done { OnOk result (tables_of self.new
+            ≡ tables_after (OfClient client.now) (effect_of put)
+            (record { number = number; reply = reply.now }) (tables_of self.old)) }
         ensures err { OnErr result (tables_of self.new ≡ tables_of self.old) }
         ensures ours { IsOurs self.new }
     {
@@ -178,71 +185,9 @@ impl ListStore {
     }
 }
 
-impl Published for ListStore {
-    ghost use Rattle.bureau_store.specs.Lists.{Always, IsOurs, Same, never, lists_content_in_order, lists_keep, lists_stay, lists_go_on};
-
-    ghost content = { λ lists. lists.content };
-
-    ghost is_clean = { Always };
-
-    ghost is_ours = { IsOurs };
-
-    ghost is_open = { Always };
-
-    ghost failures = { never };
-
-    ghost keeps = { Same };
-
-    fn ids(&mut self) -> Result<Vec<Id>, SourceFault>
-        ensures same { self.new ≡ self.old }
-        ensures ours { IsOurs self.old }
-        ensures ids { IfOk result (λ ids. ids.items ≡ ids_of self.old.content) }
-        ensures ascend { IfOk result (λ ids. Ascend ids.items) }
-        ensures memory { IfErr result (λ fault. fault ≡ SourceMemory) }
-    {
-        self.published.ids()
-    }
-
-    fn sysmod(&mut self, id: &Id) -> Result<Option<Sysmod>, SourceFault>
-        ensures same { self.new ≡ self.old }
-        ensures ours { IsOurs self.old }
-        ensures sysmod { IfOk result (λ found. found ≡ record_of self.old.content id.now) }
-        ensures memory { IfErr result (λ fault. fault ≡ SourceMemory) }
-    {
-        self.published.sysmod(id)
-    }
-
-    fn superseders(&mut self, id: &Id) -> Result<Vec<Id>, SourceFault>
-        ensures same { self.new ≡ self.old }
-        ensures ours { IsOurs self.old }
-        ensures superseders { IfOk result (λ ids. ids.items ≡ superseders self.old.content id.now) }
-        ensures ascend { IfOk result (λ ids. Ascend ids.items) }
-        ensures memory { IfErr result (λ fault. fault ≡ SourceMemory) }
-    {
-        self.published.superseders(id)
-    }
-
-    fn holds_on(&mut self, id: &Id) -> Result<Vec<Hold>, SourceFault>
-        ensures same { self.new ≡ self.old }
-        ensures ours { IsOurs self.old }
-        ensures holds { IfOk result (λ holds. holds.items ≡ holds_on self.old.content id.now) }
-        ensures in_key_order { IfOk result (λ holds. IsInKeyOrder holds.items) }
-        ensures memory { IfErr result (λ fault. fault ≡ SourceMemory) }
-    {
-        self.published.holds_on(id)
-    }
-
-    ghost in_order = { lists_content_in_order };
-
-    ghost keeps_content = { lists_keep };
-
-    ghost keeps_itself = { lists_stay };
-
-    ghost keeps_on = { lists_go_on };
-}
-
 impl Store for ListStore {
-    ghost use Rattle.bureau_store.specs.Lists.{NeverOutgrown, lists_keep_tables, lists_content, lists_in_order, tables_of};
+    ghost use Rattle.bureau_store.specs.Lists.{NeverOutgrown, tables_of};
+    ghost use Rattle.bureau_store.specs.Lists.{lists_content, lists_in_order, lists_keep_tables};
 
     ghost tables = { tables_of };
 
@@ -259,7 +204,8 @@ impl Store for ListStore {
 
     fn last(&mut self, caller: &Caller) -> Result<(u64, Vec<u8>), StoreFault>
         ensures same { self.new ≡ self.old }
-        ensures last { IfOk result (λ last. record { number = last.0; reply = last.1.items } ≡ (tables_of self.old).last caller.now) }
+        ensures last { IfOk result (λ last. record { number = last.0; reply = last.1.items }
+            ≡ (tables_of self.old).last caller.now) }
         ensures memory { IfErr result (λ fault. fault ≡ Memory) }
     {
         Ok(self.last_of(caller)?)
@@ -268,7 +214,8 @@ impl Store for ListStore {
     fn counts(&mut self) -> Result<(u64, u64), StoreFault>
         ensures same { self.new ≡ self.old }
         ensures ours { IsOurs self.old }
-        ensures counts { IfOk result (λ counts. (counts.0 ≡ length (tables_of self.old).content.sysmods) × (counts.1 ≡ length (tables_of self.old).content.holds)) }
+        ensures counts { IfOk result (λ counts. (counts.0 ≡ length (tables_of self.old).content.sysmods)
+            × (counts.1 ≡ length (tables_of self.old).content.holds)) }
         ensures memory { IfErr result (λ fault. fault ≡ Memory) }
     {
         Ok((
@@ -279,7 +226,8 @@ impl Store for ListStore {
 
     fn zones(&mut self, client: &Id) -> Result<Vec<(Id, u64)>, StoreFault>
         ensures same { self.new ≡ self.old }
-        ensures zones { IfOk result (λ zones. zones.items ≡ map (λ zone. (zone.0, length zone.1.rows)) ((tables_of self.old).zones client.now)) }
+        ensures zones { IfOk result (λ zones. zones.items
+            ≡ map (λ zone. (zone.0, length zone.1.rows)) ((tables_of self.old).zones client.now)) }
         ensures ascend { IfOk result (λ zones. IsStrictlySortedBy name_order (map (λ zone. zone.0) zones.items)) }
         ensures memory { IfErr result (λ fault. fault ≡ Memory) }
     {
@@ -288,7 +236,8 @@ impl Store for ListStore {
 
     fn zone(&mut self, client: &Id, zone: &Id) -> Result<Option<Vec<ZoneRow>>, StoreFault>
         ensures same { self.new ≡ self.old }
-        ensures zone { IfOk result (λ found. option_map (λ rows. rows.items) found ≡ option_map (λ table. table.rows) (zone_named zone.now ((tables_of self.old).zones client.now))) }
+        ensures zone { IfOk result (λ found. option_map (λ rows. rows.items) found
+            ≡ option_map (λ table. table.rows) (zone_named zone.now ((tables_of self.old).zones client.now))) }
         ensures ascend { IfOk result (λ found. IfSome found (λ rows. RowsAscend rows.items)) }
         ensures memory { IfErr result (λ fault. fault ≡ Memory) }
     {
@@ -306,7 +255,8 @@ impl Store for ListStore {
 
     fn patterns(&mut self, client: &Id, zone: &Id) -> Result<Vec<Pattern>, StoreFault>
         ensures same { self.new ≡ self.old }
-        ensures patterns { IfOk result (λ patterns. patterns.items ≡ patterns_of (zone_named zone.now ((tables_of self.old).zones client.now))) }
+        ensures patterns { IfOk result (λ patterns. patterns.items
+            ≡ patterns_of (zone_named zone.now ((tables_of self.old).zones client.now))) }
         ensures ascend { IfOk result (λ patterns. IsStrictlySortedBy (slice_cmp nat_cmp) patterns.items) }
         ensures memory { IfErr result (λ fault. fault ≡ Memory) }
     {
@@ -315,7 +265,9 @@ impl Store for ListStore {
 
     fn held_in(&mut self, client: &Id, zone: &Id, kind: Kind) -> Result<Vec<Hold>, StoreFault>
         ensures same { self.new ≡ self.old }
-        ensures holds { IfOk result (λ holds. holds.items ≡ held_in (tables_of self.old).content (rows_of (zone_named zone.now ((tables_of self.old).zones client.now))) kind) }
+        ensures holds { IfOk result (λ holds. holds.items
+            ≡ held_in (tables_of self.old).content
+            (rows_of (zone_named zone.now ((tables_of self.old).zones client.now))) kind) }
         ensures in_key_order { IfOk result (λ holds. IsInKeyOrder holds.items) }
         ensures memory { IfErr result (λ fault. fault ≡ Memory) }
     {
@@ -323,7 +275,9 @@ impl Store for ListStore {
     }
 
     fn publish(&mut self, number: u64, reply: &[u8], changes: &[Change]) -> Result<(), StoreFault>
-        ensures done { OnOk result (tables_of self.new ≡ tables_after OfPublisher (publication changes.now) (record { number = number; reply = reply.now }) (tables_of self.old)) }
+        ensures done { OnOk result (tables_of self.new
+            ≡ tables_after OfPublisher (publication changes.now)
+            (record { number = number; reply = reply.now }) (tables_of self.old)) }
         ensures err { OnErr result (tables_of self.new ≡ tables_of self.old) }
         ensures ours { IsOurs self.new }
         ensures memory { IfErr result (λ fault. fault ≡ Memory) }
@@ -343,7 +297,9 @@ impl Store for ListStore {
         rows: &[ZoneRow],
     ) -> Result<(), StoreFault>
         requires { RowsAscend rows.now }
-        ensures done { OnOk result (tables_of self.new ≡ tables_after (OfClient client.now) (zone_put zone.now rows.now) (record { number = number; reply = reply.now }) (tables_of self.old)) }
+        ensures done { OnOk result (tables_of self.new
+            ≡ tables_after (OfClient client.now) (zone_put zone.now rows.now)
+            (record { number = number; reply = reply.now }) (tables_of self.old)) }
         ensures err { OnErr result (tables_of self.new ≡ tables_of self.old) }
         ensures ours { IsOurs self.new }
         ensures memory { IfErr result (λ fault. fault ≡ Memory) }
@@ -359,7 +315,9 @@ impl Store for ListStore {
         reply: &[u8],
         zone: &Id,
     ) -> Result<(), StoreFault>
-        ensures done { OnOk result (tables_of self.new ≡ tables_after (OfClient client.now) (zone_dropped zone.now) (record { number = number; reply = reply.now }) (tables_of self.old)) }
+        ensures done { OnOk result (tables_of self.new
+            ≡ tables_after (OfClient client.now) (zone_dropped zone.now)
+            (record { number = number; reply = reply.now }) (tables_of self.old)) }
         ensures err { OnErr result (tables_of self.new ≡ tables_of self.old) }
         ensures ours { IsOurs self.new }
         ensures memory { IfErr result (λ fault. fault ≡ Memory) }
@@ -375,7 +333,9 @@ impl Store for ListStore {
         ids: &[Id],
     ) -> Result<(), StoreFault>
         requires { Ascend ids.now }
-        ensures done { OnOk result (tables_of self.new ≡ tables_after (OfClient client.now) (received_put ids.now) (record { number = number; reply = reply.now }) (tables_of self.old)) }
+        ensures done { OnOk result (tables_of self.new
+            ≡ tables_after (OfClient client.now) (received_put ids.now)
+            (record { number = number; reply = reply.now }) (tables_of self.old)) }
         ensures err { OnErr result (tables_of self.new ≡ tables_of self.old) }
         ensures ours { IsOurs self.new }
         ensures memory { IfErr result (λ fault. fault ≡ Memory) }
@@ -393,7 +353,9 @@ impl Store for ListStore {
         patterns: &[Pattern],
     ) -> Result<(), StoreFault>
         requires { IsStrictlySortedBy (slice_cmp nat_cmp) patterns.now }
-        ensures done { OnOk result (tables_of self.new ≡ tables_after (OfClient client.now) (patterns_put zone.now patterns.now) (record { number = number; reply = reply.now }) (tables_of self.old)) }
+        ensures done { OnOk result (tables_of self.new
+            ≡ tables_after (OfClient client.now) (patterns_put zone.now patterns.now)
+            (record { number = number; reply = reply.now }) (tables_of self.old)) }
         ensures err { OnErr result (tables_of self.new ≡ tables_of self.old) }
         ensures ours { IsOurs self.new }
         ensures memory { IfErr result (λ fault. fault ≡ Memory) }

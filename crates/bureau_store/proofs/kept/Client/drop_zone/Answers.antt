@@ -7,6 +7,6 @@ use Rattle.bureau_store.proofs.kept.Client.drop_zone.Goals as goal
 
 pub returns-clause-done : goal.returns-clause-done
 returns-clause-done c =
-    let with_zones : Zones → ClientTable = λ zones. record { last = c.args.last; zones = zones; received = c.self.inside.ids.items } in
-    ap with_zones (c.remove.ensures.entries ∙ remove_named c.args.zone.now c.self.inside.by_name.entries)
+    let with_zones : Zones → ClientTable = λ zones. record { last = c.args.last; zones = zones; received = c.self.inside.received.items } in
+    ap with_zones (c.remove.ensures.entries ∙ remove_named c.args.zone.now c.self.inside.zones.entries)
     ∙ ap (λ (was : ClientTable). client_after (zone_dropped c.args.zone.now) c.args.last was) c.self.view_is
