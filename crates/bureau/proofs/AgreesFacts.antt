@@ -255,7 +255,7 @@ pub record Place (viewer : Caller) (opening : Opening) (history : List Asked) (t
   pub agrees : Agrees viewer opening (accepted_in opening history) now
   pub step : IsStep now turn next
 
--- the history behind some turns
+-- the history that some turns leave
 abbrev history_after : Caller → List Turn → List Asked → List Asked
 history_after viewer before history = map asked_in (filter (is_own viewer) (reverse before)) ++ history
 

@@ -116,7 +116,7 @@ by_alpha call = record { caller = Client (codes "ALPHA  "); call = call }
 abbrev own : List Asked → Call → Answer
 own history call = own_answer opening history (Client (codes "ALPHA  ")) call
 
--- a change takes the next number, and what it did is there for the calls behind it
+-- a change takes the next number, and what it did is there for the calls after it
 pub zone_dropped_before : own (by_alpha (drop_zone (Some 3) (codes "TGT1   ")) ∷ []) (err_sysmods (codes "TGT1   ")) ≡ plain 404 (codes "NOT FOUND\n")
 zone_dropped_before = refl
 

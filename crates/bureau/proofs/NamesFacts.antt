@@ -3,14 +3,15 @@ use Rattle.std.proofs.Common.{◌≡◌, ℕ, Bool, true, false, ◌||◌, List,
 use Rattle.std.specs.Cmp.Lexicographic.{nat_list_cmp_total}
 use Rattle.std.specs.List.{AllByRecursion, list_any}
 use Rattle.std.specs.List.Sorted.{IsStrictlySortedBy}
-use Rattle.std.specs.Ordering.{is_eq, match_ordering, ordering_reverse}
+use Rattle.std.specs.Ordering.{is_eq}
 use Rattle.std.specs.BTreeSet.{insert_key}
 use Rattle.std.specs.Str.{bytes_eq}
 use Rattle.std.specs.declared.cmp.Ordering.{Ordering}
-use Rattle.std.specs.declared.cmp.Ordering.TheVariants.{Less, Equal, Greater}
+use Rattle.std.specs.declared.cmp.Ordering.TheVariants.{Less, Equal}
 use Rattle.std.proofs.lemmas.Map.Lookups.{exact_bytes}
 use Rattle.std.proofs.lemmas.Map.Text.{is_eq-slice_cmp}
 use Rattle.std.proofs.lemmas.Slice.Eq.{bytes_eq-Decides}
+use Rattle.holddata.proofs.InsertFacts as keys
 use Rattle.bureau_store.specs.Caller.{is_caller}
 use Rattle.bureau_store.specs.Tables.{name_order}
 use Rattle.bureau_store.specs.declared.caller.Caller.{Caller}
@@ -48,8 +49,7 @@ pub apart_by_order : (a b : List ℕ) (o : Ordering) → name_order a b ≡ o �
 apart_by_order a b o is h = sym (is_eq-slice_cmp a b) ∙ ap is_eq is ∙ h
 
 pub all_below : (k x : List ℕ) (xs : List (List ℕ)) → name_order k x ≡ Less → AllByRecursion (λ y. name_order x y ≡ Less) xs → AllByRecursion (λ y. name_order k y ≡ Less) xs
-all_below k x [] h g = tt
-all_below k x (y ∷ ys) h g = (nat_list_cmp_total.trans k x y h g.0, all_below k x ys h g.1)
+all_below = keys.all_below nat_list_cmp_total
 
 pub all_apart : (k : List ℕ) (xs : List (List ℕ)) → AllByRecursion (λ y. name_order k y ≡ Less) xs → AllByRecursion (λ y. bytes_eq k y ≡ false) xs
 all_apart k [] g = tt
@@ -60,44 +60,9 @@ pub below_all : (k x : List ℕ) (xs : List (List ℕ)) → name_order k x ≡ L
 unfolding IsStrictlySortedBy
 below_all k x xs h sorted = (h, all_below k x xs h sorted.0)
 
-all_insert : (P : List ℕ → Type 0) (ks : List (List ℕ)) (k : List ℕ) → AllByRecursion P ks → P k → AllByRecursion P (insert_key name_order ks k)
-all_insert P [] k h p = (p, tt)
-all_insert P (x ∷ xs) k h p = by (all_insert P xs k h.1 p) (name_order k x)
-  where
-    by : AllByRecursion P (insert_key name_order xs k) → (o : Ordering) → AllByRecursion P (match_ordering o (k ∷ x ∷ xs) (x ∷ xs) (x ∷ insert_key name_order xs k))
-    by rest Less = (p, h)
-    by rest Equal = h
-    by rest Greater = (h.0, rest)
-
-turned : (a b : List ℕ) → name_order a b ≡ Greater → name_order b a ≡ Less
-turned a b h = nat_list_cmp_total.antisymm b a ∙ ap ordering_reverse h
-
 pub sorted_insert : (ks : List (List ℕ)) (k : List ℕ) → IsStrictlySortedBy name_order ks → IsStrictlySortedBy name_order (insert_key name_order ks k)
-unfolding IsStrictlySortedBy
-sorted_insert [] k h = (tt, tt)
-sorted_insert (x ∷ xs) k h = by (sorted_insert xs k h.1) (name_order k x) refl
-  where
-    by : IsStrictlySortedBy name_order (insert_key name_order xs k) → (o : Ordering) → name_order k x ≡ o → IsStrictlySortedBy name_order (match_ordering o (k ∷ x ∷ xs) (x ∷ xs) (x ∷ insert_key name_order xs k))
-    by rest Less is = ((is, all_below k x xs is h.0), h)
-    by rest Equal is = h
-    by rest Greater is = (all_insert (λ y. name_order x y ≡ Less) xs k h.0 (turned k x is), rest)
+sorted_insert = keys.sorted_insert name_order nat_list_cmp_total
 
 -- a name is among some and one more where it is that one or among the others
 pub any_insert : (test : List ℕ → Bool) (ks : List (List ℕ)) (k : List ℕ) → list_any test (insert_key name_order ks k) ≡ (test k || list_any test ks)
-any_insert test [] k = refl
-any_insert test (x ∷ xs) k = by (any_insert test xs k) (name_order k x) refl
-  where
-    twice : (a b : Bool) → (a || b) ≡ (a || (a || b))
-    twice true b = refl
-    twice false b = refl
-
-    swap : (a b c : Bool) → (a || (b || c)) ≡ (b || (a || c))
-    swap true true c = refl
-    swap true false c = refl
-    swap false true c = refl
-    swap false false c = refl
-
-    by : list_any test (insert_key name_order xs k) ≡ (test k || list_any test xs) → (o : Ordering) → name_order k x ≡ o → list_any test (match_ordering o (k ∷ x ∷ xs) (x ∷ xs) (x ∷ insert_key name_order xs k)) ≡ (test k || (test x || list_any test xs))
-    by rest Less is = refl
-    by rest Equal is = twice (test x) (list_any test xs) ∙ ap (λ y. test y || (test x || list_any test xs)) (sym (equal_name k x is))
-    by rest Greater is = ap (λ b. test x || b) rest ∙ swap (test x) (test k) (list_any test xs)
+any_insert = keys.any_insert name_order exact_bytes

@@ -482,8 +482,8 @@ stays_stale opening closing turns run first again comes is =
     let at = split_run comes.before _ opening closing whole in
     let found = first_stale at.0 at.2.0 first comes.number at.2.1 comes.first_is is in
     let later = split_run comes.between _ at.2.0 closing at.2.2 in
-    let behind = passed_step first.caller comes.number at.0 at.2.0 first at.2.1 found.1 in
-    let kept = kept_by_run (IsPassed first.caller comes.number) (λ old new turn. passed_step first.caller comes.number old new turn) at.2.0 later.0 comes.between later.1 behind in
+    let after = passed_step first.caller comes.number at.0 at.2.0 first at.2.1 found.1 in
+    let kept = kept_by_run (IsPassed first.caller comes.number) (λ old new turn. passed_step first.caller comes.number old new turn) at.2.0 later.0 comes.between later.1 after in
     let passed = subst (λ caller. IsPassed caller comes.number later.0) (sym comes.caller) kept in
     let leaves = again_leaves later.0 later.2.0 again comes.number [] later.2.1 comes.again_is found.0 (inl passed) in (
       again_stale later.0 later.2.0 again comes.number later.2.1 comes.again_is found.0 passed,

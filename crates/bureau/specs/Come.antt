@@ -1,4 +1,4 @@
--- What comes of a call, as the code has it. For private contracts: `Outcome` says what comes.
+-- No part of what is promised: private contracts cite it. What comes of a call, as the code has it; `Outcome` says what comes.
 use Rattle.std.specs.Prelude.{◌≡◌, ◌≤◌, ◌+◌, ℕ, List, Option, Result, Ok, Err, is_some, length, true}
 use Rattle.std.specs.Cmp.Lexicographic.{slice_cmp}
 use Rattle.std.specs.List.Sorted.{IsStrictlySortedBy}

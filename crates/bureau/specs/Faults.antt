@@ -1,4 +1,4 @@
--- The fault of a body, as it is told. For private contracts.
+-- No part of what is promised: private contracts cite it. The fault of a body, as it is told.
 use Rattle.std.specs.Prelude.{◌≡◌, ◌⊎◌, ℕ, List, Result, Err}
 use Rattle.faults.specs.FaultText.{text_of}
 use Rattle.faults.specs.declared.any.AnyFault.{AnyFault}

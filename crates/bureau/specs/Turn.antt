@@ -1,4 +1,4 @@
--- What comes of a change by its turn. For private contracts: `Outcome` says it by numbers.
+-- No part of what is promised: private contracts cite it. What comes of a change by its turn; `Outcome` says it by numbers.
 use Rattle.bureau_store.specs.Tables.{LastChange}
 use Rattle.bureau.specs.Outcome.{Outcome, answered, bad_number, gap, stale, told}
 use Rattle.bureau.specs.declared.turn.Turn.{Turn}

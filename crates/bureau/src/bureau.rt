@@ -93,7 +93,7 @@ impl<S: Store, J: Judge<S>> Bureau<S, J> {
         ensures shut { ShutsByFault S.is_open self.old.store self.new.store result }
     {
         let found = self.desk.caller_of(token)?;
-        Ok(properly(&found))
+        Ok(proper_caller(&found))
     }
 
     /// What is answered to a call by a caller: see the definitions of the joint bureau.
@@ -154,7 +154,7 @@ impl<S: Store, J: Judge<S>> Bureau<S, J> {
 }
 
 // A caller as a store finds it: none is a client with the publisher's name.
-fn properly(found: &Option<Caller>) -> Option<Caller>
+fn proper_caller(found: &Option<Caller>) -> Option<Caller>
     ensures proper { IfSome result IsProper }
     ensures same { (rows : List CallerRow) (token : List ℕ) → found.now ≡ caller_with rows token → result ≡ found.now }
 {

@@ -1,5 +1,4 @@
 //! Making a change that is due. It takes no memory of the bureau's.
-ghost use Rattle.std.specs.Prelude.{◌≡◌};
 ghost use Rattle.catalogue.specs.Content.{Content, IsInOrder};
 ghost use Rattle.bureau_store.specs.Effect.{content_after, tables_after};
 ghost use Rattle.bureau_store.specs.Store.{Makes};

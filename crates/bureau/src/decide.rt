@@ -1,5 +1,5 @@
 //! What comes of a call. Nothing changes here, and all memory that a change takes is taken here.
-ghost use Rattle.std.specs.Prelude.{◌≡◌, IfOk};
+ghost use Rattle.std.specs.Prelude.{IfOk};
 ghost use Rattle.catalogue.specs.Published.{Tells};
 ghost use Rattle.bureau_store.specs.Caller.{IsProper};
 ghost use Rattle.bureau_store.specs.declared.caller.Caller.TheVariants.{Publisher, Client};

@@ -10,7 +10,7 @@ ghost use Rattle.bureau_store.specs.declared.caller.Caller.{Caller};
 ///
 /// `alone`: each caller's answers, other than 503, are those of a bureau that received the publisher's calls
 /// and that caller's alone, those answered 503 left out. `alike`: so in two runs that open alike for a
-/// caller, the same call behind the same own history has the same answer, unless one of the two is 503.
+/// caller, the same call after the same own history has the same answer, unless one of the two is 503.
 pub fn isolation()
     ensures alone { (opening closing : Tables) (turns : List Turn) (viewer : Caller) →
         AreInOrder opening → IsRun opening turns closing → IsAlone viewer (opening_of viewer opening) turns }

@@ -4,7 +4,7 @@
 //! - [`Call`]: what a caller asks
 //! - [`isolation`]: each caller's answers are those of a bureau that no other client uses
 //! - [`repeats`]: a change acts once, however often it is sent
-//! - [`Reply`]: an answer: its status and its body
+//! - [`Reply`]: an answer: its status and its [`Body`]
 //!
 //! `specs/` says what the bureau is: begin with its `Outcome`, what comes of a call over what one
 //! caller sees; then `Joint`, the bureau that all share, and `Own` and `Alone`, the bureau that one caller

@@ -1,6 +1,6 @@
 //! The texts of answers. Each is one line, or a table in columns.
 ghost use Rattle.std.specs.Prelude.{◌≡◌, ◌++◌, codes, count_by, decimal, map, None, IfOk, OnOk};
-ghost use Rattle.columns.specs.Columns.{columns_of, text_of as text_in};
+ghost use Rattle.columns.specs.Columns.{text_of as text_in};
 ghost use Rattle.mcs_reader.specs.Id.{text_of};
 ghost use Rattle.bureau.specs.Texts as Spec;
 ghost use Rattle.bureau.specs.Texts.{zone_columns, zone_fields, patterns_text, publication_text, received_text, zone_dropped_text, zone_put_text};

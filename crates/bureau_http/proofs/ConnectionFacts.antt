@@ -10,33 +10,33 @@ abbrev pub OneReading : Type 0
 OneReading = (bytes : List ℕ) (next other : Next) → IsNext bytes next → IsNext bytes other → next ≡ other
 
 -- no request stands where the connection ends
-no_request_clean : (one : OneReading) (rows : List CallerRow) (place : ℕ) (bytes : List ℕ) (asked : Asked) (behind : List ℕ)
-    → IsNext bytes clean_end → IsRequest rows place bytes asked behind → ⊥
-no_request_clean one rows place bytes asked behind end is =
-    let e : clean_end ≡ whole is.parts is.body behind = one bytes clean_end (whole is.parts is.body behind) end is.next in absurd (cc)
+no_request_clean : (one : OneReading) (rows : List CallerRow) (place : ℕ) (bytes : List ℕ) (asked : Asked) (following : List ℕ)
+    → IsNext bytes clean_end → IsRequest rows place bytes asked following → ⊥
+no_request_clean one rows place bytes asked following end is =
+    let e : clean_end ≡ whole is.parts is.body following = one bytes clean_end (whole is.parts is.body following) end is.next in absurd (cc)
 
-no_request_inside : (one : OneReading) (rows : List CallerRow) (place : ℕ) (bytes : List ℕ) (asked : Asked) (behind : List ℕ)
-    → IsNext bytes end_inside → IsRequest rows place bytes asked behind → ⊥
-no_request_inside one rows place bytes asked behind end is =
-    let e : end_inside ≡ whole is.parts is.body behind = one bytes end_inside (whole is.parts is.body behind) end is.next in absurd (cc)
+no_request_inside : (one : OneReading) (rows : List CallerRow) (place : ℕ) (bytes : List ℕ) (asked : Asked) (following : List ℕ)
+    → IsNext bytes end_inside → IsRequest rows place bytes asked following → ⊥
+no_request_inside one rows place bytes asked following end is =
+    let e : end_inside ≡ whole is.parts is.body following = one bytes end_inside (whole is.parts is.body following) end is.next in absurd (cc)
 
 closing_twice : (last asked same : Asked) → last ≡ same → asked ≡ same → last.closes ≡ true → asked.closes ≡ false → ⊥
 closing_twice last asked same e f closes stays =
     let never : true ≡ false = sym closes ∙ ap (λ a. a.closes) (e ∙ sym f) ∙ stays in absurd (cc)
 
-no_request_closed : (one : OneReading) (rows : List CallerRow) (place : ℕ) (bytes : List ℕ) (asked : Asked) (behind : List ℕ) (last : Asked)
-    → IsLast rows place bytes last → IsRequest rows place bytes asked behind → ⊥
-no_request_closed one rows place bytes asked behind last ends is =
-    let e : ends.0 ≡ whole is.parts is.body behind = one bytes ends.0 (whole is.parts is.body behind) ends.1 is.next in
+no_request_closed : (one : OneReading) (rows : List CallerRow) (place : ℕ) (bytes : List ℕ) (asked : Asked) (following : List ℕ) (last : Asked)
+    → IsLast rows place bytes last → IsRequest rows place bytes asked following → ⊥
+no_request_closed one rows place bytes asked following last ends is =
+    let e : ends.0 ≡ whole is.parts is.body following = one bytes ends.0 (whole is.parts is.body following) ends.1 is.next in
     let by = subst (λ next. IsLastBy next rows place last) e ends.2 in
     closing_twice last asked (asked_whole rows place is.parts is.body) by.0 is.is by.1 is.stays
 
-no_request : (one : OneReading) (stop : Stop) (rows : List CallerRow) (place : ℕ) (bytes : List ℕ) (last : List Asked) (asked : Asked) (behind : List ℕ)
-    → IsOwn stop → StopsAt stop rows place bytes last → IsRequest rows place bytes asked behind → ⊥
-no_request one clean rows place bytes last asked behind own stops is = no_request_clean one rows place bytes asked behind stops.1 is
-no_request one inside rows place bytes last asked behind own stops is = no_request_inside one rows place bytes asked behind stops.1 is
-no_request one closed rows place bytes last asked behind own stops is = no_request_closed one rows place bytes asked behind stops.0 stops.2 is
-no_request one cut rows place bytes last asked behind own stops is = own
+no_request : (one : OneReading) (stop : Stop) (rows : List CallerRow) (place : ℕ) (bytes : List ℕ) (last : List Asked) (asked : Asked) (following : List ℕ)
+    → IsOwn stop → StopsAt stop rows place bytes last → IsRequest rows place bytes asked following → ⊥
+no_request one clean rows place bytes last asked following own stops is = no_request_clean one rows place bytes asked following stops.1 is
+no_request one inside rows place bytes last asked following own stops is = no_request_inside one rows place bytes asked following stops.1 is
+no_request one closed rows place bytes last asked following own stops is = no_request_closed one rows place bytes asked following stops.0 stops.2 is
+no_request one cut rows place bytes last asked following own stops is = own
 
 -- ---- one stop
 
@@ -44,7 +44,7 @@ last_here : (next : Next) (rows : List CallerRow) (place : ℕ) (last other : As
 last_here clean_end rows place last other h k = absurd h
 last_here end_inside rows place last other h k = absurd h
 last_here (refused refusal bare) rows place last other h k = h ∙ sym k
-last_here (whole parts body behind) rows place last other h k = h.0 ∙ sym k.0
+last_here (whole parts body following) rows place last other h k = h.0 ∙ sym k.0
 
 one_last : (one : OneReading) (rows : List CallerRow) (place : ℕ) (bytes : List ℕ) (last other : Asked) → IsLast rows place bytes last
     → IsLast rows place bytes other → last ≡ other
@@ -79,35 +79,35 @@ one_stop one rows place bytes cut other last others own also h k = absurd own
 
 -- ---- one row of requests
 
-same_request : (one : OneReading) (rows : List CallerRow) (place : ℕ) (bytes : List ℕ) (asked other : Asked) (behind rest : List ℕ)
-    → IsRequest rows place bytes asked behind → IsRequest rows place bytes other rest → (asked ≡ other) × (behind ≡ rest)
-same_request one rows place bytes asked other behind rest h k =
-    let e : whole h.parts h.body behind ≡ whole k.parts k.body rest = one bytes _ _ h.next k.next in
+same_request : (one : OneReading) (rows : List CallerRow) (place : ℕ) (bytes : List ℕ) (asked other : Asked) (following rest : List ℕ)
+    → IsRequest rows place bytes asked following → IsRequest rows place bytes other rest → (asked ≡ other) × (following ≡ rest)
+same_request one rows place bytes asked other following rest h k =
+    let e : whole h.parts h.body following ≡ whole k.parts k.body rest = one bytes _ _ h.next k.next in
     let parts : h.parts ≡ k.parts = cc in
     let body : h.body ≡ k.body = cc in
-    let left : behind ≡ rest = cc in
+    let left : following ≡ rest = cc in
     (h.is ∙ ap (λ p. asked_whole rows place p h.body) parts ∙ ap (asked_whole rows place k.parts) body ∙ sym k.is, left)
 
-agree : (one : OneReading) (rows : List CallerRow) (place : ℕ) (bytes : List ℕ) (first others : List Asked) (behind rest : List ℕ) (stop other : Stop) (last ends : List Asked)
-    → ReadsTo rows place bytes first behind → ReadsTo rows place bytes others rest → IsOwn stop → IsOwn other
-    → StopsAt stop rows (length first + place) behind last → StopsAt other rows (length others + place) rest ends
+agree : (one : OneReading) (rows : List CallerRow) (place : ℕ) (bytes : List ℕ) (first others : List Asked) (following rest : List ℕ) (stop other : Stop) (last ends : List Asked)
+    → ReadsTo rows place bytes first following → ReadsTo rows place bytes others rest → IsOwn stop → IsOwn other
+    → StopsAt stop rows (length first + place) following last → StopsAt other rows (length others + place) rest ends
     → (first ++ last ≡ others ++ ends) × (stop ≡ other)
-agree one rows place bytes [] [] behind rest stop other last ends h k own also s t =
+agree one rows place bytes [] [] following rest stop other last ends h k own also s t =
     let at : 0 + place ≡ place = omega arith in
     one_stop one rows place bytes stop other last ends own also (subst (λ n. StopsAt stop rows n bytes last) at (subst (λ b. StopsAt stop rows (0 + place) b last) h s))
     (subst (λ n. StopsAt other rows n bytes ends) at (subst (λ b. StopsAt other rows (0 + place) b ends) k t))
-agree one rows place bytes [] (y ∷ ys) behind rest stop other last ends h k own also s t =
+agree one rows place bytes [] (y ∷ ys) following rest stop other last ends h k own also s t =
     let at : 0 + place ≡ place = omega arith in
     absurd (no_request one stop rows place bytes last y k.0 own (subst (λ n. StopsAt stop rows n bytes last) at (subst (λ b. StopsAt stop rows (0 + place) b last) h s)) k.1)
-agree one rows place bytes (x ∷ xs) [] behind rest stop other last ends h k own also s t =
+agree one rows place bytes (x ∷ xs) [] following rest stop other last ends h k own also s t =
     let at : 0 + place ≡ place = omega arith in
     absurd (no_request one other rows place bytes ends x h.0 also (subst (λ n. StopsAt other rows n bytes ends) at (subst (λ b. StopsAt other rows (0 + place) b ends) k t)) h.1)
-agree one rows place bytes (x ∷ xs) (y ∷ ys) behind rest stop other last ends h k own also s t =
+agree one rows place bytes (x ∷ xs) (y ∷ ys) following rest stop other last ends h k own also s t =
     let same = same_request one rows place bytes x y h.0 k.0 h.1 k.1 in
     let at : length (x ∷ xs) + place ≡ length xs + (place + 1) = omega arith in
     let there : length (y ∷ ys) + place ≡ length ys + (place + 1) = omega arith in
-    let more = agree one rows (place + 1) k.0 xs ys behind rest stop other last ends (subst (λ b. ReadsTo rows (place + 1) b xs behind) same.1 h.2) k.2 own also
-    (subst (λ n. StopsAt stop rows n behind last) at s) (subst (λ n. StopsAt other rows n rest ends) there t) in
+    let more = agree one rows (place + 1) k.0 xs ys following rest stop other last ends (subst (λ b. ReadsTo rows (place + 1) b xs following) same.1 h.2) k.2 own also
+    (subst (λ n. StopsAt stop rows n following last) at s) (subst (λ n. StopsAt other rows n rest ends) there t) in
     (ap (λ a. a ∷ (xs ++ last)) same.0 ∙ ap (λ l. y ∷ l) more.0, more.1)
 
 pub unique : (one : OneReading) (rows : List CallerRow) (bytes : List ℕ) (asked others : List Asked) (stop other : Stop)
@@ -115,6 +115,6 @@ pub unique : (one : OneReading) (rows : List CallerRow) (bytes : List ℕ) (aske
 unique one rows bytes asked others stop other h k own also =
     let at : 1 + length h.first ≡ length h.first + 1 = omega arith in
     let there : 1 + length k.first ≡ length k.first + 1 = omega arith in
-    let same = agree one rows 1 bytes h.first k.first h.behind k.behind stop other h.last k.last h.reads k.reads own also
-    (subst (λ n. StopsAt stop rows n h.behind h.last) at h.stops) (subst (λ n. StopsAt other rows n k.behind k.last) there k.stops) in
+    let same = agree one rows 1 bytes h.first k.first h.following k.following stop other h.last k.last h.reads k.reads own also
+    (subst (λ n. StopsAt stop rows n h.following h.last) at h.stops) (subst (λ n. StopsAt other rows n k.following k.last) there k.stops) in
     (h.all ∙ same.0 ∙ sym k.all, same.1)

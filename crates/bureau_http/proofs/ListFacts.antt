@@ -114,7 +114,7 @@ in_part f First Then Whole join plain once this cs ws i item so low is alone ali
 
 none_in_hand : (rows : List CallerRow) (all : List (List ℕ)) → IsInHand rows all []
 none_in_hand rows [] = refl
-none_in_hand rows (bytes ∷ all) = (tt, (cut, record { first = []; last = []; behind = bytes; reads = refl; stops = refl; all = refl }))
+none_in_hand rows (bytes ∷ all) = (tt, (cut, record { first = []; last = []; following = bytes; reads = refl; stops = refl; all = refl }))
 
 -- nothing was served
 pub nothing : (Runs : Tables → List Turn → Tables → Type 0) → IsPlain Runs → ActOnce Runs → (this : Tables) (all : List (List ℕ)) → Alone → Alike → Runs this [] this → AreServedInPart Runs this all []

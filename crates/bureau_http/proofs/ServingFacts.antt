@@ -54,15 +54,15 @@ all_on : (P : Exchange → Type 0) (xs ys : List Exchange) → AllByRecursion P 
 all_on P [] ys h k = k
 all_on P (x ∷ xs) ys h k = (h.0, all_on P xs ys h.1 k)
 
-reads_on : (rows : List CallerRow) (place : ℕ) (bytes : List ℕ) (first : List Asked) (behind : List ℕ) (asked : Asked) (rest : List ℕ)
-    → ReadsTo rows place bytes first behind → IsRequest rows (place + length first) behind asked rest
+reads_on : (rows : List CallerRow) (place : ℕ) (bytes : List ℕ) (first : List Asked) (following : List ℕ) (asked : Asked) (rest : List ℕ)
+    → ReadsTo rows place bytes first following → IsRequest rows (place + length first) following asked rest
     → ReadsTo rows place bytes (first ++ asked ∷ []) rest
-reads_on rows place bytes [] behind asked rest h k =
+reads_on rows place bytes [] following asked rest h k =
     let at : place + 0 ≡ place = omega arith in
     (rest, subst (λ p. IsRequest rows p bytes asked rest) at (subst (λ b. IsRequest rows (place + 0) b asked rest) h k), refl)
-reads_on rows place bytes (x ∷ xs) behind asked rest h k =
+reads_on rows place bytes (x ∷ xs) following asked rest h k =
     let at : place + length (x ∷ xs) ≡ (place + 1) + length xs = omega arith in
-    (h.0, h.1, reads_on rows (place + 1) h.0 xs behind asked rest h.2 (subst (λ p. IsRequest rows p behind asked rest) at k))
+    (h.0, h.1, reads_on rows (place + 1) h.0 xs following asked rest h.2 (subst (λ p. IsRequest rows p following asked rest) at k))
 
 turns_more : (exchanges : List Exchange) (exchange : Exchange) → turns_of (exchanges ++ exchange ∷ []) ≡ turns_of exchanges ++ turn_of exchange
 turns_more exchanges exchange =
@@ -115,7 +115,7 @@ begun Runs this left old new bytes run left_are written = record {
   run = run;
   callers = refl;
   answered = tt;
-  behind = bytes;
+  following = bytes;
   reads = refl;
   left_are = left_are;
   count = refl;
@@ -124,12 +124,12 @@ begun Runs this left old new bytes run left_are written = record {
 
 module _ (First Then Whole : Tables → List Turn → Tables → Type 0) (join : Join First Then Whole) (once : ActOnce Whole) (this : Tables) (place : ℕ) (rest left old mid new : Option (List ℕ)) (bytes : List ℕ)
     (so : IsSoFar First this place left old mid bytes) where
-  reads_more : (exchange : Exchange) (behind : List ℕ) → IsRequest so.now.callers place so.behind exchange.asked behind
-      → ReadsTo this.callers 1 bytes (map asked_in (so.exchanges ++ exchange ∷ [])) behind
-  reads_more exchange behind is =
-      subst (λ l. ReadsTo this.callers 1 bytes l behind) (sym (asked_more so.exchanges exchange))
-      (reads_on this.callers 1 bytes (map asked_in so.exchanges) so.behind exchange.asked behind so.reads
-      (here (λ rows p. IsRequest rows p so.behind exchange.asked behind) this so.now place so.exchanges so.callers so.count is))
+  reads_more : (exchange : Exchange) (following : List ℕ) → IsRequest so.now.callers place so.following exchange.asked following
+      → ReadsTo this.callers 1 bytes (map asked_in (so.exchanges ++ exchange ∷ [])) following
+  reads_more exchange following is =
+      subst (λ l. ReadsTo this.callers 1 bytes l following) (sym (asked_more so.exchanges exchange))
+      (reads_on this.callers 1 bytes (map asked_in so.exchanges) so.following exchange.asked following so.reads
+      (here (λ rows p. IsRequest rows p so.following exchange.asked following) this so.now place so.exchanges so.callers so.count is))
 
   written_more : (exchange : Exchange) → Appends mid new (exchange_text exchange) → Appends old new (replies_text (so.exchanges ++ exchange ∷ []))
   written_more exchange written =
@@ -139,60 +139,60 @@ module _ (First Then Whole : Tables → List Turn → Tables → Type 0) (join :
   written_none none =
       subst (Appends old new) (append-nil (replies_text so.exchanges)) (Appends-trans old mid new (replies_text so.exchanges) [] so.written none)
 
-  pub stays : (behind : List ℕ) (left1 : Option (List ℕ)) → left1 ≡ Some behind
-      → Exchanged Then so.now (λ asked. IsRequest so.now.callers place so.behind asked behind) (Appends mid new)
+  pub stays : (following : List ℕ) (left1 : Option (List ℕ)) → left1 ≡ Some following
+      → Exchanged Then so.now (λ asked. IsRequest so.now.callers place so.following asked following) (Appends mid new)
       → IsSoFar Whole this (place + 1) left1 old new bytes
-  stays behind left1 left_are done = record {
+  stays following left1 left_are done = record {
     exchanges = so.exchanges ++ done.exchange ∷ [];
     now = done.has.next;
     run = run_more First Then Whole join this so.now done.has.next so.exchanges done.exchange so.run done.has.run;
     callers = done.has.callers ∙ so.callers;
     answered = all_on IsAnswered so.exchanges (done.exchange ∷ []) so.answered (done.has.answered, tt);
-    behind = behind;
-    reads = reads_more done.exchange behind done.asked;
+    following = following;
+    reads = reads_more done.exchange following done.asked;
     left_are = left_are;
     count = let e = more_count so.exchanges done.exchange in let at = so.count in omega arith;
     written = written_more done.exchange done.written;
   }
 
   -- the connection with no request more
-  connection_here : (stop : Stop) → StopsAt stop this.callers (1 + length (map asked_in so.exchanges)) so.behind []
+  connection_here : (stop : Stop) → StopsAt stop this.callers (1 + length (map asked_in so.exchanges)) so.following []
       → IsConnection this.callers bytes (map asked_in so.exchanges) stop
   connection_here stop stops = record {
     first = map asked_in so.exchanges;
     last = [];
-    behind = so.behind;
+    following = so.following;
     reads = so.reads;
     stops = stops;
     all = sym (append-nil (map asked_in so.exchanges));
   }
 
   -- the connection with a last request
-  connection_last : (exchange : Exchange) → IsLast so.now.callers place so.behind exchange.asked
+  connection_last : (exchange : Exchange) → IsLast so.now.callers place so.following exchange.asked
       → IsConnection this.callers bytes (map asked_in (so.exchanges ++ exchange ∷ [])) closed
   connection_last exchange is = record {
     first = map asked_in so.exchanges;
     last = exchange.asked ∷ [];
-    behind = so.behind;
+    following = so.following;
     reads = so.reads;
-    stops = (exchange.asked, refl, here (λ rows p. IsLast rows p so.behind exchange.asked) this so.now place so.exchanges so.callers so.count is);
+    stops = (exchange.asked, refl, here (λ rows p. IsLast rows p so.following exchange.asked) this so.now place so.exchanges so.callers so.count is);
     all = asked_more so.exchanges exchange;
   }
 
-  -- the connection that is cut behind a request
-  connection_cut : (exchange : Exchange) (behind : List ℕ) → IsRequest so.now.callers place so.behind exchange.asked behind
+  -- the connection that is cut after a request
+  connection_cut : (exchange : Exchange) (following : List ℕ) → IsRequest so.now.callers place so.following exchange.asked following
       → IsConnection this.callers bytes (map asked_in (so.exchanges ++ exchange ∷ [])) cut
-  connection_cut exchange behind is = record {
+  connection_cut exchange following is = record {
     first = map asked_in (so.exchanges ++ exchange ∷ []);
     last = [];
-    behind = behind;
-    reads = reads_more exchange behind is;
+    following = following;
+    reads = reads_more exchange following is;
     stops = refl;
     all = sym (append-nil (map asked_in (so.exchanges ++ exchange ∷ [])));
   }
 
-  without : (answer : Result Served ConnFault) (stop : Stop) → Then so.now [] so.now → StopsAt stop this.callers (1 + length (map asked_in so.exchanges)) so.behind []
-      → StopsUnfinished answer rest so.behind
+  without : (answer : Result Served ConnFault) (stop : Stop) → Then so.now [] so.now → StopsAt stop this.callers (1 + length (map asked_in so.exchanges)) so.following []
+      → StopsUnfinished answer rest so.following
       → StopsBy answer stop (length so.exchanges) → AreWritten answer old new so.exchanges → IsServed Whole this rest old new answer bytes
   unfolding connection_here
   without answer stop run stops unfinished by written =
@@ -212,7 +212,7 @@ module _ (First Then Whole : Tables → List Turn → Tables → Type 0) (join :
         written = written;
       }
 
-  with_one : (answer : Result Served ConnFault) (stop : Stop) (exchange : Exchange) → ((behind : List ℕ) → StopsUnfinished answer rest behind) → HasExchanged Then so.now exchange
+  with_one : (answer : Result Served ConnFault) (stop : Stop) (exchange : Exchange) → ((following : List ℕ) → StopsUnfinished answer rest following) → HasExchanged Then so.now exchange
       → IsConnection this.callers bytes (map asked_in (so.exchanges ++ exchange ∷ [])) stop
       → StopsBy answer stop (length (so.exchanges ++ exchange ∷ [])) → AreWritten answer old new (so.exchanges ++ exchange ∷ [])
       → IsServed Whole this rest old new answer bytes
@@ -229,14 +229,14 @@ module _ (First Then Whole : Tables → List Turn → Tables → Type 0) (join :
         stop = stop;
         connection = connection;
         stops = by;
-        unfinished = unfinished connection.behind;
+        unfinished = unfinished connection.following;
         written = written;
       }
 
 -- a last exchange, or none, by what serving the next request answers
 module _ (First Then Whole : Tables → List Turn → Tables → Type 0) (join : Join First Then Whole) (once : ActOnce Whole) (this : Tables) (place : ℕ) (held : List ℕ) (rest left old mid new : Option (List ℕ)) (bytes : List ℕ)
     (so : IsSoFar First this place left old mid bytes) where
-  last_of : (exchange : Exchange) → IsAsked so.now.callers place so.behind exchange.asked
+  last_of : (exchange : Exchange) → IsAsked so.now.callers place so.following exchange.asked
       → (stop : Stop) × ((stop ≡ cut) ⊎ (stop ≡ closed)) × IsConnection this.callers bytes (map asked_in (so.exchanges ++ exchange ∷ [])) stop
   last_of exchange (inl is) = (closed, inr refl, connection_last First Then Whole join once this place rest left old mid new bytes so exchange is)
   last_of exchange (inr is) = (cut, inl refl, connection_cut First Then Whole join once this place rest left old mid new bytes so exchange is.0 is.1)
@@ -250,13 +250,13 @@ module _ (First Then Whole : Tables → List Turn → Tables → Type 0) (join :
     written = Appends-trans old mid new (replies_text so.exchanges) (take front.0 (exchange_text exchange)) so.written front.1;
   }
 
-  pub served_err : (fault : ConnFault) → Serves Then so.now place held rest mid new (Err fault) so.behind → IsServed Whole this rest old new (Err fault) bytes
+  pub served_err : (fault : ConnFault) → Serves Then so.now place held rest mid new (Err fault) so.following → IsServed Whole this rest old new (Err fault) bytes
   served_err Read is =
       without First Then Whole join once this place rest left old mid new bytes so (Err Read) cut is.0 refl (held, is.2) refl
       (written_none First Then Whole join once this place rest left old mid new bytes so is.1)
   served_err Write is =
       let last = last_of is.exchange is.asked in
-      with_one First Then Whole join once this place rest left old mid new bytes so (Err Write) last.0 is.exchange (λ behind. tt) is.has last.2 last.1 (cut_off is.exchange is.written)
+      with_one First Then Whole join once this place rest left old mid new bytes so (Err Write) last.0 is.exchange (λ following. tt) is.has last.2 last.1 (cut_off is.exchange is.written)
   served_err EndInside is =
       without First Then Whole join once this place rest left old mid new bytes so (Err EndInside) inside is.1 (refl, is.0) tt refl
       (written_none First Then Whole join once this place rest left old mid new bytes so is.2)
@@ -264,19 +264,19 @@ module _ (First Then Whole : Tables → List Turn → Tables → Type 0) (join :
       without First Then Whole join once this place rest left old mid new bytes so (Err Memory) cut is.0 refl (held, is.2) refl
       (written_none First Then Whole join once this place rest left old mid new bytes so is.1)
 
-  pub served_end : (count : ℕ) → 1 + count ≡ place → Serves Then so.now place held rest mid new (Ok step.CleanEnd) so.behind
+  pub served_end : (count : ℕ) → 1 + count ≡ place → Serves Then so.now place held rest mid new (Ok step.CleanEnd) so.following
       → IsServed Whole this rest old new (Ok (record { requests = count })) bytes
   served_end count e is =
       let at = so.count in
       without First Then Whole join once this place rest left old mid new bytes so (Ok (record { requests = count })) clean is.1 (refl, is.0) tt (inl refl, omega arith)
       (written_none First Then Whole join once this place rest left old mid new bytes so is.2)
 
-  pub served_last : Serves Then so.now place held rest mid new (Ok step.Ends) so.behind
+  pub served_last : Serves Then so.now place held rest mid new (Ok step.Ends) so.following
       → IsServed Whole this rest old new (Ok (record { requests = place })) bytes
   served_last is =
       let at = so.count in
       let e = more_count so.exchanges is.exchange in
-      with_one First Then Whole join once this place rest left old mid new bytes so (Ok (record { requests = place })) closed is.exchange (λ behind. tt) is.has
+      with_one First Then Whole join once this place rest left old mid new bytes so (Ok (record { requests = place })) closed is.exchange (λ following. tt) is.has
       (connection_last First Then Whole join once this place rest left old mid new bytes so is.exchange is.asked) (inr refl, omega arith)
       (written_more First Then Whole join once this place rest left old mid new bytes so is.exchange is.written)
 
@@ -293,7 +293,7 @@ nothing_served Runs once this left kept bytes run is_left = record {
   callers = refl;
   answered = tt;
   stop = cut;
-  connection = record { first = []; last = []; behind = bytes; reads = refl; stops = refl; all = refl };
+  connection = record { first = []; last = []; following = bytes; reads = refl; stops = refl; all = refl };
   stops = refl;
   unfinished = ([], (ap (λ known. prepend_known [] known) is_left, inl refl));
   written = Appends-nil kept;
@@ -331,14 +331,14 @@ pub also_asked : (Runs : Tables → List Turn → Tables → Type 0) (this : Tab
     → Exchanged Runs this (IsLast this.callers place bytes) Writes → Exchanged Runs this (IsAsked this.callers place bytes) Writes
 also_asked Runs this place bytes Writes done = record { exchange = done.exchange; asked = inl done.asked; has = done.has; written = done.written }
 
-asked_test : (ends : Bool) (rows : List CallerRow) (place : ℕ) (bytes : List ℕ) (parts : Parts) (body behind : List ℕ) (answer : Answer)
-    → IsNext bytes (whole parts body behind) → ends ≡ (closes parts || nat_le most_requests place)
+asked_test : (ends : Bool) (rows : List CallerRow) (place : ℕ) (bytes : List ℕ) (parts : Parts) (body following : List ℕ) (answer : Answer)
+    → IsNext bytes (whole parts body following) → ends ≡ (closes parts || nat_le most_requests place)
     → IsAsked rows place bytes (asked_as (what_of rows parts body) (has_token parts) (is_bare parts) ends answer).asked
-asked_test true rows place bytes parts body behind answer next e =
-    inl (whole parts body behind, next, (ap (λ b. record { what = what_of rows parts body; has_token = has_token parts; is_bare = is_bare parts; closes = b }) e, refl))
-asked_test false rows place bytes parts body behind answer next e =
+asked_test true rows place bytes parts body following answer next e =
+    inl (whole parts body following, next, (ap (λ b. record { what = what_of rows parts body; has_token = has_token parts; is_bare = is_bare parts; closes = b }) e, refl))
+asked_test false rows place bytes parts body following answer next e =
     inr (
-      behind,
+      following,
       record {
         parts = parts;
         body = body;
@@ -349,16 +349,16 @@ asked_test false rows place bytes parts body behind answer next e =
     )
 
 -- a whole request whose reply wasn't written whole
-pub whole_cut : (Runs : Tables → List Turn → Tables → Type 0) (this : Tables) (place : ℕ) (bytes : List ℕ) (parts : Parts) (body behind : List ℕ) (ends : Bool) (old new : Option (List ℕ))
-    (answer : Result (Unit {0}) ConnFault) (fault : ConnFault) → IsNext bytes (whole parts body behind) → ends ≡ (closes parts || nat_le most_requests place)
+pub whole_cut : (Runs : Tables → List Turn → Tables → Type 0) (this : Tables) (place : ℕ) (bytes : List ℕ) (parts : Parts) (body following : List ℕ) (ends : Bool) (old new : Option (List ℕ))
+    (answer : Result (Unit {0}) ConnFault) (fault : ConnFault) → IsNext bytes (whole parts body following) → ends ≡ (closes parts || nat_le most_requests place)
     → answer ≡ Err fault → IsExchanged Runs this (what_of this.callers parts body) (has_token parts) (is_bare parts) ends old new answer
     → (fault ≡ Write) × Exchanged Runs this (IsAsked this.callers place bytes) (AppendsFront old new)
-whole_cut Runs this place bytes parts body behind ends old new answer fault next e is done =
+whole_cut Runs this place bytes parts body following ends old new answer fault next e is done =
     let failed : fault ≡ Write = subst IsFailedWrite is done.failed in (
       failed,
       record {
         exchange = asked_as (what_of this.callers parts body) (has_token parts) (is_bare parts) ends done.told;
-        asked = asked_test ends this.callers place bytes parts body behind done.told next e;
+        asked = asked_test ends this.callers place bytes parts body following done.told next e;
         has = done.has;
         written = subst (λ r. IsWritten r old new (exchange_text (asked_as (what_of this.callers parts body) (has_token parts) (is_bare parts) ends done.told)))
             (is ∙ ap (λ f. Err f) failed) done.written;

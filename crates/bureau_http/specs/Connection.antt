@@ -6,25 +6,25 @@ use Rattle.bureau_store.specs.declared.caller.CallerRow.{CallerRow}
 use Rattle.bureau_http.specs.Asked.{Asked, asked_refused, asked_whole}
 
 -- a whole request stands next, which doesn't end the connection
-pub record IsRequest (rows : List CallerRow) (place : ℕ) (bytes : List ℕ) (asked : Asked) (behind : List ℕ) : Type 0 where
+pub record IsRequest (rows : List CallerRow) (place : ℕ) (bytes : List ℕ) (asked : Asked) (following : List ℕ) : Type 0 where
   pub parts : Parts
   pub body : List ℕ
-  pub next : IsNext bytes (whole parts body behind)
+  pub next : IsNext bytes (whole parts body following)
   pub is : asked ≡ asked_whole rows place parts body
   pub stays : asked.closes ≡ false
 
--- requests that don't end the connection, from a place on, and the bytes behind them
+-- requests that don't end the connection, from a place on, and the bytes after them
 abbrev pub ReadsTo : List CallerRow → ℕ → List ℕ → List Asked → List ℕ → Type 0
-ReadsTo rows place bytes [] behind = behind ≡ bytes
-ReadsTo rows place bytes (asked ∷ more) behind =
-    (rest : List ℕ) × IsRequest rows place bytes asked rest × ReadsTo rows (place + 1) rest more behind
+ReadsTo rows place bytes [] following = following ≡ bytes
+ReadsTo rows place bytes (asked ∷ more) following =
+    (rest : List ℕ) × IsRequest rows place bytes asked rest × ReadsTo rows (place + 1) rest more following
 
 -- a request that ends the connection: a head that is refused, or a whole request that closes
 abbrev pub IsLastBy : Next → List CallerRow → ℕ → Asked → Type 0
 IsLastBy clean_end rows place asked = ⊥
 IsLastBy end_inside rows place asked = ⊥
 IsLastBy (refused refusal bare) rows place asked = asked ≡ asked_refused refusal bare
-IsLastBy (whole parts body behind) rows place asked = (asked ≡ asked_whole rows place parts body) × (asked.closes ≡ true)
+IsLastBy (whole parts body following) rows place asked = (asked ≡ asked_whole rows place parts body) × (asked.closes ≡ true)
 
 abbrev pub IsLast : List CallerRow → ℕ → List ℕ → Asked → Type 0
 IsLast rows place bytes asked = (next : Next) × IsNext bytes next × IsLastBy next rows place asked
@@ -47,9 +47,9 @@ StopsAt cut rows place bytes last = last ≡ []
 pub record IsConnection (rows : List CallerRow) (bytes : List ℕ) (asked : List Asked) (stop : Stop) : Type 0 where
   pub first : List Asked
   pub last : List Asked
-  pub behind : List ℕ
-  pub reads : ReadsTo rows 1 bytes first behind
-  pub stops : StopsAt stop rows (1 + length first) behind last
+  pub following : List ℕ
+  pub reads : ReadsTo rows 1 bytes first following
+  pub stops : StopsAt stop rows (1 + length first) following last
   pub all : asked ≡ first ++ last
 
 -- the stop isn't one from outside

@@ -55,17 +55,17 @@ StopsBy (Err Memory) stop count = stop ≡ cut
 abbrev pub IsUnfinishedOf : List ℕ → Option (List ℕ) → List ℕ → Type 0
 IsUnfinishedOf held left bytes = (prepend_known held left ≡ Some bytes) × IsUnfinished held
 
--- Where a read failed or memory ran out, every request that had come whole was answered: behind the last of them no other
--- stands whole in what was read.
+-- Where a read failed or memory ran out, every request that had come whole was answered: no other whole request stands after
+-- the last of them in what was read.
 abbrev pub StopsUnfinished : Result Served ConnFault → Option (List ℕ) → List ℕ → Type 0
-StopsUnfinished (Ok served) left behind = Unit {0}
-StopsUnfinished (Err Read) left behind = (held : List ℕ) × IsUnfinishedOf held left behind
-StopsUnfinished (Err Write) left behind = Unit {0}
-StopsUnfinished (Err EndInside) left behind = Unit {0}
-StopsUnfinished (Err Memory) left behind = (held : List ℕ) × IsUnfinishedOf held left behind
+StopsUnfinished (Ok served) left following = Unit {0}
+StopsUnfinished (Err Read) left following = (held : List ℕ) × IsUnfinishedOf held left following
+StopsUnfinished (Err Write) left following = Unit {0}
+StopsUnfinished (Err EndInside) left following = Unit {0}
+StopsUnfinished (Err Memory) left following = (held : List ℕ) × IsUnfinishedOf held left following
 
 -- Where a write failed, the replies before the last one were written whole, and of that one a front part. No
--- request behind it was served.
+-- request after it was served.
 pub record IsCutOff (old new : Option (List ℕ)) (exchanges : List Exchange) : Type 0 where
   pub before : List Exchange
   pub last : Exchange
@@ -95,14 +95,14 @@ pub record IsServed (Runs : Tables → List Turn → Tables → Type 0) (this : 
   pub stop : Stop
   pub connection : IsConnection this.callers bytes (map (λ exchange. exchange.asked) exchanges) stop
   pub stops : StopsBy answer stop (length exchanges)
-  pub unfinished : StopsUnfinished answer left connection.behind
+  pub unfinished : StopsUnfinished answer left connection.following
   pub written : AreWritten answer old new exchanges
 
 -- ---- a step of it, and what is so far: these serve private contracts alone
 
 -- a request stands next, which may end the connection
 abbrev pub IsAsked : List CallerRow → ℕ → List ℕ → Asked → Type 0
-IsAsked rows place bytes asked = IsLast rows place bytes asked ⊎ ((behind : List ℕ) × IsRequest rows place bytes asked behind)
+IsAsked rows place bytes asked = IsLast rows place bytes asked ⊎ ((following : List ℕ) × IsRequest rows place bytes asked following)
 
 pub record Exchanged (Runs : Tables → List Turn → Tables → Type 0) (this : Tables) (IsNow : Asked → Type 0) (Writes : List ℕ → Type 0) : Type 0 where
   pub exchange : Exchange
@@ -113,7 +113,7 @@ pub record Exchanged (Runs : Tables → List Turn → Tables → Type 0) (this :
 abbrev pub Serves : (Tables → List Turn → Tables → Type 0) → Tables → ℕ → List ℕ → Option (List ℕ) → Option (List ℕ) → Option (List ℕ) → Result Step ConnFault → List ℕ → Type 0
 Serves Runs this place held left old new (Ok step.CleanEnd) bytes = IsNext bytes clean_end × Runs this [] this × Appends old new []
 Serves Runs this place held left old new (Ok step.Stays) bytes =
-    (behind : List ℕ) × (prepend_known held left ≡ Some behind) × Exchanged Runs this (λ asked. IsRequest this.callers place bytes asked behind) (Appends old new)
+    (following : List ℕ) × (prepend_known held left ≡ Some following) × Exchanged Runs this (λ asked. IsRequest this.callers place bytes asked following) (Appends old new)
 Serves Runs this place held left old new (Ok step.Ends) bytes = Exchanged Runs this (IsLast this.callers place bytes) (Appends old new)
 Serves Runs this place held left old new (Err Read) bytes = Runs this [] this × Appends old new [] × IsUnfinishedOf held left bytes
 Serves Runs this place held left old new (Err Write) bytes = Exchanged Runs this (IsAsked this.callers place bytes) (AppendsFront old new)
@@ -142,8 +142,8 @@ pub record IsSoFar (Runs : Tables → List Turn → Tables → Type 0) (this : T
   pub run : Runs this (turns_of exchanges) now
   pub callers : now.callers ≡ this.callers
   pub answered : AllByRecursion IsAnswered exchanges
-  pub behind : List ℕ
-  pub reads : ReadsTo this.callers 1 bytes (map (λ exchange. exchange.asked) exchanges) behind
-  pub left_are : left ≡ Some behind
+  pub following : List ℕ
+  pub reads : ReadsTo this.callers 1 bytes (map (λ exchange. exchange.asked) exchanges) following
+  pub left_are : left ≡ Some following
   pub count : place ≡ 1 + length exchanges
   pub written : Appends old new (replies_text exchanges)

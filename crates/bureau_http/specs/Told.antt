@@ -1,4 +1,4 @@
--- What a request is told: private, between what the bureau answers and what is written.
+-- No part of what is promised: private contracts cite it. What a request is told, between what the bureau answers and what is written.
 use Rattle.std.specs.Prelude.{◌≡◌, ℕ, Bool, true, List, length, Option, None, Ok, Err}
 use Rattle.requests.specs.Refusal.{allow_of_refusal}
 use Rattle.requests.specs.Reply.{reply_text}
@@ -38,7 +38,7 @@ head_told told closes = record {
 unfoldable pub told_text : Told → Bool → Bool → List ℕ
 told_text told is_bare closes = reply_text (head_told told closes) is_bare (body_told (answer_told told))
 
--- what is told is right for what was asked, and the tables are those behind it
+-- what is told is right for what was asked, and the tables are those after it
 abbrev pub IsTold : Tables → What → Bool → Told → Tables → Type 0
 IsTold this what has_token (Answered reply) next =
     (call : Caller × Call) × (what ≡ Ok call) × IsStep this (record { caller = call.0; call = call.1; answer = reply_as reply }) next

@@ -56,7 +56,7 @@ pub(crate) struct Retries {
 /// [`ConnFault::Read`] and [`ConnFault::Write`] where a read or write fails, or is interrupted for the 65th
 /// time in this connection; [`ConnFault::EndInside`] where its input ends inside a request; and
 /// [`ConnFault::Memory`] where memory runs out before the request in hand stands whole. The replies to the
-/// requests before it were written whole, and no request behind it was served. After `Read` and `Memory` no request that
+/// requests before it were written whole, and no request after it was served. After `Read` and `Memory` no request that
 /// had come whole is left unanswered.
 pub fn serve_one<D: Desk, R: Read, W: Write>(
     alloc: Global,

@@ -4,7 +4,7 @@ use bureau::{Body, Bureau, Call, Reply};
 use bureau_store::{Caller, ListStore, StoreFault, callers};
 use chains::Whole;
 use faults::NoMemory;
-use std::alloc::{AllocError, Global};
+use std::alloc::Global;
 use std::test::Fail;
 
 mod closing;
@@ -62,7 +62,7 @@ fn served(
     alloc: Global,
     is_shut: bool,
     bytes: &[u8],
-) -> Result<(Vec<u8>, Result<u64, ConnFault>), AllocError> {
+) -> Result<(Vec<u8>, Result<u64, ConnFault>), NoMemory> {
     let mut desk = Echo { alloc, is_shut };
     let mut reader = bytes;
     let mut writer = Vec::new(alloc);

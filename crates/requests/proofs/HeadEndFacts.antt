@@ -4,7 +4,7 @@ use Rattle.std.proofs.lemmas.Bool.Decides.{nat_tests}
 use Rattle.std.specs.Option.{option_map}
 use Rattle.std.specs.Result.{result_ok}
 use Rattle.requests.specs.HeadEnd.{begins_with_feed, line_end_len, empty_lines_len, head_len, whole_len, line_feed, carriage_return}
-use Rattle.requests.specs.Search.{search, behind, go_on, counted, ends_clean}
+use Rattle.requests.specs.Search.{search, after, go_on, counted, ends_clean}
 use Rattle.requests.specs.declared.head_end.Place.{Place}
 use Rattle.requests.specs.declared.head_end.Place.TheVariants.{EmptyLines, EmptyLinesReturn, Line, Feed, FeedReturn}
 
@@ -15,7 +15,7 @@ test false = inr refl
 abbrev one_more : Option ℕ → Option ℕ
 one_more o = option_map (λ n. 1 + n) o
 
--- ---- where the head ends that goes on behind a place
+-- ---- where the head ends that goes on after a place
 
 abbrev found : Place → List ℕ → Option ℕ
 found EmptyLines bytes = whole_len bytes
@@ -24,7 +24,7 @@ found Line bytes = head_len bytes
 found Feed bytes = if nat_lt 0 (line_end_len bytes) then Some (line_end_len bytes) else head_len bytes
 found FeedReturn bytes = if begins_with_feed bytes then Some 1 else head_len bytes
 
--- what is found in the bytes behind the next one
+-- what is found in the bytes after the next one
 abbrev FoundIn : List ℕ → Type 0
 FoundIn rest = (place : Place) → result_ok (search place rest) ≡ found place rest
 
@@ -32,12 +32,12 @@ counted_ok : (r : Result ℕ Place) → result_ok (counted r) ≡ one_more (resu
 counted_ok (Ok n) = ap (λ m. Some m) (omega arith)
 counted_ok (Err place) = refl
 
-after : (place : Place) (rest : List ℕ) → FoundIn rest → result_ok (counted (search place rest)) ≡ one_more (found place rest)
-after place rest e = counted_ok (search place rest) ∙ ap one_more (e place)
+found_further : (place : Place) (rest : List ℕ) → FoundIn rest → result_ok (counted (search place rest)) ≡ one_more (found place rest)
+found_further place rest e = counted_ok (search place rest) ∙ ap one_more (e place)
 
--- a head behind so many bytes
-abbrev head_behind : ℕ → List ℕ → Option ℕ
-head_behind n bytes = option_map (λ m. n + m) (head_len (drop n bytes))
+-- a head after so many bytes
+abbrev head_from : ℕ → List ℕ → Option ℕ
+head_from n bytes = option_map (λ m. n + m) (head_len (drop n bytes))
 
 add_map : (n : ℕ) (o : Option ℕ) → option_map (λ m. (1 + n) + m) o ≡ one_more (option_map (λ m. n + m) o)
 add_map n None = refl
@@ -50,33 +50,33 @@ zero_map (Some m) = ap (λ k. Some k) (omega arith)
 drop_more : (n b : ℕ) (rest : List ℕ) → drop (1 + n) (b ∷ rest) ≡ drop n rest
 drop_more n b rest = let e : 1 + n ≡ suc n = omega arith in ap (λ k. drop k (b ∷ rest)) e
 
-behind_one : (n b : ℕ) (rest : List ℕ) → head_behind (1 + n) (b ∷ rest) ≡ one_more (head_behind n rest)
-behind_one n b rest =
+after_one : (n b : ℕ) (rest : List ℕ) → head_from (1 + n) (b ∷ rest) ≡ one_more (head_from n rest)
+after_one n b rest =
     ap (λ bytes. option_map (λ m. (1 + n) + m) (head_len bytes)) (drop_more n b rest) ∙ add_map n (head_len (drop n rest))
 
-behind_none : (b : ℕ) (rest : List ℕ) → (b == line_feed) ≡ false → head_behind 0 (b ∷ rest) ≡ one_more (head_len rest)
-behind_none b rest h = zero_map (head_len (b ∷ rest)) ∙ rw h refl
+after_none : (b : ℕ) (rest : List ℕ) → (b == line_feed) ≡ false → head_from 0 (b ∷ rest) ≡ one_more (head_len rest)
+after_none b rest h = zero_map (head_len (b ∷ rest)) ∙ rw h refl
 
 return_choice : (t : Bool) (b : ℕ) (rest : List ℕ) → (b == line_feed) ≡ false
-    → one_more (if t then whole_len rest else head_len rest) ≡ head_behind (if t then 1 + empty_lines_len rest else 0) (b ∷ rest)
-return_choice true b rest h = sym (behind_one (empty_lines_len rest) b rest)
-return_choice false b rest h = sym (behind_none b rest h)
+    → one_more (if t then whole_len rest else head_len rest) ≡ head_from (if t then 1 + empty_lines_len rest else 0) (b ∷ rest)
+return_choice true b rest h = sym (after_one (empty_lines_len rest) b rest)
+return_choice false b rest h = sym (after_none b rest h)
 
 step_empty : (b : ℕ) (rest : List ℕ) → FoundIn rest
-    → result_ok (go_on (behind EmptyLines b) (λ p. search p rest)) ≡ found EmptyLines (b ∷ rest)
+    → result_ok (go_on (after EmptyLines b) (λ p. search p rest)) ≡ found EmptyLines (b ∷ rest)
 step_empty b rest e = elim (test (b == line_feed)) [
-  | inl h ↦ rw h (after EmptyLines rest e ∙ sym (behind_one (empty_lines_len rest) b rest))
+  | inl h ↦ rw h (found_further EmptyLines rest e ∙ sym (after_one (empty_lines_len rest) b rest))
   | inr h ↦ elim (test (b == carriage_return)) [
-    | inl k ↦ rw (h, k) (after EmptyLinesReturn rest e ∙ return_choice (begins_with_feed rest) b rest h)
-    | inr k ↦ rw (h, k) (after Line rest e ∙ sym (behind_none b rest h))
+    | inl k ↦ rw (h, k) (found_further EmptyLinesReturn rest e ∙ return_choice (begins_with_feed rest) b rest h)
+    | inr k ↦ rw (h, k) (found_further Line rest e ∙ sym (after_none b rest h))
   ]
 ]
 
 step_empty_return : (b : ℕ) (rest : List ℕ) → FoundIn rest
-    → result_ok (go_on (behind EmptyLinesReturn b) (λ p. search p rest)) ≡ found EmptyLinesReturn (b ∷ rest)
+    → result_ok (go_on (after EmptyLinesReturn b) (λ p. search p rest)) ≡ found EmptyLinesReturn (b ∷ rest)
 step_empty_return b rest e = elim (test (b == line_feed)) [
-  | inl h ↦ rw h (after EmptyLines rest e ∙ sym (behind_one (empty_lines_len rest) b rest))
-  | inr h ↦ rw h (after Line rest e)
+  | inl h ↦ rw h (found_further EmptyLines rest e ∙ sym (after_one (empty_lines_len rest) b rest))
+  | inr h ↦ rw h (found_further Line rest e)
 ]
 
 line_choice : (t : Bool) (n : ℕ) (other : Option ℕ)
@@ -85,10 +85,10 @@ line_choice true n other = refl
 line_choice false n other = refl
 
 step_line : (b : ℕ) (rest : List ℕ) → FoundIn rest
-    → result_ok (go_on (behind Line b) (λ p. search p rest)) ≡ found Line (b ∷ rest)
+    → result_ok (go_on (after Line b) (λ p. search p rest)) ≡ found Line (b ∷ rest)
 step_line b rest e = elim (test (b == line_feed)) [
-  | inl h ↦ rw h (after Feed rest e ∙ line_choice (nat_lt 0 (line_end_len rest)) (line_end_len rest) (head_len rest))
-  | inr h ↦ rw h (after Line rest e)
+  | inl h ↦ rw h (found_further Feed rest e ∙ line_choice (nat_lt 0 (line_end_len rest)) (line_end_len rest) (head_len rest))
+  | inr h ↦ rw h (found_further Line rest e)
 ]
 
 feed_choice : (t : Bool) (rest : List ℕ)
@@ -98,20 +98,20 @@ feed_choice true rest = refl
 feed_choice false rest = refl
 
 step_feed : (b : ℕ) (rest : List ℕ) → FoundIn rest
-    → result_ok (go_on (behind Feed b) (λ p. search p rest)) ≡ found Feed (b ∷ rest)
+    → result_ok (go_on (after Feed b) (λ p. search p rest)) ≡ found Feed (b ∷ rest)
 step_feed b rest e = elim (test (b == line_feed)) [
   | inl h ↦ rw h refl
   | inr h ↦ elim (test (b == carriage_return)) [
-    | inl k ↦ rw (h, k) (after FeedReturn rest e ∙ feed_choice (begins_with_feed rest) rest)
-    | inr k ↦ rw (h, k) (after Line rest e)
+    | inl k ↦ rw (h, k) (found_further FeedReturn rest e ∙ feed_choice (begins_with_feed rest) rest)
+    | inr k ↦ rw (h, k) (found_further Line rest e)
   ]
 ]
 
 step_feed_return : (b : ℕ) (rest : List ℕ) → FoundIn rest
-    → result_ok (go_on (behind FeedReturn b) (λ p. search p rest)) ≡ found FeedReturn (b ∷ rest)
+    → result_ok (go_on (after FeedReturn b) (λ p. search p rest)) ≡ found FeedReturn (b ∷ rest)
 step_feed_return b rest e = elim (test (b == line_feed)) [
   | inl h ↦ rw h refl
-  | inr h ↦ rw h (after Line rest e)
+  | inr h ↦ rw h (found_further Line rest e)
 ]
 
 -- the search finds the end
@@ -158,7 +158,7 @@ return_clean true m n = same_more m n
 return_clean false m n = none_of_more n
 
 clean_empty : (b : ℕ) (rest : List ℕ) → CleanIn rest
-    → ends_clean (go_on (behind EmptyLines b) (λ p. search p rest)) ≡ clean EmptyLines (b ∷ rest)
+    → ends_clean (go_on (after EmptyLines b) (λ p. search p rest)) ≡ clean EmptyLines (b ∷ rest)
 clean_empty b rest e = elim (test (b == line_feed)) [
   | inl h ↦ rw h (then_clean EmptyLines rest e ∙ same_more (empty_lines_len rest) (length rest))
   | inr h ↦ elim (test (b == carriage_return)) [
@@ -168,19 +168,19 @@ clean_empty b rest e = elim (test (b == line_feed)) [
 ]
 
 clean_empty_return : (b : ℕ) (rest : List ℕ) → CleanIn rest
-    → ends_clean (go_on (behind EmptyLinesReturn b) (λ p. search p rest)) ≡ clean EmptyLinesReturn (b ∷ rest)
+    → ends_clean (go_on (after EmptyLinesReturn b) (λ p. search p rest)) ≡ clean EmptyLinesReturn (b ∷ rest)
 clean_empty_return b rest e = elim (test (b == line_feed)) [
   | inl h ↦ rw h (then_clean EmptyLines rest e ∙ same_more (empty_lines_len rest) (length rest))
   | inr h ↦ rw h (then_clean Line rest e)
 ]
 
-clean_line : (b : ℕ) (rest : List ℕ) → CleanIn rest → ends_clean (go_on (behind Line b) (λ p. search p rest)) ≡ false
+clean_line : (b : ℕ) (rest : List ℕ) → CleanIn rest → ends_clean (go_on (after Line b) (λ p. search p rest)) ≡ false
 clean_line b rest e = elim (test (b == line_feed)) [
   | inl h ↦ rw h (then_clean Feed rest e)
   | inr h ↦ rw h (then_clean Line rest e)
 ]
 
-clean_feed : (b : ℕ) (rest : List ℕ) → CleanIn rest → ends_clean (go_on (behind Feed b) (λ p. search p rest)) ≡ false
+clean_feed : (b : ℕ) (rest : List ℕ) → CleanIn rest → ends_clean (go_on (after Feed b) (λ p. search p rest)) ≡ false
 clean_feed b rest e = elim (test (b == line_feed)) [
   | inl h ↦ rw h refl
   | inr h ↦ elim (test (b == carriage_return)) [
@@ -189,7 +189,7 @@ clean_feed b rest e = elim (test (b == line_feed)) [
   ]
 ]
 
-clean_feed_return : (b : ℕ) (rest : List ℕ) → CleanIn rest → ends_clean (go_on (behind FeedReturn b) (λ p. search p rest)) ≡ false
+clean_feed_return : (b : ℕ) (rest : List ℕ) → CleanIn rest → ends_clean (go_on (after FeedReturn b) (λ p. search p rest)) ≡ false
 clean_feed_return b rest e = elim (test (b == line_feed)) [
   | inl h ↦ rw h refl
   | inr h ↦ rw h (then_clean Line rest e)

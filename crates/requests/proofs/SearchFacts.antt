@@ -3,7 +3,7 @@ use Rattle.std.proofs.Common.{◌≡◌, ℕ, ◌+◌, ◌<◌, ◌≤◌, List,
 use Rattle.std.proofs.lemmas.List.{length-take-le}
 use Rattle.std.proofs.Math.ListN.{drop_of_length-le}
 use Rattle.std.proofs.Math.Seq.{drop-cons}
-use Rattle.requests.specs.Search.{search, behind, go_on, counted, further, resumed}
+use Rattle.requests.specs.Search.{search, after, go_on, counted, further, resumed}
 use Rattle.requests.specs.declared.head_end.Place.{Place}
 
 further_counted : (i : ℕ) (found : Result ℕ Place) → further i (counted found) ≡ further (i + 1) found
@@ -19,7 +19,7 @@ further_done : (i : ℕ) (next : Option Place) (bytes : List ℕ) → next ≡ N
 further_done i next bytes e = rw e refl
 
 search_cons : (place : Place) (bytes : List ℕ) (i : ℕ) → i < length bytes
-    → search place (drop i bytes) ≡ go_on (behind place (get_or bytes i 0)) (λ p. search p (drop (i + 1) bytes))
+    → search place (drop i bytes) ≡ go_on (after place (get_or bytes i 0)) (λ p. search p (drop (i + 1) bytes))
 unfolding search
 search_cons place bytes i h = rw (add-one, drop-cons bytes i 0) refl
 
@@ -27,13 +27,13 @@ pub search_nil : (place : Place) → search place [] ≡ Err place
 unfolding search
 search_nil place = refl
 
--- the search goes on behind a byte
-pub goes_on : (place next : Place) (bytes : List ℕ) (i : ℕ) → i < length bytes → behind place (get_or bytes i 0) ≡ Some next
+-- the search goes on after a byte
+pub goes_on : (place next : Place) (bytes : List ℕ) (i : ℕ) → i < length bytes → after place (get_or bytes i 0) ≡ Some next
     → further i (search place (drop i bytes)) ≡ further (i + 1) (search next (drop (i + 1) bytes))
 goes_on place next bytes i h e = ap (further i) (search_cons place bytes i h) ∙ further_on i _ next _ e
 
 -- the search ends with a byte
-pub ends : (place : Place) (bytes : List ℕ) (i : ℕ) → i < length bytes → behind place (get_or bytes i 0) ≡ None
+pub ends : (place : Place) (bytes : List ℕ) (i : ℕ) → i < length bytes → after place (get_or bytes i 0) ≡ None
     → further i (search place (drop i bytes)) ≡ Ok (i + 1)
 ends place bytes i h e = ap (further i) (search_cons place bytes i h) ∙ further_done i _ _ e
 
@@ -66,14 +66,14 @@ goes_on_later n (Some place) bytes more rest = ap counted (rest place) ∙ count
 pub search_append : (place : Place) (bytes more : List ℕ) → search place (bytes ++ more) ≡ resumed (length bytes) (search place bytes) more
 unfolding search
 search_append place [] more = sym (further_nothing (search place more))
-search_append place (b ∷ bytes) more = goes_on_later (length bytes) (behind place b) bytes more (λ next. search_append next bytes more)
+search_append place (b ∷ bytes) more = goes_on_later (length bytes) (after place b) bytes more (λ next. search_append next bytes more)
 
 after_first : (n : ℕ) (first : Result ℕ Place) (place : Place) (more : List ℕ) → first ≡ Err place
     → resumed n first more ≡ further n (search place more)
 after_first n (Ok m) place more e = cc
 after_first n (Err other) place more e = let same : other ≡ place = cc in ap (λ p. further n (search p more)) same
 
--- the search goes on behind the bytes that were seen
+-- the search goes on after the bytes that were seen
 pub resume : (bytes : List ℕ) (seen : ℕ) (start place : Place) → seen ≤ length bytes → search start (take seen bytes) ≡ Err place
     → search start bytes ≡ further seen (search place (drop seen bytes))
 resume bytes seen start place fits none =

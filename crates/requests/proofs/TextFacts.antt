@@ -5,15 +5,15 @@ use Rattle.std.proofs.lemmas.Bool.Decides.{nat_tests}
 use Rattle.std.proofs.lemmas.List.{drop-drop}
 use Rattle.std.proofs.lemmas.List.Sums.{prefix_len-le-length, suffix_len-le-length}
 use Rattle.std.specs.List.{list_any, prefix_len, suffix_len}
-use Rattle.requests.specs.Text.{before, before_len, behind, comma, elements, has_word, is_blank, is_word, with_first}
+use Rattle.requests.specs.Text.{before, before_len, after, comma, elements, has_word, is_blank, is_word, with_first}
 
 pub cut_fits : (byte : ℕ) (text : List ℕ) → before_len byte text ≤ length text
 cut_fits byte text = prefix_len-le-length _ text
 
--- what is left behind the first byte of a rest
-pub rest_behind : (byte n b : ℕ) (text rest more : List ℕ) → n ≡ before_len byte text → rest ≡ drop n text → rest ≡ b ∷ more
-    → more ≡ behind byte text
-rest_behind byte n b text rest more count is_rest is_more =
+-- what is left after the first byte of a rest
+pub rest_after : (byte n b : ℕ) (text rest more : List ℕ) → n ≡ before_len byte text → rest ≡ drop n text → rest ≡ b ∷ more
+    → more ≡ after byte text
+rest_after byte n b text rest more count is_rest is_more =
     ap (drop 1) (sym is_more ∙ is_rest) ∙ drop-drop 1 n text ∙ ap (λ k. drop (k + 1) text) count
 
 pub leading_fits : (text : List ℕ) → prefix_len is_blank text ≤ length text
@@ -24,7 +24,7 @@ trailing_fits text = suffix_len-le-length is_blank text
 
 -- ---- comma lists
 
--- a list's first element, and those behind the comma if there is one
+-- a list's first element, and those after the comma if there is one
 abbrev parts : ℕ → List ℕ → List (List ℕ)
 parts n text = take n text ∷ (if n == length text then [] else elements (drop (n + 1) text))
 
@@ -71,12 +71,12 @@ pub word_first : (word text first : List ℕ) → first ≡ before comma text �
 word_first word text first is e = ap (list_any (is_word word)) (elements_are text) ∙ or_true _ _ (ap (is_word word) (sym is) ∙ e)
 
 only_first : (word text : List ℕ) (t : Bool) → t ≡ true
-    → list_any (is_word word) (if t then [] else elements (behind comma text)) ≡ false
+    → list_any (is_word word) (if t then [] else elements (after comma text)) ≡ false
 only_first word text true e = refl
 only_first word text false e = cc
 
 more_than_first : (word text : List ℕ) (t : Bool) → t ≡ false
-    → list_any (is_word word) (if t then [] else elements (behind comma text)) ≡ has_word word (behind comma text)
+    → list_any (is_word word) (if t then [] else elements (after comma text)) ≡ has_word word (after comma text)
 more_than_first word text true e = cc
 more_than_first word text false e = refl
 
@@ -88,9 +88,9 @@ word_nowhere word text first is e whole =
     ∙ only_first word text (before_len comma text == length text) (grind (arith, nat_tests))
 
 -- the first element isn't the word, and there are others
-pub word_behind : (word text first : List ℕ) → first ≡ before comma text → is_word word first ≡ false
-    → before_len comma text ≢ length text → has_word word text ≡ has_word word (behind comma text)
-word_behind word text first is e more =
+pub word_after : (word text first : List ℕ) → first ≡ before comma text → is_word word first ≡ false
+    → before_len comma text ≢ length text → has_word word text ≡ has_word word (after comma text)
+word_after word text first is e more =
     ap (list_any (is_word word)) (elements_are text) ∙ or_false _ _ (ap (is_word word) (sym is) ∙ e)
     ∙ more_than_first word text (before_len comma text == length text) (grind (arith, nat_tests))
 

@@ -85,10 +85,10 @@ whole_body parts h n held more low =
     let short : n ≤ length (drop h held) = omega arith in
     let test : nat_le n (length (drop h held ++ more)) ≡ true = grind (arith, nat_tests) in
     let body : take n (drop h held ++ more) ≡ take n (drop h held) = take-append-le n (drop h held) more short in
-    let behind : drop n (drop h held ++ more) ≡ drop (h + n) held ++ more =
+    let after : drop n (drop h held ++ more) ≡ drop (h + n) held ++ more =
     drop-append-le n (drop h held) more short ∙ ap (λ l. l ++ more) (drop-drop n h held) in
     sym (ap (with_body parts n) rest ∙ body_test true parts n (drop h held ++ more) test
-    ∙ ap (λ l. whole parts l (drop n (drop h held ++ more))) body ∙ ap (whole parts (take n (drop h held))) behind)
+    ∙ ap (λ l. whole parts l (drop n (drop h held ++ more))) body ∙ ap (whole parts (take n (drop h held))) after)
 
 -- the input ends inside the body
 pub short_body : (parts : Parts) (h n : ℕ) (held more : List ℕ) → h ≤ length held → length held < h + n → more ≡ []
@@ -126,16 +126,16 @@ missing_body parts h n held low short =
 pub same_front : (n : ℕ) (old new : List ℕ) → n ≤ length old → take (length old) new ≡ old → take n new ≡ take n old
 same_front n old new low grown = sym (take-take n (length old) new low) ∙ ap (take n) grown
 
--- bytes that only grow have more behind them
-pub more_behind : (old new : List ℕ) → take (length old) new ≡ old → new ≡ old ++ drop (length old) new
-more_behind old new grown = sym (take-append-drop (length old) new) ∙ ap (λ l. l ++ drop (length old) new) grown
+-- bytes that only grow have more after them
+pub more_after : (old new : List ℕ) → take (length old) new ≡ old → new ≡ old ++ drop (length old) new
+more_after old new grown = sym (take-append-drop (length old) new) ∙ ap (λ l. l ++ drop (length old) new) grown
 
 -- the head of a request whose body is missing bytes stays the front
 pub unfinished_head : (n : ℕ) (old new : List ℕ) → Head n ≡ front_of head_limit old → take (length old) new ≡ old → IsNextBy (Head n) new end_inside
     → IsUnfinished new
 unfinished_head n old new came grown is =
     let stays : front_of head_limit new ≡ Head n =
-    ap (front_of head_limit) (more_behind old new grown) ∙ head_stays head_limit n old (drop (length old) new) (sym came) in
+    ap (front_of head_limit) (more_after old new grown) ∙ head_stays head_limit n old (drop (length old) new) (sym came) in
     inr (subst (λ front. IsNextBy front new end_inside) (sym stays) is)
 
 pub map_err : {A E : Type 0} {P Q : Type 0} (r : Result A E) → IfErr r (λ fault. P) → (P → Q) → IfErr r (λ fault. Q)

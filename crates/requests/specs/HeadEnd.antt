@@ -21,9 +21,9 @@ line_end_len [] = 0
 line_end_len (b ∷ bytes) =
     if b == line_feed then 1 else if b == carriage_return && begins_with_feed bytes then 2 else 0
 
--- a byte is one of an empty line, with these bytes behind it: LF, or CR before LF
+-- a byte is one of an empty line, with these bytes after it: LF, or CR before LF
 abbrev pub is_in_empty_line : ℕ → List ℕ → Bool
-is_in_empty_line b behind = b == line_feed || (b == carriage_return && begins_with_feed behind)
+is_in_empty_line b after = b == line_feed || (b == carriage_return && begins_with_feed after)
 
 -- how many bytes the empty lines take that the bytes begin with
 abbrev pub empty_lines_len : List ℕ → ℕ
@@ -31,7 +31,7 @@ empty_lines_len [] = 0
 empty_lines_len (b ∷ bytes) =
     if is_in_empty_line b bytes then 1 + empty_lines_len bytes else 0
 
--- the bytes behind the empty lines
+-- the bytes after the empty lines
 abbrev pub without_empty_lines : List ℕ → List ℕ
 without_empty_lines bytes = drop (empty_lines_len bytes) bytes
 
@@ -50,7 +50,7 @@ head_len (b ∷ bytes) =
     if b == line_feed && nat_lt 0 (line_end_len bytes) then Some (1 + line_end_len bytes)
     else option_map (λ n. 1 + n) (head_len bytes)
 
--- empty lines and the head behind them, in bytes
+-- empty lines and the head after them, in bytes
 abbrev pub whole_len : List ℕ → Option ℕ
 whole_len bytes =
     option_map (λ n. empty_lines_len bytes + n) (head_len (drop (empty_lines_len bytes) bytes))

@@ -9,13 +9,13 @@ use Rattle.httparse.specs.Spans.{name_and_value}
 use Rattle.mcs_reader.specs.Id.{id_of}
 use Rattle.percent_encoding.specs.Percent.{percent_decode}
 use Rattle.requests.specs.Headers.{Pair, asks_to_close, has, sole, values}
-use Rattle.requests.specs.Routes.{resource_at, verb_of}
-use Rattle.requests.specs.Text.{before, behind, is_number}
+use Rattle.requests.specs.Routes.{resource_at, operation_of}
+use Rattle.requests.specs.Text.{before, after, is_number}
 use Rattle.requests.specs.declared.action.Action.{Action}
 use Rattle.requests.specs.declared.refusal.Refusal.{Refusal}
 use Rattle.requests.specs.declared.refusal.Refusal.TheVariants.{BadRequest, NotFound, MethodNotAllowed, LengthRequired, TooLarge}
 use Rattle.requests.specs.declared.resource.Resource.{Resource}
-use Rattle.requests.specs.declared.resource.Verb.{Verb}
+use Rattle.requests.specs.declared.resource.Operation.{Operation}
 
 -- what decides of a head: its method, its target, its minor version and its fields
 pub record Parts : Type 0 where
@@ -59,38 +59,38 @@ id_in part = id_of (percent_decode part)
 
 -- the zone that a path names: between its second and third slash
 abbrev pub zone_in : List ℕ → Option (List ℕ)
-zone_in path = id_in (before slash (behind slash (behind slash path)))
+zone_in path = id_in (before slash (after slash (after slash path)))
 
--- the SYSMOD that a path names: behind its fourth slash
+-- the SYSMOD that a path names: after its fourth slash
 abbrev pub sysmod_in : List ℕ → Option (List ℕ)
-sysmod_in path = id_in (before slash (behind slash (behind slash (behind slash (behind slash path)))))
+sysmod_in path = id_in (before slash (after slash (after slash (after slash (after slash path)))))
 
 -- ---- the action
 
--- a verb with the ids in the path, where these are ids
-abbrev pub action_at : Verb → List ℕ → Option Action
-action_at Verb.Publish path = Some Action.Publish
-action_at Verb.Counts path = Some Action.Counts
-action_at Verb.ListZones path = Some Action.ListZones
-action_at Verb.PutReceived path = Some Action.PutReceived
-action_at Verb.PutZone path = option_map Action.PutZone (zone_in path)
-action_at Verb.DropZone path = option_map Action.DropZone (zone_in path)
-action_at Verb.PutPatterns path = option_map Action.PutPatterns (zone_in path)
-action_at Verb.ErrSysmods path = option_map Action.ErrSysmods (zone_in path)
-action_at Verb.MissingFix path = option_map Action.MissingFix (zone_in path)
-action_at Verb.Chain path = option_map (λ ids. Action.Chain ids.0 ids.1) (option_zip (zone_in path) (sysmod_in path))
+-- an operation with the ids in the path, where these are ids
+abbrev pub action_at : Operation → List ℕ → Option Action
+action_at Operation.Publish path = Some Action.Publish
+action_at Operation.Counts path = Some Action.Counts
+action_at Operation.ListZones path = Some Action.ListZones
+action_at Operation.PutReceived path = Some Action.PutReceived
+action_at Operation.PutZone path = option_map Action.PutZone (zone_in path)
+action_at Operation.DropZone path = option_map Action.DropZone (zone_in path)
+action_at Operation.PutPatterns path = option_map Action.PutPatterns (zone_in path)
+action_at Operation.ErrSysmods path = option_map Action.ErrSysmods (zone_in path)
+action_at Operation.MissingFix path = option_map Action.MissingFix (zone_in path)
+action_at Operation.Chain path = option_map (λ ids. Action.Chain ids.0 ids.1) (option_zip (zone_in path) (sysmod_in path))
 
 abbrev pub action_or : Option Action → Result Action Refusal
 action_or None = Err NotFound
 action_or (Some action) = Ok action
 
-abbrev pub verb_or : Resource → Option Verb → List ℕ → Result Action Refusal
-verb_or resource None path = Err (MethodNotAllowed resource)
-verb_or resource (Some verb) path = action_or (action_at verb path)
+abbrev pub operation_or : Resource → Option Operation → List ℕ → Result Action Refusal
+operation_or resource None path = Err (MethodNotAllowed resource)
+operation_or resource (Some operation) path = action_or (action_at operation path)
 
 abbrev pub resource_or : Option Resource → List ℕ → List ℕ → Result Action Refusal
 resource_or None method path = Err NotFound
-resource_or (Some resource) method path = verb_or resource (verb_of resource method) path
+resource_or (Some resource) method path = operation_or resource (operation_of resource method) path
 
 -- what a method asks for at a path: first the path, then the method, then the ids in the path
 abbrev pub asked : List ℕ → List ℕ → Result Action Refusal

@@ -10,7 +10,7 @@ use Rattle.matchit.specs.Rows.{RowsOf}
 use Rattle.matchit.specs.Seek.{first}
 use Rattle.matchit.specs.declared.error.InsertError.{InsertError}
 use Rattle.requests.specs.declared.resource.Resource.{Resource}
-use Rattle.requests.specs.declared.resource.Verb.{Verb}
+use Rattle.requests.specs.declared.resource.Operation.{Operation}
 
 -- the paths, with what they name
 unfoldable pub table : List (List ℕ × Resource)
@@ -47,24 +47,24 @@ abbrev pub resource_at : List ℕ → Option Resource
 resource_at path = option_map (λ route. route.value) (first routes path)
 
 -- the methods of a path in alphabetical order, each with what it does
-abbrev pub methods_of : Resource → List (List ℕ × Verb)
-methods_of Resource.Publication = (codes "POST", Verb.Publish) ∷ []
-methods_of Resource.Catalogue = (codes "GET", Verb.Counts) ∷ []
-methods_of Resource.Zones = (codes "GET", Verb.ListZones) ∷ []
-methods_of Resource.Zone = (codes "DELETE", Verb.DropZone) ∷ (codes "PUT", Verb.PutZone) ∷ []
-methods_of Resource.Patterns = (codes "PUT", Verb.PutPatterns) ∷ []
-methods_of Resource.Received = (codes "PUT", Verb.PutReceived) ∷ []
-methods_of Resource.ErrSysmods = (codes "GET", Verb.ErrSysmods) ∷ []
-methods_of Resource.MissingFix = (codes "GET", Verb.MissingFix) ∷ []
-methods_of Resource.Chain = (codes "GET", Verb.Chain) ∷ []
+abbrev pub methods_of : Resource → List (List ℕ × Operation)
+methods_of Resource.Publication = (codes "POST", Operation.Publish) ∷ []
+methods_of Resource.Catalogue = (codes "GET", Operation.Counts) ∷ []
+methods_of Resource.Zones = (codes "GET", Operation.ListZones) ∷ []
+methods_of Resource.Zone = (codes "DELETE", Operation.DropZone) ∷ (codes "PUT", Operation.PutZone) ∷ []
+methods_of Resource.Patterns = (codes "PUT", Operation.PutPatterns) ∷ []
+methods_of Resource.Received = (codes "PUT", Operation.PutReceived) ∷ []
+methods_of Resource.ErrSysmods = (codes "GET", Operation.ErrSysmods) ∷ []
+methods_of Resource.MissingFix = (codes "GET", Operation.MissingFix) ∷ []
+methods_of Resource.Chain = (codes "GET", Operation.Chain) ∷ []
 
 -- what a method does, if it is there
-abbrev pub verb_in : List ℕ → List (List ℕ × Verb) → Option Verb
-verb_in method [] = None
-verb_in method (entry ∷ rest) = if bytes_eq method entry.0 then Some entry.1 else verb_in method rest
+abbrev pub operation_in : List ℕ → List (List ℕ × Operation) → Option Operation
+operation_in method [] = None
+operation_in method (entry ∷ rest) = if bytes_eq method entry.0 then Some entry.1 else operation_in method rest
 
-abbrev pub verb_of : Resource → List ℕ → Option Verb
-verb_of resource method = verb_in method (methods_of resource)
+abbrev pub operation_of : Resource → List ℕ → Option Operation
+operation_of resource method = operation_in method (methods_of resource)
 
 -- names joined by a comma and a blank
 abbrev pub joined : List (List ℕ) → List ℕ

@@ -1,4 +1,5 @@
--- The search for the end of a head, byte by byte: what stands before the next byte decides.
+-- No part of what is promised: private contracts cite it. The search for the end of a head, byte by byte: what stands
+-- before the next byte decides.
 use Rattle.std.specs.Prelude.{ℕ, ◌+◌, ◌==◌, Bool, true, false, List, [], ◌∷◌, Option, Some, None, Result, Ok, Err, if◌then◌else◌}
 use Rattle.requests.specs.HeadEnd.{line_feed, carriage_return}
 use Rattle.requests.specs.declared.front.Front.{Front}
@@ -6,13 +7,13 @@ use Rattle.requests.specs.declared.front.Front.TheVariants.{CleanEnd, EndInside}
 use Rattle.requests.specs.declared.head_end.Place.{Place}
 use Rattle.requests.specs.declared.head_end.Place.TheVariants.{EmptyLines, EmptyLinesReturn, Line, Feed, FeedReturn}
 
--- the place behind a byte, or none where the head ends with it
-abbrev pub behind : Place → ℕ → Option Place
-behind EmptyLines b = if b == line_feed then Some EmptyLines else if b == carriage_return then Some EmptyLinesReturn else Some Line
-behind EmptyLinesReturn b = if b == line_feed then Some EmptyLines else Some Line
-behind Line b = if b == line_feed then Some Feed else Some Line
-behind Feed b = if b == line_feed then None else if b == carriage_return then Some FeedReturn else Some Line
-behind FeedReturn b = if b == line_feed then None else Some Line
+-- the place after a byte, or none where the head ends with it
+abbrev pub after : Place → ℕ → Option Place
+after EmptyLines b = if b == line_feed then Some EmptyLines else if b == carriage_return then Some EmptyLinesReturn else Some Line
+after EmptyLinesReturn b = if b == line_feed then Some EmptyLines else Some Line
+after Line b = if b == line_feed then Some Feed else Some Line
+after Feed b = if b == line_feed then None else if b == carriage_return then Some FeedReturn else Some Line
+after FeedReturn b = if b == line_feed then None else Some Line
 
 -- one byte more
 abbrev pub counted : Result ℕ Place → Result ℕ Place
@@ -23,12 +24,12 @@ abbrev pub go_on : Option Place → (Place → Result ℕ Place) → Result ℕ 
 go_on None search = Ok 1
 go_on (Some place) search = counted (search place)
 
--- how many bytes there are up to the end of the head, or the place behind them all
+-- how many bytes there are up to the end of the head, or the place after them all
 unfoldable pub search : Place → List ℕ → Result ℕ Place
 search place [] = Err place
-search place (b ∷ bytes) = go_on (behind place b) (λ next. search next bytes)
+search place (b ∷ bytes) = go_on (after place b) (λ next. search next bytes)
 
--- bytes that stand behind others
+-- bytes that stand after others
 abbrev pub further : ℕ → Result ℕ Place → Result ℕ Place
 further n (Ok m) = Ok (n + m)
 further n (Err place) = Err place

@@ -12,9 +12,9 @@ before_len byte text = prefix_len (λ b. not (b == byte)) text
 abbrev pub before : ℕ → List ℕ → List ℕ
 before byte text = take (before_len byte text) text
 
--- what stands behind it, which is nothing where there is none
-abbrev pub behind : ℕ → List ℕ → List ℕ
-behind byte text = drop (before_len byte text + 1) text
+-- what stands after it, which is nothing where there is none
+abbrev pub after : ℕ → List ℕ → List ℕ
+after byte text = drop (before_len byte text + 1) text
 
 -- a blank or a tab
 abbrev pub is_blank : ℕ → Bool

@@ -91,7 +91,7 @@ pub record IsReadAs (IsRight : List ℕ → Next → Type 0) (held : List ℕ) (
 abbrev pub HasBody : Parts → Request → List ℕ → Next → Type 0
 HasBody parts request bytes next = next ≡ with_body parts request.body_len (drop request.head_len bytes)
 
--- what an answer speaks of lies in these bytes, behind a head that does
+-- what an answer speaks of lies in these bytes, after a head that does
 abbrev pub IsBodyAtHand : turn.Turn → List ℕ → Type 0
 IsBodyAtHand turn.TheVariants.CleanEnd held = ⊥
 IsBodyAtHand turn.TheVariants.EndInside held = ⊥

@@ -3,7 +3,7 @@ ghost use Rattle.std.specs.Prelude.{◌≡◌};
 ghost use Rattle.requests.specs.Request as Spec;
 ghost use Rattle.requests.specs.Text as Text;
 
-use crate::resource::Verb;
+use crate::resource::Operation;
 use crate::text::cut;
 use arrayvec::ArrayVec;
 use mcs_reader::Id;
@@ -34,21 +34,21 @@ pub enum Action {
     Chain(Id, Id),
 }
 
-// A verb with the ids in the path, where these are ids.
-pub(crate) fn action_at(verb: Verb, path: &[u8]) -> Option<Action>
-    ensures { result ≡ Spec.action_at verb path.now }
+// An operation with the ids in the path, where these are ids.
+pub(crate) fn action_at(operation: Operation, path: &[u8]) -> Option<Action>
+    ensures { result ≡ Spec.action_at operation path.now }
 {
-    match verb {
-        Verb::Publish => Some(Action::Publish),
-        Verb::Counts => Some(Action::Counts),
-        Verb::ListZones => Some(Action::ListZones),
-        Verb::PutReceived => Some(Action::PutReceived),
-        Verb::PutZone => Some(Action::PutZone(zone_in(path)?)),
-        Verb::DropZone => Some(Action::DropZone(zone_in(path)?)),
-        Verb::PutPatterns => Some(Action::PutPatterns(zone_in(path)?)),
-        Verb::ErrSysmods => Some(Action::ErrSysmods(zone_in(path)?)),
-        Verb::MissingFix => Some(Action::MissingFix(zone_in(path)?)),
-        Verb::Chain => Some(Action::Chain(zone_in(path)?, sysmod_in(path)?)),
+    match operation {
+        Operation::Publish => Some(Action::Publish),
+        Operation::Counts => Some(Action::Counts),
+        Operation::ListZones => Some(Action::ListZones),
+        Operation::PutReceived => Some(Action::PutReceived),
+        Operation::PutZone => Some(Action::PutZone(zone_in(path)?)),
+        Operation::DropZone => Some(Action::DropZone(zone_in(path)?)),
+        Operation::PutPatterns => Some(Action::PutPatterns(zone_in(path)?)),
+        Operation::ErrSysmods => Some(Action::ErrSysmods(zone_in(path)?)),
+        Operation::MissingFix => Some(Action::MissingFix(zone_in(path)?)),
+        Operation::Chain => Some(Action::Chain(zone_in(path)?, sysmod_in(path)?)),
     }
 }
 
@@ -56,14 +56,14 @@ pub(crate) fn action_at(verb: Verb, path: &[u8]) -> Option<Action>
 fn zone_in(path: &[u8]) -> Option<Id>
     ensures { result ≡ Spec.zone_in path.now }
 {
-    id_in(first(behind(behind(path))))
+    id_in(first(after(after(path))))
 }
 
 // The SYSMOD that a path names.
 fn sysmod_in(path: &[u8]) -> Option<Id>
     ensures { result ≡ Spec.sysmod_in path.now }
 {
-    id_in(first(behind(behind(behind(behind(path))))))
+    id_in(first(after(after(after(after(path))))))
 }
 
 // What stands before the first slash.
@@ -74,9 +74,9 @@ fn first(path: &[u8]) -> &[u8]
     segment
 }
 
-// What stands behind the first slash.
-fn behind(path: &[u8]) -> &[u8]
-    ensures { result.now ≡ Text.behind 47 path.now }
+// What stands after the first slash.
+fn after(path: &[u8]) -> &[u8]
+    ensures { result.now ≡ Text.after 47 path.now }
 {
     let (_, rest) = cut(path, b'/');
     rest

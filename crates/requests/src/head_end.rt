@@ -1,7 +1,7 @@
 //! The end of a request's head.
 ghost use Rattle.std.specs.Prelude.{◌≡◌, ◌≤◌, length, IfOk};
 ghost use Rattle.requests.specs.HeadEnd as HeadEnd;
-ghost use Rattle.requests.specs.Search.{search, behind};
+ghost use Rattle.requests.specs.Search.{search, after};
 
 /// What stands before the next byte of a connection, as far as the end of a head is concerned.
 #[derive(Clone, Copy, Debug, PartialEq, Eq)]
@@ -19,9 +19,9 @@ pub(crate) enum Place {
 }
 
 impl Place {
-    // The place behind a byte, or `None` where the head ends with it.
-    fn behind(self, byte: u8) -> Option<Place>
-        ensures { result ≡ behind self byte }
+    // The place after a byte, or `None` where the head ends with it.
+    fn after(self, byte: u8) -> Option<Place>
+        ensures { result ≡ after self byte }
     {
         match (self, byte) {
             (Place::Feed | Place::FeedReturn, b'\n') => None,
@@ -34,14 +34,14 @@ impl Place {
     }
 }
 
-/// How many bytes there are up to the end of a head, or else the place behind them all.
+/// How many bytes there are up to the end of a head, or else the place after them all.
 pub(crate) fn find_end(start: Place, bytes: &[u8]) -> Result<usize, Place>
     ensures found { result ≡ search start bytes.now }
     ensures within { IfOk result (λ count. count ≤ length bytes.now) }
 {
     let mut place = start;
     for (i, b) in bytes.iter().enumerate() {
-        match place.behind(*b) {
+        match place.after(*b) {
             Some(next) => place = next,
             None => return Ok(i + 1),
         }
@@ -70,21 +70,21 @@ fn empty_lines_len(bytes: &[u8]) -> usize
 {
     let mut len = 0;
     let mut rest = bytes;
-    while let Some((first, behind)) = rest.split_first() {
-        if !is_in_empty_line(*first, behind) {
+    while let Some((first, after)) = rest.split_first() {
+        if !is_in_empty_line(*first, after) {
             return len;
         }
         len += 1;
-        rest = behind;
+        rest = after;
     }
     len
 }
 
-// Whether a byte is one of an empty line, with these bytes behind it.
-fn is_in_empty_line(byte: u8, behind: &[u8]) -> bool
-    ensures { result ≡ HeadEnd.is_in_empty_line byte behind.now }
+// Whether a byte is one of an empty line, with these bytes after it.
+fn is_in_empty_line(byte: u8, after: &[u8]) -> bool
+    ensures { result ≡ HeadEnd.is_in_empty_line byte after.now }
 {
-    byte == b'\n' || (byte == b'\r' && begins_with_feed(behind))
+    byte == b'\n' || (byte == b'\r' && begins_with_feed(after))
 }
 
 fn begins_with_feed(bytes: &[u8]) -> bool

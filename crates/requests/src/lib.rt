@@ -1,13 +1,14 @@
 //! Requests from the bytes of a connection, and the heads of replies to its bytes (RFC 9112).
 //!
-//! A connection's bytes are empty lines and heads, each with the body behind it. [`read_front`] reads
+//! A connection's bytes are empty lines and heads, each with the body after it. [`read_front`] reads
 //! as far as the end of a head, [`decide`] says what the head is and how long its body, [`read_whole`]
 //! reads the body. What came further stays in the intake, for the next request.
 //!
 //! - [`read_front`], [`Front`]: what the bytes of a connection begin with
 //! - [`decide`]: a whole [`Head`] and the length of its body, or why it is [`Refused`]
 //! - [`read_turn`], [`Turn`], [`Request`]: all of this together; [`one_reading`]: it can be read in one way only
-//! - [`Head`]: the token, the number and the [`Action`] that a request asks for, by its [`Routes`]
+//! - [`Head`]: the token, the number and the [`Action`] that a request asks for, by its [`Routes`]; [`Resource`]: what a
+//!   path names
 //! - [`read_whole`]: so many bytes, or all that there are
 //! - [`Refusal`]: why a request isn't given to the bureau, with its [`Status`] and its text
 //! - [`ReplyHead`], [`head_text`]: the head of a reply

@@ -17,7 +17,7 @@ pub struct Refused {
     pub is_bare: bool,
 }
 
-/// Reads a whole head, from its empty lines to its blank line, and the length of the body behind it.
+/// Reads a whole head, from its empty lines to its blank line, and the length of the body after it.
 ///
 /// # Errors
 ///

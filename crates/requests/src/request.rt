@@ -152,10 +152,10 @@ fn asked(routes: &Routes, method: &[u8], path: &str) -> Result<Action, Refusal>
     let Some(resource) = routes.resource(path) else {
         return Err(Refusal::NotFound);
     };
-    let Some(verb) = resource.verb(method) else {
+    let Some(operation) = resource.operation(method) else {
         return Err(Refusal::MethodNotAllowed(resource));
     };
-    action_at(verb, path.as_bytes()).ok_or(Refusal::NotFound)
+    action_at(operation, path.as_bytes()).ok_or(Refusal::NotFound)
 }
 
 fn ascii_str(bytes: &[u8]) -> &str

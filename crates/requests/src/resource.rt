@@ -1,6 +1,6 @@
 //! What a path names, and what a method does there.
 ghost use Rattle.std.specs.Prelude.{◌≡◌, ◌≤◌, ◌∷◌, [], length};
-ghost use Rattle.requests.specs.Routes.{allow_of, verb_of, verb_in};
+ghost use Rattle.requests.specs.Routes.{allow_of, operation_of, operation_in};
 
 /// What a path names.
 #[derive(Clone, Copy, Debug, PartialEq, Eq)]
@@ -27,7 +27,7 @@ pub enum Resource {
 
 // What a method does to what a path names.
 #[derive(Clone, Copy, Debug, PartialEq, Eq)]
-pub(crate) enum Verb {
+pub(crate) enum Operation {
     Publish,
     Counts,
     ListZones,
@@ -43,20 +43,20 @@ pub(crate) enum Verb {
 impl Resource {
     /// What a method does here, or `None` where there is no such method. Methods are compared with
     /// regard to case (RFC 9110, section 9.1).
-    pub(crate) fn verb(self, method: &[u8]) -> Option<Verb>
-        ensures { result ≡ verb_of self method.now }
+    pub(crate) fn operation(self, method: &[u8]) -> Option<Operation>
+        ensures { result ≡ operation_of self method.now }
     {
         match self {
-            Resource::Publication => only(method, b"POST", Verb::Publish),
-            Resource::Catalogue => only(method, b"GET", Verb::Counts),
-            Resource::Zones => only(method, b"GET", Verb::ListZones),
-            Resource::Zone if method == b"DELETE".as_slice() => Some(Verb::DropZone),
-            Resource::Zone => only(method, b"PUT", Verb::PutZone),
-            Resource::Patterns => only(method, b"PUT", Verb::PutPatterns),
-            Resource::Received => only(method, b"PUT", Verb::PutReceived),
-            Resource::ErrSysmods => only(method, b"GET", Verb::ErrSysmods),
-            Resource::MissingFix => only(method, b"GET", Verb::MissingFix),
-            Resource::Chain => only(method, b"GET", Verb::Chain),
+            Resource::Publication => only(method, b"POST", Operation::Publish),
+            Resource::Catalogue => only(method, b"GET", Operation::Counts),
+            Resource::Zones => only(method, b"GET", Operation::ListZones),
+            Resource::Zone if method == b"DELETE".as_slice() => Some(Operation::DropZone),
+            Resource::Zone => only(method, b"PUT", Operation::PutZone),
+            Resource::Patterns => only(method, b"PUT", Operation::PutPatterns),
+            Resource::Received => only(method, b"PUT", Operation::PutReceived),
+            Resource::ErrSysmods => only(method, b"GET", Operation::ErrSysmods),
+            Resource::MissingFix => only(method, b"GET", Operation::MissingFix),
+            Resource::Chain => only(method, b"GET", Operation::Chain),
         }
     }
 
@@ -78,9 +78,13 @@ impl Resource {
     }
 }
 
-// The verb where the method is the only one that there is.
-fn only(method: &[u8], wanted: &[u8], verb: Verb) -> Option<Verb>
-    ensures { result ≡ verb_in method.now ((wanted.now, verb) ∷ []) }
+// The operation where the method is the only one that there is.
+fn only(method: &[u8], wanted: &[u8], operation: Operation) -> Option<Operation>
+    ensures { result ≡ operation_in method.now ((wanted.now, operation) ∷ []) }
 {
-    if method == wanted { Some(verb) } else { None }
+    if method == wanted {
+        Some(operation)
+    } else {
+        None
+    }
 }

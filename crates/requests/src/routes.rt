@@ -1,5 +1,5 @@
 //! The paths of the bureau.
-ghost use Rattle.std.specs.Prelude.{◌≡◌, IfOk, OnOk};
+ghost use Rattle.std.specs.Prelude.{◌≡◌, OnOk};
 ghost use Rattle.requests.specs.Routes as Spec;
 
 use crate::resource::Resource;

@@ -14,7 +14,7 @@ fn id(text: &[u8]) -> Result<Id, Fail> {
     Ok(Id::new(text).ok_or("an id")?)
 }
 
-// A head with these lines behind its first one.
+// A head with these lines after its first one.
 fn head(alloc: Global, first: &[u8], lines: &[u8]) -> Result<Vec<u8>, NoMemory> {
     let mut text = Vec::from_slice(alloc, first)?;
     text.extend_from_slice(b" HTTP/1.1\r\n")?;

@@ -1,20 +1,20 @@
 //! Texts of a head: cut at a byte, trimmed, listed, and read as numbers.
-ghost use Rattle.std.specs.Prelude.{◌≡◌, ◌==◌, ◌≤◌, ◌<◌, not, true};
+ghost use Rattle.std.specs.Prelude.{◌≡◌, ◌==◌, ◌≤◌, ◌<◌, true};
 ghost use Rattle.std.specs.Char.{is_ascii_digit};
 ghost use Rattle.std.specs.List.{list_all, prefix_len, suffix_len};
 ghost use Rattle.std.specs.Str.Parse.{digits_value};
 ghost use Rattle.requests.specs.Text as Spec;
 
-// What stands before the first of these bytes, and what behind it.
+// What stands before the first of these bytes, and what after it.
 #[tactic(auto, using(crate::proofs::TextFacts::cut_fits))]
 pub(crate) fn cut(text: &[u8], byte: u8) -> (&[u8], &[u8])
     ensures before { result.0.now ≡ Spec.before byte text.now }
-    ensures behind { result.1.now ≡ Spec.behind byte text.now }
+    ensures after { result.1.now ≡ Spec.after byte text.now }
 {
     let count = before_len(text, byte);
     let (before, rest) = text.split_at(count);
     match rest.split_first() {
-        Some((_, behind)) => (before, behind),
+        Some((_, after)) => (before, after),
         None => (before, rest),
     }
 }
@@ -31,14 +31,14 @@ pub(crate) fn has_word(list: &[u8], word: &[u8]) -> bool
 {
     let mut rest = list;
     loop {
-        let (element, behind) = cut(rest, b',');
+        let (element, after) = cut(rest, b',');
         if is_word(element, word) {
             return true;
         }
         if element.len() == rest.len() {
             return false;
         }
-        rest = behind;
+        rest = after;
     }
 }
 

@@ -55,7 +55,7 @@ impl Draws {
         self.state.wrapping_shr(33).checked_rem(bound).unwrap_or(0)
     }
 
-    // Mostly the number behind the last one.
+    // Mostly the number after the last one.
     fn number(&mut self, last: u64) -> Option<u64> {
         match self.below(10) {
             0 => None,

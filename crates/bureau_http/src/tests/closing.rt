@@ -76,7 +76,7 @@ fn what_closes_a_connection(rt: HostRuntime) -> Result<(), Fail> {
     assert!(rt; written.starts_with(b"HTTP/1.1 431 Request Header Fields Too Large\r\n"));
     assert!(rt; written.ends_with(b"\r\nconnection: close\r\n\r\nHEAD TOO LARGE\n"));
     assert_eq!(rt; ended, Ok(1));
-    // nothing behind it is served, and bytes without a head's end are refused as they are too many
+    // nothing after it is served, and bytes without a head's end are refused as they are too many
     lines.extend_from_slice(b"GET /published HTTP/1.1\r\n\r\n")?;
     let (more, ended) = served(rt.alloc(), false, lines.as_slice())?;
     assert_eq!(rt; (more.as_slice(), ended), (written.as_slice(), Ok(1)));

@@ -104,7 +104,7 @@ fn each_request_has_its_reply(rt: HostRuntime) -> Result<(), Fail> {
             assert!(rt; written.is_empty(), "{first:?} {cut}");
             assert_eq!(rt; ended, Err(ConnFault::EndInside), "{first:?} {cut}");
         }
-        // the same request once more, behind it
+        // the same request once more, after it
         let again = text.clone()?;
         text.extend_from_slice(again.as_slice())?;
         let (written, ended) = served(rt.alloc(), is_shut, text.as_slice())?;

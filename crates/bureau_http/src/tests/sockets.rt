@@ -6,7 +6,7 @@ use std::io::{Read, Write};
 use std::net::{Shutdown, TcpListener, TcpStream};
 use std::test::Fail;
 
-// Sends a request, and nothing behind it.
+// Sends a request, and nothing after it.
 fn send(client: &mut TcpStream, text: &[u8]) -> Result<(), Fail> {
     client.write_all(text)?;
     client.shutdown(Shutdown::Write)?;

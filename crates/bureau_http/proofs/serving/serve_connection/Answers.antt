@@ -28,8 +28,8 @@ returns-in_err-serve_next-clause-served g c clean this stand =
     let once : ActOnce whole = λ this next turns run.
     let plain = kept_run is_open stands desk after this turns next run in (c.repeats.ensures.once this next turns plain, c.repeats.ensures.stale this next turns plain) in
     map_some _ (c.loop-intake.invariant.so_far (c.serve_next.ensures.clean clean) this stand) (λ bytes so.
-    let next = some_at _ left so.behind so.left_are (c.serve_next.ensures.next clean so.now (held_after is_open stands desk between this (turns_of so.exchanges) so.now so.run)) in
-    let failed = subst (λ r. Serves one so.now c.loop-intake.place held rest mid new r so.behind) c.in_err-serve_next.was next in
+    let next = some_at _ left so.following so.left_are (c.serve_next.ensures.next clean so.now (held_after is_open stands desk between this (turns_of so.exchanges) so.now so.run)) in
+    let failed = subst (λ r. Serves one so.now c.loop-intake.place held rest mid new r so.following) c.in_err-serve_next.was next in
     exit_as (λ r. IsServed whole this rest old new r bytes) c.from_residual.result c.in_err-serve_next.field-0.0 c.in_err-serve_next.field-0.0
     (err_from_is_err_and c.from_residual.result c.from_residual.ensures.1) refl
     (served_err earlier one whole join once this c.loop-intake.place held rest left old mid new bytes so c.in_err-serve_next.field-0.0 failed))
@@ -54,8 +54,8 @@ returns-in-CleanEnd-clause-served g c clean this stand =
     let once : ActOnce whole = λ this next turns run.
     let plain = kept_run is_open stands desk after this turns next run in (c.repeats.ensures.once this next turns plain, c.repeats.ensures.stale this next turns plain) in
     map_some _ (c.loop-intake.invariant.so_far (c.serve_next.ensures.clean clean) this stand) (λ bytes so.
-    let next = some_at _ left so.behind so.left_are (c.serve_next.ensures.next clean so.now (held_after is_open stands desk between this (turns_of so.exchanges) so.now so.run)) in
-    let ended = subst (λ r. Serves one so.now c.loop-intake.place held rest mid new r so.behind) (c.in_ok-serve_next.was ∙ ap (λ s. Ok s) c.in-CleanEnd.is) next in
+    let next = some_at _ left so.following so.left_are (c.serve_next.ensures.next clean so.now (held_after is_open stands desk between this (turns_of so.exchanges) so.now so.run)) in
+    let ended = subst (λ r. Serves one so.now c.loop-intake.place held rest mid new r so.following) (c.in_ok-serve_next.was ∙ ap (λ s. Ok s) c.in-CleanEnd.is) next in
     let at = c.loop-intake.invariant.first in
     served_end earlier one whole join once this c.loop-intake.place held rest left old mid new bytes so (c.loop-intake.place - 1) (omega arith) ended)
 
@@ -79,8 +79,8 @@ returns-in-Ends-clause-served g c clean this stand =
     let once : ActOnce whole = λ this next turns run.
     let plain = kept_run is_open stands desk after this turns next run in (c.repeats.ensures.once this next turns plain, c.repeats.ensures.stale this next turns plain) in
     map_some _ (c.loop-intake.invariant.so_far (c.serve_next.ensures.clean clean) this stand) (λ bytes so.
-    let next = some_at _ left so.behind so.left_are (c.serve_next.ensures.next clean so.now (held_after is_open stands desk between this (turns_of so.exchanges) so.now so.run)) in
-    let last = subst (λ r. Serves one so.now c.loop-intake.place held rest mid new r so.behind) (c.in_ok-serve_next.was ∙ ap (λ s. Ok s) c.in-Ends.is) next in
+    let next = some_at _ left so.following so.left_are (c.serve_next.ensures.next clean so.now (held_after is_open stands desk between this (turns_of so.exchanges) so.now so.run)) in
+    let last = subst (λ r. Serves one so.now c.loop-intake.place held rest mid new r so.following) (c.in_ok-serve_next.was ∙ ap (λ s. Ok s) c.in-Ends.is) next in
     served_last earlier one whole join once this c.loop-intake.place held rest left old mid new bytes so last)
 
 pub loop-intake-preserved : goal.loop-intake-preserved
@@ -112,8 +112,8 @@ loop-intake-preserved g c =
           let so = c.loop-intake.invariant.ran (c.serve_next.ensures.clean clean) this stand in
           ran_more earlier one whole join this so (c.serve_next.ensures.ran clean so.closing (held_after is_open stands desk between this so.turns so.closing so.run));
       so_far = λ clean this stand. map_some _ (c.loop-intake.invariant.so_far (c.serve_next.ensures.clean clean) this stand) (λ bytes so.
-          let next = some_at _ left so.behind so.left_are (c.serve_next.ensures.next clean so.now (held_after is_open stands desk between this (turns_of so.exchanges) so.now so.run)) in
-          let more = subst (λ r. Serves one so.now c.loop-intake.place held rest mid new r so.behind) (c.in_ok-serve_next.was ∙ ap (λ s. Ok s) c.in-Stays.is) next in
+          let next = some_at _ left so.following so.left_are (c.serve_next.ensures.next clean so.now (held_after is_open stands desk between this (turns_of so.exchanges) so.now so.run)) in
+          let more = subst (λ r. Serves one so.now c.loop-intake.place held rest mid new r so.following) (c.in_ok-serve_next.was ∙ ap (λ s. Ok s) c.in-Stays.is) next in
           stays earlier one whole join once this c.loop-intake.place rest left old mid new bytes so more.0 (prepend_known held rest) more.1 more.2);
     }
 

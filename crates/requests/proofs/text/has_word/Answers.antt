@@ -1,7 +1,7 @@
 use Rattle.std.proofs.Common.{◌≡◌, length, sym, ap, ◌∙◌}
 use Rattle.std.proofs.lemmas.List.{length-take-le}
 use Rattle.requests.specs.Text.{before_len, comma, has_word}
-use Rattle.requests.proofs.TextFacts.{cut_fits, word_first, word_nowhere, word_behind}
+use Rattle.requests.proofs.TextFacts.{cut_fits, word_first, word_nowhere, word_after}
 use Rattle.requests.proofs.text.has_word.Goals as goal
 
 pub returns-then-is_word : goal.returns-then-is_word
@@ -24,7 +24,7 @@ loop-rest-preserved c =
     ap length c.cut.ensures.before ∙ length-take-le (before_len comma rest) rest (cut_fits comma rest) in
     record {
       same = c.loop-rest.invariant.same
-          ∙ word_behind c.args.word.now rest _ c.cut.ensures.before (sym c.is_word.ensures ∙ c.if-is_word.false)
+          ∙ word_after c.args.word.now rest _ c.cut.ensures.before (sym c.is_word.ensures ∙ c.if-is_word.false)
           (λ whole. c.if-element-rest.false (count ∙ whole))
-          ∙ ap (has_word c.args.word.now) (sym c.cut.ensures.behind);
+          ∙ ap (has_word c.args.word.now) (sym c.cut.ensures.after);
     }
