@@ -5,10 +5,12 @@ use Rattle.std.specs.Option.{option_to_list}
 use Rattle.std.proofs.lemmas.Grind.{flat_map-append}
 use Rattle.std.specs.List.{flat_map, cons_option}
 use Rattle.mcs_reader.specs.Asking.{asking, reading_asking}
+use Rattle.mcs_reader.specs.ReadingOf.{reading_of}
 use Rattle.mcs_reader.specs.Unread.{Read, with_statements}
 use Rattle.mcs_reader.specs.declared.statement.Statement.{Statement}
 use Rattle.mcs_reader.proofs.ReadFacts.{with_statements-append}
 use Rattle.faults.specs.Refusal.{IsRefusal}
+use Rattle.holddata.proofs.BookFacts.{book_of_is_left}
 use Rattle.holddata.proofs.StatementFacts.{first_of_longer}
 use Rattle.holddata.specs.BookText.{book_text}
 use Rattle.holddata.specs.HoldBook.{book_of}
@@ -16,7 +18,7 @@ use Rattle.holddata.specs.Statements.{change_of, changes_of, faults_of, first_fa
 use Rattle.holddata.specs.declared.hold.HoldChange.{HoldChange}
 use Rattle.holddata.specs.declared.fault.HoldFault.{HoldFault}
 use Rattle.holddata.specs.declared.fault.HoldFault.TheVariants.{Memory}
-use Rattle.bureau_main.specs.Holds.{book_print, of_holds, print_of_read, IsMemory}
+use Rattle.bureau_main.specs.Holds.{book_print, of_holds, print_of, print_of_read, IsBookLeft, IsMemory}
 
 -- whoever asks for the operands that say something of a hold has the whole print
 pub print_asking : (names : List (List ℕ)) (read : Read) → ((statements : List Statement) → changes_of (map (asking names) statements) ≡ changes_of statements)
@@ -79,3 +81,21 @@ changes_then done statement made change is before =
     alone : (o : Option HoldChange) → cons_option o [] ≡ option_to_list o
     alone None = refl
     alone (Some c) = refl
+
+-- a print is that of the book that the last changes leave
+pub book_left : (source text : List ℕ) → print_of source ≡ Ok text → IsBookLeft source text
+book_left source text printed = by_read (reading_of source) refl printed
+  where
+    by_fault : (statements : List Statement) → reading_of source ≡ Ok statements → (fault : Option HoldFault) → book_print fault statements ≡ Ok text → IsBookLeft source text
+    by_fault statements read None is = record {
+      statements = statements;
+      read = read;
+      book = book_of (changes_of statements);
+      printed = cc;
+      left = book_of_is_left (changes_of statements);
+    }
+    by_fault statements read (Some fault) is = absurd (cc)
+
+    by_read : (read : Read) → reading_of source ≡ read → print_of_read read ≡ Ok text → IsBookLeft source text
+    by_read (Ok statements) read is = by_fault statements read (first_fault statements) is
+    by_read (Err fault) read is = absurd (cc)

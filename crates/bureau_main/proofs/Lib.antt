@@ -1,3 +1,4 @@
 pub mod BookFacts
+pub mod LineFacts
 pub mod OutputFacts
 mod ReplayFacts

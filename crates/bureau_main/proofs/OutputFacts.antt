@@ -3,6 +3,7 @@ use Rattle.std.proofs.Common.{◌≡◌, ℕ, ◌⊎◌, inl, inr, List, [], tak
 use Rattle.std.specs.Io.KnownBytes.{Appends}
 use Rattle.std.proofs.KnownBytes.{Keeps-refl}
 use Rattle.faults.specs.declared.any.AnyFault.{AnyFault}
+use Rattle.faults.specs.Refusal.{IsRefusal}
 use Rattle.transfer.specs.Transfer.{AppendsFront}
 use Rattle.bureau_main.specs.declared.fault.ProgramFault.{ProgramFault}
 use Rattle.bureau_main.specs.declared.fault.ProgramFault.TheVariants.{NotRead, NotWritten, Memory}
@@ -15,13 +16,13 @@ front_of None = ([], tt)
 front_of (Some bytes) = (take most_read bytes, refl)
 
 -- the source isn't there
-pub unread : (fault : ProgramFault) (input old : Option (List ℕ)) → (fault ≡ NotRead) ⊎ (fault ≡ Memory) → IsPrinted input old old (Some (of_program fault))
-unread fault input old (inl not_read) =
-    let front = front_of input in
-    record { source = front.0; read = front.1; printed = inr (inl (ap of_program not_read), Keeps-refl old) }
-unread fault input old (inr memory) =
+pub unread : (fault : ProgramFault) (input old : Option (List ℕ)) → IsRefusal Memory (λ f. f ≡ NotRead) fault → IsPrinted input old old (Some (of_program fault))
+unread fault input old (inl memory) =
     let front = front_of input in
     record { source = front.0; read = front.1; printed = inr (inr (inl (inr (inr (ap of_program memory)))), Keeps-refl old) }
+unread fault input old (inr not_read) =
+    let front = front_of input in
+    record { source = front.0; read = front.1; printed = inr (inl (ap of_program not_read), Keeps-refl old) }
 
 module _ (source : List ℕ) (input : Option (List ℕ)) (read : IfSome input (λ bytes. source ≡ take most_read bytes)) where
   -- the source has no print

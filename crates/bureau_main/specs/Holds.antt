@@ -1,7 +1,7 @@
 -- What `holds` makes of the bytes of a source (IBM z/OS SMP/E Reference, `++HOLD`).
 use Rattle.std.specs.Prelude.{◌≡◌, ℕ, ◌⊎◌, List, take, Option, Some, None, Result, Ok, Err, IfSome}
 use Rattle.std.specs.Io.KnownBytes.{Appends, Keeps}
-use Rattle.faults.specs.FaultText as fault_line
+use Rattle.faults.specs.FaultText as fault_text
 use Rattle.faults.specs.declared.any.AnyFault.{AnyFault}
 use Rattle.mcs_reader.specs.McsFault as mcs
 use Rattle.mcs_reader.specs.ReadingOf.{reading_of}
@@ -10,9 +10,10 @@ use Rattle.mcs_reader.specs.declared.fault.McsFault.{McsFault}
 use Rattle.mcs_reader.specs.declared.fault.McsFault.TheVariants as mcs_fault
 use Rattle.mcs_reader.specs.declared.statement.Statement.{Statement}
 use Rattle.holddata.specs.BookText.{book_text}
-use Rattle.holddata.specs.HoldBook.{book_of}
+use Rattle.holddata.specs.HoldBook.{book_of, IsLeft}
 use Rattle.holddata.specs.HoldFault as hold
 use Rattle.holddata.specs.Statements.{changes_of, first_fault}
+use Rattle.holddata.specs.declared.hold.Hold.{Hold}
 use Rattle.holddata.specs.declared.fault.HoldFault.{HoldFault}
 use Rattle.holddata.specs.declared.fault.HoldFault.TheVariants as hold_fault
 use Rattle.transfer.specs.Transfer.{AppendsFront, ConsumesUpTo}
@@ -45,6 +46,15 @@ print_of_read (Err fault) = Err (of_source fault)
 abbrev pub print_of : List ℕ → Result (List ℕ) AnyFault
 print_of source = print_of_read (reading_of source)
 
+-- The law of a print: the source is read as statements, and the book in print has under each key what the last of their
+-- changes that names the key left.
+pub record IsBookLeft (source text : List ℕ) : Type 0 where
+  pub statements : List Statement
+  pub read : reading_of source ≡ Ok statements
+  pub book : List Hold
+  pub printed : text ≡ book_text book
+  pub left : IsLeft (changes_of statements) book
+
 -- memory ran out
 abbrev pub IsMemory : AnyFault → Type 0
 IsMemory fault = (fault ≡ of_source mcs_fault.Memory) ⊎ (fault ≡ of_holds hold_fault.Memory) ⊎ (fault ≡ of_program Memory)
@@ -75,7 +85,7 @@ pub record IsPrinted (input old new : Option (List ℕ)) (outcome : Option AnyFa
 -- What standard error gets: nothing, or the line that tells the fault, as far as it takes it.
 abbrev pub IsTold : Option AnyFault → Option (List ℕ) → Option (List ℕ) → Type 0
 IsTold None old new = Keeps old new
-IsTold (Some fault) old new = AppendsFront old new (fault_line.text_of fault.number fault.place)
+IsTold (Some fault) old new = AppendsFront old new (fault_text.text_of fault.number fault.place)
 
 abbrev pub run_status : Option AnyFault → ℕ
 run_status None = 0

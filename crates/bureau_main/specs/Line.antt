@@ -72,6 +72,20 @@ IsLineIn (Some (name, rows)) line = IsLineWith name rows line
 abbrev pub IsLineOf : List Text → Line → Type 0
 IsLineOf words line = IsLineIn (subcommand_of bureau_app words) line
 
+-- two lines say the same: one command, with the same texts and the same capacity
+abbrev pub SaysSame : Line → Line → Type 0
+SaysSame (Holds file) (Holds other) = string_bytes file ≡ string_bytes other
+SaysSame (Holds file) (Replay cache callers files) = ⊥
+SaysSame (Replay cache callers files) (Holds other) = ⊥
+SaysSame (Replay cache callers files) (Replay other_cache other_callers other_files) =
+    (cache ≡ other_cache)
+    × (string_bytes callers ≡ string_bytes other_callers)
+    × (map string_bytes files.items ≡ map string_bytes other_files.items)
+
+-- words have at most one line
+abbrev pub HasOneLine : List Text → Type 0
+HasOneLine words = (line other : Line) → IsLineOf words line → IsLineOf words other → SaysSame line other
+
 -- Serves private contracts alone: the line is such a one, or there is no such line.
 abbrev pub IsFound : (Line → Type 0) → Option Line → Type 0
 IsFound Is None = (line : Line) → Is line → ⊥

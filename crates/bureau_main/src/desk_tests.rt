@@ -12,7 +12,7 @@ const CALLERS: &[u8] = b"NAME,TOKEN\nPUBLISH,publisher-token\nALPHA,alpha-token\
 // What a caller sends: the token, the request's first words, its lines but for the token and the length, its body.
 type Asked = (&'static str, &'static str, &'static str, &'static str);
 
-// What is written for it: the status, the lines behind the length, the body. No status: nothing is written.
+// What is written for it: the status, the lines after the length, the body. No status: nothing is written.
 type Told = (&'static str, &'static str, &'static str);
 
 const BASE: &str =
@@ -102,7 +102,7 @@ const NOT_FOUND: Told = ("404 Not Found", "", "NOT FOUND\n");
 
 const BAD_NUMBER: Told = ("400 Bad Request", "", "BAD NUMBER\n");
 
-// What stands behind the first two requests of the script, and behind BETA's zone TGT2.
+// What stands after the first two requests of the script, and after BETA's zone TGT2.
 const REQUESTS: [(Asked, Told); 15] = [
     (
         (
@@ -210,7 +210,7 @@ fn reply(alloc: Global, asked: Asked, told: Told) -> Result<String, Fail> {
     )?)
 }
 
-// The requests one behind the other, and the replies so.
+// The requests one after the other, and the replies so.
 fn texts(alloc: Global, exchanges: &[(Asked, Told)]) -> Result<(Vec<u8>, Vec<u8>), Fail> {
     let mut requests = Vec::new(alloc);
     let mut replies = Vec::new(alloc);

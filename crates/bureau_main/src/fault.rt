@@ -1,6 +1,5 @@
 //! Why the program can't do what it is asked, and what it tells of any fault.
 ghost use Rattle.std.specs.Prelude.{◌≡◌, None};
-ghost use Rattle.std.specs.Io.KnownBytes.{Appends};
 ghost use Rattle.faults.specs.FaultText.{text_of};
 ghost use Rattle.bureau_main.specs.ProgramFault.{program_number, status_of};
 ghost use Rattle.transfer.specs.Transfer.{AppendsFront};

@@ -1,12 +1,13 @@
 //! `holds`: from the bytes of HOLDDATA to the hold book in print.
-ghost use Rattle.std.specs.Prelude.{◌≡◌, ◌⊎◌, ◌++◌, take, Ok, Err, IfOk, IfErr, IfSome, OnOk};
+ghost use Rattle.std.specs.Prelude.{◌≡◌, ◌⊎◌, ◌++◌, take, Ok, Err, IfOk, IfErr, IfSome, OnOk, OnErr};
 ghost use Rattle.std.specs.Option.{option_to_list};
 ghost use Rattle.std.specs.Io.KnownBytes.{Appends};
+ghost use Rattle.faults.specs.Refusal.{IsRefusal};
 ghost use Rattle.holddata.specs.BookText.{book_text};
 ghost use Rattle.holddata.specs.HoldBook.{book_of, IsLeft};
 ghost use Rattle.mcs_reader.specs.ReadingOf.{reading_of};
 ghost use Rattle.mcs_reader.specs.Unread.{IsRead};
-ghost use Rattle.bureau_main.specs.Holds.{fault_in, most_read, print_of, print_of_read, IsHoldsRun, IsMemory, IsPrinted};
+ghost use Rattle.bureau_main.specs.Holds.{fault_in, most_read, print_of, print_of_read, IsBookLeft, IsHoldsRun, IsMemory, IsPrinted};
 ghost use Rattle.transfer.specs.Transfer.{AppendsFront, ConsumesUpTo};
 
 use crate::fault::{ProgramFault, exit_status, report};
@@ -51,24 +52,25 @@ fn print_holds<R: Read, W: Write>(
     ensures printed { IsPrinted (R.remaining reader.old) (W.contents writer.old) (W.contents writer.new) (fault_in result) }
     ensures taken { ConsumesUpTo most_read (R.remaining reader.old) (R.remaining reader.new) }
 {
-    let source = source_in(alloc, reader)?;
+    let source = read_input(alloc, reader)?;
     let text = hold_book_text(alloc, source)?;
-    Ok(put_out(writer, text.as_slice())?)
+    Ok(write_text(writer, text.as_slice())?)
 }
 
 // What the reader gives, up to one byte more than a source may have.
-fn source_in<R: Read>(alloc: Global, reader: &mut R) -> Result<Vec<u8>, ProgramFault>
+fn read_input<R: Read>(alloc: Global, reader: &mut R) -> Result<Vec<u8>, ProgramFault>
     ensures ok { IfOk result (λ source. IfSome (R.remaining reader.old) (λ bytes. source.items ≡ take most_read bytes)) }
-    ensures err { IfErr result (λ fault. (fault ≡ ProgramFault.NotRead) ⊎ (fault ≡ ProgramFault.Memory)) }
+    ensures fault { IfErr result (IsRefusal ProgramFault.Memory (λ fault. fault ≡ ProgramFault.NotRead)) }
     ensures taken { ConsumesUpTo most_read (R.remaining reader.old) (R.remaining reader.new) }
 {
     Ok(read_source(alloc, reader, MOST_READ, &mut { RETRIES })?)
 }
 
 // Writes a whole text.
-fn put_out<W: Write>(writer: &mut W, text: &[u8]) -> Result<(), ProgramFault>
+fn write_text<W: Write>(writer: &mut W, text: &[u8]) -> Result<(), ProgramFault>
     ensures ok { OnOk result (Appends (W.contents writer.old) (W.contents writer.new) text.now) }
-    ensures err { IfErr result (λ fault. (fault ≡ ProgramFault.NotWritten) × AppendsFront (W.contents writer.old) (W.contents writer.new) text.now) }
+    ensures fault { IfErr result (λ fault. fault ≡ ProgramFault.NotWritten) }
+    ensures err { OnErr result (AppendsFront (W.contents writer.old) (W.contents writer.new) text.now) }
 {
     match write_whole(writer, text, &mut { RETRIES }) {
         Ok(()) => Ok(()),
@@ -83,6 +85,7 @@ fn put_out<W: Write>(writer: &mut W, text: &[u8]) -> Result<(), ProgramFault>
 /// The fault of the source, or of the first statement that has one as a hold; or memory ran out.
 pub fn hold_book_text(alloc: Global, source: Vec<u8>) -> Result<Vec<u8>, AnyFault>
     ensures text { IfOk result (λ text. print_of source.items ≡ Ok text.items) }
+    ensures left { IfOk result (λ text. IsBookLeft source.items text.items) }
     ensures fault { IfErr result (λ fault. IsMemory fault ⊎ (print_of source.items ≡ Err fault)) }
 
     // What a source is read as, in the words of the field.
@@ -97,7 +100,7 @@ pub fn hold_book_text(alloc: Global, source: Vec<u8>) -> Result<Vec<u8>, AnyFaul
 fn text_left(changes: Vec<HoldChange>) -> Result<Vec<u8>, ProgramFault>
     ensures text { IfOk result (λ text. text.items ≡ book_text (book_of changes.items)) }
     ensures left { IsLeft changes.items (book_of changes.items) }
-    ensures err { IfErr result (λ fault. fault ≡ ProgramFault.Memory) }
+    ensures fault { IfErr result (λ fault. fault ≡ ProgramFault.Memory) }
 {
     Ok(book_text_left(changes)?)
 }
@@ -123,7 +126,7 @@ fn changes_by(alloc: Global, statements: Statements) -> Result<Vec<HoldChange>, 
     let mut changes = Vec::new(alloc);
     'statements: while let Some(statement) = statements.next()? {
         match change(alloc, &statement) {
-            Ok(change) => put_among(&mut changes, change)?,
+            Ok(change) => push_change(&mut changes, change)?,
             Err(fault) => {
                 statements.finish()?;
                 return Err(AnyFault::from(fault));
@@ -134,9 +137,12 @@ fn changes_by(alloc: Global, statements: Statements) -> Result<Vec<HoldChange>, 
 }
 
 // Puts the change, where there is one, after the others.
-fn put_among(changes: &mut Vec<HoldChange>, change: Option<HoldChange>) -> Result<(), ProgramFault>
+fn push_change(
+    changes: &mut Vec<HoldChange>,
+    change: Option<HoldChange>,
+) -> Result<(), ProgramFault>
     ensures ok { OnOk result (changes.new.items ≡ changes.old.items ++ option_to_list change) }
-    ensures err { IfErr result (λ fault. fault ≡ ProgramFault.Memory) }
+    ensures fault { IfErr result (λ fault. fault ≡ ProgramFault.Memory) }
 {
     if let Some(change) = change {
         changes.push(change)?;

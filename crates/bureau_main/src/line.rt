@@ -2,7 +2,8 @@
 ghost use Rattle.std.specs.Prelude.{◌≡◌, ◌≢◌, ℕ, false, [], codes, map, string_bytes, IfOk, IfErr, IfSome, IsNone, OnOk};
 ghost use Rattle.clap.specs.Words.{app_of, fault_of, found_of, kind_of, one_of, rows_of, rule_of, subcommand_rows_of};
 ghost use Rattle.clap.specs.declared.builder.command.Command.TheViews.{out-Command as fields_of};
-ghost use Rattle.bureau_main.specs.Line.{bureau_app, cache_rule, holds_app, replay_app, IsCapacity, IsFound, IsLineIn, IsLineOf, IsLineWith};
+ghost use Rattle.faults.specs.Refusal.{IsRefusal};
+ghost use Rattle.bureau_main.specs.Line.{bureau_app, cache_rule, holds_app, replay_app, HasOneLine, IsCapacity, IsFound, IsLineIn, IsLineOf, IsLineWith};
 ghost use Rattle.bureau_main.specs.declared.line.Line.{Line};
 ghost use Rattle.bureau_main.specs.declared.line.LineFault.TheVariants.{Memory};
 
@@ -49,10 +50,11 @@ impl From<NoMemory> for LineFault {
 pub fn line_of(alloc: Global, words: &[String]) -> Result<Line, LineFault>
     ensures line { IfOk result (λ line. IsLineOf (map string_bytes words.now) line) }
     ensures understood { OnOk result (fault_of bureau_app (map string_bytes words.now) ≡ []) }
+    ensures one_line { HasOneLine (map string_bytes words.now) }
 
     // Words that clap understands, and whose matches are a line's, are refused for want of memory alone.
-    ensures refused { IfErr result (λ fault. fault ≢ Memory → (line : Line) → IsLineOf (map string_bytes words.now) line
-        → fault_of bureau_app (map string_bytes words.now) ≢ []) }
+    ensures refused { IfErr result (IsRefusal Memory (λ _. (line : Line) → IsLineOf (map string_bytes words.now) line
+        → fault_of bureau_app (map string_bytes words.now) ≢ [])) }
 {
     match command(alloc)?.try_get_matches_from(words) {
         Ok(matches) => line_in(alloc, &matches),
@@ -63,7 +65,7 @@ pub fn line_of(alloc: Global, words: &[String]) -> Result<Line, LineFault>
 // The line that matches give.
 fn line_in(alloc: Global, matches: &ArgMatches) -> Result<Line, LineFault>
     ensures line { IfOk result (IsLineIn (subcommand_rows_of matches.now)) }
-    ensures none { IfErr result (λ fault. fault ≢ Memory → (line : Line) → IsLineIn (subcommand_rows_of matches.now) line → ⊥) }
+    ensures none { IfErr result (IsRefusal Memory (λ _. (line : Line) → IsLineIn (subcommand_rows_of matches.now) line → ⊥)) }
 {
     if let Some((name, matches)) = matches.subcommand() {
         if let Some(line) = line_with(alloc, name, matches)? {

@@ -7,6 +7,8 @@ mod fault;
 mod help;
 mod holds;
 mod line;
+#[cfg(test)]
+mod line_tests;
 mod program;
 mod replay;
 #[cfg(test)]

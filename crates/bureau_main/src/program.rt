@@ -1,5 +1,6 @@
 //! The program over the standard streams and files.
-ghost use Rattle.std.specs.Prelude.{◌≡◌, ◌⊎◌, ◌≤◌, ◌↔◌, codes, length, IfErr, IfOk, IsTrue};
+ghost use Rattle.std.specs.Prelude.{◌≡◌, ◌≤◌, ◌↔◌, codes, length, IfErr, IfOk, IsTrue};
+ghost use Rattle.faults.specs.Refusal.{IsRefusal};
 ghost use Rattle.bureau_main.specs.Program.{status_of_line_fault};
 ghost use Rattle.bureau_main.specs.ProgramFault.{status_of};
 
@@ -32,16 +33,16 @@ fn answer(rt: &HostRuntime, line: Result<Line, LineFault>) -> u8
     ensures bound { result ≤ 3 }
 {
     match line {
-        Ok(Line::Holds { file }) => holds(rt, file.as_str()),
+        Ok(Line::Holds { file }) => do_holds(rt, file.as_str()),
         Ok(
             Line::Replay {
                 cache,
                 callers,
                 files,
             },
-        ) => replay(rt, cache, callers.as_str(), files.as_slice()),
-        Err(LineFault::Words(text)) => misunderstood(rt, text.as_str()),
-        Err(LineFault::Memory) => refused(rt, AnyFault::from(ProgramFault::Memory)),
+        ) => do_replay(rt, cache, callers.as_str(), files.as_slice()),
+        Err(LineFault::Words(text)) => explain(rt, text.as_str()),
+        Err(LineFault::Memory) => refuse(rt, AnyFault::from(ProgramFault::Memory)),
     }
 }
 
@@ -57,7 +58,7 @@ fn words_of(rt: &HostRuntime) -> Result<Vec<String>, LineFault> {
     }
 }
 
-fn holds(rt: &HostRuntime, file: &str) -> u8
+fn do_holds(rt: &HostRuntime, file: &str) -> u8
     ensures { result ≤ 3 }
 {
     let (mut output, mut errors) = (rt.stdout(), rt.stderr());
@@ -66,7 +67,7 @@ fn holds(rt: &HostRuntime, file: &str) -> u8
     }
     match File::open(rt, file) {
         Ok(mut source) => run_holds(rt.alloc(), &mut source, &mut output, &mut errors),
-        Err(_) => refused(rt, AnyFault::from(ProgramFault::NotRead)),
+        Err(_) => refuse(rt, AnyFault::from(ProgramFault::NotRead)),
     }
 }
 
@@ -77,10 +78,10 @@ fn is_standard_input(file: &str) -> bool
     file == "-"
 }
 
-fn replay(rt: &HostRuntime, cache: u32, callers: &str, files: &[String]) -> u8
+fn do_replay(rt: &HostRuntime, cache: u32, callers: &str, files: &[String]) -> u8
     ensures { result ≤ 3 }
 {
-    match sources_in(rt, callers, files) {
+    match read_files(rt, callers, files) {
         Ok((callers, connections)) => {
             let (mut output, mut errors) = (rt.stdout(), rt.stderr());
             run_replay(
@@ -92,31 +93,31 @@ fn replay(rt: &HostRuntime, cache: u32, callers: &str, files: &[String]) -> u8
                 &mut errors,
             )
         }
-        Err(fault) => refused(rt, AnyFault::from(fault)),
+        Err(fault) => refuse(rt, AnyFault::from(fault)),
     }
 }
 
 // What stands in the callers file, and in the file of each connection. They are read in this order, with 64 retries in all.
-fn sources_in(
+fn read_files(
     rt: &HostRuntime,
     callers: &str,
     files: &[String],
 ) -> Result<(Vec<u8>, Vec<Vec<u8>>), ProgramFault>
     ensures each { IfOk result (λ sources. length sources.1.items ≡ length files.now) }
-    ensures err { IfErr result (λ fault. (fault ≡ ProgramFault.NotRead) ⊎ (fault ≡ ProgramFault.Memory)) }
+    ensures fault { IfErr result (IsRefusal ProgramFault.Memory (λ fault. fault ≡ ProgramFault.NotRead)) }
 {
     let mut retries = RETRIES;
-    let callers = bytes_in(rt, callers, &mut retries)?;
+    let callers = read_file(rt, callers, &mut retries)?;
     let mut connections = Vec::with_capacity(rt.alloc(), files.len())?;
     for file in files {
-        connections.push(bytes_in(rt, file.as_str(), &mut retries)?)?;
+        connections.push(read_file(rt, file.as_str(), &mut retries)?)?;
     }
     Ok((callers, connections))
 }
 
 // All that stands in a file.
-fn bytes_in(rt: &HostRuntime, file: &str, retries: &mut u32) -> Result<Vec<u8>, ProgramFault>
-    ensures { IfErr result (λ fault. (fault ≡ ProgramFault.NotRead) ⊎ (fault ≡ ProgramFault.Memory)) }
+fn read_file(rt: &HostRuntime, file: &str, retries: &mut u32) -> Result<Vec<u8>, ProgramFault>
+    ensures { IfErr result (IsRefusal ProgramFault.Memory (λ fault. fault ≡ ProgramFault.NotRead)) }
 {
     match File::open(rt, file) {
         Ok(mut source) => Ok(read_source(rt.alloc(), &mut source, usize::MAX, retries)?),
@@ -125,7 +126,7 @@ fn bytes_in(rt: &HostRuntime, file: &str, retries: &mut u32) -> Result<Vec<u8>, 
 }
 
 // Tells a fault on standard error, and gives the exit status.
-fn refused(rt: &HostRuntime, fault: AnyFault) -> u8
+fn refuse(rt: &HostRuntime, fault: AnyFault) -> u8
     ensures { result ≡ status_of fault.cause }
 {
     report(&mut rt.stderr(), fault);
@@ -133,7 +134,7 @@ fn refused(rt: &HostRuntime, fault: AnyFault) -> u8
 }
 
 // Tells why the words of the command line name no command that could be done.
-fn misunderstood(rt: &HostRuntime, text: &str) -> u8
+fn explain(rt: &HostRuntime, text: &str) -> u8
     ensures { result ≡ 2 }
 {
     let _ = write_whole(&mut rt.stderr(), text.as_bytes(), &mut { RETRIES });

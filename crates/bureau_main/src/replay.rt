@@ -1,5 +1,5 @@
 //! `replay`: from the callers and the bytes of connections to the bytes of their replies.
-ghost use Rattle.std.specs.Prelude.{◌≡◌, map, IfErr, OnOk};
+ghost use Rattle.std.specs.Prelude.{◌≡◌, map, IfErr, OnOk, OnErr};
 ghost use Rattle.std.specs.Io.KnownBytes.{Appends};
 ghost use Rattle.bureau_main.specs.Holds.{fault_in};
 ghost use Rattle.bureau_main.specs.Replay.{IsReplayOutput, IsReplayRun, joined};
@@ -46,13 +46,14 @@ fn print_replies<W: Write>(
     ensures { IsReplayOutput (fault_in result) callers.now (map (λ file. file.items) files.items) (W.contents writer.old) (W.contents writer.new) }
 {
     let written = replay(alloc, callers, files)?;
-    Ok(put_all(writer, written.as_slice())?)
+    Ok(write_texts(writer, written.as_slice())?)
 }
 
 // Writes whole texts, one after the other.
-fn put_all<W: Write>(writer: &mut W, texts: &[Vec<u8>]) -> Result<(), ProgramFault>
+fn write_texts<W: Write>(writer: &mut W, texts: &[Vec<u8>]) -> Result<(), ProgramFault>
     ensures ok { OnOk result (Appends (W.contents writer.old) (W.contents writer.new) (joined (map (λ text. text.items) texts.now))) }
-    ensures err { IfErr result (λ fault. (fault ≡ ProgramFault.NotWritten) × AppendsFront (W.contents writer.old) (W.contents writer.new) (joined (map (λ text. text.items) texts.now))) }
+    ensures fault { IfErr result (λ fault. fault ≡ ProgramFault.NotWritten) }
+    ensures err { OnErr result (AppendsFront (W.contents writer.old) (W.contents writer.new) (joined (map (λ text. text.items) texts.now))) }
 {
     let mut retries = RETRIES;
     for text in texts {

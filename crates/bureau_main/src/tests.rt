@@ -1,7 +1,5 @@
 //! Worked sources through `run_holds`, and readers and writers that fail.
-use crate::holds::{MOST_READ, run_holds};
-use crate::line::{Line, LineFault, line_of};
-use faults::NoMemory;
+use crate::holds::run_holds;
 use std::alloc::Global;
 use std::io::{self, ErrorKind, Read, Write};
 use std::str;
@@ -162,7 +160,7 @@ fn worked_sources(rt: HostRuntime) -> Result<(), Fail> {
     Ok(())
 }
 
-// What is passed over, and where that ends: headers, comments, lists of COMMENT, and what is behind a period.
+// What is passed over, and where that ends: headers, comments, lists of COMMENT, and what is after a period.
 #[test]
 fn what_is_passed_over(rt: HostRuntime) -> Result<(), Fail> {
     let empty = format!(in rt.alloc(); "{HEADING}ROWS 0\n")?;
@@ -224,9 +222,9 @@ fn comment_of(alloc: Global, lines: u32) -> Result<Vec<u8>, Fail> {
     Ok(source)
 }
 
-// More holds than wait before they are put into the book: each of the last, with a release of one of the first.
+// Many holds, each put twice, so that the last put is in force, and a release of one of them.
 #[test]
-fn more_holds_than_wait(rt: HostRuntime) -> Result<(), Fail> {
+fn many_holds_each_put_twice(rt: HostRuntime) -> Result<(), Fail> {
     let mut source = Vec::new(rt.alloc());
     for class in ["PE", "HIPER"] {
         for number in 0..70_000 {
@@ -248,7 +246,7 @@ fn more_holds_than_wait(rt: HostRuntime) -> Result<(), Fail> {
 
 #[test]
 fn a_source_that_is_too_long_has_a_fault_of_the_text(rt: HostRuntime) -> Result<(), Fail> {
-    let blanks = vec![in rt.alloc(); b' '; MOST_READ]?;
+    let blanks = vec![in rt.alloc(); b' '; 67_108_865]?;
     let run = run_of(rt.alloc(), &mut blanks.as_slice());
     assert_eq!(rt; run.status, 1);
     assert!(rt; run.output.is_empty() && run.errors.as_slice() == b"FAULT 5\n".as_slice());
@@ -332,84 +330,4 @@ fn standard_error_that_fails_changes_nothing(rt: HostRuntime) {
     let status = run_holds(rt.alloc(), &mut source.as_bytes(), &mut output, &mut errors);
     assert_eq!(rt; status, 1);
     assert!(rt; output.is_empty() && errors.taken.as_slice() == b"FAULT ".as_slice());
-}
-
-fn words(alloc: Global, texts: &[&str]) -> Result<Vec<String>, NoMemory> {
-    let mut words = Vec::new(alloc);
-    for text in texts {
-        words.push(String::from_str(alloc, text)?)?;
-    }
-    Ok(words)
-}
-
-fn text_in(line: Result<Line, LineFault>) -> Option<String> {
-    match line {
-        Err(LineFault::Words(text)) => Some(text),
-        _ => None,
-    }
-}
-
-#[test]
-fn lines(rt: HostRuntime) -> Result<(), Fail> {
-    let alloc = rt.alloc();
-    let taken: [(&[&str], &str); 5] = [
-        (&["holds", "-"], "Holds { file: \"-\" }"),
-        (
-            &["replay", "c", "a"],
-            "Replay { cache: 1024, callers: \"c\", files: [\"a\"] }",
-        ),
-        (
-            &["replay", "--cache", "1", "c", "a", "b", "a"],
-            "Replay { cache: 1, callers: \"c\", files: [\"a\", \"b\", \"a\"] }",
-        ),
-        (
-            &["replay", "--cache=65536", "c", "-", "holds"],
-            "Replay { cache: 65536, callers: \"c\", files: [\"-\", \"holds\"] }",
-        ),
-        (
-            &["replay", "--", "--cache", "7"],
-            "Replay { cache: 1024, callers: \"--cache\", files: [\"7\"] }",
-        ),
-    ];
-    for (texts, shown) in taken {
-        let words = words(alloc, texts)?;
-        let line = line_of(alloc, words.as_slice()).ok().ok_or("a line")?;
-        let text = format!(in alloc; "{line:?}")?;
-        assert_eq!(rt; text.as_str(), shown);
-    }
-    let refused: [(&[&str], &str); 12] = [
-        (&["hold", "-"], "unrecognized subcommand 'hold'"),
-        (&[], "requires a subcommand"),
-        (&["holds"], "Usage: bureau holds <FILE>"),
-        (&["holds", "a", "b"], "unexpected argument 'b'"),
-        (&["replay", "c"], "Usage: bureau replay <CALLERS> <FILE>..."),
-        (
-            &["replay", "--cache", "0", "c", "a"],
-            "0 is not in 1..=65536",
-        ),
-        (
-            &["replay", "--cache", "65537", "c", "a"],
-            "65537 is not in 1..=65536",
-        ),
-        (
-            &["replay", "--cache", "x", "c", "a"],
-            "invalid digit found in string",
-        ),
-        (
-            &["replay", "--cache", "1", "--cache", "2", "c", "a"],
-            "cannot be used multiple times",
-        ),
-        (
-            &["replay", "--port", "1", "c", "a"],
-            "unexpected argument '--port'",
-        ),
-        (&["--help"], "Usage: bureau <COMMAND>"),
-        (&["--version"], "bureau 0.1.0"),
-    ];
-    for (texts, told) in refused {
-        let words = words(alloc, texts)?;
-        let text = text_in(line_of(alloc, words.as_slice())).ok_or("no text")?;
-        assert!(rt; text.contains(told), "{text}");
-    }
-    Ok(())
 }

@@ -31,6 +31,6 @@ statements-preserved c =
       record {
         read = read_more done statement _ c.statements.statements.reading c.next.new.self.reading kept.read gives.first;
         faultless = faultless_more done statement kept.faultless c.in-Ok.ensures.no_fault;
-        made = changes_then done statement c.statements.changes.items c.in-Ok.change c.in-Ok.ensures.change kept.made ∙ sym c.in_ok-put_among-in-Ok.ensures.ok;
+        made = changes_then done statement c.statements.changes.items c.in-Ok.change c.in-Ok.ensures.change kept.made ∙ sym c.in_ok-push_change-in-Ok.ensures.ok;
       },
     )

@@ -2,7 +2,7 @@
 use Rattle.std.proofs.Common.{map, take}
 use Rattle.std.specs.Io.KnownBytes.{Appends}
 use Rattle.bureau_main.specs.Replay.{joined}
-use Rattle.bureau_main.proofs.replay.put_all.Given as goal
+use Rattle.bureau_main.proofs.replay.write_texts.Given as goal
 
 abbrev pub invariant-loop-text : goal.invariant-loop-text
 invariant-loop-text g l =
