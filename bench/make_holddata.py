@@ -17,7 +17,7 @@ sequence numbers in columns 73 to 80), or one that is hard on a reader:
     operands  one statement of operands of one letter, without lists
     comment   a list of COMMENT, one parenthesis a line, all closed at the end
     slashes   one comment over lines of `/*`
-    empty     comments without text, one behind the other
+    empty     comments without text, one after the other
 """
 import random
 import sys

@@ -36,7 +36,7 @@ def statements(sysmods):
 
 SHAPES = {
     "SYSMODs and holds": statements,
-    "VERs behind one header": lambda n: ["++PTF(U)."] + ["++VER(Z038) PRE(P%d) SUP(S%d)." % (i, i) for i in range(n)],
+    "VERs after one header": lambda n: ["++PTF(U)."] + ["++VER(Z038) PRE(P%d) SUP(S%d)." % (i, i) for i in range(n)],
     "one SYSMOD again and again": lambda n: [line for i in range(n) for line in ("++PTF(U).", "++VER(Z038) SUP(S%d)." % i)],
     "superseders of one SYSMOD": lambda n: [line for i in range(n) for line in ("++PTF(U%d)." % i, "++VER(Z038) SUP(A).")],
 }
