@@ -1,25 +1,27 @@
 -- One call answered, from what is decided and what is made.
-use Rattle.std.proofs.Common.{◌≡◌, inl, inr, ◌+◌, ℕ, refl, sym, ◌∙◌, ap, subst}
-use Rattle.std.specs.Prelude.{Result, Ok, Err, IsErr}
+use Rattle.std.proofs.Common.{◌≡◌, inl, inr, ◌+◌, ◌⊎◌, refl, sym, ◌∙◌, ap, subst}
+use Rattle.std.specs.Prelude.{Result, Ok, Err, IsErr, IsErrOf, false}
 use Rattle.catalogue.specs.Content.{Content, IsInOrder}
-use Rattle.catalogue.specs.Published.{Keeps, Tells}
+use Rattle.catalogue.specs.View.{Goes, IsLawful, IsOpen, Keeps, Tells, View}
+use Rattle.catalogue.proofs.SourceFacts.{goes_on, no_fault, was_open}
 use Rattle.bureau_store.specs.Caller.{IsAmong}
-use Rattle.bureau_store.specs.Effect.{content_after, tables_after}
-use Rattle.bureau_store.specs.Store.{Makes}
+use Rattle.bureau_store.specs.Effect.{content_after}
+use Rattle.bureau_store.specs.Store.{Makes, Reads, Update, update, updated}
+use Rattle.bureau_store.specs.Store as store
 use Rattle.bureau_store.specs.Tables.{AreInOrder, Tables}
 use Rattle.bureau_store.specs.declared.caller.Caller.{Caller}
 use Rattle.bureau_store.specs.declared.fault.StoreFault.{StoreFault}
-use Rattle.bureau.specs.Answering.{IsAnswered, IsKept}
+use Rattle.bureau_store.specs.declared.fault.StoreFault.TheVariants.{Device}
+use Rattle.bureau.specs.Answering.{IsAnswered, bureau_view}
 use Rattle.bureau.specs.Call.{Call}
-use Rattle.bureau.specs.Come.{HasZone, IsComing, MayBeMade, TouchesNoMore, answer_in, effect_of, maker_of}
-use Rattle.bureau.specs.Joint.{tables_left}
-use Rattle.bureau.specs.Kept.{IsAnswerAlone}
-use Rattle.bureau.specs.Outcome.{Answer, Outcome, accepted, answer_of, no_room, outcome, plain}
+use Rattle.bureau.specs.Come.{IsComing, TouchesNoMore, answer_in, effect_of, maker_of, update_of}
+use Rattle.bureau.specs.Joint.{IsStep, Turn, tables_left}
+use Rattle.bureau.specs.Kept.{IsToldOfNoTables}
+use Rattle.bureau.specs.Parts.{Parts}
+use Rattle.bureau.specs.Outcome.{Answer, Outcome, answer_of, may_ask, no_room, outcome, plain}
 use Rattle.bureau.specs.Replies.{reply_as}
 use Rattle.bureau.specs.View.{view_of}
 use Rattle.bureau.specs.declared.come.Come.TheVariants.{Answered, Accepted}
-use Rattle.bureau.specs.declared.come.Deed.{Deed}
-use Rattle.bureau.specs.declared.come.Deed.TheVariants.{Publication, ZonePut, ZoneDropped, ReceivedPut, PatternsPut}
 use Rattle.bureau.specs.declared.come.Due.{Due}
 use Rattle.bureau.specs.declared.reply.Reply.{Reply}
 
@@ -28,103 +30,169 @@ pub no_answer : {E : Type 0} (result : Result Reply E) → IsErr result → answ
 no_answer (Ok reply) is = absurd (cc)
 no_answer (Err fault) is = refl
 
--- a change may be made where its maker is one of the callers and its zone is there
-pub may_be_made : (deed : Deed) (this : Tables) → IsAmong this.callers (maker_of deed) → HasZone deed this → MayBeMade deed this
-may_be_made (Publication changes touched) this among zone = among
-may_be_made (ZonePut client name rows) this among zone = among
-may_be_made (ZoneDropped client name) this among zone = (among, zone)
-may_be_made (ReceivedPut client ids) this among zone = among
-may_be_made (PatternsPut client name patterns) this among zone = (among, zone)
+abbrev turn_of : Caller → Call → Answer → Turn
+turn_of caller call answer = record { caller = caller; call = call; answer = answer }
 
-module _ {Store Judge : Type 0} {is_clean is_ours is_open : Store → Type 0} {tables : Store → Tables} {is_right : Judge → Content → Type 0} where
-  -- an answer alone keeps nothing
-  pub alone_kept : {old mid : Store} {judge : Judge} {caller : Caller} (now : Judge) (call : Call) (reply : Reply)
-      → Tells is_clean is_ours is_open tables old mid (λ this. is_right judge this.content → IsComing caller call this (Answered reply))
-      → IsKept is_clean is_ours is_open tables is_right (record { store = old; judge = judge }) (record { store = mid; judge = now }) caller call (reply_as reply)
-  alone_kept now call reply come ours clean this holds among = inr (inl (subst IsAnswerAlone (come.told ours clean this holds.stands holds.right).0 tt))
+-- the tables after a change that comes
+after_is : (caller : Caller) (call : Call) (due : Due) (this : Tables) → IsComing caller call this (Accepted due)
+    → updated (update_of due) this ≡ tables_left caller (outcome (view_of caller this) call) this
+after_is caller call due this comes =
+    ap (λ n. updated (update (maker_of due.deed) (effect_of due.deed) n due.text.items) this) comes.1.0
+    ∙ ap (λ c. updated (update c (effect_of due.deed) ((this.last caller).number + 1) due.text.items) this) comes.1.1
+    ∙ ap (λ (o : Outcome). tables_left caller o this) comes.0
 
-module _ {Store Judge : Type 0} {is_clean is_ours is_open : Store → Type 0} {failures : Store → ℕ} {tables : Store → Tables} {is_right : Judge → Content → Type 0} where
+-- a change that comes is due
+is_due : (caller : Caller) (call : Call) (due : Due) (this : Tables) → IsComing caller call this (Accepted due) → IsAmong this.callers caller
+    → store.IsDue (update_of due) this
+is_due caller call due this comes among = record {
+  among = subst (IsAmong this.callers) (sym comes.1.1) among;
+  next = comes.1.0 ∙ ap (λ c. (this.last c).number + 1) (sym comes.1.1);
+  zone = comes.1.2.0;
+}
+
+module _ {Store : Type 0} {view : View Store Tables} {HasOutgrown : Update → Store → Store → Type 0} {old mid new : Store} {caller : Caller} {Done : Type 0} where
+  -- a stop may leave what it might have left, or the tables with the change
+  left_of : (call : Call) (result : Result Done StoreFault) (due : Due) → Keeps view old mid → Makes view HasOutgrown (update_of due) mid new result
+      → (this : Tables) → IsComing caller call this (Accepted due) → view.is_ours old → view.is_clean new → view.stands old this → IsAmong this.callers caller
+      → (left : Tables) → view.may_leave new left
+      → view.may_leave old left ⊎ (IsOpen view old × (left ≡ tables_left caller (outcome (view_of caller this) call) this))
+  left_of call result due keeps makes this comes ours clean stands among left h =
+      let between = makes.goes.clean clean in
+      by (makes.crash (keeps.goes.ours ours between) clean this (is_due caller call due this comes among) (keeps.stays ours between this stands) left h)
+    where
+      by : view.may_leave mid left ⊎ (IsOpen view mid × (left ≡ updated (update_of due) this))
+          → view.may_leave old left ⊎ (IsOpen view old × (left ≡ tables_left caller (outcome (view_of caller this) call) this))
+      by (inl before) = inl (keeps.leaves left before)
+      by (inr made) = inr (was_open keeps.goes made.0, made.1 ∙ after_is caller call due this comes)
+
+module _ {Store : Type 0} {view : View Store Tables} {HasOutgrown : Update → Store → Store → Type 0} {mid new : Store} {Done : Type 0} where
+  -- what is refused leaves the tables
+  refused_stands : (asked : Update) (result : Result Done StoreFault) → IsErr result → Makes view HasOutgrown asked mid new result
+      → view.is_ours mid → view.is_clean new → (this : Tables) → view.stands mid this → view.stands new this
+  refused_stands asked (Ok done) failed makes = absurd (cc)
+  refused_stands asked (Err fault) failed makes = makes.refused
+
+  -- what is made was made by a store that is open
+  made_open : (asked : Update) (result : Result Done StoreFault) (done : Done) → result ≡ Ok done → Makes view HasOutgrown asked mid new result → IsOpen view new
+  made_open asked result done same makes = makes.is_open (λ fault. no_fault done (subst (λ (r : Result Done StoreFault). IsErrOf r Device) same fault))
+
+module _ {Store Judge : Type 0} (view : View Store Tables) (is_right : Judge → Content → Type 0) where
+  -- the bureau goes on as its store does
+  as_bureau : {old new : Store} (judge now : Judge) → Goes view old new → Goes (bureau_view view is_right) (record { store = old; judge = judge }) (record { store = new; judge = now })
+  as_bureau judge now goes = record { clean = goes.clean; ours = goes.ours; failures_rise = goes.failures_rise }
+
+  -- a read of the store is one of the bureau
+  pub bureau_reads : {Answer : Type 0} {old new : Parts Store Judge} {answer : Result Answer StoreFault} → IsLawful view → Reads view old.store new.store answer → new.judge ≡ old.judge
+      → Reads (bureau_view view is_right) old new answer
+  bureau_reads lawful reads same = record {
+    asks = record { keeps = (lawful.keeps _ _ reads.asks.keeps, same); cause = reads.asks.cause; is_open = reads.asks.is_open };
+    refusal = reads.refusal;
+  }
+
+  -- nothing changes
+  unchanged : {old mid : Store} {judge now : Judge} (turn : Turn) → Keeps view old mid
+      → Tells view old mid (λ this. is_right judge this.content → is_right now this.content)
+      → Tells view old mid (λ this. is_right judge this.content → IsStep this turn this)
+      → IsOpen view mid ⊎ IsToldOfNoTables turn
+      → IsAnswered (bureau_view view is_right) (record { store = old; judge = judge }) (record { store = mid; judge = now }) turn
+  unchanged {judge = judge} {now = now} turn keeps right step told = record {
+    goes = as_bureau judge now keeps.goes;
+    shut = told;
+    turn_made = record {
+      told = λ ours clean this stands among. (
+        this,
+        record {
+          goes = as_bureau judge now keeps.goes;
+          step = step.told ours clean this stands.0 stands.1;
+          stands = (keeps.stays ours clean this stands.0, right.told ours clean this stands.0 stands.1);
+          told = told;
+          leaves = λ left h. inl (keeps.leaves left h);
+          rests = λ rests is_open left h. rests (was_open keeps.goes is_open) left (keeps.leaves left h);
+        },
+      );
+    };
+  }
+
   -- nothing is decided for want of room
   pub none_decided : {old mid : Store} {judge now : Judge} {caller : Caller} (call : Call) {answer : Answer} → answer ≡ no_room
-      → Keeps is_clean is_ours is_open failures tables old mid
-      → Tells is_clean is_ours is_open tables old mid (λ this. is_right judge this.content → is_right now this.content)
-      → IsAnswered is_clean is_ours is_open tables is_right (record { store = old; judge = judge }) (record { store = mid; judge = now }) caller call answer
-  none_decided call none keeps right ours clean this holds among =
-      (this, inl (none, refl), record { stands = keeps.stays ours clean this holds.stands; right = right.told ours clean this holds.stands holds.right })
+      → Keeps view old mid
+      → Tells view old mid (λ this. is_right judge this.content → is_right now this.content)
+      → IsAnswered (bureau_view view is_right) (record { store = old; judge = judge }) (record { store = mid; judge = now }) (turn_of caller call answer)
+  none_decided call none keeps right = unchanged (turn_of _ call _) keeps right (record { told = λ ours clean this stands is. inl (none, refl) }) (inr (inl none))
 
   -- an answer is decided
   pub answer_decided : {old mid : Store} {judge now : Judge} {caller : Caller} (call : Call) (reply : Reply)
-      → Keeps is_clean is_ours is_open failures tables old mid
-      → Tells is_clean is_ours is_open tables old mid (λ this. is_right judge this.content → IsComing caller call this (Answered reply))
-      → Tells is_clean is_ours is_open tables old mid (λ this. is_right judge this.content → is_right now this.content)
-      → IsAnswered is_clean is_ours is_open tables is_right (record { store = old; judge = judge }) (record { store = mid; judge = now }) caller call (reply_as reply)
-  answer_decided {caller = caller} call reply keeps come right ours clean this holds among =
-      let comes = (come.told ours clean this holds.stands holds.right).0 in (
-        this,
-        inr (ap answer_of comes, ap (λ (o : Outcome). tables_left caller o this) comes),
-        record { stands = keeps.stays ours clean this holds.stands; right = right.told ours clean this holds.stands holds.right },
-      )
-
-  -- a change is decided, and not made
-  pub change_not_made : {old mid new : Store} {judge after : Judge} {caller : Caller} {answer : Answer} {Done : Type 0} (now : Judge) (call : Call) (result : Result Done StoreFault) (asked : Tables → Type 0) (change : Tables → Tables)
-      → IsErr result → answer ≡ no_room
-      → Keeps is_clean is_ours is_open failures tables old mid
-      → Tells is_clean is_ours is_open tables old mid (λ this. is_right judge this.content → is_right now this.content)
-      → Makes is_clean is_ours is_open failures tables mid new result asked change
-      → ((content : Content) → is_right now content → is_right after content)
-      → IsAnswered is_clean is_ours is_open tables is_right (record { store = old; judge = judge }) (record { store = new; judge = after }) caller call answer
-  change_not_made now call (Ok done) asked change failed none keeps right makes kept ours clean this holds among = absurd (cc)
-  change_not_made now call (Err fault) asked change failed none keeps right makes kept ours clean this holds among =
-      let between = makes.clean clean in (
-        this,
-        inl (none, refl),
-        record {
-          stands = makes.refused (keeps.ours ours between) clean this (keeps.stays ours between this holds.stands);
-          right = kept this.content (right.told ours between this holds.stands holds.right);
-        },
-      )
-
-  -- a change is decided and made
-  pub change_made : {old mid new : Store} {judge after : Judge} {caller : Caller} {Done : Type 0} (now : Judge) (call : Call) (result : Result Done StoreFault) (done : Done) (due : Due) (reply : Reply)
-      → result ≡ Ok done → reply_as reply ≡ plain 200 due.text.items
-      → ((store : Store) → is_ours store → AreInOrder (tables store))
-      → Keeps is_clean is_ours is_open failures tables old mid
-      → Tells is_clean is_ours is_open tables old mid (λ this. is_right judge this.content → IsComing caller call this (Accepted due))
-      → Tells is_clean is_ours is_open tables old mid (λ this. is_right judge this.content → is_right now this.content)
-      → Makes is_clean is_ours is_open failures tables mid new result (MayBeMade due.deed) (tables_after (maker_of due.deed) (effect_of due.deed) (record { number = due.number; reply = due.text.items }))
-      → ((content : Content) → IsInOrder content → IsInOrder (content_after (effect_of due.deed) content) → TouchesNoMore due.deed content → is_right now content → is_right after (content_after (effect_of due.deed) content))
-      → IsAnswered is_clean is_ours is_open tables is_right (record { store = old; judge = judge }) (record { store = new; judge = after }) caller call (reply_as reply)
-  change_made {old} {mid} {new} {caller = caller} now call result done due reply is told order keeps come right makes ready ours clean this holds among =
-      let between = makes.clean clean in
-      let comes = come.told ours between this holds.stands holds.right in
-      let change : Tables → Tables = tables_after (maker_of due.deed) (effect_of due.deed) (record { number = due.number; reply = due.text.items }) in
-      let made = rw is at makes.done in
-      let acknowledged = rw is at makes.acknowledged in
-      let asked = may_be_made due.deed this (subst (IsAmong this.callers) (sym comes.1.1) among) comes.1.2.0 in
-      let still : is_open new = acknowledged (keeps.ours ours between) clean in
-      let open_first : is_open old = keeps.still_open (makes.still_open still) in
-      let in_order = (subst AreInOrder (holds.stands open_first) (order old ours)).content in
-      let stands = made (keeps.ours ours between) clean this asked (keeps.stays ours between this holds.stands) in
-      let order_after = (subst AreInOrder (stands still) (order new (makes.ours (keeps.ours ours between) clean))).content in (
-        change this,
-        inr (told ∙ ap answer_of comes.0, after_is this comes.1.0 comes.1.1 comes.0),
-        record {
-          stands = stands;
-          right = ready this.content in_order order_after (comes.1.2.1 in_order) (right.told ours between this holds.stands holds.right);
-        },
-      )
+      → Keeps view old mid
+      → Tells view old mid (λ this. is_right judge this.content → IsComing caller call this (Answered reply))
+      → Tells view old mid (λ this. is_right judge this.content → is_right now this.content)
+      → IsOpen view mid ⊎ (may_ask caller call ≡ false)
+      → IsAnswered (bureau_view view is_right) (record { store = old; judge = judge }) (record { store = mid; judge = now }) (turn_of caller call (reply_as reply))
+  answer_decided {old} {mid} {caller = caller} call reply keeps come right told = unchanged (turn_of caller call (reply_as reply)) keeps right (record {
+    told = λ ours clean this stands is.
+        let comes = (come.told ours clean this stands is).0 in
+        inr (ap answer_of comes, ap (λ (o : Outcome). tables_left caller o this) comes);
+  }) (by told)
     where
-      after_is : (this : Tables) → due.number ≡ (this.last caller).number + 1 → maker_of due.deed ≡ caller → accepted (effect_of due.deed) due.text.items ≡ outcome (view_of caller this) call
-          → tables_after (maker_of due.deed) (effect_of due.deed) (record { number = due.number; reply = due.text.items }) this ≡ tables_left caller (outcome (view_of caller this) call) this
-      after_is this number maker comes =
-          ap (λ n. tables_after (maker_of due.deed) (effect_of due.deed) (record { number = n; reply = due.text.items }) this) number
-          ∙ ap (λ c. tables_after c (effect_of due.deed) (record { number = (this.last caller).number + 1; reply = due.text.items }) this) maker
-          ∙ ap (λ (o : Outcome). tables_left caller o this) comes
+      by : IsOpen view mid ⊎ (may_ask caller call ≡ false) → IsOpen view mid ⊎ IsToldOfNoTables (turn_of caller call (reply_as reply))
+      by (inl is_open) = inl is_open
+      by (inr not_allowed) = inr (inr not_allowed)
 
-  -- a change that is made is kept by a store that is open
-  pub made_kept : {old mid new : Store} {judge : Judge} {caller : Caller} {Done : Type 0} (after : Judge) (call : Call) (answer : Answer) (result : Result Done StoreFault) (done : Done) (asked : Tables → Type 0) (change : Tables → Tables)
-      → result ≡ Ok done → Keeps is_clean is_ours is_open failures tables old mid → Makes is_clean is_ours is_open failures tables mid new result asked change
-      → IsKept is_clean is_ours is_open tables is_right (record { store = old; judge = judge }) (record { store = new; judge = after }) caller call answer
-  made_kept after call answer result done asked change is keeps makes ours clean this holds among =
-      let acknowledged = rw is at makes.acknowledged in
-      inr (inr (acknowledged (keeps.ours ours (makes.clean clean)) clean))
+  module _ {HasOutgrown : Update → Store → Store → Type 0} {old mid new : Store} {judge after : Judge} {caller : Caller} {Done : Type 0} (now : Judge) (call : Call) (result : Result Done StoreFault) (due : Due)
+      (keeps : Keeps view old mid)
+      (come : Tells view old mid (λ this. is_right judge this.content → IsComing caller call this (Accepted due)))
+      (right : Tells view old mid (λ this. is_right judge this.content → is_right now this.content))
+      (makes : Makes view HasOutgrown (update_of due) mid new result) where
+    -- a change is decided, and not made
+    pub change_not_made : {answer : Answer} → IsErr result → answer ≡ no_room
+        → ((content : Content) → is_right now content → is_right after content)
+        → IsAnswered (bureau_view view is_right) (record { store = old; judge = judge }) (record { store = new; judge = after }) (turn_of caller call answer)
+    change_not_made failed none kept = record {
+      goes = as_bureau judge after (goes_on keeps.goes makes.goes);
+      shut = inr (inl none);
+      turn_made = record {
+        told = λ ours clean this stands among.
+            let between = makes.goes.clean clean in
+            let stands_now = refused_stands (update_of due) result failed makes (keeps.goes.ours ours between) clean this (keeps.stays ours between this stands.0) in (
+              this,
+              record {
+                goes = as_bureau judge after (goes_on keeps.goes makes.goes);
+                step = inl (none, refl);
+                stands = (stands_now, kept this.content (right.told ours between this stands.0 stands.1));
+                told = inr (inl none);
+                leaves = left_of call result due keeps makes this (come.told ours between this stands.0 stands.1) ours clean stands.0 among;
+                rests = λ rests is_open left h. makes.settled (makes.goes.ours (keeps.goes.ours ours between) clean) clean is_open this stands_now left h;
+              },
+            );
+      };
+    }
+
+    -- a change is decided and made
+    pub change_made : (done : Done) (reply : Reply) → result ≡ Ok done → reply_as reply ≡ plain 200 due.text.items
+        → ((store : Store) (tables : Tables) → view.is_ours store → IsOpen view store → view.stands store tables → AreInOrder tables)
+        → ((content : Content) → IsInOrder content → IsInOrder (content_after (effect_of due.deed) content) → TouchesNoMore due.deed content → is_right now content → is_right after (content_after (effect_of due.deed) content))
+        → IsAnswered (bureau_view view is_right) (record { store = old; judge = judge }) (record { store = new; judge = after }) (turn_of caller call (reply_as reply))
+    change_made done reply is told order ready = record {
+      goes = as_bureau judge after (goes_on keeps.goes makes.goes);
+      shut = inl (made_open (update_of due) result done is makes);
+      turn_made = record {
+        told = λ ours clean this stands among.
+            let between = makes.goes.clean clean in
+            let comes = come.told ours between this stands.0 stands.1 in
+            let made = rw is at makes.done in
+            let standing = keeps.stays ours between this stands.0 in
+            let stands_now = made (keeps.goes.ours ours between) clean this (is_due caller call due this comes among) standing in
+            let still : IsOpen view new = made_open (update_of due) result done is makes in
+            let in_order = (order old this ours (was_open (goes_on keeps.goes makes.goes) still) stands.0).content in
+            let order_after = (order new (updated (update_of due) this) (makes.goes.ours (keeps.goes.ours ours between) clean) still stands_now).content in (
+              updated (update_of due) this,
+              record {
+                goes = as_bureau judge after (goes_on keeps.goes makes.goes);
+                step = inr (told ∙ ap answer_of comes.0, after_is caller call due this comes);
+                stands = (stands_now, ready this.content in_order order_after (comes.1.2.1 in_order) (right.told ours between this stands.0 stands.1));
+                told = inl still;
+                leaves = left_of call result due keeps makes this (come.told ours between this stands.0 stands.1) ours clean stands.0 among;
+                rests = λ rests is_open left h. makes.settled (makes.goes.ours (keeps.goes.ours ours between) clean) clean is_open (updated (update_of due) this) stands_now left h;
+              },
+            );
+      };
+    }

@@ -1,38 +1,159 @@
 -- Runs in which what is told as accepted is kept.
-use Rattle.std.proofs.Common.{◌++◌, List, [], ◌∷◌, refl, subst}
+use Rattle.std.proofs.Common.{◌≡◌, ◌++◌, ◌∙◌, List, [], ◌∷◌, inl, inr, refl, sym, ap, subst, arith}
+use Rattle.std.specs.Prelude.{ℕ, ◌⊎◌, false, zero, suc}
+use Rattle.catalogue.specs.View.{IsOpen, View}
+use Rattle.catalogue.proofs.SourceFacts.{goes_on, was_open}
 use Rattle.bureau_store.specs.Tables.{Tables}
-use Rattle.bureau.specs.Joint.{IsRun, Turn}
-use Rattle.bureau.specs.Kept.{IsKeptRun, IsKeptStep}
+use Rattle.bureau_store.specs.declared.caller.Caller.{Caller}
+use Rattle.bureau_store.specs.declared.caller.Caller.TheVariants.{Publisher, Client}
+use Rattle.bureau.specs.Joint.{IsRun, IsStep, Turn, tables_left}
+use Rattle.bureau.specs.Kept.{Idles, IsKeptRun, IsKeptStep, IsToldOfNoTables, MayBeLeft, Rests, TellNothing, tables_with}
+use Rattle.bureau.specs.Outcome.{Answer, Outcome, answered, accepted, answer_of, may_ask, no_room, outcome}
+use Rattle.bureau.specs.View.{view_of}
 
-module _ {Desk : Type 0} (is_open : Desk → Type 0) (holds : Desk → Tables → Type 0) where
+-- what may not be asked changes nothing
+not_asked : (caller : Caller) (turn : Turn) (this : Tables) → turn.caller ≡ caller → may_ask turn.caller turn.call ≡ false → tables_with turn this ≡ this
+not_asked Publisher turn this is not_allowed = rw (is, rw is at not_allowed) refl
+not_asked (Client name) turn this is not_allowed = rw (is, rw is at not_allowed) refl
+
+not_503 : ◌≡◌ {A = ℕ} 200 503 → ⊥
+not_503 same = omega (arith, same)
+
+-- what tells nothing from the tables leaves them
+told_nothing : (this next : Tables) (turn : Turn) → IsToldOfNoTables turn → IsStep this turn next → next ≡ this
+told_nothing this next turn told (inl none) = none.1
+told_nothing this next turn (inl no_room_told) (inr made) = made.1 ∙ by (outcome (view_of turn.caller this) turn.call) (sym made.0 ∙ no_room_told)
+  where
+    by : (o : Outcome) → answer_of o ≡ no_room → tables_left turn.caller o this ≡ this
+    by (answered answer) is = refl
+    by (accepted effect text) is = absurd (not_503 (ap (λ (answer : Answer). answer.status) is))
+told_nothing this next turn (inr not_allowed) (inr made) = made.1 ∙ not_asked turn.caller turn this refl not_allowed
+
+-- a count is 0 or not
+open_or_shut : (count : ℕ) → (count ≡ 0) ⊎ (count ≡ 0 → ⊥)
+open_or_shut zero = inl refl
+open_or_shut (suc count) = inr (λ is. absurd (cc is))
+
+module _ {Desk : Type 0} (view : View Desk Tables) where
   -- the run that it is
-  pub kept_run : (old new : Desk) (this : Tables) (turns : List Turn) (next : Tables) → IsKeptRun is_open holds old new this turns next → IsRun this turns next
+  pub kept_run : (old new : Desk) (this : Tables) (turns : List Turn) (next : Tables) → IsKeptRun view old new this turns next → IsRun this turns next
   kept_run old new this [] next kept = kept.0
   kept_run old new this (turn ∷ turns) next kept = (kept.1, kept.2.step, kept_run kept.0 new kept.1 turns next kept.3)
 
   -- what the desk holds at its end
-  pub held_after : (old new : Desk) (this : Tables) (turns : List Turn) (next : Tables) → IsKeptRun is_open holds old new this turns next → holds new next
-  held_after old new this [] next kept = kept.2
-  held_after old new this (turn ∷ turns) next kept = held_after kept.0 new kept.1 turns next kept.3
+  pub stands_after : (old new : Desk) (this : Tables) (turns : List Turn) (next : Tables) → IsKeptRun view old new this turns next → view.stands new next
+  stands_after old new this [] next kept = kept.1.stands
+  stands_after old new this (turn ∷ turns) next kept = stands_after kept.0 new kept.1 turns next kept.3
 
-  pub one_kept : (old new : Desk) (this : Tables) (turn : Turn) (next : Tables) → IsKeptStep is_open holds old new this turn next
-      → IsKeptRun is_open holds old new this (turn ∷ []) next
-  one_kept old new this turn next one = (new, next, one, (refl, (λ still. still), one.held))
+  -- nothing was asked
+  pub idle : (desk : Desk) (this : Tables) → view.stands desk this → Idles view desk desk this
+  idle desk this stands = record {
+    goes = record { clean = λ h. h; ours = λ h _. h; failures_rise = omega arith };
+    stands = stands;
+    leaves = λ left h. h;
+  }
+
+  pub none_kept : (old new : Desk) (this : Tables) → Idles view old new this → IsKeptRun view old new this [] this
+  none_kept old new this idles = (refl, idles)
+
+  pub one_kept : (old new : Desk) (this : Tables) (turn : Turn) (next : Tables) → IsKeptStep view old new this turn next
+      → IsKeptRun view old new this (turn ∷ []) next
+  one_kept old new this turn next one = (new, next, one, (refl, idle new next one.stands))
 
   -- from a desk that was before
-  pub from_before : (first old new : Desk) (this : Tables) (turns : List Turn) (next : Tables) → (is_open old → is_open first)
-      → IsKeptRun is_open holds old new this turns next → IsKeptRun is_open holds first new this turns next
-  from_before first old new this [] next before kept = (kept.0, (λ still. before (kept.1 still)), kept.2)
+  pub from_before : (first old new : Desk) (this : Tables) (turns : List Turn) (next : Tables) → Idles view first old this
+      → IsKeptRun view old new this turns next → IsKeptRun view first new this turns next
+  from_before first old new this [] next before kept = (
+    kept.0,
+    record { goes = goes_on before.goes kept.1.goes; stands = kept.1.stands; leaves = λ left h. before.leaves left (kept.1.leaves left h) },
+  )
   from_before first old new this (turn ∷ turns) next before kept = (
     kept.0,
     kept.1,
-    record { step = kept.2.step; held = kept.2.held; kept = kept.2.kept; still_open = λ still. before (kept.2.still_open still) },
+    record {
+      goes = goes_on before.goes kept.2.goes;
+      step = kept.2.step;
+      stands = kept.2.stands;
+      told = kept.2.told;
+      leaves = λ left h. by left (kept.2.leaves left h);
+      rests = λ rests. kept.2.rests (λ is_open left h. rests (was_open before.goes is_open) left (before.leaves left h));
+    },
     kept.3,
   )
+    where
+      by : (left : Tables) → view.may_leave old left ⊎ (IsOpen view old × (left ≡ tables_with turn this))
+          → view.may_leave first left ⊎ (IsOpen view first × (left ≡ tables_with turn this))
+      by left (inl h) = inl (before.leaves left h)
+      by left (inr h) = inr (was_open before.goes h.0, h.1)
 
   -- one run after another
   pub kept_on : (a b c : Desk) (this mid next : Tables) (xs ys : List Turn)
-      → IsKeptRun is_open holds a b this xs mid → IsKeptRun is_open holds b c mid ys next → IsKeptRun is_open holds a c this (xs ++ ys) next
+      → IsKeptRun view a b this xs mid → IsKeptRun view b c mid ys next → IsKeptRun view a c this (xs ++ ys) next
   kept_on a b c this mid next [] ys first more =
-      from_before a b c this ys next first.1 (subst (λ (t : Tables). IsKeptRun is_open holds b c t ys next) first.0 more)
+      subst (λ (t : Tables). IsKeptRun view a c t ys next) first.0 (from_before a b c mid ys next first.1 more)
   kept_on a b c this mid next (x ∷ xs) ys first more = (first.0, first.1, first.2, kept_on first.0 b c first.1 mid next xs ys first.3 more)
+
+  -- ---- what a stop may leave
+
+  -- behind the turn that shut the desk nothing changes, nor what a stop may leave
+  shut_run : (old new : Desk) (this : Tables) (turns : List Turn) (next : Tables) → (IsOpen view old → ⊥) → IsKeptRun view old new this turns next
+      → (next ≡ this) × ((left : Tables) → view.may_leave new left → view.may_leave old left)
+  shut_run old new this [] next shut kept = (kept.0, kept.1.leaves)
+  shut_run old new this (turn ∷ turns) next shut kept =
+      let step = kept.2 in
+      let still_shut : IsOpen view kept.0 → ⊥ = λ is_open. shut (was_open step.goes is_open) in
+      let later = shut_run kept.0 new kept.1 turns next still_shut kept.3 in
+      (later.0 ∙ same step.told, λ left h. by left (step.leaves left (later.1 left h)))
+    where
+      same : (IsOpen view kept.0) ⊎ IsToldOfNoTables turn → kept.1 ≡ this
+      same (inl is_open) = absurd (shut (was_open kept.2.goes is_open))
+      same (inr told) = told_nothing this kept.1 turn told kept.2.step
+
+      by : (left : Tables) → view.may_leave old left ⊎ (IsOpen view old × (left ≡ tables_with turn this)) → view.may_leave old left
+      by left (inl h) = h
+      by left (inr h) = absurd (shut h.0)
+
+  -- a desk that is shut tells nothing from the tables, and stays shut
+  told_shut : (old new : Desk) (this : Tables) (turns : List Turn) (next : Tables) → (IsOpen view old → ⊥) → IsKeptRun view old new this turns next
+      → TellNothing turns × (IsOpen view new → ⊥)
+  told_shut old new this [] next shut kept = (tt, λ is_open. shut (was_open kept.1.goes is_open))
+  told_shut old new this (turn ∷ turns) next shut kept =
+      let later = told_shut kept.0 new kept.1 turns next (λ is_open. shut (was_open kept.2.goes is_open)) kept.3 in
+      ((nothing kept.2.told, later.0), later.1)
+    where
+      nothing : (IsOpen view kept.0) ⊎ IsToldOfNoTables turn → IsToldOfNoTables turn
+      nothing (inl is_open) = absurd (shut (was_open kept.2.goes is_open))
+      nothing (inr told) = told
+
+  -- what a stop may leave behind a first turn, where it is known for a desk that is open after it
+  left_behind : (old new : Desk) (this : Tables) (turn : Turn) (turns : List Turn) (next : Tables) (kept : IsKeptRun view old new this (turn ∷ turns) next)
+      → IsOpen view old → Rests view old this → (left : Tables) → view.may_leave new left → (IsOpen view kept.0 → MayBeLeft view new turns next left)
+      → MayBeLeft view new (turn ∷ turns) next left
+  left_behind old new this turn turns next kept is_open rests left h if_open = by (open_or_shut (view.failures kept.0))
+    where
+      later : MayBeLeft view new turns next left → MayBeLeft view new (turn ∷ turns) next left
+      later (inl is) = inl is
+      later (inr flight) = inr (flight.0, inr flight.1)
+
+      shut_by : (next ≡ this) → TellNothing turns × (IsOpen view new → ⊥) → IsToldOfNoTables turn → view.may_leave old left ⊎ (IsOpen view old × (left ≡ tables_with turn this)) → MayBeLeft view new (turn ∷ turns) next left
+      shut_by stays behind told (inl before) = inl (rests is_open left before ∙ sym stays)
+      shut_by stays behind (inl none) (inr made) = inr (behind.1, inl (none, behind.0, made.1 ∙ ap (tables_with turn) (sym stays)))
+      shut_by stays behind (inr not_allowed) (inr made) = inl (made.1 ∙ not_asked turn.caller turn this refl not_allowed ∙ sym stays)
+
+      in_turn : (IsOpen view kept.0 → ⊥) → (IsOpen view kept.0) ⊎ IsToldOfNoTables turn → MayBeLeft view new (turn ∷ turns) next left
+      in_turn shut (inl still) = absurd (shut still)
+      in_turn shut (inr told) =
+          let behind = shut_run kept.0 new kept.1 turns next shut kept.3 in
+          shut_by (behind.0 ∙ told_nothing this kept.1 turn told kept.2.step) (told_shut kept.0 new kept.1 turns next shut kept.3) told (kept.2.leaves left (behind.1 left h))
+
+      by : (IsOpen view kept.0) ⊎ (IsOpen view kept.0 → ⊥) → MayBeLeft view new (turn ∷ turns) next left
+      by (inl still) = later (if_open still)
+      by (inr shut) = in_turn shut kept.2.told
+
+  -- a stop loses nothing that was acknowledged
+  pub loses_nothing : (old new : Desk) (this : Tables) (turns : List Turn) (next : Tables) → IsKeptRun view old new this turns next
+      → IsOpen view old → Rests view old this → (left : Tables) → view.may_leave new left → MayBeLeft view new turns next left
+  loses_nothing old new this [] next kept is_open rests left h = inl (rests is_open left (kept.1.leaves left h) ∙ sym kept.0)
+  loses_nothing old new this (turn ∷ turns) next kept is_open rests left h =
+      left_behind old new this turn turns next kept is_open rests left h (λ still.
+      loses_nothing kept.0 new kept.1 turns next kept.3 still (kept.2.rests rests) left h)

@@ -5,10 +5,11 @@ pub mod LeftFacts
 pub mod NamesFacts
 pub mod ProperFacts
 pub mod PublicationFacts
+pub mod ShownFacts
 pub mod ChangeFacts
 pub mod QuestionFacts
 pub mod CommitFacts
 pub mod AnswerFacts
+pub mod RepeatFacts
 pub mod KeptFacts
 pub mod RunFacts
-pub mod RepeatFacts

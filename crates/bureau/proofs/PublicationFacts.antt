@@ -1,24 +1,20 @@
 -- What a body publishes, while it is read.
 use Rattle.std.proofs.Common.{◌≡◌, inl, inr, ℕ, false, List, [], ◌∷◌, refl, sym, ◌∙◌, ap, subst, map}
-use Rattle.std.specs.Prelude.{Option, Some, None, Result, Ok, Err, IsOk, IfErr, IsErrAnd, MatchOption, is_some}
+use Rattle.std.specs.Prelude.{Option, Some, None, Result, Ok, Err, IfErr, IsErrAnd, MatchOption, is_some}
 use Rattle.std.specs.List.{fold}
 use Rattle.faults.specs.FaultText.{text_of}
 use Rattle.faults.specs.Refusal.{IsRefusal}
 use Rattle.faults.specs.declared.any.AnyFault.{AnyFault}
 use Rattle.faults.specs.declared.fault.Cause.{Cause}
 use Rattle.faults.specs.declared.fault.Cause.TheVariants.{Input, Machine}
-use Rattle.holddata.specs.Statements.{first_of}
 use Rattle.mcs_reader.specs.Asking.{asking, reading_asking}
 use Rattle.mcs_reader.specs.McsFault as mcs
 use Rattle.mcs_reader.specs.declared.fault.McsFault.{McsFault}
 use Rattle.mcs_reader.specs.declared.fault.McsFault.TheVariants as mcs_fault
 use Rattle.mcs_reader.specs.Unread.{Read, with_statements}
 use Rattle.mcs_reader.specs.declared.statement.Statement.{Statement}
-use Rattle.catalogue.specs.CatFault.{cat_fault_cause, cat_fault_line, cat_fault_number}
 use Rattle.catalogue.specs.declared.change.Change.{Change}
-use Rattle.catalogue.specs.declared.fault.CatFault.{CatFault}
-use Rattle.catalogue.specs.declared.fault.CatFault.TheVariants as cat_fault
-use Rattle.catalogue.proofs.ReadingFacts.{fault_here, faults_next, read_all, reads_next}
+use Rattle.catalogue.proofs.ReadingFacts.{faults_next, read_all, reads_next}
 use Rattle.catalogue.specs.Reading.{Begun, changes_in, changes_of, faults_of, first_fault, nothing_begun, with_statement}
 use Rattle.bureau.specs.Bodies.{published_by, unless}
 use Rattle.bureau.specs.Faults.{IsTold}

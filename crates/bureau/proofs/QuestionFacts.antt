@@ -7,7 +7,7 @@ use Rattle.holddata.specs.declared.hold.Hold.{Hold}
 use Rattle.holddata.specs.declared.key.Kind.TheVariants.{ErrorHold, FixcatHold}
 use Rattle.zone_lists.specs.declared.zones.ZoneRow.{ZoneRow}
 use Rattle.catalogue.specs.Content.{Content}
-use Rattle.catalogue.specs.Published.{Keeps, Tells}
+use Rattle.catalogue.specs.View.{Keeps, Tells, View}
 use Rattle.catalogue.proofs.SourceFacts.{told_sooner, told_later, told_both}
 use Rattle.reports.specs.ChainText.{chain_text_of}
 use Rattle.reports.specs.ErrRows.{err_rows_of}
@@ -24,9 +24,9 @@ use Rattle.bureau.specs.declared.reply.Reply.{Reply}
 use Rattle.columns.specs.Columns.{text_of as text_in}
 
 -- what one call tells, and then another, is told by both together
-module _ {Source Held : Type 0} {is_clean is_ours is_open : Source → Type 0} {held : Source → Held} where
-  pub told_then : {failures : Source → ℕ} {a b c : Source} {Fact Other : Held → Type 0} → Keeps is_clean is_ours is_open failures held a b → Keeps is_clean is_ours is_open failures held b c
-      → Tells is_clean is_ours is_open held a b Fact → Tells is_clean is_ours is_open held b c Other → Tells is_clean is_ours is_open held a c (λ this. Fact this × Other this)
+module _ {Source Held : Type 0} {view : View Source Held} where
+  pub told_then : {a b c : Source} {Fact Other : Held → Type 0} → Keeps view a b → Keeps view b c
+      → Tells view a b Fact → Tells view b c Other → Tells view a c (λ this. Fact this × Other this)
   told_then first second fact other = told_both (told_sooner fact second) (told_later first second other)
 
 -- what follows for an answer

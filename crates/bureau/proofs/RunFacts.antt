@@ -1,19 +1,21 @@
 -- A run, one call after the other.
-use Rattle.std.proofs.Common.{◌≡◌, inl, inr, ◌+◌, ◌++◌, ℕ, List, [], ◌∷◌, length, refl, sym, ◌∙◌, ap, subst, arith, length-append}
-use Rattle.catalogue.specs.Content.{Content}
+use Rattle.std.proofs.Common.{◌≡◌, inl, inr, ◌+◌, ◌++◌, List, [], ◌∷◌, length, refl, sym, ◌∙◌, ap, length-append}
+use Rattle.catalogue.specs.View.{View}
 use Rattle.bureau_store.specs.Tables.{Tables}
 use Rattle.bureau_store.specs.declared.caller.Caller.{Caller}
-use Rattle.bureau.specs.Answering.{AreAmong, AreAnswered, Goes, Holds, turns_of}
+use Rattle.bureau.specs.Answering.{turns_of}
 use Rattle.bureau.specs.Calls.{call_as}
 use Rattle.bureau.specs.Joint.{IsRun, IsStep, Turn, tables_left}
 use Rattle.bureau.specs.Kept.{IsKeptRun}
 use Rattle.bureau.specs.Outcome.{Outcome, answered, accepted, outcome}
-use Rattle.bureau.specs.Parts.{Parts}
 use Rattle.bureau.specs.Replies.{reply_as}
+use Rattle.bureau.specs.Runs.{IsLawfulRun}
 use Rattle.bureau.specs.View.{view_of}
 use Rattle.bureau.specs.declared.call.Call as declared
 use Rattle.bureau.specs.declared.reply.Reply.{Reply}
-use Rattle.bureau.proofs.KeptFacts.{held_after, kept_run}
+use Rattle.bureau.proofs.AgreesFacts.{alike, alone}
+use Rattle.bureau.proofs.KeptFacts.{kept_run, loses_nothing}
+use Rattle.bureau.proofs.RepeatFacts.{acts_once, stays_stale}
 
 -- a step leaves who may call
 step_callers : (old new : Tables) (turn : Turn) → IsStep old turn new → new.callers ≡ old.callers
@@ -38,33 +40,21 @@ turns_more (call ∷ calls) [] asked reply same = absurd (cc)
 turns_more (call ∷ calls) (first ∷ replies) asked reply same =
     ap (λ (turns : List Turn). record { caller = call.0; call = call_as call.1; answer = reply_as first } ∷ turns) (turns_more calls replies asked reply (cc))
 
--- what goes on, goes on
-pub goes_on : {Store : Type 0} {is_clean is_ours is_open : Store → Type 0} {failures : Store → ℕ} {a b c : Store} → Goes is_clean is_ours is_open failures a b → Goes is_clean is_ours is_open failures b c → Goes is_clean is_ours is_open failures a c
-goes_on first second = record {
-  clean = λ clean. first.clean (second.clean clean);
-  ours = λ ours clean. second.ours (first.ours ours (second.clean clean)) clean;
-  still_open = λ still. first.still_open (second.still_open still);
-  failures_rise = search (first.failures_rise, second.failures_rise, arith);
-}
-
 -- two lists of one length are so with one more entry each
 pub one_more : {A B : Type 0} (xs : List A) (x : A) (ys : List B) (y : B) → length xs ≡ length ys → length (xs ++ x ∷ []) ≡ length (ys ++ y ∷ [])
 one_more xs x ys y same = length-append xs (x ∷ []) ∙ ap (λ n. n + 1) same ∙ sym (length-append ys (y ∷ []))
 
-module _ {Store Judge : Type 0} (is_clean is_ours is_open : Store → Type 0) (tables : Store → Tables) (is_right : Judge → Content → Type 0) where
-  abbrev IsRunOf : Parts Store Judge → Parts Store Judge → Tables → List Turn → Tables → Type 0
-  IsRunOf = IsKeptRun (λ bureau. is_open bureau.store) (Holds is_open tables is_right)
-
-  -- what holds of every run that is kept is told of the calls with their answers
-  pub told_of : (old new : Parts Store Judge) (calls : List (Caller × declared.Call)) (IsSo : Tables → Tables → Type 0) (some all : List Turn) → some ≡ all
-      → (is_ours old.store → is_clean new.store → (this : Tables) → Holds is_open tables is_right old this → AreAmong this.callers calls → (mid : Tables) × IsRunOf old new this some mid)
-      → ((this next : Tables) → IsRunOf old new this all next → IsSo this next)
-      → AreAnswered is_clean is_ours is_open tables is_right old new calls IsSo
-  told_of old new calls IsSo some all same made is ours clean this holds among =
-      let ran = made ours clean this holds among in
-      let kept = subst (λ (ts : List Turn). IsRunOf old new this ts ran.0) same ran.1 in
-      (ran.0, is this ran.0 kept, held_after (λ bureau. is_open bureau.store) (Holds is_open tables is_right) old new this all ran.0 kept)
-
-  -- the run of the tables alone
-  pub run_told : (old new : Parts Store Judge) (turns : List Turn) (this next : Tables) → IsRunOf old new this turns next → IsRun this turns next
-  run_told old new turns this next kept = kept_run (λ bureau. is_open bureau.store) (Holds is_open tables is_right) old new this turns next kept
+-- a run that is kept is lawful
+pub lawful_run : {Desk : Type 0} (view : View Desk Tables) (old new : Desk) (this : Tables) (turns : List Turn) (next : Tables)
+    → IsKeptRun view old new this turns next → IsLawfulRun view old new this turns next
+lawful_run view old new this turns next kept =
+    let run = kept_run view old new this turns next kept in
+    record {
+      run = run;
+      kept = kept;
+      stops = loses_nothing view old new this turns next kept;
+      alone = λ ordered viewer. alone this next turns viewer ordered run;
+      alike = λ opening closing others viewer ordered ordered_too other same. alike this next opening closing turns others viewer ordered ordered_too run other same;
+      once = acts_once this next turns run;
+      stale = stays_stale this next turns run;
+    }

@@ -1,48 +1,68 @@
--- What a call leaves of the bureau, whatever its store and its judge are.
-use Rattle.std.specs.Prelude.{◌≤◌, ℕ, List, [], ◌∷◌, All}
+-- How the bureau is looked at, and what a call leaves of it, whatever its store and its judge are.
+use Rattle.std.specs.Prelude.{◌≡◌, ◌⊎◌, List, [], ◌∷◌, All, refl}
+use Rattle.std.proofs.Common.{◌∙◌, arith, subst, sym}
 use Rattle.catalogue.specs.Content.{Content}
-use Rattle.catalogue.specs.Published.{Stands}
+use Rattle.catalogue.specs.View.{Goes, IsLawful, IsOpen, Keeps, Tells, View}
 use Rattle.bureau_store.specs.Caller.{IsAmong}
 use Rattle.bureau_store.specs.Tables.{Tables}
 use Rattle.bureau_store.specs.declared.caller.Caller.{Caller}
 use Rattle.bureau_store.specs.declared.caller.CallerRow.{CallerRow}
-use Rattle.bureau.specs.Call.{Call}
 use Rattle.bureau.specs.Calls.{call_as}
-use Rattle.bureau.specs.Joint.{IsStep, Turn}
-use Rattle.bureau.specs.Kept.{IsKeptBy}
-use Rattle.bureau.specs.Outcome.{Answer}
+use Rattle.bureau.specs.Joint.{Turn}
+use Rattle.bureau.specs.Kept.{IsKeptStep, IsToldOfNoTables}
 use Rattle.bureau.specs.Parts.{Parts}
 use Rattle.bureau.specs.Replies.{reply_as}
+use Rattle.bureau.specs.Runs.{IsLawfulRun}
 use Rattle.bureau.specs.declared.call.Call as declared
 use Rattle.bureau.specs.declared.reply.Reply.{Reply}
 
--- What is known of the disk is known afterwards, of all that happened so far; that the file is ours stays true, a
--- store that was shut stays shut, and failures are counted.
-pub record Goes {Store : Type 0} (is_clean is_ours is_open : Store → Type 0) (failures : Store → ℕ) (old new : Store) : Type 0 where
-  pub clean : is_clean new → is_clean old
-  pub ours : is_ours old → is_clean new → is_ours new
-  pub still_open : is_open new → is_open old
-  pub failures_rise : failures old ≤ failures new
+-- The bureau holds the tables of its store, where its judge is right for what is published in them.
+abbrev pub bureau_view : {Store Judge : Type 0} → View Store Tables → (Judge → Content → Type 0) → View (Parts Store Judge) Tables
+bureau_view view is_right = record {
+  stands = λ bureau this. view.stands bureau.store this × is_right bureau.judge this.content;
+  is_clean = λ bureau. view.is_clean bureau.store;
+  is_ours = λ bureau. view.is_ours bureau.store;
+  failures = λ bureau. view.failures bureau.store;
+  may_leave = λ bureau this. view.may_leave bureau.store this;
+  keeps = λ old new. Keeps view old.store new.store × (new.judge ≡ old.judge);
+}
 
--- the bureau may be said to hold these tables, and its judge is right for what is published in them
-pub record Holds {Store Judge : Type 0} (is_open : Store → Type 0) (tables : Store → Tables) (is_right : Judge → Content → Type 0) (bureau : Parts Store Judge) (this : Tables) : Type 0 where
-  pub stands : Stands is_open tables bureau.store this
-  pub right : is_right bureau.judge this.content
+pub bureau_lawful : {Store Judge : Type 0} (view : View Store Tables) (is_right : Judge → Content → Type 0) → IsLawful (bureau_view view is_right)
+bureau_lawful view is_right = record {
+  keeps = λ old new kept. record {
+    goes = record { clean = kept.0.goes.clean; ours = kept.0.goes.ours; failures_rise = kept.0.goes.failures_rise };
+    stays = λ ours clean this stands. (kept.0.stays ours clean this stands.0, subst (λ judge. is_right judge this.content) (sym kept.1) stands.1);
+    leaves = kept.0.leaves;
+  };
+  itself = λ bureau. (
+    record {
+      goes = record { clean = λ h. h; ours = λ h _. h; failures_rise = omega arith };
+      stays = λ ours clean this stands. stands;
+      leaves = λ this h. h;
+    },
+    refl,
+  );
+  on = λ first second third sooner later. (
+    record {
+      goes = record {
+        clean = λ clean. sooner.0.goes.clean (later.0.goes.clean clean);
+        ours = λ ours clean. later.0.goes.ours (sooner.0.goes.ours ours (later.0.goes.clean clean)) clean;
+        failures_rise = omega (arith, sooner.0.goes.failures_rise, later.0.goes.failures_rise);
+      };
+      stays = λ ours clean this stands.
+          let between = later.0.goes.clean clean in
+          later.0.stays (sooner.0.goes.ours ours between) clean this (sooner.0.stays ours between this stands);
+      leaves = λ this h. sooner.0.leaves this (later.0.leaves this h);
+    },
+    later.1 ∙ sooner.1,
+  );
+}
 
--- A call is answered: where these are the tables, and one of the callers asks, a step leads from them to those that
--- are there now.
-abbrev pub IsAnswered : {Store Judge : Type 0} → (Store → Type 0) → (Store → Type 0) → (Store → Type 0) → (Store → Tables) → (Judge → Content → Type 0)
-    → Parts Store Judge → Parts Store Judge → Caller → Call → Answer → Type 0
-IsAnswered is_clean is_ours is_open tables is_right old new caller call answer =
-    is_ours old.store → is_clean new.store → (this : Tables) → Holds is_open tables is_right old this → IsAmong this.callers caller →
-    (next : Tables) × IsStep this (record { caller = caller; call = call; answer = answer }) next × Holds is_open tables is_right new next
-
--- A change that is told as accepted was made by a store that is open.
-abbrev pub IsKept : {Store Judge : Type 0} → (Store → Type 0) → (Store → Type 0) → (Store → Type 0) → (Store → Tables) → (Judge → Content → Type 0)
-    → Parts Store Judge → Parts Store Judge → Caller → Call → Answer → Type 0
-IsKept is_clean is_ours is_open tables is_right old new caller call answer =
-    is_ours old.store → is_clean new.store → (this : Tables) → Holds is_open tables is_right old this → IsAmong this.callers caller →
-    IsKeptBy (is_open new.store) this (record { caller = caller; call = call; answer = answer })
+-- A call is answered: where one of the callers asks, it is a turn of the bureau that all callers share.
+pub record IsAnswered {Desk : Type 0} (view : View Desk Tables) (old new : Desk) (turn : Turn) : Type 0 where
+  pub goes : Goes view old new
+  pub shut : IsOpen view new ⊎ IsToldOfNoTables turn
+  pub turn_made : Tells view old new (λ this. IsAmong this.callers turn.caller → (next : Tables) × IsKeptStep view old new this turn next)
 
 -- the turns of calls with their answers, as far as both go
 abbrev pub turns_of : List (Caller × declared.Call) → List Reply → List Turn
@@ -54,10 +74,7 @@ turns_of (asked ∷ calls) (reply ∷ replies) = record { caller = asked.0; call
 abbrev pub AreAmong : List CallerRow → List (Caller × declared.Call) → Type 0
 AreAmong rows calls = All (λ asked. IsAmong rows asked.0) calls
 
--- Calls are answered, one after the other: where these are the tables, and each call is by one of the callers, a run
--- leads from them to those that are there now, and this holds of it.
-abbrev pub AreAnswered : {Store Judge : Type 0} → (Store → Type 0) → (Store → Type 0) → (Store → Type 0) → (Store → Tables) → (Judge → Content → Type 0)
-    → Parts Store Judge → Parts Store Judge → List (Caller × declared.Call) → (Tables → Tables → Type 0) → Type 0
-AreAnswered is_clean is_ours is_open tables is_right old new calls IsSo =
-    is_ours old.store → is_clean new.store → (this : Tables) → Holds is_open tables is_right old this → AreAmong this.callers calls →
-    (next : Tables) × IsSo this next × Holds is_open tables is_right new next
+-- Calls are answered, one after the other: where each is by one of the callers, they are a lawful run of the bureau.
+abbrev pub AreAnswered : {Desk : Type 0} → View Desk Tables → Desk → Desk → List (Caller × declared.Call) → List Reply → Type 0
+AreAnswered view old new calls replies =
+    Tells view old new (λ this. AreAmong this.callers calls → (next : Tables) × IsLawfulRun view old new this (turns_of calls replies) next)

@@ -1,5 +1,5 @@
 -- No part of what is promised: private contracts cite it. What comes of a call, as the code has it; `Outcome` says what comes.
-use Rattle.std.specs.Prelude.{◌≡◌, ◌≤◌, ◌+◌, ℕ, List, Option, Result, Ok, Err, is_some, length, true}
+use Rattle.std.specs.Prelude.{◌≡◌, ◌≤◌, ◌+◌, ℕ, List, Option, Result, Ok, Err, length}
 use Rattle.std.specs.Cmp.Lexicographic.{slice_cmp}
 use Rattle.std.specs.List.Sorted.{IsStrictlySortedBy}
 use Rattle.std.specs.Ordering.{nat_cmp}
@@ -8,10 +8,10 @@ use Rattle.catalogue.specs.Ids.{Ascend}
 use Rattle.catalogue.specs.Content.{Content, IsInOrder}
 use Rattle.catalogue.specs.Publication.{after}
 use Rattle.catalogue.specs.Touched.{AgreeOutside}
-use Rattle.bureau_store.specs.Caller.{IsAmong, IsProper}
+use Rattle.bureau_store.specs.Caller.{IsProper}
 use Rattle.bureau_store.specs.Effect.{Effect, publication, zone_put, zone_dropped, received_put, patterns_put}
-use Rattle.bureau_store.specs.Store.{greatest_number}
-use Rattle.bureau_store.specs.Tables.{LastChange, Tables, ZoneTable, zone_named}
+use Rattle.bureau_store.specs.Store.{HasZone, Update, greatest_number, update, zones_of}
+use Rattle.bureau_store.specs.Tables.{LastChange, Tables, ZoneTable}
 use Rattle.bureau_store.specs.declared.caller.Caller.{Caller}
 use Rattle.bureau_store.specs.declared.caller.Caller.TheVariants.{Publisher, Client}
 use Rattle.bureau.specs.Call.{Call}
@@ -60,13 +60,9 @@ abbrev pub IsFit : Come → Type 0
 IsFit (Answered reply) = Unit {0}
 IsFit (Accepted due) = IsFitDue due
 
--- the tables have what a change asks for: a zone that is there
-abbrev pub HasZone : Deed → Tables → Type 0
-HasZone (Publication changes touched) this = Unit {0}
-HasZone (ZonePut client zone rows) this = Unit {0}
-HasZone (ZoneDropped client zone) this = is_some (zone_named zone (this.zones client)) ≡ true
-HasZone (ReceivedPut client ids) this = Unit {0}
-HasZone (PatternsPut client zone patterns) this = is_some (zone_named zone (this.zones client)) ≡ true
+-- what is asked of the store
+abbrev pub update_of : Due → Update
+update_of due = update (maker_of due.deed) (effect_of due.deed) due.number due.text.items
 
 -- what a publication is said to touch is all that it touches
 abbrev pub TouchesNoMore : Deed → Content → Type 0
@@ -77,15 +73,7 @@ TouchesNoMore (ReceivedPut client ids) content = Unit {0}
 TouchesNoMore (PatternsPut client zone patterns) content = Unit {0}
 
 abbrev pub IsAskedBy : Deed → Tables → Type 0
-IsAskedBy deed this = HasZone deed this × (IsInOrder this.content → TouchesNoMore deed this.content)
-
--- a change may be made by one of the callers
-abbrev pub MayBeMade : Deed → Tables → Type 0
-MayBeMade (Publication changes touched) this = IsAmong this.callers Publisher
-MayBeMade (ZonePut client zone rows) this = IsAmong this.callers (Client client)
-MayBeMade (ZoneDropped client zone) this = IsAmong this.callers (Client client) × (is_some (zone_named zone (this.zones client)) ≡ true)
-MayBeMade (ReceivedPut client ids) this = IsAmong this.callers (Client client)
-MayBeMade (PatternsPut client zone patterns) this = IsAmong this.callers (Client client) × (is_some (zone_named zone (this.zones client)) ≡ true)
+IsAskedBy deed this = HasZone (effect_of deed) (zones_of (maker_of deed) this) × (IsInOrder this.content → TouchesNoMore deed this.content)
 
 -- a change is due over these tables: it has the caller's next number
 abbrev pub IsDue : Caller → Tables → Come → Type 0

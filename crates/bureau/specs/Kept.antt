@@ -1,31 +1,60 @@
--- What is told as accepted is kept: nothing that is acknowledged is lost.
-use Rattle.std.specs.Prelude.{◌≡◌, ◌⊎◌, List, [], ◌∷◌}
+-- Turns and runs of a desk that may fail: what is told as accepted is kept, and what a stop may leave.
+use Rattle.std.specs.Prelude.{◌≡◌, ◌⊎◌, false, List, [], ◌∷◌}
+use Rattle.catalogue.specs.View.{Goes, IsOpen, View}
 use Rattle.bureau_store.specs.Tables.{Tables}
-use Rattle.bureau.specs.Joint.{IsStep, Turn}
-use Rattle.bureau.specs.Outcome.{Outcome, answered, accepted, no_room, outcome}
+use Rattle.bureau.specs.Joint.{IsStep, Turn, tables_left}
+use Rattle.bureau.specs.Outcome.{may_ask, no_room, outcome}
 use Rattle.bureau.specs.View.{view_of}
 
--- nothing comes of a call but an answer
-abbrev pub IsAnswerAlone : Outcome → Type 0
-IsAnswerAlone (answered answer) = Unit {0}
-IsAnswerAlone (accepted effect text) = ⊥
+-- the tables with what comes of a turn
+abbrev pub tables_with : Turn → Tables → Tables
+tables_with turn this = tables_left turn.caller (outcome (view_of turn.caller this) turn.call) this
 
--- What is told of a turn over these tables is kept: there was no room, or nothing comes of the call but its answer, or
--- the desk is open after it.
-abbrev pub IsKeptBy : Type 0 → Tables → Turn → Type 0
-IsKeptBy IsOpen this turn = (turn.answer ≡ no_room) ⊎ (IsAnswerAlone (outcome (view_of turn.caller this) turn.call) ⊎ IsOpen)
+-- It is told that there is no room, or that the caller may not ask this: neither is said from the tables.
+abbrev pub IsToldOfNoTables : Turn → Type 0
+IsToldOfNoTables turn = (turn.answer ≡ no_room) ⊎ (may_ask turn.caller turn.call ≡ false)
 
--- A turn takes a desk from some tables to others, which it then may be said to hold. What it is told is kept, and a desk
--- that was shut stays shut.
-pub record IsKeptStep {Desk : Type 0} (is_open : Desk → Type 0) (holds : Desk → Tables → Type 0) (old new : Desk) (this : Tables) (turn : Turn) (next : Tables) : Type 0 where
-  pub step : IsStep this turn next
-  pub held : holds new next
-  pub kept : IsKeptBy (is_open new) this turn
-  pub still_open : is_open new → is_open old
+module _ {Desk : Type 0} (view : View Desk Tables) where
+  -- a desk at rest with these tables: while it is open, a stop leaves them and no others
+  abbrev pub Rests : Desk → Tables → Type 0
+  Rests desk this = IsOpen view desk → (left : Tables) → view.may_leave desk left → left ≡ this
 
--- A run from one desk to another, with the desk as each turn leaves it: from the turn that shuts it on, no change is told
--- as accepted.
-abbrev pub IsKeptRun : {Desk : Type 0} → (Desk → Type 0) → (Desk → Tables → Type 0) → Desk → Desk → Tables → List Turn → Tables → Type 0
-IsKeptRun is_open holds old new this [] next = (next ≡ this) × (is_open new → is_open old) × holds new next
-IsKeptRun {Desk} is_open holds old new this (turn ∷ turns) next =
-    (mid : Desk) × (between : Tables) × IsKeptStep is_open holds old mid this turn between × IsKeptRun is_open holds mid new between turns next
+  -- a desk that was asked nothing that changes: it may be said to hold these tables still
+  pub record Idles (old new : Desk) (this : Tables) : Type 0 where
+    pub goes : Goes view old new
+    pub stands : view.stands new this
+    pub leaves : (left : Tables) → view.may_leave new left → view.may_leave old left
+
+  -- A turn takes a desk from some tables to others. Where it told anything from the tables, it is open after it. A stop
+  -- may leave what it might have left before, or, of a desk that was open, the tables with what comes of this turn.
+  pub record IsKeptStep (old new : Desk) (this : Tables) (turn : Turn) (next : Tables) : Type 0 where
+    pub goes : Goes view old new
+    pub step : IsStep this turn next
+    pub stands : view.stands new next
+    pub told : IsOpen view new ⊎ IsToldOfNoTables turn
+    pub leaves : (left : Tables) → view.may_leave new left → view.may_leave old left ⊎ (IsOpen view old × (left ≡ tables_with turn this))
+    pub rests : Rests old this → Rests new next
+
+  -- A run from one desk to another, with the desk as each turn leaves it: from the turn that shuts it on, nothing is told
+  -- from the tables.
+  abbrev pub IsKeptRun : Desk → Desk → Tables → List Turn → Tables → Type 0
+  IsKeptRun old new this [] next = (next ≡ this) × Idles old new next
+  IsKeptRun old new this (turn ∷ turns) next =
+      (mid : Desk) × (between : Tables) × IsKeptStep old mid this turn between × IsKeptRun mid new between turns next
+
+-- these turns tell nothing from the tables
+abbrev pub TellNothing : List Turn → Type 0
+TellNothing [] = Unit {0}
+TellNothing (turn ∷ turns) = IsToldOfNoTables turn × TellNothing turns
+
+-- the tables with the change of one of these turns, which was told that there is no room, and behind which nothing is told
+-- from the tables
+abbrev pub IsWithOneRefused : Tables → List Turn → Tables → Type 0
+IsWithOneRefused this [] left = ⊥
+IsWithOneRefused this (turn ∷ turns) left =
+    ((turn.answer ≡ no_room) × TellNothing turns × (left ≡ tables_with turn this)) ⊎ IsWithOneRefused this turns left
+
+-- What a stop may leave after a run: the tables behind it; or, of a desk that is shut, those with the change of a turn that
+-- was told 503, behind which nothing was told from the tables.
+abbrev pub MayBeLeft : {Desk : Type 0} → View Desk Tables → Desk → List Turn → Tables → Tables → Type 0
+MayBeLeft view new turns next left = (left ≡ next) ⊎ ((IsOpen view new → ⊥) × IsWithOneRefused next turns left)

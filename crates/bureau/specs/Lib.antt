@@ -1,7 +1,6 @@
 pub mod Alone
 pub mod Call
 pub mod Joint
-pub mod Kept
 pub mod Repeat
 pub mod Outcome
 pub mod Own
@@ -14,4 +13,7 @@ pub mod Calls
 pub mod Faults
 pub mod Come
 pub mod Parts
+pub mod Kept
+pub mod Runs
 pub mod Answering
+pub mod Reading

@@ -1,15 +1,14 @@
 //! What comes of a change: its number counts first, then whether the zone is there, then its body.
-ghost use Rattle.std.specs.Prelude.{◌≡◌, ◌≤◌, map, IfOk, is_some};
-ghost use Rattle.std.specs.List.{list_any};
-ghost use Rattle.std.specs.Str.{bytes_eq};
-ghost use Rattle.catalogue.specs.Published.{Tells};
+ghost use Rattle.std.specs.Prelude.{◌≡◌, ◌≤◌, IfOk, is_some};
+ghost use Rattle.catalogue.specs.View.{Tells};
 ghost use Rattle.bureau_store.specs.Caller.{IsProper};
 ghost use Rattle.bureau_store.specs.Store.{greatest_number};
-ghost use Rattle.bureau_store.specs.Tables.{Zones, zone_named};
+ghost use Rattle.bureau_store.specs.Tables.{zone_named};
 ghost use Rattle.bureau_store.specs.declared.caller.Caller.TheVariants.{Publisher, Client};
 ghost use Rattle.bureau.specs.Call as call;
-ghost use Rattle.bureau.specs.Come.{IsComing, IsFit, IsInTurn, counted_as};
+ghost use Rattle.bureau.specs.Come.{IsComing, IsFit, IsInTurn};
 ghost use Rattle.bureau.specs.Outcome.{has_room, plain};
+ghost use Rattle.bureau.specs.Reading.{HasRead};
 ghost use Rattle.faults.specs.FaultText.{text_of};
 ghost use Rattle.faults.specs.declared.fault.Cause.TheVariants.{Input};
 ghost use Rattle.bureau.specs.Replies.{reply_as};
@@ -29,7 +28,7 @@ use std::alloc::Global;
 use zone_lists::{patterns, received_rows, zone_rows};
 
 /// The most zones of a client.
-const MOST_ZONES: usize = 64;
+const MOST_ZONES: u64 = 64;
 
 /// What comes of a publication.
 pub(crate) fn publish<S: Store>(
@@ -38,8 +37,8 @@ pub(crate) fn publish<S: Store>(
     number: Option<u64>,
     body: &[u8],
 ) -> Result<Come, NoRoom>
-    ensures keeps { S.keeps store.old store.new }
-    ensures come { IfOk result (λ come. Tells S.is_clean S.is_ours S.is_open S.tables store.old store.new
+    ensures reads { HasRead S.tables_view store.old store.new result }
+    ensures come { IfOk result (λ come. Tells S.tables_view store.old store.new
         (λ this. IsComing Publisher (call.publish number body.now) this come)) }
     ensures fit { IfOk result IsFit }
 {
@@ -70,8 +69,8 @@ pub(crate) fn put_zone<S: Store>(
     body: &[u8],
 ) -> Result<Come, NoRoom>
     requires { IsProper (Client client.now) }
-    ensures keeps { S.keeps store.old store.new }
-    ensures come { IfOk result (λ come. Tells S.is_clean S.is_ours S.is_open S.tables store.old store.new
+    ensures reads { HasRead S.tables_view store.old store.new result }
+    ensures come { IfOk result (λ come. Tells S.tables_view store.old store.new
         (λ this. IsComing (Client client.now) (call.put_zone number zone.now body.now) this come)) }
     ensures fit { IfOk result IsFit }
 {
@@ -107,8 +106,8 @@ pub(crate) fn drop_zone<S: Store>(
     zone: &Id,
 ) -> Result<Come, NoRoom>
     requires { IsProper (Client client.now) }
-    ensures keeps { S.keeps store.old store.new }
-    ensures come { IfOk result (λ come. Tells S.is_clean S.is_ours S.is_open S.tables store.old store.new
+    ensures reads { HasRead S.tables_view store.old store.new result }
+    ensures come { IfOk result (λ come. Tells S.tables_view store.old store.new
         (λ this. IsComing (Client client.now) (call.drop_zone number zone.now) this come)) }
     ensures fit { IfOk result IsFit }
 {
@@ -139,8 +138,8 @@ pub(crate) fn put_received<S: Store>(
     body: &[u8],
 ) -> Result<Come, NoRoom>
     requires { IsProper (Client client.now) }
-    ensures keeps { S.keeps store.old store.new }
-    ensures come { IfOk result (λ come. Tells S.is_clean S.is_ours S.is_open S.tables store.old store.new
+    ensures reads { HasRead S.tables_view store.old store.new result }
+    ensures come { IfOk result (λ come. Tells S.tables_view store.old store.new
         (λ this. IsComing (Client client.now) (call.put_received number body.now) this come)) }
     ensures fit { IfOk result IsFit }
 {
@@ -173,8 +172,8 @@ pub(crate) fn put_patterns<S: Store>(
     body: &[u8],
 ) -> Result<Come, NoRoom>
     requires { IsProper (Client client.now) }
-    ensures keeps { S.keeps store.old store.new }
-    ensures come { IfOk result (λ come. Tells S.is_clean S.is_ours S.is_open S.tables store.old store.new
+    ensures reads { HasRead S.tables_view store.old store.new result }
+    ensures come { IfOk result (λ come. Tells S.tables_view store.old store.new
         (λ this. IsComing (Client client.now) (call.put_patterns number zone.now body.now) this come)) }
     ensures fit { IfOk result IsFit }
 {
@@ -209,8 +208,8 @@ fn in_turn<S: Store>(
     number: Option<u64>,
 ) -> Result<Result<u64, Reply>, NoRoom>
     requires { IsProper caller.now }
-    ensures keeps { S.keeps store.old store.new }
-    ensures turn { IfOk result (λ turn. Tells S.is_clean S.is_ours S.is_open S.tables store.old store.new
+    ensures reads { HasRead S.tables_view store.old store.new result }
+    ensures turn { IfOk result (λ turn. Tells S.tables_view store.old store.new
         (λ this. IsInTurn (this.last caller.now) number turn)) }
     ensures bound { IfOk result (λ turn. IfOk turn (λ next. next ≤ greatest_number)) }
 {
@@ -232,32 +231,22 @@ fn refused(alloc: Global, fault: AnyFault) -> Result<Reply, NoRoom>
 // Whether a client has a zone of this name.
 fn is_zone<S: Store>(store: &mut S, client: &Id, zone: &Id) -> Result<bool, NoRoom>
     requires { IsProper (Client client.now) }
-    ensures keeps { S.keeps store.old store.new }
-    ensures there { IfOk result (λ there. Tells S.is_clean S.is_ours S.is_open S.tables store.old store.new
+    ensures reads { HasRead S.tables_view store.old store.new result }
+    ensures there { IfOk result (λ there. Tells S.tables_view store.old store.new
         (λ this. there ≡ is_some (zone_named zone.now (this.zones client.now)))) }
 {
-    Ok(store.zone(client, zone)?.is_some())
+    Ok(store.has_zone(client, zone)?)
 }
 
 // Whether a client may have a zone of this name: it has it already, or not yet as many as it may.
 fn has_room_for<S: Store>(store: &mut S, client: &Id, zone: &Id) -> Result<bool, NoRoom>
     requires { IsProper (Client client.now) }
-    ensures keeps { S.keeps store.old store.new }
-    ensures room { IfOk result (λ room. Tells S.is_clean S.is_ours S.is_open S.tables store.old store.new
+    ensures reads { HasRead S.tables_view store.old store.new result }
+    ensures room { IfOk result (λ room. Tells S.tables_view store.old store.new
         (λ this. room ≡ has_room zone.now (this.zones client.now))) }
 {
-    let zones = store.zones(client)?;
-    Ok(has_room_among(&zones, zone))
-}
-
-fn has_room_among(counted: &[(Id, u64)], zone: &Id) -> bool
-    ensures { (zones : Zones) → counted.now ≡ map counted_as zones → result ≡ has_room zone.now zones }
-{
-    counted.len() < MOST_ZONES || is_counted(counted, zone)
-}
-
-fn is_counted(counted: &[(Id, u64)], zone: &Id) -> bool
-    ensures { result ≡ list_any (λ entry. bytes_eq zone.now entry.0) counted.now }
-{
-    counted.iter().any(|entry| *zone == entry.0)
+    if store.has_zone(client, zone)? {
+        return Ok(true);
+    }
+    Ok(store.zone_count(client)? < MOST_ZONES)
 }

@@ -1,8 +1,8 @@
 //! Making a change that is due. It takes no memory of the bureau's.
 ghost use Rattle.catalogue.specs.Content.{Content, IsInOrder};
-ghost use Rattle.bureau_store.specs.Effect.{content_after, tables_after};
+ghost use Rattle.bureau_store.specs.Effect.{content_after};
 ghost use Rattle.bureau_store.specs.Store.{Makes};
-ghost use Rattle.bureau.specs.Come.{IsFitDue, MayBeMade, TouchesNoMore, effect_of, maker_of};
+ghost use Rattle.bureau.specs.Come.{IsFitDue, TouchesNoMore, effect_of, update_of};
 
 use crate::come::{Deed, Due};
 use bureau_store::{Store, StoreFault};
@@ -16,9 +16,7 @@ pub(crate) fn commit<S: Store, J: Judge<S>>(
     due: &Due,
 ) -> Result<(), StoreFault>
     requires { IsFitDue due.now }
-    ensures makes { Makes S.is_clean S.is_ours S.is_open S.failures S.tables store.old store.new result
-        (MayBeMade due.now.deed)
-        (tables_after (maker_of due.now.deed) (effect_of due.now.deed) (record { number = due.now.number; reply = due.now.text.items })) }
+    ensures makes { Makes S.tables_view S.outgrown (update_of due.now) store.old store.new result }
     ensures right { (content : Content) → J.is_right judge.old content → J.is_right judge.new content }
     ensures ready { (content : Content) → IsInOrder content → IsInOrder (content_after (effect_of due.now.deed) content) →
         TouchesNoMore due.now.deed content → J.is_right judge.old content → J.is_right judge.new (content_after (effect_of due.now.deed) content) }

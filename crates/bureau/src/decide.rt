@@ -1,10 +1,11 @@
 //! What comes of a call. Nothing changes here, and all memory that a change takes is taken here.
-ghost use Rattle.std.specs.Prelude.{IfOk};
-ghost use Rattle.catalogue.specs.Published.{Tells};
+ghost use Rattle.std.specs.Prelude.{◌≡◌, ◌⊎◌, IfOk, false};
+ghost use Rattle.catalogue.specs.View.{IsOpen, Tells};
 ghost use Rattle.bureau_store.specs.Caller.{IsProper};
 ghost use Rattle.bureau_store.specs.declared.caller.Caller.TheVariants.{Publisher, Client};
 ghost use Rattle.bureau.specs.Calls.{call_as};
 ghost use Rattle.bureau.specs.Come.{IsComeOf, IsComing, IsFit};
+ghost use Rattle.bureau.specs.Outcome.{may_ask};
 
 use crate::changes::{drop_zone, publish, put_patterns, put_received, put_zone};
 use crate::come::{Come, NoRoom};
@@ -24,11 +25,12 @@ pub(crate) fn decide<S: Store, J: Judge<S>>(
     call: &Call<'_>,
 ) -> Result<Come, NoRoom>
     requires { IsProper caller.now }
-    ensures keeps { S.keeps store.old store.new }
-    ensures come { IfOk result (λ come. Tells S.is_clean S.is_ours S.is_open S.tables store.old store.new
+    ensures keeps { S.tables_view.keeps store.old store.new }
+    ensures told { IfOk result (λ come. IsOpen S.tables_view store.new ⊎ (may_ask caller.now (call_as call.now) ≡ false)) }
+    ensures come { IfOk result (λ come. Tells S.tables_view store.old store.new
         (λ this. J.is_right judge.old this.content → IsComing caller.now (call_as call.now) this come)) }
     ensures fit { IfOk result IsFit }
-    ensures right { Tells S.is_clean S.is_ours S.is_open S.tables store.old store.new
+    ensures right { Tells S.tables_view store.old store.new
         (λ this. J.is_right judge.old this.content → J.is_right judge.new this.content) }
 {
     match caller {
@@ -43,8 +45,9 @@ fn decide_for_publisher<S: Store>(
     store: &mut S,
     call: &Call<'_>,
 ) -> Result<Come, NoRoom>
-    ensures keeps { S.keeps store.old store.new }
-    ensures come { IfOk result (λ come. Tells S.is_clean S.is_ours S.is_open S.tables store.old store.new
+    ensures keeps { S.tables_view.keeps store.old store.new }
+    ensures told { IfOk result (λ come. IsOpen S.tables_view store.new ⊎ (may_ask Publisher (call_as call.now) ≡ false)) }
+    ensures come { IfOk result (λ come. Tells S.tables_view store.old store.new
         (λ this. IsComing Publisher (call_as call.now) this come)) }
     ensures fit { IfOk result IsFit }
 {
@@ -64,11 +67,12 @@ fn decide_for_client<S: Store, J: Judge<S>>(
     call: &Call<'_>,
 ) -> Result<Come, NoRoom>
     requires { IsProper (Client client.now) }
-    ensures keeps { S.keeps store.old store.new }
-    ensures come { IfOk result (λ come. Tells S.is_clean S.is_ours S.is_open S.tables store.old store.new
+    ensures keeps { S.tables_view.keeps store.old store.new }
+    ensures told { IfOk result (λ come. IsOpen S.tables_view store.new ⊎ (may_ask (Client client.now) (call_as call.now) ≡ false)) }
+    ensures come { IfOk result (λ come. Tells S.tables_view store.old store.new
         (λ this. J.is_right judge.old this.content → IsComing (Client client.now) (call_as call.now) this come)) }
     ensures fit { IfOk result IsFit }
-    ensures right { Tells S.is_clean S.is_ours S.is_open S.tables store.old store.new
+    ensures right { Tells S.tables_view store.old store.new
         (λ this. J.is_right judge.old this.content → J.is_right judge.new this.content) }
 {
     match *call {

@@ -1,6 +1,6 @@
 //! The answers to questions. They change nothing.
 ghost use Rattle.std.specs.Prelude.{◌≡◌, IfOk};
-ghost use Rattle.catalogue.specs.Published.{Tells};
+ghost use Rattle.catalogue.specs.View.{Tells};
 ghost use Rattle.catalogue.specs.Ids.{Ascend};
 ghost use Rattle.chains.specs.Verdicts.{verdict_of};
 ghost use Rattle.reports.specs.ChainText.{chain_text_of};
@@ -11,6 +11,7 @@ ghost use Rattle.bureau_store.specs.Caller.{IsProper};
 ghost use Rattle.bureau_store.specs.declared.caller.Caller.TheVariants.{Client};
 ghost use Rattle.bureau.specs.Call as call;
 ghost use Rattle.bureau.specs.Outcome.{answered, as_json, outcome, plain};
+ghost use Rattle.bureau.specs.Reading.{HasRead, MayRead};
 ghost use Rattle.bureau.specs.Replies.{reply_as};
 ghost use Rattle.bureau.specs.Texts.{counts_text};
 ghost use Rattle.bureau.specs.View.{view_of};
@@ -30,8 +31,8 @@ use zone_lists::Pattern;
 
 /// How much is published.
 pub(crate) fn counts<S: Store>(alloc: Global, store: &mut S) -> Result<Reply, NoRoom>
-    ensures keeps { S.keeps store.old store.new }
-    ensures reply { IfOk result (λ reply. Tells S.is_clean S.is_ours S.is_open S.tables store.old store.new
+    ensures reads { HasRead S.tables_view store.old store.new result }
+    ensures reply { IfOk result (λ reply. Tells S.tables_view store.old store.new
         (λ this. reply_as reply ≡ plain 200 (counts_text this.content))) }
 {
     let (sysmods, holds) = store.counts()?;
@@ -45,8 +46,8 @@ pub(crate) fn list_zones<S: Store>(
     client: &Id,
 ) -> Result<Reply, NoRoom>
     requires { IsProper (Client client.now) }
-    ensures keeps { S.keeps store.old store.new }
-    ensures reply { IfOk result (λ reply. Tells S.is_clean S.is_ours S.is_open S.tables store.old store.new
+    ensures reads { HasRead S.tables_view store.old store.new result }
+    ensures reply { IfOk result (λ reply. Tells S.tables_view store.old store.new
         (λ this. answered (reply_as reply) ≡ outcome (view_of (Client client.now) this) call.list_zones)) }
 {
     let zones = store.zones(client)?;
@@ -62,10 +63,10 @@ pub(crate) fn err_sysmods<S: Store, J: Judge<S>>(
     zone: &Id,
 ) -> Result<Reply, NoRoom>
     requires { IsProper (Client client.now) }
-    ensures keeps { S.keeps store.old store.new }
-    ensures reply { IfOk result (λ reply. Tells S.is_clean S.is_ours S.is_open S.tables store.old store.new
+    ensures reads { HasRead S.tables_view store.old store.new result }
+    ensures reply { IfOk result (λ reply. Tells S.tables_view store.old store.new
         (λ this. J.is_right judge.old this.content → answered (reply_as reply) ≡ outcome (view_of (Client client.now) this) (call.err_sysmods zone.now))) }
-    ensures right { Tells S.is_clean S.is_ours S.is_open S.tables store.old store.new
+    ensures right { Tells S.tables_view store.old store.new
         (λ this. J.is_right judge.old this.content → J.is_right judge.new this.content) }
 {
     let Some(rows) = store.zone(client, zone)? else {
@@ -73,7 +74,7 @@ pub(crate) fn err_sysmods<S: Store, J: Judge<S>>(
     };
     let received = store.received(client)?;
     let holds = store.held_in(client, zone, Kind::ErrorHold)?;
-    let installed = Zone::new(alloc, &rows)?;
+    let installed = Zone::from_rows(rows);
     err_reply(alloc, store, judge, zone, &installed, &received, &holds)
 }
 
@@ -86,10 +87,10 @@ pub(crate) fn missing_fix<S: Store, J: Judge<S>>(
     zone: &Id,
 ) -> Result<Reply, NoRoom>
     requires { IsProper (Client client.now) }
-    ensures keeps { S.keeps store.old store.new }
-    ensures reply { IfOk result (λ reply. Tells S.is_clean S.is_ours S.is_open S.tables store.old store.new
+    ensures reads { HasRead S.tables_view store.old store.new result }
+    ensures reply { IfOk result (λ reply. Tells S.tables_view store.old store.new
         (λ this. J.is_right judge.old this.content → answered (reply_as reply) ≡ outcome (view_of (Client client.now) this) (call.missing_fix zone.now))) }
-    ensures right { Tells S.is_clean S.is_ours S.is_open S.tables store.old store.new
+    ensures right { Tells S.tables_view store.old store.new
         (λ this. J.is_right judge.old this.content → J.is_right judge.new this.content) }
 {
     let Some(rows) = store.zone(client, zone)? else {
@@ -98,7 +99,7 @@ pub(crate) fn missing_fix<S: Store, J: Judge<S>>(
     let received = store.received(client)?;
     let patterns = store.patterns(client, zone)?;
     let holds = store.held_in(client, zone, Kind::FixcatHold)?;
-    let installed = Zone::new(alloc, &rows)?;
+    let installed = Zone::from_rows(rows);
     missing_reply(
         alloc, store, judge, zone, &installed, &received, &patterns, &holds,
     )
@@ -114,16 +115,16 @@ pub(crate) fn chain<S: Store, J: Judge<S>>(
     sysmod: &Id,
 ) -> Result<Reply, NoRoom>
     requires { IsProper (Client client.now) }
-    ensures keeps { S.keeps store.old store.new }
-    ensures reply { IfOk result (λ reply. Tells S.is_clean S.is_ours S.is_open S.tables store.old store.new
+    ensures reads { HasRead S.tables_view store.old store.new result }
+    ensures reply { IfOk result (λ reply. Tells S.tables_view store.old store.new
         (λ this. J.is_right judge.old this.content → answered (reply_as reply) ≡ outcome (view_of (Client client.now) this) (call.chain zone.now sysmod.now))) }
-    ensures right { Tells S.is_clean S.is_ours S.is_open S.tables store.old store.new
+    ensures right { Tells S.tables_view store.old store.new
         (λ this. J.is_right judge.old this.content → J.is_right judge.new this.content) }
 {
     let Some(rows) = store.zone(client, zone)? else {
         return Ok(Reply::not_found(alloc)?);
     };
-    let installed = Zone::new(alloc, &rows)?;
+    let installed = Zone::from_rows(rows);
     chain_reply(alloc, store, judge, zone, &installed, sysmod)
 }
 
@@ -138,10 +139,10 @@ fn err_reply<P: Published, J: Judge<P>>(
     holds: &[Hold],
 ) -> Result<Reply, NoRoom>
     requires { Ascend received.now }
-    ensures keeps { P.keeps source.old source.new }
-    ensures reply { IfOk result (λ reply. Tells P.is_clean P.is_ours P.is_open P.content source.old source.new
+    ensures reads { MayRead P.content_view source.old source.new result }
+    ensures reply { IfOk result (λ reply. Tells P.content_view source.old source.new
         (λ content. J.is_right judge.old content → reply_as reply ≡ plain 200 (err_text_of zone.now (err_rows_of content installed.now received.now holds.now)))) }
-    ensures right { Tells P.is_clean P.is_ours P.is_open P.content source.old source.new
+    ensures right { Tells P.content_view source.old source.new
         (λ content. J.is_right judge.old content → J.is_right judge.new content) }
 {
     let rows = err_rows(alloc, source, judge, installed, received, holds)?;
@@ -160,10 +161,10 @@ fn missing_reply<P: Published, J: Judge<P>>(
     holds: &[Hold],
 ) -> Result<Reply, NoRoom>
     requires { Ascend received.now }
-    ensures keeps { P.keeps source.old source.new }
-    ensures reply { IfOk result (λ reply. Tells P.is_clean P.is_ours P.is_open P.content source.old source.new
+    ensures reads { MayRead P.content_view source.old source.new result }
+    ensures reply { IfOk result (λ reply. Tells P.content_view source.old source.new
         (λ content. J.is_right judge.old content → reply_as reply ≡ plain 200 (missing_text_of zone.now (missing_rows_of content installed.now received.now patterns.now holds.now)))) }
-    ensures right { Tells P.is_clean P.is_ours P.is_open P.content source.old source.new
+    ensures right { Tells P.content_view source.old source.new
         (λ content. J.is_right judge.old content → J.is_right judge.new content) }
 {
     let rows = missing_rows(alloc, source, judge, installed, received, patterns, holds)?;
@@ -179,10 +180,10 @@ fn chain_reply<P: Published, J: Judge<P>>(
     installed: &Zone,
     sysmod: &Id,
 ) -> Result<Reply, NoRoom>
-    ensures keeps { P.keeps source.old source.new }
-    ensures reply { IfOk result (λ reply. Tells P.is_clean P.is_ours P.is_open P.content source.old source.new
+    ensures reads { MayRead P.content_view source.old source.new result }
+    ensures reply { IfOk result (λ reply. Tells P.content_view source.old source.new
         (λ content. J.is_right judge.old content → reply_as reply ≡ as_json (chain_text_of content zone.now sysmod.now (verdict_of content installed.now sysmod.now)))) }
-    ensures right { Tells P.is_clean P.is_ours P.is_open P.content source.old source.new
+    ensures right { Tells P.content_view source.old source.new
         (λ content. J.is_right judge.old content → J.is_right judge.new content) }
 {
     let verdict = judge.verdict(alloc, source, installed, sysmod)?;

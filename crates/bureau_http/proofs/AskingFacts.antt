@@ -1,7 +1,9 @@
 -- What a request asks, and what it is told.
-use Rattle.std.proofs.Common.{◌≡◌, inl, subst, ℕ, ◌<◌, Bool, true, false, List, [], ◌∷◌, length, map, Option, Some, None, Ok, Err, refl, sym, ap, ◌∙◌, suc, arith}
+use Rattle.std.proofs.Common.{◌≡◌, inl, inr, subst, ℕ, ◌<◌, Bool, true, false, List, [], ◌∷◌, length, map, Option, Some, None, Ok, Err, refl, sym, ap, ◌∙◌, suc, arith}
 use Rattle.std.specs.Prelude.{is_some}
 use Rattle.std.specs.Str.{bytes_eq}
+use Rattle.catalogue.specs.View.{Keeps, View}
+use Rattle.catalogue.proofs.SourceFacts.{was_open}
 use Rattle.requests.specs.Request.{Parts, action_of, number_of, token_of}
 use Rattle.requests.specs.declared.action.Action.{Action}
 use Rattle.requests.specs.declared.refusal.Refusal.{Refusal}
@@ -11,7 +13,7 @@ use Rattle.bureau_store.specs.declared.caller.Caller.{Caller}
 use Rattle.bureau_store.specs.declared.caller.CallerRow.{CallerRow}
 use Rattle.bureau_store.specs.Tables.{Tables}
 use Rattle.bureau.specs.Call.{Call}
-use Rattle.bureau.specs.Kept.{IsKeptRun, IsKeptStep}
+use Rattle.bureau.specs.Kept.{Idles, IsKeptRun, IsKeptStep}
 use Rattle.bureau.specs.Outcome.{Answer, no_room}
 use Rattle.bureau.proofs.KeptFacts.{from_before, one_kept}
 use Rattle.bureau_http.specs.Exchange.{turn_by}
@@ -65,25 +67,33 @@ token_there parts token is = ap is_some (sym is)
 
 -- ---- the run of a request
 
-module _ {Desk : Type 0} (is_open : Desk → Type 0) (stands : Desk → Tables → Type 0) (old new : Desk) (this : Tables) where
+module _ {Desk : Type 0} (view : View Desk Tables) (old new : Desk) (this : Tables) where
   -- what makes no call is no turn
-  pub refused_run : (what : What) (refusal : Refusal) (answer : Answer) → what ≡ Err refusal → (is_open new → is_open old) → stands new this
-      → IsKeptRun is_open stands old new this (turn_by what answer) this
-  refused_run what refusal answer is still_open stand =
-      subst (λ what. IsKeptRun is_open stands old new this (turn_by what answer) this) (sym is) (refl, still_open, stand)
+  pub refused_run : (what : What) (refusal : Refusal) (answer : Answer) → what ≡ Err refusal → Idles view old new this → IsKeptRun view old new this (turn_by what answer) this
+  refused_run what refusal answer is idles = subst (λ what. IsKeptRun view old new this (turn_by what answer) this) (sym is) (refl, idles)
 
   -- what has no room is a turn that changes nothing, or none
-  pub no_room_run : (what : What) → (is_open new → is_open old) → stands new this → IsKeptRun is_open stands old new this (turn_by what no_room) this
-  no_room_run (Ok call) still_open stand =
-      one_kept is_open stands old new this (record { caller = call.0; call = call.1; answer = no_room }) this
-      (record { step = inl (refl, refl); held = stand; kept = inl refl; still_open = still_open })
-  no_room_run (Err refusal) still_open stand = (refl, still_open, stand)
+  pub no_room_run : (what : What) → Idles view old new this → IsKeptRun view old new this (turn_by what no_room) this
+  no_room_run (Ok call) idles =
+      one_kept view old new this (record { caller = call.0; call = call.1; answer = no_room }) this (record {
+        goes = idles.goes;
+        step = inl (refl, refl);
+        stands = idles.stands;
+        told = inr (inl refl);
+        leaves = λ left h. inl (idles.leaves left h);
+        rests = λ rests is_open left h. rests (was_open idles.goes is_open) left (idles.leaves left h);
+      })
+  no_room_run (Err refusal) idles = (refl, idles)
 
   -- a call that is made is a turn, of a desk that was looked at before
-  pub call_run : (mid : Desk) (what : What) (call : Caller × Call) (answer : Answer) (next : Tables) → what ≡ Ok call → (is_open mid → is_open old)
-      → IsKeptStep is_open stands mid new this (record { caller = call.0; call = call.1; answer = answer }) next
-      → IsKeptRun is_open stands old new this (turn_by what answer) next
-  call_run mid what call answer next is still_open step =
-      subst (λ what. IsKeptRun is_open stands old new this (turn_by what answer) next) (sym is)
-      (from_before is_open stands old mid new this (record { caller = call.0; call = call.1; answer = answer } ∷ []) next still_open
-      (one_kept is_open stands mid new this (record { caller = call.0; call = call.1; answer = answer }) next step))
+  pub call_run : (mid : Desk) (what : What) (call : Caller × Call) (answer : Answer) (next : Tables) → what ≡ Ok call → Idles view old mid this
+      → IsKeptStep view mid new this (record { caller = call.0; call = call.1; answer = answer }) next
+      → IsKeptRun view old new this (turn_by what answer) next
+  call_run mid what call answer next is idles step =
+      subst (λ what. IsKeptRun view old new this (turn_by what answer) next) (sym is)
+      (from_before view old mid new this (record { caller = call.0; call = call.1; answer = answer } ∷ []) next idles
+      (one_kept view mid new this (record { caller = call.0; call = call.1; answer = answer }) next step))
+
+-- a desk that was looked at alone
+pub looked_at : {Desk : Type 0} (view : View Desk Tables) (old new : Desk) (this : Tables) → Keeps view old new → view.is_ours old → view.is_clean new → view.stands old this → Idles view old new this
+looked_at view old new this keeps ours clean stands = record { goes = keeps.goes; stands = keeps.stays ours clean this stands; leaves = keeps.leaves }

@@ -6,3 +6,4 @@ mod IsolatedFacts
 mod ListFacts
 mod ConnectionFacts
 mod ReplayFacts
+mod LawfulFacts

@@ -306,6 +306,22 @@ each_is P (Some a) h = h a refl
 pub some_at : {A : Type 0} (P : A → Type 0) (o : Option A) (a : A) → o ≡ Some a → IfSome o P → P a
 some_at P o a e h = (subst (λ x. IfSome x P) e h)
 
+-- before the first request
+pub nothing_yet : (Runs : Tables → List Turn → Tables → Type 0) (this : Tables) (held left old : Option (List ℕ)) → Runs this [] this → held ≡ left
+    → IfSome left (IsSoFar Runs this 1 held old old)
+nothing_yet Runs this held left old run are = each_is _ left (λ bytes is_left. record {
+  exchanges = [];
+  now = this;
+  run = run;
+  callers = refl;
+  answered = tt;
+  following = bytes;
+  reads = refl;
+  left_are = are ∙ is_left;
+  count = refl;
+  written = Appends-nil old;
+})
+
 -- ---- a step
 
 pub map_some : {A : Type 0} {P Q : A → Type 0} (o : Option A) → IfSome o P → ((a : A) → P a → Q a) → IfSome o Q

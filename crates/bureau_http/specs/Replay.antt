@@ -8,6 +8,7 @@ use Rattle.bureau_store.specs.declared.caller.CallerRow.{CallerRow}
 use Rattle.bureau_store.specs.declared.fault.CallerFault.{CallerFault}
 use Rattle.bureau_store.specs.declared.fault.CallerFault.TheVariants.{CallerHeader, BadCaller, NoPublisher, Memory}
 use Rattle.bureau.specs.Joint.{IsRun}
+use Rattle.bureau_http.specs.Isolated.{AreIsolated, joined}
 use Rattle.bureau_http.specs.List.{AreServed}
 
 -- The callers are those of the file, the store begins with them and nothing else, and all connections were
@@ -16,6 +17,8 @@ pub record IsReplayed (callers : List ℕ) (connections written : List (List ℕ
   pub rows : List CallerRow
   pub read : callers_of callers ≡ Ok rows
   pub served : AreServed IsRun (opened rows) connections written
+  -- the tables are in order at the beginning, so each caller is answered as if alone
+  pub isolated : AreIsolated (opened rows) (joined served.exchanges)
 
 -- what is told of a fault of the callers file
 abbrev pub of_callers : CallerFault → AnyFault

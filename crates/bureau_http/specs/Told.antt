@@ -44,3 +44,9 @@ IsTold this what has_token (Answered reply) next =
     (call : Caller × Call) × (what ≡ Ok call) × IsStep this (record { caller = call.0; call = call.1; answer = reply_as reply }) next
 IsTold this what has_token (Refused refusal) next = (what ≡ Err refusal) × (next ≡ this)
 IsTold this what has_token NoRoom next = (has_token ≡ true) × (next ≡ this)
+
+-- told from a look-up of the token alone: no answer of the desk's, nor that there is no room
+abbrev pub IsOfLookUp : Told → Type 0
+IsOfLookUp (Answered reply) = ⊥
+IsOfLookUp (Refused refusal) = Unit {0}
+IsOfLookUp NoRoom = ⊥

@@ -1,11 +1,12 @@
 //! What a whole request asks, and what it is told.
-ghost use Rattle.std.specs.Prelude.{◌≡◌};
+ghost use Rattle.std.specs.Prelude.{◌≡◌, true};
 ghost use Rattle.bureau.specs.Calls.{call_as};
 ghost use Rattle.bureau_http.specs.Asked as Spec;
 ghost use Rattle.bureau_http.specs.Asked.{has_token, what_of};
 ghost use Rattle.bureau_http.specs.Exchange.{turn_by};
-ghost use Rattle.bureau_http.specs.Told.{IsTold, answer_told};
+ghost use Rattle.bureau_http.specs.Told.{IsOfLookUp, IsTold, answer_told};
 ghost use Rattle.bureau.specs.Kept.{IsKeptRun};
+ghost use Rattle.catalogue.specs.View.{Goes, IsOpen, Tells};
 ghost use Rattle.bureau_store.specs.Tables.{Tables};
 ghost use Rattle.requests.specs.Turn.{IsAt, body_in, parts_in};
 
@@ -24,10 +25,11 @@ pub(crate) fn answer_to<D: Desk>(
     bytes: &[u8],
 ) -> Told
     requires { IsAt bytes.now request.now }
-    ensures clean { D.is_clean desk.new → D.is_clean desk.old }
-    ensures told { D.is_clean desk.new → (this : Tables) → D.stands desk.old this →
+    ensures goes { Goes D.tables_view desk.old desk.new }
+    ensures shut { has_token (parts_in bytes.now request.now) ≡ true → IsOfLookUp result → IsOpen D.tables_view desk.new }
+    ensures told { Tells D.tables_view desk.old desk.new (λ this.
         (next : Tables) × IsTold this (what_of this.callers (parts_in bytes.now request.now) (body_in bytes.now request.now)) (has_token (parts_in bytes.now request.now)) result next
-        × IsKeptRun D.is_open D.stands desk.old desk.new this (turn_by (what_of this.callers (parts_in bytes.now request.now) (body_in bytes.now request.now)) (answer_told result)) next }
+        × IsKeptRun D.tables_view desk.old desk.new this (turn_by (what_of this.callers (parts_in bytes.now request.now) (body_in bytes.now request.now)) (answer_told result)) next) }
 {
     let Some(token) = request.token(bytes) else {
         return Told::Refused(Refusal::UnknownToken);

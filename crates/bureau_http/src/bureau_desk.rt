@@ -1,5 +1,5 @@
 //! The bureau, as a desk, over each store and judge.
-ghost use Rattle.bureau.specs.Answering.{Holds};
+ghost use Rattle.bureau.specs.Answering.{bureau_lawful, bureau_view};
 
 use crate::desk::Desk;
 use bureau::{Bureau, Call, Reply};
@@ -7,11 +7,7 @@ use bureau_store::{Caller, Store, StoreFault};
 use chains::Judge;
 
 impl<S: Store, J: Judge<S>> Desk for Bureau<S, J> {
-    ghost stands = { λ bureau this. S.is_ours bureau.store × Holds S.is_open S.tables J.is_right bureau this };
-
-    ghost is_clean = { λ bureau. S.is_clean bureau.store };
-
-    ghost is_open = { λ bureau. S.is_open bureau.store };
+    ghost tables_view = { bureau_view S.tables_view J.is_right };
 
     fn caller_of(&mut self, token: &[u8]) -> Result<Option<Caller>, StoreFault> {
         Bureau::caller_of(self, token)
@@ -20,4 +16,6 @@ impl<S: Store, J: Judge<S>> Desk for Bureau<S, J> {
     fn answer(&mut self, caller: &Caller, call: &Call<'_>) -> Reply {
         Bureau::answer(self, caller, call)
     }
+
+    ghost tables_lawful = { bureau_lawful S.tables_view J.is_right };
 }

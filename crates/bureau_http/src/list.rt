@@ -2,7 +2,8 @@
 ghost use Rattle.std.specs.Prelude.{map, IfErr, IfOk, OnErr};
 ghost use Rattle.bureau_http.specs.List.{AreServed, AreServedInPart, IsOneCut, IsOneServed};
 ghost use Rattle.bureau.specs.Kept.{IsKeptRun};
-ghost use Rattle.bureau_store.specs.Tables.{Tables};
+ghost use Rattle.bureau.specs.Runs.{IsLawfulRun};
+ghost use Rattle.catalogue.specs.View.{Goes, Tells};
 
 use crate::desk::Desk;
 use crate::fault::{ConnFault, RunFault};
@@ -25,11 +26,11 @@ pub fn serve_list<D: Desk>(
     desk: &mut D,
     connections: Vec<Vec<u8>>,
 ) -> Result<Vec<Vec<u8>>, (RunFault, Vec<Vec<u8>>)>
-    ensures clean { D.is_clean desk.new → D.is_clean desk.old }
-    ensures served { IfOk result (λ written. D.is_clean desk.new → (this : Tables) → D.stands desk.old this →
-        AreServed (IsKeptRun D.is_open D.stands desk.old desk.new) this (map (λ connection. connection.items) connections.items) (map (λ text. text.items) written.items)) }
-    ensures in_part { IfErr result (λ fault. D.is_clean desk.new → (this : Tables) → D.stands desk.old this →
-        AreServedInPart (IsKeptRun D.is_open D.stands desk.old desk.new) this (map (λ connection. connection.items) connections.items) (map (λ text. text.items) fault.1.items)) }
+    ensures goes { Goes D.tables_view desk.old desk.new }
+    ensures served { IfOk result (λ written. Tells D.tables_view desk.old desk.new (λ this.
+        AreServed (IsLawfulRun D.tables_view desk.old desk.new) this (map (λ connection. connection.items) connections.items) (map (λ text. text.items) written.items))) }
+    ensures in_part { IfErr result (λ fault. Tells D.tables_view desk.old desk.new (λ this.
+        AreServedInPart (IsLawfulRun D.tables_view desk.old desk.new) this (map (λ connection. connection.items) connections.items) (map (λ text. text.items) fault.1.items))) }
 {
     serve_each(alloc, desk, connections.as_slice())
 }
@@ -40,11 +41,11 @@ fn serve_each<D: Desk>(
     desk: &mut D,
     connections: &[Vec<u8>],
 ) -> Result<Vec<Vec<u8>>, (RunFault, Vec<Vec<u8>>)>
-    ensures clean { D.is_clean desk.new → D.is_clean desk.old }
-    ensures served { IfOk result (λ written. D.is_clean desk.new → (this : Tables) → D.stands desk.old this →
-        AreServed (IsKeptRun D.is_open D.stands desk.old desk.new) this (map (λ connection. connection.items) connections.now) (map (λ text. text.items) written.items)) }
-    ensures in_part { IfErr result (λ fault. D.is_clean desk.new → (this : Tables) → D.stands desk.old this →
-        AreServedInPart (IsKeptRun D.is_open D.stands desk.old desk.new) this (map (λ connection. connection.items) connections.now) (map (λ text. text.items) fault.1.items)) }
+    ensures goes { Goes D.tables_view desk.old desk.new }
+    ensures served { IfOk result (λ written. Tells D.tables_view desk.old desk.new (λ this.
+        AreServed (IsKeptRun D.tables_view desk.old desk.new) this (map (λ connection. connection.items) connections.now) (map (λ text. text.items) written.items))) }
+    ensures in_part { IfErr result (λ fault. Tells D.tables_view desk.old desk.new (λ this.
+        AreServedInPart (IsKeptRun D.tables_view desk.old desk.new) this (map (λ connection. connection.items) connections.now) (map (λ text. text.items) fault.1.items))) }
 {
     isolation();
     repeats();
@@ -71,9 +72,9 @@ fn replies_to<D: Desk>(
     routes: &Routes,
     bytes: &[u8],
 ) -> Result<Vec<u8>, NoMemory>
-    ensures clean { D.is_clean desk.new → D.is_clean desk.old }
-    ensures served { IfOk result (λ text. D.is_clean desk.new → (this : Tables) → D.stands desk.old this → IsOneServed (IsKeptRun D.is_open D.stands desk.old desk.new) this bytes.now text.items) }
-    ensures cut { OnErr result (D.is_clean desk.new → (this : Tables) → D.stands desk.old this → IsOneCut (IsKeptRun D.is_open D.stands desk.old desk.new) this bytes.now) }
+    ensures goes { Goes D.tables_view desk.old desk.new }
+    ensures served { IfOk result (λ text. Tells D.tables_view desk.old desk.new (λ this. IsOneServed (IsKeptRun D.tables_view desk.old desk.new) this bytes.now text.items)) }
+    ensures cut { OnErr result (Tells D.tables_view desk.old desk.new (λ this. IsOneCut (IsKeptRun D.tables_view desk.old desk.new) this bytes.now)) }
 {
     let mut reader = bytes;
     let mut writer = Vec::new(alloc);

@@ -1,7 +1,8 @@
 //! Connections from a listener, one after the other.
 ghost use Rattle.bureau_http.specs.Served.{HasRun};
 ghost use Rattle.bureau.specs.Kept.{IsKeptRun};
-ghost use Rattle.bureau_store.specs.Tables.{Tables};
+ghost use Rattle.bureau.specs.Runs.{IsLawfulRun};
+ghost use Rattle.catalogue.specs.View.{Goes, Tells};
 
 use crate::desk::Desk;
 use crate::fault::ConnFault;
@@ -22,8 +23,8 @@ pub fn serve_listener<D: Desk>(
     listener: &TcpListener,
     connections: u32,
 )
-    ensures clean { D.is_clean desk.new → D.is_clean desk.old }
-    ensures ran { D.is_clean desk.new → (this : Tables) → D.stands desk.old this → HasRun (IsKeptRun D.is_open D.stands desk.old desk.new) this }
+    ensures goes { Goes D.tables_view desk.old desk.new }
+    ensures ran { Tells D.tables_view desk.old desk.new (λ this. HasRun (IsLawfulRun D.tables_view desk.old desk.new) this) }
 {
     for _ in 0..connections {
         serve_accepted(alloc, desk, listener);
@@ -32,8 +33,8 @@ pub fn serve_listener<D: Desk>(
 
 // Serves the next connection, if it can be accepted.
 fn serve_accepted<D: Desk>(alloc: Global, desk: &mut D, listener: &TcpListener)
-    ensures clean { D.is_clean desk.new → D.is_clean desk.old }
-    ensures ran { D.is_clean desk.new → (this : Tables) → D.stands desk.old this → HasRun (IsKeptRun D.is_open D.stands desk.old desk.new) this }
+    ensures goes { Goes D.tables_view desk.old desk.new }
+    ensures ran { Tells D.tables_view desk.old desk.new (λ this. HasRun (IsKeptRun D.tables_view desk.old desk.new) this) }
 {
     if let Ok((stream, _)) = listener.accept() {
         let _ = serve_stream(alloc, desk, &stream);
@@ -46,8 +47,8 @@ fn serve_stream<D: Desk>(
     desk: &mut D,
     stream: &TcpStream,
 ) -> Result<Served, ConnFault>
-    ensures clean { D.is_clean desk.new → D.is_clean desk.old }
-    ensures ran { D.is_clean desk.new → (this : Tables) → D.stands desk.old this → HasRun (IsKeptRun D.is_open D.stands desk.old desk.new) this }
+    ensures goes { Goes D.tables_view desk.old desk.new }
+    ensures ran { Tells D.tables_view desk.old desk.new (λ this. HasRun (IsKeptRun D.tables_view desk.old desk.new) this) }
 {
     let patience = Some(Duration::from_secs(PATIENCE));
     if stream.set_nodelay(true).is_err()

@@ -4,7 +4,8 @@ ghost use Rattle.std.specs.Io.KnownBytes.{prepend_known};
 ghost use Rattle.bureau_http.specs.Asked.{has_token, most_requests, what_of};
 ghost use Rattle.bureau_http.specs.Served.{HasRun, IsExchanged, IsServed, Serves};
 ghost use Rattle.bureau.specs.Kept.{IsKeptRun};
-ghost use Rattle.bureau_store.specs.Tables.{Tables};
+ghost use Rattle.bureau.specs.Runs.{IsLawfulRun};
+ghost use Rattle.catalogue.specs.View.{Goes, Tells};
 ghost use Rattle.requests.specs.Order.{is_bare};
 ghost use Rattle.requests.specs.Request.{closes};
 ghost use Rattle.requests.specs.Turn.{IsAt, body_in, parts_in};
@@ -64,10 +65,10 @@ pub fn serve_one<D: Desk, R: Read, W: Write>(
     reader: &mut R,
     writer: &mut W,
 ) -> Result<Served, ConnFault>
-    ensures clean { D.is_clean desk.new → D.is_clean desk.old }
-    ensures ran { D.is_clean desk.new → (this : Tables) → D.stands desk.old this → HasRun (IsKeptRun D.is_open D.stands desk.old desk.new) this }
-    ensures served { D.is_clean desk.new → (this : Tables) → D.stands desk.old this →
-        IfSome (R.remaining reader.old) (IsServed (IsKeptRun D.is_open D.stands desk.old desk.new) this (R.remaining reader.new) (W.contents writer.old) (W.contents writer.new) result) }
+    ensures goes { Goes D.tables_view desk.old desk.new }
+    ensures ran { Tells D.tables_view desk.old desk.new (λ this. HasRun (IsLawfulRun D.tables_view desk.old desk.new) this) }
+    ensures served { Tells D.tables_view desk.old desk.new (λ this.
+        IfSome (R.remaining reader.old) (IsServed (IsLawfulRun D.tables_view desk.old desk.new) this (R.remaining reader.new) (W.contents writer.old) (W.contents writer.new) result)) }
 {
     repeats();
     let routes = Routes::new(alloc)?;
@@ -81,10 +82,10 @@ pub(crate) fn serve_connection<D: Desk, R: Read, W: Write>(
     reader: &mut R,
     writer: &mut W,
 ) -> Result<Served, ConnFault>
-    ensures clean { D.is_clean desk.new → D.is_clean desk.old }
-    ensures ran { D.is_clean desk.new → (this : Tables) → D.stands desk.old this → HasRun (IsKeptRun D.is_open D.stands desk.old desk.new) this }
-    ensures served { D.is_clean desk.new → (this : Tables) → D.stands desk.old this →
-        IfSome (R.remaining reader.old) (IsServed (IsKeptRun D.is_open D.stands desk.old desk.new) this (R.remaining reader.new) (W.contents writer.old) (W.contents writer.new) result) }
+    ensures goes { Goes D.tables_view desk.old desk.new }
+    ensures ran { Tells D.tables_view desk.old desk.new (λ this. HasRun (IsKeptRun D.tables_view desk.old desk.new) this) }
+    ensures served { Tells D.tables_view desk.old desk.new (λ this.
+        IfSome (R.remaining reader.old) (IsServed (IsKeptRun D.tables_view desk.old desk.new) this (R.remaining reader.new) (W.contents writer.old) (W.contents writer.new) result)) }
 {
     repeats();
     let mut intake = Intake::new(alloc);
@@ -124,12 +125,12 @@ fn serve_next<D: Desk, R: Read, W: Write>(
     writer: &mut W,
     retries: &mut Retries,
 ) -> Result<Step, ConnFault>
-    ensures clean { D.is_clean desk.new → D.is_clean desk.old }
-    ensures ran { D.is_clean desk.new → (this : Tables) → D.stands desk.old this → HasRun (IsKeptRun D.is_open D.stands desk.old desk.new) this }
+    ensures goes { Goes D.tables_view desk.old desk.new }
+    ensures ran { Tells D.tables_view desk.old desk.new (λ this. HasRun (IsKeptRun D.tables_view desk.old desk.new) this) }
     ensures within { IfOk result (λ step. step ≡ Step.Stays → place < 10000) }
-    ensures next { D.is_clean desk.new → (this : Tables) → D.stands desk.old this →
+    ensures next { Tells D.tables_view desk.old desk.new (λ this.
         IfSome (prepend_known intake.old (R.remaining reader.old))
-        (Serves (IsKeptRun D.is_open D.stands desk.old desk.new) this place intake.new (R.remaining reader.new) (W.contents writer.old) (W.contents writer.new) result) }
+        (Serves (IsKeptRun D.tables_view desk.old desk.new) this place intake.new (R.remaining reader.new) (W.contents writer.old) (W.contents writer.new) result)) }
 {
     match read_turn(intake, reader, &mut retries.reads)? {
         Turn::CleanEnd => Ok(Step::CleanEnd),
@@ -175,10 +176,10 @@ fn serve_request<D: Desk, W: Write>(
     retries: &mut u32,
 ) -> Result<(), ConnFault>
     requires { IsAt bytes.now request.now }
-    ensures clean { D.is_clean desk.new → D.is_clean desk.old }
-    ensures exchanged { D.is_clean desk.new → (this : Tables) → D.stands desk.old this →
-        IsExchanged (IsKeptRun D.is_open D.stands desk.old desk.new) this (what_of this.callers (parts_in bytes.now request.now) (body_in bytes.now request.now)) (has_token (parts_in bytes.now request.now)) (is_bare (parts_in bytes.now request.now)) closes
-        (W.contents writer.old) (W.contents writer.new) result }
+    ensures goes { Goes D.tables_view desk.old desk.new }
+    ensures exchanged { Tells D.tables_view desk.old desk.new (λ this.
+        IsExchanged (IsKeptRun D.tables_view desk.old desk.new) this (what_of this.callers (parts_in bytes.now request.now) (body_in bytes.now request.now)) (has_token (parts_in bytes.now request.now)) (is_bare (parts_in bytes.now request.now)) closes
+        (W.contents writer.old) (W.contents writer.new) result) }
 {
     let told = answer_to(desk, routes, request, bytes);
     told.write(writer, request.is_bare(bytes), closes, retries)

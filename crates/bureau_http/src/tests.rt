@@ -23,11 +23,26 @@ struct Echo {
 }
 
 impl Desk for Echo {
-    ghost stands = { λ _ _. ⊥ };
+    ghost use Rattle.std.proofs.Common.{arith};
 
-    ghost is_clean = { λ _. Unit {0} };
+    ghost tables_view = { record {
+      stands = λ _ _. ⊥;
+      is_clean = λ _. Unit {0};
+      is_ours = λ _. Unit {0};
+      failures = λ _. 0;
+      may_leave = λ _ _. ⊥;
+      keeps = λ _ _. Unit {0};
+    } };
 
-    ghost is_open = { λ _. Unit {0} };
+    ghost tables_lawful = { record {
+      keeps = λ old new kept. record {
+        goes = record { clean = λ clean. clean; ours = λ _ _. tt; failures_rise = omega arith };
+        stays = λ ours clean this stands. stands;
+        leaves = λ this left. left;
+      };
+      itself = λ desk. tt;
+      on = λ first second third sooner later. tt;
+    } };
 
     fn caller_of(&mut self, token: &[u8]) -> Result<Option<Caller>, StoreFault> {
         if self.is_shut {

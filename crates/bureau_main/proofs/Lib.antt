@@ -1,4 +1,5 @@
 pub mod BookFacts
 pub mod LineFacts
 pub mod OutputFacts
+mod ReadFacts
 mod ReplayFacts

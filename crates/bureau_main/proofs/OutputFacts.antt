@@ -1,5 +1,6 @@
 -- What standard output gets, by what ends a run.
-use Rattle.std.proofs.Common.{◌≡◌, ℕ, ◌⊎◌, inl, inr, List, [], take, Option, Some, None, Ok, Err, IfSome, refl, ap}
+use Rattle.std.proofs.Common.{◌≡◌, ℕ, ◌⊎◌, inl, inr, List, [], length, take, Option, Some, None, Ok, Err, IfSome, refl, sym, ap, arith, subst}
+use Rattle.std.proofs.lemmas.List.{take_all}
 use Rattle.std.specs.Io.KnownBytes.{Appends}
 use Rattle.std.proofs.KnownBytes.{Keeps-refl}
 use Rattle.faults.specs.declared.any.AnyFault.{AnyFault}
@@ -9,6 +10,10 @@ use Rattle.bureau_main.specs.declared.fault.ProgramFault.{ProgramFault}
 use Rattle.bureau_main.specs.declared.fault.ProgramFault.TheVariants.{NotRead, NotWritten, Memory}
 use Rattle.bureau_main.specs.Holds.{most_read, print_of, IsMemory, IsPrinted}
 use Rattle.bureau_main.specs.ProgramFault.{of_program}
+
+-- all of a text is a front of it
+pub front_of_all : (old new : Option (List ℕ)) (text : List ℕ) → Appends old new text → AppendsFront old new text
+front_of_all old new text all = (length text, subst (Appends old new) (sym (take_all (length text) text (omega arith))) all)
 
 -- a source that the reader could give
 front_of : (input : Option (List ℕ)) → (source : List ℕ) × IfSome input (λ bytes. source ≡ take most_read bytes)

@@ -3,3 +3,4 @@ pub mod Line
 pub mod Program
 pub mod ProgramFault
 pub mod Replay
+pub mod Surroundings

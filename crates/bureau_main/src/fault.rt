@@ -1,12 +1,13 @@
 //! Why the program can't do what it is asked, and what it tells of any fault.
-ghost use Rattle.std.specs.Prelude.{◌≡◌, None};
+ghost use Rattle.std.specs.Prelude.{◌≡◌, None, OnOk};
+ghost use Rattle.std.specs.Io.KnownBytes.{Appends};
 ghost use Rattle.faults.specs.FaultText.{text_of};
 ghost use Rattle.bureau_main.specs.ProgramFault.{program_number, status_of};
 ghost use Rattle.transfer.specs.Transfer.{AppendsFront};
 
 use faults::{AnyFault, Cause, Fault, NoMemory};
 use std::alloc::AllocFailed;
-use std::io::Write;
+use std::io::{self, Write};
 use thiserror::Error;
 use transfer::{RETRIES, TransferFault, write_whole};
 
@@ -97,9 +98,32 @@ pub fn exit_status(fault: AnyFault) -> u8
     }
 }
 
-/// Tells the fault. A writer that doesn't take it is passed over.
-pub fn report<E: Write>(errors: &mut E, fault: AnyFault)
-    ensures { AppendsFront (E.contents errors.old) (E.contents errors.new) (text_of fault.number fault.place) }
+/// Tells the fault, by its whole line.
+///
+/// # Errors
+///
+/// The writer's own. It has a front part of the line then.
+pub fn report<E: Write>(errors: &mut E, fault: AnyFault) -> io::Result<()>
+    ensures whole { OnOk result (Appends (E.contents errors.old) (E.contents errors.new)
+        (text_of fault.number fault.place)) }
+    ensures front { AppendsFront (E.contents errors.old) (E.contents errors.new)
+        (text_of fault.number fault.place) }
 {
-    let _ = write_whole(errors, fault.text().as_str().as_bytes(), &mut { RETRIES });
+    tell(errors, fault.text().as_str().as_bytes())
+}
+
+/// Writes a whole text for people.
+///
+/// # Errors
+///
+/// The writer's own. It has a front part of the text then.
+#[tactic(auto, using(crate::proofs::OutputFacts::front_of_all))]
+pub fn tell<E: Write>(errors: &mut E, text: &[u8]) -> io::Result<()>
+    ensures whole { OnOk result (Appends (E.contents errors.old) (E.contents errors.new) text.now) }
+    ensures front { AppendsFront (E.contents errors.old) (E.contents errors.new) text.now }
+{
+    match write_whole(errors, text, &mut { RETRIES }) {
+        Ok(()) => Ok(()),
+        Err(error) => Err(error),
+    }
 }

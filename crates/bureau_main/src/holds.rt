@@ -7,7 +7,8 @@ ghost use Rattle.holddata.specs.BookText.{book_text};
 ghost use Rattle.holddata.specs.HoldBook.{book_of, IsLeft};
 ghost use Rattle.mcs_reader.specs.ReadingOf.{reading_of};
 ghost use Rattle.mcs_reader.specs.Unread.{IsRead};
-ghost use Rattle.bureau_main.specs.Holds.{fault_in, most_read, print_of, print_of_read, IsBookLeft, IsHoldsRun, IsMemory, IsPrinted};
+ghost use Rattle.bureau_main.specs.Holds.{fault_in, most_read, print_of, print_of_read};
+ghost use Rattle.bureau_main.specs.Holds.{IsBookLeft, IsHoldsRun, IsMemory, IsPrinted};
 ghost use Rattle.transfer.specs.Transfer.{AppendsFront, ConsumesUpTo};
 
 use crate::fault::{ProgramFault, exit_status, report};
@@ -32,12 +33,13 @@ pub fn run_holds<R: Read, W: Write, E: Write>(
     writer: &mut W,
     errors: &mut E,
 ) -> u8
-    ensures { IsHoldsRun (R.remaining reader.old) (R.remaining reader.new) (W.contents writer.old) (W.contents writer.new) (E.contents errors.old) (E.contents errors.new) result }
+    ensures { IsHoldsRun (R.remaining reader.old) (R.remaining reader.new)
+        (W.contents writer.old) (W.contents writer.new) (E.contents errors.old) (E.contents errors.new) result }
 {
     match print_holds(alloc, reader, writer) {
         Ok(()) => 0,
         Err(fault) => {
-            report(errors, fault);
+            let _ = report(errors, fault);
             exit_status(fault)
         }
     }
@@ -49,7 +51,8 @@ fn print_holds<R: Read, W: Write>(
     reader: &mut R,
     writer: &mut W,
 ) -> Result<(), AnyFault>
-    ensures printed { IsPrinted (R.remaining reader.old) (W.contents writer.old) (W.contents writer.new) (fault_in result) }
+    ensures printed { IsPrinted (R.remaining reader.old) (W.contents writer.old) (W.contents writer.new)
+        (fault_in result) }
     ensures taken { ConsumesUpTo most_read (R.remaining reader.old) (R.remaining reader.new) }
 {
     let source = read_input(alloc, reader)?;
@@ -59,7 +62,8 @@ fn print_holds<R: Read, W: Write>(
 
 // What the reader gives, up to one byte more than a source may have.
 fn read_input<R: Read>(alloc: Global, reader: &mut R) -> Result<Vec<u8>, ProgramFault>
-    ensures ok { IfOk result (λ source. IfSome (R.remaining reader.old) (λ bytes. source.items ≡ take most_read bytes)) }
+    ensures ok { IfOk result (λ source. IfSome (R.remaining reader.old)
+        (λ bytes. source.items ≡ take most_read bytes)) }
     ensures fault { IfErr result (IsRefusal ProgramFault.Memory (λ fault. fault ≡ ProgramFault.NotRead)) }
     ensures taken { ConsumesUpTo most_read (R.remaining reader.old) (R.remaining reader.new) }
 {
@@ -108,7 +112,8 @@ fn text_left(changes: Vec<HoldChange>) -> Result<Vec<u8>, ProgramFault>
 // What the statements of a source do to the holds, in their order. Only the operands that say something of a hold are
 // asked for.
 fn changes_in(alloc: Global, source: &[u8]) -> Result<Vec<HoldChange>, AnyFault>
-    ensures changes { IfOk result (λ changes. print_of source.now ≡ Ok (book_text (book_of changes.items))) }
+    ensures changes { IfOk result
+        (λ changes. print_of source.now ≡ Ok (book_text (book_of changes.items))) }
     ensures fault { IfErr result (λ fault. IsMemory fault ⊎ (print_of source.now ≡ Err fault)) }
     ensures reading { IsRead source.now (reading_of source.now) }
 {
@@ -119,8 +124,10 @@ fn changes_in(alloc: Global, source: &[u8]) -> Result<Vec<HoldChange>, AnyFault>
 // What statements do to the holds, in their order. No statement is kept, and what stands after the first that has a
 // fault as a hold is read too, since a fault of the text itself comes before it.
 fn changes_by(alloc: Global, statements: Statements) -> Result<Vec<HoldChange>, AnyFault>
-    ensures changes { IfOk result (λ changes. print_of_read statements.entry.reading ≡ Ok (book_text (book_of changes.items))) }
-    ensures fault { IfErr result (λ fault. IsMemory fault ⊎ (print_of_read statements.entry.reading ≡ Err fault)) }
+    ensures changes { IfOk result
+        (λ changes. print_of_read statements.entry.reading ≡ Ok (book_text (book_of changes.items))) }
+    ensures fault { IfErr result
+        (λ fault. IsMemory fault ⊎ (print_of_read statements.entry.reading ≡ Err fault)) }
 {
     let mut statements = statements;
     let mut changes = Vec::new(alloc);

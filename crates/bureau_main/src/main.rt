@@ -11,11 +11,14 @@ mod line;
 mod line_tests;
 mod program;
 mod replay;
+mod surroundings;
 #[cfg(test)]
 mod tests;
 
 use std::process::ExitCode;
 
 fn main(rt: HostRuntime) -> ExitCode {
-    ExitCode::from(program::run(&rt))
+    let (mut input, mut output, mut errors) = (rt.stdin(), rt.stdout(), rt.stderr());
+    let status = program::run(&rt, rt.alloc(), &mut input, &mut output, &mut errors);
+    ExitCode::from(status)
 }

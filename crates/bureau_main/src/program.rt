@@ -1,73 +1,112 @@
-//! The program over the standard streams and files.
-ghost use Rattle.std.specs.Prelude.{◌≡◌, ◌≤◌, ◌↔◌, codes, length, IfErr, IfOk, IsTrue};
+//! A run of the program: what its words ask for, over files and the three streams.
+ghost use Rattle.std.specs.Prelude.{◌≡◌, ◌↔◌, codes, map, string_bytes, IfErr, IfOk, IsTrue, Some};
 ghost use Rattle.faults.specs.Refusal.{IsRefusal};
-ghost use Rattle.bureau_main.specs.Program.{status_of_line_fault};
-ghost use Rattle.bureau_main.specs.ProgramFault.{status_of};
+ghost use Rattle.transfer.specs.Transfer.{AppendsFront};
+ghost use Rattle.bureau_main.specs.Program.{IsAnswered, IsHolds, IsReplay, IsRun};
+ghost use Rattle.bureau_main.specs.Holds.{IsTold};
+ghost use Rattle.bureau_main.specs.ProgramFault.{of_program};
+ghost use Rattle.bureau_main.specs.Surroundings.{AreContents, IsContent};
 
-use crate::fault::{ProgramFault, exit_status, report};
+use crate::fault::{ProgramFault, exit_status, report, tell};
 use crate::holds::run_holds;
 use crate::line::{Line, LineFault, line_of};
 use crate::replay::run_replay;
+use crate::surroundings::Surroundings;
 use faults::AnyFault;
-use std::fs::File;
-use std::{env, io};
-use transfer::{RETRIES, read_source, write_whole};
+use std::alloc::Global;
+use std::io::{Read, Write};
+use transfer::{RETRIES, read_source};
 
 // The exit status where the words aren't understood.
 const NOT_UNDERSTOOD: u8 = 2;
 
 /// Does what the words of the command line ask for, and returns the exit status.
-pub fn run(rt: &HostRuntime) -> u8
-    ensures { result ≤ 3 }
+///
+/// Standard input is read where `holds` has `-` for a FILE, and nowhere else. Every other FILE is opened by its name.
+/// What is made of it goes to standard output, and a fault's line to standard error.
+pub fn run<S: Surroundings, I: Read, O: Write, E: Write>(
+    surroundings: &S,
+    alloc: Global,
+    input: &mut I,
+    output: &mut O,
+    errors: &mut E,
+) -> u8
+    ensures { IsRun (S.known_words surroundings.now) (S.known_file surroundings.now)
+        (I.remaining input.old) (I.remaining input.new)
+        (record {
+          output = O.contents output.old;
+          written = O.contents output.new;
+          errors = E.contents errors.old;
+          told = E.contents errors.new;
+        }) result }
 {
-    let line = match words_of(rt) {
-        Ok(words) => line_of(rt.alloc(), words.as_slice()),
+    let line = match surroundings.words(alloc) {
+        Ok(words) => line_of(alloc, words.as_slice()),
         Err(fault) => Err(fault),
     };
-    answer(rt, line)
+    answer(surroundings, alloc, line, input, output, errors)
 }
 
 // Does what a line asks for.
-fn answer(rt: &HostRuntime, line: Result<Line, LineFault>) -> u8
-    ensures refused { IfErr line (λ fault. result ≡ status_of_line_fault fault) }
-    ensures bound { result ≤ 3 }
+fn answer<S: Surroundings, I: Read, O: Write, E: Write>(
+    surroundings: &S,
+    alloc: Global,
+    line: Result<Line, LineFault>,
+    input: &mut I,
+    output: &mut O,
+    errors: &mut E,
+) -> u8
+    ensures { IsAnswered (S.known_file surroundings.now) line
+        (I.remaining input.old) (I.remaining input.new)
+        (record {
+          output = O.contents output.old;
+          written = O.contents output.new;
+          errors = E.contents errors.old;
+          told = E.contents errors.new;
+        }) result }
 {
     match line {
-        Ok(Line::Holds { file }) => do_holds(rt, file.as_str()),
+        Ok(Line::Holds { file }) => {
+            do_holds(surroundings, alloc, file.as_str(), input, output, errors)
+        }
         Ok(
             Line::Replay {
                 cache,
                 callers,
                 files,
             },
-        ) => do_replay(rt, cache, callers.as_str(), files.as_slice()),
-        Err(LineFault::Words(text)) => explain(rt, text.as_str()),
-        Err(LineFault::Memory) => refuse(rt, AnyFault::from(ProgramFault::Memory)),
-    }
-}
-
-// The words after the program's name. No clause can say which they are.
-fn words_of(rt: &HostRuntime) -> Result<Vec<String>, LineFault> {
-    match env::args(rt) {
-        Ok(words) => Ok(words.skip(1).collect(rt.alloc())?),
-        Err(error) if error.kind() == io::ErrorKind::OutOfMemory => Err(LineFault::Memory),
-        Err(_) => {
-            let text = "error: a word of the command line is no text\n";
-            Err(LineFault::Words(String::from_str(rt.alloc(), text)?))
+        ) => {
+            let (callers, files) = (callers.as_str(), files.as_slice());
+            do_replay(surroundings, alloc, cache, callers, files, output, errors)
         }
+        Err(LineFault::Words(text)) => explain(errors, text.as_str()),
+        Err(LineFault::Memory) => refuse(errors, ProgramFault::Memory),
     }
 }
 
-fn do_holds(rt: &HostRuntime, file: &str) -> u8
-    ensures { result ≤ 3 }
+fn do_holds<S: Surroundings, I: Read, O: Write, E: Write>(
+    surroundings: &S,
+    alloc: Global,
+    file: &str,
+    input: &mut I,
+    output: &mut O,
+    errors: &mut E,
+) -> u8
+    ensures { IsHolds (S.known_file surroundings.now) file.now
+        (I.remaining input.old) (I.remaining input.new)
+        (record {
+          output = O.contents output.old;
+          written = O.contents output.new;
+          errors = E.contents errors.old;
+          told = E.contents errors.new;
+        }) result }
 {
-    let (mut output, mut errors) = (rt.stdout(), rt.stderr());
     if is_standard_input(file) {
-        return run_holds(rt.alloc(), &mut rt.stdin(), &mut output, &mut errors);
+        return run_holds(alloc, input, output, errors);
     }
-    match File::open(rt, file) {
-        Ok(mut source) => run_holds(rt.alloc(), &mut source, &mut output, &mut errors),
-        Err(_) => refuse(rt, AnyFault::from(ProgramFault::NotRead)),
+    match surroundings.open(file) {
+        Ok(mut source) => run_holds(alloc, &mut source, output, errors),
+        Err(_) => refuse(errors, ProgramFault::NotRead),
     }
 }
 
@@ -78,65 +117,96 @@ fn is_standard_input(file: &str) -> bool
     file == "-"
 }
 
-fn do_replay(rt: &HostRuntime, cache: u32, callers: &str, files: &[String]) -> u8
-    ensures { result ≤ 3 }
+// Serves the connections that stand in files, with the callers of the callers file.
+fn do_replay<S: Surroundings, O: Write, E: Write>(
+    surroundings: &S,
+    alloc: Global,
+    cache: u32,
+    callers: &str,
+    files: &[String],
+    output: &mut O,
+    errors: &mut E,
+) -> u8
+    ensures { IsReplay (S.known_file surroundings.now) callers.now (map string_bytes files.now)
+        (record {
+          output = O.contents output.old;
+          written = O.contents output.new;
+          errors = E.contents errors.old;
+          told = E.contents errors.new;
+        }) result }
 {
-    match read_files(rt, callers, files) {
+    match read_files(surroundings, alloc, callers, files) {
         Ok((callers, connections)) => {
-            let (mut output, mut errors) = (rt.stdout(), rt.stderr());
             run_replay(
-                rt.alloc(),
+                alloc,
                 callers.as_slice(),
                 connections,
                 cache,
-                &mut output,
-                &mut errors,
+                output,
+                errors,
             )
         }
-        Err(fault) => refuse(rt, AnyFault::from(fault)),
+        Err(fault) => refuse(errors, fault),
     }
 }
 
-// What stands in the callers file, and in the file of each connection. They are read in this order, with 64 retries in all.
-fn read_files(
-    rt: &HostRuntime,
+// What stands in the callers file, and in the file of each connection. They are read in this order, with 64 retries in
+// all.
+fn read_files<S: Surroundings>(
+    surroundings: &S,
+    alloc: Global,
     callers: &str,
     files: &[String],
 ) -> Result<(Vec<u8>, Vec<Vec<u8>>), ProgramFault>
-    ensures each { IfOk result (λ sources. length sources.1.items ≡ length files.now) }
+    ensures callers { IfOk result (λ read. IsContent (S.known_file surroundings.now callers.now) read.0.items) }
+    ensures files { IfOk result (λ read. AreContents (S.known_file surroundings.now) (map string_bytes files.now)
+        (map (λ file. file.items) read.1.items)) }
     ensures fault { IfErr result (IsRefusal ProgramFault.Memory (λ fault. fault ≡ ProgramFault.NotRead)) }
 {
     let mut retries = RETRIES;
-    let callers = read_file(rt, callers, &mut retries)?;
-    let mut connections = Vec::with_capacity(rt.alloc(), files.len())?;
+    let callers = read_file(surroundings, alloc, callers, &mut retries)?;
+    let mut connections = Vec::with_capacity(alloc, files.len())?;
     for file in files {
-        connections.push(read_file(rt, file.as_str(), &mut retries)?)?;
+        connections.push(read_file(surroundings, alloc, file.as_str(), &mut retries)?)?;
     }
     Ok((callers, connections))
 }
 
-// All that stands in a file.
-fn read_file(rt: &HostRuntime, file: &str, retries: &mut u32) -> Result<Vec<u8>, ProgramFault>
-    ensures { IfErr result (IsRefusal ProgramFault.Memory (λ fault. fault ≡ ProgramFault.NotRead)) }
+// All that stands in a file, in room of its own size.
+fn read_file<S: Surroundings>(
+    surroundings: &S,
+    alloc: Global,
+    name: &str,
+    retries: &mut u32,
+) -> Result<Vec<u8>, ProgramFault>
+    ensures bytes { IfOk result (λ bytes. IsContent (S.known_file surroundings.now name.now) bytes.items) }
+    ensures fault { IfErr result (IsRefusal ProgramFault.Memory (λ fault. fault ≡ ProgramFault.NotRead)) }
 {
-    match File::open(rt, file) {
-        Ok(mut source) => Ok(read_source(rt.alloc(), &mut source, usize::MAX, retries)?),
+    match surroundings.open(name) {
+        Ok(mut source) => {
+            let mut bytes = read_source(alloc, &mut source, usize::MAX, retries)?;
+            bytes.shrink_to_fit();
+            Ok(bytes)
+        }
         Err(_) => Err(ProgramFault::NotRead),
     }
 }
 
 // Tells a fault on standard error, and gives the exit status.
-fn refuse(rt: &HostRuntime, fault: AnyFault) -> u8
-    ensures { result ≡ status_of fault.cause }
+fn refuse<E: Write>(errors: &mut E, fault: ProgramFault) -> u8
+    ensures told { IsTold (Some (of_program fault)) (E.contents errors.old) (E.contents errors.new) }
+    ensures status { result ≡ 3 }
 {
-    report(&mut rt.stderr(), fault);
+    let fault = AnyFault::from(fault);
+    let _ = report(errors, fault);
     exit_status(fault)
 }
 
 // Tells why the words of the command line name no command that could be done.
-fn explain(rt: &HostRuntime, text: &str) -> u8
-    ensures { result ≡ 2 }
+fn explain<E: Write>(errors: &mut E, text: &str) -> u8
+    ensures told { AppendsFront (E.contents errors.old) (E.contents errors.new) text.now }
+    ensures status { result ≡ 2 }
 {
-    let _ = write_whole(&mut rt.stderr(), text.as_bytes(), &mut { RETRIES });
+    let _ = tell(errors, text.as_bytes());
     NOT_UNDERSTOOD
 }

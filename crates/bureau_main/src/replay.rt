@@ -25,12 +25,13 @@ pub fn run_replay<W: Write, E: Write>(
     writer: &mut W,
     errors: &mut E,
 ) -> u8
-    ensures { IsReplayRun callers.now (map (λ file. file.items) files.items) (W.contents writer.old) (W.contents writer.new) (E.contents errors.old) (E.contents errors.new) result }
+    ensures { IsReplayRun callers.now (map (λ file. file.items) files.items)
+        (W.contents writer.old) (W.contents writer.new) (E.contents errors.old) (E.contents errors.new) result }
 {
     match print_replies(alloc, callers, files, writer) {
         Ok(()) => 0,
         Err(fault) => {
-            report(errors, fault);
+            let _ = report(errors, fault);
             exit_status(fault)
         }
     }
@@ -43,7 +44,8 @@ fn print_replies<W: Write>(
     files: Vec<Vec<u8>>,
     writer: &mut W,
 ) -> Result<(), AnyFault>
-    ensures { IsReplayOutput (fault_in result) callers.now (map (λ file. file.items) files.items) (W.contents writer.old) (W.contents writer.new) }
+    ensures { IsReplayOutput (fault_in result) callers.now (map (λ file. file.items) files.items)
+        (W.contents writer.old) (W.contents writer.new) }
 {
     let written = replay(alloc, callers, files)?;
     Ok(write_texts(writer, written.as_slice())?)
@@ -51,9 +53,11 @@ fn print_replies<W: Write>(
 
 // Writes whole texts, one after the other.
 fn write_texts<W: Write>(writer: &mut W, texts: &[Vec<u8>]) -> Result<(), ProgramFault>
-    ensures ok { OnOk result (Appends (W.contents writer.old) (W.contents writer.new) (joined (map (λ text. text.items) texts.now))) }
+    ensures ok { OnOk result (Appends (W.contents writer.old) (W.contents writer.new)
+        (joined (map (λ text. text.items) texts.now))) }
     ensures fault { IfErr result (λ fault. fault ≡ ProgramFault.NotWritten) }
-    ensures err { OnErr result (AppendsFront (W.contents writer.old) (W.contents writer.new) (joined (map (λ text. text.items) texts.now))) }
+    ensures err { OnErr result (AppendsFront (W.contents writer.old) (W.contents writer.new)
+        (joined (map (λ text. text.items) texts.now))) }
 {
     let mut retries = RETRIES;
     for text in texts {

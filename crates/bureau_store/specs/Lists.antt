@@ -1,11 +1,12 @@
 -- What a store in lists keeps. Its tables, which contracts speak of, are `tables_of`.
 use Rattle.std.specs.Prelude.{◌≡◌, ℕ, List, [], unwrap_or, refl}
-use Rattle.std.proofs.Common.{◌∙◌, arith, ap}
+use Rattle.std.proofs.Common.{◌∙◌, arith, ap, subst, sym}
 use Rattle.std.specs.Map.{lookup}
 use Rattle.std.specs.Str.{bytes_eq}
 use Rattle.catalogue.specs.Content.{Content, IsInOrder}
-use Rattle.catalogue.specs.Published.{Keeps}
+use Rattle.catalogue.specs.View.{IsLawful, IsOpen, View, part_lawful, part_of}
 use Rattle.bureau_store.specs.Effect.{Effect, received_after, zones_after}
+use Rattle.bureau_store.specs.Store.{AreOfOneStore, Update}
 use Rattle.bureau_store.specs.Tables.{AreInOrder, LastChange, Tables, Zones, no_change}
 use Rattle.bureau_store.specs.declared.caller.Caller.{Caller}
 use Rattle.bureau_store.specs.declared.caller.Caller.TheVariants.{Publisher, Client}
@@ -55,47 +56,52 @@ client_after effect last client = record {
 
 -- ---- how a store in lists is looked at: clean and open always, failing and outgrown never, and in order, as each of them is
 
-abbrev pub Always : Lists → Type 0
-Always lists = Unit {0}
-
 pub record IsOurs (lists : Lists) : Type 0 where
   pub in_order : AreInOrder (tables_of lists)
 
-abbrev pub never : Lists → ℕ
-never lists = 0
-
-abbrev pub NeverOutgrown : Lists → Lists → Type 0
-NeverOutgrown old new = ⊥
-
-abbrev pub Same : Lists → Lists → Type 0
-Same old new = new ≡ old
-
-pub lists_keep_by : {Held : Type 0} (held : Lists → Held) (old new : Lists) → Same old new → Keeps Always IsOurs Always never held old new
-lists_keep_by held old new same = record {
-  clean = λ h. h;
-  ours = λ h _. rw same h;
-  still_open = λ h. h;
-  failures_rise = omega arith;
-  stays = λ ours clean this stands is_open. ap held same ∙ stands is_open;
+abbrev pub lists_view : View Lists Tables
+lists_view = record {
+  stands = λ lists this. this ≡ tables_of lists;
+  is_clean = λ lists. Unit {0};
+  is_ours = IsOurs;
+  failures = λ lists. 0;
+  may_leave = λ lists left. left ≡ tables_of lists;
+  keeps = λ old new. new ≡ old;
 }
 
-pub lists_keep : (old new : Lists) → Same old new → Keeps Always IsOurs Always never (λ lists. lists.content) old new
-lists_keep = lists_keep_by (λ lists. lists.content)
+abbrev pub NeverOutgrown : Update → Lists → Lists → Type 0
+NeverOutgrown update old new = ⊥
 
-pub lists_keep_tables : (old new : Lists) → Same old new → Keeps Always IsOurs Always never tables_of old new
-lists_keep_tables = lists_keep_by tables_of
+pub lists_lawful : IsLawful lists_view
+lists_lawful = record {
+  keeps = λ old new same. record {
+    goes = record { clean = λ h. h; ours = λ h _. rw same h; failures_rise = omega arith };
+    stays = λ ours clean this stands. stands ∙ sym (ap tables_of same);
+    leaves = λ this leaves. leaves ∙ ap tables_of same;
+  };
+  itself = λ lists. refl;
+  on = λ first second third a b. b ∙ a;
+}
 
-pub lists_stay : (lists : Lists) → Same lists lists
-lists_stay lists = refl
+pub lists_in_order : (lists : Lists) (this : Tables) → IsOurs lists → IsOpen lists_view lists → this ≡ tables_of lists → AreInOrder this
+lists_in_order lists this ours is_open is = subst AreInOrder (sym is) ours.in_order
 
-pub lists_go_on : (first second third : Lists) → Same first second → Same second third → Same first third
-lists_go_on first second third a b = b ∙ a
+-- ---- and with what is published alone
 
-pub lists_content : (lists : Lists) → (tables_of lists).content ≡ lists.content
-lists_content lists = refl
+abbrev pub lists_content_view : View Lists Content
+lists_content_view = part_of (λ tables. tables.content) lists_view
 
-pub lists_in_order : (lists : Lists) → IsOurs lists → AreInOrder (tables_of lists)
-lists_in_order lists ours = ours.in_order
+pub lists_content_lawful : IsLawful lists_content_view
+lists_content_lawful = part_lawful (λ tables. tables.content) lists_view lists_lawful
 
-pub lists_content_in_order : (lists : Lists) → IsOurs lists → IsInOrder lists.content
-lists_content_in_order lists ours = ours.in_order.content
+pub lists_show_content : AreOfOneStore lists_content_view lists_view
+lists_show_content = record {
+  keeps = λ old new same. same;
+  clean = λ lists clean. clean;
+  ours = λ lists ours. ours;
+  failures = λ lists. refl;
+  stands = λ lists this stands. (this, stands, refl);
+}
+
+pub lists_content_in_order : (lists : Lists) (this : Content) → IsOurs lists → IsOpen lists_content_view lists → lists_content_view.stands lists this → IsInOrder this
+lists_content_in_order lists this ours is_open stands = subst IsInOrder (sym (ap (λ tables. tables.content) stands.1) ∙ stands.2) ours.in_order.content

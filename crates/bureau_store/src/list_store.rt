@@ -1,5 +1,5 @@
 //! The store in lists.
-ghost use Rattle.std.specs.Prelude.{◌≡◌, length, map, option_copied, option_map, IfOk, IfErr, IfSome, OnOk, OnErr};
+ghost use Rattle.std.specs.Prelude.{◌≡◌, length, map, option_copied, option_map, IfOk, IfErr, IfSome, OnOk, OnErr, is_some, false};
 ghost use Rattle.std.specs.Cmp.Lexicographic.{slice_cmp};
 ghost use Rattle.std.specs.List.Sorted.{IsStrictlySortedBy};
 ghost use Rattle.std.specs.Ordering.{nat_cmp};
@@ -118,6 +118,15 @@ impl ListStore {
         }
     }
 
+    fn zone_count_of(&self, client: &Id) -> u64
+        ensures { result ≡ length (client_in self.now.clients client.now).zones }
+    {
+        match client_of(&self.by_name, client) {
+            Some(client) => client.zones().len() as u64,
+            None => 0,
+        }
+    }
+
     fn zone_at(&self, client: &Id, zone: &Id) -> Option<&Zone>
         ensures { option_copied result ≡ zone_named zone.now (client_in self.now.clients client.now).zones }
     {
@@ -187,11 +196,17 @@ impl ListStore {
 
 impl Store for ListStore {
     ghost use Rattle.bureau_store.specs.Lists.{NeverOutgrown, tables_of};
-    ghost use Rattle.bureau_store.specs.Lists.{lists_content, lists_in_order, lists_keep_tables};
+    ghost use Rattle.bureau_store.specs.Lists.{lists_in_order, lists_lawful, lists_show_content, lists_view};
 
-    ghost tables = { tables_of };
+    ghost tables_view = { lists_view };
 
     ghost outgrown = { NeverOutgrown };
+
+    fn device_failed(&self) -> bool
+        ensures { result ≡ false }
+    {
+        false
+    }
 
     fn caller_of(&mut self, token: &[u8]) -> Result<Option<Caller>, StoreFault>
         ensures same { self.new ≡ self.old }
@@ -232,6 +247,22 @@ impl Store for ListStore {
         ensures memory { IfErr result (λ fault. fault ≡ Memory) }
     {
         Ok(self.zones_of(client)?)
+    }
+
+    fn zone_count(&mut self, client: &Id) -> Result<u64, StoreFault>
+        ensures same { self.new ≡ self.old }
+        ensures count { IfOk result (λ count. count ≡ length ((tables_of self.old).zones client.now)) }
+        ensures memory { IfErr result (λ fault. fault ≡ Memory) }
+    {
+        Ok(self.zone_count_of(client))
+    }
+
+    fn has_zone(&mut self, client: &Id, zone: &Id) -> Result<bool, StoreFault>
+        ensures same { self.new ≡ self.old }
+        ensures found { IfOk result (λ found. found ≡ is_some (zone_named zone.now ((tables_of self.old).zones client.now))) }
+        ensures memory { IfErr result (λ fault. fault ≡ Memory) }
+    {
+        Ok(self.zone_at(client, zone).is_some())
     }
 
     fn zone(&mut self, client: &Id, zone: &Id) -> Result<Option<Vec<ZoneRow>>, StoreFault>
@@ -364,9 +395,9 @@ impl Store for ListStore {
         Ok(self.make(client, Put::Patterns(*zone, patterns), number, reply)?)
     }
 
-    ghost keeps_tables = { lists_keep_tables };
+    ghost tables_lawful = { lists_lawful };
 
-    ghost has_content = { lists_content };
+    ghost shows_content = { lists_show_content };
 
-    ghost in_order = { lists_in_order };
+    ghost tables_in_order = { lists_in_order };
 }

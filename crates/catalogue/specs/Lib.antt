@@ -8,5 +8,5 @@ pub mod CatFault
 pub mod Reading
 pub mod Asked
 pub mod Opened
-pub mod Published
+pub mod View
 pub mod ListPublished

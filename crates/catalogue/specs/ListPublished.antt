@@ -1,41 +1,38 @@
 -- The published content in lists.
 use Rattle.std.specs.Prelude.{◌≡◌, ℕ, List, [], filter, Option, Some, None, refl}
-use Rattle.std.proofs.Common.{◌∙◌, arith}
+use Rattle.std.proofs.Common.{◌∙◌, arith, subst}
 use Rattle.std.specs.BTreeMap.{BTreeMap, get}
 use Rattle.std.specs.Global.{Vec}
 use Rattle.std.specs.Map.{keys_of, values_of}
 use Rattle.catalogue.specs.declared.sysmod.Sysmod.{Sysmod}
 use Rattle.catalogue.specs.Content.{Content, IsInOrder, ids_in, sup_names}
 use Rattle.catalogue.specs.Ids.{id_cmp}
-use Rattle.catalogue.specs.Published.{Keeps}
+use Rattle.catalogue.specs.View.{IsLawful, IsOpen, View}
 
--- lists hold what was published always, and fail never; what they hold is in order
-abbrev pub Always : Content → Type 0
-Always content = Unit {0}
-
-abbrev pub never : Content → ℕ
-never content = 0
-
-abbrev pub Same : Content → Content → Type 0
-Same old new = new ≡ old
-
-pub lists_keep : (old new : Content) → Same old new → Keeps Always IsInOrder Always never (λ content. content) old new
-lists_keep old new same = record {
-  clean = λ h. h;
-  ours = λ h _. rw same h;
-  still_open = λ h. h;
-  failures_rise = omega arith;
-  stays = λ ours clean this stands is_open. same ∙ stands is_open;
+-- Lists hold what was published always, and fail never; what they hold is in order, and is all that a stop may leave.
+abbrev pub lists_view : View Content Content
+lists_view = record {
+  stands = λ content this. content ≡ this;
+  is_clean = λ content. Unit {0};
+  is_ours = IsInOrder;
+  failures = λ content. 0;
+  may_leave = λ content this. this ≡ content;
+  keeps = λ old new. new ≡ old;
 }
 
-pub lists_stay : (content : Content) → Same content content
-lists_stay content = refl
+pub lists_lawful : IsLawful lists_view
+lists_lawful = record {
+  keeps = λ old new same. record {
+    goes = record { clean = λ h. h; ours = λ h _. rw same h; failures_rise = omega arith };
+    stays = λ ours clean this stands. same ∙ stands;
+    leaves = λ this leaves. leaves ∙ same;
+  };
+  itself = λ content. refl;
+  on = λ first second third a b. b ∙ a;
+}
 
-pub lists_go_on : (first second third : Content) → Same first second → Same second third → Same first third
-lists_go_on first second third a b = b ∙ a
-
-pub lists_in_order : (content : Content) → IsInOrder content → IsInOrder content
-lists_in_order content ordered = ordered
+pub lists_in_order : (content this : Content) → IsInOrder content → IsOpen lists_view content → content ≡ this → IsInOrder this
+lists_in_order content this ordered is_open is = subst IsInOrder is ordered
 
 -- ---- No part of what is promised: how the lists are kept.
 

@@ -113,20 +113,10 @@ impl ListPublished {
 }
 
 impl Published for ListPublished {
-    ghost use Rattle.catalogue.specs.ListPublished.{Always, Same, never, lists_in_order, lists_keep, lists_stay, lists_go_on};
+    ghost use Rattle.catalogue.specs.ListPublished.{lists_in_order, lists_lawful, lists_view};
     ghost use Rattle.catalogue.specs.Content.{IsInOrder};
 
-    ghost content = { λ lists. lists };
-
-    ghost is_clean = { Always };
-
-    ghost is_ours = { IsInOrder };
-
-    ghost is_open = { Always };
-
-    ghost failures = { never };
-
-    ghost keeps = { Same };
+    ghost content_view = { lists_view };
 
     fn ids(&mut self) -> Result<Vec<Id>, SourceFault>
         ensures same { self.new ≡ self.old }
@@ -173,13 +163,9 @@ impl Published for ListPublished {
         Ok(self.book.holds_on(id)?)
     }
 
+    ghost lawful = { lists_lawful };
+
     ghost in_order = { lists_in_order };
-
-    ghost keeps_content = { lists_keep };
-
-    ghost keeps_itself = { lists_stay };
-
-    ghost keeps_on = { lists_go_on };
 }
 
 // The ids of all records.

@@ -5,7 +5,8 @@ ghost use Rattle.holddata.specs.HoldChange.{key_of};
 ghost use Rattle.catalogue.specs.declared.change.Change.TheVariants.{Whole};
 ghost use Rattle.catalogue.specs.Content.{Content, record_of};
 ghost use Rattle.catalogue.specs.Ids.{Ascend, put_among};
-ghost use Rattle.catalogue.specs.Published.{FailsWithCause, StaysOpen, Tells};
+ghost use Rattle.catalogue.specs.View.{MayAsk, Tells};
+ghost use Rattle.catalogue.specs.declared.fault.SourceFault.TheVariants.{Device};
 ghost use Rattle.catalogue.specs.Touched.{IsTouched, TouchesAll, sup_of, touched_by, touched_by_key, touched_ids};
 
 use crate::ids::listed;
@@ -27,15 +28,13 @@ pub fn touched<P: Published>(
     source: &mut P,
     changes: &[Change],
 ) -> Result<Vec<Id>, SourceFault>
-    ensures keeps { P.keeps source.old source.new }
-    ensures touched { IfOk result (λ ids. Tells P.is_clean P.is_ours P.is_open P.content source.old source.new
+    ensures asks { MayAsk P.content_view Device source.old source.new result }
+    ensures touched { IfOk result (λ ids. Tells P.content_view source.old source.new
         (λ content. ids.items ≡ touched_ids content changes.now)) }
     ensures ascend { IfOk result (λ ids. Ascend ids.items) }
-    ensures cause { FailsWithCause P.is_open P.failures source.old source.new result }
-    ensures stays_open { StaysOpen P.is_open source.old source.new result }
 
     // They are all that is touched, and nothing else.
-    ensures each { IfOk result (λ ids. Tells P.is_clean P.is_ours P.is_open P.content source.old source.new
+    ensures each { IfOk result (λ ids. Tells P.content_view source.old source.new
         (λ content. (id : List ℕ) → Contains ids.items id ↔ IsTouched content changes.now id)) }
 
     // Of every other id the publication leaves the record, the direct superseders and the reasons of its
@@ -55,11 +54,9 @@ fn touch_by<P: Published>(
     source: &mut P,
     change: &Change,
 ) -> Result<(), SourceFault>
-    ensures keeps { P.keeps source.old source.new }
-    ensures touched { OnOk result (Tells P.is_clean P.is_ours P.is_open P.content source.old source.new
+    ensures asks { MayAsk P.content_view Device source.old source.new result }
+    ensures touched { OnOk result (Tells P.content_view source.old source.new
         (λ content. ids.new.keys ≡ put_among ids.old.keys (touched_by content change.now))) }
-    ensures cause { FailsWithCause P.is_open P.failures source.old source.new result }
-    ensures stays_open { StaysOpen P.is_open source.old source.new result }
 {
     match change {
         Change::Whole(sysmod) => {

@@ -1,7 +1,8 @@
 //! Who gives verdicts.
 ghost use Rattle.std.specs.Prelude.{◌≡◌, IfOk, map};
 ghost use Rattle.catalogue.specs.Content.{Content, IsInOrder};
-ghost use Rattle.catalogue.specs.Published.{FailsWithCause, StaysOpen, Tells};
+ghost use Rattle.catalogue.specs.View.{MayAsk, Tells};
+ghost use Rattle.catalogue.specs.declared.fault.SourceFault.TheVariants.{Device};
 ghost use Rattle.catalogue.specs.Touched.{AgreeOutside};
 ghost use Rattle.chains.specs.Judge as judge;
 ghost use Rattle.chains.specs.Verdicts.{verdict_of};
@@ -31,13 +32,11 @@ pub trait Judge<P: Published> {
         zone: &Zone,
         id: &Id,
     ) -> Result<Verdict, SourceFault>
-        ensures keeps { P.keeps source.old source.new }
-        ensures verdict { IfOk result (λ verdict. Tells P.is_clean P.is_ours P.is_open P.content source.old source.new
+        ensures asks { MayAsk P.content_view Device source.old source.new result }
+        ensures verdict { IfOk result (λ verdict. Tells P.content_view source.old source.new
             (λ content. is_right self.old content → judge.judged_by verdict ≡ verdict_of content zone.now id.now)) }
-        ensures right { Tells P.is_clean P.is_ours P.is_open P.content source.old source.new
-            (λ content. is_right self.old content → is_right self.new content) }
-        ensures cause { FailsWithCause P.is_open P.failures source.old source.new result }
-        ensures stays_open { StaysOpen P.is_open source.old source.new result };
+        ensures right { Tells P.content_view source.old source.new
+            (λ content. is_right self.old content → is_right self.new content) };
 
     /// Forgets what is kept of these SYSMODs. It takes no memory.
     ///
@@ -60,13 +59,11 @@ pub trait Judge<P: Published> {
         zone: &Zone,
         ids: &[Id],
     ) -> Result<Vec<Status>, SourceFault>
-        ensures keeps { P.keeps source.old source.new }
-        ensures statuses { IfOk result (λ statuses. Tells P.is_clean P.is_ours P.is_open P.content source.old source.new
+        ensures asks { MayAsk P.content_view Device source.old source.new result }
+        ensures statuses { IfOk result (λ statuses. Tells P.content_view source.old source.new
             (λ content. is_right self.old content → statuses.items ≡ map (λ id. judge.status_of (verdict_of content zone.now id)) ids.now)) }
-        ensures right { Tells P.is_clean P.is_ours P.is_open P.content source.old source.new
+        ensures right { Tells P.content_view source.old source.new
             (λ content. is_right self.old content → is_right self.new content) }
-        ensures cause { FailsWithCause P.is_open P.failures source.old source.new result }
-        ensures stays_open { StaysOpen P.is_open source.old source.new result }
     {
         let mut statuses = Vec::with_capacity(alloc, ids.len())?;
         for id in ids {

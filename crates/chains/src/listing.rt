@@ -2,7 +2,8 @@
 ghost use Rattle.std.specs.Prelude.{◌≡◌, ◌++◌, length, map, IfOk, OnOk};
 ghost use Rattle.std.specs.List.{list_any};
 ghost use Rattle.zone_lists.specs.Installed.{is_installed};
-ghost use Rattle.catalogue.specs.Published.{FailsWithCause, StaysOpen, Tells};
+ghost use Rattle.catalogue.specs.View.{MayAsk, Tells};
+ghost use Rattle.catalogue.specs.declared.fault.SourceFault.TheVariants.{Device};
 ghost use Rattle.chains.specs.Sights.{reasons_in, sight_from, sight_of, unseen};
 
 use catalogue::{Ids, Published, SourceFault, Sysmod};
@@ -66,12 +67,10 @@ pub(crate) fn entries_of<P: Published>(
     zone: &Zone,
     ids: &[Id],
 ) -> Result<Vec<Entry>, SourceFault>
-    ensures keeps { P.keeps source.old source.new }
-    ensures entries { IfOk result (λ entries. Tells P.is_clean P.is_ours P.is_open P.content source.old source.new
+    ensures asks { MayAsk P.content_view Device source.old source.new result }
+    ensures entries { IfOk result (λ entries. Tells P.content_view source.old source.new
         (λ content. entries.items ≡ map (sight_of content zone.now) ids.now)) }
     ensures len { IfOk result (λ entries. length entries.items ≡ length ids.now) }
-    ensures cause { FailsWithCause P.is_open P.failures source.old source.new result }
-    ensures stays_open { StaysOpen P.is_open source.old source.new result }
 {
     let mut entries = Vec::with_capacity(alloc, ids.len())?;
     for id in ids {
@@ -86,11 +85,9 @@ fn entry_of<P: Published>(
     zone: &Zone,
     id: &Id,
 ) -> Result<Entry, SourceFault>
-    ensures keeps { P.keeps source.old source.new }
-    ensures entry { IfOk result (λ entry. Tells P.is_clean P.is_ours P.is_open P.content source.old source.new
+    ensures asks { MayAsk P.content_view Device source.old source.new result }
+    ensures entry { IfOk result (λ entry. Tells P.content_view source.old source.new
         (λ content. entry ≡ sight_of content zone.now id.now)) }
-    ensures cause { FailsWithCause P.is_open P.failures source.old source.new result }
-    ensures stays_open { StaysOpen P.is_open source.old source.new result }
 {
     let sysmod = source.sysmod(id)?;
     let holds = source.holds_on(id)?;

@@ -4,8 +4,8 @@ ghost use Rattle.holddata.specs.HoldKey.{kind_name};
 
 use mcs_reader::Id;
 
-/// Why a SYSMOD is held (IBM z/OS SMP/E Reference, `++HOLD`). The kinds are ordered as they stand.
-#[derive(Clone, Copy, Debug, PartialEq, Eq, PartialOrd, Ord, Hash)]
+/// Why a SYSMOD is held (IBM z/OS SMP/E Reference, `++HOLD`).
+#[derive(Clone, Copy, Debug, PartialEq, Eq, Hash)]
 pub enum Kind {
     /// An APAR reports an error in the SYSMOD.
     ErrorHold,
@@ -31,8 +31,8 @@ impl Kind {
     }
 }
 
-/// What a hold is known by. Keys are ordered by SYSMOD, then by kind, then by reason.
-#[derive(Clone, Copy, Debug, PartialEq, Eq, PartialOrd, Ord, Hash)]
+/// What a hold is known by. A book has its holds in the order of SYSMOD, kind and reason.
+#[derive(Clone, Copy, Debug, PartialEq, Eq, Hash)]
 pub struct HoldKey {
     /// The SYSMOD that is held.
     pub sysmod: Id,

@@ -1,5 +1,5 @@
 -- In which order the rows of the reports stand.
-use Rattle.std.proofs.Common.{◌≡◌, ◌∙◌, ℕ, List, [], ◌∷◌, ◌++◌, Bool, true, false, Option, Some, None, filter, map, not, refl, ap}
+use Rattle.std.proofs.Common.{◌≡◌, ◌∙◌, ℕ, List, [], ◌∷◌, ◌++◌, Option, Some, filter, map, not, refl, ap}
 use Rattle.std.specs.BTreeSet.{insert_key}
 use Rattle.std.specs.Cmp.{IsTotalOrder}
 use Rattle.std.specs.Cmp.Lexicographic.{nat_list_cmp_total, options_total, slice_cmp}
@@ -20,7 +20,6 @@ use Rattle.supersede.specs.Giving.{gives, is_candidate, is_there}
 use Rattle.reports.specs.ErrRows.{ErrRowsAscend, by_fmid, err_row, err_row_cmp, err_rows_of_hold, hold_cmp}
 use Rattle.reports.specs.MissingRows.{Missing, MissingRowsAscend, by_category, categories_asked, is_missing, missing_cmp, missing_row, missing_row_cmp, missing_rows_of_category, resolvers_by, resolvers_of}
 use Rattle.reports.specs.Resolvers.{StandInOrder, candidates_for, each_or_none}
-use Rattle.reports.specs.declared.rows.ErrRow.{ErrRow}
 
 -- ---- lists in order
 

@@ -2,7 +2,8 @@
 ghost use Rattle.std.specs.Prelude.{◌≡◌, IfOk, false};
 ghost use Rattle.serde_json.specs.View.{items_view, view};
 ghost use Rattle.serde_json.specs.Written.{compact_text, has_float};
-ghost use Rattle.catalogue.specs.Published.{FailsWithCause, StaysOpen, Tells};
+ghost use Rattle.catalogue.specs.View.{MayAsk, Tells};
+ghost use Rattle.catalogue.specs.declared.fault.SourceFault.TheVariants.{Device};
 ghost use Rattle.chains.specs.Judge.{judged_by};
 ghost use Rattle.reports.specs.ChainText.{chain_data, chain_text_of, good_data, held_data, lack_data, member_with, plan_items, reasons_in, texts};
 
@@ -30,11 +31,9 @@ pub fn plan_json<P: Published>(
     sysmod: &Id,
     verdict: &Verdict,
 ) -> Result<Vec<u8>, SourceFault>
-    ensures keeps { P.keeps source.old source.new }
-    ensures text { IfOk result (λ text. Tells P.is_clean P.is_ours P.is_open P.content source.old source.new
+    ensures asks { MayAsk P.content_view Device source.old source.new result }
+    ensures text { IfOk result (λ text. Tells P.content_view source.old source.new
         (λ content. text.items ≡ chain_text_of content zone.now sysmod.now (judged_by verdict.now))) }
-    ensures cause { FailsWithCause P.is_open P.failures source.old source.new result }
-    ensures stays_open { StaysOpen P.is_open source.old source.new result }
 {
     let value = verdict_value(alloc, source, zone, sysmod, verdict)?;
     Ok(compact(alloc, &value)?)
@@ -48,11 +47,9 @@ fn verdict_value<P: Published>(
     sysmod: &Id,
     verdict: &Verdict,
 ) -> Result<Value, SourceFault>
-    ensures keeps { P.keeps source.old source.new }
-    ensures value { IfOk result (λ value. Tells P.is_clean P.is_ours P.is_open P.content source.old source.new
+    ensures asks { MayAsk P.content_view Device source.old source.new result }
+    ensures value { IfOk result (λ value. Tells P.content_view source.old source.new
         (λ content. view value ≡ chain_data content zone.now sysmod.now (judged_by verdict.now))) }
-    ensures cause { FailsWithCause P.is_open P.failures source.old source.new result }
-    ensures stays_open { StaysOpen P.is_open source.old source.new result }
 {
     match verdict {
         Verdict::Good(plan) => {
@@ -109,11 +106,9 @@ fn plan_values<P: Published>(
     source: &mut P,
     plan: &[Id],
 ) -> Result<Vec<Value>, SourceFault>
-    ensures keeps { P.keeps source.old source.new }
-    ensures members { IfOk result (λ values. Tells P.is_clean P.is_ours P.is_open P.content source.old source.new
+    ensures asks { MayAsk P.content_view Device source.old source.new result }
+    ensures members { IfOk result (λ values. Tells P.content_view source.old source.new
         (λ content. items_view values.items ≡ plan_items content plan.now)) }
-    ensures cause { FailsWithCause P.is_open P.failures source.old source.new result }
-    ensures stays_open { StaysOpen P.is_open source.old source.new result }
 {
     let mut values = Vec::new(alloc);
     for id in plan {

@@ -2,7 +2,8 @@
 ghost use Rattle.std.specs.Prelude.{◌≡◌, ◌++◌, true, ℕ, List, map, option_map, IfOk, IfSome, OnOk};
 ghost use Rattle.catalogue.specs.Content.{ids_of};
 ghost use Rattle.catalogue.specs.Ids.{Ascend, in_order};
-ghost use Rattle.catalogue.specs.Published.{FailsWithCause, StaysOpen, Tells};
+ghost use Rattle.catalogue.specs.View.{MayAsk, Tells};
+ghost use Rattle.catalogue.specs.declared.fault.SourceFault.TheVariants.{Device};
 ghost use Rattle.supersede.specs.Reach.{has};
 ghost use Rattle.chains.specs.declared.verdict.Status.{Status};
 ghost use Rattle.reports.specs.ErrRows.{ErrRowsAscend, err_rows_of};
@@ -54,13 +55,11 @@ pub fn err_rows<P: Published, J: Judge<P>>(
     holds: &[Hold],
 ) -> Result<Vec<ErrRow>, SourceFault>
     requires { Ascend received.now }
-    ensures keeps { P.keeps source.old source.new }
-    ensures rows { IfOk result (λ rows. Tells P.is_clean P.is_ours P.is_open P.content source.old source.new
+    ensures asks { MayAsk P.content_view Device source.old source.new result }
+    ensures rows { IfOk result (λ rows. Tells P.content_view source.old source.new
         (λ content. J.is_right judge.old content → rows.items ≡ err_rows_of content zone.now received.now holds.now)) }
-    ensures right { Tells P.is_clean P.is_ours P.is_open P.content source.old source.new
+    ensures right { Tells P.content_view source.old source.new
         (λ content. J.is_right judge.old content → J.is_right judge.new content) }
-    ensures cause { FailsWithCause P.is_open P.failures source.old source.new result }
-    ensures stays_open { StaysOpen P.is_open source.old source.new result }
 
     // The rows stand in the report's order.
     ensures order { ErrRowsAscend }
@@ -95,11 +94,9 @@ fn errors_of<P: Published>(
     zone: &Zone,
     held: &[ErrorHeld],
 ) -> Result<Vec<ErrorFound>, SourceFault>
-    ensures keeps { P.keeps source.old source.new }
-    ensures found { IfOk result (λ found. Tells P.is_clean P.is_ours P.is_open P.content source.old source.new
+    ensures asks { MayAsk P.content_view Device source.old source.new result }
+    ensures found { IfOk result (λ found. Tells P.content_view source.old source.new
         (λ content. found.items ≡ errors_found content zone.now held.now)) }
-    ensures cause { FailsWithCause P.is_open P.failures source.old source.new result }
-    ensures stays_open { StaysOpen P.is_open source.old source.new result }
 {
     let catalogued = source.ids()?;
     errors_among(alloc, source, zone, &catalogued, held)
@@ -113,11 +110,9 @@ fn errors_among<P: Published>(
     held: &[ErrorHeld],
 ) -> Result<Vec<ErrorFound>, SourceFault>
     requires { Ascend catalogued.now }
-    ensures keeps { P.keeps source.old source.new }
-    ensures found { IfOk result (λ found. Tells P.is_clean P.is_ours P.is_open P.content source.old source.new
+    ensures asks { MayAsk P.content_view Device source.old source.new result }
+    ensures found { IfOk result (λ found. Tells P.content_view source.old source.new
         (λ content. catalogued.now ≡ ids_of content → found.items ≡ errors_found content zone.now held.now)) }
-    ensures cause { FailsWithCause P.is_open P.failures source.old source.new result }
-    ensures stays_open { StaysOpen P.is_open source.old source.new result }
 {
     let mut found = Vec::new(alloc);
     for one in held {

@@ -4,7 +4,8 @@ ghost use Rattle.std.specs.List.{list_any};
 ghost use Rattle.zone_lists.specs.Pattern.{does_match};
 ghost use Rattle.catalogue.specs.Content.{ids_of};
 ghost use Rattle.catalogue.specs.Ids.{Ascend, in_order, put_among};
-ghost use Rattle.catalogue.specs.Published.{FailsWithCause, StaysOpen, Tells};
+ghost use Rattle.catalogue.specs.View.{MayAsk, Tells};
+ghost use Rattle.catalogue.specs.declared.fault.SourceFault.TheVariants.{Device};
 ghost use Rattle.supersede.specs.Reach.{has};
 ghost use Rattle.chains.specs.declared.verdict.Status.{Status};
 ghost use Rattle.reports.specs.MissingRows.{MissingRowsAscend, categories_asked, missing_rows_of};
@@ -52,13 +53,11 @@ pub fn missing_rows<P: Published, J: Judge<P>>(
     holds: &[Hold],
 ) -> Result<Vec<MissingRow>, SourceFault>
     requires { Ascend received.now }
-    ensures keeps { P.keeps source.old source.new }
-    ensures rows { IfOk result (λ rows. Tells P.is_clean P.is_ours P.is_open P.content source.old source.new
+    ensures asks { MayAsk P.content_view Device source.old source.new result }
+    ensures rows { IfOk result (λ rows. Tells P.content_view source.old source.new
         (λ content. J.is_right judge.old content → rows.items ≡ missing_rows_of content zone.now received.now patterns.now holds.now)) }
-    ensures right { Tells P.is_clean P.is_ours P.is_open P.content source.old source.new
+    ensures right { Tells P.content_view source.old source.new
         (λ content. J.is_right judge.old content → J.is_right judge.new content) }
-    ensures cause { FailsWithCause P.is_open P.failures source.old source.new result }
-    ensures stays_open { StaysOpen P.is_open source.old source.new result }
 
     // The rows stand in the report's order.
     ensures order { MissingRowsAscend }
@@ -127,11 +126,9 @@ fn rows_of<P: Published>(
     zone: &Zone,
     held: &[MissingHeld],
 ) -> Result<Vec<MissingRow>, SourceFault>
-    ensures keeps { P.keeps source.old source.new }
-    ensures rows { IfOk result (λ rows. Tells P.is_clean P.is_ours P.is_open P.content source.old source.new
+    ensures asks { MayAsk P.content_view Device source.old source.new result }
+    ensures rows { IfOk result (λ rows. Tells P.content_view source.old source.new
         (λ content. rows.items ≡ rows_found content zone.now held.now)) }
-    ensures cause { FailsWithCause P.is_open P.failures source.old source.new result }
-    ensures stays_open { StaysOpen P.is_open source.old source.new result }
 {
     let catalogued = source.ids()?;
     rows_among(alloc, source, zone, &catalogued, held)
@@ -145,11 +142,9 @@ fn rows_among<P: Published>(
     held: &[MissingHeld],
 ) -> Result<Vec<MissingRow>, SourceFault>
     requires { Ascend catalogued.now }
-    ensures keeps { P.keeps source.old source.new }
-    ensures rows { IfOk result (λ rows. Tells P.is_clean P.is_ours P.is_open P.content source.old source.new
+    ensures asks { MayAsk P.content_view Device source.old source.new result }
+    ensures rows { IfOk result (λ rows. Tells P.content_view source.old source.new
         (λ content. catalogued.now ≡ ids_of content → rows.items ≡ rows_found content zone.now held.now)) }
-    ensures cause { FailsWithCause P.is_open P.failures source.old source.new result }
-    ensures stays_open { StaysOpen P.is_open source.old source.new result }
 {
     let mut rows = Vec::new(alloc);
     for one in held {
@@ -170,11 +165,9 @@ fn unless_resolver_there<P: Published>(
     resolver: &Option<Id>,
 ) -> Result<Option<Vec<Id>>, SourceFault>
     requires { Ascend catalogued.now }
-    ensures keeps { P.keeps source.old source.new }
-    ensures resolvers { IfOk result (λ found. Tells P.is_clean P.is_ours P.is_open P.content source.old source.new
+    ensures asks { MayAsk P.content_view Device source.old source.new result }
+    ensures resolvers { IfOk result (λ found. Tells P.content_view source.old source.new
         (λ content. catalogued.now ≡ ids_of content → option_map (λ ids. ids.items) found ≡ unless_resolver_there content zone.now resolver.now)) }
-    ensures cause { FailsWithCause P.is_open P.failures source.old source.new result }
-    ensures stays_open { StaysOpen P.is_open source.old source.new result }
 {
     let Some(resolver) = resolver else {
         return Ok(Some(Vec::new(alloc)));

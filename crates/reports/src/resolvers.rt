@@ -4,7 +4,8 @@ ghost use Rattle.std.specs.List.{list_any, slice_get};
 ghost use Rattle.zone_lists.specs.Installed.{is_installed};
 ghost use Rattle.catalogue.specs.Content.{ids_of};
 ghost use Rattle.catalogue.specs.Ids.{Ascend, same_id};
-ghost use Rattle.catalogue.specs.Published.{FailsWithCause, StaysOpen, Tells};
+ghost use Rattle.catalogue.specs.View.{MayAsk, Tells};
+ghost use Rattle.catalogue.specs.declared.fault.SourceFault.TheVariants.{Device};
 ghost use Rattle.supersede.specs.Giving.{fmids_of, is_candidate, is_there};
 ghost use Rattle.chains.specs.declared.verdict.Status.{Status};
 ghost use Rattle.reports.specs.Resolvers.{candidates_for};
@@ -24,13 +25,11 @@ pub(crate) fn candidates_unless_there<P: Published>(
     id: &Id,
 ) -> Result<Option<Vec<Id>>, SourceFault>
     requires { Ascend catalogued.now }
-    ensures keeps { P.keeps source.old source.new }
-    ensures candidates { IfOk result (λ found. Tells P.is_clean P.is_ours P.is_open P.content source.old source.new
+    ensures asks { MayAsk P.content_view Device source.old source.new result }
+    ensures candidates { IfOk result (λ found. Tells P.content_view source.old source.new
         (λ content. catalogued.now ≡ ids_of content
         → option_map (λ ids. ids.items) found
         ≡ (if is_there content zone.now id.now then None else Some (candidates_for content zone.now id.now)))) }
-    ensures cause { FailsWithCause P.is_open P.failures source.old source.new result }
-    ensures stays_open { StaysOpen P.is_open source.old source.new result }
 {
     let givers = givers_among(alloc, source, catalogued, id)?;
     if there(zone, id, &givers) {
@@ -46,11 +45,9 @@ fn candidates<P: Published>(
     zone: &Zone,
     ids: &[Id],
 ) -> Result<Vec<Id>, SourceFault>
-    ensures keeps { P.keeps source.old source.new }
-    ensures candidates { IfOk result (λ found. Tells P.is_clean P.is_ours P.is_open P.content source.old source.new
+    ensures asks { MayAsk P.content_view Device source.old source.new result }
+    ensures candidates { IfOk result (λ found. Tells P.content_view source.old source.new
         (λ content. found.items ≡ filter (is_candidate content zone.now) ids.now)) }
-    ensures cause { FailsWithCause P.is_open P.failures source.old source.new result }
-    ensures stays_open { StaysOpen P.is_open source.old source.new result }
 {
     let mut found = Vec::new(alloc);
     for id in ids {

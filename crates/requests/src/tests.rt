@@ -1,7 +1,7 @@
 //! Heads, paths and replies, as tables.
 use crate::{
-    Action, Front, Refusal, ReplyHead, Resource, Routes, Status, decide, head_text, read_front,
-    read_whole,
+    Action, Front, Refusal, ReplyHead, Resource, Routes, Status, Turn, decide, head_text,
+    read_front, read_turn, read_whole,
 };
 use faults::NoMemory;
 use mcs_reader::Id;
@@ -300,5 +300,39 @@ fn bodies_are_read_by_their_length_and_no_further(rt: HostRuntime) -> Result<(),
     assert_eq!(rt; intake.bytes(), b"0123456789".as_slice());
     reader.interruptions = 1;
     assert!(rt; read_whole(&mut intake, &mut reader, 11, &mut retries).is_err());
+    Ok(())
+}
+
+#[test]
+fn a_body_of_3000000_bytes_and_a_token_of_64(rt: HostRuntime) -> Result<(), Fail> {
+    let token = filled(rt.alloc(), b'T', 64)?;
+    let mut lines = Vec::from_slice(rt.alloc(), b"content-length: 3000000\r\nbureau-token: ")?;
+    lines.extend_from_slice(&token)?;
+    lines.extend_from_slice(b"\r\n")?;
+    let mut text = head(rt.alloc(), b"POST /publish", &lines)?;
+    let head_len = text.len();
+    for n in 0..3_000_000u32 {
+        text.push((n % 251) as u8)?;
+    }
+    text.extend_from_slice(b"GET /zones")?;
+    for piece in [1_000, 65_536, 4_000_000] {
+        let mut intake = Intake::new(rt.alloc());
+        let mut retries = RETRIES;
+        let mut reader = Pieces {
+            rest: text.as_slice(),
+            piece,
+            interruptions: 0,
+        };
+        match read_turn(&mut intake, &mut reader, &mut retries)? {
+            Turn::Whole(request) => {
+                let bytes = intake.bytes();
+                let (_, rest) = text.split_at(head_len.min(text.len()));
+                let (body, _) = rest.split_at(rest.len().min(3_000_000));
+                assert!(rt; request.body(bytes) == body, "{piece}");
+                assert!(rt; request.token(bytes) == Some(token.as_slice()), "{piece}");
+            }
+            _ => return Err("a whole request".into()),
+        }
+    }
     Ok(())
 }

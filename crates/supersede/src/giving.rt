@@ -2,7 +2,8 @@
 ghost use Rattle.std.specs.Prelude.{◌≡◌, ◌↔◌, filter, List, ℕ, Contains, IfOk, OnOk};
 ghost use Rattle.catalogue.specs.Content.{ids_of};
 ghost use Rattle.catalogue.specs.Ids.{Ascend, put_among};
-ghost use Rattle.catalogue.specs.Published.{FailsWithCause, StaysOpen, Tells};
+ghost use Rattle.catalogue.specs.View.{MayAsk, Tells};
+ghost use Rattle.catalogue.specs.declared.fault.SourceFault.TheVariants.{Device};
 ghost use Rattle.supersede.specs.Giving.{givers_of};
 ghost use Rattle.supersede.specs.Leading.{Gives};
 ghost use Rattle.supersede.specs.Reach.{Alike, Continues, IsReach, has};
@@ -21,15 +22,13 @@ use std::collections::BTreeSet;
 ///
 /// `Memory` where memory ran out, `Device` where the source failed.
 pub fn givers<P: Published>(alloc: Global, source: &mut P, id: &Id) -> Result<Vec<Id>, SourceFault>
-    ensures keeps { P.keeps source.old source.new }
-    ensures givers { IfOk result (λ ids. Tells P.is_clean P.is_ours P.is_open P.content source.old source.new
+    ensures asks { MayAsk P.content_view Device source.old source.new result }
+    ensures givers { IfOk result (λ ids. Tells P.content_view source.old source.new
         (λ content. ids.items ≡ givers_of content id.now)) }
     ensures ascend { IfOk result (λ ids. Ascend ids.items) }
-    ensures cause { FailsWithCause P.is_open P.failures source.old source.new result }
-    ensures stays_open { StaysOpen P.is_open source.old source.new result }
 
     // They are all that give it, and nothing else.
-    ensures each { IfOk result (λ ids. Tells P.is_clean P.is_ours P.is_open P.content source.old source.new
+    ensures each { IfOk result (λ ids. Tells P.content_view source.old source.new
         (λ content. (giver : List ℕ) → Contains ids.items giver ↔ Gives content giver id.now)) }
 {
     let catalogued = source.ids()?;
@@ -51,12 +50,10 @@ pub fn givers_among<P: Published>(
     id: &Id,
 ) -> Result<Vec<Id>, SourceFault>
     requires { Ascend catalogued.now }
-    ensures keeps { P.keeps source.old source.new }
-    ensures givers { IfOk result (λ ids. Tells P.is_clean P.is_ours P.is_open P.content source.old source.new
+    ensures asks { MayAsk P.content_view Device source.old source.new result }
+    ensures givers { IfOk result (λ ids. Tells P.content_view source.old source.new
         (λ content. catalogued.now ≡ ids_of content → ids.items ≡ givers_of content id.now)) }
     ensures ascend { IfOk result (λ ids. Ascend ids.items) }
-    ensures cause { FailsWithCause P.is_open P.failures source.old source.new result }
-    ensures stays_open { StaysOpen P.is_open source.old source.new result }
 {
     let found = reach(alloc, source, id)?;
     Ok(those_among(alloc, catalogued, &found)?)
@@ -78,12 +75,10 @@ fn those_among(alloc: Global, others: &[Id], ids: &[Id]) -> Result<Vec<Id>, NoMe
 
 // An id and the SYSMODs that supersede it, themselves or through others. Each is asked for once.
 fn reach<P: Published>(alloc: Global, source: &mut P, id: &Id) -> Result<Vec<Id>, SourceFault>
-    ensures keeps { P.keeps source.old source.new }
-    ensures reach { IfOk result (λ found. Tells P.is_clean P.is_ours P.is_open P.content source.old source.new
+    ensures asks { MayAsk P.content_view Device source.old source.new result }
+    ensures reach { IfOk result (λ found. Tells P.content_view source.old source.new
         (λ content. Ascend (ids_of content) → IsReach content found.items id.now)) }
     ensures ascend { IfOk result (λ found. Ascend found.items) }
-    ensures cause { FailsWithCause P.is_open P.failures source.old source.new result }
-    ensures stays_open { StaysOpen P.is_open source.old source.new result }
 {
     let mut found = BTreeSet::new(alloc);
     let mut order = Vec::new(alloc);

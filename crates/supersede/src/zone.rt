@@ -47,6 +47,14 @@ impl Zone {
         Ok(Zone { rows })
     }
 
+    /// The zone with these rows, which are handed over. It takes no memory.
+    pub fn from_rows(rows: Vec<ZoneRow>) -> Zone
+        requires { RowsAscend rows.items }
+        ensures { result ≡ rows.items }
+    {
+        Zone { rows }
+    }
+
     /// Whether the zone has a row of this SYSMOD, in whatever state.
     pub fn listed(&self, id: &Id) -> bool
         ensures { result ≡ is_listed self.now id.now }

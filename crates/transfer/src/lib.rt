@@ -13,6 +13,7 @@
 mod fault;
 mod intake;
 mod reading;
+mod retrying;
 #[cfg(test)]
 mod tests;
 mod writing;

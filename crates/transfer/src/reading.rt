@@ -5,6 +5,7 @@ ghost use Rattle.std.specs.Io.KnownBytes.{Keeps, Consumes, IsAtEnd};
 ghost use Rattle.std.specs.IoError.{error_kind};
 ghost use Rattle.transfer.specs.Transfer.{IsGivenUp, ConsumesUpTo};
 
+use crate::retrying::is_made_again;
 use crate::{Intake, TransferFault};
 use std::alloc::Global;
 use std::io::{self, ErrorKind, Read};
@@ -59,10 +60,9 @@ pub fn read_some<R: Read>(reader: &mut R, buf: &mut [u8], retries: &mut u32) -> 
         match reader.read(buf) {
             Ok(count) => return Ok(count),
             Err(error) => {
-                if error.kind() != ErrorKind::Interrupted || *retries == 0 {
+                if !is_made_again(&error, retries) {
                     return Err(error);
                 }
-                *retries -= 1;
             }
         }
     }

@@ -195,3 +195,91 @@ fn texts(rt: HostRuntime) -> Result<(), Fail> {
     }
     Ok(())
 }
+
+// Every other way in which a call of the system fails at once.
+const OTHER_KINDS: [ErrorKind; 12] = [
+    ErrorKind::BrokenPipe,
+    ErrorKind::ConnectionAborted,
+    ErrorKind::ConnectionReset,
+    ErrorKind::InProgress,
+    ErrorKind::IsADirectory,
+    ErrorKind::NotConnected,
+    ErrorKind::Other,
+    ErrorKind::OutOfMemory,
+    ErrorKind::StorageFull,
+    ErrorKind::TimedOut,
+    ErrorKind::WouldBlock,
+    ErrorKind::WriteZero,
+];
+
+#[test]
+fn another_failure_ends_a_transfer_at_once(rt: HostRuntime) -> Result<(), Fail> {
+    for kind in OTHER_KINDS {
+        for (failed_reads, failed_writes, failed_flushes) in [
+            (1u32, 0u32, 0u32),
+            (0, 1, 0),
+            (0, 0, 1),
+        ] {
+            let mut retries = RETRIES;
+            let mut reader = Pieces {
+                rest: b"text",
+                piece: 4,
+                failures: failed_reads,
+                kind,
+            };
+            let mut writer = Slow {
+                taken: Vec::new(rt.alloc()),
+                piece: 4,
+                room: 4,
+                write_failures: failed_writes,
+                flush_failures: failed_flushes,
+                kind,
+            };
+            let is_read = read_source(rt.alloc(), &mut reader, 4, &mut retries).is_ok();
+            let is_written = write_whole(&mut writer, b"text", &mut retries).is_ok();
+            assert_eq!(rt; is_read, failed_reads == 0, "{kind:?}");
+            assert_eq!(rt;
+                is_written,
+                failed_writes == 0 && failed_flushes == 0,
+                "{kind:?}"
+            );
+            assert_eq!(rt; retries, RETRIES, "{kind:?}");
+        }
+    }
+    Ok(())
+}
+
+// A writer that keeps what it takes until it is flushed.
+#[derive(Drop)]
+struct Buffering {
+    kept: Vec<u8>,
+    flushed: Vec<u8>,
+}
+
+impl Write for Buffering {
+    fn write(&mut self, buf: &[u8]) -> io::Result<usize> {
+        self.kept.extend_from_slice(buf)?;
+        Ok(buf.len())
+    }
+
+    fn flush(&mut self) -> io::Result<()> {
+        self.flushed.extend_from_slice(self.kept.as_slice())?;
+        self.kept.clear();
+        Ok(())
+    }
+}
+
+#[test]
+fn every_text_is_flushed(rt: HostRuntime) -> Result<(), Fail> {
+    let text = long_text(rt.alloc())?;
+    for len in [1usize, 2, 9, 64, 1_024, 4_096, 65_537, 70_000] {
+        let front = &text[..len.min(text.len())];
+        let mut writer = Buffering {
+            kept: Vec::new(rt.alloc()),
+            flushed: Vec::new(rt.alloc()),
+        };
+        write_whole(&mut writer, front, &mut { RETRIES })?;
+        assert!(rt; writer.flushed.as_slice() == front, "{len}");
+    }
+    Ok(())
+}

@@ -5,6 +5,7 @@ ghost use Rattle.std.specs.Io.KnownBytes.{Keeps, Appends};
 ghost use Rattle.std.specs.IoError.{error_kind};
 ghost use Rattle.transfer.specs.Transfer.{AppendsFront};
 
+use crate::retrying::is_made_again;
 use std::io::{self, ErrorKind, Write};
 
 /// Writes the whole text, and flushes the writer.
@@ -42,10 +43,9 @@ fn write_some<W: Write>(writer: &mut W, text: &[u8], retries: &mut u32) -> io::R
         match writer.write(text) {
             Ok(count) => return Ok(count),
             Err(error) => {
-                if error.kind() != ErrorKind::Interrupted || *retries == 0 {
+                if !is_made_again(&error, retries) {
                     return Err(error);
                 }
-                *retries -= 1;
             }
         }
     }
@@ -61,10 +61,9 @@ fn flush<W: Write>(writer: &mut W, retries: &mut u32) -> io::Result<()>
         match writer.flush() {
             Ok(()) => return Ok(()),
             Err(error) => {
-                if error.kind() != ErrorKind::Interrupted || *retries == 0 {
+                if !is_made_again(&error, retries) {
                     return Err(error);
                 }
-                *retries -= 1;
             }
         }
     }

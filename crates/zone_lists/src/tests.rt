@@ -157,6 +157,69 @@ fn lists_are_long_up_to_their_limits(rt: HostRuntime) -> Result<(), Fail> {
     Ok(())
 }
 
+// The id with this number: U000000, U000001, ..
+fn numbered(alloc: Global, number: u32) -> Result<String, NoMemory> {
+    Ok(format!(in alloc; "U{number:06}")?)
+}
+
+// A header and 20,000 records, each id once, out of order.
+fn twenty_thousand(alloc: Global, header: &str, rest: &str) -> Result<Vec<u8>, NoMemory> {
+    let mut text = Vec::from_slice(alloc, header.as_bytes())?;
+    for n in 0..20_000u32 {
+        text.extend_from_slice(numbered(alloc, n * 7_919 % 20_000)?.as_str().as_bytes())?;
+        text.extend_from_slice(rest.as_bytes())?;
+    }
+    Ok(text)
+}
+
+#[test]
+fn lists_of_20000_ids_are_put_in_order(rt: HostRuntime) -> Result<(), Fail> {
+    let alloc = rt.alloc();
+    let zone = zone_rows(
+        alloc,
+        &twenty_thousand(alloc, "SYSMOD,STATE\n", ",ACCEPTED\n")?,
+    )?;
+    let received = received_rows(alloc, &twenty_thousand(alloc, "SYSMOD\n", "\n")?)?;
+    assert_eq!(rt; zone.len(), 20_000);
+    assert_eq!(rt; received.len(), 20_000);
+    for (n, (row, sysmod)) in (0..20_000u32).zip(zone.iter().zip(received.iter())) {
+        let id = numbered(alloc, n)?;
+        assert!(rt; row.sysmod.as_bytes() == id.as_str().as_bytes(), "{n}");
+        assert!(rt; row.state == ZoneState::Accepted, "{n}");
+        assert!(rt; sysmod.as_bytes() == id.as_str().as_bytes(), "{n}");
+    }
+    Ok(())
+}
+
+// A long list with one fault at its end.
+#[test]
+fn the_last_of_20000_records_is_read(rt: HostRuntime) -> Result<(), Fail> {
+    let mut zone = Vec::from_slice(rt.alloc(), b"SYSMOD,STATE\n")?;
+    for n in 0..19_999u32 {
+        zone.extend_from_slice(numbered(rt.alloc(), n)?.as_str().as_bytes())?;
+        zone.extend_from_slice(b",APPLIED\n")?;
+    }
+    zone.extend_from_slice(b"U000000,ACCEPTED\n")?;
+    assert!(rt; zone_rows(rt.alloc(), &zone) == Err(ListFault::Repeated(20_000)));
+    Ok(())
+}
+
+#[test]
+fn a_list_of_64_patterns(rt: HostRuntime) -> Result<(), Fail> {
+    let mut text = Vec::from_slice(rt.alloc(), b"CATEGORY\n")?;
+    for n in 0..64u32 {
+        let pattern = format!(in rt.alloc(); "IBM.{:02}.*\n", 63 - n)?;
+        text.extend_from_slice(pattern.as_str().as_bytes())?;
+    }
+    let found = patterns(rt.alloc(), &text)?;
+    assert_eq!(rt; found.len(), 64);
+    for (n, pattern) in (0..64u32).zip(found.iter()) {
+        let wanted = format!(in rt.alloc(); "IBM.{n:02}.*")?;
+        assert!(rt; pattern.text() == wanted.as_str().as_bytes(), "{n}");
+    }
+    Ok(())
+}
+
 #[test]
 fn a_pattern_keeps_its_text(rt: HostRuntime) -> Result<(), Fail> {
     let pattern = Pattern::new(rt.alloc(), b"IBM.*")?.ok_or("a pattern")?;

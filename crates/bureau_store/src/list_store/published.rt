@@ -12,20 +12,9 @@ use holddata::Hold;
 use mcs_reader::Id;
 
 impl Published for ListStore {
-    ghost use Rattle.bureau_store.specs.Lists.{Always, IsOurs, Same, never};
-    ghost use Rattle.bureau_store.specs.Lists.{lists_content_in_order, lists_go_on, lists_keep, lists_stay};
+    ghost use Rattle.bureau_store.specs.Lists.{lists_content_in_order, lists_content_lawful, lists_content_view};
 
-    ghost content = { λ lists. lists.content };
-
-    ghost is_clean = { Always };
-
-    ghost is_ours = { IsOurs };
-
-    ghost is_open = { Always };
-
-    ghost failures = { never };
-
-    ghost keeps = { Same };
+    ghost content_view = { lists_content_view };
 
     fn ids(&mut self) -> Result<Vec<Id>, SourceFault>
         ensures same { self.new ≡ self.old }
@@ -66,11 +55,7 @@ impl Published for ListStore {
         self.published.holds_on(id)
     }
 
+    ghost lawful = { lists_content_lawful };
+
     ghost in_order = { lists_content_in_order };
-
-    ghost keeps_content = { lists_keep };
-
-    ghost keeps_itself = { lists_stay };
-
-    ghost keeps_on = { lists_go_on };
 }

@@ -1,6 +1,6 @@
 //! A source that fails: each call that reads it passes the failure on, whichever read it comes in.
 ghost use Rattle.std.specs.Prelude.{◌≡◌, ◌<◌, ◌≤◌, ◌⊎◌, false, true};
-ghost use Rattle.catalogue.specs.Published.{most_failures};
+ghost use Rattle.catalogue.specs.View.{most_failures};
 
 use super::id;
 use super::worked::{ALPHA, BASE, FIXCAT, held, published};
@@ -46,17 +46,14 @@ impl Published for Failing {
     ghost use Rattle.std.proofs.Common.{◌∙◌, arith, refl, subst, sym};
     ghost use Rattle.catalogue.specs.Content.{IsInOrder};
 
-    ghost content = { λ source. source.lists };
-
-    ghost is_clean = { λ source. Unit {0} };
-
-    ghost is_ours = { λ source. IsInOrder source.lists };
-
-    ghost is_open = { λ source. source.failures ≡ 0 };
-
-    ghost failures = { λ source. source.failures };
-
-    ghost keeps = { λ old new. (new.lists ≡ old.lists) × (old.failures ≤ new.failures) };
+    ghost content_view = { record {
+      stands = λ source this. source.failures ≡ 0 → source.lists ≡ this;
+      is_clean = λ source. Unit {0};
+      is_ours = λ source. IsInOrder source.lists;
+      failures = λ source. source.failures;
+      may_leave = λ source this. this ≡ source.lists;
+      keeps = λ old new. (new.lists ≡ old.lists) × (old.failures ≤ new.failures);
+    } };
 
     fn ids(&mut self) -> Result<Vec<Id>, SourceFault> {
         if self.fails() {
@@ -86,19 +83,21 @@ impl Published for Failing {
         self.lists.holds_on(id)
     }
 
-    ghost in_order = { λ source ours. ours };
-
-    ghost keeps_content = { λ old new kept. record {
-      clean = λ clean. clean;
-      ours = λ ours clean. subst IsInOrder (sym kept.0) ours;
-      still_open = λ standing. omega (arith, kept.1, standing);
-      failures_rise = kept.1;
-      stays = λ ours clean this stands standing. kept.0 ∙ stands (omega (arith, kept.1, standing));
+    ghost lawful = { record {
+      keeps = λ old new kept. record {
+        goes = record {
+          clean = λ clean. clean;
+          ours = λ ours clean. subst IsInOrder (sym kept.0) ours;
+          failures_rise = kept.1;
+        };
+        stays = λ ours clean this stands standing. kept.0 ∙ stands (omega (arith, kept.1, standing));
+        leaves = λ this left. left ∙ kept.0;
+      };
+      itself = λ source. (refl, omega arith);
+      on = λ first second third sooner later. (later.0 ∙ sooner.0, omega (arith, sooner.1, later.1));
     } };
 
-    ghost keeps_itself = { λ source. (refl, omega arith) };
-
-    ghost keeps_on = { λ first second third sooner later. (later.0 ∙ sooner.0, omega (arith, sooner.1, later.1)) };
+    ghost in_order = { λ source this ours standing stands. subst IsInOrder (stands standing) ours };
 }
 
 // The calls that read a source.

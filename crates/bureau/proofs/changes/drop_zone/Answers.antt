@@ -19,8 +19,8 @@ returns-in-Err-clause-come g c =
 pub returns-then-not-branch-clause-come : goal.returns-then-not-branch-clause-come
 returns-then-not-branch-clause-come g c =
     let law = g.met.S.Store in
-    let sooner = law.keeps_tables _ _ c.in_ok-number.ensures.keeps in
-    let later = law.keeps_tables _ _ c.in_ok-is_zone.ensures.keeps in
+    let sooner = law.tables_lawful.keeps _ _ c.in_ok-number.ensures.reads.keeps in
+    let later = law.tables_lawful.keeps _ _ c.in_ok-is_zone.ensures.reads.keeps in
     answered_in_turn (Client c.args.client.now) (call.drop_zone c.args.number c.args.zone.now) c.args.number c.in_ok-number.field-0 c.in-Ok.number c.in_ok-not_found.field-0
     (λ this. of_zone (zone_named c.args.zone.now (this.zones c.args.client.now)) (λ table. accepted (zone_dropped c.args.zone.now) (zone_dropped_text c.args.zone.now)))
     (λ this. refl) (told_sooner c.in_ok-number.ensures.turn later) c.in-Ok.is
@@ -29,8 +29,8 @@ returns-then-not-branch-clause-come g c =
 pub returns-clause-come : goal.returns-clause-come
 returns-clause-come g c =
     let law = g.met.S.Store in
-    let sooner = law.keeps_tables _ _ c.in_ok-number.ensures.keeps in
-    let later = law.keeps_tables _ _ c.in_ok-is_zone.ensures.keeps in
+    let sooner = law.tables_lawful.keeps _ _ c.in_ok-number.ensures.reads.keeps in
+    let later = law.tables_lawful.keeps _ _ c.in_ok-is_zone.ensures.reads.keeps in
     accepted_in_turn (Client c.args.client.now) (call.drop_zone c.args.number c.args.zone.now) c.args.number c.in_ok-number.field-0 (record { number = c.in-Ok.number; text = c.in_ok-text.text; deed = ZoneDropped c.args.client.now c.args.zone.now })
     (λ this. of_zone (zone_named c.args.zone.now (this.zones c.args.client.now)) (λ table. accepted (zone_dropped c.args.zone.now) (zone_dropped_text c.args.zone.now)))
     (λ this. refl) (told_sooner c.in_ok-number.ensures.turn later) c.in-Ok.is refl

@@ -1,5 +1,5 @@
 use Rattle.std.proofs.Common.{refl, sym, ◌∙◌, ap, subst}
-use Rattle.catalogue.proofs.SourceFacts.{told_sooner, told_later, told_so}
+use Rattle.catalogue.proofs.SourceFacts.{no_fault, told_sooner, told_later, told_so}
 use Rattle.catalogue.specs.Publication.{after}
 use Rattle.catalogue.specs.Touched.{AgreeOutside, touched_ids}
 use Rattle.bureau_store.specs.Effect.{publication}
@@ -9,8 +9,17 @@ use Rattle.bureau.specs.Outcome.{accepted, said}
 use Rattle.bureau.specs.Bodies.{changes_in}
 use Rattle.bureau.specs.Texts.{publication_text}
 use Rattle.bureau.specs.declared.come.Deed.TheVariants.{Publication}
-use Rattle.bureau.proofs.ChangeFacts.{out_of_turn, answered_in_turn, accepted_in_turn, said_so, said_not, told_of_content}
+use Rattle.bureau.proofs.ChangeFacts.{out_of_turn, answered_in_turn, accepted_in_turn, said_so, said_not}
+use Rattle.bureau.proofs.ShownFacts.{open_shown, shown_keeps, shown_open, shown_tells}
 use Rattle.bureau.proofs.changes.publish.Goals as goal
+
+pub returns-clause-reads : goal.returns-clause-reads
+returns-clause-reads g c =
+    let shows = g.met.S.Store.shows_content in
+    record {
+      keeps = g.met.S.Store.tables_lawful.on _ _ _ c.in_ok-number.ensures.reads.keeps (shown_keeps shows c.in_ok-touched.ensures.asks.keeps);
+      is_open = shown_open shows (c.in_ok-touched.ensures.asks.stays_open (no_fault _) (open_shown shows c.in_ok-number.ensures.reads.is_open));
+    }
 
 pub returns-in-Err-clause-come : goal.returns-in-Err-clause-come
 returns-in-Err-clause-come g c =
@@ -29,13 +38,13 @@ returns-in-Err-changes_in-clause-come g c =
 pub returns-clause-come : goal.returns-clause-come
 returns-clause-come g c =
     let law = g.met.S.Store in
-    let sooner = law.keeps_tables _ _ c.in_ok-number.ensures.keeps in
-    let later = law.keeps_tables _ _ c.in_ok-touched.ensures.keeps in
+    let sooner = law.tables_lawful.keeps _ _ c.in_ok-number.ensures.reads.keeps in
+    let later = law.tables_lawful.keeps _ _ (shown_keeps law.shows_content c.in_ok-touched.ensures.asks.keeps) in
     let changes = c.in-Ok-changes_in.changes.items in
     accepted_in_turn (Publisher) (call.publish c.args.number c.args.body.now) c.args.number c.in_ok-number.field-0 (record { number = c.in-Ok.number; text = c.in_ok-text.text; deed = Publication c.in-Ok-changes_in.changes c.in_ok-touched.touched })
     (λ this. said (changes_in c.args.body.now) (λ changes. accepted (publication changes) (publication_text changes)))
     (λ this. refl) (told_sooner c.in_ok-number.ensures.turn later) c.in-Ok.is refl
-    (told_so (told_later sooner later (told_of_content law.has_content c.in_ok-touched.ensures.touched)) (λ this touched. (
+    (told_so (told_later sooner later (shown_tells law.shows_content c.in_ok-touched.ensures.touched)) (λ this touched. (
       said_so (changes_in c.args.body.now) _ changes c.in-Ok-changes_in.ensures.changes
           ∙ ap (λ text. accepted (publication changes) text) (sym (c.in_ok-text.ensures ∙ ap (publication_text) c.deref.ensures.value)),
       (tt, λ order. subst (λ ids. AgreeOutside ids this.content (after this.content changes)) (sym (touched ∙ ap (touched_ids this.content) c.deref-2.ensures.value)) (c.in_ok-touched.ensures.touches_all this.content changes order)),

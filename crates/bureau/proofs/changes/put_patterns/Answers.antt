@@ -22,8 +22,8 @@ returns-in-Err-clause-come g c =
 pub returns-then-not-branch-clause-come : goal.returns-then-not-branch-clause-come
 returns-then-not-branch-clause-come g c =
     let law = g.met.S.Store in
-    let sooner = law.keeps_tables _ _ c.in_ok-number.ensures.keeps in
-    let later = law.keeps_tables _ _ c.in_ok-is_zone.ensures.keeps in
+    let sooner = law.tables_lawful.keeps _ _ c.in_ok-number.ensures.reads.keeps in
+    let later = law.tables_lawful.keeps _ _ c.in_ok-is_zone.ensures.reads.keeps in
     answered_in_turn (Client c.args.client.now) (call.put_patterns c.args.number c.args.zone.now c.args.body.now) c.args.number c.in_ok-number.field-0 c.in-Ok.number c.in_ok-not_found.field-0
     (λ this. of_zone (zone_named c.args.zone.now (this.zones c.args.client.now)) (λ table. said (patterns_in c.args.body.now) (λ patterns. accepted (patterns_put c.args.zone.now patterns) (patterns_text c.args.zone.now patterns))))
     (λ this. refl) (told_sooner c.in_ok-number.ensures.turn later) c.in-Ok.is
@@ -33,8 +33,8 @@ returns-then-not-branch-clause-come g c =
 pub returns-in-Err-patterns-clause-come : goal.returns-in-Err-patterns-clause-come
 returns-in-Err-patterns-clause-come g c =
     let law = g.met.S.Store in
-    let sooner = law.keeps_tables _ _ c.in_ok-number.ensures.keeps in
-    let later = law.keeps_tables _ _ c.in_ok-is_zone.ensures.keeps in
+    let sooner = law.tables_lawful.keeps _ _ c.in_ok-number.ensures.reads.keeps in
+    let later = law.tables_lawful.keeps _ _ c.in_ok-is_zone.ensures.reads.keeps in
     let told = subst (IsTold (patterns_in c.args.body.now)) (sym c.from.ensures) (told_of_list (patterns_of c.args.body.now) c.in-Err-patterns.fault c.in-Err-patterns.ensures.fault) in
     let refusal = c.in_ok-refused-in-Err-patterns in
     answered_in_turn (Client c.args.client.now) (call.put_patterns c.args.number c.args.zone.now c.args.body.now) c.args.number c.in_ok-number.field-0 c.in-Ok.number refusal.field-0
@@ -47,8 +47,8 @@ returns-in-Err-patterns-clause-come g c =
 pub returns-clause-come : goal.returns-clause-come
 returns-clause-come g c =
     let law = g.met.S.Store in
-    let sooner = law.keeps_tables _ _ c.in_ok-number.ensures.keeps in
-    let later = law.keeps_tables _ _ c.in_ok-is_zone.ensures.keeps in
+    let sooner = law.tables_lawful.keeps _ _ c.in_ok-number.ensures.reads.keeps in
+    let later = law.tables_lawful.keeps _ _ c.in_ok-is_zone.ensures.reads.keeps in
     let patterns = c.in-Ok-patterns.patterns.items in
     accepted_in_turn (Client c.args.client.now) (call.put_patterns c.args.number c.args.zone.now c.args.body.now) c.args.number c.in_ok-number.field-0 (record { number = c.in-Ok.number; text = c.in_ok-text.text; deed = PatternsPut c.args.client.now c.args.zone.now c.in-Ok-patterns.patterns })
     (λ this. of_zone (zone_named c.args.zone.now (this.zones c.args.client.now)) (λ table. said (patterns_in c.args.body.now) (λ patterns. accepted (patterns_put c.args.zone.now patterns) (patterns_text c.args.zone.now patterns))))

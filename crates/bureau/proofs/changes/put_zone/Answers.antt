@@ -31,8 +31,8 @@ returns-in-Err-zone_rows-clause-come g c =
 pub returns-then-not-branch-clause-come : goal.returns-then-not-branch-clause-come
 returns-then-not-branch-clause-come g c =
     let law = g.met.S.Store in
-    let sooner = law.keeps_tables _ _ c.in_ok-number.ensures.keeps in
-    let later = law.keeps_tables _ _ c.in_ok-has_room_for.ensures.keeps in
+    let sooner = law.tables_lawful.keeps _ _ c.in_ok-number.ensures.reads.keeps in
+    let later = law.tables_lawful.keeps _ _ c.in_ok-has_room_for.ensures.reads.keeps in
     let rows = c.in-Ok-zone_rows.rows.items in
     let zone = c.args.zone.now in
     answered_in_turn (Client c.args.client.now) (call.put_zone c.args.number c.args.zone.now c.args.body.now) c.args.number c.in_ok-number.field-0 c.in-Ok.number c.in_ok-plain.field-0
@@ -46,8 +46,8 @@ returns-then-not-branch-clause-come g c =
 pub returns-clause-come : goal.returns-clause-come
 returns-clause-come g c =
     let law = g.met.S.Store in
-    let sooner = law.keeps_tables _ _ c.in_ok-number.ensures.keeps in
-    let later = law.keeps_tables _ _ c.in_ok-has_room_for.ensures.keeps in
+    let sooner = law.tables_lawful.keeps _ _ c.in_ok-number.ensures.reads.keeps in
+    let later = law.tables_lawful.keeps _ _ c.in_ok-has_room_for.ensures.reads.keeps in
     let rows = c.in-Ok-zone_rows.rows.items in
     let zone = c.args.zone.now in
     accepted_in_turn (Client c.args.client.now) (call.put_zone c.args.number c.args.zone.now c.args.body.now) c.args.number c.in_ok-number.field-0 (record { number = c.in-Ok.number; text = c.in_ok-text.text; deed = ZonePut c.args.client.now c.args.zone.now c.in-Ok-zone_rows.rows })

@@ -1,30 +1,32 @@
 use Rattle.std.proofs.Common.{◌∙◌}
-use Rattle.catalogue.proofs.SourceFacts.{told_later, told_so}
+use Rattle.catalogue.proofs.SourceFacts.{no_fault, told_later, told_so}
 use Rattle.bureau_store.specs.Tables.{zone_named}
-use Rattle.bureau.proofs.ChangeFacts.{told_of_content}
 use Rattle.bureau.proofs.QuestionFacts.{so_ok, told_then, with_rows, err_reported}
+use Rattle.bureau.proofs.ShownFacts.{shown_keeps, shown_tells, then_reads}
 use Rattle.bureau.proofs.questions.err_sysmods.Goals as goal
 
-pub returns-clause-keeps : goal.returns-clause-keeps
-returns-clause-keeps g c =
-    let law = g.met.S.Published in
-    law.keeps_on _ _ _ (law.keeps_on _ _ _ (law.keeps_on _ _ _ c.in_ok-rows.ensures.keeps c.in_ok-received.ensures.keeps) c.in_ok-holds.ensures.keeps) c.err_reply.ensures.keeps
+pub returns-clause-reads : goal.returns-clause-reads
+returns-clause-reads g c =
+    let law = g.met.S.Store.tables_lawful in
+    let shows = g.met.S.Store.shows_content in
+    then_reads shows c.err_reply.result (law.on _ _ _ (law.on _ _ _ (law.on _ _ _ c.in_ok-rows.ensures.reads.asks.keeps c.in_ok-received.ensures.reads.asks.keeps) c.in_ok-holds.ensures.reads.asks.keeps) (shown_keeps shows c.err_reply.ensures.reads.keeps))
+    (c.in_ok-holds.ensures.reads.asks.is_open (no_fault _)) c.err_reply.ensures.reads.stays_open
 
 pub returns-clause-reply : goal.returns-clause-reply
 returns-clause-reply g c =
-    let law = g.met.S.Published in
     let tables = g.met.S.Store in
-    let sooner = tables.keeps_tables _ _ (law.keeps_on _ _ _ (law.keeps_on _ _ _ c.in_ok-rows.ensures.keeps c.in_ok-received.ensures.keeps) c.in_ok-holds.ensures.keeps) in
-    let later = tables.keeps_tables _ _ c.err_reply.ensures.keeps in
+    let law = tables.tables_lawful in
+    let sooner = law.keeps _ _ (law.on _ _ _ (law.on _ _ _ c.in_ok-rows.ensures.reads.asks.keeps c.in_ok-received.ensures.reads.asks.keeps) c.in_ok-holds.ensures.reads.asks.keeps) in
+    let later = law.keeps _ _ (shown_keeps tables.shows_content c.err_reply.ensures.reads.keeps) in
     so_ok c.err_reply.result c.err_reply.ensures.reply (λ reply told.
-    told_so (told_then sooner later (told_then (tables.keeps_tables _ _ (law.keeps_on _ _ _ c.in_ok-rows.ensures.keeps c.in_ok-received.ensures.keeps)) (tables.keeps_tables _ _ c.in_ok-holds.ensures.keeps) (told_then (tables.keeps_tables _ _ c.in_ok-rows.ensures.keeps) (tables.keeps_tables _ _ c.in_ok-received.ensures.keeps) c.in_ok-rows.ensures.zone c.in_ok-received.ensures.received) c.in_ok-holds.ensures.holds) (told_of_content tables.has_content told)) (λ this facts right.
-    err_reported this.content c.args.zone.now (zone_named c.args.zone.now (this.zones c.args.client.now)) _ (this.received c.args.client.now) c.in-Some.rows.items c.in_ok-installed.installed _ reply
-    (with_rows _ c.in_ok-rows.field-0 c.in-Some.rows _ c.in-Some.is facts.0.0.0) (c.deref-2.ensures.value ∙ facts.0.0.1) (c.deref-3.ensures.value ∙ facts.0.1) (c.in_ok-installed.ensures ∙ c.deref.ensures.value) (facts.1 right)))
+    told_so (told_then sooner later (told_then (law.keeps _ _ (law.on _ _ _ c.in_ok-rows.ensures.reads.asks.keeps c.in_ok-received.ensures.reads.asks.keeps)) (law.keeps _ _ c.in_ok-holds.ensures.reads.asks.keeps) (told_then (law.keeps _ _ c.in_ok-rows.ensures.reads.asks.keeps) (law.keeps _ _ c.in_ok-received.ensures.reads.asks.keeps) c.in_ok-rows.ensures.zone c.in_ok-received.ensures.received) c.in_ok-holds.ensures.holds) (shown_tells tables.shows_content told)) (λ this facts right.
+    err_reported this.content c.args.zone.now (zone_named c.args.zone.now (this.zones c.args.client.now)) _ (this.received c.args.client.now) c.in-Some.rows.items c.from_rows-installed.result _ reply
+    (with_rows _ c.in_ok-rows.field-0 c.in-Some.rows _ c.in-Some.is facts.0.0.0) (c.deref.ensures.value ∙ facts.0.0.1) (c.deref-2.ensures.value ∙ facts.0.1) c.from_rows-installed.ensures (facts.1 right)))
 
 pub returns-clause-right : goal.returns-clause-right
 returns-clause-right g c =
-    let law = g.met.S.Published in
     let tables = g.met.S.Store in
-    let sooner = tables.keeps_tables _ _ (law.keeps_on _ _ _ (law.keeps_on _ _ _ c.in_ok-rows.ensures.keeps c.in_ok-received.ensures.keeps) c.in_ok-holds.ensures.keeps) in
-    let later = tables.keeps_tables _ _ c.err_reply.ensures.keeps in
-    told_later sooner later (told_of_content tables.has_content c.err_reply.ensures.right)
+    let law = tables.tables_lawful in
+    let sooner = law.keeps _ _ (law.on _ _ _ (law.on _ _ _ c.in_ok-rows.ensures.reads.asks.keeps c.in_ok-received.ensures.reads.asks.keeps) c.in_ok-holds.ensures.reads.asks.keeps) in
+    let later = law.keeps _ _ (shown_keeps tables.shows_content c.err_reply.ensures.reads.keeps) in
+    told_later sooner later (shown_tells tables.shows_content c.err_reply.ensures.right)

@@ -5,24 +5,28 @@ use Rattle.bureau.specs.Calls.{call_as}
 use Rattle.bureau.specs.Replies.{reply_as}
 use Rattle.bureau_http.specs.Asked.{call_of, what_of}
 use Rattle.requests.specs.Turn.{body_in, parts_in}
-use Rattle.bureau_http.proofs.AskingFacts.{among, call_run, made}
+use Rattle.bureau_http.proofs.AskingFacts.{among, call_run, looked_at, made}
 use Rattle.bureau_http.proofs.asking.answer_to.Goals as goal
 
 pub returns-in-Ok-action-clause-told : goal.returns-in-Ok-action-clause-told
-returns-in-Ok-action-clause-told g c clean this stands =
-    let before = c.answer.ensures.clean clean in
-    let body = body_in c.args.bytes.now c.args.request.now in
-    let parts = parts_in c.args.bytes.now c.args.request.now in
-    let is_token = (rw c.in-Some.is at c.token.ensures) in
-    let is_caller = sym c.in-Some-found.is ∙ c.in-Ok.ensures.caller before this stands in
-    let is_action = sym c.in-Ok-action.is ∙ c.action-action.ensures.action in
-    let step = c.answer.ensures.step clean this (c.caller_of.ensures.stays before this stands) (among this.callers _ _ is_caller) in
-    let call = c.call_of-call.ensures ∙ ap (call_of c.in-Ok-action.action c.number.result) c.body.ensures in
-    let asked : Caller × Call = (c.in-Some-found.caller, call_as c.call_of-call.result) in
-    let what : what_of this.callers parts body ≡ Ok asked = made this.callers parts body c.in-Some.token.now c.in-Some-found.caller c.in-Ok-action.action c.number.result is_token is_caller is_action c.number.ensures
-    ∙ ap (λ k. Ok (c.in-Some-found.caller, k)) (sym call) in (
-      step.0,
-      (asked, what, step.1.step),
-      call_run g.D.Desk.is_open g.D.Desk.stands c.args.desk.now c.answer.new.self this c.caller_of.new.self (what_of this.callers parts body) asked (reply_as c.answer.result) step.0 what
-          c.caller_of.ensures.still_open step.1,
-    )
+returns-in-Ok-action-clause-told g c = record {
+  told = λ ours clean this stands.
+      let view = g.D.Desk.tables_view in
+      let keeps = g.met.D.Desk.tables_lawful.keeps _ _ c.in-Ok.ensures.reads.asks.keeps in
+      let before = c.answer.ensures.goes.clean clean in
+      let body = body_in c.args.bytes.now c.args.request.now in
+      let parts = parts_in c.args.bytes.now c.args.request.now in
+      let is_token = (rw c.in-Some.is at c.token.ensures) in
+      let is_caller = sym c.in-Some-found.is ∙ c.in-Ok.ensures.caller.told ours before this stands in
+      let is_action = sym c.in-Ok-action.is ∙ c.action-action.ensures.action in
+      let looked = looked_at view c.args.desk.now c.caller_of.new.self this keeps ours before stands in
+      let step = c.answer.ensures.turn_made.told (keeps.goes.ours ours before) clean this looked.stands (among this.callers _ _ is_caller) in
+      let call = c.call_of-call.ensures ∙ ap (call_of c.in-Ok-action.action c.number.result) c.body.ensures in
+      let asked : Caller × Call = (c.in-Some-found.caller, call_as c.call_of-call.result) in
+      let what : what_of this.callers parts body ≡ Ok asked = made this.callers parts body c.in-Some.token.now c.in-Some-found.caller c.in-Ok-action.action c.number.result is_token is_caller is_action c.number.ensures
+      ∙ ap (λ k. Ok (c.in-Some-found.caller, k)) (sym call) in (
+        step.0,
+        (asked, what, step.1.step),
+        call_run view c.args.desk.now c.answer.new.self this c.caller_of.new.self (what_of this.callers parts body) asked (reply_as c.answer.result) step.0 what looked step.1,
+      );
+}

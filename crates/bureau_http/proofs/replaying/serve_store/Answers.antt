@@ -1,6 +1,5 @@
 use Rattle.std.proofs.Common.{◌≡◌, ap, refl, subst, sym}
 use Rattle.bureau_store.specs.Lists.{IsOurs, tables_of}
-use Rattle.bureau.proofs.KeptFacts.{kept_run}
 use Rattle.bureau_http.proofs.ReplayFacts.{from_store, untold}
 use Rattle.bureau_http.proofs.replaying.serve_store.Goals as goal
 
@@ -8,5 +7,5 @@ pub returns-in-Ok-clause-served : goal.returns-in-Ok-clause-served
 returns-in-Ok-clause-served c =
     let store = c.new-bureau.result.store in
     let same : store ≡ c.args.store = ap (λ parts. parts.store) c.new-bureau.ensures in
-    let served = c.in-Ok.ensures.served tt (tables_of store) (subst IsOurs (sym same) c.requires, record { stands = λ is_open. refl; right = tt }) in
-    from_store _ _ _ _ same (untold _ (λ this next turns run. kept_run _ _ _ _ this turns next run) _ _ _ served)
+    let served = c.in-Ok.ensures.served.told (subst IsOurs (sym same) c.requires) tt (tables_of store) (refl, tt) in
+    from_store _ _ _ _ same (untold _ (λ this next turns run. run.run) _ _ _ served)

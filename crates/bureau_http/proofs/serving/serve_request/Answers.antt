@@ -10,16 +10,18 @@ use Rattle.requests.specs.Turn.{body_in, parts_in}
 use Rattle.bureau_http.proofs.serving.serve_request.Goals as goal
 
 pub returns-clause-exchanged : goal.returns-clause-exchanged
-returns-clause-exchanged g c clean this stands =
-    let parts = parts_in c.args.bytes.now c.args.request.now in
-    let what = what_of this.callers parts (body_in c.args.bytes.now c.args.request.now) in
-    let told = c.answer_to-told.ensures.told clean this stands in
-    let bare = c.is_bare.ensures in
-    record {
-      told = answer_told c.answer_to-told.result;
-      has = has_exchanged (IsKeptRun g.D.Desk.is_open g.D.Desk.stands c.args.desk.now c.answer_to-told.new.desk) this told.0 what (has_token parts) c.answer_to-told.result (is_bare parts) c.args.closes told.1 told.2;
-      failed = failed_as _ c.write.result c.write.ensures.err;
-      written = subst (IsWritten c.write.result (g.W.Write.contents c.args.writer.now) (g.W.Write.contents c.write.new.writer))
-          (ap (λ b. told_text c.answer_to-told.result b c.args.closes) bare ∙ same_text this told.0 what (has_token parts) c.answer_to-told.result (is_bare parts) c.args.closes told.1)
-          (written_as c.write.result _ _ _ c.write.ensures.ok c.write.ensures.err);
-    }
+returns-clause-exchanged g c = record {
+  told = λ ours clean this stands.
+      let parts = parts_in c.args.bytes.now c.args.request.now in
+      let what = what_of this.callers parts (body_in c.args.bytes.now c.args.request.now) in
+      let told = c.answer_to-told.ensures.told.told ours clean this stands in
+      let bare = c.is_bare.ensures in
+      record {
+        told = answer_told c.answer_to-told.result;
+        has = has_exchanged (IsKeptRun g.D.Desk.tables_view c.args.desk.now c.answer_to-told.new.desk) this told.0 what (has_token parts) c.answer_to-told.result (is_bare parts) c.args.closes told.1 told.2;
+        failed = failed_as _ c.write.result c.write.ensures.err;
+        written = subst (IsWritten c.write.result (g.W.Write.contents c.args.writer.now) (g.W.Write.contents c.write.new.writer))
+            (ap (λ b. told_text c.answer_to-told.result b c.args.closes) bare ∙ same_text this told.0 what (has_token parts) c.answer_to-told.result (is_bare parts) c.args.closes told.1)
+            (written_as c.write.result _ _ _ c.write.ensures.ok c.write.ensures.err);
+      };
+}

@@ -13,12 +13,12 @@ use Rattle.catalogue.proofs.touching.touched.Goals as goal
 pub loop-change-preserved : goal.loop-change-preserved
 loop-change-preserved g c =
     let law = g.met.P.Published in
-    let sooner = law.keeps_content _ _ c.loop-change.invariant.keeps in
-    let later = law.keeps_content _ _ c.in_ok-touch_by.ensures.keeps in
+    let sooner = law.lawful.keeps _ _ c.loop-change.invariant.keeps in
+    let later = law.lawful.keeps _ _ c.in_ok-touch_by.ensures.asks.keeps in
     let both = told_both (told_sooner c.loop-change.invariant.told later) (told_later sooner later c.in_ok-touch_by.ensures.touched) in
     record {
-      keeps = law.keeps_on _ _ _ c.loop-change.invariant.keeps c.in_ok-touch_by.ensures.keeps;
-      still_open = λ standing. c.in_ok-touch_by.ensures.stays_open (no_fault _) (c.loop-change.invariant.still_open standing);
+      keeps = law.lawful.on _ _ _ c.loop-change.invariant.keeps c.in_ok-touch_by.ensures.asks.keeps;
+      still_open = λ standing. c.in_ok-touch_by.ensures.asks.stays_open (no_fault _) (c.loop-change.invariant.still_open standing);
       told = told_so both (λ content facts.
           touched_more content c.args.changes.now c.loop-change.change-index c.change-item.result c.loop-change.ids.keys c.touch_by.new.ids.keys
           c.loop-change-test.true c.change-item.is facts.0 facts.1);

@@ -9,13 +9,13 @@ use Rattle.chains.proofs.listing.entries_of.Goals as goal
 pub loop-id-preserved : goal.loop-id-preserved
 loop-id-preserved g c =
     let law = g.met.P.Published in
-    let sooner = law.keeps_content _ _ c.loop-id.invariant.keeps in
-    let later = law.keeps_content _ _ c.in_ok-entry_of.ensures.keeps in
+    let sooner = law.lawful.keeps _ _ c.loop-id.invariant.keeps in
+    let later = law.lawful.keeps _ _ c.in_ok-entry_of.ensures.asks.keeps in
     let both = told_both (told_sooner c.loop-id.invariant.told later) (told_later sooner later c.in_ok-entry_of.ensures.entry) in
     record {
       len = ap length c.in_ok-push.ensures.items ∙ length-push c.loop-id.entries.items c.in_ok-entry_of.field-0 ∙ ap (λ k. k + 1) c.loop-id.invariant.len;
-      keeps = law.keeps_on _ _ _ c.loop-id.invariant.keeps c.in_ok-entry_of.ensures.keeps;
-      still_open = λ standing. c.in_ok-entry_of.ensures.stays_open (no_fault _) (c.loop-id.invariant.still_open standing);
+      keeps = law.lawful.on _ _ _ c.loop-id.invariant.keeps c.in_ok-entry_of.ensures.asks.keeps;
+      still_open = λ standing. c.in_ok-entry_of.ensures.asks.stays_open (no_fault _) (c.loop-id.invariant.still_open standing);
       told = told_so both (λ content facts.
           sights_more (sight_of content c.args.zone.now) c.args.ids.now c.loop-id.id-index c.id-item.result c.loop-id.entries.items c.push.new.self.items c.in_ok-entry_of.field-0
           c.loop-id-test.true c.id-item.is facts.0 c.in_ok-push.ensures.items facts.1);

@@ -1,5 +1,5 @@
 use Rattle.std.proofs.Common.{◌≡◌, length, map, take}
-use Rattle.catalogue.specs.Published.{Tells}
+use Rattle.catalogue.specs.View.{IsOpen, Tells}
 use Rattle.chains.specs.Sights.{sight_of}
 use Rattle.chains.proofs.listing.entries_of.Given as goal
 
@@ -8,8 +8,8 @@ invariant-loop-id g l =
     let source = g.P.Published in
     record {
       len : length l.entries.items ≡ l.id-index;
-      keeps : source.keeps l.fn.source l.source;
-      still_open : source.is_open l.fn.source → source.is_open l.source;
-      told : Tells source.is_clean source.is_ours source.is_open source.content l.fn.source l.source
+      keeps : source.content_view.keeps l.fn.source l.source;
+      still_open : IsOpen source.content_view l.fn.source → IsOpen source.content_view l.source;
+      told : Tells source.content_view l.fn.source l.source
           (λ content. l.entries.items ≡ map (sight_of content l.zone) (take l.id-index l.ids));
     }

@@ -7,8 +7,8 @@ use Rattle.chains.proofs.listing.entry_of.Goals as goal
 pub returns-clause-entry : goal.returns-clause-entry
 returns-clause-entry g c =
     let law = g.met.P.Published in
-    let first = law.keeps_content _ _ c.in_ok-sysmod.ensures.keeps in
-    let second = law.keeps_content _ _ c.in_ok-holds.ensures.keeps in
+    let first = law.lawful.keeps _ _ c.in_ok-sysmod.ensures.asks.keeps in
+    let second = law.lawful.keeps _ _ c.in_ok-holds.ensures.asks.keeps in
     let both = told_both (told_sooner c.in_ok-sysmod.ensures.sysmod second) (told_later first second c.in_ok-holds.ensures.holds) in
     told_so both (λ content facts.
     c.in_ok-entry_from.ensures

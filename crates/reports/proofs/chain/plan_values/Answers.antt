@@ -8,12 +8,12 @@ use Rattle.reports.proofs.chain.plan_values.Goals as goal
 pub loop-id-preserved : goal.loop-id-preserved
 loop-id-preserved g c =
     let law = g.met.P.Published in
-    let sooner = law.keeps_content _ _ c.loop-id.invariant.keeps in
-    let later = law.keeps_content _ _ c.in_ok-holds.ensures.keeps in
+    let sooner = law.lawful.keeps _ _ c.loop-id.invariant.keeps in
+    let later = law.lawful.keeps _ _ c.in_ok-holds.ensures.asks.keeps in
     let both = told_both (told_sooner c.loop-id.invariant.told later) (told_later sooner later c.in_ok-holds.ensures.holds) in
     record {
-      keeps = law.keeps_on _ _ _ c.loop-id.invariant.keeps c.in_ok-holds.ensures.keeps;
-      still_open = λ standing. c.in_ok-holds.ensures.shut.1 (no_fault _) (c.loop-id.invariant.still_open standing);
+      keeps = law.lawful.on _ _ _ c.loop-id.invariant.keeps c.in_ok-holds.ensures.asks.keeps;
+      still_open = λ standing. c.in_ok-holds.ensures.asks.is_open (no_fault _);
       told = told_so both (λ content facts.
           plan_more content c.args.plan.now c.loop-id.id-index c.id-item.result c.loop-id.values.items c.push.new.self.items c.in_ok-member_value.field-0
           c.loop-id-test.true c.id-item.is facts.0

@@ -10,23 +10,23 @@ use Rattle.reports.proofs.errors.err_rows.Goals as goal
 pub returns-in_err-statuses-clause-right : goal.returns-in_err-statuses-clause-right
 returns-in_err-statuses-clause-right g c =
     let law = g.met.P.Published in
-    told_later (law.keeps_content _ _ c.in_ok-found.ensures.keeps) (law.keeps_content _ _ c.statuses.ensures.keeps) c.statuses.ensures.right
+    told_later (law.lawful.keeps _ _ c.in_ok-found.ensures.asks.keeps) (law.lawful.keeps _ _ c.statuses.ensures.asks.keeps) c.statuses.ensures.right
 
 pub returns-in_err-rows_told-clause-right : goal.returns-in_err-rows_told-clause-right
 returns-in_err-rows_told-clause-right g c =
     let law = g.met.P.Published in
-    told_later (law.keeps_content _ _ c.in_ok-found.ensures.keeps) (law.keeps_content _ _ c.in_ok-statuses.ensures.keeps) c.in_ok-statuses.ensures.right
+    told_later (law.lawful.keeps _ _ c.in_ok-found.ensures.asks.keeps) (law.lawful.keeps _ _ c.in_ok-statuses.ensures.asks.keeps) c.in_ok-statuses.ensures.right
 
 pub returns-clause-right : goal.returns-clause-right
 returns-clause-right g c =
     let law = g.met.P.Published in
-    told_later (law.keeps_content _ _ c.in_ok-found.ensures.keeps) (law.keeps_content _ _ c.in_ok-statuses.ensures.keeps) c.in_ok-statuses.ensures.right
+    told_later (law.lawful.keeps _ _ c.in_ok-found.ensures.asks.keeps) (law.lawful.keeps _ _ c.in_ok-statuses.ensures.asks.keeps) c.in_ok-statuses.ensures.right
 
 pub returns-clause-rows : goal.returns-clause-rows
 returns-clause-rows g c =
     let law = g.met.P.Published in
-    let first = law.keeps_content _ _ c.in_ok-found.ensures.keeps in
-    let second = law.keeps_content _ _ c.in_ok-statuses.ensures.keeps in
+    let first = law.lawful.keeps _ _ c.in_ok-found.ensures.asks.keeps in
+    let second = law.lawful.keeps _ _ c.in_ok-statuses.ensures.asks.keeps in
     told_so (told_both (told_sooner c.in_ok-found.ensures.found second) (told_later first second c.in_ok-statuses.ensures.statuses)) (λ content facts right.
     let asked = c.deref-5.ensures.value ∙ c.in_ok-asked.ensures.resolvers ∙ ap (λ found. in_order (resolvers_in found)) (c.deref-2.ensures.value ∙ sym c.deref-4.ensures.value) in
     let statuses = c.deref-6.ensures.value ∙ facts.1 right ∙ ap (map (status_in content c.args.zone.now)) (c.deref-3.ensures.value ∙ sym c.deref-5.ensures.value) in

@@ -8,12 +8,12 @@ pub loop-one-preserved : goal.loop-one-preserved
 loop-one-preserved g c =
     let law = g.met.P.Published in
     let was = c.loop-one.invariant in
-    let sooner = law.keeps_content _ _ was.keeps in
-    let later = law.keeps_content _ _ c.in_ok-resolvers.ensures.keeps in
+    let sooner = law.lawful.keeps _ _ was.keeps in
+    let later = law.lawful.keeps _ _ c.in_ok-resolvers.ensures.asks.keeps in
     let both = told_both (told_sooner was.told later) (told_later sooner later c.in_ok-resolvers.ensures.candidates) in
     record {
-      keeps = law.keeps_on _ _ _ was.keeps c.in_ok-resolvers.ensures.keeps;
-      still_open = λ standing. c.in_ok-resolvers.ensures.stays_open (no_fault _) (c.loop-one.invariant.still_open standing);
+      keeps = law.lawful.on _ _ _ was.keeps c.in_ok-resolvers.ensures.asks.keeps;
+      still_open = λ standing. c.in_ok-resolvers.ensures.asks.stays_open (no_fault _) (c.loop-one.invariant.still_open standing);
       told = told_so both (λ content facts is.
           errors_more content c.args.zone.now c.args.held.now c.loop-one.one-index c.one-item.result c.loop-one.found.items c.put_found.new.found.items
           c.loop-one-test.true c.one-item.is (facts.0 is)

@@ -8,15 +8,15 @@ pub loop-one-preserved : goal.loop-one-preserved
 loop-one-preserved g c =
     let law = g.met.P.Published in
     let was = c.loop-one.invariant in
-    let joined = law.keeps_on _ _ _ was.keeps c.in_ok-by_reason.ensures.keeps in
-    let begun = law.keeps_content _ _ was.keeps in
-    let sooner = law.keeps_content _ _ c.in_ok-by_reason.ensures.keeps in
-    let later = law.keeps_content _ _ c.in_ok-by_resolver.ensures.keeps in
+    let joined = law.lawful.on _ _ _ was.keeps c.in_ok-by_reason.ensures.asks.keeps in
+    let begun = law.lawful.keeps _ _ was.keeps in
+    let sooner = law.lawful.keeps _ _ c.in_ok-by_reason.ensures.asks.keeps in
+    let later = law.lawful.keeps _ _ c.in_ok-by_resolver.ensures.asks.keeps in
     let first = told_both (told_sooner was.told sooner) (told_later begun sooner c.in_ok-by_reason.ensures.candidates) in
-    let both = told_both (told_sooner first later) (told_later (law.keeps_content _ _ joined) later c.in_ok-by_resolver.ensures.resolvers) in
+    let both = told_both (told_sooner first later) (told_later (law.lawful.keeps _ _ joined) later c.in_ok-by_resolver.ensures.resolvers) in
     record {
-      keeps = law.keeps_on _ _ _ joined c.in_ok-by_resolver.ensures.keeps;
-      still_open = λ standing. c.in_ok-by_resolver.ensures.stays_open (no_fault _) (c.in_ok-by_reason.ensures.stays_open (no_fault _) (c.loop-one.invariant.still_open standing));
+      keeps = law.lawful.on _ _ _ joined c.in_ok-by_resolver.ensures.asks.keeps;
+      still_open = λ standing. c.in_ok-by_resolver.ensures.asks.stays_open (no_fault _) (c.in_ok-by_reason.ensures.asks.stays_open (no_fault _) (c.loop-one.invariant.still_open standing));
       told = told_so both (λ content facts is.
           flat_map_more (rows_of content c.args.zone.now) c.args.held.now c.loop-one.one-index c.one-item.result c.loop-one.rows.items c.put_rows.new.rows.items
           c.loop-one-test.true c.one-item.is (facts.0.0 is)

@@ -1,6 +1,6 @@
 use Rattle.std.proofs.Common.{◌≡◌, take}
 use Rattle.catalogue.specs.Content.{ids_of}
-use Rattle.catalogue.specs.Published.{Tells}
+use Rattle.catalogue.specs.View.{IsOpen, Tells}
 use Rattle.reports.specs.MissingFound.{rows_found}
 use Rattle.reports.proofs.missing.rows_among.Given as goal
 
@@ -8,8 +8,8 @@ abbrev pub invariant-loop-one : goal.invariant-loop-one
 invariant-loop-one g l =
     let source = g.P.Published in
     record {
-      keeps : source.keeps l.fn.source l.source;
-      still_open : source.is_open l.fn.source → source.is_open l.source;
-      told : Tells source.is_clean source.is_ours source.is_open source.content l.fn.source l.source
+      keeps : source.content_view.keeps l.fn.source l.source;
+      still_open : IsOpen source.content_view l.fn.source → IsOpen source.content_view l.source;
+      told : Tells source.content_view l.fn.source l.source
           (λ content. l.catalogued ≡ ids_of content → l.rows.items ≡ rows_found content l.zone (take l.one-index l.held));
     }

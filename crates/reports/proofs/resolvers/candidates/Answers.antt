@@ -12,8 +12,8 @@ pub loop-id-preserved : goal.loop-id-preserved
 loop-id-preserved g c =
     let law = g.met.P.Published in
     let was = c.loop-id.invariant in
-    let sooner = law.keeps_content _ _ was.keeps in
-    let later = law.keeps_content _ _ c.in_ok-sysmod.ensures.keeps in
+    let sooner = law.lawful.keeps _ _ was.keeps in
+    let later = law.lawful.keeps _ _ c.in_ok-sysmod.ensures.asks.keeps in
     let both = told_both (told_sooner was.told later) (told_later sooner later c.in_ok-sysmod.ensures.sysmod) in
     let now : c.if-applies.found.items ≡ (if c.applies.result then c.loop-id.found.items ++ c.id-item.result ∷ [] else c.loop-id.found.items) =
     elim c.if-applies.branch [
@@ -21,8 +21,8 @@ loop-id-preserved g c =
       | else-applies w ↦ rw w.if-applies.false (ap (λ found. found.items) w.found-is)
     ] in
     record {
-      keeps = law.keeps_on _ _ _ was.keeps c.in_ok-sysmod.ensures.keeps;
-      still_open = λ standing. c.in_ok-sysmod.ensures.shut.1 (no_fault _) (c.loop-id.invariant.still_open standing);
+      keeps = law.lawful.on _ _ _ was.keeps c.in_ok-sysmod.ensures.asks.keeps;
+      still_open = λ standing. c.in_ok-sysmod.ensures.asks.is_open (no_fault _);
       told = told_so both (λ content facts.
           filter_more (is_candidate content c.args.zone.now) c.args.ids.now c.loop-id.id-index c.id-item.result c.loop-id.found.items c.if-applies.found.items c.applies.result
           c.loop-id-test.true c.id-item.is facts.0

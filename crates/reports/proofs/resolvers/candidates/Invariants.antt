@@ -1,5 +1,5 @@
 use Rattle.std.proofs.Common.{◌≡◌, filter, take}
-use Rattle.catalogue.specs.Published.{Tells}
+use Rattle.catalogue.specs.View.{IsOpen, Tells}
 use Rattle.supersede.specs.Giving.{is_candidate}
 use Rattle.reports.proofs.resolvers.candidates.Given as goal
 
@@ -7,8 +7,8 @@ abbrev pub invariant-loop-id : goal.invariant-loop-id
 invariant-loop-id g l =
     let source = g.P.Published in
     record {
-      keeps : source.keeps l.fn.source l.source;
-      still_open : source.is_open l.fn.source → source.is_open l.source;
-      told : Tells source.is_clean source.is_ours source.is_open source.content l.fn.source l.source
+      keeps : source.content_view.keeps l.fn.source l.source;
+      still_open : IsOpen source.content_view l.fn.source → IsOpen source.content_view l.source;
+      told : Tells source.content_view l.fn.source l.source
           (λ content. l.found.items ≡ filter (is_candidate content l.zone) (take l.id-index l.ids));
     }

@@ -7,8 +7,8 @@ use Rattle.supersede.proofs.giving.givers.Goals as goal
 pub returns-clause-givers : goal.returns-clause-givers
 returns-clause-givers g c =
     let law = g.met.P.Published in
-    let first = law.keeps_content _ _ c.in_ok-catalogued.ensures.keeps in
-    let second = law.keeps_content _ _ c.givers_among.ensures.keeps in
+    let first = law.lawful.keeps _ _ c.in_ok-catalogued.ensures.asks.keeps in
+    let second = law.lawful.keeps _ _ c.givers_among.ensures.asks.keeps in
     IfOk-weaker c.givers_among.result _ _ (λ ids tells.
     told_so (told_both (told_sooner c.in_ok-catalogued.ensures.ids second) (told_later first second tells)) (λ content facts. facts.1 (c.deref.ensures.value ∙ facts.0)))
     c.givers_among.ensures.givers

@@ -9,15 +9,15 @@ pub loop-at-preserved : goal.loop-at-preserved
 loop-at-preserved g c =
     let law = g.met.P.Published in
     let was = c.loop-at.invariant in
-    let sooner = law.keeps_content _ _ was.keeps in
-    let later = law.keeps_content _ _ c.in_ok-above.ensures.keeps in
+    let sooner = law.lawful.keeps _ _ was.keeps in
+    let later = law.lawful.keeps _ _ c.in_ok-above.ensures.asks.keeps in
     let both = told_both (told_sooner was.told later) (told_later sooner later c.in_ok-above.ensures.superseders) in
     let alike = c.in_ok-add_new.ensures.alike was.alike in
     let below : c.loop-at.at < length c.loop-at.order.items = search rules in
     let at : c.index.result.now ≡ get_or c.loop-at.order.items c.loop-at.at c.index.result.now = search rules in
     record {
-      keeps = law.keeps_on _ _ _ was.keeps c.in_ok-above.ensures.keeps;
-      still_open = λ standing. c.in_ok-above.ensures.shut.1 (no_fault _) (c.loop-at.invariant.still_open standing);
+      keeps = law.lawful.on _ _ _ was.keeps c.in_ok-above.ensures.asks.keeps;
+      still_open = λ standing. c.in_ok-above.ensures.asks.is_open (no_fault _);
       alike = alike;
       begun = still_has c.loop-at.order.items c.add_new.new.order.items c.args.id.now c.in_ok-add_new.ensures.continues was.begun;
       within = longer c.loop-at.order.items c.add_new.new.order.items c.loop-at.at c.in_ok-add_new.ensures.continues below;

@@ -1,7 +1,7 @@
 use Rattle.std.proofs.Common.{◌≡◌, ◌≤◌, ◌-◌, ◌^◌, true, length, take}
 use Rattle.catalogue.specs.Content.{ids_of}
 use Rattle.catalogue.specs.Ids.{Ascend}
-use Rattle.catalogue.specs.Published.{Tells}
+use Rattle.catalogue.specs.View.{IsOpen, Tells}
 use Rattle.supersede.specs.Reach.{Alike, has}
 use Rattle.supersede.proofs.ReachFacts.{Walked}
 use Rattle.supersede.proofs.giving.reach.Given as goal
@@ -11,12 +11,12 @@ abbrev pub invariant-loop-at : goal.invariant-loop-at
 invariant-loop-at g l =
     let source = g.P.Published in
     record {
-      keeps : source.keeps l.fn.source l.source;
-      still_open : source.is_open l.fn.source → source.is_open l.source;
+      keeps : source.content_view.keeps l.fn.source l.source;
+      still_open : IsOpen source.content_view l.fn.source → IsOpen source.content_view l.source;
       alike : Alike l.found.keys l.order.items;
       begun : has l.order.items l.id ≡ true;
       within : l.at ≤ length l.order.items;
-      told : Tells source.is_clean source.is_ours source.is_open source.content l.fn.source l.source
+      told : Tells source.content_view l.fn.source l.source
           (λ content. Ascend (ids_of content) → Walked content l.order.items (take l.at l.order.items) l.id);
     }
 

@@ -6,8 +6,8 @@ use Rattle.chains.proofs.whole.WholeJudge.verdict.Goals as goal
 pub returns-clause-verdict : goal.returns-clause-verdict
 returns-clause-verdict g c =
     let law = g.met.P.Published in
-    let first = law.keeps_content _ _ c.in_ok-ids.ensures.keeps in
-    let second = law.keeps_content _ _ c.in_ok-entries.ensures.keeps in
+    let first = law.lawful.keeps _ _ c.in_ok-ids.ensures.asks.keeps in
+    let second = law.lawful.keeps _ _ c.in_ok-entries.ensures.asks.keeps in
     let both = told_both (told_sooner c.in_ok-ids.ensures.ids second) (told_later first second c.in_ok-entries.ensures.entries) in
     told_so both (λ content facts right.
     c.in_ok-verdict_in.ensures content (c.deref-2.ensures.value ∙ facts.0)

@@ -1,0 +1,234 @@
+-- What a client's change makes of the rows is what it makes of the tables.
+use Rattle.std.proofs.Common.{◌≡◌, ℕ, Bool, true, false, cond, List, [], ◌∷◌, refl, sym, ◌∙◌, ap, if◌then◌else◌}
+use Rattle.std.specs.Prelude.{filter, fold, map, Some, None, is_some, option_and_then, option_map, unwrap_or}
+use Rattle.std.specs.List.{AllByRecursion, cons_option, filter_map, list_any}
+use Rattle.std.proofs.Math.Path.{fun_ext}
+use Rattle.mcs_reader.specs.Id.{IsId}
+use Rattle.catalogue.specs.Content.{Content}
+use Rattle.catalogue.specs.Ids.{same_id}
+use Rattle.catalogue.specs.declared.change.Change.{Change}
+use Rattle.catalogue.specs.declared.change.Change.TheVariants.{Whole, OfHold}
+use Rattle.catalogue.proofs.IdFacts.{one_id, same_back}
+use Rattle.bureau_store.specs.Caller.{is_caller, is_publisher, publisher_name}
+use Rattle.bureau_store.specs.Effect as effect
+use Rattle.bureau_store.specs.Effect.{Effect, publication, zone_put, zone_dropped, received_put, patterns_put, zones_after}
+use Rattle.bureau_store.specs.Tables as tables
+use Rattle.bureau_store.specs.Tables.{AreInOrder, LastChange, Tables, no_change, zone_named}
+use Rattle.bureau_store.specs.declared.caller.Caller.{Caller}
+use Rattle.bureau_store.specs.declared.caller.Caller.TheVariants.{Publisher, Client}
+use Rattle.bureau_store.specs.declared.caller.CallerRow.{CallerRow}
+use Rattle.sqlite_value.specs.Order.{Row, column}
+use Rattle.sql_tables.specs.Changes.{changed, published, received_after, replaced, stored_after, with_last}
+use Rattle.sql_tables.specs.Fit.{CanBeMade, IsFit, IsNamed, IsOwn}
+use Rattle.sql_tables.specs.Rows.{caller_found, caller_row, change_found, change_row, received_row}
+use Rattle.sql_tables.specs.Stored.{Stored, change_of, first, is_of, is_of_both, last_of, name_of, opened, received_of, shown, tables_of, zone_of, zones_of}
+use Rattle.sql_tables.specs.Values.{ids_in}
+use Rattle.sql_tables.proofs.ClientFacts.{of_apart, zone_found, zones_ascend}
+use Rattle.sql_tables.proofs.ContentFacts.{all_published, content_in_order, spared}
+use Rattle.sql_tables.proofs.ListFacts.{filter_other, filter_same}
+use Rattle.sql_tables.proofs.ListValueFacts.{ids_again}
+use Rattle.sql_tables.proofs.ValueFacts.{id_again, named_itself}
+use Rattle.sql_tables.proofs.ZoneFacts.{heads_other, rows_other, same_zones, zones_asked, zones_dropped, zones_put}
+
+-- ---- one row for a name
+
+-- the row of a name, after one is put in its place
+own_row : (name : List ℕ) (row : Row) (rows : List Row) → is_of name row ≡ true → filter (is_of name) (replaced (is_of name) (row ∷ []) rows) ≡ row ∷ []
+own_row name row rows is = filter_same (is_of name) (row ∷ []) rows ∙ ap (λ b. cond b (row ∷ []) []) is
+
+other_row : (name other : List ℕ) (row : Row) (rows : List Row) → same_id name other ≡ false → is_of name row ≡ true
+    → filter (is_of other) (replaced (is_of name) (row ∷ []) rows) ≡ filter (is_of other) rows
+other_row name other row rows apart is =
+    filter_other (is_of other) (is_of name) (row ∷ []) rows (of_apart other name (same_back other name ∙ apart))
+    (ap (λ b. cond b (row ∷ []) []) (of_apart name other apart row is))
+
+-- ---- the received list
+
+received_own : (client : List ℕ) (e : Effect) (rows : List Row) → IsId client → IsFit e
+    → received_of (received_after client e rows) client ≡ effect.received_after e (received_of rows client)
+received_own client (publication changes) rows is fit = refl
+received_own client (zone_put zone news) rows is fit = refl
+received_own client (zone_dropped zone) rows is fit = refl
+received_own client (received_put ids) rows is fit =
+    ap (λ rs. unwrap_or (option_and_then (λ row. ids_in (column row 1)) (first rs)) []) (own_row client (received_row client ids) rows (named_itself client is))
+    ∙ ap (λ o. unwrap_or o []) (ids_again ids fit)
+received_own client (patterns_put zone patterns) rows is fit = refl
+
+received_other : (client name : List ℕ) (e : Effect) (rows : List Row) → IsId client → same_id client name ≡ false
+    → received_of (received_after client e rows) name ≡ received_of rows name
+received_other client name (publication changes) rows is apart = refl
+received_other client name (zone_put zone news) rows is apart = refl
+received_other client name (zone_dropped zone) rows is apart = refl
+received_other client name (received_put ids) rows is apart =
+    ap (λ rs. unwrap_or (option_and_then (λ row. ids_in (column row 1)) (first rs)) []) (other_row client name (received_row client ids) rows apart (named_itself client is))
+received_other client name (patterns_put zone patterns) rows is apart = refl
+
+-- ---- the last change
+
+change_own : (name : List ℕ) (last : LastChange) (rows : List Row) → IsId name → change_of (with_last (Some name) last rows) name ≡ Some last
+change_own name last rows is =
+    ap (λ rs. option_and_then (λ row. change_found (shown (1 ∷ 2 ∷ []) row)) (first rs)) (own_row name (change_row name last) rows (named_itself name is))
+
+change_other : (name other : List ℕ) (last : LastChange) (rows : List Row) → IsId name → same_id name other ≡ false
+    → change_of (with_last (Some name) last rows) other ≡ change_of rows other
+change_other name other last rows is apart =
+    ap (λ rs. option_and_then (λ row. change_found (shown (1 ∷ 2 ∷ []) row)) (first rs)) (other_row name other (change_row name last) rows apart (named_itself name is))
+
+publisher_id : IsId publisher_name
+publisher_id = (refl, refl)
+
+last_after : (caller other : Caller) (last : LastChange) (rows : List Row) → IsNamed caller
+    → last_of (with_last (name_of caller) last rows) other ≡ (if is_caller caller other then last else last_of rows other)
+last_after Publisher Publisher last rows is = ap (λ o. unwrap_or o no_change) (change_own publisher_name last rows publisher_id)
+last_after Publisher (Client name) last rows is = by (is_publisher name) refl
+  where
+    by : (b : Bool) → is_publisher name ≡ b
+        → unwrap_or (option_and_then (change_of (with_last (Some publisher_name) last rows)) (cond b None (Some name))) no_change ≡ unwrap_or (option_and_then (change_of rows) (cond b None (Some name))) no_change
+    by true at = refl
+    by false at = ap (λ o. unwrap_or o no_change) (change_other publisher_name name last rows publisher_id (same_back publisher_name name ∙ at))
+last_after (Client client) Publisher last rows is =
+    ap (λ b. last_of (with_last (cond b None (Some client)) last rows) Publisher) is.1
+    ∙ ap (λ o. unwrap_or o no_change) (change_other client publisher_name last rows is.0 is.1)
+last_after (Client client) (Client name) last rows is =
+    ap (λ b. last_of (with_last (cond b None (Some client)) last rows) (Client name)) is.1 ∙ by (is_publisher name) refl (same_id client name) refl
+  where
+    by : (b : Bool) → is_publisher name ≡ b → (c : Bool) → same_id client name ≡ c
+        → unwrap_or (option_and_then (change_of (with_last (Some client) last rows)) (cond b None (Some name))) no_change
+        ≡ cond c last (unwrap_or (option_and_then (change_of rows) (cond b None (Some name))) no_change)
+    by true at true there = let f : is_publisher name ≡ false = ap is_publisher (sym (one_id client name there)) ∙ is.1 in cc
+    by true at false there = refl
+    by false at true there =
+        ap (λ o. unwrap_or o no_change) (ap (change_of (with_last (Some client) last rows)) (sym (one_id client name there)) ∙ change_own client last rows is.0)
+    by false at false there = ap (λ o. unwrap_or o no_change) (change_other client name last rows is.0 there)
+
+-- ---- all of it
+
+-- tables are those of which each part is the same
+pub same_tables : (a b : Tables) → a.callers ≡ b.callers → a.content ≡ b.content → ((caller : Caller) → a.last caller ≡ b.last caller)
+    → ((name : List ℕ) → a.zones name ≡ b.zones name) → ((name : List ℕ) → a.received name ≡ b.received name) → a ≡ b
+same_tables a b callers content last zones received =
+    let lasts = fun_ext last in
+    let zoned = fun_ext zones in
+    let had = fun_ext received in
+    λ i. record { callers = callers i; content = content i; last = lasts i; zones = zoned i; received = had i }
+
+private_content : (client : List ℕ) (e : Effect) (content : Content) → IsOwn (Client client) e → effect.content_after e content ≡ content
+private_content client (publication changes) content own = absurd own
+private_content client (zone_put zone rows) content own = refl
+private_content client (zone_dropped zone) content own = refl
+private_content client (received_put ids) content own = refl
+private_content client (patterns_put zone patterns) content own = refl
+
+zones_own : (client : List ℕ) (e : Effect) (stored : Stored) → IsId client → CanBeMade (Client client) e (tables_of stored)
+    → zones_of (changed (Client client) e stored) client ≡ zones_after e (zones_of stored client)
+zones_own client (publication changes) stored is can = absurd can.own
+zones_own client (zone_put zone rows) stored is can = zones_put stored client zone is can.fit.0 rows can.fit.1
+zones_own client (zone_dropped zone) stored is can = zones_dropped stored client zone is can.fit
+zones_own client (received_put ids) stored is can = refl
+zones_own client (patterns_put zone patterns) stored is can =
+    zones_asked stored client zone is can.fit.0 patterns can.fit.1 (by (list_any (is_of_both client zone) stored.heads) (ap is_some (sym (zone_found stored client zone)) ∙ can.asked))
+  where
+    by : (b : Bool) → is_some (cond b (Some (zone_of stored client zone)) None) ≡ true → b ≡ true
+    by true h = refl
+    by false h = cc
+
+zones_other : (client name : List ℕ) (e : Effect) (stored : Stored) → IsId client → IsFit e → same_id client name ≡ false
+    → zones_of (changed (Client client) e stored) name ≡ zones_of stored name
+zones_other client name e stored is fit apart =
+    same_zones stored (changed (Client client) e stored) name
+    (λ zone. heads_other client name zone e is fit apart stored.heads)
+    (λ zone. rows_other client name zone e is fit apart stored.rows)
+
+-- a change of a client
+pub client_made : (client : List ℕ) (e : Effect) (last : LastChange) (stored : Stored) → CanBeMade (Client client) e (tables_of stored)
+    → tables_of (stored_after (Client client) e last stored) ≡ effect.tables_after (Client client) e last (tables_of stored)
+client_made client e last stored can =
+    same_tables (tables_of (stored_after (Client client) e last stored)) (effect.tables_after (Client client) e last (tables_of stored))
+    refl (sym (private_content client e (tables_of stored).content can.own)) (λ other. last_after (Client client) other last stored.changes can.named) zones received
+  where
+    zones : (name : List ℕ) → zones_of (changed (Client client) e stored) name ≡ (if same_id client name then zones_after e (zones_of stored name) else zones_of stored name)
+    zones name = by (same_id client name) refl
+      where
+        by : (b : Bool) → same_id client name ≡ b → zones_of (changed (Client client) e stored) name ≡ cond b (zones_after e (zones_of stored name)) (zones_of stored name)
+        by true at =
+            let same = one_id client name at in
+            ap (zones_of (changed (Client client) e stored)) (sym same) ∙ zones_own client e stored can.named.0 can ∙ ap (λ n. zones_after e (zones_of stored n)) same
+        by false at = zones_other client name e stored can.named.0 can.fit at
+
+    received : (name : List ℕ) → received_of (received_after client e stored.received) name ≡ (if same_id client name then effect.received_after e (received_of stored.received name) else received_of stored.received name)
+    received name = by (same_id client name) refl
+      where
+        by : (b : Bool) → same_id client name ≡ b
+            → received_of (received_after client e stored.received) name ≡ cond b (effect.received_after e (received_of stored.received name)) (received_of stored.received name)
+        by true at =
+            let same = one_id client name at in
+            ap (received_of (received_after client e stored.received)) (sym same) ∙ received_own client e stored.received can.named.0 can.fit
+            ∙ ap (λ n. effect.received_after e (received_of stored.received n)) same
+        by false at = received_other client name e stored.received can.named.0 at
+
+-- a change of the publisher
+publisher_made : (changes : List Change) (last : LastChange) (stored : Stored) → IsFit (publication changes)
+    → tables_of (stored_after Publisher (publication changes) last stored) ≡ effect.tables_after Publisher (publication changes) last (tables_of stored)
+publisher_made changes last stored fit =
+    same_tables (tables_of (stored_after Publisher (publication changes) last stored)) (effect.tables_after Publisher (publication changes) last (tables_of stored))
+    (ap (filter_map caller_found) (spared (λ (s : Stored). s.callers) callers changes stored))
+    (all_published changes stored fit)
+    (λ other. ap (λ rows. last_of (with_last (Some publisher_name) last rows) other) (spared (λ (s : Stored). s.changes) numbers changes stored) ∙ last_after Publisher other last stored.changes tt)
+    (λ name. same_zones stored (fold published stored changes) name
+    (λ zone. ap (filter (is_of_both name zone)) (spared (λ (s : Stored). s.heads) heads changes stored))
+    (λ zone. ap (filter (is_of_both name zone)) (spared (λ (s : Stored). s.rows) rows changes stored)))
+    (λ name. ap (λ rows. received_of rows name) (spared (λ (s : Stored). s.received) received changes stored))
+  where
+    callers : (s : Stored) (change : Change) → (published s change).callers ≡ s.callers
+    callers s (Whole x) = refl
+    callers s (OfHold change) = refl
+
+    numbers : (s : Stored) (change : Change) → (published s change).changes ≡ s.changes
+    numbers s (Whole x) = refl
+    numbers s (OfHold change) = refl
+
+    heads : (s : Stored) (change : Change) → (published s change).heads ≡ s.heads
+    heads s (Whole x) = refl
+    heads s (OfHold change) = refl
+
+    rows : (s : Stored) (change : Change) → (published s change).rows ≡ s.rows
+    rows s (Whole x) = refl
+    rows s (OfHold change) = refl
+
+    received : (s : Stored) (change : Change) → (published s change).received ≡ s.received
+    received s (Whole x) = refl
+    received s (OfHold change) = refl
+
+-- each change
+pub change_made : (caller : Caller) (e : Effect) (last : LastChange) (stored : Stored) → CanBeMade caller e (tables_of stored)
+    → tables_of (stored_after caller e last stored) ≡ effect.tables_after caller e last (tables_of stored)
+change_made Publisher (publication changes) last stored can = publisher_made changes last stored can.fit
+change_made Publisher (zone_put zone rows) last stored can = absurd can.own
+change_made Publisher (zone_dropped zone) last stored can = absurd can.own
+change_made Publisher (received_put ids) last stored can = absurd can.own
+change_made Publisher (patterns_put zone patterns) last stored can = absurd can.own
+change_made (Client client) e last stored can = client_made client e last stored can
+
+-- ---- before the first change
+
+callers_again : (rows : List CallerRow) → AllByRecursion (λ (row : CallerRow). IsId row.name) rows → filter_map caller_found (map caller_row rows) ≡ rows
+callers_again [] h = refl
+callers_again (row ∷ rows) h =
+    ap (λ o. cons_option (option_map (λ name. record { name = name; token = row.token }) o) (filter_map caller_found (map caller_row rows))) (id_again row.name h.0)
+    ∙ ap (λ rest. row ∷ rest) (callers_again rows h.1)
+
+pub opened_tables : (rows : List CallerRow) → AllByRecursion (λ (row : CallerRow). IsId row.name) rows → tables_of (opened (map caller_row rows)) ≡ tables.opened rows
+opened_tables rows h = same_tables (tables_of (opened (map caller_row rows))) (tables.opened rows) (callers_again rows h) refl last (λ name. refl) (λ name. refl)
+  where
+    last : (caller : Caller) → last_of [] caller ≡ no_change
+    last Publisher = refl
+    last (Client name) = by (is_publisher name)
+      where
+        by : (b : Bool) → unwrap_or (option_and_then (change_of []) (cond b None (Some name))) no_change ≡ no_change
+        by true = refl
+        by false = refl
+
+-- ---- the order of what the rows say
+
+pub tables_in_order : (stored : Stored) → AreInOrder (tables_of stored)
+tables_in_order stored = record { content = content_in_order stored; zones = λ client. zones_ascend stored client }

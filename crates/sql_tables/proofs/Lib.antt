@@ -1,0 +1,15 @@
+pub mod CallerFacts
+pub mod ChangeFacts
+pub mod ClientFacts
+pub mod ContentFacts
+pub mod JoinFacts
+pub mod ListFacts
+pub mod ListValueFacts
+pub mod MemberFacts
+pub mod OrderFacts
+pub mod ReadFacts
+pub mod RecordFacts
+pub mod RowFacts
+pub mod TreeFacts
+pub mod ValueFacts
+pub mod ZoneFacts

@@ -1,0 +1,102 @@
+-- What a change makes of the rows: those that it names go, and others come after those that stay.
+use Rattle.std.specs.Prelude.{ℕ, ◌&&◌, ◌++◌, Bool, false, not, List, [], ◌∷◌, map, filter, fold, Option, Some, None, option_map, unwrap_or, if◌then◌else◌}
+use Rattle.std.specs.List.{list_any}
+use Rattle.holddata.specs.HoldKey.{is_same_kind}
+use Rattle.holddata.specs.declared.hold.HoldChange.{HoldChange}
+use Rattle.holddata.specs.declared.hold.HoldChange.TheVariants.{Put, Release}
+use Rattle.holddata.specs.declared.key.HoldKey.{HoldKey}
+use Rattle.holddata.specs.declared.key.Kind.{Kind}
+use Rattle.catalogue.specs.declared.change.Change.{Change}
+use Rattle.catalogue.specs.declared.change.Change.TheVariants.{Whole, OfHold}
+use Rattle.bureau_store.specs.Effect.{Effect, publication, zone_put, zone_dropped, received_put, patterns_put}
+use Rattle.bureau_store.specs.Tables.{LastChange}
+use Rattle.bureau_store.specs.declared.caller.Caller.{Caller}
+use Rattle.bureau_store.specs.declared.caller.Caller.TheVariants.{Publisher, Client}
+use Rattle.sqlite_value.specs.Order.{Row, column}
+use Rattle.sqlite_value.specs.declared.value.Value.{Value}
+use Rattle.sql_tables.specs.Rows.{change_row, head_row, hold_row, received_row, sup_row, sysmod_row, zone_row}
+use Rattle.sql_tables.specs.Stored.{Stored, is_named, is_of, is_of_both, name_of}
+use Rattle.sql_tables.specs.Values.{hold_kind_in}
+
+-- the rows that a test passes go, and these come
+abbrev pub replaced : (Row → Bool) → List Row → List Row → List Row
+replaced test news rows = filter (λ row. not (test row)) rows ++ news
+
+-- ---- a client's changes
+
+-- the caller's last change is this one
+abbrev pub with_last : Option (List ℕ) → LastChange → List Row → List Row
+with_last None last rows = rows
+with_last (Some name) last rows = replaced (is_of name) (change_row name last ∷ []) rows
+
+-- the heads, with one for this zone, which asks for no patterns where it wasn't there
+abbrev pub with_head : List ℕ → List ℕ → List Row → List Row
+with_head client zone heads =
+    if list_any (is_of_both client zone) heads then heads else heads ++ head_row client zone [] ∷ []
+
+abbrev pub heads_after : List ℕ → Effect → List Row → List Row
+heads_after client (publication changes) heads = heads
+heads_after client (zone_put zone rows) heads = with_head client zone heads
+heads_after client (zone_dropped zone) heads = replaced (is_of_both client zone) [] heads
+heads_after client (received_put ids) heads = heads
+heads_after client (patterns_put zone patterns) heads =
+    replaced (is_of_both client zone) (head_row client zone patterns ∷ []) heads
+
+abbrev pub rows_after : List ℕ → Effect → List Row → List Row
+rows_after client (publication changes) rows = rows
+rows_after client (zone_put zone news) rows =
+    replaced (is_of_both client zone) (map (zone_row client zone) news) rows
+rows_after client (zone_dropped zone) rows = replaced (is_of_both client zone) [] rows
+rows_after client (received_put ids) rows = rows
+rows_after client (patterns_put zone patterns) rows = rows
+
+abbrev pub received_after : List ℕ → Effect → List Row → List Row
+received_after client (publication changes) received = received
+received_after client (zone_put zone rows) received = received
+received_after client (zone_dropped zone) received = received
+received_after client (received_put ids) received =
+    replaced (is_of client) (received_row client ids ∷ []) received
+received_after client (patterns_put zone patterns) received = received
+
+-- ---- a publication
+
+abbrev pub is_kind : Kind → Value → Bool
+is_kind kind value = unwrap_or (option_map (λ found. is_same_kind found kind) (hold_kind_in value)) false
+
+-- whether a row's first columns are this key
+abbrev pub is_under : HoldKey → Row → Bool
+is_under key row =
+    is_of key.sysmod row && (is_kind key.kind (column row 1) && is_named key.reason (column row 2))
+
+abbrev pub holds_changed : HoldChange → List Row → List Row
+holds_changed (Put hold) holds = replaced (is_under hold.key) (hold_row hold ∷ []) holds
+holds_changed (Release key) holds = replaced (is_under key) [] holds
+
+abbrev pub published : Stored → Change → Stored
+published stored (Whole sysmod) = record stored {
+  sysmods = replaced (is_of sysmod.id) (sysmod_row sysmod ∷ []) stored.sysmods;
+  sups = replaced (is_of sysmod.id) (map (sup_row sysmod.id) sysmod.sup) stored.sups;
+}
+published stored (OfHold change) = record stored { holds = holds_changed change stored.holds }
+
+-- ---- all of it
+
+-- the rows after a change of the publisher or of a client, before its number is kept
+abbrev pub changed : Caller → Effect → Stored → Stored
+changed Publisher (publication changes) stored = fold published stored changes
+changed Publisher (zone_put zone rows) stored = stored
+changed Publisher (zone_dropped zone) stored = stored
+changed Publisher (received_put ids) stored = stored
+changed Publisher (patterns_put zone patterns) stored = stored
+changed (Client client) effect stored = record stored {
+  heads = heads_after client effect stored.heads;
+  rows = rows_after client effect stored.rows;
+  received = received_after client effect stored.received;
+}
+
+abbrev pub numbered : Caller → LastChange → Stored → Stored
+numbered caller last stored = record stored { changes = with_last (name_of caller) last stored.changes }
+
+-- the rows after a caller's change
+abbrev pub stored_after : Caller → Effect → LastChange → Stored → Stored
+stored_after caller effect last stored = numbered caller last (changed caller effect stored)

@@ -1,0 +1,31 @@
+//! What the rows of the bureau's tables stand for, in a database that keeps them.
+//!
+//! - [`law`]: the rows stand for tables in order; a change of the rows is that change of the tables; what is read
+//!   of the rows is what the tables say
+//! - [`id_value`], [`date_value`] and so on: what stands in a column; [`id_in`] and so on: what it says
+//! - [`joined_ids`], [`joined_patterns`], [`categories_value`]: lists, of which each stands in one column
+//! - [`zone_row_in`], [`hold_in`], [`sysmod_in`], [`change_in`] and so on: what a row says
+//! - [`NoMemory`]: memory ran out
+//!
+//! `specs/` has what stands in a column (`Values`) and in a row (`Rows`), the tables that all rows stand for
+//! (`Stored`), and what each change makes of the rows (`Changes`). The crate opens no database.
+#![tactic(auto)]
+
+pub mod law;
+mod lists;
+mod rows;
+#[cfg(test)]
+mod tests;
+mod values;
+
+pub use faults::NoMemory;
+pub use lists::{
+    categories_in, categories_value, ids_in, joined_ids, joined_patterns, patterns_in,
+};
+pub use rows::{
+    change_in, count_in, hold_in, id_row_in, ids_row_in, patterns_row_in, sysmod_in, zone_row_in,
+};
+pub use values::{
+    date_in, date_value, hold_kind_in, hold_kind_value, id_in, id_value, optional_id_in,
+    optional_id_value, state_in, state_value, sysmod_kind_in, sysmod_kind_value,
+};

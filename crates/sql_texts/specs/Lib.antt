@@ -1,0 +1,5 @@
+pub mod Found
+pub mod Meaning
+pub mod Reads
+pub mod Schema
+pub mod Writes

@@ -1,0 +1,119 @@
+-- What is read, as queries over the trees of the tables. Slot 0 has the parameters, and slot 1 a row.
+use Rattle.std.specs.Prelude.{ℕ, List, [], ◌∷◌, map, None, Some, false, pos, negsuc}
+use Rattle.sqlite.specs.Collation.TheVariants.{Binary}
+use Rattle.sqlite.specs.Query.{Join, Query, counted, end, inner}
+use Rattle.sqlite.specs.Term.{Term, lit, col, op2}
+use Rattle.sqlite.specs.declared.types.Value.TheVariants.{Int, Null}
+use Rattle.sqlite_sql.specs.Group.{Aggregate}
+use Rattle.sqlite_sql.specs.declared.aggregate.AggregateOp.TheVariants.{CountRows}
+use Rattle.sqlite_sql.specs.declared.ops.BinaryOp.TheVariants.{Compare}
+use Rattle.sqlite_sql.specs.declared.ops.CompareOp.TheVariants.{Eq, Lt}
+use Rattle.sqlite_value.specs.Keys.{ascending}
+
+-- two values are one
+abbrev pub same : Term → Term → Term
+same = op2 (Compare Eq Binary)
+
+-- the column at a place is the parameter of a number from 0 on
+abbrev pub is_given : ℕ → ℕ → Term
+is_given place parameter = same (col 1 place) (col 0 parameter)
+
+-- the terms of the rows that a filter keeps, all of them, ordered by other terms
+abbrev pub query_of : Join → List Term → List Term → List Term → Query
+query_of from filter project order = record {
+  from = from;
+  filter = filter;
+  group = None;
+  project = project;
+  distinct = false;
+  collations = [];
+  order = map (λ term. (term, ascending Binary)) order;
+  limit = lit (Int (negsuc 0));
+  offset = lit (Int (pos 0));
+}
+
+-- of one table's rows the columns at these places, ordered by the columns at the others
+abbrev pub from_table : ℕ → List Term → List ℕ → List ℕ → Query
+from_table tree filter project order =
+    query_of (inner tree end) filter (map (col 1) project) (map (col 1) order)
+
+-- how many rows there are
+abbrev pub how_many : Aggregate
+how_many = record { op = CountRows; distinct = false; collation = Binary; argument = lit Null }
+
+-- how many rows of a table a filter keeps
+abbrev pub count_of : ℕ → List Term → Query
+count_of tree filter = record (query_of (inner tree end) filter (col 1 0 ∷ []) [])
+    { group = Some (record { keys = []; collations = []; aggregates = how_many ∷ []; having = [] }) }
+
+abbrev pub version : Query
+version = from_table 0 [] (2 ∷ []) (0 ∷ [])
+
+-- the name of the caller with a token
+abbrev pub caller_with_token : Query
+caller_with_token = from_table 1 (is_given 2 0 ∷ []) (1 ∷ []) (1 ∷ [])
+
+-- number and reply of a caller's last change
+abbrev pub last_change : Query
+last_change = from_table 4 (is_given 1 0 ∷ []) (2 ∷ 3 ∷ []) (1 ∷ [])
+
+abbrev pub sysmod_ids : Query
+sysmod_ids = from_table 6 [] (1 ∷ []) (1 ∷ [])
+
+-- the record of an id, without what it supersedes
+abbrev pub sysmod : Query
+sysmod = from_table 6 (is_given 1 0 ∷ []) (1 ∷ 2 ∷ 3 ∷ 4 ∷ 5 ∷ []) (1 ∷ [])
+
+-- what an id supersedes
+abbrev pub superseded : Query
+superseded = from_table 8 (is_given 1 0 ∷ []) (2 ∷ []) (2 ∷ [])
+
+-- the catalogued ids that supersede an id: slot 2 is their record
+abbrev pub superseders : Query
+superseders = query_of (inner 8 (inner 6 end))
+    (same (col 2 1) (col 1 1) ∷ is_given 2 0 ∷ []) (col 1 1 ∷ []) (col 1 1 ∷ [])
+
+-- the holds on an id
+abbrev pub holds_on : Query
+holds_on = from_table 11 (is_given 1 0 ∷ []) (1 ∷ 2 ∷ 3 ∷ 4 ∷ 5 ∷ 6 ∷ 7 ∷ 8 ∷ []) (1 ∷ 2 ∷ 3 ∷ [])
+
+abbrev pub sysmod_count : Query
+sysmod_count = count_of 6 []
+
+abbrev pub hold_count : Query
+hold_count = count_of 11 []
+
+-- a count is an integer of SQL, so that it reaches this far
+abbrev pub most_rows : ℕ
+most_rows = 9223372036854775807
+
+-- a row in slot 2 is of the zone in slot 1
+abbrev pub in_the_zone : List Term
+in_the_zone = same (col 2 1) (col 1 1) ∷ same (col 2 2) (col 1 2) ∷ []
+
+-- the names of a client's zones, each with how many rows it has: slot 2 has that count
+abbrev pub zones : Query
+zones = query_of (inner 13 (counted most_rows (inner 15 end) in_the_zone end)) (is_given 1 0 ∷ [])
+    (col 1 2 ∷ col 2 0 ∷ []) (col 1 2 ∷ [])
+
+-- how many zones a client has
+abbrev pub zone_count : Query
+zone_count = count_of 13 (is_given 1 0 ∷ [])
+
+-- the patterns of a client's zone, where the zone is there
+abbrev pub patterns : Query
+patterns = from_table 13 (is_given 1 0 ∷ is_given 2 1 ∷ []) (3 ∷ []) (2 ∷ [])
+
+-- the rows of a client's zone
+abbrev pub zone_rows : Query
+zone_rows = from_table 15 (is_given 1 0 ∷ is_given 2 1 ∷ []) (3 ∷ 4 ∷ []) (3 ∷ [])
+
+abbrev pub received : Query
+received = from_table 17 (is_given 1 0 ∷ []) (2 ∷ []) (1 ∷ [])
+
+-- the holds of a kind on what is installed in a client's zone: slot 2 is the hold on what slot 1 has
+abbrev pub held_in : Query
+held_in = query_of (inner 15 (inner 11 end))
+    (same (col 2 1) (col 1 3) ∷ is_given 1 0 ∷ is_given 2 1
+    ∷ op2 (Compare Lt Binary) (col 1 4) (lit (Int (pos 2))) ∷ same (col 2 2) (col 0 2) ∷ [])
+    (map (col 2) (1 ∷ 2 ∷ 3 ∷ 4 ∷ 5 ∷ 6 ∷ 7 ∷ 8 ∷ [])) (map (col 2) (1 ∷ 2 ∷ 3 ∷ []))

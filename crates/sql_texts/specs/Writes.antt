@@ -1,0 +1,22 @@
+-- What is written, as commands on the tables by their places in the schema.
+use Rattle.std.specs.Prelude.{ℕ, ◌+◌, List, [], ◌∷◌, map, pos}
+use Rattle.std.specs.List.{range_with_len}
+use Rattle.sqlite.specs.Command.{Command}
+use Rattle.sqlite.specs.Command.TheVariants.{Delete, Insert}
+use Rattle.sqlite.specs.Source.TheVariants.{Values}
+use Rattle.sqlite.specs.Term.{Term, lit, col}
+use Rattle.sqlite.specs.declared.types.Value.TheVariants.{Int, Null}
+use Rattle.sql_texts.specs.Reads.{from_table}
+
+-- version 1 goes into the one row of its table, whose first column is the rowid
+abbrev pub first_version : Command
+first_version = Insert 0 (Values (lit (Int (pos 1)) ∷ lit Null ∷ lit (Int (pos 1)) ∷ []) 3)
+
+-- one row of all parameters, which are so many, goes into the table at a place; its rowid is chosen
+abbrev pub insert_given : ℕ → ℕ → Command
+insert_given place columns =
+    Insert place (Values (lit Null ∷ map (col 0) (range_with_len 0 columns)) (1 + columns))
+
+-- the rows of a tree that a filter keeps leave the table at a place
+abbrev pub delete_of : ℕ → ℕ → List Term → Command
+delete_of place tree filter = Delete place (record { lets = []; body = from_table tree filter (0 ∷ []) [] })

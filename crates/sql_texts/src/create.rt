@@ -1,0 +1,86 @@
+//! The texts that make the tables of version 1, each over what those before it made.
+#![tactic(auto, unfolding(sqlite::specs::Listing::understood, sqlite_tied::specs::Compute::everything))]
+
+ghost use Rattle.sql_texts.specs.Meaning.{MakesIndex, MakesTable};
+ghost use Rattle.sql_texts.specs.Schema as schema;
+ghost use Rattle.sql_texts.specs.Schema.{bureau, made};
+
+/// The version of the tables, in one row.
+pub fn bureau_version() -> &'static str
+    ensures { MakesTable (made 0 0) result.now schema.bureau_version (made 1 0) }
+{
+    "CREATE TABLE bureau_version (one INTEGER PRIMARY KEY CHECK (one = 1), version INTEGER \
+     NOT NULL) STRICT"
+}
+
+/// The callers, each with the token by which it is known.
+pub fn caller() -> &'static str
+    ensures { MakesTable (made 1 0) result.now schema.caller (made 2 2) }
+{
+    "CREATE TABLE caller (name TEXT NOT NULL PRIMARY KEY, token TEXT NOT NULL UNIQUE) STRICT"
+}
+
+/// The number of each caller's last change and the reply that is kept for it.
+pub fn last_change() -> &'static str
+    ensures { MakesTable (made 2 2) result.now schema.last_change (made 3 3) }
+{
+    "CREATE TABLE last_change (caller TEXT NOT NULL PRIMARY KEY, number INTEGER NOT NULL \
+     CHECK (number > 0), body BLOB NOT NULL) STRICT"
+}
+
+/// The records of the catalogue, without what they supersede.
+pub fn sysmod() -> &'static str
+    ensures { MakesTable (made 3 3) result.now schema.sysmod (made 4 4) }
+{
+    "CREATE TABLE sysmod (id TEXT NOT NULL PRIMARY KEY, kind INTEGER NOT NULL CHECK (kind \
+     BETWEEN 0 AND 3), fmids TEXT NOT NULL, pre TEXT NOT NULL, req TEXT NOT NULL) STRICT"
+}
+
+/// What each record supersedes.
+pub fn sysmod_sup() -> &'static str
+    ensures { MakesTable (made 4 4) result.now schema.sysmod_sup (made 5 5) }
+{
+    "CREATE TABLE sysmod_sup (id TEXT NOT NULL, member TEXT NOT NULL, PRIMARY KEY (id, \
+     member)) STRICT"
+}
+
+/// The index by which superseders are found.
+pub fn by_member() -> &'static str
+    ensures { MakesIndex (made 5 5) result.now 4 schema.sysmod_sup schema.by_member (made 5 6) }
+{
+    "CREATE INDEX by_member ON sysmod_sup (member, id)"
+}
+
+/// The holds.
+pub fn hold_row() -> &'static str
+    ensures { MakesTable (made 5 6) result.now schema.hold_row (made 6 7) }
+{
+    "CREATE TABLE hold_row (sysmod TEXT NOT NULL, kind INTEGER NOT NULL CHECK (kind BETWEEN \
+     0 AND 3), reason TEXT NOT NULL, fmid TEXT NOT NULL, class TEXT NOT NULL, dated INTEGER \
+     NOT NULL, resolver TEXT NOT NULL, categories TEXT NOT NULL, PRIMARY KEY (sysmod, kind, \
+     reason)) STRICT"
+}
+
+/// The zones of the clients, with the patterns of the fix categories that each asks for.
+pub fn zone_head() -> &'static str
+    ensures { MakesTable (made 6 7) result.now schema.zone_head (made 7 8) }
+{
+    "CREATE TABLE zone_head (client TEXT NOT NULL, zone TEXT NOT NULL, patterns TEXT NOT \
+     NULL, PRIMARY KEY (client, zone)) STRICT"
+}
+
+/// The SYSMODs of the zones, with their states.
+pub fn zone_row() -> &'static str
+    ensures { MakesTable (made 7 8) result.now schema.zone_row (made 8 9) }
+{
+    "CREATE TABLE zone_row (client TEXT NOT NULL, zone TEXT NOT NULL, sysmod TEXT NOT NULL, \
+     state INTEGER NOT NULL CHECK (state BETWEEN 0 AND 2), PRIMARY KEY (client, zone, \
+     sysmod)) STRICT"
+}
+
+/// What each client has received.
+pub fn received_list() -> &'static str
+    ensures { MakesTable (made 8 9) result.now schema.received_list bureau }
+{
+    "CREATE TABLE received_list (client TEXT NOT NULL PRIMARY KEY, ids TEXT NOT NULL) STRICT"
+}

@@ -1,0 +1,160 @@
+"""What the tests of the service share: a desk on a port, the client, and the count of what passed."""
+import os
+import shutil
+import socket
+import subprocess
+import sys
+import tempfile
+import urllib.request
+
+HERE = os.path.dirname(os.path.abspath(__file__))
+TOP = os.path.dirname(HERE)
+CLIENT = os.path.join(TOP, "clients", "bureau-client")
+PROGRAM = os.environ.get("BUREAU_PROGRAM") or os.path.join(TOP, "crates", "bureau_main", "out", "bureau_main")
+SAMPLE = os.path.join(TOP, "examples", "desk")
+
+# Whether the program has `init` and `serve`. Until then tests/desk_stand_in.py stands in for them.
+SERVES = False
+
+results = []
+
+
+def check(name, good, shown=""):
+    """Counts one check, and says where it failed."""
+    results.append(bool(good))
+    if not good:
+        print("service: %s ... FAILED\n%s" % (name, shown), flush=True)
+    return good
+
+
+def same(name, got, wanted):
+    return check(name, got == wanted, "   got: %r\nwanted: %r" % (got, wanted))
+
+
+def finish(name):
+    """The last line of each test, which run-service-tests reads."""
+    print("%s: %d passed, %d failed" % (name, sum(results), len(results) - sum(results)))
+    sys.exit(0 if all(results) else 1)
+
+
+def folder():
+    """A folder that is gone when the test ends."""
+    import atexit
+
+    made = tempfile.mkdtemp(prefix="bureau-tests-")
+    atexit.register(shutil.rmtree, made, True)
+    return made
+
+
+def free_port():
+    with socket.socket() as probe:
+        probe.bind(("127.0.0.1", 0))
+        return probe.getsockname()[1]
+
+
+def command_of(callers, port):
+    """What runs a desk with these callers, and with nothing in its store."""
+    if not SERVES:
+        return [sys.executable, os.path.join(HERE, "desk_stand_in.py"), "--port", str(port), PROGRAM, callers]
+    store = os.path.join(folder(), "store")
+    subprocess.run([PROGRAM, "init", store, callers], check=True, stdout=subprocess.DEVNULL)
+    return [PROGRAM, "serve", "--port", str(port or free_port()), store]
+
+
+class Desk:
+    """A desk with these callers, on this port of the loopback, or on a free one."""
+
+    def __init__(self, callers, port=0):
+        command = command_of(callers, port)
+        self.process = subprocess.Popen(command, stdout=subprocess.PIPE, text=True)
+        line = self.process.stdout.readline()
+        if not line.startswith("LISTENING "):
+            sys.exit("the desk does not start: %r" % line)
+        self.address = line.split()[1]
+        self.port = int(self.address.split(":")[1])
+        self.url = "http://" + self.address
+
+    def ask(self, method, path, token, number=None, body=None):
+        """The status and the body of a reply, without the client under test."""
+        return exchange(self.url, method, path, token, number, body)
+
+    def last(self, token):
+        """The number of a caller's last accepted change."""
+        path, method = ("/publish", "POST") if token.startswith("publisher") else ("/zones/A", "DELETE")
+        status, body = self.ask(method, path, token, 9223372036854775807, b"" if method == "POST" else None)
+        assert status == 409 and body.startswith(b"GAP LAST "), (status, body)
+        return int(body.split()[2])
+
+    def end(self):
+        self.process.terminate()
+        self.process.wait()
+
+
+def exchange(url, method, path, token, number=None, body=None, context=None):
+    headers = {"bureau-token": token}
+    if number is not None:
+        headers["bureau-number"] = str(number)
+    request = urllib.request.Request(url + path, data=body, method=method, headers=headers)
+    opener = urllib.request.build_opener(
+        urllib.request.ProxyHandler({}), urllib.request.HTTPSHandler(context=context)
+    )
+    try:
+        with opener.open(request, timeout=120) as reply:
+            return reply.status, reply.read()
+    except urllib.error.HTTPError as refusal:
+        return refusal.code, refusal.read()
+
+
+def write(path, text):
+    os.makedirs(os.path.dirname(path), exist_ok=True)
+    with open(path, "wb") as out:
+        out.write(text if isinstance(text, bytes) else text.encode())
+    return path
+
+
+def curl_that_loses_replies(place):
+    """A `curl` in front of the real one: while FOLDER/lost is there, it loses the replies to changes, which the
+    desk has made. Questions for the last number pass."""
+    write(
+        place + "/curl",
+        """#!/bin/sh
+config=$(mktemp) && cat >$config
+%s -q --config $config
+status=$?
+[ -e %s/lost ] && grep -q bureau-number $config && ! grep -q 9223372036854775807 $config && status=56
+rm -f $config
+exit $status
+"""
+        % (shutil.which("curl"), place),
+    )
+    os.chmod(place + "/curl", 0o755)
+    return place + ":" + os.environ["PATH"]
+
+
+class Client:
+    """bureau-client with a folder of its own, for one caller."""
+
+    def __init__(self, url, token, shell=None, **settings):
+        self.home = folder()
+        self.shell = shell.split() if shell else []
+        self.environment = {
+            "PATH": os.environ["PATH"],
+            "HOME": self.home,
+            "BUREAU_HOME": self.home,
+            "BUREAU_URL": url,
+            "BUREAU_TOKEN": token,
+            "BUREAU_PAUSE": "0",
+            "BUREAU_TRIES": "2",
+            "no_proxy": "*",
+            **settings,
+        }
+
+    def run(self, *words, **settings):
+        """Its status, standard output and standard error."""
+        done = subprocess.run(
+            [*self.shell, CLIENT, *words],
+            env={**self.environment, **settings},
+            capture_output=True,
+            text=True,
+        )
+        return done.returncode, done.stdout, done.stderr

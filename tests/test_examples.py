@@ -1,0 +1,63 @@
+#!/usr/bin/env python3
+"""The sample as lines for curl, each request with its reply, and the folders of examples/site."""
+import os
+import re
+import subprocess
+
+from service import PROGRAM, SAMPLE, TOP, Desk, check, finish, folder, same, write
+
+FILES = [os.path.join(SAMPLE, name) for name in sorted(os.listdir(SAMPLE)) if name.endswith(".http")]
+CALLERS = os.path.join(SAMPLE, "callers.csv")
+
+
+def read(path):
+    with open(path, "rb") as file:
+        return file.read()
+
+
+def bodies(text):
+    """The bodies of messages that stand one after the other."""
+    while text:
+        head, _, text = text.partition(b"\r\n\r\n")
+        length = re.search(rb"content-length: (\d+)", head)
+        length = int(length[1]) if length else 0
+        yield text[:length]
+        text = text[length:]
+
+
+def pairs(*files):
+    return subprocess.run(
+        [os.path.join(TOP, "examples", "pairs"), CALLERS, *files],
+        capture_output=True,
+        text=True,
+        env={**os.environ, "BUREAU_PROGRAM": PROGRAM},
+    ).stdout
+
+
+wanted = b"".join(bodies(read(os.path.join(SAMPLE, "replies.txt"))))
+desk = Desk(CALLERS)
+run = subprocess.run(
+    ["sh", "examples/desk/requests.sh", desk.url], cwd=TOP, stdout=subprocess.PIPE, stderr=subprocess.DEVNULL
+)
+same("the lines for curl get the replies of the sample", (run.stdout, run.returncode), (wanted, 22))
+desk.end()
+
+sent = b"".join(body for file in FILES for body in bodies(read(file)))
+site = os.path.join(TOP, "examples", "site")
+parts = [site + "/publication.txt"] + [
+    os.path.join(site, name, part)
+    for name, zone in (("north", "MVSPROD"), ("south", "MVSTEST"))
+    for part in ("zones/%s.csv" % zone, "received.csv", "categories/%s.csv" % zone)
+]
+same("the files of examples/site are the bodies of the sample", b"".join(map(read, parts)), sent)
+
+shown = pairs(*FILES)
+same("each request has its reply", (shown.count("== "), shown.count("no reply")), (19, 0))
+check(
+    "beside it",
+    "== 2-north.http: PUT /zones/MVSPROD, number 1\nHTTP/1.1 200 OK\nZONE MVSPROD ROWS 3\n\n" in shown,
+    shown,
+)
+cut = write(folder() + "/cut.http", read(FILES[0])[:-1])
+check("a cut request is named", "== cut.http: GET /published (cut off)\nno reply\n" in pairs(cut), pairs(cut))
+finish("examples")

@@ -1,0 +1,134 @@
+#!/usr/bin/env python3
+"""zone-csv and publication on the samples of examples/lists, and on what is easily done wrong."""
+import os
+import subprocess
+
+from service import PROGRAM, TOP, check, finish, folder, same, write
+
+ZONE_CSV = os.path.join(TOP, "clients", "zone-csv")
+PUBLICATION = os.path.join(TOP, "clients", "publication")
+LISTS = os.path.join(TOP, "examples", "lists")
+
+
+def run(*words, given=b""):
+    done = subprocess.run(
+        words, input=given, capture_output=True, cwd=LISTS, env={**os.environ, "BUREAU_PROGRAM": PROGRAM}
+    )
+    return done.returncode, done.stdout.decode(), done.stderr.decode()
+
+
+def kept(name):
+    with open(os.path.join(LISTS, name)) as file:
+        return file.read()
+
+
+def zone_lists():
+    status, out, err = run(ZONE_CSV, "zone", "TGT1", "tgt1.smplist.txt")
+    same("the zone of a listing", (status, out), (0, kept("tgt1.csv")))
+    check(
+        "what is left out is named",
+        "in error: 1 (UJ92006)" in err and "deleted by a function: 1 (HDZ33D0)" in err,
+        err,
+    )
+    same("the same of JSON", run(ZONE_CSV, "zone", "TGT1", "tgt1.csi.json")[:2], (0, kept("tgt1.csv")))
+    same("the received list", run(ZONE_CSV, "received", "global.smplist.txt")[:2], (0, kept("received.csv")))
+    same(
+        "the received list of JSON",
+        run(ZONE_CSV, "received", "tgt1.csi.json")[:2],
+        (0, "SYSMOD\nUJ92004\nUJ92005\n"),
+    )
+    same(
+        "a distribution zone of JSON",
+        run(ZONE_CSV, "--accepted", "zone", "DLB1", "tgt1.csi.json")[:2],
+        (0, "SYSMOD,STATE\nUJ92002,ACCEPTED\n"),
+    )
+    same("a zone that is not there", run(ZONE_CSV, "zone", "TGT9", "tgt1.smplist.txt")[0], 1)
+    same("a file that is not there", run(ZONE_CSV, "zone", "TGT1", "none")[0], 3)
+    same("no words", run(ZONE_CSV)[0], 2)
+    page = b"DLB1 SYSMOD ENTRIES\r\n  NAME\r\nUJ1  TYPE = PTF\r\n     STATUS = REC ACC\r\n@A#1$  TYPE = PTF\r\n     STATUS = APP\r\n"
+    same(
+        "line ends with CR, from standard input",
+        run(ZONE_CSV, "zone", "DLB1", "-", given=page)[:2],
+        (0, "SYSMOD,STATE\n@A#1$,APPLIED\nUJ1,ACCEPTED\n"),
+    )
+    many = b"T SYSMOD ENTRIES\n" + b"".join(b"UA%05d  STATUS = APP\n" % i for i in range(20000))
+    same(
+        "20,000 rows",
+        (
+            run(ZONE_CSV, "zone", "T", "-", given=many)[0],
+            run(ZONE_CSV, "zone", "T", "-", given=many + b"UB1  STATUS = APP\n")[0],
+        ),
+        (0, 1),
+    )
+    shape = b'[{"entryName":"UJ1","subEntries":[{"name":"INSTALLDATE","values":["25100"]},{"name":"ERROR","values":["NO"]}]}]'
+    same(
+        "JSON of another shape",
+        run(ZONE_CSV, "zone", "T", "-", given=shape)[:2],
+        (0, "SYSMOD,STATE\nUJ1,APPLIED\n"),
+    )
+
+
+def publications():
+    status, out, err = run(PUBLICATION, "smpptfin.txt")
+    same("the sample", (status, out), (1, kept("publication.txt")))
+    for text in (
+        "line 15: FAULT 22",
+        "line 16: FAULT 3",
+        "line 21: FAULT 15",
+        "line 23: FAULT 13",
+        "line 25: FAULT 1",
+        "line 14: left out",
+        "line 18: what follows the period is lost",
+        "line 22: no statement begins here",
+        "2 SYSMODs, 2 ++VER, 1 ++IF, 1 ++HOLD, 1 ++RELEASE; 5 statements with a fault",
+    ):
+        check("the sample: " + text, text in err, err)
+    site = folder()
+    clean = write(site + "/clean", kept("publication.txt"))
+    same("what is left has no fault", run(PUBLICATION, clean)[:2], (0, kept("publication.txt")))
+    records = "".join("%-72s%08d" % (line, i) for i, line in enumerate(kept("publication.txt").splitlines()))
+    same(
+        "80-byte records",
+        run(PUBLICATION, write(site + "/records", records))[:2],
+        (0, kept("publication.txt")),
+    )
+    same(
+        "a mark in front, and CR LF",
+        run(PUBLICATION, write(site + "/marked", "\ufeff" + kept("publication.txt").replace("\n", "\r\n")))[
+            :2
+        ],
+        (0, kept("publication.txt")),
+    )
+    status, out, err = run(
+        PUBLICATION, write(site + "/ebcdic", bytes(b"\x4e\x4e\xc8\xd6\xd3\xc4\x4d\x15") * 20)
+    )
+    check("EBCDIC is noticed", (status, out) == (0, "") and "EBCDIC" in err, err)
+    same(
+        "++VER before any SYSMOD",
+        run(PUBLICATION, write(site + "/ver", "++VER(Z038).\n++PTF(A).\n"))[:2],
+        (1, "++PTF(A).\n"),
+    )
+    open_one = "++HOLD(UJ1) ERROR REASON(A) COMMENT(NO END (.\n++HOLD(UJ2) ERROR REASON(A).\n++HOLD(UJ3) ERROR REASON(A) COMMENT()))).\n"
+    same(
+        "a statement never takes in the next",
+        run(PUBLICATION, write(site + "/open", open_one))[:2],
+        (1, "++HOLD(UJ2) ERROR REASON(A).\n"),
+    )
+    same(
+        "nothing is judged",
+        run(PUBLICATION, "--unchecked", site + "/ver")[:2],
+        (0, "++VER(Z038).\n++PTF(A).\n"),
+    )
+    same("no file", run(PUBLICATION, site + "/none")[0], 3)
+    same("no words", run(PUBLICATION)[0], 2)
+    holds = ["++HOLD(UA%05d) ERROR REASON(AB%05d)\n COMMENT(ONE (OF) MANY).\n" % (i, i) for i in range(9000)]
+    for bad in (17, 4500, 8999):
+        holds[bad] = holds[bad].replace("MANY)", "MANY")
+    status, out, err = run(PUBLICATION, write(site + "/many", "".join(holds)))
+    same("three bad ones of 9,000", (status, out.count("++HOLD"), err.count("FAULT 3")), (1, 8997, 3))
+    same("by their lines", [text in err for text in ("line 35:", "line 9001:", "line 17999:")], [True] * 3)
+
+
+zone_lists()
+publications()
+finish("lists")
