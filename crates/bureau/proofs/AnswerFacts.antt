@@ -62,7 +62,7 @@ module _ {Store : Type 0} {view : View Store Tables} {HasOutgrown : Update → S
     where
       by : view.may_leave mid left ⊎ (IsOpen view mid × (left ≡ updated (update_of due) this))
           → view.may_leave old left ⊎ (IsOpen view old × (left ≡ tables_left caller (outcome (view_of caller this) call) this))
-      by (inl before) = inl (keeps.leaves left before)
+      by (inl before) = inl (keeps.leaves ours (makes.goes.clean clean) left before)
       by (inr made) = inr (was_open keeps.goes made.0, made.1 ∙ after_is caller call due this comes)
 
 module _ {Store : Type 0} {view : View Store Tables} {HasOutgrown : Update → Store → Store → Type 0} {mid new : Store} {Done : Type 0} where
@@ -106,8 +106,8 @@ module _ {Store Judge : Type 0} (view : View Store Tables) (is_right : Judge →
           step = step.told ours clean this stands.0 stands.1;
           stands = (keeps.stays ours clean this stands.0, right.told ours clean this stands.0 stands.1);
           told = told;
-          leaves = λ left h. inl (keeps.leaves left h);
-          rests = λ rests is_open left h. rests (was_open keeps.goes is_open) left (keeps.leaves left h);
+          leaves = λ left h. inl (keeps.leaves ours clean left h);
+          rests = λ rests is_open left h. rests (was_open keeps.goes is_open) left (keeps.leaves ours clean left h);
         },
       );
     };

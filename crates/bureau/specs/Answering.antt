@@ -27,8 +27,8 @@ bureau_view view is_right = record {
   keeps = λ old new. Keeps view old.store new.store × (new.judge ≡ old.judge);
 }
 
-pub bureau_lawful : {Store Judge : Type 0} (view : View Store Tables) (is_right : Judge → Content → Type 0) → IsLawful (bureau_view view is_right)
-bureau_lawful view is_right = record {
+pub bureau_lawful : {Store Judge : Type 0} (view : View Store Tables) (is_right : Judge → Content → Type 0) → IsLawful view → IsLawful (bureau_view view is_right)
+bureau_lawful view is_right lawful = record {
   keeps = λ old new kept. record {
     goes = record { clean = kept.0.goes.clean; ours = kept.0.goes.ours; failures_rise = kept.0.goes.failures_rise };
     stays = λ ours clean this stands. (kept.0.stays ours clean this stands.0, subst (λ judge. is_right judge this.content) (sym kept.1) stands.1);
@@ -38,7 +38,7 @@ bureau_lawful view is_right = record {
     record {
       goes = record { clean = λ h. h; ours = λ h _. h; failures_rise = omega arith };
       stays = λ ours clean this stands. stands;
-      leaves = λ this h. h;
+      leaves = λ ours clean this h. h;
     },
     refl,
   );
@@ -52,10 +52,13 @@ bureau_lawful view is_right = record {
       stays = λ ours clean this stands.
           let between = later.0.goes.clean clean in
           later.0.stays (sooner.0.goes.ours ours between) clean this (sooner.0.stays ours between this stands);
-      leaves = λ this h. sooner.0.leaves this (later.0.leaves this h);
+      leaves = λ ours clean this h.
+          let between = later.0.goes.clean clean in
+          sooner.0.leaves ours between this (later.0.leaves (sooner.0.goes.ours ours between) clean this h);
     },
     later.1 ∙ sooner.1,
   );
+  one = λ bureau is_open this other first second. lawful.one bureau.store is_open this other first.0 second.0;
 }
 
 -- A call is answered: where one of the callers asks, it is a turn of the bureau that all callers share.

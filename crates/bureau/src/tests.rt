@@ -8,6 +8,8 @@ use zone_lists::{ZoneRow, ZoneState};
 
 mod alone;
 mod asked;
+mod device;
+mod failing;
 mod limits;
 mod verdicts;
 mod worked;

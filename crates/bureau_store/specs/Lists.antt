@@ -77,10 +77,11 @@ lists_lawful = record {
   keeps = λ old new same. record {
     goes = record { clean = λ h. h; ours = λ h _. rw same h; failures_rise = omega arith };
     stays = λ ours clean this stands. stands ∙ sym (ap tables_of same);
-    leaves = λ this leaves. leaves ∙ ap tables_of same;
+    leaves = λ ours clean this left. left ∙ ap tables_of same;
   };
   itself = λ lists. refl;
   on = λ first second third a b. b ∙ a;
+  one = λ lists is_open this other first second. first ∙ sym second;
 }
 
 pub lists_in_order : (lists : Lists) (this : Tables) → IsOurs lists → IsOpen lists_view lists → this ≡ tables_of lists → AreInOrder this

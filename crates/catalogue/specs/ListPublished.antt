@@ -1,6 +1,6 @@
 -- The published content in lists.
 use Rattle.std.specs.Prelude.{◌≡◌, ℕ, List, [], filter, Option, Some, None, refl}
-use Rattle.std.proofs.Common.{◌∙◌, arith, subst}
+use Rattle.std.proofs.Common.{◌∙◌, arith, subst, sym}
 use Rattle.std.specs.BTreeMap.{BTreeMap, get}
 use Rattle.std.specs.Global.{Vec}
 use Rattle.std.specs.Map.{keys_of, values_of}
@@ -25,10 +25,11 @@ lists_lawful = record {
   keeps = λ old new same. record {
     goes = record { clean = λ h. h; ours = λ h _. rw same h; failures_rise = omega arith };
     stays = λ ours clean this stands. same ∙ stands;
-    leaves = λ this leaves. leaves ∙ same;
+    leaves = λ ours clean this left. left ∙ same;
   };
   itself = λ content. refl;
   on = λ first second third a b. b ∙ a;
+  one = λ content is_open this other first second. sym first ∙ second;
 }
 
 pub lists_in_order : (content this : Content) → IsInOrder content → IsOpen lists_view content → content ≡ this → IsInOrder this

@@ -1,10 +1,11 @@
 -- How a source is looked at, and what every call of one keeps to. A source of the published content is looked at so,
 -- a store with all its tables, and the bureau over both.
 use Rattle.std.specs.Prelude.{◌≡◌, ◌<◌, ◌≤◌, ◌⊎◌, ℕ, Result, IsErrOf}
+use Rattle.std.proofs.Common.{◌∙◌, ap, sym}
 
 -- A source as contracts see it.
 pub record View (Source Held : Type 0) : Type 1 where
-  -- it may be said to hold this; of a source that is shut that may be so of more than one thing
+  -- it may be said to hold this; a source that is open holds one thing alone
   pub stands : Source → Held → Type 0
   -- what lies below has returned what was written to it
   pub is_clean : Source → Type 0
@@ -48,7 +49,7 @@ module _ {Source Held : Type 0} (view : View Source Held) where
   pub record Keeps (old new : Source) : Type 0 where
     pub goes : Goes old new
     pub stays : view.is_ours old → view.is_clean new → (this : Held) → view.stands old this → view.stands new this
-    pub leaves : (this : Held) → view.may_leave new this → view.may_leave old this
+    pub leaves : view.is_ours old → view.is_clean new → (this : Held) → view.may_leave new this → view.may_leave old this
 
   -- What a call tells: a fact of what the source holds, where the file was ours and the disk has proved clean.
   pub record Tells (old new : Source) (Fact : Held → Type 0) : Type 0 where
@@ -72,11 +73,12 @@ module _ {Source Held : Type 0} (view : View Source Held) where
     pub is_open : (IsErrOf answer device → ⊥) → IsOpen new
 
   -- What a view means by keeping: to leave what is held. Nothing changes where nothing is called, and what one call
-  -- keeps and then another, both together keep.
+  -- keeps and then another, both together keep. A source that is open holds one thing.
   pub record IsLawful : Type 0 where
     pub keeps : (old new : Source) → view.keeps old new → Keeps old new
     pub itself : (source : Source) → view.keeps source source
     pub on : (first second third : Source) → view.keeps first second → view.keeps second third → view.keeps first third
+    pub one : (source : Source) → IsOpen source → (this other : Held) → view.stands source this → view.stands source other → this ≡ other
 
 -- a part of what is held keeps to what the whole keeps to
 pub part_lawful : {Source Whole Part : Type 0} (part : Whole → Part) (view : View Source Whole) → IsLawful view → IsLawful (part_of part view)
@@ -86,8 +88,10 @@ part_lawful part view lawful = record {
       record {
         goes = record { clean = keeps.goes.clean; ours = keeps.goes.ours; failures_rise = keeps.goes.failures_rise };
         stays = λ ours clean this stands. (stands.0, keeps.stays ours clean stands.0 stands.1, stands.2);
-        leaves = λ this left. (left.0, keeps.leaves left.0 left.1, left.2);
+        leaves = λ ours clean this left. (left.0, keeps.leaves ours clean left.0 left.1, left.2);
       };
   itself = lawful.itself;
   on = lawful.on;
+  one = λ source is_open this other first second.
+      sym first.2 ∙ ap part (lawful.one source is_open first.0 second.0 first.1 second.1) ∙ second.2;
 }

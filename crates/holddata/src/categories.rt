@@ -102,7 +102,8 @@ impl Categories {
     /// The categories with commas between. It takes no memory.
     #[tactic(auto, using(crate::proofs::JoinedFacts::joined_again))]
     pub fn joined(&self) -> &[u8]
-        ensures { result.now ≡ join_with_byte 44 self.now }
+        ensures value { result.now ≡ join_with_byte 44 self.now }
+        ensures allowed { IsTrue (are_categories self.now) }
     {
         self.joined.as_slice()
     }

@@ -1,6 +1,5 @@
 //! The rows of the exception SYSMOD report.
 ghost use Rattle.std.specs.Prelude.{◌≡◌, ◌++◌, true, ℕ, List, map, option_map, IfOk, IfSome, OnOk};
-ghost use Rattle.catalogue.specs.Content.{ids_of};
 ghost use Rattle.catalogue.specs.Ids.{Ascend, in_order};
 ghost use Rattle.catalogue.specs.View.{MayAsk, Tells};
 ghost use Rattle.catalogue.specs.declared.fault.SourceFault.TheVariants.{Device};
@@ -98,25 +97,9 @@ fn errors_of<P: Published>(
     ensures found { IfOk result (λ found. Tells P.content_view source.old source.new
         (λ content. found.items ≡ errors_found content zone.now held.now)) }
 {
-    let catalogued = source.ids()?;
-    errors_among(alloc, source, zone, &catalogued, held)
-}
-
-fn errors_among<P: Published>(
-    alloc: Global,
-    source: &mut P,
-    zone: &Zone,
-    catalogued: &[Id],
-    held: &[ErrorHeld],
-) -> Result<Vec<ErrorFound>, SourceFault>
-    requires { Ascend catalogued.now }
-    ensures asks { MayAsk P.content_view Device source.old source.new result }
-    ensures found { IfOk result (λ found. Tells P.content_view source.old source.new
-        (λ content. catalogued.now ≡ ids_of content → found.items ≡ errors_found content zone.now held.now)) }
-{
     let mut found = Vec::new(alloc);
     for one in held {
-        let resolvers = candidates_unless_there(alloc, source, zone, catalogued, &one.reason)?;
+        let resolvers = candidates_unless_there(alloc, source, zone, &one.reason)?;
         put_found(&mut found, one, &resolvers)?;
     }
     Ok(found)

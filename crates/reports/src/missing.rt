@@ -2,7 +2,6 @@
 ghost use Rattle.std.specs.Prelude.{◌≡◌, ◌++◌, ◌∷◌, [], true, ℕ, List, Some, map, option_map, IfOk, IfSome, OnOk};
 ghost use Rattle.std.specs.List.{list_any};
 ghost use Rattle.zone_lists.specs.Pattern.{does_match};
-ghost use Rattle.catalogue.specs.Content.{ids_of};
 ghost use Rattle.catalogue.specs.Ids.{Ascend, in_order, put_among};
 ghost use Rattle.catalogue.specs.View.{MayAsk, Tells};
 ghost use Rattle.catalogue.specs.declared.fault.SourceFault.TheVariants.{Device};
@@ -130,26 +129,10 @@ fn rows_of<P: Published>(
     ensures rows { IfOk result (λ rows. Tells P.content_view source.old source.new
         (λ content. rows.items ≡ rows_found content zone.now held.now)) }
 {
-    let catalogued = source.ids()?;
-    rows_among(alloc, source, zone, &catalogued, held)
-}
-
-fn rows_among<P: Published>(
-    alloc: Global,
-    source: &mut P,
-    zone: &Zone,
-    catalogued: &[Id],
-    held: &[MissingHeld],
-) -> Result<Vec<MissingRow>, SourceFault>
-    requires { Ascend catalogued.now }
-    ensures asks { MayAsk P.content_view Device source.old source.new result }
-    ensures rows { IfOk result (λ rows. Tells P.content_view source.old source.new
-        (λ content. catalogued.now ≡ ids_of content → rows.items ≡ rows_found content zone.now held.now)) }
-{
     let mut rows = Vec::new(alloc);
     for one in held {
-        let by_reason = candidates_unless_there(alloc, source, zone, catalogued, &one.reason)?;
-        let by_resolver = unless_resolver_there(alloc, source, zone, catalogued, &one.resolver)?;
+        let by_reason = candidates_unless_there(alloc, source, zone, &one.reason)?;
+        let by_resolver = unless_resolver_there(alloc, source, zone, &one.resolver)?;
         let resolvers = both_of(alloc, &by_reason, &by_resolver)?;
         put_rows(alloc, &mut rows, one, &resolvers)?;
     }
@@ -161,18 +144,16 @@ fn unless_resolver_there<P: Published>(
     alloc: Global,
     source: &mut P,
     zone: &Zone,
-    catalogued: &[Id],
     resolver: &Option<Id>,
 ) -> Result<Option<Vec<Id>>, SourceFault>
-    requires { Ascend catalogued.now }
     ensures asks { MayAsk P.content_view Device source.old source.new result }
     ensures resolvers { IfOk result (λ found. Tells P.content_view source.old source.new
-        (λ content. catalogued.now ≡ ids_of content → option_map (λ ids. ids.items) found ≡ unless_resolver_there content zone.now resolver.now)) }
+        (λ content. option_map (λ ids. ids.items) found ≡ unless_resolver_there content zone.now resolver.now)) }
 {
     let Some(resolver) = resolver else {
         return Ok(Some(Vec::new(alloc)));
     };
-    let found = candidates_unless_there(alloc, source, zone, catalogued, resolver)?;
+    let found = candidates_unless_there(alloc, source, zone, resolver)?;
     Ok(with_itself(found, resolver)?)
 }
 

@@ -2,7 +2,6 @@
 ghost use Rattle.std.specs.Prelude.{◌≡◌, true, ℕ, List, Option, Some, None, filter, map, IfOk, option_map, if◌then◌else◌};
 ghost use Rattle.std.specs.List.{list_any, slice_get};
 ghost use Rattle.zone_lists.specs.Installed.{is_installed};
-ghost use Rattle.catalogue.specs.Content.{ids_of};
 ghost use Rattle.catalogue.specs.Ids.{Ascend, same_id};
 ghost use Rattle.catalogue.specs.View.{MayAsk, Tells};
 ghost use Rattle.catalogue.specs.declared.fault.SourceFault.TheVariants.{Device};
@@ -14,24 +13,21 @@ use catalogue::{Published, SourceFault, Sysmod};
 use chains::Status;
 use mcs_reader::Id;
 use std::alloc::Global;
-use supersede::{Zone, givers_among, place_among, there};
+use supersede::{Zone, givers, place_among, there};
 
 // The candidates that give a SYSMOD, ascending, unless it is there.
 pub(crate) fn candidates_unless_there<P: Published>(
     alloc: Global,
     source: &mut P,
     zone: &Zone,
-    catalogued: &[Id],
     id: &Id,
 ) -> Result<Option<Vec<Id>>, SourceFault>
-    requires { Ascend catalogued.now }
     ensures asks { MayAsk P.content_view Device source.old source.new result }
     ensures candidates { IfOk result (λ found. Tells P.content_view source.old source.new
-        (λ content. catalogued.now ≡ ids_of content
-        → option_map (λ ids. ids.items) found
+        (λ content. option_map (λ ids. ids.items) found
         ≡ (if is_there content zone.now id.now then None else Some (candidates_for content zone.now id.now)))) }
 {
-    let givers = givers_among(alloc, source, catalogued, id)?;
+    let givers = givers(alloc, source, id)?;
     if there(zone, id, &givers) {
         return Ok(None);
     }

@@ -8,7 +8,7 @@ use Rattle.zone_lists.specs.declared.zones.ZoneState.TheVariants.{Applied, Super
 use Rattle.catalogue.specs.Content.{Content}
 use Rattle.catalogue.specs.declared.sysmod.Sysmod.{Sysmod}
 use Rattle.catalogue.specs.declared.sysmod.SysmodKind.TheVariants.{Func, Ptf}
-use Rattle.supersede.specs.Giving.{gives, givers_of, is_candidate, is_there, needs_of}
+use Rattle.supersede.specs.Giving.{gives, givers_of, is_candidate, is_there, may_need}
 
 abbrev function : List ℕ
 function = padded (codes "HBB7790")
@@ -73,10 +73,10 @@ its_function_is_installed = refl
 a_function_is_no_candidate : is_candidate published zone function ≡ false
 a_function_is_no_candidate = refl
 
-an_error_is_a_need : needs_of published first ≡ apar ∷ []
+an_error_is_a_need : may_need published first ≡ apar ∷ []
 an_error_is_a_need = refl
 
-a_requisite_is_a_need : needs_of published second ≡ first ∷ []
+a_requisite_is_a_need : may_need published second ≡ first ∷ []
 a_requisite_is_a_need = refl
 
 -- two that supersede each other give each other, and the search ends

@@ -1,8 +1,8 @@
 -- Gathering those that give an id.
-use Rattle.std.proofs.Common.{◌≡◌, ◌⊎◌, ◌↔◌, ℕ, zero, suc, ◌+◌, ◌<◌, ◌≤◌, ◌&&◌, ◌||◌, ◌∙◌, Bool, true, false, List, [], ◌∷◌, ◌++◌, length, filter, get_or, take, inl, inr, refl, sym, ap, subst, arith}
+use Rattle.std.proofs.Common.{◌≡◌, ◌⊎◌, ◌↔◌, ℕ, zero, suc, ◌+◌, ◌<◌, ◌≤◌, ◌&&◌, ◌||◌, ◌∙◌, Bool, true, false, List, [], ◌∷◌, ◌++◌, length, filter, get_or, take, inl, inr, is_some, not, Option, Some, None, refl, sym, ap, subst, arith}
 use Rattle.std.specs.BTreeSet.{insert_key}
 use Rattle.std.specs.Cmp.{both_ways}
-use Rattle.std.specs.List.{AllByRecursion, Contains, list_any}
+use Rattle.std.specs.List.{AllByRecursion, Contains, find, list_any}
 use Rattle.std.specs.List.Sorted.{IsStrictlySortedBy}
 use Rattle.std.specs.declared.cmp.Ordering.{Ordering}
 use Rattle.std.specs.declared.cmp.Ordering.TheVariants.{Less, Equal, Greater}
@@ -12,13 +12,14 @@ use Rattle.std.proofs.lemmas.List.Kept.{IsStrictlySortedBy-filter}
 use Rattle.std.proofs.lemmas.List.Sums.{fold-append}
 use Rattle.std.proofs.lemmas.Map.Views.{Contains-from_any, list_any-from_Contains}
 use Rattle.std.specs.Cmp.Lexicographic.{nat_list_eq_equiv}
-use Rattle.catalogue.specs.Content.{Content, ids_of, superseders, Supersedes}
+use Rattle.catalogue.specs.Content.{Content, ids_in, ids_of, is_of, record_of, superseders, Supersedes}
 use Rattle.catalogue.specs.Ids.{Ascend, id_cmp, put_among, same_id}
 use Rattle.catalogue.proofs.IdFacts.{any_insert, apart, exact_ids, fold_any, ids_total, itself, one_id, turned}
-use Rattle.catalogue.proofs.SupersedeFacts.{superseder_is}
+use Rattle.catalogue.proofs.SupersedeFacts.{superseder_catalogued, superseder_is}
+use Rattle.catalogue.specs.declared.sysmod.Sysmod.{Sysmod}
 use Rattle.supersede.specs.Giving.{gives, givers_of}
 use Rattle.supersede.specs.Leading.{Gives, IsWay}
-use Rattle.supersede.specs.Reach.{Alike, Continues, IsReach, Leads, has}
+use Rattle.supersede.specs.Reach.{Alike, Continues, IsReach, Leads, has, is_other}
 use Rattle.supersede.proofs.GivingFacts.{both}
 use Rattle.supersede.proofs.LeadingFacts.{gives_is}
 
@@ -250,3 +251,66 @@ each_gives content ids id giver are = (
       let stands : has (givers_of content id) giver ≡ true = has_filter (λ other. gives content other id) (ids_of content) giver ∙ rw (known, so) refl in
       has_to ids giver (ap (λ list. has list giver) are ∙ stands),
 )
+
+-- ---- those of a reach that aren't the id itself are catalogued
+
+same_filter : (p q : List ℕ → Bool) (ids : List (List ℕ)) → ((id : List ℕ) → has ids id ≡ true → p id ≡ q id) → filter p ids ≡ filter q ids
+same_filter p q [] same = refl
+same_filter p q (x ∷ ids) same =
+    rw (same x (or_left _ _ (itself x)), same_filter p q ids (λ id there. same id (or_right (same_id id x) _ there))) refl
+
+all_stay : (ids : List (List ℕ)) → filter (λ id. true) ids ≡ ids
+all_stay [] = refl
+all_stay (x ∷ ids) = ap (λ rest. x ∷ rest) (all_stay ids)
+
+above_is_catalogued : (content : Content) → Ascend (ids_of content) → (from id : List ℕ) → Leads content from id → same_id from id ≡ false → has (ids_of content) from ≡ true
+above_is_catalogued content ascend from id leads other = by leads.way leads.leads
+  where
+    by : (way : List (List ℕ)) → IsWay content from way id → has (ids_of content) from ≡ true
+    by [] same = let is : true ≡ false = sym (itself id) ∙ ap (λ x. same_id x id) (sym same) ∙ other in absurd (cc is)
+    by (next ∷ later) way =
+        has_from (ids_of content) from (superseder_catalogued content next from ((superseding content ascend next from).1 way.0))
+
+recorded : (sysmods : List Sysmod) (id : List ℕ) → is_some (find (is_of id) sysmods) ≡ has (ids_in sysmods) id
+recorded [] id = refl
+recorded (s ∷ rest) id = by (same_id s.id id) refl (recorded rest id)
+  where
+    by : (b : Bool) → same_id s.id id ≡ b → is_some (find (is_of id) rest) ≡ has (ids_in rest) id → is_some (find (is_of id) (s ∷ rest)) ≡ (same_id id s.id || has (ids_in rest) id)
+    by true at known = let is : s.id ≡ id = one_id s.id id at in rw (at, is, itself id) refl
+    by false at known = let turned_is : same_id id s.id ≡ false = other_way (same_id id s.id) refl in rw (at, turned_is) known
+      where
+        other_way : (b : Bool) → same_id id s.id ≡ b → b ≡ false
+        other_way false h = refl
+        other_way true h = let is : id ≡ s.id = one_id id s.id h in let same : true ≡ false = sym (itself id) ∙ ap (λ x. same_id x id) is ∙ at in cc same
+
+module _ (content : Content) (ascend : Ascend (ids_of content)) (keys : List (List ℕ)) (id : List ℕ) (up : Ascend keys) (reach : IsReach content keys id) where
+  is_catalogued : (from : List ℕ) → has keys from ≡ true → (b : Bool) → same_id from id ≡ b → has (ids_of content) from ≡ (b && has (ids_of content) id || not b)
+  is_catalogued from stands true same = let is : from ≡ id = one_id from id same in ap (has (ids_of content)) is ∙ plain (has (ids_of content) id)
+    where
+      plain : (b : Bool) → b ≡ (b || false)
+      plain true = refl
+      plain false = refl
+  is_catalogued from stands false other = above_is_catalogued content ascend from id (reach.leads from stands) other
+
+  -- of a catalogued id the whole reach gives it
+  pub reach_whole : (sysmod : Sysmod) → Some sysmod ≡ record_of content id → keys ≡ givers_of content id
+  reach_whole sysmod is =
+      let known : has (ids_of content) id ≡ true = sym (recorded content.sysmods id) ∙ ap is_some (sym is) in
+      sym (all_stay keys)
+      ∙ same_filter (λ other. true) (has (ids_of content)) keys (λ from stands. sym (is_catalogued from stands (same_id from id) refl ∙ by known (same_id from id)))
+      ∙ reach_gives content (ids_of content) keys id ascend up refl reach
+    where
+      by : has (ids_of content) id ≡ true → (b : Bool) → (b && has (ids_of content) id || not b) ≡ true
+      by known true = rw known refl
+      by known false = refl
+
+  -- of one that isn't, all the others of it do
+  pub reach_but_itself : None ≡ record_of content id → filter (is_other id) keys ≡ givers_of content id
+  reach_but_itself none =
+      let unknown : has (ids_of content) id ≡ false = sym (recorded content.sysmods id) ∙ ap is_some (sym none) in
+      same_filter (is_other id) (has (ids_of content)) keys (λ from stands. sym (is_catalogued from stands (same_id from id) refl ∙ by unknown (same_id from id)))
+      ∙ reach_gives content (ids_of content) keys id ascend up refl reach
+    where
+      by : has (ids_of content) id ≡ false → (b : Bool) → (b && has (ids_of content) id || not b) ≡ not b
+      by unknown true = rw unknown refl
+      by unknown false = refl

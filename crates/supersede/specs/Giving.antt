@@ -47,6 +47,10 @@ is_there content rows id =
 abbrev pub is_candidate : Content → List ZoneRow → List ℕ → Bool
 is_candidate content rows id = list_any (λ fmid. is_installed rows fmid) (fmids_of (record_of content id))
 
--- what an id needs: its PRE, its REQ, and the reasons of the ERROR holds on it
-abbrev pub needs_of : Content → List ℕ → List (List ℕ)
-needs_of content id = requisites_of (record_of content id) ++ error_reasons content id
+-- what an id may need, in whatever zone: its PRE, its REQ, and the reasons of the ERROR holds on it
+abbrev pub may_need : Content → List ℕ → List (List ℕ)
+may_need content id = requisites_of (record_of content id) ++ error_reasons content id
+
+-- what an id needs in a zone: all that it may need
+abbrev pub needs_in : Content → List ZoneRow → List ℕ → List (List ℕ)
+needs_in content rows id = may_need content id

@@ -1,5 +1,5 @@
 -- No part of what is promised: private contracts cite it. How those that give a SYSMOD are gathered.
-use Rattle.std.specs.Prelude.{◌≡◌, ℕ, ◌++◌, Bool, true, List}
+use Rattle.std.specs.Prelude.{◌≡◌, ℕ, ◌++◌, Bool, true, not, List}
 use Rattle.std.specs.List.{list_any}
 use Rattle.catalogue.specs.Content.{Content}
 use Rattle.catalogue.specs.Ids.{same_id}
@@ -8,6 +8,10 @@ use Rattle.supersede.specs.Leading.{IsWay}
 -- whether an id stands in a list
 abbrev pub has : List (List ℕ) → List ℕ → Bool
 has ids id = list_any (same_id id) ids
+
+-- whether an id is not this one
+abbrev pub is_other : List ℕ → List ℕ → Bool
+is_other id other = not (same_id other id)
 
 -- two lists have the same members
 abbrev pub Alike : List (List ℕ) → List (List ℕ) → Type 0

@@ -6,9 +6,8 @@ ghost use Rattle.catalogue.specs.View.{MayAsk, Tells};
 ghost use Rattle.catalogue.specs.declared.fault.SourceFault.TheVariants.{Device};
 ghost use Rattle.supersede.specs.Giving.{givers_of};
 ghost use Rattle.supersede.specs.Leading.{Gives};
-ghost use Rattle.supersede.specs.Reach.{Alike, Continues, IsReach, has};
+ghost use Rattle.supersede.specs.Reach.{Alike, Continues, IsReach, is_other};
 
-use crate::search::place_among;
 use catalogue::{Published, SourceFault};
 use faults::NoMemory;
 use mcs_reader::Id;
@@ -16,7 +15,8 @@ use std::alloc::Global;
 use std::collections::BTreeSet;
 
 /// The catalogued SYSMODs that give this one, ascending: itself, and those that supersede it,
-/// themselves or through others (IBM z/OS SMP/E Reference, `++VER`, operand SUP).
+/// themselves or through others (IBM z/OS SMP/E Reference, `++VER`, operand SUP). It asks for what it finds, and never
+/// for all that is catalogued.
 ///
 /// # Errors
 ///
@@ -31,46 +31,24 @@ pub fn givers<P: Published>(alloc: Global, source: &mut P, id: &Id) -> Result<Ve
     ensures each { IfOk result (λ ids. Tells P.content_view source.old source.new
         (λ content. (giver : List ℕ) → Contains ids.items giver ↔ Gives content giver id.now)) }
 {
-    let catalogued = source.ids()?;
-    givers_among(alloc, source, &catalogued, id)
-}
-
-/// The same, for one who asks of many SYSMODs and has read once which are catalogued.
-///
-/// `catalogued` are the SYSMODs that the source has catalogued, all of them, as `ids` of the source answers.
-/// Of what is found by another list nothing is said but that it ascends.
-///
-/// # Errors
-///
-/// As of [`givers`].
-pub fn givers_among<P: Published>(
-    alloc: Global,
-    source: &mut P,
-    catalogued: &[Id],
-    id: &Id,
-) -> Result<Vec<Id>, SourceFault>
-    requires { Ascend catalogued.now }
-    ensures asks { MayAsk P.content_view Device source.old source.new result }
-    ensures givers { IfOk result (λ ids. Tells P.content_view source.old source.new
-        (λ content. catalogued.now ≡ ids_of content → ids.items ≡ givers_of content id.now)) }
-    ensures ascend { IfOk result (λ ids. Ascend ids.items) }
-{
     let found = reach(alloc, source, id)?;
-    Ok(those_among(alloc, catalogued, &found)?)
+    match source.sysmod(id)? {
+        Some(_) => Ok(found),
+        None => Ok(others(alloc, &found, id)?),
+    }
 }
 
-// Those of some ids that stand among others.
-fn those_among(alloc: Global, others: &[Id], ids: &[Id]) -> Result<Vec<Id>, NoMemory>
-    requires { Ascend others.now }
-    ensures { IfOk result (λ those. those.items ≡ filter (has others.now) ids.now) }
+// Those of some ids that aren't this one.
+fn others(alloc: Global, ids: &[Id], id: &Id) -> Result<Vec<Id>, NoMemory>
+    ensures { IfOk result (λ others. others.items ≡ filter (is_other id.now) ids.now) }
 {
-    let mut those = Vec::new(alloc);
-    for id in ids {
-        if place_among(others, id).is_some() {
-            those.push(*id)?;
+    let mut others = Vec::new(alloc);
+    for other in ids {
+        if *other != *id {
+            others.push(*other)?;
         }
     }
-    Ok(those)
+    Ok(others)
 }
 
 // An id and the SYSMODs that supersede it, themselves or through others. Each is asked for once.

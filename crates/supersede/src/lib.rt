@@ -1,7 +1,7 @@
 //! What supersedes what: the SYSMODs of a zone, and those that give a SYSMOD.
 //!
 //! - [`Zone`]: the rows of a zone, in which SYSMODs are looked up
-//! - [`givers`], [`givers_among`]: the SYSMODs that give one
+//! - [`givers`]: the SYSMODs that give one
 //! - [`place_among`]: where a SYSMOD stands among others
 //! - [`there`]: whether a SYSMOD is there in a zone, itself or by one that supersedes it
 #![tactic(auto)]
@@ -13,7 +13,7 @@ mod search;
 mod tests;
 mod zone;
 
-pub use giving::{givers, givers_among};
+pub use giving::givers;
 pub use presence::there;
 pub use search::place_among;
 pub use zone::Zone;

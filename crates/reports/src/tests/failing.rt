@@ -91,10 +91,11 @@ impl Published for Failing {
           failures_rise = kept.1;
         };
         stays = λ ours clean this stands standing. kept.0 ∙ stands (omega (arith, kept.1, standing));
-        leaves = λ this left. left ∙ kept.0;
+        leaves = λ ours clean this left. left ∙ kept.0;
       };
       itself = λ source. (refl, omega arith);
       on = λ first second third sooner later. (later.0 ∙ sooner.0, omega (arith, sooner.1, later.1));
+      one = λ source is_open this other first second. sym (first is_open) ∙ second is_open;
     } };
 
     ghost in_order = { λ source this ours standing stands. subst IsInOrder (stands standing) ours };

@@ -1,18 +1,49 @@
-use Rattle.std.proofs.Common.{◌∙◌}
-use Rattle.std.proofs.lemmas.Result.{IfOk-weaker}
-use Rattle.catalogue.proofs.SourceFacts.{told_both, told_later, told_so, told_sooner}
-use Rattle.supersede.proofs.ReachFacts.{each_gives}
+use Rattle.std.proofs.Common.{◌∙◌, filter, sym, ap, subst}
+use Rattle.std.proofs.lemmas.List.Kept.{IsStrictlySortedBy-filter}
+use Rattle.catalogue.specs.Ids.{Ascend, id_cmp}
+use Rattle.catalogue.proofs.SourceFacts.{no_fault, told_both, told_later, told_so, told_sooner, was_open}
+use Rattle.supersede.specs.Reach.{is_other}
+use Rattle.supersede.proofs.ReachFacts.{each_gives, reach_but_itself, reach_whole}
 use Rattle.supersede.proofs.giving.givers.Goals as goal
 
-pub returns-clause-givers : goal.returns-clause-givers
-returns-clause-givers g c =
+pub returns-in-Some-clause-givers : goal.returns-in-Some-clause-givers
+returns-in-Some-clause-givers g c =
     let law = g.met.P.Published in
-    let first = law.lawful.keeps _ _ c.in_ok-catalogued.ensures.asks.keeps in
-    let second = law.lawful.keeps _ _ c.givers_among.ensures.asks.keeps in
-    IfOk-weaker c.givers_among.result _ _ (λ ids tells.
-    told_so (told_both (told_sooner c.in_ok-catalogued.ensures.ids second) (told_later first second tells)) (λ content facts. facts.1 (c.deref.ensures.value ∙ facts.0)))
-    c.givers_among.ensures.givers
+    let first = law.lawful.keeps _ _ c.in_ok-found.ensures.asks.keeps in
+    let second = law.lawful.keeps _ _ c.sysmod.ensures.asks.keeps in
+    let both = told_both (told_sooner c.in_ok-found.ensures.reach second) (told_later first second c.in_ok-sysmod.ensures.sysmod) in
+    record {
+      told = λ ours clean content stands.
+          let facts = both.told ours clean content stands in
+          let standing = was_open first.goes (was_open second.goes (c.in_ok-sysmod.ensures.asks.is_open (no_fault _))) in
+          let ascend = (law.in_order c.args.source.now content ours standing stands).sysmods in
+          reach_whole content ascend c.in_ok-found.found.items c.args.id.now c.in_ok-found.ensures.ascend (facts.0 ascend) c.in-Some.field-0 (sym c.in-Some.is ∙ facts.1);
+    }
 
-pub returns-clause-each : goal.returns-clause-each
-returns-clause-each g c =
-    IfOk-weaker c.givers_among.result _ _ (λ ids tells. told_so tells (λ content are giver. each_gives content ids.items c.args.id.now giver are)) (returns-clause-givers g c)
+pub returns-in_ok-others-in-None-clause-givers : goal.returns-in_ok-others-in-None-clause-givers
+returns-in_ok-others-in-None-clause-givers g c =
+    let law = g.met.P.Published in
+    let first = law.lawful.keeps _ _ c.in_ok-found.ensures.asks.keeps in
+    let second = law.lawful.keeps _ _ c.sysmod.ensures.asks.keeps in
+    let both = told_both (told_sooner c.in_ok-found.ensures.reach second) (told_later first second c.in_ok-sysmod.ensures.sysmod) in
+    record {
+      told = λ ours clean content stands.
+          let facts = both.told ours clean content stands in
+          let standing = was_open first.goes (was_open second.goes (c.in_ok-sysmod.ensures.asks.is_open (no_fault _))) in
+          let ascend = (law.in_order c.args.source.now content ours standing stands).sysmods in
+          c.in_ok-others-in-None.ensures ∙ ap (filter (is_other c.args.id.now)) c.deref.ensures.value
+          ∙ reach_but_itself content ascend c.in_ok-found.found.items c.args.id.now c.in_ok-found.ensures.ascend (facts.0 ascend) (sym c.in-None.is ∙ facts.1);
+    }
+
+pub returns-in_ok-others-in-None-clause-ascend : goal.returns-in_ok-others-in-None-clause-ascend
+returns-in_ok-others-in-None-clause-ascend g c =
+    subst Ascend (sym (c.in_ok-others-in-None.ensures ∙ ap (filter (is_other c.args.id.now)) c.deref.ensures.value))
+    (IsStrictlySortedBy-filter id_cmp (is_other c.args.id.now) c.in_ok-found.found.items c.in_ok-found.ensures.ascend)
+
+pub returns-in-Some-clause-each : goal.returns-in-Some-clause-each
+returns-in-Some-clause-each g c =
+    told_so (returns-in-Some-clause-givers g c) (λ content are giver. each_gives content c.in_ok-found.found.items c.args.id.now giver are)
+
+pub returns-in_ok-others-in-None-clause-each : goal.returns-in_ok-others-in-None-clause-each
+returns-in_ok-others-in-None-clause-each g c =
+    told_so (returns-in_ok-others-in-None-clause-givers g c) (λ content are giver. each_gives content c.in_ok-others-in-None.field-0.items c.args.id.now giver are)
