@@ -8,7 +8,7 @@ use Rattle.catalogue.specs.Content.{Content, ids_of, is_of}
 use Rattle.catalogue.specs.Ids.{same_id}
 use Rattle.catalogue.specs.declared.sysmod.Sysmod.{Sysmod}
 use Rattle.catalogue.proofs.IdFacts.{itself, one_id}
-use Rattle.supersede.specs.Giving.{fmids_of, gives, is_candidate, is_there, needs_of}
+use Rattle.supersede.specs.Giving.{fmids_of, gives, is_candidate, is_there, needs_in}
 use Rattle.supersede.specs.Leading.{IsThere}
 use Rattle.supersede.proofs.LeadingFacts.{gives_is, there_is}
 use Rattle.requisites.specs.World.{IsGivenIn, IsGood, IsPlan}
@@ -21,7 +21,7 @@ module _ (content : Content) (rows : List ZoneRow) where
   plan_from : (members : List (List ℕ)) → Contains (sublists (candidates content rows)) members → is_plan content rows members ≡ true → IsPlan (world_of content rows) members
   plan_from members sub found = record {
     candidates = λ y inside. (kept_from (is_candidate content rows) (ids_of content) y (sublist_inside (candidates content rows) members y sub inside)).passes;
-    needs_met = λ y r inside needs. met r (all_at (is_met content rows members) (needs_of content y) r (all_at (λ member. list_all (is_met content rows members) (needs_of content member)) members y found inside) needs);
+    needs_met = λ y r inside needs. met r (all_at (is_met content rows members) (needs_in content rows y) r (all_at (λ member. list_all (is_met content rows members) (needs_in content rows member)) members y found inside) needs);
   } where
     met : (r : List ℕ) → is_met content rows members r ≡ true → IsThere content rows r ⊎ IsGivenIn (world_of content rows) members r
     met r h = elim (either_true (is_there content rows r) (list_any (λ member. gives content member r) members) h) [
@@ -69,10 +69,10 @@ module _ (content : Content) (rows : List ZoneRow) where
 
   planned_is_plan : (members : List (List ℕ)) → IsPlan (world_of content rows) members → is_plan content rows (planned members) ≡ true
   planned_is_plan members plan =
-      all_from (λ (member : List ℕ). list_all (is_met content rows (planned members)) (needs_of content member)) (planned members)
-      (λ y inside. all_from (is_met content rows (planned members)) (needs_of content y) (λ r needs. met y r inside needs))
+      all_from (λ (member : List ℕ). list_all (is_met content rows (planned members)) (needs_in content rows member)) (planned members)
+      (λ y inside. all_from (is_met content rows (planned members)) (needs_in content rows y) (λ r needs. met y r inside needs))
     where
-      met : (y r : List ℕ) → Contains (planned members) y → Contains (needs_of content y) r → is_met content rows (planned members) r ≡ true
+      met : (y r : List ℕ) → Contains (planned members) y → Contains (needs_in content rows y) r → is_met content rows (planned members) r ≡ true
       met y r inside needs = elim (plan.needs_met y r (planned_from members y inside) needs) [
         | inl there ↦ left_true (is_there content rows r) (list_any (λ member. gives content member r) (planned members)) ((there_is content rows r).1 there)
         | inr given ↦ right_true (is_there content rows r) (list_any (λ member. gives content member r) (planned members))

@@ -9,4 +9,10 @@ pub mod SightFacts
 pub mod PlaceFacts
 pub mod MadeCutFacts
 pub mod PlaceVerdictFacts
+pub mod FrameFacts
+pub mod PartFacts
+pub mod PlanFacts
+pub mod WalkFacts
+pub mod LinkFacts
+pub mod NodeFacts
 mod Examples

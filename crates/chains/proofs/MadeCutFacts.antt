@@ -10,7 +10,7 @@ use Rattle.catalogue.specs.Content.{Content, Supersedes, ids_in, ids_of, is_of, 
 use Rattle.catalogue.specs.Ids.{Ascend, same_id}
 use Rattle.catalogue.specs.declared.sysmod.Sysmod.{Sysmod}
 use Rattle.catalogue.proofs.IdFacts.{itself, one_id}
-use Rattle.supersede.specs.Giving.{fmids_of, is_candidate, needs_of, sup_of}
+use Rattle.supersede.specs.Giving.{fmids_of, is_candidate, needs_in, sup_of}
 use Rattle.supersede.specs.Leading.{Gives, InstalledGiver, IsThere, IsWay}
 use Rattle.requisites.specs.Leads.{IsPath, Leads}
 use Rattle.requisites.specs.Nodes.{IsMarked, Links, mark_of, row, world}
@@ -24,7 +24,7 @@ use Rattle.chains.proofs.PlaceFacts.{inside_at, need_inside, one_place, order_do
 use Rattle.chains.proofs.SearchFacts.{any_at, any_from, first_inside, first_true, none_inside, rest_inside}
 
 -- what has a record is listed
-listed_record : (sysmods : List Sysmod) (id : List ℕ) → is_some (find (is_of id) sysmods) ≡ true → Contains (ids_in sysmods) id
+pub listed_record : (sysmods : List Sysmod) (id : List ℕ) → is_some (find (is_of id) sysmods) ≡ true → Contains (ids_in sysmods) id
 listed_record [] id h = absurd (cc)
 listed_record (sysmod ∷ sysmods) id h = go (listed_record sysmods id) (is_of id sysmod) refl h where
   go : (is_some (find (is_of id) sysmods) ≡ true → Contains (ids_in sysmods) id) → (b : Bool) → is_of id sysmod ≡ b → is_some (cond b (Some sysmod) (find (is_of id) sysmods)) ≡ true → Contains (sysmod.id ∷ ids_in sysmods) id
@@ -87,21 +87,21 @@ module _ (content : Content) (rows : List ZoneRow) (members : List (List ℕ)) (
   need_within : (p q : ℕ) → p < length members → Contains (row nodes.needs p) q → q < length members
   need_within p q below needs = (seen.needs_are.each p below).so.within q needs
 
-  need_up : (p q : ℕ) → IsMarked nodes.candidates.items p → Contains (row nodes.needs p) q → Contains (needs_of content (id_at members p)) (id_at members q)
+  need_up : (p q : ℕ) → IsMarked nodes.candidates.items p → Contains (row nodes.needs p) q → Contains (needs_in content rows (id_at members p)) (id_at members q)
   need_up p q marked needs =
       let below = candidate_within p marked in
       let view = seen.needs_are.each p below in
       let P : Sight → Type 0 = λ s. Contains s.needs (id_at members q) in
       subst P (view.seen.listed (candidate_listed (id_at members p) (candidate_up p below marked))) (view.so.listed q needs)
 
-  need_down : (p : ℕ) (need : List ℕ) → IsMarked nodes.candidates.items p → Contains (needs_of content (id_at members p)) need → NeedPlace members (world nodes) p need
+  need_down : (p : ℕ) (need : List ℕ) → IsMarked nodes.candidates.items p → Contains (needs_in content rows (id_at members p)) need → NeedPlace members (world nodes) p need
   need_down p need marked needs =
       let below = candidate_within p marked in
       let listed = candidate_listed (id_at members p) (candidate_up p below marked) in
       let view = seen.needs_are.each p below in
       let at = inside_at members need (needs_inside need (need_inside (sight_of content rows) (ids_of content) (id_at members p) need listed needs)) in
       let P : Sight → Type 0 = λ s. Contains s.needs (id_at members at.place) in
-      let Q : List ℕ → Type 0 = λ x. Contains (needs_of content (id_at members p)) x in
+      let Q : List ℕ → Type 0 = λ x. Contains (needs_in content rows (id_at members p)) x in
       record {
         at = at;
         needs = view.so.whole at.place at.within (subst P (sym (view.seen.listed listed)) (subst Q (sym at.is) needs));

@@ -10,7 +10,7 @@ use Rattle.catalogue.specs.Content.{Content, ids_of, record_of}
 use Rattle.catalogue.specs.Ids.{in_order, same_id}
 use Rattle.catalogue.specs.declared.sysmod.Sysmod.{Sysmod}
 use Rattle.catalogue.proofs.IdFacts.{in_order_has, itself}
-use Rattle.supersede.specs.Giving.{fmids_of, gives, is_candidate, is_there, needs_of, sup_of, supersedes_within}
+use Rattle.supersede.specs.Giving.{fmids_of, gives, is_candidate, is_there, needs_in, sup_of, supersedes_within}
 use Rattle.supersede.specs.Leading.{IsThere}
 use Rattle.supersede.proofs.LeadingFacts.{gives_is, there_is}
 use Rattle.requisites.specs.World.{IsGivenIn, IsGood}
@@ -106,7 +106,7 @@ module _ (content : Content) (rows : List ZoneRow) where
       ];
       needs_met = λ y r inside needs. elim (Contains-push_cases goods id y inside) [
         | inl before ↦ of_good y r (inside_good y before) needs
-        | inr same ↦ own r (let P : List ℕ → Type 0 = λ x. Contains (needs_of content x) r in subst P (sym same) needs)
+        | inr same ↦ own r (let P : List ℕ → Type 0 = λ x. Contains (needs_in content rows x) r in subst P (sym same) needs)
       ];
     };
     member = Contains-push goods id;
@@ -114,7 +114,7 @@ module _ (content : Content) (rows : List ZoneRow) where
     wider : (x : List ℕ) → Contains goods x → Contains (goods ++ id ∷ []) x
     wider x inside = Contains-append_left goods (id ∷ []) x inside
 
-    of_good : (y r : List ℕ) → IsGood (world_of content rows) y → Contains (needs_of content y) r → IsThere content rows r ⊎ IsGivenIn (world_of content rows) (goods ++ id ∷ []) r
+    of_good : (y r : List ℕ) → IsGood (world_of content rows) y → Contains (needs_in content rows y) r → IsThere content rows r ⊎ IsGivenIn (world_of content rows) (goods ++ id ∷ []) r
     of_good y r is needs = elim (is.plan.needs_met y r is.member needs) [
       | inl there ↦ inl there
       | inr given ↦ inr (record {
@@ -124,12 +124,12 @@ module _ (content : Content) (rows : List ZoneRow) where
       })
     ]
 
-    own : (r : List ℕ) → Contains (needs_of content id) r → IsThere content rows r ⊎ IsGivenIn (world_of content rows) (goods ++ id ∷ []) r
+    own : (r : List ℕ) → Contains (needs_in content rows id) r → IsThere content rows r ⊎ IsGivenIn (world_of content rows) (goods ++ id ∷ []) r
     own r needs = go (is_there content rows r) refl where
       go : (b : Bool) → is_there content rows r ≡ b → IsThere content rows r ⊎ IsGivenIn (world_of content rows) (goods ++ id ∷ []) r
       go true there = inl ((there_is content rows r).0 there)
       go false absent =
-          let listed : Contains (open_needs content rows id) r = kept_inside (λ (need : List ℕ). not (is_there content rows need)) (needs_of content id) r needs (ap not absent) in
+          let listed : Contains (open_needs content rows id) r = kept_inside (λ (need : List ℕ). not (is_there content rows need)) (needs_in content rows id) r needs (ap not absent) in
           let passed = find_none (λ (need : List ℕ). is_none (pick_for content rows need)) (in_order (open_needs content rows id)) r none ((in_order_has (open_needs content rows id) r).1 listed) in
           let pick = some_unless_none (pick_for content rows r) passed in
           inr (picked_given (goods ++ id ∷ []) r pick.0 wider pick.1)

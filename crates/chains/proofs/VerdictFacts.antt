@@ -8,7 +8,7 @@ use Rattle.zone_lists.specs.declared.zones.ZoneRow.{ZoneRow}
 use Rattle.catalogue.specs.Content.{Content, ids_of}
 use Rattle.catalogue.specs.Ids.{Ascend, id_cmp, in_order, same_id}
 use Rattle.catalogue.proofs.IdFacts.{in_order_ascends, in_order_has, itself, one_id}
-use Rattle.supersede.specs.Giving.{gives, is_candidate, is_there, needs_of}
+use Rattle.supersede.specs.Giving.{gives, is_candidate, is_there, needs_in}
 use Rattle.supersede.specs.Leading.{IsThere}
 use Rattle.supersede.proofs.GivingFacts.{In}
 use Rattle.supersede.proofs.LeadingFacts.{gives_is, there_is}
@@ -125,18 +125,18 @@ module _ (content : Content) (rows : List ZoneRow) where
 
   -- ---- what isn't there
 
-  absent_open : (id need : List ℕ) → Contains (needs_of content id) need → (IsThere content rows need → ⊥) → Contains (open_needs content rows id) need
-  absent_open id need needs absent = kept_inside (λ (r : List ℕ). not (is_there content rows r)) (needs_of content id) need needs (go (is_there content rows need) refl) where
+  absent_open : (id need : List ℕ) → Contains (needs_in content rows id) need → (IsThere content rows need → ⊥) → Contains (open_needs content rows id) need
+  absent_open id need needs absent = kept_inside (λ (r : List ℕ). not (is_there content rows r)) (needs_in content rows id) need needs (go (is_there content rows need) refl) where
     go : (b : Bool) → is_there content rows need ≡ b → not b ≡ true
     go true on = absurd (absent ((there_is content rows need).0 on))
     go false off = refl
 
-  open_needed : (id need : List ℕ) → Contains (open_needs content rows id) need → Contains (needs_of content id) need
-  open_needed id need inside = (kept_from (λ (r : List ℕ). not (is_there content rows r)) (needs_of content id) need inside).member
+  open_needed : (id need : List ℕ) → Contains (open_needs content rows id) need → Contains (needs_in content rows id) need
+  open_needed id need inside = (kept_from (λ (r : List ℕ). not (is_there content rows r)) (needs_in content rows id) need inside).member
 
   open_absent : (id need : List ℕ) → Contains (open_needs content rows id) need → IsThere content rows need → ⊥
   open_absent id need inside there =
-      let off = (kept_from (λ (r : List ℕ). not (is_there content rows r)) (needs_of content id) need inside).passes in
+      let off = (kept_from (λ (r : List ℕ). not (is_there content rows r)) (needs_in content rows id) need inside).passes in
       let on : is_there content rows need ≡ true = (there_is content rows need).1 there in
       go (is_there content rows need) on off
     where

@@ -5,3 +5,6 @@ pub mod Cuts
 pub mod Sights
 pub mod Places
 pub mod Whole
+pub mod Frames
+pub mod Gathered
+pub mod FramePlaces

@@ -5,7 +5,7 @@ use Rattle.std.specs.List.{filter_map, list_all, list_any}
 use Rattle.zone_lists.specs.declared.zones.ZoneRow.{ZoneRow}
 use Rattle.catalogue.specs.Content.{Content, ids_of}
 use Rattle.catalogue.specs.Ids.{in_order, same_id}
-use Rattle.supersede.specs.Giving.{gives, is_candidate, is_there, needs_of}
+use Rattle.supersede.specs.Giving.{gives, is_candidate, is_there, needs_in}
 
 -- A verdict: good, with the chosen plan, ascending; held, with the blocked need; or no candidate.
 pub data Judged : Type 0 where
@@ -29,7 +29,7 @@ module _ (content : Content) (rows : List ZoneRow) where
 
   -- whether candidates are a plan: each need of each of them is met
   abbrev pub is_plan : List (List ℕ) → Bool
-  is_plan members = list_all (λ member. list_all (is_met members) (needs_of content member)) members
+  is_plan members = list_all (λ member. list_all (is_met members) (needs_in content rows member)) members
 
   -- whether some candidates are a plan that holds an id
   abbrev pub is_good : List ℕ → Bool
@@ -41,7 +41,7 @@ module _ (content : Content) (rows : List ZoneRow) where
 
   -- the needs of an id that aren't there
   abbrev pub open_needs : List ℕ → List (List ℕ)
-  open_needs id = filter (λ need. not (is_there content rows need)) (needs_of content id)
+  open_needs id = filter (λ need. not (is_there content rows need)) (needs_in content rows id)
 
   -- whether picks lead from one id to another in at most so many steps
   abbrev pub picked_within : ℕ → List ℕ → List ℕ → Bool

@@ -4,7 +4,7 @@ use Rattle.std.specs.declared.cmp.Ordering.TheVariants.{Greater}
 use Rattle.zone_lists.specs.declared.zones.ZoneRow.{ZoneRow}
 use Rattle.catalogue.specs.Content.{Content}
 use Rattle.catalogue.specs.Ids.{Ascend, id_cmp}
-use Rattle.supersede.specs.Giving.{is_candidate, needs_of}
+use Rattle.supersede.specs.Giving.{is_candidate, needs_in}
 use Rattle.supersede.specs.Leading.{Gives, IsThere}
 use Rattle.requisites.specs.World.{IsChosenPlan, IsGood, IsHeldFor, World}
 use Rattle.chains.specs.Judge.{status_of}
@@ -15,7 +15,7 @@ use Rattle.chains.specs.declared.verdict.Status.TheVariants as status
 abbrev pub world_of : Content → List ZoneRow → World (List ℕ)
 world_of content rows = record {
   Candidate = λ id. is_candidate content rows id ≡ true;
-  Needs = λ id need. Contains (needs_of content id) need;
+  Needs = λ id need. Contains (needs_in content rows id) need;
   There = λ need. IsThere content rows need;
   Gives = λ id need. Gives content id need;
   AtMost = λ a b. id_cmp a b ≡ Greater → ⊥;

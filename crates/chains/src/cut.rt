@@ -108,9 +108,9 @@ fn entry_for<'a>(
     }
 }
 
-// Which members are there: those that the zone lists, and what the installed ones supersede, themselves
-// or through others.
-fn there_marks(
+/// Which members are there: those that the zone lists, and what the installed ones supersede, themselves
+/// or through others.
+pub(crate) fn there_marks(
     alloc: Global,
     zone: &Zone,
     members: &[Id],

@@ -4,20 +4,34 @@
 //!   which of these
 //! - [`Judge`]: who gives verdicts over published content
 //! - [`Whole`]: judges over all that is catalogued, and is right for every content
+//! - [`Frame`]: all that one SYSMOD reaches, as [`FrameNode`]s; [`frame`]: that of a SYSMOD, from a source
+//! - [`plan`], [`good`]: verdicts from a frame alone
+//! - [`touches`]: whether a publication may change a frame
 //! - [`good_is_planned`], [`verdicts_are_right`]: laws of the definitions
 #![tactic(auto)]
 
 mod cut;
+mod frames;
+mod framing;
+mod gathered;
 mod judge;
 mod law;
+mod links;
 mod listing;
+mod nodes;
 mod places;
+mod planning;
 #[cfg(test)]
 mod tests;
+mod touching;
 mod verdict;
 mod whole;
 
+pub use frames::{Frame, FrameNode};
+pub use framing::frame;
 pub use judge::Judge;
 pub use law::{good_is_planned, verdicts_are_right};
+pub use planning::{good, plan};
+pub use touching::touches;
 pub use verdict::{Status, Verdict};
 pub use whole::Whole;

@@ -120,8 +120,8 @@ fn entry_from(
     })
 }
 
-// The ids of two lists, one after the other. It takes no memory where one of them is empty.
-fn joined(mut first: Vec<Id>, second: Vec<Id>) -> Result<Vec<Id>, NoMemory>
+/// The ids of two lists, one after the other. It takes no memory where the first is empty.
+pub(crate) fn joined(mut first: Vec<Id>, second: Vec<Id>) -> Result<Vec<Id>, NoMemory>
     ensures { IfOk result (λ both. both.items ≡ first.items ++ second.items) }
 {
     if first.is_empty() {
@@ -131,14 +131,15 @@ fn joined(mut first: Vec<Id>, second: Vec<Id>) -> Result<Vec<Id>, NoMemory>
     Ok(first)
 }
 
-fn is_any_installed(zone: &Zone, fmids: &Ids) -> bool
+/// Whether one of these functions is installed.
+pub(crate) fn is_any_installed(zone: &Zone, fmids: &Ids) -> bool
     ensures { result ≡ list_any (λ fmid. is_installed zone.now fmid) fmids.now }
 {
     fmids.as_slice().iter().any(|fmid| zone.installed(fmid))
 }
 
-// Adds the reasons of the ERROR holds.
-fn push_reasons(needs: &mut Vec<Id>, holds: &[Hold]) -> Result<(), NoMemory>
+/// Adds the reasons of the ERROR holds.
+pub(crate) fn push_reasons(needs: &mut Vec<Id>, holds: &[Hold]) -> Result<(), NoMemory>
     ensures { OnOk result (needs.new.items ≡ needs.old.items ++ reasons_in holds.now) }
 {
     for hold in holds {

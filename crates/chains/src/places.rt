@@ -1,9 +1,12 @@
 //! Ids by their places in a list that ascends.
-ghost use Rattle.std.specs.Prelude.{◌≡◌, ◌++◌, ℕ, List, Contains, IfNone, IfOk, IfSome, OnOk};
+ghost use Rattle.std.specs.Prelude.{◌≡◌, ◌<◌, ◌++◌, ℕ, List, Contains, IfNone, IfOk, IfSome, OnOk, length, map};
 ghost use Rattle.std.specs.List.{flat_map};
-ghost use Rattle.catalogue.specs.Ids.{Ascend};
-ghost use Rattle.chains.specs.Places.{ArePlacesOf, IsAt};
+ghost use Rattle.catalogue.specs.Ids.{Ascend, in_order};
+ghost use Rattle.chains.specs.Cuts as cuts;
+ghost use Rattle.chains.specs.Judge as judge;
+ghost use Rattle.chains.specs.Places.{ArePlacesOf, IsAt, IsWithin, verdict_at};
 
+use crate::Verdict;
 use crate::listing::Entry;
 use mcs_reader::{Id, NoMemory};
 use std::alloc::Global;
@@ -31,8 +34,9 @@ fn listed_with_needs(alloc: Global, ids: &[Id], entries: &[Entry]) -> Result<Vec
     Ok(all)
 }
 
-// The ids in order, each once. Those that ascend already are not sorted again.
-fn sort_each_once(ids: &mut Vec<Id>) -> Result<(), NoMemory>
+/// Puts ids in ascending order, each once. Those that ascend already are not sorted again.
+pub(crate) fn sort_each_once(ids: &mut Vec<Id>) -> Result<(), NoMemory>
+    ensures in_order { OnOk result (ids.new.items ≡ in_order ids.old.items) }
     ensures ascend { OnOk result (Ascend ids.new.items) }
     ensures keeps { (id : List ℕ) → Contains ids.old.items id → Contains ids.new.items id }
 {
@@ -82,4 +86,39 @@ pub(crate) fn put_places(
         }
     }
     Ok(())
+}
+
+/// A verdict on a place as one on the id that stands there.
+pub(crate) fn by_ids(
+    alloc: Global,
+    members: &[Id],
+    verdict: requisites::Verdict,
+) -> Result<Verdict, NoMemory>
+    requires { IsWithin members.now verdict }
+    ensures { IfOk result (λ judged. judge.judged_by judged ≡ verdict_at members.now verdict) }
+{
+    match verdict {
+        requisites::Verdict::Good(plan) => Ok(Verdict::Good(ids_at(alloc, members, &plan)?)),
+        requisites::Verdict::Held(need) => Ok(Verdict::Held(id_at(members, need))),
+        requisites::Verdict::Lack => Ok(Verdict::Lack),
+    }
+}
+
+/// The ids that stand at places.
+pub(crate) fn ids_at(alloc: Global, members: &[Id], places: &[usize]) -> Result<Vec<Id>, NoMemory>
+    requires { (q : ℕ) → Contains places.now q → q < length members.now }
+    ensures { IfOk result (λ ids. ids.items ≡ map (cuts.id_at members.now) places.now) }
+{
+    let mut ids = Vec::with_capacity(alloc, places.len())?;
+    for place in places {
+        ids.push(id_at(members, *place))?;
+    }
+    Ok(ids)
+}
+
+fn id_at(members: &[Id], place: usize) -> Id
+    requires { place < length members.now }
+    ensures { result ≡ cuts.id_at members.now place }
+{
+    members[place]
 }

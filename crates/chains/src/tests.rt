@@ -1,5 +1,5 @@
 //! Worked verdicts over lists, verdicts beside a plain slow body, and hard shapes at length.
-use crate::{Judge, Verdict, Whole};
+use crate::{Judge, Status, Verdict, Whole, frame, good, plan};
 use catalogue::{ListPublished, Published, SourceFault, read_changes};
 use mcs_reader::{Id, read};
 use std::alloc::Global;
@@ -7,6 +7,7 @@ use std::test::Fail;
 use supersede::Zone;
 use zone_lists::zone_rows;
 
+mod frames;
 mod random;
 mod rows;
 mod shapes;
@@ -81,4 +82,26 @@ fn are_statuses(
     let together = Whole::new().statuses(alloc, lists, zone, ids)?;
     let each = OneByOne.statuses(alloc, lists, zone, ids)?;
     Ok(together.as_slice() == each.as_slice())
+}
+
+// Whether the verdicts on all that an id reaches, from its frame alone, are those over the whole catalogue.
+fn is_as_whole(
+    alloc: Global,
+    lists: &mut ListPublished,
+    zone: &Zone,
+    id: &Id,
+) -> Result<bool, Fail> {
+    let frame = frame(alloc, lists, id)?;
+    let mut those: Vec<Id> = Vec::new(alloc);
+    for node in frame.nodes() {
+        let whole = Whole::new().verdict(alloc, lists, zone, &node.id)?;
+        let planned = plan(alloc, &frame, zone, &node.id)?;
+        if verdict_text(alloc, &whole)? != verdict_text(alloc, &planned)? {
+            return Ok(false);
+        }
+        if whole.status() == Status::Good {
+            those.push(node.id)?;
+        }
+    }
+    Ok(good(alloc, &frame, zone)?.as_slice() == those.as_slice())
 }

@@ -1,13 +1,11 @@
 //! `Whole`.
-ghost use Rattle.std.specs.Prelude.{◌≡◌, ◌<◌, ℕ, List, Contains, IfOk, length, map};
+ghost use Rattle.std.specs.Prelude.{◌≡◌, ℕ, List, Contains, IfOk, length, map};
 ghost use Rattle.catalogue.specs.Content.{Content, ids_of};
 ghost use Rattle.catalogue.specs.Ids.{Ascend};
 ghost use Rattle.requisites.specs.Good.{AreGood};
 ghost use Rattle.requisites.specs.Nodes.{mark_of, world};
-ghost use Rattle.chains.specs.Cuts as cuts;
 ghost use Rattle.chains.specs.Cuts.{IsCut};
 ghost use Rattle.chains.specs.Judge as judge;
-ghost use Rattle.chains.specs.Places.{IsWithin, verdict_at};
 ghost use Rattle.chains.specs.Sights.{sight_of};
 ghost use Rattle.chains.specs.Verdicts.{verdict_of};
 ghost use Rattle.chains.specs.Whole.{IsRightFor};
@@ -16,7 +14,7 @@ ghost use Rattle.zone_lists.specs.declared.zones.ZoneRow.{ZoneRow};
 
 use crate::cut::Cut;
 use crate::listing::{Entry, entries_of};
-use crate::places::place_of;
+use crate::places::{by_ids, place_of};
 use crate::{Judge, Status, Verdict};
 use catalogue::{Published, SourceFault};
 use mcs_reader::{Id, NoMemory};
@@ -92,37 +90,6 @@ fn verdict_in(
     by_ids(alloc, &cut.members, verdict)
 }
 
-// A verdict on a place as one on the id that stands there.
-fn by_ids(alloc: Global, members: &[Id], verdict: requisites::Verdict) -> Result<Verdict, NoMemory>
-    requires { IsWithin members.now verdict }
-    ensures { IfOk result (λ judged. judge.judged_by judged ≡ verdict_at members.now verdict) }
-{
-    match verdict {
-        requisites::Verdict::Good(plan) => Ok(Verdict::Good(ids_at(alloc, members, &plan)?)),
-        requisites::Verdict::Held(need) => Ok(Verdict::Held(id_at(members, need))),
-        requisites::Verdict::Lack => Ok(Verdict::Lack),
-    }
-}
-
-// The ids that stand at places.
-fn ids_at(alloc: Global, members: &[Id], places: &[usize]) -> Result<Vec<Id>, NoMemory>
-    requires { (q : ℕ) → Contains places.now q → q < length members.now }
-    ensures { IfOk result (λ ids. ids.items ≡ map (cuts.id_at members.now) places.now) }
-{
-    let mut ids = Vec::with_capacity(alloc, places.len())?;
-    for place in places {
-        ids.push(id_at(members, *place))?;
-    }
-    Ok(ids)
-}
-
-fn id_at(members: &[Id], place: usize) -> Id
-    requires { place < length members.now }
-    ensures { result ≡ cuts.id_at members.now place }
-{
-    members[place]
-}
-
 // For each id which verdict it is, by what is read of all that is catalogued.
 fn statuses_in(
     alloc: Global,
@@ -165,7 +132,8 @@ fn status_in(cut: &Cut, resolution: &Resolution, id: &Id) -> Status
     Status::Lack
 }
 
-fn is_marked(marks: &[bool], place: usize) -> bool
+/// Whether a place is marked.
+pub(crate) fn is_marked(marks: &[bool], place: usize) -> bool
     ensures { result ≡ mark_of marks.now place }
 {
     marks.get(place).copied().unwrap_or(false)

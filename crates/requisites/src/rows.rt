@@ -1,5 +1,5 @@
 //! `Rows`.
-ghost use Rattle.std.specs.Prelude.{◌≡◌, ◌≤◌, ◌<◌, ◌++◌, [], ◌∷◌, length, slice_index, OnErr, OnOk};
+ghost use Rattle.std.specs.Prelude.{◌≡◌, ◌≤◌, ◌<◌, ◌++◌, [], ◌∷◌, length, slice_index, IfOk, OnErr, OnOk};
 ghost use Rattle.std.specs.List.{slice_range};
 ghost use Rattle.requisites.specs.Nodes.{row};
 ghost use Rattle.requisites.specs.Rows.{start_at};
@@ -72,6 +72,20 @@ impl Rows {
             Ok(()) => Ok(()),
             Err(_) => unreachable!(),
         }
+    }
+
+    /// The same rows once more.
+    ///
+    /// # Errors
+    ///
+    /// `NoMemory` where memory ran out.
+    pub fn copy(&self) -> Result<Self, NoMemory>
+        ensures { IfOk result (λ copy. copy ≡ self.now) }
+    {
+        Ok(Rows {
+            entries: self.entries.clone()?,
+            ends: self.ends.clone()?,
+        })
     }
 }
 

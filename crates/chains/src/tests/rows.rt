@@ -9,7 +9,7 @@ const BETA: &[u8] = b"SYSMOD,STATE\nHBB7790,APPLIED\n";
 const SUPERSEDED: &[u8] = b"SYSMOD,STATE\nHBB7790,APPLIED\nUA10001,APPLIED\nUA10002,SUPERSEDED\n";
 
 // A function, two PTFs, and an error of the first that the second fixes.
-const BASE: &[u8] = b"++FUNCTION(HBB7790).\n\
+pub(super) const BASE: &[u8] = b"++FUNCTION(HBB7790).\n\
 ++VER(Z038).\n\
 ++PTF(UA10001).\n\
 ++VER(Z038) FMID(HBB7790).\n\

@@ -1,5 +1,5 @@
 use Rattle.chains.proofs.PlaceFacts.{ids_more, listed_place}
-use Rattle.chains.proofs.whole.ids_at.Goals as goal
+use Rattle.chains.proofs.places.ids_at.Goals as goal
 
 pub id_at-requires : goal.id_at-requires
 id_at-requires c = c.requires _ (listed_place c.args.places.now c.loop-place.place-index c.loop-place-test.true)

@@ -2,7 +2,7 @@ use Rattle.std.proofs.Common.{◌<◌, List, length, subst, sym, ℕ}
 use Rattle.std.specs.List.{Contains}
 use Rattle.requisites.specs.declared.verdict.Verdict.{Verdict}
 use Rattle.chains.specs.Places.{IsWithin}
-use Rattle.chains.proofs.whole.by_ids.Goals as goal
+use Rattle.chains.proofs.places.by_ids.Goals as goal
 
 pub ids_at-requires : goal.ids_at-requires
 ids_at-requires c =

@@ -1,0 +1,312 @@
+-- The nodes that are made of what was gathered are those of the frame.
+use Rattle.std.proofs.Common.{◌≡◌, ◌∙◌, ◌<◌, ◌++◌, ◌+◌, ℕ, suc, Bool, List, [], ◌∷◌, length, map, take, get_or, is_some, Option, Some, None, refl, sym, ap, subst, inl, inr, arith}
+use Rattle.std.specs.Prelude.{◌↔◌}
+use Rattle.std.specs.List.{Contains}
+use Rattle.std.specs.Map.{keys_of, values_of}
+use Rattle.std.specs.Option.{IsSomeAnd}
+use Rattle.std.proofs.lemmas.List.{length-map, map-append, take_all, take_more}
+use Rattle.std.proofs.lemmas.List.Elements.{Contains-append_cases, Contains-append_left, Contains-append_right}
+use Rattle.catalogue.specs.Content.{Content, IsInOrder, Supersedes, ids_of, record_of, superseders}
+use Rattle.catalogue.specs.Ids.{Ascend, in_order}
+use Rattle.catalogue.specs.declared.sysmod.Sysmod.{Sysmod}
+use Rattle.catalogue.proofs.IdFacts.{in_order_has}
+use Rattle.catalogue.proofs.SupersedeFacts.{superseder_is}
+use Rattle.supersede.specs.Giving.{fmids_of, givers_of, may_need, sup_of}
+use Rattle.supersede.specs.Leading.{Gives, IsWay}
+use Rattle.requisites.specs.Leads.{Leads}
+use Rattle.requisites.specs.Nodes.{row}
+use Rattle.requisites.proofs.LeadsFacts.{leads_closed, leads_itself, leads_more}
+use Rattle.chains.specs.Cuts.{PlaceOf, id_at}
+use Rattle.chains.specs.FramePlaces.{AreNodesOf, ArePlaced, IsAbove, IsFramed, IsGiverAt, IsNodeAt, list_at}
+use Rattle.chains.specs.Frames.{FrameLists, IsClosed, IsFrame, StepsTo, ids_in, node_of}
+use Rattle.chains.specs.Gathered.{AreNamed, IsGathered, Names, gathered_of}
+use Rattle.chains.specs.Places.{ArePlacesOf}
+use Rattle.chains.specs.declared.frames.FrameNode.{FrameNode}
+use Rattle.chains.specs.declared.gathered.Gathered.{Gathered}
+use Rattle.chains.proofs.FrameFacts.{direct_gives, giver_is, givers_ascend, record_listed}
+use Rattle.chains.proofs.MadeCutFacts.{listed_record}
+use Rattle.chains.proofs.OrderFacts.{ascending_same}
+use Rattle.chains.proofs.PartFacts.{at_map}
+use Rattle.chains.proofs.PlaceFacts.{at_inside, get_any, inside_at}
+use Rattle.chains.proofs.SearchFacts.{inside_cases, map_from, map_inside, none_inside}
+
+-- ---- one step by what is named, and by what is needed and gives
+
+module _ (content : Content) (ordered : IsInOrder content) where
+  -- each need is named
+  need_named : (x z : List ℕ) → Contains (may_need content x) z → Names content x z
+  need_named x z needs = Contains-append_left (in_order (may_need content x)) (superseders content x) z ((in_order_has (may_need content x) z).1 needs)
+
+  -- so is what supersedes directly
+  above_named : (x z : List ℕ) → Supersedes content z x → Names content x z
+  above_named x z step = Contains-append_right (in_order (may_need content x)) (superseders content x) z ((superseder_is content x z ordered).1 step)
+
+  -- what is named is a need, or gives
+  named_steps : (x z : List ℕ) → Names content x z → StepsTo content x z
+  named_steps x z named = elim (Contains-append_cases (in_order (may_need content x)) (superseders content x) z named) [
+    | inl needs ↦ inl ((in_order_has (may_need content x) z).0 needs)
+    | inr above ↦ inr (direct_gives content z x ordered ((superseder_is content x z ordered).0 above))
+  ]
+
+  -- to what gives an id lead the names
+  way_named : (start y : List ℕ) (way : List (List ℕ)) (x : List ℕ) → Leads (Names content) start x → IsWay content y way x → Leads (Names content) start y
+  way_named start y [] x leads same = (let P : List ℕ → Type 0 = λ z. Leads (Names content) start z in subst P (sym same) leads)
+  way_named start y (next ∷ later) x leads way = leads_more (way_named start next later x leads way.1) (above_named next y way.0)
+
+  pub names_reach : (start id : List ℕ) → Leads (Names content) start id → Leads (StepsTo content) start id
+  names_reach start id leads =
+      leads_closed (λ x. Leads (StepsTo content) start x) (λ x z here step. leads_more here (named_steps x z step)) (leads_itself (StepsTo content) start) leads
+
+  pub steps_reach : (start id : List ℕ) → Leads (StepsTo content) start id → Leads (Names content) start id
+  steps_reach start id leads =
+      leads_closed (λ x. Leads (Names content) start x)
+      (λ x z here step. elim step [ inl needs ↦ leads_more here (need_named x z needs) | inr given ↦ way_named start z given.way x here given.leads ])
+      (leads_itself (Names content) start) leads
+
+-- ---- a node
+
+node_by : List ℕ → Bool → List (List ℕ) → List (List ℕ) → List (List ℕ) → FrameNode
+node_by id catalogued fmids needs givers = record { id = id; catalogued = catalogued; fmids = fmids; needs = needs; givers = givers }
+
+module _ (content : Content) (start : List ℕ) (ids : List (List ℕ)) (all : List Gathered) (above : List (List ℕ)) (ordered : IsInOrder content) (is : IsGathered content start ids all)
+    (placed : ArePlaced ids (map (λ g. g.above) all) above) where
+  made : length all ≡ length ids
+  made = ap length is.says ∙ length-map ids (gathered_of content)
+
+  -- what was read of the id at a place
+  read_at : {Y : Type 0} (f : Gathered → Y) (p : ℕ) (e : Y) → p < length ids → get_or (map f all) p e ≡ f (gathered_of content (id_at ids p))
+  read_at {Y} f p e below =
+      let as_many : length (map (gathered_of content) ids) ≡ length ids = length-map ids (gathered_of content) in
+      ap (λ (l : List Gathered). get_or (map f l) p e) is.says
+      ∙ at_map f (map (gathered_of content) ids) p (gathered_of content []) e (omega (arith, below, as_many))
+      ∙ ap f (at_map (gathered_of content) ids p [] (gathered_of content []) below)
+
+  above_at : (p : ℕ) → p < length ids → ArePlacesOf ids (superseders content (id_at ids p)) (row above p)
+  above_at p below = let P : List (List ℕ) → Type 0 = λ l. ArePlacesOf ids l (row above p) in subst P (read_at (λ g. g.above) p [] below) (placed.each p below)
+
+  -- a way from what stands at a place
+  record WayFrom (to : List ℕ) (q : ℕ) : Type 0 where
+    within : q < length ids
+    way : List (List ℕ)
+    leads : IsWay content (id_at ids q) way to
+
+  way_up : (place q : ℕ) → place < length ids → Leads (IsAbove above) place q → WayFrom (id_at ids place) q
+  way_up place q below leads =
+      leads_closed (λ p. WayFrom (id_at ids place) p)
+      (λ p r here step. let at = above_at p here.within in record {
+        within = at.within r step;
+        way = id_at ids p ∷ here.way;
+        leads = ((superseder_is content (id_at ids p) (id_at ids r) ordered).0 (at.listed r step), here.leads);
+      })
+      (record { within = below; way = []; leads = refl }) leads
+
+  -- the place of what leads down to a place
+  record PlaceAbove (place : ℕ) (id : List ℕ) : Type 0 where
+    at : PlaceOf ids id
+    leads : Leads (IsAbove above) place at.place
+
+  way_down : (place : ℕ) → place < length ids → (y : List ℕ) (way : List (List ℕ)) → IsWay content y way (id_at ids place) → PlaceAbove place y
+  way_down place below y [] same = record { at = record { place = place; within = below; is = sym same }; leads = leads_itself (IsAbove above) place }
+  way_down place below y (next ∷ later) way =
+      let rest = way_down place below next later way.1 in
+      let P : List ℕ → Type 0 = λ x. Supersedes content y x in
+      let step : Supersedes content y (id_at ids rest.at.place) = subst P (sym rest.at.is) way.0 in
+      let reached = is.whole y (leads_more (is.reached (id_at ids rest.at.place) (at_inside ids rest.at.place rest.at.within)) (above_named content ordered (id_at ids rest.at.place) y step)) in
+      let at = inside_at ids y reached in
+      let Q : List ℕ → Type 0 = λ x. Contains (superseders content (id_at ids rest.at.place)) x in
+      record {
+        at = at;
+        leads = leads_more rest.leads ((above_at rest.at.place rest.at.within).whole at.place at.within (subst Q (sym at.is) ((superseder_is content (id_at ids rest.at.place) y ordered).1 step)));
+      }
+
+  gives_at : (place : ℕ) → place < length ids → (id : List ℕ) → IsGiverAt ids all above place id → Gives content id (id_at ids place)
+  gives_at place below id giver =
+      let way = way_up place giver.own below giver.leads in
+      let P : List ℕ → Type 0 = λ x. Gives content x (id_at ids place) in
+      subst P giver.is (record {
+        catalogued = listed_record content.sysmods (id_at ids giver.own) (sym (read_at (λ g. g.catalogued) giver.own _ giver.within) ∙ giver.catalogued);
+        way = way.way;
+        leads = way.leads;
+      })
+
+  at_gives : (place : ℕ) → place < length ids → (id : List ℕ) → Gives content id (id_at ids place) → IsGiverAt ids all above place id
+  at_gives place below id given =
+      let down = way_down place below id given.way given.leads in
+      let P : List ℕ → Type 0 = λ x. Contains (ids_of content) x in
+      record {
+        own = down.at.place;
+        within = down.at.within;
+        is = down.at.is;
+        catalogued = read_at (λ g. g.catalogued) down.at.place _ down.at.within ∙ record_listed content.sysmods (id_at ids down.at.place) (subst P (sym down.at.is) given.catalogued);
+        leads = down.leads;
+      }
+
+  -- the node at a place is that of the content
+  pub node_is : (place : ℕ) (node : FrameNode) → place < length ids → IsNodeAt ids all above place node → node ≡ node_of content (id_at ids place)
+  unfolding node_by
+  node_is place node below at =
+      let id = id_at ids place in
+      let read : at.gathered ≡ gathered_of content id =
+      at.at ∙ ap (λ (l : List Gathered). get_or l place at.gathered) is.says ∙ at_map (gathered_of content) ids place [] at.gathered below in
+      let givers : node.givers ≡ givers_of content id =
+      ascending_same node.givers (givers_of content id) at.ascend (givers_ascend content id ordered.sysmods)
+      (λ y inside. (giver_is content id y).1 (gives_at place below y ((at.givers y).0 inside)))
+      (λ y inside. (at.givers y).1 (at_gives place below y ((giver_is content id y).0 inside))) in
+      ap (λ i. node_by i node.catalogued node.fmids node.needs node.givers) at.id
+      ∙ ap (λ b. node_by id b node.fmids node.needs node.givers) (at.catalogued ∙ ap (λ (g : Gathered). g.catalogued) read)
+      ∙ ap (λ l. node_by id (is_some (record_of content id)) l node.needs node.givers) (at.fmids ∙ ap (λ (g : Gathered). g.fmids) read)
+      ∙ ap (λ l. node_by id (is_some (record_of content id)) (fmids_of (record_of content id)) l node.givers) (at.needs ∙ ap (λ (g : Gathered). g.needs) read)
+      ∙ ap (λ l. node_by id (is_some (record_of content id)) (fmids_of (record_of content id)) (in_order (may_need content id)) l) givers
+
+-- ---- one node more
+
+take_next : {X : Type 0} (xs : List X) (i : ℕ) (x : X) → i < length xs → x ≡ get_or xs i x → take (i + 1) xs ≡ take i xs ++ x ∷ []
+take_next {X} xs i x below at = take_more xs i x below ∙ ap (λ (y : X). take i xs ++ y ∷ []) (sym at)
+
+pub nodes_begin : (ids : List (List ℕ)) (all : List Gathered) → AreNodesOf ids all 0 []
+nodes_begin ids all = record {
+  are = refl;
+  needs = refl;
+  givers = λ node id inside given. absurd (none_inside node inside);
+  say = λ content start ordered is. refl;
+}
+
+pub nodes_more : (ids : List (List ℕ)) (all : List Gathered) (above : List (List ℕ)) (place : ℕ) (node : FrameNode) (old new : List FrameNode) → place < length ids → length all ≡ length ids
+    → ArePlaced ids (map (λ g. g.above) all) above → IsNodeAt ids all above place node → AreNodesOf ids all place old → new ≡ old ++ node ∷ [] → AreNodesOf ids all (place + 1) new
+nodes_more ids all above place node old new below as_many placed at are now =
+    let S : List FrameNode → Type 0 = λ l. AreNodesOf ids all (place + 1) l in
+    subst S (sym now) (record {
+      are = map-append (λ (n : FrameNode). n.id) old (node ∷ []) ∙ ap (λ l. l ++ node.id ∷ []) are.are ∙ ap (λ i. take place ids ++ i ∷ []) at.id
+          ∙ sym (take_next ids place (id_at ids place) below (get_any ids place [] (id_at ids place) below));
+      needs = map-append (λ (n : FrameNode). n.needs) old (node ∷ []) ∙ ap (λ l. l ++ node.needs ∷ []) are.needs ∙ ap (λ l. map (λ (g : Gathered). g.needs) (take place all) ++ l ∷ []) at.needs
+          ∙ sym (map-append (λ (g : Gathered). g.needs) (take place all) (at.gathered ∷ []))
+          ∙ ap (map (λ (g : Gathered). g.needs)) (sym (take_next all place at.gathered (omega (arith, below, as_many)) at.at));
+      givers = λ n id inside given. elim (Contains-append_cases old (node ∷ []) n inside) [
+        | inl before ↦ are.givers n id before given
+        | inr last ↦ elim (inside_cases node n [] last) [
+          | inl same ↦ (
+              let G : FrameNode → Type 0 = λ m. Contains m.givers id in
+              let giver = (at.givers id).0 (subst G (sym same) given) in
+              let I : List ℕ → Type 0 = λ x. Contains ids x in
+              subst I giver.is (at_inside ids giver.own giver.within))
+          | inr none ↦ absurd (none_inside n none)
+        ]
+      ];
+      say = λ content start ordered is.
+          ap (λ l. l ++ node ∷ []) (are.say content start ordered is)
+          ∙ ap (λ (n : FrameNode). map (node_of content) (take place ids) ++ n ∷ []) (node_is content start ids all above ordered is placed place node below at)
+          ∙ sym (map-append (node_of content) (take place ids) (id_at ids place ∷ []))
+          ∙ ap (map (node_of content)) (sym (take_next ids place (id_at ids place) below (get_any ids place [] (id_at ids place) below)));
+    })
+
+-- ---- the frame
+
+module _ (ids : List (List ℕ)) (all : List Gathered) (nodes : List FrameNode) (ascend : Ascend ids) (as_many : length all ≡ length ids) (named : AreNamed all ids) (are : AreNodesOf ids all (length ids) nodes) where
+  ids_are : ids ≡ ids_in nodes
+  ids_are = sym (are.are ∙ take_all (length ids) ids (omega arith))
+
+  needs_are : map (λ (g : Gathered). g.needs) all ≡ map (λ (n : FrameNode). n.needs) nodes
+  needs_are = sym (are.needs ∙ ap (map (λ (g : Gathered). g.needs)) (take_all (length ids) all (omega (arith, as_many))))
+
+  closed : IsClosed nodes
+  closed = record {
+    needs = λ node id inside needs.
+        let L : List (List (List ℕ)) → Type 0 = λ l. Contains l node.needs in
+        let image = map_from (λ (g : Gathered). g.needs) all node.needs (subst L (sym needs_are) (map_inside (λ (n : FrameNode). n.needs) nodes node inside)) in
+        let N : List (List ℕ) → Type 0 = λ l. Contains l id in
+        subst N ids_are (named.named image.from id image.member (Contains-append_left image.from.needs image.from.above id (subst N (sym image.is) needs)));
+    givers = λ node id inside given. let N : List (List ℕ) → Type 0 = λ l. Contains l id in subst N ids_are (are.givers node id inside given);
+  }
+
+  pub framed : (needs : List (List ℕ)) → ArePlaced ids (map (λ g. g.needs) all) needs → IsFramed nodes ids needs
+  framed needs placed = record {
+    are = ids_are;
+    ascend = ascend;
+    closed = closed;
+    placed = (let P : List (List (List ℕ)) → Type 0 = λ l. ArePlaced ids l needs in subst P needs_are placed);
+  }
+
+  pub frame_made : (supersedes : List (List ℕ)) → ArePlaced ids (map (λ g. g.superseded) all) supersedes → (frame : FrameLists) → frame.nodes ≡ nodes → frame.supersedes ≡ supersedes
+      → (content : Content) (start : List ℕ) → IsInOrder content → IsGathered content start ids all → IsFrame content start frame
+  frame_made supersedes placed frame nodes_is rows_is content start ordered is = record {
+    reached = λ id. (let N : List (List ℕ) → Type 0 = λ l. Contains l id in (
+      λ inside. names_reach content ordered start id (is.reached id (subst N (sym members) inside)),
+      λ leads. subst N members (is.whole id (steps_reach content ordered start id leads)),
+    ));
+    says =
+        nodes_is ∙ are.say content start ordered is
+        ∙ ap (map (node_of content)) (take_all (length ids) ids (omega arith) ∙ members);
+    supersedes = λ p q below within. (
+        let R : List (List ℕ) → Type 0 = λ l. Contains (row frame.supersedes p) q ↔ Supersedes content (id_at l p) (id_at l q) in
+        let below' : p < length ids = (let L : List (List ℕ) → Type 0 = λ l. p < length l in subst L (sym members) below) in
+        let within' : q < length ids = (let L : List (List ℕ) → Type 0 = λ l. q < length l in subst L (sym members) within) in
+        let T : List (List ℕ) → Type 0 = λ l. Contains (row l p) q ↔ Supersedes content (id_at ids p) (id_at ids q) in
+        subst R members (subst T (sym rows_is) (both p q below' within')));
+  } where
+    members : ids ≡ ids_in frame.nodes
+    members = ids_are ∙ ap ids_in (sym nodes_is)
+
+    sup_here : (p : ℕ) → p < length ids → list_at (map (λ g. g.superseded) all) p ≡ sup_of (record_of content (id_at ids p))
+    sup_here p below =
+        let as_long : length (map (gathered_of content) ids) ≡ length ids = length-map ids (gathered_of content) in
+        ap (λ (l : List Gathered). list_at (map (λ g. g.superseded) l) p) is.says
+        ∙ at_map (λ g. g.superseded) (map (gathered_of content) ids) p (gathered_of content []) [] (omega (arith, below, as_long))
+        ∙ ap (λ (g : Gathered). g.superseded) (at_map (gathered_of content) ids p [] (gathered_of content []) below)
+
+    sup_at : (p : ℕ) → p < length ids → ArePlacesOf ids (sup_of (record_of content (id_at ids p))) (row supersedes p)
+    sup_at p below = let P : List (List ℕ) → Type 0 = λ l. ArePlacesOf ids l (row supersedes p) in subst P (sup_here p below) (placed.each p below)
+
+    superseded_by : (o : Option Sysmod) (x : List ℕ) → Contains (sup_of o) x → IsSomeAnd o (λ sysmod. Contains sysmod.sup x)
+    superseded_by None x inside = absurd (none_inside x inside)
+    superseded_by (Some sysmod) x inside = inside
+
+    superseded_in : (o : Option Sysmod) (x : List ℕ) → IsSomeAnd o (λ sysmod. Contains sysmod.sup x) → Contains (sup_of o) x
+    superseded_in None x none = absurd none
+    superseded_in (Some sysmod) x inside = inside
+
+    both : (p q : ℕ) → p < length ids → q < length ids → Contains (row supersedes p) q ↔ Supersedes content (id_at ids p) (id_at ids q)
+    both p q below within = (
+      λ linked. superseded_by (record_of content (id_at ids p)) (id_at ids q) ((sup_at p below).listed q linked),
+      λ step. (sup_at p below).whole q within (superseded_in (record_of content (id_at ids p)) (id_at ids q) step),
+    )
+
+-- ---- as the call that makes the frame has it
+
+same_length : {X : Type 0} (es : List (List ℕ × X)) → length (values_of es) ≡ length (keys_of es)
+same_length [] = refl
+same_length (e ∷ es) = ap suc (same_length es)
+
+module _ (es : List (List ℕ × Gathered)) (ids seen_ids node_ids : List (List ℕ)) (all seen_all node_all : List Gathered) (nodes : List FrameNode) (above : List (List ℕ))
+    (ids_is : ids ≡ keys_of es) (all_is : all ≡ values_of es) (seen_ids_is : seen_ids ≡ ids) (seen_all_is : seen_all ≡ all) (node_ids_is : node_ids ≡ ids) (node_all_is : node_all ≡ all)
+    (ascend : Ascend ids) (named : AreNamed (values_of es) (keys_of es)) (are : AreNodesOf node_ids node_all (length node_ids) nodes) where
+  as_many : length all ≡ length ids
+  as_many = ap length all_is ∙ same_length es ∙ sym (ap length ids_is)
+
+  named_here : AreNamed all ids
+  named_here =
+      let P : List Gathered → Type 0 = λ l. AreNamed l ids in
+      let Q : List (List ℕ) → Type 0 = λ l. AreNamed (values_of es) l in
+      subst P (sym all_is) (subst Q (sym ids_is) named)
+
+  nodes_here : AreNodesOf ids all (length ids) nodes
+  nodes_here =
+      let P : List Gathered → Type 0 = λ l. AreNodesOf ids l (length ids) nodes in
+      let Q : List (List ℕ) → Type 0 = λ l. AreNodesOf l node_all (length l) nodes in
+      subst P node_all_is (subst Q node_ids_is are)
+
+  placed_of : (f : Gathered → List (List ℕ)) (rows : List (List ℕ)) → ArePlaced seen_ids (map f seen_all) rows → ArePlaced ids (map f all) rows
+  placed_of f rows placed =
+      let P : List Gathered → Type 0 = λ l. ArePlaced ids (map f l) rows in
+      let Q : List (List ℕ) → Type 0 = λ l. ArePlaced l (map f seen_all) rows in
+      subst P seen_all_is (subst Q seen_ids_is placed)
+
+  pub framed_found : (needs : List (List ℕ)) → ArePlaced seen_ids (map (λ g. g.needs) seen_all) needs → IsFramed nodes ids needs
+  framed_found needs placed = framed ids all nodes ascend as_many named_here nodes_here needs (placed_of (λ g. g.needs) needs placed)
+
+  pub frame_found : (supersedes : List (List ℕ)) → ArePlaced seen_ids (map (λ g. g.superseded) seen_all) supersedes → (frame : FrameLists) → frame.nodes ≡ nodes → frame.supersedes ≡ supersedes
+      → (content : Content) (start : List ℕ) → IsInOrder content → IsGathered content start (keys_of es) (values_of es) → IsFrame content start frame
+  frame_found supersedes placed frame nodes_is rows_is content start ordered is =
+      let P : List Gathered → Type 0 = λ l. IsGathered content start ids l in
+      let Q : List (List ℕ) → Type 0 = λ l. IsGathered content start l (values_of es) in
+      frame_made ids all nodes ascend as_many named_here nodes_here supersedes (placed_of (λ g. g.superseded) supersedes placed) frame nodes_is rows_is content start ordered
+      (subst P (sym all_is) (subst Q (sym ids_is) is))

@@ -1,0 +1,62 @@
+-- No part of what is promised: private contracts cite it. What a frame keeps by the places of its nodes.
+use Rattle.std.specs.Prelude.{◌≡◌, ◌<◌, ◌↔◌, ℕ, Bool, true, false, List, [], Contains, length, map, slice_index_or, take}
+use Rattle.catalogue.specs.Content.{Content, IsInOrder}
+use Rattle.catalogue.specs.Ids.{Ascend}
+use Rattle.requisites.specs.Leads.{Leads}
+use Rattle.requisites.specs.Nodes.{row}
+use Rattle.chains.specs.Cuts.{id_at}
+use Rattle.chains.specs.Frames.{IsClosed, ids_in, node_of}
+use Rattle.chains.specs.Gathered.{IsGathered}
+use Rattle.chains.specs.Places.{ArePlacesOf, RowsAre}
+use Rattle.chains.specs.declared.frames.FrameNode.{FrameNode}
+use Rattle.chains.specs.declared.gathered.Gathered.{Gathered}
+
+-- what stands in a list of lists at a place
+abbrev pub list_at : List (List (List ℕ)) → ℕ → List (List ℕ)
+list_at lists p = slice_index_or lists p []
+
+-- for each of the lists a row has the places of its ids
+abbrev pub ArePlaced : List (List ℕ) → List (List (List ℕ)) → List (List ℕ) → Type 0
+ArePlaced ids lists rows = RowsAre (λ p places. ArePlacesOf ids (list_at lists p) places) (length ids) rows
+
+-- what a frame keeps: its nodes ascend and name no others; their ids; and by places what each may need
+pub record IsFramed (nodes : List FrameNode) (ids : List (List ℕ)) (needs : List (List ℕ)) : Type 0 where
+  pub are : ids ≡ ids_in nodes
+  pub ascend : Ascend ids
+  pub closed : IsClosed nodes
+  pub placed : ArePlaced ids (map (λ node. node.needs) nodes) needs
+
+-- q is listed for p as one that supersedes it directly
+abbrev pub IsAbove : List (List ℕ) → ℕ → ℕ → Type 0
+IsAbove above p q = Contains (row above p) q
+
+-- whether what was read says that a place is catalogued
+abbrev pub is_catalogued_at : List Gathered → ℕ → Bool
+is_catalogued_at gathered p = slice_index_or (map (λ g. g.catalogued) gathered) p false
+
+-- an id that gives what stands at a place: it is catalogued, and to its own place leads what supersedes that one, directly
+-- or through others
+pub record IsGiverAt (ids : List (List ℕ)) (gathered : List Gathered) (above : List (List ℕ)) (place : ℕ) (id : List ℕ) : Type 0 where
+  pub own : ℕ
+  pub within : own < length ids
+  pub is : id_at ids own ≡ id
+  pub catalogued : is_catalogued_at gathered own ≡ true
+  pub leads : Leads (IsAbove above) place own
+
+-- the node of what stands at a place
+pub record IsNodeAt (ids : List (List ℕ)) (all : List Gathered) (above : List (List ℕ)) (place : ℕ) (node : FrameNode) : Type 0 where
+  pub gathered : Gathered
+  pub at : gathered ≡ slice_index_or all place gathered
+  pub id : node.id ≡ id_at ids place
+  pub catalogued : node.catalogued ≡ gathered.catalogued
+  pub fmids : node.fmids ≡ gathered.fmids
+  pub needs : node.needs ≡ gathered.needs
+  pub ascend : Ascend node.givers
+  pub givers : (giver : List ℕ) → Contains node.givers giver ↔ IsGiverAt ids all above place giver
+
+-- the nodes of the ids up to a place
+pub record AreNodesOf (ids : List (List ℕ)) (all : List Gathered) (place : ℕ) (nodes : List FrameNode) : Type 0 where
+  pub are : map (λ node. node.id) nodes ≡ take place ids
+  pub needs : map (λ node. node.needs) nodes ≡ map (λ g. g.needs) (take place all)
+  pub givers : (node : FrameNode) (id : List ℕ) → Contains nodes node → Contains node.givers id → Contains ids id
+  pub say : (content : Content) (start : List ℕ) → IsInOrder content → IsGathered content start ids all → nodes ≡ map (node_of content) (take place ids)

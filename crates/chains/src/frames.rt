@@ -1,0 +1,132 @@
+//! Frames.
+ghost use Rattle.std.specs.Prelude.{◌≡◌, ◌++◌, ℕ, List, IfOk, map};
+ghost use Rattle.std.specs.BTreeMap.{keys, values};
+ghost use Rattle.catalogue.specs.Content.{Content, IsInOrder};
+ghost use Rattle.catalogue.specs.Ids.{Ascend};
+ghost use Rattle.chains.specs.FramePlaces.{ArePlaced};
+ghost use Rattle.chains.specs.Frames.{IsClosed, IsFrame, ids_in};
+ghost use Rattle.chains.specs.Gathered.{AreNamed, IsGathered};
+
+use crate::gathered::Gathered;
+use crate::links::Links;
+use crate::nodes::nodes_of;
+use catalogue::Ids;
+use mcs_reader::{Id, NoMemory};
+use requisites::Rows;
+use std::alloc::Global;
+use std::collections::BTreeMap;
+use std::marker::Model;
+
+/// A SYSMOD in a frame.
+#[derive(Debug, Drop)]
+pub struct FrameNode {
+    /// Its id.
+    pub id: Id,
+    /// Whether it is catalogued.
+    pub catalogued: bool,
+    /// The functions that it applies to. A SYSMOD that isn't catalogued has none.
+    pub fmids: Ids,
+    /// What it may need: its PRE, its REQ and the reasons of the ERROR holds on it.
+    pub needs: Ids,
+    /// The catalogued SYSMODs that give it: itself, and those that supersede it, themselves or through others.
+    pub givers: Ids,
+}
+
+/// All that one SYSMOD reaches in a catalogue, by what each may need and by what gives it, itself among them. It
+/// speaks of no zone.
+///
+/// The nodes ascend by id, and each need and each giver of a node is a node.
+#[derive(Debug, Drop)]
+pub struct Frame {
+    nodes: Vec<FrameNode>,
+    // The ids of the nodes, and by their places what each may need and what it supersedes directly. A plan
+    // doesn't ask for the givers, which are many where superseding is long.
+    ids: Vec<Id>,
+    needs: Rows,
+    supersedes: Rows,
+}
+
+impl Model for Frame {
+    ghost use Rattle.chains.specs.FramePlaces.{IsFramed};
+    ghost use Rattle.chains.specs.Frames.{FrameLists};
+
+    ghost Value = { FrameLists };
+
+    ghost view = { λ frame. record { nodes = frame.nodes.items; supersedes = frame.supersedes } };
+
+    ghost invariant = { λ frame. IsFramed frame.nodes.items frame.ids.items frame.needs };
+}
+
+impl Frame {
+    /// The frame of what was gathered.
+    pub(crate) fn of(alloc: Global, found: BTreeMap<Id, Gathered>) -> Result<Frame, NoMemory>
+        requires { AreNamed (values found) (keys found) }
+        ensures { IfOk result (λ frame. (content : Content) (start : List ℕ) → IsInOrder content
+            → IsGathered content start (keys found) (values found) → IsFrame content start frame) }
+    {
+        let ids = ids_found(alloc, &found)?;
+        let all = gathered_found(alloc, found)?;
+        let Links {
+            needs,
+            supersedes,
+            above,
+        } = Links::of(alloc, &ids, &all)?;
+        let nodes = nodes_of(alloc, &ids, &all, &above)?;
+        Ok(Frame {
+            nodes,
+            ids,
+            needs,
+            supersedes,
+        })
+    }
+
+    /// Its nodes, ascending by id.
+    pub fn nodes(&self) -> &[FrameNode]
+        ensures value { result.now ≡ self.now.nodes }
+        ensures ascend { Ascend (ids_in self.now.nodes) }
+        ensures closed { IsClosed self.now.nodes }
+    {
+        self.nodes.as_slice()
+    }
+
+    /// The ids of its nodes.
+    pub(crate) fn ids(&self) -> &[Id]
+        ensures value { result.now ≡ ids_in self.now.nodes }
+        ensures ascend { Ascend (ids_in self.now.nodes) }
+    {
+        self.ids.as_slice()
+    }
+
+    /// By places, what each may need.
+    pub(crate) fn needs(&self) -> &Rows
+        ensures { ArePlaced (ids_in self.now.nodes) (map (λ node. node.needs) self.now.nodes) result.now }
+    {
+        &self.needs
+    }
+
+    /// By places, what each supersedes directly.
+    pub(crate) fn supersedes(&self) -> &Rows
+        ensures { result.now ≡ self.now.supersedes }
+    {
+        &self.supersedes
+    }
+}
+
+// The ids of which something was read, ascending.
+fn ids_found(alloc: Global, found: &BTreeMap<Id, Gathered>) -> Result<Vec<Id>, NoMemory>
+    ensures ids { IfOk result (λ ids. ids.items ≡ keys found.now) }
+    ensures ascend { IfOk result (λ ids. Ascend ids.items) }
+{
+    let mut ids = Vec::with_capacity(alloc, found.len())?;
+    for id in found.keys() {
+        ids.push(*id)?;
+    }
+    Ok(ids)
+}
+
+// What was read of them, in their order.
+fn gathered_found(alloc: Global, found: BTreeMap<Id, Gathered>) -> Result<Vec<Gathered>, NoMemory>
+    ensures { IfOk result (λ all. all.items ≡ values found) }
+{
+    found.into_values().collect(alloc)
+}

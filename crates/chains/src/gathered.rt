@@ -1,0 +1,139 @@
+//! All that a SYSMOD reaches, read once.
+ghost use Rattle.std.specs.Prelude.{◌≡◌, ◌++◌, Contains, IfOk, OnOk};
+ghost use Rattle.std.specs.BTreeMap.{insert_entry, keys, values};
+ghost use Rattle.catalogue.specs.Ids.{Ascend, id_cmp, in_order};
+ghost use Rattle.catalogue.specs.View.{IsOpen, MayAsk, Tells};
+ghost use Rattle.catalogue.specs.declared.fault.SourceFault.TheVariants.{Device};
+ghost use Rattle.chains.specs.Gathered as spec;
+ghost use Rattle.chains.specs.Gathered.{AreNamed, IsGathered, named_by};
+ghost use Rattle.chains.specs.Sights.{reasons_in};
+
+use crate::listing::{joined, push_reasons};
+use crate::places::sort_each_once;
+use catalogue::{Ids, Published, SourceFault, Sysmod};
+use holddata::Hold;
+use mcs_reader::{Id, NoMemory};
+use std::alloc::Global;
+use std::collections::BTreeMap;
+
+/// What is read of a SYSMOD that a frame has.
+#[derive(Debug, Drop)]
+pub(crate) struct Gathered {
+    pub(crate) catalogued: bool,
+    pub(crate) fmids: Ids,
+    pub(crate) needs: Ids,
+    pub(crate) superseded: Ids,
+    // The SYSMODs that supersede it directly.
+    pub(crate) above: Ids,
+}
+
+/// What the source says of a SYSMOD, of all that it may need and all that supersedes it, of all that these may
+/// need, and so on. Each is read once.
+pub(crate) fn gather<P: Published>(
+    alloc: Global,
+    source: &mut P,
+    start: &Id,
+) -> Result<BTreeMap<Id, Gathered>, SourceFault>
+    ensures asks { MayAsk P.content_view Device source.old source.new result }
+    ensures gathered { IfOk result (λ found. Tells P.content_view source.old source.new
+        (λ content. IsGathered content start.now (keys found) (values found))) }
+    ensures named { IfOk result (λ found. AreNamed (values found) (keys found)) }
+    ensures standing { IfOk result (λ found. IsOpen P.content_view source.new) }
+{
+    let mut found = BTreeMap::new(alloc);
+    let mut order = Vec::new(alloc);
+    order.push(*start)?;
+    let mut at = 0;
+    while at < order.len() {
+        let id = order[at];
+        at += 1;
+        if found.contains_key(&id) {
+            continue;
+        }
+        let gathered = gathered_of(alloc, source, &id)?;
+        add(&mut found, &mut order, id, gathered)?;
+    }
+    Ok(found)
+}
+
+// Puts what is read of an id among what was found, and the ids that it names at the end of the order.
+fn add(
+    found: &mut BTreeMap<Id, Gathered>,
+    order: &mut Vec<Id>,
+    id: Id,
+    gathered: Gathered,
+) -> Result<(), NoMemory>
+    ensures found { OnOk result (found.new.entries ≡ insert_entry id_cmp found.old.entries id gathered) }
+    ensures order { OnOk result (order.new.items ≡ order.old.items ++ named_by gathered) }
+{
+    order.extend_from_slice(gathered.needs.as_slice())?;
+    order.extend_from_slice(gathered.above.as_slice())?;
+    found.insert(id, gathered)?;
+    Ok(())
+}
+
+fn gathered_of<P: Published>(
+    alloc: Global,
+    source: &mut P,
+    id: &Id,
+) -> Result<Gathered, SourceFault>
+    ensures asks { MayAsk P.content_view Device source.old source.new result }
+    ensures gathered { IfOk result (λ gathered. Tells P.content_view source.old source.new
+        (λ content. gathered ≡ spec.gathered_of content id.now)) }
+    ensures standing { IfOk result (λ gathered. IsOpen P.content_view source.new) }
+{
+    let sysmod = source.sysmod(id)?;
+    let holds = source.holds_on(id)?;
+    let above = source.superseders(id)?;
+    Ok(gathered_from(alloc, sysmod, &holds, above)?)
+}
+
+fn gathered_from(
+    alloc: Global,
+    sysmod: Option<Sysmod>,
+    holds: &[Hold],
+    above: Vec<Id>,
+) -> Result<Gathered, NoMemory>
+    requires { Ascend above.items }
+    ensures { IfOk result (λ gathered. gathered ≡ spec.gathered_from sysmod holds.now above.items) }
+{
+    let above = ascending(above);
+    let Some(sysmod) = sysmod else {
+        return Ok(Gathered {
+            catalogued: false,
+            fmids: Ids::new(alloc),
+            needs: with_reasons(Vec::new(alloc), holds)?,
+            superseded: Ids::new(alloc),
+            above,
+        });
+    };
+    let needs = joined(sysmod.pre.into_vec(), sysmod.req.into_vec())?;
+    Ok(Gathered {
+        catalogued: true,
+        fmids: sysmod.fmids,
+        needs: with_reasons(needs, holds)?,
+        superseded: sysmod.sup,
+        above,
+    })
+}
+
+// Requisites and the reasons of the ERROR holds, in ascending order, each once.
+fn with_reasons(requisites: Vec<Id>, holds: &[Hold]) -> Result<Ids, NoMemory>
+    ensures { IfOk result (λ needs. needs ≡ in_order (requisites.items ++ reasons_in holds.now)) }
+{
+    let mut needs = requisites;
+    push_reasons(&mut needs, holds)?;
+    sort_each_once(&mut needs)?;
+    Ok(ascending(needs))
+}
+
+/// Ids that ascend, each once, as a list of such. It takes no memory.
+pub(crate) fn ascending(ids: Vec<Id>) -> Ids
+    requires { Ascend ids.items }
+    ensures { result ≡ ids.items }
+{
+    match Ids::from_ascending(ids) {
+        Some(ids) => ids,
+        None => unreachable!(),
+    }
+}

@@ -1,0 +1,54 @@
+//! The nodes of a frame, made of what was gathered.
+ghost use Rattle.std.specs.Prelude.{◌≡◌, ◌<◌, IfOk, length, map};
+ghost use Rattle.catalogue.specs.Ids.{Ascend};
+ghost use Rattle.chains.specs.FramePlaces.{AreNodesOf, ArePlaced, IsNodeAt};
+
+use crate::frames::FrameNode;
+use crate::gathered::Gathered;
+use crate::links::givers_at;
+use mcs_reader::{Id, NoMemory};
+use requisites::Rows;
+use std::alloc::Global;
+
+/// The nodes of some ids, by what was gathered of each.
+pub(crate) fn nodes_of(
+    alloc: Global,
+    ids: &[Id],
+    all: &[Gathered],
+    above: &Rows,
+) -> Result<Vec<FrameNode>, NoMemory>
+    requires ascend { Ascend ids.now }
+    requires len { length all.now ≡ length ids.now }
+    requires placed { ArePlaced ids.now (map (λ g. g.above) all.now) above.now }
+    ensures { IfOk result (λ nodes. AreNodesOf ids.now all.now (length ids.now) nodes.items) }
+{
+    let mut nodes = Vec::with_capacity(alloc, ids.len())?;
+    for place in 0..ids.len() {
+        nodes.push(node_at(alloc, ids, all, above, place)?)?;
+    }
+    Ok(nodes)
+}
+
+fn node_at(
+    alloc: Global,
+    ids: &[Id],
+    all: &[Gathered],
+    above: &Rows,
+    place: usize,
+) -> Result<FrameNode, NoMemory>
+    requires ascend { Ascend ids.now }
+    requires len { length all.now ≡ length ids.now }
+    requires placed { ArePlaced ids.now (map (λ g. g.above) all.now) above.now }
+    requires within { place < length ids.now }
+    ensures { IfOk result (λ node. IsNodeAt ids.now all.now above.now place node) }
+{
+    let givers = givers_at(alloc, ids, all, above, place)?;
+    let gathered = &all[place];
+    Ok(FrameNode {
+        id: ids[place],
+        catalogued: gathered.catalogued,
+        fmids: gathered.fmids.copy()?,
+        needs: gathered.needs.copy()?,
+        givers,
+    })
+}

@@ -1,0 +1,98 @@
+//! Verdicts from a frame alone.
+ghost use Rattle.std.specs.Prelude.{◌≡◌, ◌<◌, ℕ, Bool, List, Contains, IfOk, filter, length, map};
+ghost use Rattle.std.specs.List.{list_any};
+ghost use Rattle.zone_lists.specs.Installed.{is_installed};
+ghost use Rattle.catalogue.specs.Content.{Content};
+ghost use Rattle.requisites.specs.Nodes.{mark_of};
+ghost use Rattle.chains.specs.Cuts.{id_at};
+ghost use Rattle.chains.specs.FramePlaces.{ArePlaced};
+ghost use Rattle.chains.specs.Frames.{IsFrame, ids_in};
+ghost use Rattle.chains.specs.Judge as judge;
+ghost use Rattle.chains.specs.Places.{AreThere};
+ghost use Rattle.chains.specs.Verdicts.{is_good, verdict_of};
+
+use crate::Verdict;
+use crate::cut::there_marks;
+use crate::frames::{Frame, FrameNode};
+use crate::listing::is_any_installed;
+use crate::places::{by_ids, place_of};
+use crate::whole::is_marked;
+use mcs_reader::{Id, NoMemory};
+use requisites::{Nodes, resolve, verdict_of_place};
+use std::alloc::Global;
+use supersede::Zone;
+
+/// The verdict on a SYSMOD of a frame in a zone, from the frame alone: it is that of the whole catalogue.
+///
+/// # Errors
+///
+/// `NoMemory` where memory ran out.
+pub fn plan(alloc: Global, frame: &Frame, zone: &Zone, id: &Id) -> Result<Verdict, NoMemory>
+    ensures verdict { IfOk result (λ verdict. (content : Content) (start : List ℕ) → IsFrame content start frame.now
+        → Contains (ids_in frame.now.nodes) id.now → judge.judged_by verdict ≡ verdict_of content zone.now id.now) }
+{
+    let Some(place) = place_of(frame.ids(), id) else {
+        return Ok(Verdict::Lack);
+    };
+    let nodes = seen_from(alloc, frame, zone)?;
+    let resolution = resolve(alloc, &nodes)?;
+    let verdict = verdict_of_place(alloc, &nodes, &resolution, place)?;
+    by_ids(alloc, frame.ids(), verdict)
+}
+
+// The nodes of a frame by their places, as a zone sees them.
+fn seen_from(alloc: Global, frame: &Frame, zone: &Zone) -> Result<Nodes, NoMemory>
+    ensures candidates { IfOk result (λ nodes. nodes.candidates.items ≡ map (λ node. list_any (λ fmid. is_installed zone.now fmid) node.fmids) frame.now.nodes) }
+    ensures needs { IfOk result (λ nodes. ArePlaced (ids_in frame.now.nodes) (map (λ node. node.needs) frame.now.nodes) nodes.needs) }
+    ensures supersedes { IfOk result (λ nodes. nodes.supersedes ≡ frame.now.supersedes) }
+    ensures there { IfOk result (λ nodes. AreThere zone.now (ids_in frame.now.nodes) nodes.supersedes nodes.there.items) }
+{
+    let candidates = candidate_marks(alloc, frame.nodes(), zone)?;
+    let there = there_marks(alloc, zone, frame.ids(), frame.supersedes())?;
+    Ok(Nodes {
+        candidates,
+        there,
+        needs: frame.needs().copy()?,
+        supersedes: frame.supersedes().copy()?,
+    })
+}
+
+// Which nodes may be installed.
+fn candidate_marks(alloc: Global, nodes: &[FrameNode], zone: &Zone) -> Result<Vec<bool>, NoMemory>
+    ensures { IfOk result (λ marks. marks.items ≡ map (λ node. list_any (λ fmid. is_installed zone.now fmid) node.fmids) nodes.now) }
+{
+    let mut marks = Vec::with_capacity(alloc, nodes.len())?;
+    for node in nodes {
+        marks.push(is_any_installed(zone, &node.fmids))?;
+    }
+    Ok(marks)
+}
+
+/// The SYSMODs of a frame that can be installed in a zone, ascending, from the frame alone: they are those of
+/// the whole catalogue.
+///
+/// # Errors
+///
+/// `NoMemory` where memory ran out.
+pub fn good(alloc: Global, frame: &Frame, zone: &Zone) -> Result<Vec<Id>, NoMemory>
+    ensures good { IfOk result (λ ids. (content : Content) (start : List ℕ) → IsFrame content start frame.now
+        → ids.items ≡ filter (is_good content zone.now) (ids_in frame.now.nodes)) }
+{
+    let nodes = seen_from(alloc, frame, zone)?;
+    let resolution = resolve(alloc, &nodes)?;
+    marked_ids(alloc, frame.ids(), &resolution.good)
+}
+
+// The ids at the places that are marked.
+fn marked_ids(alloc: Global, ids: &[Id], marks: &[bool]) -> Result<Vec<Id>, NoMemory>
+    ensures { IfOk result (λ those. (f : List ℕ → Bool) → ((p : ℕ) → p < length ids.now → mark_of marks.now p ≡ f (id_at ids.now p))
+        → those.items ≡ filter f ids.now) }
+{
+    let mut those = Vec::new(alloc);
+    for (place, id) in ids.iter().enumerate() {
+        if is_marked(marks, place) {
+            those.push(*id)?;
+        }
+    }
+    Ok(those)
+}
