@@ -96,4 +96,4 @@ module _ {Desk : Type 0} (view : View Desk Tables) (old new : Desk) (this : Tabl
 
 -- a desk that was looked at alone
 pub looked_at : {Desk : Type 0} (view : View Desk Tables) (old new : Desk) (this : Tables) → Keeps view old new → view.is_ours old → view.is_clean new → view.stands old this → Idles view old new this
-looked_at view old new this keeps ours clean stands = record { goes = keeps.goes; stands = keeps.stays ours clean this stands; leaves = keeps.leaves }
+looked_at view old new this keeps ours clean stands = record { goes = keeps.goes; stands = keeps.stays ours clean this stands; leaves = keeps.leaves ours clean }

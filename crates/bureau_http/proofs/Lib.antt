@@ -2,8 +2,10 @@ mod AskingFacts
 mod ReplyFacts
 mod ExchangeFacts
 mod ServingFacts
+mod ArrivalFacts
 mod IsolatedFacts
 mod ListFacts
 mod ConnectionFacts
 mod ReplayFacts
 mod LawfulFacts
+mod ServiceFacts

@@ -4,6 +4,8 @@ pub mod Connection
 pub mod Exchange
 pub mod Told
 pub mod Served
+pub mod Arrivals
 pub mod Isolated
 pub mod List
 pub mod Replay
+pub mod Service

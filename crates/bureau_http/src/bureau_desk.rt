@@ -17,5 +17,5 @@ impl<S: Store, J: Judge<S>> Desk for Bureau<S, J> {
         Bureau::answer(self, caller, call)
     }
 
-    ghost tables_lawful = { bureau_lawful S.tables_view J.is_right };
+    ghost tables_lawful = { bureau_lawful S.tables_view J.is_right S.tables_lawful };
 }

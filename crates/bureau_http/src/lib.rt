@@ -4,7 +4,9 @@
 //! - [`serve_one`]: one connection, to its end; [`Served`], [`ConnFault`]
 //! - [`serve_list`]: connections in memory, one after the other; [`RunFault`]
 //! - [`replay`]: the same over a store in memory that begins with the callers of a file
-//! - [`serve_listener`]: connections from a socket's listener
+//! - [`serve_listener`]: connections as they come, from a [`Listening`]
+//! - [`serve_while_open`]: the same over a store, as long as its device has not failed
+//! - [`Sockets`]: those of a socket's listener, with the [`Patience`] of the desk
 //! - [`one_connection`]: a law: a connection's bytes are requests and a stop in one way only
 #![tactic(auto)]
 
@@ -17,7 +19,9 @@ mod list;
 mod listening;
 mod replaying;
 mod reply;
+mod service;
 mod serving;
+mod sockets;
 #[cfg(test)]
 mod tests;
 
@@ -25,6 +29,8 @@ pub use desk::Desk;
 pub use fault::{ConnFault, RunFault};
 pub use law::one_connection;
 pub use list::serve_list;
-pub use listening::serve_listener;
+pub use listening::{Listening, serve_listener};
 pub use replaying::replay;
+pub use service::serve_while_open;
 pub use serving::{Served, serve_one};
+pub use sockets::{Patience, Side, Sockets};

@@ -1,63 +1,65 @@
-//! Connections from a listener, one after the other.
-ghost use Rattle.bureau_http.specs.Served.{HasRun};
+//! Connections as they come, one after the other.
+ghost use Rattle.std.specs.Prelude.{◌≡◌, [], ◌∷◌, List, Option, IfOk, OnErr};
 ghost use Rattle.bureau.specs.Kept.{IsKeptRun};
 ghost use Rattle.bureau.specs.Runs.{IsLawfulRun};
-ghost use Rattle.catalogue.specs.View.{Goes, Tells};
+ghost use Rattle.bureau_http.specs.Arrivals.{AreServedInOrder, Event, Logs, came, closed, missed};
+ghost use Rattle.catalogue.specs.View.{Goes};
 
 use crate::desk::Desk;
-use crate::fault::ConnFault;
-use crate::serving::{Served, serve_one};
+use crate::serving::serve_one;
 use std::alloc::Global;
-use std::net::{TcpListener, TcpStream};
-use std::time::Duration;
+use std::io::{self, Read, Write};
 
-// How long a read or a write waits for its peer, in seconds, so that an idle client doesn't keep the desk
-// from all others.
-const PATIENCE: u64 = 60;
+/// Where connections come from.
+///
+/// The system's own sockets tell nothing of what came over them. Others, as a list, can tell all of it. So what is proved of
+/// every `Listening` says which connections are served, in which order, and what is done between them.
+pub trait Listening {
+    type Reader: Read + Drop;
 
-/// Serves so many connections, each to its end. One that fails ends alone, and so does one that can't be
-/// accepted.
-pub fn serve_listener<D: Desk>(
+    type Writer: Write + Drop;
+
+    /// What came and was closed so far, the oldest first, as far as that is known.
+    ghost log: { Self → Option (List Event) };
+
+    /// Waits for the next connection.
+    ///
+    /// # Errors
+    ///
+    /// None could be accepted. Another may be, by another call.
+    fn accept(&mut self) -> io::Result<(Self::Reader, Self::Writer)>
+        ensures came { IfOk result (λ both. Logs (log self.old) (log self.new) (came (Self.Reader.remaining both.0) (Self.Writer.contents both.1) ∷ [])) }
+        ensures missed { OnErr result (Logs (log self.old) (log self.new) (missed ∷ [])) };
+
+    /// Closes a connection, so that its peer gets all that was written, and then its end.
+    fn close(&mut self, reader: Self::Reader, writer: Self::Writer)
+        ensures { Logs (log self.old) (log self.new) (closed (Self.Reader.remaining reader) (Self.Writer.contents writer) ∷ []) };
+}
+
+/// Waits so often for a connection, serves each to its end, and closes it before it waits for the next.
+///
+/// A connection that fails ends alone. Where none can be accepted, that counts as one that was waited for.
+pub fn serve_listener<D: Desk, L: Listening>(
     alloc: Global,
     desk: &mut D,
-    listener: &TcpListener,
+    listening: &mut L,
     connections: u32,
 )
     ensures goes { Goes D.tables_view desk.old desk.new }
-    ensures ran { Tells D.tables_view desk.old desk.new (λ this. HasRun (IsLawfulRun D.tables_view desk.old desk.new) this) }
+    ensures served { AreServedInOrder D.tables_view desk.old desk.new (IsLawfulRun D.tables_view desk.old desk.new) (L.log listening.old) (L.log listening.new) connections }
 {
     for _ in 0..connections {
-        serve_accepted(alloc, desk, listener);
+        serve_next_arrival(alloc, desk, listening);
     }
 }
 
-// Serves the next connection, if it can be accepted.
-fn serve_accepted<D: Desk>(alloc: Global, desk: &mut D, listener: &TcpListener)
+// Waits for the next connection, serves it to its end, and closes it.
+fn serve_next_arrival<D: Desk, L: Listening>(alloc: Global, desk: &mut D, listening: &mut L)
     ensures goes { Goes D.tables_view desk.old desk.new }
-    ensures ran { Tells D.tables_view desk.old desk.new (λ this. HasRun (IsKeptRun D.tables_view desk.old desk.new) this) }
+    ensures served { AreServedInOrder D.tables_view desk.old desk.new (IsKeptRun D.tables_view desk.old desk.new) (L.log listening.old) (L.log listening.new) 1 }
 {
-    if let Ok((stream, _)) = listener.accept() {
-        let _ = serve_stream(alloc, desk, &stream);
+    if let Ok((mut reader, mut writer)) = listening.accept() {
+        let _ = serve_one(alloc, desk, &mut reader, &mut writer);
+        listening.close(reader, writer);
     }
-}
-
-// Serves a stream. Its writes go out at once, since a reply is written in one or two.
-fn serve_stream<D: Desk>(
-    alloc: Global,
-    desk: &mut D,
-    stream: &TcpStream,
-) -> Result<Served, ConnFault>
-    ensures goes { Goes D.tables_view desk.old desk.new }
-    ensures ran { Tells D.tables_view desk.old desk.new (λ this. HasRun (IsKeptRun D.tables_view desk.old desk.new) this) }
-{
-    let patience = Some(Duration::from_secs(PATIENCE));
-    if stream.set_nodelay(true).is_err()
-        || stream.set_read_timeout(patience).is_err()
-        || stream.set_write_timeout(patience).is_err()
-    {
-        return Err(ConnFault::Read);
-    }
-    let mut reader = stream;
-    let mut writer = stream;
-    serve_one(alloc, desk, &mut reader, &mut writer)
 }

@@ -7,6 +7,7 @@ use faults::NoMemory;
 use std::alloc::Global;
 use std::test::Fail;
 
+mod arrivals;
 mod closing;
 mod cuts;
 mod devices;
@@ -38,10 +39,11 @@ impl Desk for Echo {
       keeps = λ old new kept. record {
         goes = record { clean = λ clean. clean; ours = λ _ _. tt; failures_rise = omega arith };
         stays = λ ours clean this stands. stands;
-        leaves = λ this left. left;
+        leaves = λ ours clean this left. left;
       };
       itself = λ desk. tt;
       on = λ first second third sooner later. tt;
+      one = λ desk is_open this other first second. absurd first;
     } };
 
     fn caller_of(&mut self, token: &[u8]) -> Result<Option<Caller>, StoreFault> {

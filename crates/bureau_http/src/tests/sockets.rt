@@ -1,10 +1,15 @@
 //! Connections over a socket.
+ghost use Rattle.std.proofs.Common.{arith};
+
 use super::{Echo, TOKEN, bureau_of, request, served};
-use crate::serve_listener;
+use crate::{Desk, Patience, Sockets, serve_listener};
+use bureau::{Call, Reply};
+use bureau_store::{Caller, StoreFault};
 use std::alloc::Global;
 use std::io::{Read, Write};
 use std::net::{Shutdown, TcpListener, TcpStream};
 use std::test::Fail;
+use std::time::{Duration, Instant};
 
 // Sends a request, and nothing after it.
 fn send(client: &mut TcpStream, text: &[u8]) -> Result<(), Fail> {
@@ -32,7 +37,8 @@ fn one_connection_after_the_other(rt: HostRuntime) -> Result<(), Fail> {
         alloc: rt.alloc(),
         is_shut: false,
     };
-    serve_listener(rt.alloc(), &mut desk, &listener, 2);
+    let mut sockets = Sockets::new(&listener, &rt, Patience::usual());
+    serve_listener(rt.alloc(), &mut desk, &mut sockets, 2);
     let (written, _) = served(rt.alloc(), false, text.as_slice())?;
     let to_first = received(rt.alloc(), &mut first)?;
     let to_second = received(rt.alloc(), &mut second)?;
@@ -73,10 +79,216 @@ fn clients_of_one_bureau(rt: HostRuntime) -> Result<(), Fail> {
         clients.push(client)?;
     }
     let mut bureau = bureau_of(rt.alloc(), CALLERS)?;
-    serve_listener(rt.alloc(), &mut bureau, &listener, 4);
+    let mut sockets = Sockets::new(&listener, &rt, Patience::usual());
+    serve_listener(rt.alloc(), &mut bureau, &mut sockets, 4);
     for (client, (sent, reply)) in clients.iter_mut().zip(rows) {
         let got = received(rt.alloc(), client)?;
         assert_eq!(rt; got.as_slice(), reply, "{sent:?}");
     }
+    Ok(())
+}
+
+// A desk that does something to its first client at one of its calls, and answers each as another desk does.
+#[derive(Drop)]
+struct Meddling {
+    desk: Echo,
+    // How many calls come before that one.
+    left: u32,
+    client: Option<TcpStream>,
+    // Whether the client is dropped there, or else reads what it got up to its end.
+    drops: bool,
+    got: Vec<u8>,
+    saw_end: bool,
+}
+
+impl Meddling {
+    // It answers so many calls before it meddles with a client that is connected.
+    fn new(alloc: Global, left: u32, client: TcpStream, drops: bool) -> Meddling {
+        Meddling {
+            desk: Echo {
+                alloc,
+                is_shut: false,
+            },
+            left,
+            client: Some(client),
+            drops,
+            got: Vec::new(alloc),
+            saw_end: false,
+        }
+    }
+
+    fn meddle(&mut self) {
+        let Some(mut client) = self.client.take() else {
+            return;
+        };
+        if !self.drops {
+            self.saw_end = client.read_to_end(&mut self.got).is_ok();
+        }
+    }
+}
+
+impl Desk for Meddling {
+    ghost tables_view = { record {
+      stands = λ _ _. ⊥;
+      is_clean = λ _. Unit {0};
+      is_ours = λ _. Unit {0};
+      failures = λ _. 0;
+      may_leave = λ _ _. ⊥;
+      keeps = λ _ _. Unit {0};
+    } };
+
+    ghost tables_lawful = { record {
+      keeps = λ old new kept. record {
+        goes = record { clean = λ clean. clean; ours = λ _ _. tt; failures_rise = omega arith };
+        stays = λ ours clean this stands. stands;
+        leaves = λ ours clean this left. left;
+      };
+      itself = λ desk. tt;
+      on = λ first second third sooner later. tt;
+      one = λ desk is_open this other first second. absurd first;
+    } };
+
+    fn caller_of(&mut self, token: &[u8]) -> Result<Option<Caller>, StoreFault> {
+        self.desk.caller_of(token)
+    }
+
+    fn answer(&mut self, caller: &Caller, call: &Call<'_>) -> Reply {
+        if self.left == 0 {
+            self.meddle();
+        } else {
+            self.left -= 1;
+        }
+        self.desk.answer(caller, call)
+    }
+}
+
+#[test]
+fn a_client_sees_its_end_before_the_next_is_served(rt: HostRuntime) -> Result<(), Fail> {
+    let listener = TcpListener::bind(&rt, "127.0.0.1:0")?;
+    let text = request(rt.alloc(), b"GET /published", TOKEN, b"")?;
+    let mut first = TcpStream::connect(&rt, listener.local_addr()?)?;
+    let mut second = TcpStream::connect(&rt, listener.local_addr()?)?;
+    send(&mut first, text.as_slice())?;
+    send(&mut second, text.as_slice())?;
+    first.set_read_timeout(Some(Duration::from_secs(5)))?;
+    // the second client's call lets the first one read up to its end
+    let mut desk = Meddling::new(rt.alloc(), 1, first, false);
+    let mut sockets = Sockets::new(&listener, &rt, Patience::usual());
+    serve_listener(rt.alloc(), &mut desk, &mut sockets, 2);
+    let (written, _) = served(rt.alloc(), false, text.as_slice())?;
+    assert!(rt; desk.saw_end);
+    assert_eq!(rt; desk.got.as_slice(), written.as_slice());
+    let to_second = received(rt.alloc(), &mut second)?;
+    assert_eq!(rt; to_second.as_slice(), written.as_slice());
+    Ok(())
+}
+
+#[test]
+fn a_client_that_is_gone_does_not_end_the_desk(rt: HostRuntime) -> Result<(), Fail> {
+    let listener = TcpListener::bind(&rt, "127.0.0.1:0")?;
+    let text = request(rt.alloc(), b"GET /published", TOKEN, b"")?;
+    let mut many = Vec::new(rt.alloc());
+    for _ in 0..9u32 {
+        many.extend_from_slice(text.as_slice())?;
+    }
+    let mut first = TcpStream::connect(&rt, listener.local_addr()?)?;
+    let mut second = TcpStream::connect(&rt, listener.local_addr()?)?;
+    first.write_all(many.as_slice())?;
+    send(&mut second, text.as_slice())?;
+    // it is gone at its third request, with two replies unread, so that a write or a read fails
+    let mut desk = Meddling::new(rt.alloc(), 2, first, true);
+    let mut sockets = Sockets::new(&listener, &rt, Patience::usual());
+    serve_listener(rt.alloc(), &mut desk, &mut sockets, 2);
+    assert!(rt; desk.client.is_none());
+    let (written, _) = served(rt.alloc(), false, text.as_slice())?;
+    let to_second = received(rt.alloc(), &mut second)?;
+    assert_eq!(rt; to_second.as_slice(), written.as_slice());
+    Ok(())
+}
+
+#[test]
+fn no_reply_is_lost_where_a_client_sends_on(rt: HostRuntime) -> Result<(), Fail> {
+    let listener = TcpListener::bind(&rt, "127.0.0.1:0")?;
+    let closing = b"bureau-token: publisher-token\r\nconnection: close\r\n";
+    let mut text = request(rt.alloc(), b"GET /published", closing, b"")?;
+    let (written, _) = served(rt.alloc(), false, text.as_slice())?;
+    text.resize(100_000, b'x')?;
+    let mut client = TcpStream::connect(&rt, listener.local_addr()?)?;
+    client.set_write_timeout(Some(Duration::from_secs(5)))?;
+    send(&mut client, text.as_slice())?;
+    let mut desk = Echo {
+        alloc: rt.alloc(),
+        is_shut: false,
+    };
+    let mut sockets = Sockets::new(&listener, &rt, Patience::usual());
+    serve_listener(rt.alloc(), &mut desk, &mut sockets, 1);
+    // a client that was reset sees a failure in place of the end
+    let got = received(rt.alloc(), &mut client)?;
+    assert_eq!(rt; got.as_slice(), written.as_slice());
+    Ok(())
+}
+
+#[test]
+fn a_silent_client_is_left_when_patience_ends(rt: HostRuntime) -> Result<(), Fail> {
+    let (short, long) = (Duration::from_millis(200), Duration::from_secs(50));
+    let rows = [
+        // a read waits so long; all reads of a connection together; and a client that doesn't close its side
+        Patience {
+            each: short,
+            whole: long,
+            closing: short,
+        },
+        Patience {
+            each: long,
+            whole: short,
+            closing: short,
+        },
+    ];
+    let text = request(rt.alloc(), b"GET /published", TOKEN, b"")?;
+    let (written, _) = served(rt.alloc(), false, text.as_slice())?;
+    for patience in rows {
+        let listener = TcpListener::bind(&rt, "127.0.0.1:0")?;
+        let mut first = TcpStream::connect(&rt, listener.local_addr()?)?;
+        let mut second = TcpStream::connect(&rt, listener.local_addr()?)?;
+        // one request, and then silence; neither client closes its side
+        first.write_all(text.as_slice())?;
+        second.write_all(text.as_slice())?;
+        let mut desk = Echo {
+            alloc: rt.alloc(),
+            is_shut: false,
+        };
+        let begin = Instant::now(&rt)?;
+        let mut sockets = Sockets::new(&listener, &rt, patience);
+        serve_listener(rt.alloc(), &mut desk, &mut sockets, 2);
+        let took = begin.elapsed(&rt)?;
+        // twice 200 milliseconds of silence, and as many until each is closed
+        assert!(rt; took >= Duration::from_millis(700), "{took:?}");
+        assert!(rt; took < Duration::from_secs(20), "{took:?}");
+        let to_first = received(rt.alloc(), &mut first)?;
+        let to_second = received(rt.alloc(), &mut second)?;
+        assert_eq!(rt; to_first.as_slice(), written.as_slice());
+        assert_eq!(rt; to_second.as_slice(), written.as_slice());
+    }
+    Ok(())
+}
+
+#[test]
+fn a_connection_that_cannot_be_accepted_does_not_end_the_desk(rt: HostRuntime) -> Result<(), Fail> {
+    let listener = TcpListener::bind(&rt, "127.0.0.1:0")?;
+    // from now on an `accept` fails where nobody waits
+    listener.set_nonblocking(true)?;
+    let text = request(rt.alloc(), b"GET /published", TOKEN, b"")?;
+    let mut desk = Echo {
+        alloc: rt.alloc(),
+        is_shut: false,
+    };
+    let mut sockets = Sockets::new(&listener, &rt, Patience::usual());
+    serve_listener(rt.alloc(), &mut desk, &mut sockets, 3);
+    let mut client = TcpStream::connect(&rt, listener.local_addr()?)?;
+    send(&mut client, text.as_slice())?;
+    serve_listener(rt.alloc(), &mut desk, &mut sockets, 3);
+    let (written, _) = served(rt.alloc(), false, text.as_slice())?;
+    let got = received(rt.alloc(), &mut client)?;
+    assert_eq!(rt; got.as_slice(), written.as_slice());
     Ok(())
 }

@@ -1,25 +1,28 @@
-use Rattle.bureau.proofs.KeptFacts.{stands_after, kept_on}
+use Rattle.std.proofs.Common.{◌≡◌, arith, subst}
 use Rattle.bureau.specs.Kept.{IsKeptRun}
-use Rattle.catalogue.proofs.SourceFacts.{goes_on, told_so}
-use Rattle.bureau_http.proofs.LawfulFacts.{ran_lawful}
-use Rattle.bureau_http.proofs.ServingFacts.{ran_more}
+use Rattle.catalogue.proofs.SourceFacts.{goes_on}
+use Rattle.bureau_http.specs.Arrivals.{AreServedInOrder}
+use Rattle.bureau_http.proofs.ArrivalFacts.{in_order_lawful, in_order_on}
 use Rattle.bureau_http.proofs.listening.serve_listener.Goals as goal
 
 pub loop-preserved : goal.loop-preserved
 loop-preserved g c =
-    let view = g.D.Desk.tables_view in
-    let old = c.args.desk.now in
-    let mid = c.loop.desk in
-    let new = c.serve_accepted.new.desk in
+    let so = c.loop.invariant in
+    let next = c.serve_next_arrival.ensures in
     record {
-      goes = goes_on c.loop.invariant.goes c.serve_accepted.ensures.goes;
-      ran = record {
-        told = λ ours clean this stand.
-            let so = c.loop.invariant.ran.told ours (c.serve_accepted.ensures.goes.clean clean) this stand in
-            ran_more (IsKeptRun view old mid) (IsKeptRun view mid new) (IsKeptRun view old new) (kept_on view old mid new) this so
-            (c.serve_accepted.ensures.ran.told (c.loop.invariant.goes.ours ours (c.serve_accepted.ensures.goes.clean clean)) clean so.closing (stands_after view old mid this so.turns so.closing so.run));
-      };
+      goes = goes_on so.goes next.goes;
+      served = in_order_on g.D.Desk.tables_view c.args.desk.now c.loop.desk c.serve_next_arrival.new.desk
+          (g.L.Listening.log c.args.listening.now) (g.L.Listening.log c.loop.listening) (g.L.Listening.log c.serve_next_arrival.new.listening)
+          c.loop.counter 1 so.goes next.goes so.served next.served;
     }
 
-pub returns-clause-ran : goal.returns-clause-ran
-returns-clause-ran g c = told_so c.loop.invariant.ran (λ this ran. ran_lawful g.D.Desk.tables_view c.args.desk.now c.loop.desk this ran)
+pub returns-clause-served : goal.returns-clause-served
+returns-clause-served g c =
+    let view = g.D.Desk.tables_view in
+    let old = c.args.desk.now in
+    let new = c.loop.desk in
+    let log = g.L.Listening.log c.args.listening.now in
+    let log_after = g.L.Listening.log c.loop.listening in
+    let all : c.loop.counter ≡ c.args.connections = omega (arith, c.loop-test.false, c.loop.auto.counter-end) in
+    in_order_lawful view old new log log_after c.args.connections
+    (subst (λ count. AreServedInOrder view old new (IsKeptRun view old new) log log_after count) all c.loop.invariant.served)

@@ -1,0 +1,90 @@
+-- What a desk does that listens: one connection after the other comes, is served to its end, and is closed before the next
+-- one is accepted.
+use Rattle.std.specs.Prelude.{◌≡◌, ℕ, List, [], ◌∷◌, ◌++◌, length, map, option_map, Option, Some, Result, IfSome}
+use Rattle.std.specs.List.{AllByRecursion, flat_map}
+use Rattle.catalogue.specs.View.{Tells, View}
+use Rattle.bureau_store.specs.Tables.{Tables}
+use Rattle.bureau_store.specs.declared.caller.CallerRow.{CallerRow}
+use Rattle.bureau.specs.Joint.{Turn}
+use Rattle.bureau_http.specs.Connection.{IsConnection, Stop}
+use Rattle.bureau_http.specs.Exchange.{Exchange, IsAnswered, turns_of}
+use Rattle.bureau_http.specs.Served.{AreWritten, StopsBy, StopsUnfinished}
+use Rattle.bureau_http.specs.declared.fault.ConnFault.{ConnFault}
+use Rattle.bureau_http.specs.declared.serving.Served.{Served}
+
+-- ---- what is seen of a listener
+
+-- None could be accepted; or a connection came, with what its peer sends and what was written to it before; or it was closed,
+-- with what was left unread and what was written to it by then. Bytes stand here as far as they are known.
+pub data Event : Type 0 where
+  missed : Event
+  came : Option (List ℕ) → Option (List ℕ) → Event
+  closed : Option (List ℕ) → Option (List ℕ) → Event
+
+-- The log grew by these events. A log that is known was known before.
+abbrev pub Logs : Option (List Event) → Option (List Event) → List Event → Type 0
+Logs old new events = IfSome new (λ log. option_map (λ before. before ++ events) old ≡ Some log)
+
+-- ---- connections, one after the other
+
+-- A connection from its coming to its closing, and how serving it ended.
+pub record Visit : Type 0 where
+  pub sent : Option (List ℕ)
+  pub begun : Option (List ℕ)
+  pub left : Option (List ℕ)
+  pub written : Option (List ℕ)
+  pub ended : Result Served ConnFault
+
+-- each time that a connection is waited for, none can be accepted, or one is served
+pub data Arrival : Type 0 where
+  nobody : Arrival
+  visitor : Visit → Arrival
+
+-- a connection is closed before anything else comes
+abbrev pub events_of : Arrival → List Event
+events_of nobody = missed ∷ []
+events_of (visitor visit) = came visit.sent visit.begun ∷ closed visit.left visit.written ∷ []
+
+abbrev pub log_of : List Arrival → List Event
+log_of arrivals = flat_map events_of arrivals
+
+-- ---- what is served
+
+-- These bytes of a connection are requests and a stop. They are answered so, and the replies were written, in order.
+pub record IsVisited (rows : List CallerRow) (visit : Visit) (bytes : List ℕ) (exchanges : List Exchange) : Type 0 where
+  pub answered : AllByRecursion IsAnswered exchanges
+  pub stop : Stop
+  pub connection : IsConnection rows bytes (map (λ exchange. exchange.asked) exchanges) stop
+  pub stops : StopsBy visit.ended stop (length exchanges)
+  pub unfinished : StopsUnfinished visit.ended visit.left connection.following
+  pub written : AreWritten visit.ended visit.begun visit.written exchanges
+
+-- these turns of the bureau are the requests of a connection, where its bytes are known
+abbrev pub AreAskedBy : List CallerRow → Visit → List Turn → List ℕ → Type 0
+AreAskedBy rows visit turns bytes = (exchanges : List Exchange) × (turns ≡ turns_of exchanges) × IsVisited rows visit bytes exchanges
+
+-- the turns of the bureau at one arrival: none where nobody came
+abbrev pub AreMadeBy : List CallerRow → Arrival → List Turn → Type 0
+AreMadeBy rows nobody turns = turns ≡ []
+AreMadeBy rows (visitor visit) turns = IfSome visit.sent (AreAskedBy rows visit turns)
+
+-- those of all arrivals, in order, and no others
+abbrev pub AreMade : List CallerRow → List Arrival → List Turn → Type 0
+AreMade rows [] turns = turns ≡ []
+AreMade rows (arrival ∷ arrivals) turns =
+    (first : List Turn) × (rest : List Turn) × (turns ≡ first ++ rest) × AreMadeBy rows arrival first × AreMade rows arrivals rest
+
+-- Arrivals were served in order: what they ask, and nothing else, is one run of the bureau.
+pub record AreHeard (Runs : Tables → List Turn → Tables → Type 0) (this : Tables) (arrivals : List Arrival) : Type 0 where
+  pub turns : List Turn
+  pub closing : Tables
+  pub run : Runs this turns closing
+  pub callers : closing.callers ≡ this.callers
+  pub made : AreMade this.callers arrivals turns
+
+-- So many arrivals were served, in order, and the log has them and nothing more.
+pub record AreServedInOrder {Desk : Type 0} (view : View Desk Tables) (desk desk_after : Desk) (Runs : Tables → List Turn → Tables → Type 0) (log log_after : Option (List Event)) (count : ℕ) : Type 0 where
+  pub arrivals : List Arrival
+  pub counted : length arrivals ≡ count
+  pub logged : Logs log log_after (log_of arrivals)
+  pub heard : Tells view desk desk_after (λ this. AreHeard Runs this arrivals)

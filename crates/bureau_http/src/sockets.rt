@@ -1,0 +1,175 @@
+//! Connections from a socket's listener.
+ghost use Rattle.std.specs.Prelude.{None};
+
+use crate::listening::Listening;
+use std::io::{self, ErrorKind, Read, Write};
+use std::net::{Shutdown, TcpListener, TcpStream};
+use std::time::{Clock, Duration, Instant};
+
+// How long the desk pauses where it could accept no connection, in milliseconds, so that it isn't busy with that alone.
+const PAUSE: u64 = 20;
+
+// The bytes of a read whose bytes nobody needs.
+const ROOM: usize = 4096;
+
+/// How long a desk waits for the client that it serves.
+#[derive(Clone, Copy, Debug, PartialEq, Eq)]
+pub struct Patience {
+    /// In one read or write.
+    pub each: Duration,
+    /// In a connection, from its coming until its last read or write.
+    pub whole: Duration,
+    /// For the client to close its side, once the desk has closed its own.
+    pub closing: Duration,
+}
+
+impl Patience {
+    /// A minute for a read or write, 10 minutes for a connection, and 2 seconds to close it.
+    pub fn usual() -> Patience {
+        Patience {
+            each: Duration::from_secs(60),
+            whole: Duration::from_secs(600),
+            closing: Duration::from_secs(2),
+        }
+    }
+}
+
+/// Connections from a socket's listener.
+///
+/// What is written goes out at once. A client that is slow or silent doesn't keep the desk longer than its patience lasts.
+#[derive(Drop)]
+pub struct Sockets<'a, C> {
+    listener: &'a TcpListener,
+    clock: &'a C,
+    patience: Patience,
+}
+
+impl<'a, C: Clock> Sockets<'a, C> {
+    /// The connections of a listener.
+    pub fn new(listener: &'a TcpListener, clock: &'a C, patience: Patience) -> Self {
+        Sockets {
+            listener,
+            clock,
+            patience,
+        }
+    }
+
+    // The next connection, with its limits set.
+    fn next(&self) -> io::Result<(Side<'a, C>, Side<'a, C>)> {
+        let (stream, _) = self.listener.accept()?;
+        let Patience { each, whole, .. } = self.patience;
+        stream.set_nodelay(true)?;
+        stream.set_read_timeout(Some(each))?;
+        stream.set_write_timeout(Some(each))?;
+        let Some(until) = Instant::now(self.clock)?.checked_add(whole) else {
+            return Err(io::Error::from(ErrorKind::InvalidInput));
+        };
+        let both = stream.try_clone()?;
+        let reader = Side {
+            stream,
+            clock: self.clock,
+            each,
+            until,
+        };
+        let writer = Side {
+            stream: both,
+            clock: self.clock,
+            each,
+            until,
+        };
+        Ok((reader, writer))
+    }
+}
+
+impl<'a, C: Clock> Listening for Sockets<'a, C> {
+    type Reader = Side<'a, C>;
+
+    type Writer = Side<'a, C>;
+
+    ghost log = { λ _. None };
+
+    fn accept(&mut self) -> io::Result<(Side<'a, C>, Side<'a, C>)> {
+        let came = self.next();
+        if came.is_err() {
+            self.clock.sleep(Duration::from_millis(PAUSE));
+        }
+        came
+    }
+
+    // A socket that is closed while bytes lie unread in it tells its peer so, and the peer may lose the last replies. So first
+    // its sending side ends, and what still comes is read for a while (RFC 9112, section 9.6).
+    fn close(&mut self, reader: Side<'a, C>, _writer: Side<'a, C>) {
+        let Side { stream, .. } = reader;
+        if stream.shutdown(Shutdown::Write).is_ok() {
+            let _ = read_out(stream, self.clock, self.patience.closing);
+        }
+    }
+}
+
+// Reads a stream to its end, for so long at most.
+fn read_out<C: Clock>(stream: TcpStream, clock: &C, closing: Duration) -> io::Result<()> {
+    stream.set_read_timeout(Some(closing))?;
+    let Some(until) = Instant::now(clock)?.checked_add(closing) else {
+        return Ok(());
+    };
+    let mut rest = Side {
+        stream,
+        clock,
+        each: closing,
+        until,
+    };
+    let mut room = [0u8; ROOM];
+    for _ in 0..u32::MAX {
+        match rest.read(&mut room) {
+            Ok(0) => return Ok(()),
+            Ok(_) => {}
+            Err(error) if error.kind() == ErrorKind::Interrupted => {}
+            Err(error) => return Err(error),
+        }
+    }
+    Ok(())
+}
+
+/// A connection as it is read, or as it is written, until the desk's patience ends.
+#[derive(Drop)]
+pub struct Side<'a, C> {
+    stream: TcpStream,
+    clock: &'a C,
+    each: Duration,
+    until: Instant,
+}
+
+impl<C: Clock> Side<'_, C> {
+    // How long may be waited, where that is shorter than in other reads and writes.
+    fn last_wait(&self) -> io::Result<Option<Duration>> {
+        let left = self
+            .until
+            .saturating_duration_since(Instant::now(self.clock)?);
+        if left.is_zero() {
+            return Err(io::Error::from(ErrorKind::TimedOut));
+        }
+        Ok(if left < self.each { Some(left) } else { None })
+    }
+}
+
+impl<C: Clock> Read for Side<'_, C> {
+    fn read(&mut self, buf: &mut [u8]) -> io::Result<usize> {
+        if let Some(left) = self.last_wait()? {
+            self.stream.set_read_timeout(Some(left))?;
+        }
+        self.stream.read(buf)
+    }
+}
+
+impl<C: Clock> Write for Side<'_, C> {
+    fn write(&mut self, buf: &[u8]) -> io::Result<usize> {
+        if let Some(left) = self.last_wait()? {
+            self.stream.set_write_timeout(Some(left))?;
+        }
+        self.stream.write(buf)
+    }
+
+    fn flush(&mut self) -> io::Result<()> {
+        self.stream.flush()
+    }
+}
