@@ -276,7 +276,7 @@ under_apart a b apart row at = by (key_found row) refl
         ∙ ap (λ k. is_same_key k a) (same_key key b same)
         ∙ turned_same b a ∙ apart
 
-row_under : (hold : Hold) → IsHold hold → (key : HoldKey) → is_under key (hold_row hold) ≡ is_same_key hold.key key
+pub row_under : (hold : Hold) → IsHold hold → (key : HoldKey) → is_under key (hold_row hold) ≡ is_same_key hold.key key
 row_under hold is key = key_is key (hold_row hold) ∙ ap (λ o. unwrap_or (option_map (λ (found : HoldKey). is_same_key found key) o) false) (hold_own (hold_row hold) hold (hold_again hold is))
 
 pub key_itself : (key : HoldKey) → is_same_key key key ≡ true

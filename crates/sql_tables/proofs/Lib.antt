@@ -13,3 +13,4 @@ pub mod RowFacts
 pub mod TreeFacts
 pub mod ValueFacts
 pub mod ZoneFacts
+pub mod WholeFacts

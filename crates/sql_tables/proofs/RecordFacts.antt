@@ -79,7 +79,7 @@ any_last test (x ∷ xs) =
     by (Some y) false h = h
 
 -- the ids of a catalogue are those of its records, in order
-catalogue_ids : (xs : List Sysmod) → content.ids_in (catalogue_of xs) ≡ in_order (content.ids_in xs)
+pub catalogue_ids : (xs : List Sysmod) → content.ids_in (catalogue_of xs) ≡ in_order (content.ids_in xs)
 catalogue_ids xs =
     let ids = content.ids_in (catalogue_of xs) in
     same_by_key (λ k. k) ids (in_order (content.ids_in xs)) (rw (map_same ids) (catalogue_is xs).ascend)

@@ -88,6 +88,12 @@ IsAsked (Client name) (zone_dropped zone) tables = Unit {0}
 IsAsked (Client name) (received_put ids) tables = Unit {0}
 IsAsked Publisher effect tables = Unit {0}
 
+-- a change that writes what is fit, into whatever tables
+pub record CanBeWritten (caller : Caller) (effect : Effect) : Type 0 where
+  pub named : IsNamed caller
+  pub own : IsOwn caller effect
+  pub fit : IsFit effect
+
 -- a change that can be made of these tables
 pub record CanBeMade (caller : Caller) (effect : Effect) (tables : Tables) : Type 0 where
   pub named : IsNamed caller

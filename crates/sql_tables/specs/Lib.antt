@@ -4,3 +4,4 @@ pub mod InTrees
 pub mod Rows
 pub mod Stored
 pub mod Values
+pub mod Whole

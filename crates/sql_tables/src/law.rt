@@ -19,10 +19,11 @@ ghost use Rattle.bureau_store.specs.declared.caller.Caller.{Caller as SomeCaller
 ghost use Rattle.bureau_store.specs.declared.caller.CallerRow.{CallerRow as SomeCallerRow};
 ghost use Rattle.sqlite_value.specs.Order.{Row, column};
 ghost use Rattle.sql_tables.specs.Changes.{stored_after};
-ghost use Rattle.sql_tables.specs.Fit.{CanBeMade};
+ghost use Rattle.sql_tables.specs.Fit.{CanBeMade, CanBeWritten};
 ghost use Rattle.sql_tables.specs.Rows.{caller_found, caller_row, hold_found, sysmod_found};
 ghost use Rattle.sql_tables.specs.Stored.{Stored, content_of, has_token, is_of, is_of_both, opened, rows_as_stored, shown, sup_of, sysmods_of, tables_of, zone_of, zone_rows_of, zones_of};
 ghost use Rattle.sql_tables.specs.Values.{id_in};
+ghost use Rattle.sql_tables.specs.Whole.{IsWhole};
 
 /// The tables that rows stand for are in order, whatever rows there are.
 #[tactic(auto, using(crate::proofs::ChangeFacts::tables_in_order))]
@@ -44,6 +45,20 @@ pub fn change()
         → CanBeMade caller effect (tables_of stored)
         → tables_of (stored_after caller effect last stored)
         ≡ tables_after caller effect last (tables_of stored) }
+{}
+
+/// The rows of the callers alone are whole.
+#[tactic(auto, using(crate::proofs::WholeFacts::whole_opened))]
+pub fn whole_opened()
+    ensures { (rows : List SomeCallerRow) → AllByRecursion (λ row. IsId row.name) rows
+        → IsWhole (opened (map caller_row rows)) }
+{}
+
+/// Each change that writes what is fit leaves rows that are whole so.
+pub fn whole_after()
+    ensures { (caller : SomeCaller) (effect : Effect) (last : LastChange) (stored : Stored)
+        → CanBeWritten caller effect → IsWhole stored
+        → IsWhole (stored_after caller effect last stored) }
 {}
 
 /// A read of a zone's rows that ascend finds the zone's rows.

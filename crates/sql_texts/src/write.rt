@@ -3,6 +3,7 @@
 
 ghost use Rattle.std.specs.Prelude.{[], ◌∷◌};
 ghost use Rattle.sqlite.specs.Command.TheVariants.{Rollback};
+ghost use Rattle.sqlite.specs.Schema.{Schema};
 ghost use Rattle.sql_texts.specs.Meaning.{Means};
 ghost use Rattle.sql_texts.specs.Reads.{is_given};
 ghost use Rattle.sql_texts.specs.Schema.{bureau};
@@ -122,9 +123,9 @@ pub fn delete_received() -> &'static str
 }
 
 /// What a probe runs where no transaction is open: an open connection refuses it, and nothing
-/// changes.
+/// changes, whatever tables there are.
 pub fn rollback() -> &'static str
-    ensures { Means bureau result.now Rollback 0 }
+    ensures { (schema : Schema) → Means schema result.now Rollback 0 }
 {
     "ROLLBACK"
 }

@@ -1,0 +1,88 @@
+-- What a transaction writes and commits is a change of the connection.
+use Rattle.std.proofs.Common.{◌≡◌, ◌∙◌, Err, IfErr, IsOk, IsTrue, Ok, OnErr, OnOk, Result, ap, false, inl, inr, refl, subst, sym, true}
+use Rattle.sqlite.specs.Held.{Held, state}
+use Rattle.sqlite.specs.State.{HasCleanDisk, IsLive, KeepsCommit, Shows, State, Survives}
+use Rattle.sqlite.specs.Steps.{FailsToCommit}
+use Rattle.sqlite.specs.declared.error.Error.{Error}
+use Rattle.sqlite.proofs.Callers.{survives_begin}
+use Rattle.sqlite.proofs.StateLemmas.{survives_then}
+use Rattle.sqlite_trees.specs.declared.store.Store.{Ghosts}
+use Rattle.sql_tables.specs.InTrees.{stored_in}
+use Rattle.sql_tables.specs.Stored.{Stored}
+use Rattle.sql_state.specs.Ours.{IsOurs, held_by}
+use Rattle.sql_state.specs.Writing.{Changes, IsKnown}
+use Rattle.bureau_sql.specs.Committed.{AreChanged, IsCommitted}
+use Rattle.bureau_sql.specs.Laws.{clean_before, no_read}
+use Rattle.bureau_sql.proofs.PlainFacts.{failed_keeps, unchanged_keeps}
+
+failed_commit_keeps : (old new : State) (e : Error) → FailsToCommit old new e → KeepsCommit old new
+failed_commit_keeps old new e (inl failed) = failed_keeps old new e failed
+failed_commit_keeps old new e (inr ended) = unchanged_keeps old new ended.2
+
+pub refused_commit : {Done : Type 0} (old new : State) (result : Result Done Error) → (HasCleanDisk new → IfErr result (FailsToCommit old new))
+    → OnErr result (HasCleanDisk new → KeepsCommit old new)
+refused_commit old new (Ok done) fails = tt
+refused_commit old new (Err e) fails = λ clean. failed_commit_keeps old new e (fails clean)
+
+-- The connection at rest, as its transaction begins, after what was written, and after the end.
+module _ (old begun mid new : State) (change : Stored → Stored) (same_now : begun.now ≡ old.now) (same_committed : begun.committed ≡ old.committed)
+    (same_open : begun.is_open ≡ old.is_open) (inside : IsTrue begun.in_transaction) (settled : IsTrue old.is_open → old.now ≡ old.committed) (live : IsLive old) where
+  known : IsTrue old.is_open → IsOurs old.committed → IsKnown begun.now
+  known is_open ours = subst IsKnown (sym (same_now ∙ settled is_open)) (record { schema = ours.schema; sound = (live is_open).1; numbered = ours.numbered })
+
+  kept : KeepsCommit begun mid → KeepsCommit mid new → KeepsCommit old new
+  kept first then = record {
+    was_open = λ h. subst IsTrue same_open (first.was_open (then.was_open h));
+    committed = λ h. then.committed h ∙ first.committed (then.was_open h) ∙ same_committed;
+  }
+
+  was_open : KeepsCommit begun mid → IsTrue mid.is_open → IsTrue old.is_open
+  was_open first is_open = subst IsTrue same_open (first.was_open is_open)
+
+  written_so : {Answer Fault : Type 0} (written : Result Answer Fault) → Changes begun mid written change → IsOk written → HasCleanDisk mid
+      → IsTrue mid.is_open × (IsOurs old.committed → IsKnown mid.now × (held_by mid.now ≡ change (held_by old.committed)))
+  written_so (Err e) changes none clean = absurd cc
+  written_so (Ok a) changes done clean =
+      let made = changes.done clean inside in
+      let was = was_open (changes.keeps clean inside) made.0 in
+      (made.0, λ ours. let it = made.2 (known was ours) in (it.0, it.1 ∙ ap (λ database. change (held_by database)) (same_now ∙ settled was)))
+
+  pub is_committed : {Answer Fault Done Refusal : Type 0} (written : Result Answer Fault) (result : Result Done Refusal) → Survives old begun (λ trees. ⊥) → Changes begun mid written change
+      → OnOk result (IsOk written × (HasCleanDisk new → Shows mid new mid.now mid.now false)) → OnErr result (HasCleanDisk new → KeepsCommit mid new)
+      → Survives mid new (λ trees. IsOk written × (trees ≡ mid.now.trees)) → IsCommitted old new result change
+  is_committed {Answer} {Fault} {Done} {Refusal} written result begins changes ends refused survives = record {
+    done = done result ends;
+    refused = as_before result refused;
+    survives = survives_then old begun new (λ trees. ⊥) (AreChanged old change) (AreChanged old change) (λ clean trees none. absurd none) (λ clean trees made. made) begins
+        (survives_then begun mid new (λ trees. ⊥) (λ trees. IsOk written × (trees ≡ mid.now.trees)) (AreChanged old change) (λ clean trees none. absurd none)
+        (λ clean trees left was ours.
+        let made = written_so written changes left.0 (before clean) in
+        ap stored_in left.1 ∙ (made.1 ours).1) changes.survives survives);
+  }
+    where
+      before : HasCleanDisk new → HasCleanDisk mid
+      before = clean_before (λ trees. IsOk written × (trees ≡ mid.now.trees)) mid new survives
+
+      done : (result : Result Done Refusal) → OnOk result (IsOk written × (HasCleanDisk new → Shows mid new mid.now mid.now false))
+          → OnOk result (HasCleanDisk new → IsTrue new.is_open × (IsOurs old.committed → IsKnown new.committed × (held_by new.committed ≡ change (held_by old.committed))))
+      done (Err e) ends = tt
+      done (Ok a) ends = λ clean.
+          let shows = ends.1 clean in
+          let made = written_so written changes ends.0 (before clean) in
+          (shows.is_open, λ ours. let it = made.1 ours in (subst IsKnown (sym shows.committed_is) it.0, ap held_by shows.committed_is ∙ it.1))
+
+      as_before : (result : Result Done Refusal) → OnErr result (HasCleanDisk new → KeepsCommit mid new) → OnErr result (HasCleanDisk new → KeepsCommit old new)
+      as_before (Ok a) refused = tt
+      as_before (Err e) refused = λ clean. kept (changes.keeps (before clean) inside) (refused clean)
+
+-- a transaction that is begun on a connection at rest, written into, and ended
+pub transaction_made : {S : Type 0} (g : Ghosts S) (old begun mid last : Held S) (change : Stored → Stored) → begun ≡ record old { in_transaction = true }
+    → (IsTrue (state g old).is_open → (state g old).now ≡ (state g old).committed) → IsLive (state g old) → {Answer Fault Done Refusal : Type 0} (written : Result Answer Fault) (result : Result Done Refusal)
+    → Changes (state g begun) (state g mid) written change → OnOk result (IsOk written × (HasCleanDisk (state g last) → Shows (state g mid) (state g last) (state g mid).now (state g mid).now false))
+    → OnErr result (HasCleanDisk (state g last) → KeepsCommit (state g mid) (state g last))
+    → Survives (state g mid) (state g last) (λ trees. IsOk written × (trees ≡ (state g mid).now.trees)) → IsCommitted (state g old) (state g last) result change
+transaction_made g old begun mid last change is settled live written result changes ends refused survives =
+    is_committed (state g old) (state g begun) (state g mid) (state g last) change (ap (λ h. (state g h).now) is) (ap (λ h. (state g h).committed) is) (ap (λ h. (state g h).is_open) is)
+    (subst (λ h. IsTrue h.in_transaction) (sym is) refl) settled live written result
+    (subst (λ h. Survives (state g old) (state g h) (λ trees. ⊥)) (sym is) (survives_begin g old (state g (record old { in_transaction = true })) (λ trees. ⊥) (no_read (state g (record old { in_transaction = true }))).survives))
+    changes ends refused survives

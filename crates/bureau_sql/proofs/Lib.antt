@@ -1,0 +1,7 @@
+pub mod PlainFacts
+pub mod ToldFacts
+pub mod CommitFacts
+pub mod MadeFacts
+pub mod FitFacts
+pub mod OpenFacts
+pub mod FoundedFacts

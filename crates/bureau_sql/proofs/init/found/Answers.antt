@@ -1,0 +1,10 @@
+use Rattle.std.proofs.Common.{rules}
+use Rattle.bureau_sql.proofs.FoundedFacts.{transaction_led}
+use Rattle.bureau_sql.proofs.init.found.Goals as goal
+
+pub returns-clause-led : goal.returns-clause-led
+returns-clause-led g c =
+    let led = transaction_led g.S.Store c.args.conn.now c.begin-tx.result.conn.now c.create-written.new.tx.conn.now c.end.new.tx.0 _ _ c.begin-tx.ensures.begun
+    c.begin-tx.ensures.settled c.create-written.result c.end.result c.create-written.ensures.made
+    c.end.ensures.written c.end.ensures.refused c.end.ensures.survives in
+    search (rules, led)

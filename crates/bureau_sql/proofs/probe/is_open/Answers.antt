@@ -1,0 +1,26 @@
+use Rattle.std.proofs.Common.{refl, subst, sym}
+use Rattle.sqlite.specs.Given.{IsPlain}
+use Rattle.sqlite.specs.Held.{state}
+use Rattle.sqlite.specs.State.{FailsToQuery}
+use Rattle.bureau_sql.proofs.PlainFacts.{query_reads, refused_as_no_query}
+use Rattle.bureau_sql.proofs.probe.is_open.Goals as goal
+use Rattle.bureau_sql.proofs.probe.is_open.Goals.{in-Err-InvalidQuery, in_default, in_default-2}
+
+pub returns-clause-reads : goal.returns-clause-reads
+returns-clause-reads g c =
+    let old = state g.S.Store c.args.conn.now in
+    let new = state g.S.Store c.query_all.new.self in
+    let plain = subst IsPlain (sym (c.rollback.ensures old.now.schema).statement) (refl, refl) in
+    query_reads _ _ old new plain (λ rows. rows.items) c.query_all.result c.query_all.ensures.ok c.query_all.ensures.err c.query_all.ensures.survives
+
+pub returns-clause-open : goal.returns-clause-open
+returns-clause-open g c is clean = elim c.match-matches.branch [
+  | in-Err-InvalidQuery w ↦
+      let old = state g.S.Store c.args.conn.now in
+      let new = state g.S.Store c.query_all.new.self in
+      let plain = subst IsPlain (sym (c.rollback.ensures old.now.schema).statement) (refl, refl) in
+      let refused = w.in-Err-InvalidQuery.ensures.err clean in
+      refused_as_no_query _ _ old new plain (subst (FailsToQuery _ _ old new) w.in-Err-InvalidQuery.field-0-is refused)
+  | in_default w ↦ absurd cc
+  | in_default-2 w ↦ absurd cc
+]

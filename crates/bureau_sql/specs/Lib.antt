@@ -1,0 +1,7 @@
+pub mod Committed
+pub mod Founded
+pub mod Laws
+pub mod Outgrown
+pub mod SqlState
+pub mod SqlView
+pub mod Told

@@ -1,0 +1,8 @@
+-- What a change that is refused for want of room says of a store.
+use Rattle.std.specs.Prelude.{◌≡◌}
+use Rattle.bureau_store.specs.Store.{Update}
+use Rattle.bureau_sql.specs.SqlState.{SqlState}
+
+-- it was open, and stays so
+abbrev pub HasNoRoom : {S : Type 0} → Update → SqlState S → SqlState S → Type 0
+HasNoRoom update old new = (old.failures ≡ 0) × (new.failures ≡ 0)

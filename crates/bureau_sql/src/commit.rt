@@ -1,0 +1,34 @@
+//! A change begins and ends here, and it is committed here alone.
+ghost use Rattle.std.specs.Prelude.{◌≡◌, IsOk, IsTrue, OnErr, OnOk, false, true};
+ghost use Rattle.sqlite.specs.Held.{state};
+ghost use Rattle.sqlite.specs.State.{HasCleanDisk, IsLive, KeepsCommit, Shows, Survives};
+
+use sqlite::{Connection, Error, Transaction};
+use sqlite_trees::store::Alter;
+
+/// Begins a transaction, which sees what is committed.
+pub(crate) fn begin<S: Alter>(conn: &mut Connection<S>) -> Transaction<'_, S>
+    requires { conn.old.in_transaction ≡ false }
+    ensures same_reference { result.conn.ghost_name ≡ conn.entry.ghost_name }
+    ensures begun { result.conn.now ≡ record conn.old { in_transaction = true } }
+    ensures settled { IsTrue (state S.Store conn.old).is_open → (state S.Store conn.old).now ≡ (state S.Store conn.old).committed }
+    ensures live { IsLive (state S.Store conn.old) }
+{
+    let _settled = conn.is_autocommit();
+    let _live = conn.schema();
+    conn.transaction()
+}
+
+/// Commits what was written. If something wasn't, nothing is committed.
+pub(crate) fn end<S: Alter>(tx: Transaction<'_, S>, written: Result<(), Error>) -> Result<(), Error>
+    ensures ended { tx.exit.0.now.in_transaction ≡ false }
+    ensures written { OnOk result (IsOk written × (HasCleanDisk (state S.Store tx.exit.0.now)
+        → Shows (state S.Store tx.entry.conn.now) (state S.Store tx.exit.0.now) (state S.Store tx.entry.conn.now).now (state S.Store tx.entry.conn.now).now false)) }
+    ensures refused { OnErr result (HasCleanDisk (state S.Store tx.exit.0.now)
+        → KeepsCommit (state S.Store tx.entry.conn.now) (state S.Store tx.exit.0.now)) }
+    ensures survives { Survives (state S.Store tx.entry.conn.now) (state S.Store tx.exit.0.now)
+        (λ trees. IsOk written × (trees ≡ (state S.Store tx.entry.conn.now).now.trees)) }
+{
+    written?;
+    tx.commit()
+}

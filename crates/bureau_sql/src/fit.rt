@@ -1,0 +1,155 @@
+//! What a change is handed is fit to be written, by its types.
+ghost use Rattle.std.specs.Prelude.{IfSome, IsTrue};
+ghost use Rattle.std.specs.Cmp.Lexicographic.{slice_cmp};
+ghost use Rattle.std.specs.List.{AllByRecursion};
+ghost use Rattle.mcs_reader.specs.Id.{IsId};
+ghost use Rattle.zone_lists.specs.Pattern.{is_pattern};
+ghost use Rattle.zone_lists.specs.ZoneList.{RowsAscend};
+ghost use Rattle.bureau_store.specs.Caller.{IsProper};
+ghost use Rattle.bureau_store.specs.Effect.{publication, zone_put, zone_dropped, received_put, patterns_put};
+ghost use Rattle.bureau_store.specs.declared.caller.Caller.TheVariants.{Client, Publisher};
+ghost use Rattle.sql_tables.specs.Fit.{CanBeWritten, IsFitChange, IsHold, IsRecord};
+
+use catalogue::{Change, Sysmod};
+use holddata::{Hold, HoldChange};
+use mcs_reader::Id;
+use zone_lists::{Pattern, ZoneRow};
+
+// The bytes of an id are those of one.
+fn id(id: &Id)
+    ensures { IsId id.now }
+{
+    let _text = id.as_bytes();
+}
+
+#[tactic(auto, using(crate::proofs::FitFacts::all_so_far, crate::proofs::FitFacts::all_seen))]
+fn ids(ids: &[Id])
+    ensures { AllByRecursion IsId ids.now }
+{
+    for one in ids {
+        id(one);
+    }
+}
+
+#[tactic(auto, using(crate::proofs::FitFacts::all_so_far, crate::proofs::FitFacts::all_seen))]
+fn rows(rows: &[ZoneRow])
+    ensures { AllByRecursion (λ row. IsId row.sysmod) rows.now }
+{
+    for row in rows {
+        id(&row.sysmod);
+    }
+}
+
+fn pattern(pattern: &Pattern)
+    ensures { IsTrue (is_pattern pattern.now) }
+{
+    let _text = pattern.text();
+}
+
+#[tactic(auto, using(crate::proofs::FitFacts::all_so_far, crate::proofs::FitFacts::all_seen))]
+fn patterns(patterns: &[Pattern])
+    ensures { AllByRecursion (λ pattern. IsTrue (is_pattern pattern)) patterns.now }
+{
+    for one in patterns {
+        pattern(one);
+    }
+}
+
+/// A zone's rows.
+#[tactic(auto, using(crate::proofs::FitFacts::client_named))]
+pub(crate) fn zone(client: &Id, zone: &Id, of_zone: &[ZoneRow])
+    requires client { IsProper (Client client.now) }
+    requires ascending { RowsAscend of_zone.now }
+    ensures { CanBeWritten (Client client.now) (zone_put zone.now of_zone.now) }
+{
+    id(client);
+    id(zone);
+    rows(of_zone);
+}
+
+/// A zone that goes.
+#[tactic(auto, using(crate::proofs::FitFacts::client_named))]
+pub(crate) fn zone_gone(client: &Id, zone: &Id)
+    requires { IsProper (Client client.now) }
+    ensures { CanBeWritten (Client client.now) (zone_dropped zone.now) }
+{
+    id(client);
+    id(zone);
+}
+
+/// The list of what was received.
+#[tactic(auto, using(crate::proofs::FitFacts::client_named))]
+pub(crate) fn received(client: &Id, received: &[Id])
+    requires { IsProper (Client client.now) }
+    ensures { CanBeWritten (Client client.now) (received_put received.now) }
+{
+    id(client);
+    ids(received);
+}
+
+/// The patterns of a zone.
+#[tactic(auto, using(crate::proofs::FitFacts::client_named, crate::proofs::FitFacts::all_patterns))]
+pub(crate) fn zone_patterns(client: &Id, zone: &Id, asked: &[Pattern])
+    requires { IsProper (Client client.now) }
+    ensures { CanBeWritten (Client client.now) (patterns_put zone.now asked.now) }
+{
+    id(client);
+    id(zone);
+    patterns(asked);
+}
+
+// A record of the catalogue.
+fn record(sysmod: &Sysmod)
+    ensures { IsRecord sysmod.now }
+{
+    id(&sysmod.id);
+    ids(sysmod.fmids.as_slice());
+    ids(sysmod.pre.as_slice());
+    ids(sysmod.req.as_slice());
+    ids(sysmod.sup.as_slice());
+}
+
+// An id that may be absent.
+fn optional(found: &Option<Id>)
+    ensures { IfSome found.now IsId }
+{
+    if let Some(one) = found {
+        id(one);
+    }
+}
+
+// A hold.
+fn hold(hold: &Hold)
+    ensures { IsHold hold.now }
+{
+    id(&hold.key.sysmod);
+    id(&hold.key.reason);
+    optional(&hold.fmid);
+    optional(&hold.class);
+    optional(&hold.resolver);
+    if let Some(date) = hold.dated {
+        let _number = date.number();
+    }
+    let _text = hold.categories.joined();
+}
+
+// What one statement publishes.
+fn change(change: &Change)
+    ensures { IsFitChange change.now }
+{
+    match change {
+        Change::Whole(sysmod) => record(sysmod),
+        Change::OfHold(HoldChange::Put(one)) => hold(one),
+        Change::OfHold(HoldChange::Release(_)) => {}
+    }
+}
+
+/// Statements.
+#[tactic(auto, using(crate::proofs::FitFacts::all_so_far, crate::proofs::FitFacts::all_seen))]
+pub(crate) fn publication(changes: &[Change])
+    ensures { CanBeWritten Publisher (publication changes.now) }
+{
+    for one in changes {
+        change(one);
+    }
+}

@@ -1,0 +1,19 @@
+//! The bureau's store in a database.
+//!
+//! - [`SqlStore`]: the store, over a connection of the kit's `sqlite`: [`SqlStore::init`], [`SqlStore::open`],
+//!   [`SqlStore::into_connection`]. It is a `Published`
+//!
+//! `specs/` says how such a store is looked at (`SqlView`), how what a connection gives is told (`Told`), and what a change
+//! of it leaves (`Committed`).
+#![tactic(auto)]
+
+mod changes;
+mod commit;
+mod fit;
+mod init;
+mod open;
+mod probe;
+mod published;
+mod store;
+
+pub use store::SqlStore;

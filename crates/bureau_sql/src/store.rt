@@ -1,0 +1,158 @@
+//! The store in a database.
+ghost use Rattle.std.specs.Prelude.{◌≡◌, ◌≢◌, ◌≤◌, ◌<◌, ◌⊎◌, IfErr, IfOk, OnOk, IsTrue, true, false};
+ghost use Rattle.catalogue.specs.View.{HasFailed};
+ghost use Rattle.catalogue.specs.declared.fault.SourceFault.TheVariants.{Device, Memory};
+ghost use Rattle.bureau_store.specs.Store.{IsOfCall, IsOfRead};
+ghost use Rattle.bureau_store.specs.declared.fault.StoreFault.TheVariants.{Device as StoreDevice};
+ghost use Rattle.sqlite_trees.specs.Tree.{Trees};
+ghost use Rattle.sql_state.specs.Reading.{OnlyReads};
+ghost use Rattle.bureau_sql.specs.SqlView.{shown, sql_view};
+ghost use Rattle.bureau_sql.specs.Told.{IsRefusedAs, IsTold};
+
+use crate::probe::is_open;
+use bureau_store::StoreFault;
+use catalogue::SourceFault;
+use sql_reads::ReadFault;
+use sqlite::{Connection, Error, ErrorCode};
+use sqlite_trees::store::Alter;
+use std::alloc::Global;
+use std::marker::Model;
+
+/// All that the bureau keeps, in a database. A contract sees the connection, which is at rest, and how often it failed.
+pub struct SqlStore<S: Alter> {
+    pub(crate) alloc: Global,
+    pub(crate) conn: Connection<S>,
+    pub(crate) failures: u64,
+}
+
+impl<S: Alter> Model for SqlStore<S> {
+    ghost use Rattle.std.specs.Prelude.{◌≡◌, false};
+    ghost use Rattle.bureau_sql.specs.SqlState.{SqlState, sql_code};
+
+    ghost Value = { SqlState S };
+
+    ghost coded = { sql_code S.code };
+
+    ghost view = { λ store. record { conn = store.conn; failures = store.failures } };
+
+    ghost invariant = { λ store. store.conn.in_transaction ≡ false };
+}
+
+impl<S: Alter> SqlStore<S> {
+    /// The connection, with the tables as they are.
+    pub fn into_connection(self) -> Connection<S>
+        ensures { result ≡ self.conn }
+    {
+        let SqlStore {
+            alloc: _,
+            conn,
+            failures: _,
+        } = self;
+        conn
+    }
+
+    // Counts a failure of what lies below.
+    pub(crate) fn fail(&mut self)
+        ensures same { self.new.conn ≡ self.old.conn }
+        ensures failed { HasFailed (sql_view S.Store) self.old self.new }
+        ensures rises { self.old.failures ≤ self.new.failures }
+        ensures shut { 0 < self.new.failures }
+    {
+        self.failures = self.failures.saturating_add(1);
+    }
+}
+
+impl<S: Alter> SqlStore<S> {
+    // Whether a failure has shut the store: then this call fails too.
+    pub(crate) fn is_shut(&mut self) -> bool
+        ensures shut { result ≡ true → (self.new.conn ≡ self.old.conn) × (self.old.failures ≤ self.new.failures)
+            × (0 < self.new.failures) × HasFailed (sql_view S.Store) self.old self.new }
+        ensures open { result ≡ false → (self.new ≡ self.old) × (self.old.failures ≡ 0) }
+    {
+        if self.failures == 0 {
+            return false;
+        }
+        self.fail();
+        true
+    }
+}
+
+impl<S: Alter> SqlStore<S> {
+    // Tells that a read was refused. Where memory ran out, the connection may have been shut, so it is looked at.
+    fn refused(&mut self, fault: ReadFault) -> SourceFault
+        ensures reads { OnlyReads (shown S.Store self.old) (shown S.Store self.new) }
+        ensures rises { self.old.failures ≤ self.new.failures }
+        ensures refused { IsRefusedAs S.Store Device self.old self.new result }
+    {
+        if matches!(fault, ReadFault::Memory) && is_open(&mut self.conn) {
+            return SourceFault::Memory;
+        }
+        self.fail();
+        SourceFault::Device
+    }
+
+    // Tells what a read of the connection found.
+    pub(crate) fn told<A>(&mut self, found: Result<A, ReadFault>) -> Result<A, SourceFault>
+        ensures { IsTold S.Store Device self.old self.new found result }
+    {
+        match found {
+            Ok(answer) => Ok(answer),
+            Err(fault) => Err(self.refused(fault)),
+        }
+    }
+
+    // The same, of all tables.
+    pub(crate) fn answered<A>(&mut self, found: Result<A, ReadFault>) -> Result<A, StoreFault>
+        ensures told { IsTold S.Store StoreDevice self.old self.new found result }
+        ensures refusal { IfErr result IsOfRead }
+    {
+        match found {
+            Ok(answer) => Ok(answer),
+            Err(fault) => match self.refused(fault) {
+                SourceFault::Memory => Err(StoreFault::Memory),
+                SourceFault::Device => Err(StoreFault::Device),
+            },
+        }
+    }
+}
+
+impl<S: Alter> SqlStore<S> {
+    // Tells that a change was refused. Only an open connection is told to be out of memory or of room.
+    pub(crate) fn refused_change(&mut self, error: Error) -> StoreFault
+        ensures reads { OnlyReads (shown S.Store self.old) (shown S.Store self.new) }
+        ensures rises { self.old.failures ≤ self.new.failures }
+        ensures refused { IsRefusedAs S.Store StoreDevice self.old self.new result }
+        ensures call { IsOfCall result }
+    {
+        let fault = refusal_of(error);
+        if !matches!(fault, StoreFault::Device) && is_open(&mut self.conn) {
+            return fault;
+        }
+        self.fail();
+        StoreFault::Device
+    }
+
+    // Tells what a change of the connection came to.
+    pub(crate) fn made(&mut self, made: Result<(), Error>) -> Result<(), StoreFault>
+        ensures told { IsTold S.Store StoreDevice self.old self.new made result }
+        ensures refusal { IfErr result IsOfCall }
+        ensures rests { (trees : Trees) → IsTrue (shown S.Store self.new).is_open
+            → (shown S.Store self.new).may_leave trees → trees ≡ (shown S.Store self.new).committed.trees }
+    {
+        match made {
+            Ok(()) => Ok(()),
+            Err(error) => Err(self.refused_change(error)),
+        }
+    }
+}
+
+// What a refusal of the database may be told as: want of memory, or of room. All else is a failure.
+fn refusal_of(error: Error) -> StoreFault
+    ensures { IsOfCall result }
+{
+    match error {
+        Error::SqliteFailure(ErrorCode::OutOfMemory) => StoreFault::Memory,
+        Error::SqliteFailure(ErrorCode::TooBig | ErrorCode::DiskFull) => StoreFault::Size,
+        _ => StoreFault::Device,
+    }
+}

@@ -1,0 +1,235 @@
+-- How many there are: what is read of rows with keys of their own is as many.
+use Rattle.std.proofs.Common.{◌≡◌, ◌≢◌, ◌+◌, ℕ, suc, Bool, true, false, List, [], ◌∷◌, length, cond, refl, sym, ◌∙◌, ap, subst, arith, Some, None}
+use Rattle.std.specs.Prelude.{filter, fold, map, reverse, take, is_some, Option, option_map, option_and_then, unwrap_or}
+use Rattle.std.specs.BTreeSet.{insert_key}
+use Rattle.std.specs.List.{AllByRecursion, Contains, cons_option, filter_map}
+use Rattle.std.specs.Ordering.{match_ordering}
+use Rattle.std.specs.declared.cmp.Ordering.{Ordering}
+use Rattle.std.specs.declared.cmp.Ordering.TheVariants.{Less, Equal, Greater}
+use Rattle.std.proofs.lemmas.List.{length-map}
+use Rattle.std.proofs.lemmas.List.Sorted.{Contains-permutation, IsPermutation-reverse}
+use Rattle.std.proofs.lemmas.Map.Lookups.{CmpEqualImpliesEq}
+use Rattle.mcs_reader.specs.Id.{IsId}
+use Rattle.holddata.specs.HoldBook.{book_of, keys_named}
+use Rattle.holddata.specs.HoldChange.{hold_left}
+use Rattle.holddata.specs.HoldKey.{is_same_key, key_cmp}
+use Rattle.holddata.specs.declared.hold.Hold.{Hold}
+use Rattle.holddata.specs.declared.hold.HoldChange.TheVariants.{Put}
+use Rattle.holddata.specs.declared.key.HoldKey.{HoldKey}
+use Rattle.holddata.proofs.KeyFacts.{exact_keys}
+use Rattle.catalogue.specs.Content as content
+use Rattle.catalogue.specs.Ids.{id_cmp, in_order, same_id}
+use Rattle.catalogue.specs.Publication.{catalogue_of}
+use Rattle.catalogue.specs.declared.sysmod.Sysmod.{Sysmod}
+use Rattle.catalogue.proofs.IdFacts.{exact_ids, one_id}
+use Rattle.sqlite_value.specs.Order.{Row, column}
+use Rattle.sql_tables.specs.Fit.{IsHold, IsRecord}
+use Rattle.sql_tables.specs.Rows.{hold_found, hold_row, sysmod_row}
+use Rattle.sql_tables.specs.Stored.{Stored, is_of, names_of, sysmods_of, tables_of}
+use Rattle.sql_tables.specs.Values.{hold_kind_value, id_in, id_value, texts_value}
+use Rattle.sql_tables.specs.Whole.{AreRowsOf, HaveOwnKeys, Head, IsHead, IsWhole, row_of_head}
+use Rattle.sql_tables.proofs.ContentFacts.{key_itself, last_under, left_put}
+use Rattle.sql_tables.proofs.MemberFacts.{first_in, none_found, rest_in}
+use Rattle.sql_tables.proofs.RecordFacts.{catalogue_ids}
+use Rattle.sql_tables.proofs.RowFacts.{hold_again}
+use Rattle.sql_tables.proofs.ValueFacts.{id_again, named_value}
+use Rattle.sql_tables.proofs.WholeFacts.{all_filter, own_filtered}
+use Rattle.sql_reads.proofs.PublishedFacts.{sysmods_ids}
+
+-- ---- keys put in order
+
+abbrev pub AreApart : {K : Type 0} → List K → Type 0
+AreApart [] = Unit {0}
+AreApart (k ∷ ks) = AllByRecursion (λ other. k ≢ other) ks × AreApart ks
+
+all_two : {A : Type 0} (P Q R : A → Type 0) → ((a : A) → P a → Q a → R a) → (xs : List A) → AllByRecursion P xs → AllByRecursion Q xs → AllByRecursion R xs
+all_two P Q R step [] p q = tt
+all_two P Q R step (x ∷ xs) p q = (step x p.0 q.0, all_two P Q R step xs p.1 q.1)
+
+module _ {K : Type 0} (cmp : K → K → Ordering) (exact : CmpEqualImpliesEq cmp) where
+  -- a key that isn't there makes a list longer by one
+  insert_new : (ks : List K) (k : K) → AllByRecursion (λ x. k ≢ x) ks → length (insert_key cmp ks k) ≡ suc (length ks)
+  insert_new [] k new = refl
+  insert_new (x ∷ xs) k new = by (insert_new xs k new.1) (cmp k x) refl
+    where
+      by : length (insert_key cmp xs k) ≡ suc (length xs) → (o : Ordering) → cmp k x ≡ o → length (match_ordering o (k ∷ x ∷ xs) (x ∷ xs) (x ∷ insert_key cmp xs k)) ≡ suc (suc (length xs))
+      by rest Less is = refl
+      by rest Equal is = absurd (new.0 (exact k x is))
+      by rest Greater is = ap suc rest
+
+  insert_all : (P : K → Type 0) (ks : List K) (k : K) → P k → AllByRecursion P ks → AllByRecursion P (insert_key cmp ks k)
+  insert_all P [] k p all = (p, tt)
+  insert_all P (x ∷ xs) k p all = by (insert_all P xs k p all.1) (cmp k x)
+    where
+      by : AllByRecursion P (insert_key cmp xs k) → (o : Ordering) → AllByRecursion P (match_ordering o (k ∷ x ∷ xs) (x ∷ xs) (x ∷ insert_key cmp xs k))
+      by rest Less = (p, all)
+      by rest Equal = all
+      by rest Greater = (all.0, rest)
+
+  fold_length : (sorted ks : List K) → AreApart ks → AllByRecursion (λ k. AllByRecursion (λ x. k ≢ x) sorted) ks → length (fold (insert_key cmp) sorted ks) ≡ length sorted + length ks
+  fold_length sorted [] apart new = omega arith
+  fold_length sorted (k ∷ ks) apart new =
+      let rest = fold_length (insert_key cmp sorted k) ks apart.1
+      (all_two (λ j. k ≢ j) (λ j. AllByRecursion (λ x. j ≢ x) sorted) (λ j. AllByRecursion (λ x. j ≢ x) (insert_key cmp sorted k))
+      (λ j differ all. insert_all (λ x. j ≢ x) sorted k (λ e. differ (sym e)) all) ks apart.0 new.1) in
+      omega (arith, rest, insert_new sorted k new.0)
+
+none_yet : {K : Type 0} (ks : List K) → AllByRecursion (λ k. AllByRecursion (λ x. k ≢ x) []) ks
+none_yet [] = tt
+none_yet (k ∷ ks) = (tt, none_yet ks)
+
+pub in_order_length : (ids : List (List ℕ)) → AreApart ids → length (in_order ids) ≡ length ids
+in_order_length ids apart = let same = fold_length id_cmp exact_ids [] ids apart (none_yet ids) in omega (arith, same)
+
+-- ---- what is read of rows
+
+module _ {K : Type 0} (columns : ℕ) (f : Row → Option K) (P : Row → Type 0) (said : (row : Row) → P row → (k : K) × (f row ≡ Some k))
+    (alike : (a b : Row) → P a → P b → f a ≡ f b → take columns a ≡ take columns b) where
+  others_differ : (row : Row) (k : K) → P row → f row ≡ Some k → (rows : List Row) → AllByRecursion P rows → AllByRecursion (λ other. take columns row ≢ take columns other) rows
+      → AllByRecursion (λ other. k ≢ other) (filter_map f rows)
+  others_differ row k p is [] all differ = tt
+  others_differ row k p is (next ∷ rows) all differ =
+      let it = said next all.0 in
+      subst (λ o. AllByRecursion (λ other. k ≢ other) (cons_option o (filter_map f rows))) (sym it.1)
+      ((λ same. differ.0 (alike row next p all.0 (is ∙ ap Some same ∙ sym it.1))), others_differ row k p is rows all.1 differ.1)
+
+  pub read_apart : (rows : List Row) → AllByRecursion P rows → HaveOwnKeys columns rows → AreApart (filter_map f rows)
+  read_apart [] all own = tt
+  read_apart (row ∷ rows) all own =
+      let it = said row all.0 in
+      subst (λ o. AreApart (cons_option o (filter_map f rows))) (sym it.1) (others_differ row it.0 all.0 it.1 rows all.1 own.0, read_apart rows all.1 own.1)
+
+  pub read_length : (rows : List Row) → AllByRecursion P rows → length (filter_map f rows) ≡ length rows
+  read_length [] all = refl
+  read_length (row ∷ rows) all = ap (λ o. length (cons_option o (filter_map f rows))) (said row all.0).1 ∙ ap suc (read_length rows all.1)
+
+-- ---- records
+
+module _ (stored : Stored) (whole : IsWhole stored) where
+  abbrev IsRecordRow : Row → Type 0
+  IsRecordRow row = (x : Sysmod) × IsRecord x × (row ≡ sysmod_row x)
+
+  record_id : (row : Row) → IsRecordRow row → (k : List ℕ) × (id_in (column row 0) ≡ Some k)
+  record_id row (x, fit, is) = (x.id, ap (λ r. id_in (column r 0)) is ∙ id_again x.id fit.id)
+
+  record_alike : (a b : Row) → IsRecordRow a → IsRecordRow b → id_in (column a 0) ≡ id_in (column b 0) → take 1 a ≡ take 1 b
+  record_alike a b (x, fit, is) (y, fits, at) same =
+      let e : Some x.id ≡ Some y.id = sym (ap (λ r. id_in (column r 0)) is ∙ id_again x.id fit.id) ∙ same ∙ ap (λ r. id_in (column r 0)) at ∙ id_again y.id fits.id in
+      let k : x.id ≡ y.id = cc in
+      ap (take 1) is ∙ ap (λ id. id_value id ∷ []) k ∙ sym (ap (take 1) at)
+
+  -- as many records as rows
+  pub sysmods_length : length (tables_of stored).content.sysmods ≡ length stored.sysmods
+  sysmods_length =
+      let all = sysmods_of stored.sups stored.sysmods in
+      let read = filter_map (λ row. id_in (column row 0)) stored.sysmods in
+      let same : content.ids_in all ≡ read = sysmods_ids stored.sups stored.sysmods whole.sysmods in
+      sym (length-map (catalogue_of all) (λ (x : Sysmod). x.id))
+      ∙ ap length (catalogue_ids all ∙ ap in_order same)
+      ∙ in_order_length read (read_apart 1 (λ row. id_in (column row 0)) IsRecordRow record_id record_alike stored.sysmods whole.sysmods whole.sysmod_keys)
+      ∙ read_length 1 (λ row. id_in (column row 0)) IsRecordRow record_id record_alike stored.sysmods whole.sysmods
+
+  -- ---- zones
+
+  module _ (client : List ℕ) where
+    abbrev IsHeadRow : Row → Type 0
+    IsHeadRow row = (zone : List ℕ) × (patterns : List (List ℕ)) × IsId zone × (row ≡ row_of_head (record { client = client; zone = zone; patterns = patterns }))
+
+    heads_of : (rows : List Row) → AreRowsOf row_of_head IsHead rows → AllByRecursion IsHeadRow (filter (is_of client) rows)
+    heads_of [] all = tt
+    heads_of (row ∷ rows) all = by (is_of client row) refl (heads_of rows all.1) all.0
+      where
+        by : (b : Bool) → is_of client row ≡ b → AllByRecursion IsHeadRow (filter (is_of client) rows) → (h : Head) × IsHead h × (row ≡ row_of_head h)
+            → AllByRecursion IsHeadRow (cond b (row ∷ filter (is_of client) rows) (filter (is_of client) rows))
+        by true at rest (h, fit, is) =
+            let named : h.client ≡ client = one_id h.client client (sym (named_value h.client client fit.0) ∙ ap (is_of client) (sym is) ∙ at) in
+            ((h.zone, h.patterns, fit.1, is ∙ ap (λ c. id_value c ∷ id_value h.zone ∷ texts_value h.patterns ∷ []) named), rest)
+        by false at rest it = rest
+
+    head_name : (row : Row) → IsHeadRow row → (k : List ℕ) × (id_in (column row 1) ≡ Some k)
+    head_name row (zone, patterns, fit, is) = (zone, ap (λ r. id_in (column r 1)) is ∙ id_again zone fit)
+
+    head_alike : (a b : Row) → IsHeadRow a → IsHeadRow b → id_in (column a 1) ≡ id_in (column b 1) → take 2 a ≡ take 2 b
+    head_alike a b (zone, patterns, fit, is) (other, more, fits, at) same =
+        let e : Some zone ≡ Some other = sym (ap (λ r. id_in (column r 1)) is ∙ id_again zone fit) ∙ same ∙ ap (λ r. id_in (column r 1)) at ∙ id_again other fits in
+        let k : zone ≡ other = cc in
+        ap (take 2) is ∙ ap (λ z. id_value client ∷ id_value z ∷ []) k ∙ sym (ap (take 2) at)
+
+    -- as many zones as heads
+    pub zones_length : length ((tables_of stored).zones client) ≡ length (filter (is_of client) stored.heads)
+    zones_length =
+        let rows = filter (is_of client) stored.heads in
+        let heads = heads_of stored.heads whole.heads in
+        let read = filter_map (λ row. id_in (column row 1)) rows in
+        length-map (names_of stored.heads client) (λ zone. (zone, _))
+        ∙ in_order_length read (read_apart 2 (λ row. id_in (column row 1)) IsHeadRow head_name head_alike rows heads (own_filtered 2 (is_of client) stored.heads whole.head_keys))
+        ∙ read_length 2 (λ row. id_in (column row 1)) IsHeadRow head_name head_alike rows heads
+
+  -- ---- holds
+
+  abbrev IsHoldRow : Row → Type 0
+  IsHoldRow row = (h : Hold) × IsHold h × (row ≡ hold_row h)
+
+  abbrev key_in : Row → Option HoldKey
+  key_in row = option_map (λ (h : Hold). h.key) (hold_found row)
+
+  hold_key : (row : Row) → IsHoldRow row → (k : HoldKey) × (key_in row ≡ Some k)
+  hold_key row (h, fit, is) = (h.key, ap key_in is ∙ ap (option_map (λ (x : Hold). x.key)) (hold_again h fit))
+
+  hold_alike : (a b : Row) → IsHoldRow a → IsHoldRow b → key_in a ≡ key_in b → take 3 a ≡ take 3 b
+  hold_alike a b (x, fit, is) (y, fits, at) same =
+      let e : Some x.key ≡ Some y.key = sym (ap key_in is ∙ ap (option_map (λ (z : Hold). z.key)) (hold_again x fit)) ∙ same ∙ ap key_in at ∙ ap (option_map (λ (z : Hold). z.key)) (hold_again y fits) in
+      let k : x.key ≡ y.key = cc in
+      ap (take 3) is ∙ ap (λ (key : HoldKey). id_value key.sysmod ∷ hold_kind_value key.kind ∷ id_value key.reason ∷ []) k ∙ sym (ap (take 3) at)
+
+keys_of_read : (rows : List Row) → filter_map (λ row. option_map (λ (h : Hold). h.key) (hold_found row)) rows ≡ map (λ (h : Hold). h.key) (filter_map hold_found rows)
+keys_of_read [] = refl
+keys_of_read (row ∷ rows) = by (hold_found row) (keys_of_read rows)
+  where
+    by : (o : Option Hold) → filter_map (λ r. option_map (λ (h : Hold). h.key) (hold_found r)) rows ≡ map (λ (h : Hold). h.key) (filter_map hold_found rows)
+        → cons_option (option_map (λ (h : Hold). h.key) o) (filter_map (λ r. option_map (λ (h : Hold). h.key) (hold_found r)) rows) ≡ map (λ (h : Hold). h.key) (cons_option o (filter_map hold_found rows))
+    by None rest = rest
+    by (Some hold) rest = ap (λ others. hold.key ∷ others) rest
+
+-- as many keys as holds, where each has its own
+named_length : (holds : List Hold) → AreApart (map (λ (h : Hold). h.key) holds) → length (keys_named (map Put holds)) ≡ length holds
+named_length [] apart = refl
+named_length (hold ∷ holds) apart =
+    insert_new key_cmp exact_keys (keys_named (map Put holds)) hold.key (others holds apart.0) ∙ ap suc (named_length holds apart.1)
+  where
+    others : (ds : List Hold) → AllByRecursion (λ other. hold.key ≢ other) (map (λ (h : Hold). h.key) ds) → AllByRecursion (λ x. hold.key ≢ x) (keys_named (map Put ds))
+    others [] all = tt
+    others (d ∷ ds) all = insert_all key_cmp exact_keys (λ x. hold.key ≢ x) (keys_named (map Put ds)) d.key all.0 (others ds all.1)
+
+kept_length : {A B : Type 0} (f : A → Option B) (xs : List A) → AllByRecursion (λ x. is_some (f x) ≡ true) xs → length (filter_map f xs) ≡ length xs
+kept_length f [] all = refl
+kept_length {B = B} f (x ∷ xs) all = by (f x) all.0 (kept_length f xs all.1)
+  where
+    by : (o : Option B) → is_some o ≡ true → length (filter_map f xs) ≡ length xs → length (cons_option o (filter_map f xs)) ≡ suc (length xs)
+    by None h rest = cc
+    by (Some b) h rest = ap suc rest
+
+pub book_length : (holds : List Hold) → AreApart (map (λ (h : Hold). h.key) holds) → length (book_of (map Put holds)) ≡ length holds
+book_length holds apart = kept_length (hold_left (map Put holds)) (keys_named (map Put holds)) (each holds (λ hold inside. inside)) ∙ named_length holds apart
+  where
+    left : (hold : Hold) → Contains holds hold → is_some (hold_left (map Put holds) hold.key) ≡ true
+    left hold inside = ap is_some (left_put holds hold.key) ∙ by (last_under holds hold.key) refl
+      where
+        by : (o : Option Hold) → last_under holds hold.key ≡ o → is_some o ≡ true
+        by None at = absurd (none_found (λ (h : Hold). is_same_key h.key hold.key) (reverse holds) at hold (Contains-permutation holds (reverse holds) hold (IsPermutation-reverse holds) inside) (key_itself hold.key))
+        by (Some h) at = refl
+
+    each : (ds : List Hold) → ((d : Hold) → Contains ds d → Contains holds d) → AllByRecursion (λ key. is_some (hold_left (map Put holds) key) ≡ true) (keys_named (map Put ds))
+    each [] inside = tt
+    each (d ∷ ds) inside =
+        insert_all key_cmp exact_keys (λ key. is_some (hold_left (map Put holds) key) ≡ true) (keys_named (map Put ds)) d.key (left d (inside d (first_in d ds))) (each ds (λ x h. inside x (rest_in d x ds h)))
+
+-- as many holds as rows
+pub holds_length : (stored : Stored) → IsWhole stored → length (tables_of stored).content.holds ≡ length stored.holds
+holds_length stored whole =
+    let read = filter_map (λ row. option_map (λ (h : Hold). h.key) (hold_found row)) stored.holds in
+    book_length (filter_map hold_found stored.holds)
+    (subst AreApart (keys_of_read stored.holds) (read_apart 3 (λ row. option_map (λ (h : Hold). h.key) (hold_found row)) (IsHoldRow stored whole) (hold_key stored whole) (hold_alike stored whole) stored.holds whole.holds whole.hold_keys))
+    ∙ sym (length-map (filter_map hold_found stored.holds) (λ (h : Hold). h.key))
+    ∙ ap length (sym (keys_of_read stored.holds))
+    ∙ read_length 3 (λ row. option_map (λ (h : Hold). h.key) (hold_found row)) (IsHoldRow stored whole) (hold_key stored whole) (hold_alike stored whole) stored.holds whole.holds

@@ -1,0 +1,15 @@
+mod AnsweringFacts
+mod CallerFacts
+mod ClientFacts
+mod CountFacts
+mod HeldFacts
+mod JoinFacts
+mod LengthFacts
+mod MemberFacts
+mod OrderFacts
+mod ProperFacts
+mod PublishedFacts
+mod QuietFacts
+mod TableFacts
+mod TextFacts
+mod VersionFacts

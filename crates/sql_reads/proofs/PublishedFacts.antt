@@ -1,0 +1,138 @@
+-- What is found of records and holds.
+use Rattle.std.proofs.Common.{◌≡◌, ℕ, true, false, List, [], ◌∷◌, refl, sym, ◌∙◌, ap, subst, inl, inr, Some, None}
+use Rattle.std.specs.Prelude.{filter, map, Option, option_map, option_and_then, unwrap_or}
+use Rattle.std.specs.List.{Contains, cons_option, filter_map}
+use Rattle.std.specs.List.Sorted.{IsPermutation}
+use Rattle.std.proofs.lemmas.List.Sorted.{Contains-permutation, IsPermutation-sym}
+use Rattle.mcs_reader.specs.Id.{IsId, text_of}
+use Rattle.holddata.specs.HoldBook.{IsInKeyOrder}
+use Rattle.holddata.specs.declared.hold.Hold.{Hold}
+use Rattle.holddata.specs.declared.key.HoldKey.{HoldKey}
+use Rattle.holddata.specs.declared.key.Kind.{Kind}
+use Rattle.catalogue.specs.Content as content
+use Rattle.catalogue.specs.Content.{holds_on, ids_of, record_of}
+use Rattle.catalogue.specs.Ids.{Ascend, same_id}
+use Rattle.catalogue.specs.declared.sysmod.Sysmod.{Sysmod}
+use Rattle.catalogue.proofs.IdFacts.{same_back}
+use Rattle.sqlite.specs.Query.{IsAnswer}
+use Rattle.sqlite.specs.Tree.{Trees}
+use Rattle.sqlite_value.specs.Order.{Row, column}
+use Rattle.sqlite_value.specs.declared.value.Value.TheVariants.{Text}
+use Rattle.sql_tables.specs.Fit.{IsRecord}
+use Rattle.sql_tables.specs.InTrees.{columns_of, stored_in}
+use Rattle.sql_tables.specs.Rows.{hold_found, sysmod_found, sysmod_row, with}
+use Rattle.sql_tables.specs.Stored.{is_of, sup_of, sysmods_of, tables_of}
+use Rattle.sql_tables.specs.Values.{hold_kind_in, id_in}
+use Rattle.sql_tables.specs.Whole.{AreRowsOf, IsWhole}
+use Rattle.sql_tables.proofs.ContentFacts.{hold_own}
+use Rattle.sql_tables.proofs.ListValueFacts.{ids_again}
+use Rattle.sql_tables.proofs.ReadFacts.{holds_read}
+use Rattle.sql_tables.proofs.RecordFacts.{all_ids_read, no_record, one_record, superseded_read}
+use Rattle.sql_tables.proofs.ValueFacts.{id_again, sysmod_kind_again}
+use Rattle.sql_texts.specs.Found.{shown}
+use Rattle.sql_texts.specs.Reads as read
+use Rattle.sql_reads.specs.Answering.{one_of}
+use Rattle.sql_reads.proofs.ClientFacts.{table_said}
+use Rattle.sql_reads.proofs.MemberFacts.{filtered, passed, read_from, read_to}
+use Rattle.sql_reads.proofs.TableFacts.{one_case, one_passes, table_found}
+use Rattle.sql_reads.proofs.TextFacts.{of_given}
+
+filter_true : (rows : List Row) → filter (λ row. true) rows ≡ rows
+filter_true [] = refl
+filter_true (row ∷ rows) = ap (λ others. row ∷ others) (filter_true rows)
+
+-- ---- records
+
+-- a row that the bureau wrote says its record, with what is said of it beside
+pub sysmod_read : (sup : List (List ℕ)) (x : Sysmod) → IsRecord x → sysmod_found sup (sysmod_row x) ≡ Some (record x { sup = sup })
+sysmod_read sup x is = rw (id_again x.id is.id, sysmod_kind_again x.kind, ids_again x.fmids is.fmids, ids_again x.pre is.pre, ids_again x.req is.req) refl
+
+pub sysmods_ids : (sups rows : List Row) → AreRowsOf sysmod_row IsRecord rows → content.ids_in (sysmods_of sups rows) ≡ filter_map (λ row. id_in (column row 0)) rows
+sysmods_ids sups [] all = refl
+sysmods_ids sups (row ∷ rows) all =
+    ap (λ o. content.ids_in (cons_option o (sysmods_of sups rows))) (said all.0)
+    ∙ ap (λ others. all.0.0.id ∷ others) (sysmods_ids sups rows all.1)
+    ∙ sym (ap (λ o. cons_option o (filter_map (λ r. id_in (column r 0)) rows)) (ap (λ r. id_in (column r 0)) all.0.2 ∙ id_again all.0.0.id all.0.1.id))
+  where
+    said : (it : (x : Sysmod) × IsRecord x × (row ≡ sysmod_row x)) → option_and_then (λ id. sysmod_found (sup_of sups id) row) (id_in (column row 0)) ≡ Some (record it.0 { sup = sup_of sups it.0.id })
+    said it =
+        ap (λ r. option_and_then (λ id. sysmod_found (sup_of sups id) r) (id_in (column r 0))) it.2
+        ∙ ap (option_and_then (λ id. sysmod_found (sup_of sups id) (sysmod_row it.0))) (id_again it.0.id it.1.id)
+        ∙ sysmod_read (sup_of sups it.0.id) it.0 it.1
+
+module _ (trees : Trees) where
+  pub ids_told : (rows : List Row) (found : List (List ℕ)) → IsWhole (stored_in trees) → Ascend found → IsAnswer read.sysmod_ids trees [] rows
+      → map Some found ≡ map (λ row. id_in (column row 0)) rows → found ≡ ids_of (tables_of (stored_in trees)).content
+  ids_told rows found whole ascend answer said =
+      let sysmods = columns_of (trees 6) in
+      let read_ids = filter_map (λ row. id_in (column row 0)) sysmods in
+      let permuted : IsPermutation read_ids found =
+      subst (λ kept. IsPermutation (filter_map (λ row. id_in (column row 0)) kept) found) (filter_true sysmods)
+      (table_said (λ row. id_in (column row 0)) (shown (0 ∷ [])) (filter (λ row. true) sysmods) rows found (table_found 6 [] (0 ∷ []) (1 ∷ []) [] trees rows (λ row. true) (λ row. refl) answer) said) in
+      let same = sysmods_ids (columns_of (trees 8)) sysmods whole.sysmods in
+      all_ids_read (stored_in trees) found ascend
+      (λ id inside. Contains-permutation read_ids found id permuted (subst (λ ids. Contains ids id) same inside))
+      (λ id inside. subst (λ ids. Contains ids id) (sym same) (Contains-permutation found read_ids id (IsPermutation-sym read_ids found permuted) inside))
+
+  module _ (id : List ℕ) (rows : List Row) (is : IsId id) where
+    pub superseded_told : (sup : List (List ℕ)) → Ascend sup → IsAnswer read.superseded trees (Text (text_of id) ∷ []) rows
+        → map Some sup ≡ map (λ row. id_in (column row 0)) rows → sup ≡ sup_of (columns_of (trees 8)) id
+    superseded_told sup ascend answer said =
+        superseded_read (columns_of (trees 8)) id sup ascend
+        (table_said (λ row. id_in (column row 0)) (shown (1 ∷ [])) (filter (is_of id) (columns_of (trees 8))) rows sup
+        (table_found 8 (read.is_given 1 0 ∷ []) (1 ∷ []) (2 ∷ []) (Text (text_of id) ∷ []) trees rows (is_of id) (of_given id is) answer) said)
+
+    pub sysmod_told : (sup : List (List ℕ)) (found : Option Sysmod) → IsAnswer read.sysmod trees (Text (text_of id) ∷ []) rows
+        → one_of (sysmod_found sup) rows ≡ Some found → sup ≡ sup_of (columns_of (trees 8)) id → found ≡ record_of (tables_of (stored_in trees)).content id
+    sysmod_told sup found answer said same =
+        let sysmods = columns_of (trees 6) in
+        elim (one_case (sysmod_found sup) (shown (0 ∷ 1 ∷ 2 ∷ 3 ∷ 4 ∷ [])) (filter (is_of id) sysmods) rows found
+        (table_found 6 (read.is_given 1 0 ∷ []) (0 ∷ 1 ∷ 2 ∷ 3 ∷ 4 ∷ []) (1 ∷ []) (Text (text_of id) ∷ []) trees rows (is_of id) (of_given id is) answer) said) [
+          | inl none ↦ none.1 ∙ sym (no_record (stored_in trees) id none.0)
+          | inr its ↦ its.4 ∙ sym (one_record (stored_in trees) id its.0 its.2 its.1 (one_passes (is_of id) sysmods its.0 its.1)
+              (ap (λ s. sysmod_found s its.0) (sym same) ∙ its.3))
+        ]
+
+-- ---- holds
+
+-- a hold that is read has the SYSMOD and the kind of its row
+pub key_parts : (row : Row) (hold : Hold) → hold_found row ≡ Some hold → (id_in (column row 0) ≡ Some hold.key.sysmod) × (hold_kind_in (column row 1) ≡ Some hold.key.kind)
+key_parts row hold h = by (id_in (column row 0)) (hold_kind_in (column row 1)) (id_in (column row 2)) (hold_own row hold h)
+  where
+    by : (a : Option (List ℕ)) (b : Option Kind) (c : Option (List ℕ))
+        → with a (λ sysmod. with b (λ kind. option_map (λ reason. record { sysmod = sysmod; kind = kind; reason = reason }) c)) ≡ Some hold.key
+        → (a ≡ Some hold.key.sysmod) × (b ≡ Some hold.key.kind)
+    by None b c e = cc
+    by (Some a) None c e = cc
+    by (Some a) (Some b) None e = cc
+    by (Some a) (Some b) (Some c) e = (ap (option_map (λ (k : HoldKey). k.sysmod)) e, ap (option_map (λ (k : HoldKey). k.kind)) e)
+
+pub hold_of : (id : List ℕ) (row : Row) (hold : Hold) → hold_found row ≡ Some hold → is_of id row ≡ same_id id hold.key.sysmod
+hold_of id row hold h =
+    ap (λ o. unwrap_or (option_map (λ found. same_id found id) o) false) (key_parts row hold h).0 ∙ same_back hold.key.sysmod id
+
+pub holds_told : (trees : Trees) (id : List ℕ) (rows : List Row) (found : List Hold) → IsId id → IsInKeyOrder found → IsAnswer read.holds_on trees (Text (text_of id) ∷ []) rows
+    → map Some found ≡ map hold_found rows → found ≡ holds_on (tables_of (stored_in trees)).content id
+holds_told trees id rows found is ordered answer said =
+    holds_read (filter_map hold_found holds) found (λ key. same_id id key.sysmod) ordered there back
+  where
+    holds : List Row
+    holds = columns_of (trees 11)
+
+    permuted : IsPermutation (filter_map hold_found (filter (is_of id) holds)) found
+    permuted =
+        table_said hold_found (shown (0 ∷ 1 ∷ 2 ∷ 3 ∷ 4 ∷ 5 ∷ 6 ∷ 7 ∷ [])) (filter (is_of id) holds) rows found
+        (table_found 11 (read.is_given 1 0 ∷ []) (0 ∷ 1 ∷ 2 ∷ 3 ∷ 4 ∷ 5 ∷ 6 ∷ 7 ∷ []) (1 ∷ 2 ∷ 3 ∷ []) (Text (text_of id) ∷ []) trees rows (is_of id) (of_given id is) answer) said
+
+    there : (hold : Hold) → Contains found hold → Contains (filter_map hold_found holds) hold × (same_id id hold.key.sysmod ≡ true)
+    there hold inside =
+        let it = read_from hold_found (filter (is_of id) holds) hold
+        (Contains-permutation found (filter_map hold_found (filter (is_of id) holds)) hold (IsPermutation-sym (filter_map hold_found (filter (is_of id) holds)) found permuted) inside) in
+        let row = filtered (is_of id) holds it.0 it.1 in
+        (read_to hold_found holds it.0 hold row.0 it.2, sym (hold_of id it.0 hold it.2) ∙ row.1)
+
+    back : (hold : Hold) → Contains (filter_map hold_found holds) hold → same_id id hold.key.sysmod ≡ true → Contains found hold
+    back hold inside at =
+        let it = read_from hold_found holds hold inside in
+        Contains-permutation (filter_map hold_found (filter (is_of id) holds)) found hold permuted
+        (read_to hold_found (filter (is_of id) holds) it.0 hold (passed (is_of id) holds it.0 it.1 (hold_of id it.0 hold it.2 ∙ at)) it.2)

@@ -1,0 +1,177 @@
+-- What a text shows of one table, as rows without their rowids; and the one row that it shows.
+use Rattle.std.proofs.Common.{◌≡◌, ◌⊎◌, ℕ, suc, Bool, true, false, cond, length, drop, List, [], ◌∷◌, refl, sym, ◌∙◌, ap, subst, arith, inl, inr, ◌≤◌, Ok, Err, Result, Some, None}
+use Rattle.std.specs.Prelude.{filter, map, Option, option_map, Vec, IfOk}
+use Rattle.std.specs.declared.alloc.Global.{Global}
+use Rattle.std.specs.List.{AllByRecursion, Contains}
+use Rattle.std.specs.List.Sorted.{IsPermutation}
+use Rattle.std.proofs.lemmas.List.Sorted.{Contains-permutation, IsPermutation-sym, length_permutation}
+use Rattle.sqlite.specs.Query.{IsAnswer, Query}
+use Rattle.sqlite.specs.State.{HasCleanDisk, State, Survives}
+use Rattle.sqlite_disk.specs.Disk.{MoreFaults}
+use Rattle.sqlite.specs.Term.{Term}
+use Rattle.sqlite.specs.Tree.{Trees}
+use Rattle.sqlite_value.specs.Order.{Row}
+use Rattle.sql_state.specs.Ours.{IsOurs, held_by}
+use Rattle.sql_state.specs.Reading.{Finds, OnlyReads}
+use Rattle.sql_tables.specs.InTrees.{columns_of}
+use Rattle.sql_tables.specs.Stored.{Stored}
+use Rattle.sql_tables.specs.Whole.{IsWhole}
+use Rattle.sql_tables.proofs.MemberFacts.{cases_in, first_in, none_in}
+use Rattle.sql_tables.proofs.TreeFacts.{filter_after, shown_after}
+use Rattle.sql_texts.specs.Found.{passes, shown}
+use Rattle.sql_texts.specs.Meaning.{Reads}
+use Rattle.sql_texts.specs.Reads.{from_table}
+use Rattle.sql_texts.specs.Schema.{bureau}
+use Rattle.sql_texts.proofs.AnswerFacts.{table_answer}
+use Rattle.sql_reads.specs.Answering.{Answers, one_of}
+
+pub if_both : {A Fault : Type 0} (P Q : A → Type 0) (result : Result A Fault) → IfOk result P → IfOk result Q → IfOk result (λ a. P a × Q a)
+if_both P Q (Ok a) p q = (p, q)
+if_both P Q (Err e) p q = tt
+
+-- ---- from an answer to what is found
+
+module _ {A Fault : Type 0} (text : List ℕ) (params asked : Row) (same_params : params ≡ asked) (old new : State) (query : Query) (names : List (List ℕ)) (parameters : ℕ)
+    (reads : Reads bureau text query names parameters) where
+  pub finds : (rows : Vec Row Global) (seen : List Row) → seen ≡ rows.items → Answers {Fault = Fault} text params old new (Ok rows)
+      → (result : Result A Fault) (Said : A → Type 0) → IfOk result Said → (Fact : Stored → A → Type 0)
+      → (IsOurs old.committed → IsAnswer query old.committed.trees asked seen → (a : A) → Said a → Fact (held_by old.committed) a) → Finds old new result Fact
+  finds rows seen same answers (Ok a) Said said Fact law = record {
+    reads = answers.reads;
+    is_open = answers.is_open;
+    told = λ clean ours.
+        law ours (subst (λ p. IsAnswer query old.committed.trees p seen) same_params (subst (IsAnswer query old.committed.trees params) (sym same) (answers.told clean ours.schema query names parameters reads))) a said;
+  }
+  finds rows seen same answers (Err e) Said said Fact law = record { reads = answers.reads; is_open = tt; told = tt }
+
+-- ---- one read after another
+
+more_faults : (a b c : ℕ) → MoreFaults a b → b ≤ c → MoreFaults a c
+more_faults a b c h k = omega (arith, h, k)
+
+more_after : (a b c : ℕ) → a ≤ b → MoreFaults b c → MoreFaults a c
+more_after a b c h k = omega (arith, h, k)
+
+module _ (old mid new : State) where
+  clean_before : (P : Trees → Type 0) → Survives mid new P → HasCleanDisk new → HasCleanDisk mid
+  clean_before P survives clean = omega (arith, survives.clean, clean)
+
+  pub reads_on : OnlyReads old mid → OnlyReads mid new → OnlyReads old new
+  reads_on first second = record {
+    keeps = λ clean.
+        let before = first.keeps (clean_before _ second.survives clean) in
+        let after = second.keeps clean in
+        record { was_open = λ here. before.was_open (after.was_open here); committed = λ here. after.committed here ∙ before.committed (after.was_open here) };
+    survives = record {
+      clean = omega (arith, first.survives.clean, second.survives.clean);
+      shield = λ h. second.survives.shield (first.survives.shield h);
+      counts = omega (arith, first.survives.counts, second.survives.counts);
+      limit = second.survives.limit ∙ first.survives.limit;
+      closes = λ clean here. elim (first.survives.closes (clean_before _ second.survives clean) here) [
+        | inl there ↦ elim (second.survives.closes clean there) [
+          | inl last ↦ inl last
+          | inr more ↦ inr (more_after old.faults mid.faults new.faults first.survives.counts more)
+        ]
+        | inr more ↦ inr (more_faults old.faults mid.faults new.faults more second.survives.counts)
+      ];
+      crash = λ clean db left. elim (second.survives.crash clean db left) [
+        | inl before ↦ first.survives.crash (clean_before _ second.survives clean) db before
+        | inr none ↦ absurd none
+      ];
+    };
+  }
+
+  -- what two reads find, both find of the rows that are committed
+  pub finds_on : {A B C Fault : Type 0} (a : A) (b : B) (c : C) (First : Stored → A → Type 0) (Second : Stored → B → Type 0) (Fact : Stored → C → Type 0)
+      → Finds old mid {Answer = A} {Fault = Fault} (Ok a) First → Finds mid new {Answer = B} {Fault = Fault} (Ok b) Second → ((stored : Stored) → IsWhole stored → First stored a → Second stored b → Fact stored c) → Finds old new {Answer = C} {Fault = Fault} (Ok c) Fact
+  finds_on a b c First Second Fact first second step = record {
+    reads = reads_on first.reads second.reads;
+    is_open = second.is_open;
+    told = λ clean ours.
+        let before = clean_before _ second.reads.survives clean in
+        let same : mid.committed ≡ old.committed = (first.reads.keeps before).committed (first.is_open before) in
+        step (held_by old.committed) ours.whole (first.told before ours)
+        (subst (λ d. Second (held_by d) b) same (second.told clean (subst IsOurs (sym same) ours)));
+  }
+
+  -- the same, where the second may be refused
+  pub then_finds : {A B Fault : Type 0} (a : A) (result : Result B Fault) (First : Stored → A → Type 0) (Second Fact : Stored → B → Type 0)
+      → Finds old mid {Answer = A} {Fault = Fault} (Ok a) First → Finds mid new {Answer = B} {Fault = Fault} result Second
+      → ((stored : Stored) (b : B) → First stored a → Second stored b → Fact stored b) → Finds old new {Answer = B} {Fault = Fault} result Fact
+  then_finds a (Ok b) First Second Fact first second step = finds_on a b b First Second Fact first second (λ stored whole. step stored b)
+  then_finds a (Err e) First Second Fact first second step = record { reads = reads_on first.reads second.reads; is_open = tt; told = tt }
+
+  -- the first told something, and the second is refused
+  pub then_refused : {A B C Fault : Type 0} (a : A) (fault : Fault) (First : Stored → A → Type 0) (Second : Stored → B → Type 0) (Fact : Stored → C → Type 0)
+      → Finds old mid {Answer = A} {Fault = Fault} (Ok a) First → Finds mid new {Answer = B} {Fault = Fault} (Err fault) Second → Finds old new {Answer = C} {Fault = Fault} (Err fault) Fact
+  then_refused a fault First Second Fact first second = record { reads = reads_on first.reads second.reads; is_open = tt; told = tt }
+
+-- what one read finds says more
+pub finds_so : {A B Fault : Type 0} (old new : State) (a : A) (b : B) (First : Stored → A → Type 0) (Fact : Stored → B → Type 0) → Finds old new {Answer = A} {Fault = Fault} (Ok a) First
+    → ((stored : Stored) → First stored a → Fact stored b) → Finds old new {Answer = B} {Fault = Fault} (Ok b) Fact
+finds_so old new a b First Fact first step = record { reads = first.reads; is_open = first.is_open; told = λ clean ours. step (held_by old.committed) (first.told clean ours) }
+
+-- ---- the rows of one table
+
+shown_later : (places : List ℕ) (rows : List Row) → map (shown (map suc places)) rows ≡ map (shown places) (columns_of rows)
+shown_later places [] = refl
+shown_later places (row ∷ rows) = ap (λ first. first ∷ map (shown (map suc places)) rows) (sym (shown_after places row)) ∙ ap (λ others. shown places (drop 1 row) ∷ others) (shown_later places rows)
+
+pub table_found : (tree : ℕ) (tests : List Term) (places order : List ℕ) (params : Row) (trees : Trees) (rows : List Row) (test : Row → Bool)
+    → ((row : Row) → passes params tests row ≡ test (drop 1 row)) → IsAnswer (from_table tree tests (map suc places) order) trees params rows
+    → IsPermutation (map (shown places) (filter test (columns_of (trees tree)))) rows
+table_found tree tests places order params trees rows test alike answer =
+    subst (λ found. IsPermutation found rows)
+    (shown_later places (filter (passes params tests) (trees tree)) ∙ ap (map (shown places)) (filter_after (passes params tests) test alike (trees tree)))
+    (table_answer tree tests (map suc places) order trees params rows answer)
+
+-- tests that agree on all rows there are
+pub filter_alike : (p q : Row → Bool) (rows : List Row) → AllByRecursion (λ row. p row ≡ q row) rows → filter p rows ≡ filter q rows
+filter_alike p q [] all = refl
+filter_alike p q (row ∷ rows) all =
+    ap (λ b. cond b (row ∷ filter p rows) (filter p rows)) all.0 ∙ ap (λ others. cond (q row) (row ∷ others) others) (filter_alike p q rows all.1)
+
+pub kept_alike : (p q : Row → Bool) (rows : List Row) → ((row : Row) → p row ≡ q row) → filter p rows ≡ filter q rows
+kept_alike p q [] all = refl
+kept_alike p q (row ∷ rows) all = ap (λ b. cond b (row ∷ filter p rows) (filter p rows)) (all row) ∙ ap (λ others. cond (q row) (row ∷ others) others) (kept_alike p q rows all)
+
+-- ---- one row
+
+-- the one row that a filter keeps passes its test
+pub one_passes : (test : Row → Bool) (rows : List Row) (x : Row) → filter test rows ≡ x ∷ [] → test x ≡ true
+one_passes test [] x h = cc
+one_passes test (row ∷ rows) x h = by (test row) refl h (one_passes test rows x)
+  where
+    by : (b : Bool) → test row ≡ b → cond b (row ∷ filter test rows) (filter test rows) ≡ x ∷ [] → (filter test rows ≡ x ∷ [] → test x ≡ true) → test x ≡ true
+    by true at e rest = let same : row ≡ x = cc in ap test (sym same) ∙ at
+    by false at e rest = rest e
+
+said : {A : Type 0} (o : Option A) (found : Option A) → option_map Some o ≡ Some found → (a : A) × (o ≡ Some a) × (found ≡ Some a)
+said None found h = cc
+said (Some a) found h = let e : Some a ≡ found = cc in (a, refl, sym e)
+
+no_rows : (xs : List Row) → length xs ≡ 0 → xs ≡ []
+no_rows [] h = refl
+no_rows (x ∷ xs) h = absurd (omega (arith, h))
+
+map_length : {A B : Type 0} (f : A → B) (xs : List A) → length (map f xs) ≡ length xs
+map_length f [] = refl
+map_length f (x ∷ xs) = ap suc (map_length f xs)
+
+module _ {A : Type 0} (read : Row → Option A) (f : Row → Row) where
+  -- no row is shown, or the one that there is
+  abbrev pub IsOne : List Row → Option A → Type 0
+  IsOne xs found = ((xs ≡ []) × (found ≡ None)) ⊎ ((x : Row) × (xs ≡ x ∷ []) × (a : A) × (read (f x) ≡ Some a) × (found ≡ Some a))
+
+  pub one_case : (xs rows : List Row) (found : Option A) → IsPermutation (map f xs) rows → one_of read rows ≡ Some found → IsOne xs found
+  one_case xs [] found permuted h =
+      let none : length xs ≡ 0 = sym (map_length f xs) ∙ sym (length_permutation (map f xs) [] permuted) in
+      let e : None ≡ found = cc in inl (no_rows xs none, sym e)
+  one_case [] (row ∷ []) found permuted h = absurd (omega (arith, length_permutation (map f []) (row ∷ []) permuted))
+  one_case (x ∷ []) (row ∷ []) found permuted h =
+      let here : Contains (f x ∷ []) row = Contains-permutation (row ∷ []) (f x ∷ []) row (IsPermutation-sym (f x ∷ []) (row ∷ []) permuted) (first_in row []) in
+      let same : f x ≡ row = elim (cases_in (f x) row [] here) [ inl e ↦ e | inr e ↦ absurd (none_in row e) ] in
+      let its = said (read row) found h in
+      inr (x, refl, its.0, ap read same ∙ its.1, its.2)
+  one_case (x ∷ y ∷ xs) (row ∷ []) found permuted h = absurd (omega (arith, length_permutation (map f (x ∷ y ∷ xs)) (row ∷ []) permuted))
+  one_case xs (row ∷ other ∷ rows) found permuted h = cc

@@ -1,0 +1,8 @@
+use Rattle.sqlite.specs.Held.{state}
+use Rattle.sql_reads.proofs.VersionFacts.{version_told}
+use Rattle.sql_reads.proofs.tables_version.version.Goals as goal
+
+pub returns-clause-version : goal.returns-clause-version
+returns-clause-version g c =
+    version_told c.version.result.now (state g.S.Store c.args.conn.now) (state g.S.Store c.rows_of.new.conn) c.in_ok-rows.rows c.as_slice.result.now c.version.ensures c.as_slice.ensures.value
+    c.in_ok-rows.ensures.answers c.told.result c.told.ensures

@@ -1,0 +1,36 @@
+-- No part of what is promised: private contracts cite it. What a text that reads gives of a connection at rest.
+use Rattle.std.specs.Prelude.{◌≡◌, ℕ, List, [], ◌∷◌, IsTrue, Option, Some, None, option_map, Result, IfOk, Vec}
+use Rattle.std.specs.declared.alloc.Global.{Global}
+use Rattle.sqlite.specs.Query.{IsAnswer, Query}
+use Rattle.sqlite.specs.State.{HasCleanDisk, State}
+use Rattle.sqlite_value.specs.Order.{Row}
+use Rattle.sqlite_value.specs.declared.value.Value.{Value}
+use Rattle.sqlite_value.specs.declared.value.Value.TheVariants.{Text}
+use Rattle.mcs_reader.specs.Id.{IsId, text_of}
+use Rattle.bureau_store.specs.declared.caller.Caller.{Caller}
+use Rattle.sql_tables.specs.Stored.{name_of}
+use Rattle.sql_state.specs.Reading.{OnlyReads}
+use Rattle.sql_texts.specs.Meaning.{Reads}
+use Rattle.sql_texts.specs.Schema.{bureau}
+
+-- the text is a query of the bureau's tables
+abbrev pub IsRead : List ℕ → Type 0
+IsRead text = (query : Query) × (names : List (List ℕ)) × (parameters : ℕ) × Reads bureau text query names parameters
+
+-- The rows are what the text's query answers over the rows that are committed.
+pub record Answers {Fault : Type 0} (text : List ℕ) (params : Row) (old new : State) (result : Result (Vec Row Global) Fault) : Type 0 where
+  pub reads : OnlyReads old new
+  pub is_open : IfOk result (λ rows. HasCleanDisk new → IsTrue new.is_open)
+  pub told : IfOk result (λ rows. HasCleanDisk new → old.committed.schema ≡ bureau
+      → (query : Query) (names : List (List ℕ)) (parameters : ℕ) → Reads bureau text query names parameters
+      → IsAnswer query old.committed.trees params rows.items)
+
+-- what one row says, or nothing where there is no row; no answer where the row says nothing, or where there are more
+abbrev pub one_of : {A : Type 0} → (Row → Option A) → List Row → Option (Option A)
+one_of read [] = Some None
+one_of read (row ∷ []) = option_map Some (read row)
+one_of read (row ∷ other ∷ rows) = None
+
+-- the value is the text of the name under which the caller's last change stands
+abbrev pub IsNameOf : Caller → Value → Type 0
+IsNameOf caller value = (name : List ℕ) × IsId name × (name_of caller ≡ Some name) × (value ≡ Text (text_of name))

@@ -1,0 +1,27 @@
+//! The reads of the bureau's store in a file: one public function for each, which is lent a connection at rest.
+//!
+//! What a read tells, it tells of the rows that are committed. Rows that are out of order, or that the bureau never wrote,
+//! are a fault of the device.
+//!
+//! - [`caller_of`], [`last`]: callers, and the last change of each
+//! - [`zone_count`], [`has_zone`], [`zone`], [`zone_rows`], [`patterns`], [`received`]: what a client has; [`held_in`]: the holds on it
+//! - [`ids`], [`sysmod`], [`superseders`], [`holds_on`], [`counts`]: what is published
+//! - [`ReadFault`]: why a read is refused
+//!
+//! A contract says by `Finds` of `sql_state` what a read tells and what it leaves.
+#![tactic(auto)]
+
+mod callers;
+mod clients;
+mod fault;
+mod found;
+mod published;
+mod rows;
+mod tables_version;
+mod values;
+
+pub use callers::{caller_of, last};
+pub use clients::{has_zone, held_in, patterns, received, zone, zone_count, zone_rows};
+pub use fault::ReadFault;
+pub use published::{counts, holds_on, ids, superseders, sysmod};
+pub use tables_version::version;

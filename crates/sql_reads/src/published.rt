@@ -1,0 +1,162 @@
+//! Reads of what is published: records and holds.
+ghost use Rattle.std.specs.Prelude.{◌≡◌, false, length, IfOk};
+ghost use Rattle.sqlite.specs.Held.{state};
+ghost use Rattle.holddata.specs.HoldBook.{IsInKeyOrder};
+ghost use Rattle.catalogue.specs.Content.{holds_on, ids_of, record_of, superseders};
+ghost use Rattle.catalogue.specs.Ids.{Ascend};
+ghost use Rattle.sql_state.specs.Reading.{Finds};
+ghost use Rattle.sql_tables.specs.Stored.{sup_of, tables_of};
+
+use crate::rows::rows_of;
+use crate::values::id_of;
+use crate::{ReadFault, found};
+use catalogue::{Ids, Sysmod};
+use holddata::Hold;
+use mcs_reader::Id;
+use sql_texts::read;
+use sqlite::{Alter, Connection};
+use std::alloc::Global;
+
+/// The ids of all SYSMODs that are catalogued, ascending.
+///
+/// # Errors
+///
+/// Those of [`ReadFault`].
+pub fn ids<S: Alter>(alloc: Global, conn: &mut Connection<S>) -> Result<Vec<Id>, ReadFault>
+    requires rest { conn.old.in_transaction ≡ false }
+    ensures mode { conn.new.in_transaction ≡ false }
+    ensures finds { Finds (state S.Store conn.old) (state S.Store conn.new) result
+        (λ stored ids. ids.items ≡ ids_of (tables_of stored).content) }
+    ensures ascend { IfOk result (λ ids. Ascend ids.items) }
+{
+    let rows = rows_of(conn, read::sysmod_ids(), &[])?;
+    found::id_list(alloc, rows.as_slice())
+}
+
+/// The record of a SYSMOD, or `None` where it isn't catalogued.
+///
+/// # Errors
+///
+/// Those of [`ReadFault`].
+pub fn sysmod<S: Alter>(
+    alloc: Global,
+    conn: &mut Connection<S>,
+    id: &Id,
+) -> Result<Option<Sysmod>, ReadFault>
+    requires rest { conn.old.in_transaction ≡ false }
+    ensures mode { conn.new.in_transaction ≡ false }
+    ensures finds { Finds (state S.Store conn.old) (state S.Store conn.new) result
+        (λ stored found. found ≡ record_of (tables_of stored).content id.now) }
+{
+    let sup = superseded(alloc, conn, id)?;
+    with_superseded(alloc, conn, id, sup)
+}
+
+// What a SYSMOD supersedes, by the rows of its id.
+fn superseded<S: Alter>(alloc: Global, conn: &mut Connection<S>, id: &Id) -> Result<Ids, ReadFault>
+    requires rest { conn.old.in_transaction ≡ false }
+    ensures mode { conn.new.in_transaction ≡ false }
+    ensures finds { Finds (state S.Store conn.old) (state S.Store conn.new) result (λ stored sup. sup ≡ sup_of stored.sups id.now) }
+{
+    let params = [id_of(id)];
+    let rows = rows_of(conn, read::superseded(), &params)?;
+    found::ascending_ids(alloc, rows.as_slice())
+}
+
+// The record of a SYSMOD that supersedes these.
+fn with_superseded<S: Alter>(
+    alloc: Global,
+    conn: &mut Connection<S>,
+    id: &Id,
+    sup: Ids,
+) -> Result<Option<Sysmod>, ReadFault>
+    requires rest { conn.old.in_transaction ≡ false }
+    ensures mode { conn.new.in_transaction ≡ false }
+    ensures finds { Finds (state S.Store conn.old) (state S.Store conn.new) result
+        (λ stored found. sup ≡ sup_of stored.sups id.now → found ≡ record_of (tables_of stored).content id.now) }
+{
+    let params = [id_of(id)];
+    let rows = rows_of(conn, read::sysmod(), &params)?;
+    found::sysmod(alloc, rows.as_slice(), sup)
+}
+
+/// The catalogued SYSMODs whose SUP names this one, ascending.
+///
+/// # Errors
+///
+/// Those of [`ReadFault`].
+pub fn superseders<S: Alter>(
+    alloc: Global,
+    conn: &mut Connection<S>,
+    id: &Id,
+) -> Result<Vec<Id>, ReadFault>
+    requires rest { conn.old.in_transaction ≡ false }
+    ensures mode { conn.new.in_transaction ≡ false }
+    ensures finds { Finds (state S.Store conn.old) (state S.Store conn.new) result
+        (λ stored ids. ids.items ≡ superseders (tables_of stored).content id.now) }
+    ensures ascend { IfOk result (λ ids. Ascend ids.items) }
+{
+    let params = [id_of(id)];
+    let rows = rows_of(conn, read::superseders(), &params)?;
+    found::id_list(alloc, rows.as_slice())
+}
+
+/// The holds on a SYSMOD, in the order of their keys.
+///
+/// # Errors
+///
+/// Those of [`ReadFault`].
+pub fn holds_on<S: Alter>(
+    alloc: Global,
+    conn: &mut Connection<S>,
+    id: &Id,
+) -> Result<Vec<Hold>, ReadFault>
+    requires rest { conn.old.in_transaction ≡ false }
+    ensures mode { conn.new.in_transaction ≡ false }
+    ensures finds { Finds (state S.Store conn.old) (state S.Store conn.new) result
+        (λ stored holds. holds.items ≡ holds_on (tables_of stored).content id.now) }
+    ensures in_key_order { IfOk result (λ holds. IsInKeyOrder holds.items) }
+{
+    let params = [id_of(id)];
+    let rows = rows_of(conn, read::holds_on(), &params)?;
+    found::holds(alloc, rows.as_slice())
+}
+
+/// How many SYSMODs are catalogued and how many holds the book has. It goes through all of them.
+///
+/// # Errors
+///
+/// Those of [`ReadFault`].
+pub fn counts<S: Alter>(conn: &mut Connection<S>) -> Result<(u64, u64), ReadFault>
+    requires rest { conn.old.in_transaction ≡ false }
+    ensures mode { conn.new.in_transaction ≡ false }
+    ensures finds { Finds (state S.Store conn.old) (state S.Store conn.new) result
+        (λ stored counts. (counts.0 ≡ length (tables_of stored).content.sysmods)
+        × (counts.1 ≡ length (tables_of stored).content.holds)) }
+{
+    let sysmods = sysmod_count(conn)?;
+    match hold_count(conn) {
+        Ok(holds) => Ok((sysmods, holds)),
+        Err(fault) => Err(fault),
+    }
+}
+
+fn sysmod_count<S: Alter>(conn: &mut Connection<S>) -> Result<u64, ReadFault>
+    requires rest { conn.old.in_transaction ≡ false }
+    ensures mode { conn.new.in_transaction ≡ false }
+    ensures finds { Finds (state S.Store conn.old) (state S.Store conn.new) result
+        (λ stored count. count ≡ length (tables_of stored).content.sysmods) }
+{
+    let rows = rows_of(conn, read::sysmod_count(), &[])?;
+    found::count(rows.as_slice())
+}
+
+fn hold_count<S: Alter>(conn: &mut Connection<S>) -> Result<u64, ReadFault>
+    requires rest { conn.old.in_transaction ≡ false }
+    ensures mode { conn.new.in_transaction ≡ false }
+    ensures finds { Finds (state S.Store conn.old) (state S.Store conn.new) result
+        (λ stored count. count ≡ length (tables_of stored).content.holds) }
+{
+    let rows = rows_of(conn, read::hold_count(), &[])?;
+    found::count(rows.as_slice())
+}

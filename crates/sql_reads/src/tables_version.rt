@@ -1,0 +1,39 @@
+//! The version of the tables.
+ghost use Rattle.std.specs.Prelude.{◌≡◌, IfOk, IfSome, IsTrue, false};
+ghost use Rattle.sqlite.specs.Held.{state};
+ghost use Rattle.sqlite.specs.State.{HasCleanDisk};
+ghost use Rattle.sql_reads.specs.Version.{HasVersion, Tells};
+ghost use Rattle.sql_state.specs.Reading.{OnlyReads};
+
+use crate::ReadFault;
+use crate::rows::rows_of;
+use sql_tables::count_in;
+use sql_texts::read;
+use sqlite::{Alter, Connection, Row};
+
+/// The version of the tables, or `None` where not one row tells it.
+///
+/// # Errors
+///
+/// Those of [`ReadFault`].
+pub fn version<S: Alter>(conn: &mut Connection<S>) -> Result<Option<u64>, ReadFault>
+    requires rest { conn.old.in_transaction ≡ false }
+    ensures mode { conn.new.in_transaction ≡ false }
+    ensures reads { OnlyReads (state S.Store conn.old) (state S.Store conn.new) }
+    ensures is_open { IfOk result (λ version. HasCleanDisk (state S.Store conn.new) → IsTrue (state S.Store conn.new).is_open) }
+    ensures version { IfOk result (λ version. IfSome version (λ number. HasCleanDisk (state S.Store conn.new)
+        → HasVersion number (state S.Store conn.old).committed)) }
+{
+    let rows = rows_of(conn, read::version(), &[])?;
+    Ok(told(rows.as_slice()))
+}
+
+// The number of the one row.
+fn told(rows: &[Row]) -> Option<u64>
+    ensures { IfSome result (λ number. Tells number rows.now) }
+{
+    match rows {
+        [row] => count_in(row),
+        _ => None,
+    }
+}

@@ -1,0 +1,4 @@
+pub mod Numbered
+pub mod Ours
+pub mod Reading
+pub mod Writing

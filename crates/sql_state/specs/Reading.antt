@@ -1,0 +1,18 @@
+-- What a read leaves of a connection, and what it tells.
+use Rattle.std.specs.Prelude.{IsTrue, Result, IfOk}
+use Rattle.sqlite.specs.State.{HasCleanDisk, KeepsCommit, State, Survives}
+use Rattle.sql_tables.specs.Stored.{Stored}
+use Rattle.sql_state.specs.Ours.{IsOurs, held_by}
+
+module _ (old new : State) where
+  -- nothing is committed, and a stop leaves what it would have left
+  pub record OnlyReads : Type 0 where
+    pub keeps : HasCleanDisk new → KeepsCommit old new
+    pub survives : Survives old new (λ trees. ⊥)
+
+  -- A read of a connection at rest. What it tells, it tells of the rows that are committed, in a database of ours, of a
+  -- connection that is open after it.
+  pub record Finds {Answer Fault : Type 0} (result : Result Answer Fault) (Fact : Stored → Answer → Type 0) : Type 0 where
+    pub reads : OnlyReads
+    pub is_open : IfOk result (λ answer. HasCleanDisk new → IsTrue new.is_open)
+    pub told : IfOk result (λ answer. HasCleanDisk new → IsOurs old.committed → Fact (held_by old.committed) answer)

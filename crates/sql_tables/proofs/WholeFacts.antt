@@ -1,0 +1,343 @@
+-- Each change leaves rows whole.
+use Rattle.std.proofs.Common.{◌≡◌, ◌≢◌, ℕ, Bool, true, false, cond, ◌&&◌, ◌||◌, List, [], ◌∷◌, ◌++◌, refl, sym, ◌∙◌, ap}
+use Rattle.std.specs.Prelude.{filter, fold, map, not, take, Some}
+use Rattle.std.specs.List.{AllByRecursion, list_any, list_all}
+use Rattle.std.specs.List.Sorted.{IsStrictlySortedBy}
+use Rattle.std.specs.declared.cmp.Ordering.TheVariants.{Less}
+use Rattle.mcs_reader.specs.Id.{IsId}
+use Rattle.holddata.specs.declared.hold.HoldChange.TheVariants.{Put, Release}
+use Rattle.holddata.specs.declared.key.HoldKey.{HoldKey}
+use Rattle.catalogue.specs.Ids.{id_cmp, same_id}
+use Rattle.catalogue.specs.declared.change.Change.{Change}
+use Rattle.catalogue.specs.declared.change.Change.TheVariants.{Whole, OfHold}
+use Rattle.catalogue.proofs.IdFacts.{apart, itself}
+use Rattle.zone_lists.specs.Pattern.{is_pattern}
+use Rattle.zone_lists.specs.ZoneList.{RowsAscend}
+use Rattle.zone_lists.specs.declared.zones.ZoneRow.{ZoneRow}
+use Rattle.bureau_store.specs.Effect.{Effect, publication, zone_put, zone_dropped, received_put, patterns_put}
+use Rattle.bureau_store.specs.Tables.{LastChange}
+use Rattle.bureau_store.specs.declared.caller.Caller.{Caller}
+use Rattle.bureau_store.specs.declared.caller.Caller.TheVariants.{Publisher, Client}
+use Rattle.bureau_store.specs.declared.caller.CallerRow.{CallerRow}
+use Rattle.sqlite_value.specs.Order.{Row, column}
+use Rattle.sql_tables.specs.Changes.{heads_after, is_kind, is_under, published, replaced, rows_after, stored_after}
+use Rattle.sql_tables.specs.Fit.{CanBeWritten, IsFit, IsFitChange, IsHold, IsRecord}
+use Rattle.sql_tables.specs.Rows.{caller_row, head_row, hold_row, sup_row, sysmod_row, zone_row}
+use Rattle.sql_tables.specs.Stored.{Stored, is_named, is_of, is_of_both, opened}
+use Rattle.sql_tables.specs.Values.{id_in, id_value, state_value, texts_value}
+use Rattle.sql_tables.specs.Whole.{AreRowsOf, HaveOwnKeys, Head, IsHead, IsMember, IsPlace, IsWhole, member_row, row_of_head, row_of_place}
+use Rattle.sql_tables.proofs.ClientFacts.{made_here}
+use Rattle.sql_tables.proofs.ContentFacts.{key_itself, row_under}
+use Rattle.sql_tables.proofs.ValueFacts.{id_again, named_itself}
+
+-- ---- all of some rows
+
+pub all_filter : {X : Type 0} (P : X → Type 0) (test : X → Bool) (xs : List X) → AllByRecursion P xs → AllByRecursion P (filter test xs)
+all_filter P test [] all = tt
+all_filter P test (x ∷ xs) all = by (test x) (all_filter P test xs all.1)
+  where
+    by : (b : Bool) → AllByRecursion P (filter test xs) → AllByRecursion P (cond b (x ∷ filter test xs) (filter test xs))
+    by true rest = (all.0, rest)
+    by false rest = rest
+
+pub all_append : {X : Type 0} (P : X → Type 0) (xs ys : List X) → AllByRecursion P xs → AllByRecursion P ys → AllByRecursion P (xs ++ ys)
+all_append P [] ys first second = second
+all_append P (x ∷ xs) ys first second = (first.0, all_append P xs ys first.1 second)
+
+pub all_map : {X Y : Type 0} (P : Y → Type 0) (f : X → Y) (xs : List X) → AllByRecursion (λ x. P (f x)) xs → AllByRecursion P (map f xs)
+all_map P f [] all = tt
+all_map P f (x ∷ xs) all = (all.0, all_map P f xs all.1)
+
+-- one fact of each from another
+pub all_from : {X : Type 0} (P Q : X → Type 0) → ((x : X) → P x → Q x) → (xs : List X) → AllByRecursion P xs → AllByRecursion Q xs
+all_from P Q step [] all = tt
+all_from P Q step (x ∷ xs) all = (step x all.0, all_from P Q step xs all.1)
+
+-- what a filter keeps passes its test
+all_kept : (P : Row → Type 0) (test : Row → Bool) → ((row : Row) → test row ≡ true → P row) → (rows : List Row) → AllByRecursion P (filter test rows)
+all_kept P test step [] = tt
+all_kept P test step (row ∷ rows) = by (test row) refl (all_kept P test step rows)
+  where
+    by : (b : Bool) → test row ≡ b → AllByRecursion P (filter test rows) → AllByRecursion P (cond b (row ∷ filter test rows) (filter test rows))
+    by true at rest = (step row at, rest)
+    by false at rest = rest
+
+written_again : {X : Type 0} (row_of : X → Row) (Fits : X → Type 0) (test : Row → Bool) (news rows : List Row)
+    → AreRowsOf row_of Fits rows → AreRowsOf row_of Fits news → AreRowsOf row_of Fits (replaced test news rows)
+written_again row_of Fits test news rows olds new =
+    all_append (λ row. (x : _) × Fits x × (row ≡ row_of x)) (filter (λ row. not (test row)) rows) news
+    (all_filter (λ row. (x : _) × Fits x × (row ≡ row_of x)) (λ row. not (test row)) rows olds) new
+
+-- ---- keys
+
+pub own_filtered : (columns : ℕ) (test : Row → Bool) (rows : List Row) → HaveOwnKeys columns rows → HaveOwnKeys columns (filter test rows)
+own_filtered columns test [] own = tt
+own_filtered columns test (row ∷ rows) own = by (test row) (own_filtered columns test rows own.1)
+  where
+    by : (b : Bool) → HaveOwnKeys columns (filter test rows) → HaveOwnKeys columns (cond b (row ∷ filter test rows) (filter test rows))
+    by true rest = (all_filter (λ other. take columns row ≢ take columns other) test rows own.0, rest)
+    by false rest = rest
+
+own_appended : (columns : ℕ) (rows news : List Row) → HaveOwnKeys columns rows → HaveOwnKeys columns news
+    → AllByRecursion (λ row. AllByRecursion (λ new. take columns row ≢ take columns new) news) rows → HaveOwnKeys columns (rows ++ news)
+own_appended columns [] news own new differ = new
+own_appended columns (row ∷ rows) news own new differ = (
+  all_append (λ other. take columns row ≢ take columns other) rows news own.0 differ.0,
+  own_appended columns rows news own.1 new differ.1,
+)
+
+-- rows that a test fails, and rows that it passes, where it looks at the key alone
+differ_by : (columns : ℕ) (test : Row → Bool) → ((a b : Row) → take columns a ≡ take columns b → test a ≡ test b) → (row : Row) → test row ≡ false
+    → (news : List Row) → AllByRecursion (λ new. test new ≡ true) news → AllByRecursion (λ new. take columns row ≢ take columns new) news
+differ_by columns test alike row fails news pass =
+    all_from (λ new. test new ≡ true) (λ new. take columns row ≢ take columns new) (λ new at same. let e : false ≡ true = sym fails ∙ alike row new same ∙ at in absurd (cc)) news pass
+
+own_replaced : (columns : ℕ) (test : Row → Bool) → ((a b : Row) → take columns a ≡ take columns b → test a ≡ test b) → (news rows : List Row)
+    → AllByRecursion (λ new. test new ≡ true) news → HaveOwnKeys columns news → HaveOwnKeys columns rows → HaveOwnKeys columns (replaced test news rows)
+own_replaced columns test alike news rows pass new own =
+    own_appended columns (filter (λ row. not (test row)) rows) news (own_filtered columns (λ row. not (test row)) rows own) new
+    (all_kept (λ row. AllByRecursion (λ n. take columns row ≢ take columns n) news) (λ row. not (test row)) (λ row at. differ_by columns test alike row (off (test row) at) news pass) rows)
+  where
+    off : (b : Bool) → not b ≡ true → b ≡ false
+    off true h = cc
+    off false h = refl
+
+-- which columns a key has
+first_of : (row : Row) → column (take 1 row) 0 ≡ column row 0
+first_of [] = refl
+first_of (a ∷ row) = refl
+
+first_of_two : (row : Row) → column (take 2 row) 0 ≡ column row 0
+first_of_two [] = refl
+first_of_two (a ∷ row) = refl
+
+second_of_two : (row : Row) → column (take 2 row) 1 ≡ column row 1
+second_of_two [] = refl
+second_of_two (a ∷ []) = refl
+second_of_two (a ∷ b ∷ row) = refl
+
+first_of_three : (row : Row) → column (take 3 row) 0 ≡ column row 0
+first_of_three [] = refl
+first_of_three (a ∷ row) = refl
+
+second_of_three : (row : Row) → column (take 3 row) 1 ≡ column row 1
+second_of_three [] = refl
+second_of_three (a ∷ []) = refl
+second_of_three (a ∷ b ∷ row) = refl
+
+third_of_three : (row : Row) → column (take 3 row) 2 ≡ column row 2
+third_of_three [] = refl
+third_of_three (a ∷ []) = refl
+third_of_three (a ∷ b ∷ []) = refl
+third_of_three (a ∷ b ∷ c ∷ row) = refl
+
+same_column : (columns at : ℕ) → ((row : Row) → column (take columns row) at ≡ column row at) → (a b : Row) → take columns a ≡ take columns b → column a at ≡ column b at
+same_column columns at is a b same = sym (is a) ∙ ap (λ key. column key at) same ∙ is b
+
+by_id : (id : List ℕ) (a b : Row) → take 1 a ≡ take 1 b → is_of id a ≡ is_of id b
+by_id id a b same = ap (is_named id) (same_column 1 0 first_of a b same)
+
+by_zone : (client zone : List ℕ) (a b : Row) → take 2 a ≡ take 2 b → is_of_both client zone a ≡ is_of_both client zone b
+by_zone client zone a b same =
+    ap (λ v. is_named client v && is_named zone (column a 1)) (same_column 2 0 first_of_two a b same)
+    ∙ ap (λ v. is_named client (column b 0) && is_named zone v) (same_column 2 1 second_of_two a b same)
+
+by_place : (client zone : List ℕ) (a b : Row) → take 3 a ≡ take 3 b → is_of_both client zone a ≡ is_of_both client zone b
+by_place client zone a b same =
+    ap (λ v. is_named client v && is_named zone (column a 1)) (same_column 3 0 first_of_three a b same)
+    ∙ ap (λ v. is_named client (column b 0) && is_named zone v) (same_column 3 1 second_of_three a b same)
+
+by_hold : (key : HoldKey) (a b : Row) → take 3 a ≡ take 3 b → is_under key a ≡ is_under key b
+by_hold key a b same =
+    ap (λ v. is_named key.sysmod v && (is_kind key.kind (column a 1) && is_named key.reason (column a 2))) (same_column 3 0 first_of_three a b same)
+    ∙ ap (λ v. is_named key.sysmod (column b 0) && (is_kind key.kind v && is_named key.reason (column a 2))) (same_column 3 1 second_of_three a b same)
+    ∙ ap (λ v. is_named key.sysmod (column b 0) && (is_kind key.kind (column b 1) && is_named key.reason v)) (same_column 3 2 third_of_three a b same)
+
+-- ---- a publication
+
+one_whole : (change : Change) (stored : Stored) → IsFitChange change → IsWhole stored → IsWhole (published stored change)
+one_whole (Whole x) stored fit whole = record {
+  callers = whole.callers;
+  sysmods = written_again sysmod_row IsRecord (is_of x.id) (sysmod_row x ∷ []) stored.sysmods whole.sysmods ((x, fit, refl), tt);
+  sysmod_keys = own_replaced 1 (is_of x.id) (by_id x.id) (sysmod_row x ∷ []) stored.sysmods (named_itself x.id fit.id, tt) (tt, tt) whole.sysmod_keys;
+  sups = written_again member_row IsMember (is_of x.id) (map (sup_row x.id) x.sup) stored.sups whole.sups (members x.sup fit.sup);
+  holds = whole.holds;
+  hold_keys = whole.hold_keys;
+  heads = whole.heads;
+  head_keys = whole.head_keys;
+  rows = whole.rows;
+  row_keys = whole.row_keys;
+}
+  where
+    members : (sup : List (List ℕ)) → AllByRecursion IsId sup → AreRowsOf member_row IsMember (map (sup_row x.id) sup)
+    members [] all = tt
+    members (id ∷ sup) all = ((record { id = x.id; member = id }, (fit.id, all.0), refl), members sup all.1)
+one_whole (OfHold (Put hold)) stored fit whole = record {
+  callers = whole.callers;
+  sysmods = whole.sysmods;
+  sysmod_keys = whole.sysmod_keys;
+  sups = whole.sups;
+  holds = written_again hold_row IsHold (is_under hold.key) (hold_row hold ∷ []) stored.holds whole.holds ((hold, fit, refl), tt);
+  hold_keys = own_replaced 3 (is_under hold.key) (by_hold hold.key) (hold_row hold ∷ []) stored.holds (row_under hold fit hold.key ∙ key_itself hold.key, tt) (tt, tt) whole.hold_keys;
+  heads = whole.heads;
+  head_keys = whole.head_keys;
+  rows = whole.rows;
+  row_keys = whole.row_keys;
+}
+one_whole (OfHold (Release key)) stored fit whole = record {
+  callers = whole.callers;
+  sysmods = whole.sysmods;
+  sysmod_keys = whole.sysmod_keys;
+  sups = whole.sups;
+  holds = written_again hold_row IsHold (is_under key) [] stored.holds whole.holds tt;
+  hold_keys = own_replaced 3 (is_under key) (by_hold key) [] stored.holds tt tt whole.hold_keys;
+  heads = whole.heads;
+  head_keys = whole.head_keys;
+  rows = whole.rows;
+  row_keys = whole.row_keys;
+}
+
+all_whole : (changes : List Change) (stored : Stored) → AllByRecursion IsFitChange changes → IsWhole stored → IsWhole (fold published stored changes)
+all_whole [] stored fit whole = whole
+all_whole (change ∷ changes) stored fit whole = all_whole changes (published stored change) fit.1 (one_whole change stored fit.0 whole)
+
+-- ---- a client's changes
+
+module _ (client : List ℕ) (is_client : IsId client) where
+  head_written : (zone : List ℕ) (patterns : List (List ℕ)) → IsId zone → list_all is_pattern patterns ≡ true → AreRowsOf row_of_head IsHead (head_row client zone patterns ∷ [])
+  head_written zone patterns is fit = ((record { client = client; zone = zone; patterns = patterns }, (is_client, is, fit), refl), tt)
+
+  heads_written : (e : Effect) (heads : List Row) → IsFit e → AreRowsOf row_of_head IsHead heads → AreRowsOf row_of_head IsHead (heads_after client e heads)
+  heads_written (publication changes) heads fit all = all
+  heads_written (zone_put zone rows) heads fit all = by (list_any (is_of_both client zone) heads)
+    where
+      by : (b : Bool) → AreRowsOf row_of_head IsHead (cond b heads (heads ++ head_row client zone [] ∷ []))
+      by true = all
+      by false = all_append (λ row. (x : Head) × IsHead x × (row ≡ row_of_head x)) heads (head_row client zone [] ∷ []) all (head_written zone [] fit.0 refl)
+  heads_written (zone_dropped zone) heads fit all = written_again row_of_head IsHead (is_of_both client zone) [] heads all tt
+  heads_written (received_put ids) heads fit all = all
+  heads_written (patterns_put zone patterns) heads fit all =
+      written_again row_of_head IsHead (is_of_both client zone) (head_row client zone patterns ∷ []) heads all (head_written zone patterns fit.0 fit.1)
+
+  -- rows none of which passes a test
+  none_pass : (test : Row → Bool) (rows : List Row) → list_any test rows ≡ false → AllByRecursion (λ row. test row ≡ false) rows
+  none_pass test [] none = tt
+  none_pass test (row ∷ rows) none = by (test row) refl none (none_pass test rows)
+    where
+      by : (b : Bool) → test row ≡ b → (b || list_any test rows) ≡ false → (list_any test rows ≡ false → AllByRecursion (λ r. test r ≡ false) rows)
+          → AllByRecursion (λ r. test r ≡ false) (row ∷ rows)
+      by true at h rest = cc
+      by false at h rest = (at, rest h)
+
+  heads_own : (e : Effect) (heads : List Row) → IsFit e → HaveOwnKeys 2 heads → HaveOwnKeys 2 (heads_after client e heads)
+  heads_own (publication changes) heads fit own = own
+  heads_own (zone_put zone rows) heads fit own = by (list_any (is_of_both client zone) heads) refl
+    where
+      by : (b : Bool) → list_any (is_of_both client zone) heads ≡ b → HaveOwnKeys 2 (cond b heads (heads ++ head_row client zone [] ∷ []))
+      by true at = own
+      by false at =
+          own_appended 2 heads (head_row client zone [] ∷ []) own (tt, tt)
+          (all_from (λ row. is_of_both client zone row ≡ false) (λ row. AllByRecursion (λ new. take 2 row ≢ take 2 new) (head_row client zone [] ∷ []))
+          (λ row fails. differ_by 2 (is_of_both client zone) (by_zone client zone) row fails (head_row client zone [] ∷ []) (made_here client zone is_client fit.0 (texts_value [] ∷ []), tt)) heads
+          (none_pass (is_of_both client zone) heads at))
+  heads_own (zone_dropped zone) heads fit own = own_replaced 2 (is_of_both client zone) (by_zone client zone) [] heads tt tt own
+  heads_own (received_put ids) heads fit own = own
+  heads_own (patterns_put zone patterns) heads fit own =
+      own_replaced 2 (is_of_both client zone) (by_zone client zone) (head_row client zone patterns ∷ []) heads
+      (made_here client zone is_client fit.0 (texts_value patterns ∷ []), tt) (tt, tt) own
+
+  places_written : (zone : List ℕ) (rows : List ZoneRow) → IsId zone → AllByRecursion (λ (row : ZoneRow). IsId row.sysmod) rows → AreRowsOf row_of_place IsPlace (map (zone_row client zone) rows)
+  places_written zone [] is all = tt
+  places_written zone (row ∷ rows) is all = ((record { client = client; zone = zone; row = row }, (is_client, is, all.0), refl), places_written zone rows is all.1)
+
+  rows_written : (e : Effect) (rows : List Row) → IsFit e → AreRowsOf row_of_place IsPlace rows → AreRowsOf row_of_place IsPlace (rows_after client e rows)
+  rows_written (publication changes) rows fit all = all
+  rows_written (zone_put zone news) rows fit all =
+      written_again row_of_place IsPlace (is_of_both client zone) (map (zone_row client zone) news) rows all (places_written zone news fit.0 fit.1.ids)
+  rows_written (zone_dropped zone) rows fit all = written_again row_of_place IsPlace (is_of_both client zone) [] rows all tt
+  rows_written (received_put ids) rows fit all = all
+  rows_written (patterns_put zone patterns) rows fit all = all
+
+  -- SYSMODs that ascend have keys of their own
+  later_differ : (zone : List ℕ) (row : ZoneRow) (rows : List ZoneRow) → IsId row.sysmod → AllByRecursion (λ (r : ZoneRow). IsId r.sysmod) rows
+      → AllByRecursion (λ k. id_cmp row.sysmod k ≡ Less) (map (λ (r : ZoneRow). r.sysmod) rows)
+      → AllByRecursion (λ other. take 3 (zone_row client zone row) ≢ take 3 other) (map (zone_row client zone) rows)
+  later_differ zone row [] is all below = tt
+  later_differ zone row (next ∷ rows) is all below = (one, later_differ zone row rows is all.1 below.1)
+    where
+      one : take 3 (zone_row client zone row) ≢ take 3 (zone_row client zone next)
+      one same =
+          let third : id_value row.sysmod ≡ id_value next.sysmod = ap (λ key. column key 2) same in
+          let e : Some row.sysmod ≡ Some next.sysmod = sym (id_again row.sysmod is) ∙ ap id_in third ∙ id_again next.sysmod all.0 in
+          let k : row.sysmod ≡ next.sysmod = cc in
+          let f : true ≡ false = sym (itself row.sysmod) ∙ ap (same_id row.sysmod) k ∙ apart row.sysmod next.sysmod below.0 in absurd (cc)
+
+  put_own : (zone : List ℕ) (rows : List ZoneRow) → AllByRecursion (λ (row : ZoneRow). IsId row.sysmod) rows → RowsAscend rows → HaveOwnKeys 3 (map (zone_row client zone) rows)
+  unfolding IsStrictlySortedBy
+  put_own zone [] all ascend = tt
+  put_own zone (row ∷ rows) all ascend = (later_differ zone row rows all.0 all.1 ascend.0, put_own zone rows all.1 ascend.1)
+
+  put_here : (zone : List ℕ) (rows : List ZoneRow) → IsId zone → AllByRecursion (λ new. is_of_both client zone new ≡ true) (map (zone_row client zone) rows)
+  put_here zone [] is = tt
+  put_here zone (row ∷ rows) is = (made_here client zone is_client is (id_value row.sysmod ∷ state_value row.state ∷ []), put_here zone rows is)
+
+  rows_own : (e : Effect) (rows : List Row) → IsFit e → HaveOwnKeys 3 rows → HaveOwnKeys 3 (rows_after client e rows)
+  rows_own (publication changes) rows fit own = own
+  rows_own (zone_put zone news) rows fit own =
+      own_replaced 3 (is_of_both client zone) (by_place client zone) (map (zone_row client zone) news) rows (put_here zone news fit.0) (put_own zone news fit.1.ids fit.1.ascend) own
+  rows_own (zone_dropped zone) rows fit own = own_replaced 3 (is_of_both client zone) (by_place client zone) [] rows tt tt own
+  rows_own (received_put ids) rows fit own = own
+  rows_own (patterns_put zone patterns) rows fit own = own
+
+-- ---- each change
+
+pub whole_after : (caller : Caller) (e : Effect) (last : LastChange) (stored : Stored) → CanBeWritten caller e → IsWhole stored → IsWhole (stored_after caller e last stored)
+whole_after Publisher (publication changes) last stored can whole =
+    let left = all_whole changes stored can.fit whole in
+    record {
+      callers = left.callers;
+      sysmods = left.sysmods;
+      sysmod_keys = left.sysmod_keys;
+      sups = left.sups;
+      holds = left.holds;
+      hold_keys = left.hold_keys;
+      heads = left.heads;
+      head_keys = left.head_keys;
+      rows = left.rows;
+      row_keys = left.row_keys;
+    }
+whole_after Publisher (zone_put zone rows) last stored can whole = absurd can.own
+whole_after Publisher (zone_dropped zone) last stored can whole = absurd can.own
+whole_after Publisher (received_put ids) last stored can whole = absurd can.own
+whole_after Publisher (patterns_put zone patterns) last stored can whole = absurd can.own
+whole_after (Client client) e last stored can whole = record {
+  callers = whole.callers;
+  sysmods = whole.sysmods;
+  sysmod_keys = whole.sysmod_keys;
+  sups = whole.sups;
+  holds = whole.holds;
+  hold_keys = whole.hold_keys;
+  heads = heads_written client can.named.0 e stored.heads can.fit whole.heads;
+  head_keys = heads_own client can.named.0 e stored.heads can.fit whole.head_keys;
+  rows = rows_written client can.named.0 e stored.rows can.fit whole.rows;
+  row_keys = rows_own client can.named.0 e stored.rows can.fit whole.row_keys;
+}
+
+-- before the first change
+pub whole_opened : (rows : List CallerRow) → AllByRecursion (λ (row : CallerRow). IsId row.name) rows → IsWhole (opened (map caller_row rows))
+whole_opened rows all = record {
+  callers = callers rows all;
+  sysmods = tt;
+  sysmod_keys = tt;
+  sups = tt;
+  holds = tt;
+  hold_keys = tt;
+  heads = tt;
+  head_keys = tt;
+  rows = tt;
+  row_keys = tt;
+}
+  where
+    callers : (them : List CallerRow) → AllByRecursion (λ (row : CallerRow). IsId row.name) them → AreRowsOf caller_row (λ (caller : CallerRow). IsId caller.name) (map caller_row them)
+    callers [] h = tt
+    callers (caller ∷ them) h = ((caller, h.0, refl), callers them h.1)

@@ -1,0 +1,69 @@
+-- Rows that the bureau wrote: each is the row of one thing that is fit to be written, and no two rows of a table
+-- have the same key.
+use Rattle.std.specs.Prelude.{◌≡◌, ◌≢◌, ℕ, true, List, [], ◌∷◌, take}
+use Rattle.std.specs.List.{AllByRecursion, list_all}
+use Rattle.mcs_reader.specs.Id.{IsId}
+use Rattle.zone_lists.specs.Pattern.{is_pattern}
+use Rattle.zone_lists.specs.declared.zones.ZoneRow.{ZoneRow}
+use Rattle.bureau_store.specs.declared.caller.CallerRow.{CallerRow}
+use Rattle.sqlite_value.specs.Order.{Row}
+use Rattle.sql_tables.specs.Fit.{IsHold, IsRecord}
+use Rattle.sql_tables.specs.Rows.{caller_row, head_row, hold_row, sup_row, sysmod_row, zone_row}
+use Rattle.sql_tables.specs.Stored.{Stored}
+
+-- each row is the row of something fit
+abbrev pub AreRowsOf : {X : Type 0} → (X → Row) → (X → Type 0) → List Row → Type 0
+AreRowsOf {X} row_of Fits rows = AllByRecursion (λ row. (x : X) × Fits x × (row ≡ row_of x)) rows
+
+-- no two rows have the same first columns, of which there are so many
+abbrev pub HaveOwnKeys : ℕ → List Row → Type 0
+HaveOwnKeys columns [] = Unit {0}
+HaveOwnKeys columns (row ∷ rows) =
+    AllByRecursion (λ other. take columns row ≢ take columns other) rows × HaveOwnKeys columns rows
+
+-- what a record supersedes: its id and the other's
+pub record Member : Type 0 where
+  pub id : List ℕ
+  pub member : List ℕ
+
+abbrev pub member_row : Member → Row
+member_row member = sup_row member.id member.member
+
+abbrev pub IsMember : Member → Type 0
+IsMember member = IsId member.id × IsId member.member
+
+-- a zone of a client, with the patterns that are asked for
+pub record Head : Type 0 where
+  pub client : List ℕ
+  pub zone : List ℕ
+  pub patterns : List (List ℕ)
+
+abbrev pub row_of_head : Head → Row
+row_of_head head = head_row head.client head.zone head.patterns
+
+abbrev pub IsHead : Head → Type 0
+IsHead head = IsId head.client × IsId head.zone × (list_all is_pattern head.patterns ≡ true)
+
+-- a SYSMOD of a client's zone
+pub record Place : Type 0 where
+  pub client : List ℕ
+  pub zone : List ℕ
+  pub row : ZoneRow
+
+abbrev pub row_of_place : Place → Row
+row_of_place place = zone_row place.client place.zone place.row
+
+abbrev pub IsPlace : Place → Type 0
+IsPlace place = IsId place.client × IsId place.zone × IsId place.row.sysmod
+
+pub record IsWhole (stored : Stored) : Type 0 where
+  pub callers : AreRowsOf caller_row (λ (caller : CallerRow). IsId caller.name) stored.callers
+  pub sysmods : AreRowsOf sysmod_row IsRecord stored.sysmods
+  pub sysmod_keys : HaveOwnKeys 1 stored.sysmods
+  pub sups : AreRowsOf member_row IsMember stored.sups
+  pub holds : AreRowsOf hold_row IsHold stored.holds
+  pub hold_keys : HaveOwnKeys 3 stored.holds
+  pub heads : AreRowsOf row_of_head IsHead stored.heads
+  pub head_keys : HaveOwnKeys 2 stored.heads
+  pub rows : AreRowsOf row_of_place IsPlace stored.rows
+  pub row_keys : HaveOwnKeys 3 stored.rows

@@ -1,0 +1,146 @@
+-- What a statement that inserts makes of the rows of its table.
+use Rattle.std.proofs.Common.{◌≡◌, ℕ, pos, List, [], ◌∷◌, Option, Some, None, Result, refl, ◌∙◌, ap, subst, arith}
+use Rattle.holddata.specs.HoldKey.{kind_place}
+use Rattle.holddata.specs.declared.hold.Hold.{Hold}
+use Rattle.catalogue.specs.declared.sysmod.Sysmod.{Sysmod}
+use Rattle.zone_lists.specs.declared.zones.ZoneRow.{ZoneRow}
+use Rattle.bureau_store.specs.Tables.{LastChange}
+use Rattle.bureau_store.specs.declared.caller.CallerRow.{CallerRow}
+use Rattle.sqlite.specs.Cast.{cast}
+use Rattle.sqlite.specs.Edit.{next_rowid}
+use Rattle.sqlite.specs.Kind.TheVariants as kind
+use Rattle.sqlite.specs.State.{HasCleanDisk, State}
+use Rattle.sqlite.specs.Values.{bound, bound_value}
+use Rattle.sqlite.specs.declared.types.Value.TheVariants.{Int, Text, Blob}
+use Rattle.sqlite_value.specs.Value.{owned}
+use Rattle.sqlite_value.specs.declared.value.ValueRef.{ValueRef}
+use Rattle.sql_texts.specs.Meaning.{Means}
+use Rattle.sql_texts.specs.Schema as schema
+use Rattle.sql_texts.specs.Schema.{bureau}
+use Rattle.sql_texts.specs.Writes.{insert_given}
+use Rattle.sql_tables.specs.Rows.{caller_row, change_row, head_row, hold_row, received_row, sup_row, sysmod_row, zone_row}
+use Rattle.sql_tables.specs.Values.{date_value, hold_kind_value, id_value, ids_value, optional_id_value, state_place, state_value, sysmod_kind_place, sysmod_kind_value, texts_value}
+use Rattle.sql_state.specs.Ours.{held_by}
+use Rattle.sql_state.specs.Writing.{Changes}
+use Rattle.sql_writes.specs.Parts.{with_callers, with_head, with_hold, with_last, with_received, with_rows, with_sups, with_sysmod}
+use Rattle.sql_writes.specs.Running.{Ran}
+use Rattle.sql_writes.proofs.ChangeFacts.{changed_by}
+use Rattle.sql_writes.proofs.StatementFacts.{cast_int, cast_null, inserts}
+use Rattle.sql_writes.proofs.StoredFacts.{callers_set, changes_set, come, heads_set, holds_set, known_after, received_set, rows_set, sups_set, sysmods_set}
+
+-- ---- a value is of its column's type already
+
+cast_optional : (id : Option (List ℕ)) → cast kind.Text (optional_id_value id) ≡ optional_id_value id
+cast_optional None = refl
+cast_optional (Some id) = refl
+
+cast_date : (date : Option ℕ) → cast kind.Integer (date_value date) ≡ date_value date
+cast_date None = cast_int _
+cast_date (Some number) = cast_int (pos number)
+
+bound_optional : (id : Option (List ℕ)) → bound_value (optional_id_value id) ≡ optional_id_value id
+bound_optional None = refl
+bound_optional (Some id) = refl
+
+bound_date : (date : Option ℕ) → bound_value (date_value date) ≡ date_value date
+bound_date None = refl
+bound_date (Some number) = refl
+
+-- ---- one row each
+
+module _ {A F : Type 0} (old new : State) (text : List ℕ) (result : Result A F) where
+  pub callers_come : (row : CallerRow) (a b : ValueRef) → owned a ≡ id_value row.name → owned b ≡ Text row.token
+      → (HasCleanDisk old → Means bureau text (insert_given 1 2) 2) → Ran text (bound (a ∷ b ∷ [])) old new result → Changes old new result (with_callers (row ∷ []))
+  callers_come row a b at_a at_b means ran =
+      let rows = old.now.trees 1 in
+      let values = caller_row row in
+      changed_by old new text values result (with_callers (row ∷ [])) (subst (λ row. Ran text row old new result) (λ i. bound_value (at_a i) ∷ bound_value (at_b i) ∷ []) ran) (λ clean count known executes.
+      let set = inserts text 1 schema.caller 2 values values old new count (means clean) refl refl refl (λ i. cast_null i ∷ caller_row row) known.schema known.numbered.1.0 executes in (
+        known_after 1 _ old.now new.now known.numbered set,
+        callers_set _ old.now new.now set ∙ ap (λ all. record (held_by old.now) { callers = all }) (come rows (Int (next_rowid rows) ∷ values)),
+        set.others.0 (λ e. omega (arith, e)),
+      ))
+
+  pub changes_come : (name : List ℕ) (last : LastChange) (a b c : ValueRef) → owned a ≡ id_value name → owned b ≡ Int (pos last.number) → owned c ≡ Blob last.reply
+      → (HasCleanDisk old → Means bureau text (insert_given 2 3) 3) → Ran text (bound (a ∷ b ∷ c ∷ [])) old new result → Changes old new result (with_last name last)
+  changes_come name last a b c at_a at_b at_c means ran =
+      let rows = old.now.trees 4 in
+      let values = change_row name last in
+      changed_by old new text values result (with_last name last) (subst (λ row. Ran text row old new result) (λ i. bound_value (at_a i) ∷ bound_value (at_b i) ∷ bound_value (at_c i) ∷ []) ran) (λ clean count known executes.
+      let set = inserts text 2 schema.last_change 3 values values old new count (means clean) refl refl refl (λ i. cast_null i ∷ id_value name ∷ cast_int (pos last.number) i ∷ Blob last.reply ∷ []) known.schema known.numbered.1.1.0 executes in (
+        known_after 4 _ old.now new.now known.numbered set,
+        changes_set _ old.now new.now set ∙ ap (λ all. record (held_by old.now) { changes = all }) (come rows (Int (next_rowid rows) ∷ values)),
+        set.others.0 (λ e. omega (arith, e)),
+      ))
+
+  pub sysmods_come : (sysmod : Sysmod) (a b c d e : ValueRef) → owned a ≡ id_value sysmod.id → owned b ≡ sysmod_kind_value sysmod.kind → owned c ≡ ids_value sysmod.fmids → owned d ≡ ids_value sysmod.pre → owned e ≡ ids_value sysmod.req
+      → (HasCleanDisk old → Means bureau text (insert_given 3 5) 5) → Ran text (bound (a ∷ b ∷ c ∷ d ∷ e ∷ [])) old new result → Changes old new result (with_sysmod sysmod)
+  sysmods_come sysmod a b c d e at_a at_b at_c at_d at_e means ran =
+      let rows = old.now.trees 6 in
+      let values = sysmod_row sysmod in
+      changed_by old new text values result (with_sysmod sysmod) (subst (λ row. Ran text row old new result) (λ i. bound_value (at_a i) ∷ bound_value (at_b i) ∷ bound_value (at_c i) ∷ bound_value (at_d i) ∷ bound_value (at_e i) ∷ []) ran) (λ clean count known executes.
+      let set = inserts text 3 schema.sysmod 5 values values old new count (means clean) refl refl refl (λ i. cast_null i ∷ id_value sysmod.id ∷ cast_int (pos (sysmod_kind_place sysmod.kind)) i ∷ ids_value sysmod.fmids ∷ ids_value sysmod.pre ∷ ids_value sysmod.req ∷ []) known.schema known.numbered.1.1.1.0 executes in (
+        known_after 6 _ old.now new.now known.numbered set,
+        sysmods_set _ old.now new.now set ∙ ap (λ all. record (held_by old.now) { sysmods = all }) (come rows (Int (next_rowid rows) ∷ values)),
+        set.others.0 (λ e. omega (arith, e)),
+      ))
+
+  pub sups_come : (id : List ℕ) (member : List ℕ) (a b : ValueRef) → owned a ≡ id_value id → owned b ≡ id_value member
+      → (HasCleanDisk old → Means bureau text (insert_given 4 2) 2) → Ran text (bound (a ∷ b ∷ [])) old new result → Changes old new result (with_sups id (member ∷ []))
+  sups_come id member a b at_a at_b means ran =
+      let rows = old.now.trees 8 in
+      let values = sup_row id member in
+      changed_by old new text values result (with_sups id (member ∷ [])) (subst (λ row. Ran text row old new result) (λ i. bound_value (at_a i) ∷ bound_value (at_b i) ∷ []) ran) (λ clean count known executes.
+      let set = inserts text 4 schema.sysmod_sup 2 values values old new count (means clean) refl refl refl (λ i. cast_null i ∷ sup_row id member) known.schema known.numbered.1.1.1.1.0 executes in (
+        known_after 8 _ old.now new.now known.numbered set,
+        sups_set _ old.now new.now set ∙ ap (λ all. record (held_by old.now) { sups = all }) (come rows (Int (next_rowid rows) ∷ values)),
+        set.others.0 (λ e. omega (arith, e)),
+      ))
+
+  pub holds_come : (hold : Hold) (a b c d e f h k : ValueRef) → owned a ≡ id_value hold.key.sysmod → owned b ≡ hold_kind_value hold.key.kind → owned c ≡ id_value hold.key.reason → owned d ≡ optional_id_value hold.fmid → owned e ≡ optional_id_value hold.class → owned f ≡ date_value hold.dated → owned h ≡ optional_id_value hold.resolver → owned k ≡ texts_value hold.categories
+      → (HasCleanDisk old → Means bureau text (insert_given 5 8) 8) → Ran text (bound (a ∷ b ∷ c ∷ d ∷ e ∷ f ∷ h ∷ k ∷ [])) old new result → Changes old new result (with_hold hold)
+  holds_come hold a b c d e f h k at_a at_b at_c at_d at_e at_f at_h at_k means ran =
+      let rows = old.now.trees 11 in
+      let values = hold_row hold in
+      changed_by old new text values result (with_hold hold) (subst (λ row. Ran text row old new result) (λ i. bound_value (at_a i) ∷ bound_value (at_b i) ∷ bound_value (at_c i) ∷ (ap bound_value at_d ∙ bound_optional hold.fmid) i ∷ (ap bound_value at_e ∙ bound_optional hold.class) i ∷ (ap bound_value at_f ∙ bound_date hold.dated) i ∷ (ap bound_value at_h ∙ bound_optional hold.resolver) i ∷ bound_value (at_k i) ∷ []) ran) (λ clean count known executes.
+      let set = inserts text 5 schema.hold_row 8 values values old new count (means clean) refl refl refl (λ i. cast_null i ∷ id_value hold.key.sysmod ∷ cast_int (pos (kind_place hold.key.kind)) i ∷ id_value hold.key.reason ∷ cast_optional hold.fmid i ∷ cast_optional hold.class i ∷ cast_date hold.dated i ∷ cast_optional hold.resolver i ∷ texts_value hold.categories ∷ []) known.schema known.numbered.1.1.1.1.1.0 executes in (
+        known_after 11 _ old.now new.now known.numbered set,
+        holds_set _ old.now new.now set ∙ ap (λ all. record (held_by old.now) { holds = all }) (come rows (Int (next_rowid rows) ∷ values)),
+        set.others.0 (λ e. omega (arith, e)),
+      ))
+
+  pub heads_come : (client : List ℕ) (zone : List ℕ) (patterns : List (List ℕ)) (a b c : ValueRef) → owned a ≡ id_value client → owned b ≡ id_value zone → owned c ≡ texts_value patterns
+      → (HasCleanDisk old → Means bureau text (insert_given 6 3) 3) → Ran text (bound (a ∷ b ∷ c ∷ [])) old new result → Changes old new result (with_head client zone patterns)
+  heads_come client zone patterns a b c at_a at_b at_c means ran =
+      let rows = old.now.trees 13 in
+      let values = head_row client zone patterns in
+      changed_by old new text values result (with_head client zone patterns) (subst (λ row. Ran text row old new result) (λ i. bound_value (at_a i) ∷ bound_value (at_b i) ∷ bound_value (at_c i) ∷ []) ran) (λ clean count known executes.
+      let set = inserts text 6 schema.zone_head 3 values values old new count (means clean) refl refl refl (λ i. cast_null i ∷ head_row client zone patterns) known.schema known.numbered.1.1.1.1.1.1.0 executes in (
+        known_after 13 _ old.now new.now known.numbered set,
+        heads_set _ old.now new.now set ∙ ap (λ all. record (held_by old.now) { heads = all }) (come rows (Int (next_rowid rows) ∷ values)),
+        set.others.0 (λ e. omega (arith, e)),
+      ))
+
+  pub rows_come : (client : List ℕ) (zone : List ℕ) (row : ZoneRow) (a b c d : ValueRef) → owned a ≡ id_value client → owned b ≡ id_value zone → owned c ≡ id_value row.sysmod → owned d ≡ state_value row.state
+      → (HasCleanDisk old → Means bureau text (insert_given 7 4) 4) → Ran text (bound (a ∷ b ∷ c ∷ d ∷ [])) old new result → Changes old new result (with_rows client zone (row ∷ []))
+  rows_come client zone row a b c d at_a at_b at_c at_d means ran =
+      let rows = old.now.trees 15 in
+      let values = zone_row client zone row in
+      changed_by old new text values result (with_rows client zone (row ∷ [])) (subst (λ row. Ran text row old new result) (λ i. bound_value (at_a i) ∷ bound_value (at_b i) ∷ bound_value (at_c i) ∷ bound_value (at_d i) ∷ []) ran) (λ clean count known executes.
+      let set = inserts text 7 schema.zone_row 4 values values old new count (means clean) refl refl refl (λ i. cast_null i ∷ id_value client ∷ id_value zone ∷ id_value row.sysmod ∷ cast_int (pos (state_place row.state)) i ∷ []) known.schema known.numbered.1.1.1.1.1.1.1.0 executes in (
+        known_after 15 _ old.now new.now known.numbered set,
+        rows_set _ old.now new.now set ∙ ap (λ all. record (held_by old.now) { rows = all }) (come rows (Int (next_rowid rows) ∷ values)),
+        set.others.0 (λ e. omega (arith, e)),
+      ))
+
+  pub received_come : (client : List ℕ) (ids : List (List ℕ)) (a b : ValueRef) → owned a ≡ id_value client → owned b ≡ ids_value ids
+      → (HasCleanDisk old → Means bureau text (insert_given 8 2) 2) → Ran text (bound (a ∷ b ∷ [])) old new result → Changes old new result (with_received client ids)
+  received_come client ids a b at_a at_b means ran =
+      let rows = old.now.trees 17 in
+      let values = received_row client ids in
+      changed_by old new text values result (with_received client ids) (subst (λ row. Ran text row old new result) (λ i. bound_value (at_a i) ∷ bound_value (at_b i) ∷ []) ran) (λ clean count known executes.
+      let set = inserts text 8 schema.received_list 2 values values old new count (means clean) refl refl refl (λ i. cast_null i ∷ received_row client ids) known.schema known.numbered.1.1.1.1.1.1.1.1.0 executes in (
+        known_after 17 _ old.now new.now known.numbered set,
+        received_set _ old.now new.now set ∙ ap (λ all. record (held_by old.now) { received = all }) (come rows (Int (next_rowid rows) ∷ values)),
+        set.others.0 (λ e. omega (arith, e)),
+      ))

@@ -1,0 +1,12 @@
+pub mod AskFacts
+pub mod ChangeFacts
+pub mod ComeFacts
+pub mod GoneFacts
+pub mod KindFacts
+pub mod LastFacts
+pub mod LoadFacts
+pub mod MakeFacts
+pub mod RowidFacts
+pub mod StatementFacts
+pub mod StoredFacts
+pub mod ValueFacts

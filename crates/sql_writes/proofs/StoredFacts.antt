@@ -1,0 +1,172 @@
+-- What the trees hold as rows of the tables, after one table got other rows.
+use Rattle.std.proofs.Common.{◌≡◌, ◌≢◌, ℕ, Bool, true, false, List, [], ◌∷◌, ◌==◌, refl, sym, ◌∙◌, ap, subst, arith}
+use Rattle.std.specs.Prelude.{◌++◌, drop, filter, not}
+use Rattle.std.specs.List.{AllByRecursion}
+use Rattle.std.proofs.lemmas.Bool.{eqb-true, eqb-false}
+use Rattle.std.proofs.lemmas.List.{append-nil, map-append}
+use Rattle.sqlite.specs.Effect.{Database}
+use Rattle.sqlite.specs.Order.{Row}
+use Rattle.sqlite.specs.Table.{Table}
+use Rattle.sqlite.specs.Tree.{Trees}
+use Rattle.sql_texts.specs.Schema.{tables}
+use Rattle.sql_tables.specs.InTrees.{columns_of}
+use Rattle.sql_tables.proofs.TreeFacts.{filter_after}
+use Rattle.sql_tables.specs.Changes.{replaced}
+use Rattle.sql_state.specs.Numbered.{AreNumbered, IsNumbered}
+use Rattle.sql_state.specs.Ours.{held_by}
+use Rattle.sql_state.specs.Writing.{IsKnown}
+use Rattle.sqlite_trees.proofs.ListLemmas.{all_weaker}
+use Rattle.sql_writes.proofs.RowidFacts.{kept_alike}
+use Rattle.sql_writes.proofs.StatementFacts.{IsSet}
+
+numbered_after : (tree : ℕ) (old new : Trees) (all : List Table) → IsNumbered (new tree) → AllByRecursion (λ table. IsNumbered (old table.tree)) all
+    → AllByRecursion (λ table. table.tree ≢ tree → new table.tree ≡ old table.tree) all → AllByRecursion (λ table. IsNumbered (new table.tree)) all
+numbered_after tree old new [] here before others = tt
+numbered_after tree old new (table ∷ all) here before others = (by (table.tree == tree) refl, numbered_after tree old new all here before.1 others.1)
+  where
+    by : (b : Bool) → (table.tree == tree) ≡ b → IsNumbered (new table.tree)
+    by true same = subst (λ t. IsNumbered (new t)) (sym (eqb-true table.tree tree same)) here
+    by false apart = subst IsNumbered (sym (others.0 (eqb-false table.tree tree apart))) before.0
+
+pub known_after : (tree : ℕ) (rows : List Row) (old new : Database) → AreNumbered old.trees → IsSet tree rows old new → IsKnown new
+known_after tree rows old new before set = record {
+  schema = set.schema;
+  sound = set.sound;
+  numbered = numbered_after tree old.trees new.trees tables (subst IsNumbered (sym set.rows_are) set.numbered) before set.others;
+}
+
+-- ---- what is held
+
+module _ (rows : List Row) (old new : Database) where
+  pub callers_set : IsSet 1 rows old new → held_by new ≡ record (held_by old) { callers = columns_of rows }
+  callers_set set =
+      let o = set.others in
+      λ i. record {
+        callers = columns_of (set.rows_are i);
+        changes = columns_of (o.1.1.0 (λ e. omega (arith, e)) i);
+        sysmods = columns_of (o.1.1.1.0 (λ e. omega (arith, e)) i);
+        sups = columns_of (o.1.1.1.1.0 (λ e. omega (arith, e)) i);
+        holds = columns_of (o.1.1.1.1.1.0 (λ e. omega (arith, e)) i);
+        heads = columns_of (o.1.1.1.1.1.1.0 (λ e. omega (arith, e)) i);
+        rows = columns_of (o.1.1.1.1.1.1.1.0 (λ e. omega (arith, e)) i);
+        received = columns_of (o.1.1.1.1.1.1.1.1.0 (λ e. omega (arith, e)) i);
+      }
+
+  pub changes_set : IsSet 4 rows old new → held_by new ≡ record (held_by old) { changes = columns_of rows }
+  changes_set set =
+      let o = set.others in
+      λ i. record {
+        callers = columns_of (o.1.0 (λ e. omega (arith, e)) i);
+        changes = columns_of (set.rows_are i);
+        sysmods = columns_of (o.1.1.1.0 (λ e. omega (arith, e)) i);
+        sups = columns_of (o.1.1.1.1.0 (λ e. omega (arith, e)) i);
+        holds = columns_of (o.1.1.1.1.1.0 (λ e. omega (arith, e)) i);
+        heads = columns_of (o.1.1.1.1.1.1.0 (λ e. omega (arith, e)) i);
+        rows = columns_of (o.1.1.1.1.1.1.1.0 (λ e. omega (arith, e)) i);
+        received = columns_of (o.1.1.1.1.1.1.1.1.0 (λ e. omega (arith, e)) i);
+      }
+
+  pub sysmods_set : IsSet 6 rows old new → held_by new ≡ record (held_by old) { sysmods = columns_of rows }
+  sysmods_set set =
+      let o = set.others in
+      λ i. record {
+        callers = columns_of (o.1.0 (λ e. omega (arith, e)) i);
+        changes = columns_of (o.1.1.0 (λ e. omega (arith, e)) i);
+        sysmods = columns_of (set.rows_are i);
+        sups = columns_of (o.1.1.1.1.0 (λ e. omega (arith, e)) i);
+        holds = columns_of (o.1.1.1.1.1.0 (λ e. omega (arith, e)) i);
+        heads = columns_of (o.1.1.1.1.1.1.0 (λ e. omega (arith, e)) i);
+        rows = columns_of (o.1.1.1.1.1.1.1.0 (λ e. omega (arith, e)) i);
+        received = columns_of (o.1.1.1.1.1.1.1.1.0 (λ e. omega (arith, e)) i);
+      }
+
+  pub sups_set : IsSet 8 rows old new → held_by new ≡ record (held_by old) { sups = columns_of rows }
+  sups_set set =
+      let o = set.others in
+      λ i. record {
+        callers = columns_of (o.1.0 (λ e. omega (arith, e)) i);
+        changes = columns_of (o.1.1.0 (λ e. omega (arith, e)) i);
+        sysmods = columns_of (o.1.1.1.0 (λ e. omega (arith, e)) i);
+        sups = columns_of (set.rows_are i);
+        holds = columns_of (o.1.1.1.1.1.0 (λ e. omega (arith, e)) i);
+        heads = columns_of (o.1.1.1.1.1.1.0 (λ e. omega (arith, e)) i);
+        rows = columns_of (o.1.1.1.1.1.1.1.0 (λ e. omega (arith, e)) i);
+        received = columns_of (o.1.1.1.1.1.1.1.1.0 (λ e. omega (arith, e)) i);
+      }
+
+  pub holds_set : IsSet 11 rows old new → held_by new ≡ record (held_by old) { holds = columns_of rows }
+  holds_set set =
+      let o = set.others in
+      λ i. record {
+        callers = columns_of (o.1.0 (λ e. omega (arith, e)) i);
+        changes = columns_of (o.1.1.0 (λ e. omega (arith, e)) i);
+        sysmods = columns_of (o.1.1.1.0 (λ e. omega (arith, e)) i);
+        sups = columns_of (o.1.1.1.1.0 (λ e. omega (arith, e)) i);
+        holds = columns_of (set.rows_are i);
+        heads = columns_of (o.1.1.1.1.1.1.0 (λ e. omega (arith, e)) i);
+        rows = columns_of (o.1.1.1.1.1.1.1.0 (λ e. omega (arith, e)) i);
+        received = columns_of (o.1.1.1.1.1.1.1.1.0 (λ e. omega (arith, e)) i);
+      }
+
+  pub heads_set : IsSet 13 rows old new → held_by new ≡ record (held_by old) { heads = columns_of rows }
+  heads_set set =
+      let o = set.others in
+      λ i. record {
+        callers = columns_of (o.1.0 (λ e. omega (arith, e)) i);
+        changes = columns_of (o.1.1.0 (λ e. omega (arith, e)) i);
+        sysmods = columns_of (o.1.1.1.0 (λ e. omega (arith, e)) i);
+        sups = columns_of (o.1.1.1.1.0 (λ e. omega (arith, e)) i);
+        holds = columns_of (o.1.1.1.1.1.0 (λ e. omega (arith, e)) i);
+        heads = columns_of (set.rows_are i);
+        rows = columns_of (o.1.1.1.1.1.1.1.0 (λ e. omega (arith, e)) i);
+        received = columns_of (o.1.1.1.1.1.1.1.1.0 (λ e. omega (arith, e)) i);
+      }
+
+  pub rows_set : IsSet 15 rows old new → held_by new ≡ record (held_by old) { rows = columns_of rows }
+  rows_set set =
+      let o = set.others in
+      λ i. record {
+        callers = columns_of (o.1.0 (λ e. omega (arith, e)) i);
+        changes = columns_of (o.1.1.0 (λ e. omega (arith, e)) i);
+        sysmods = columns_of (o.1.1.1.0 (λ e. omega (arith, e)) i);
+        sups = columns_of (o.1.1.1.1.0 (λ e. omega (arith, e)) i);
+        holds = columns_of (o.1.1.1.1.1.0 (λ e. omega (arith, e)) i);
+        heads = columns_of (o.1.1.1.1.1.1.0 (λ e. omega (arith, e)) i);
+        rows = columns_of (set.rows_are i);
+        received = columns_of (o.1.1.1.1.1.1.1.1.0 (λ e. omega (arith, e)) i);
+      }
+
+  pub received_set : IsSet 17 rows old new → held_by new ≡ record (held_by old) { received = columns_of rows }
+  received_set set =
+      let o = set.others in
+      λ i. record {
+        callers = columns_of (o.1.0 (λ e. omega (arith, e)) i);
+        changes = columns_of (o.1.1.0 (λ e. omega (arith, e)) i);
+        sysmods = columns_of (o.1.1.1.0 (λ e. omega (arith, e)) i);
+        sups = columns_of (o.1.1.1.1.0 (λ e. omega (arith, e)) i);
+        holds = columns_of (o.1.1.1.1.1.0 (λ e. omega (arith, e)) i);
+        heads = columns_of (o.1.1.1.1.1.1.0 (λ e. omega (arith, e)) i);
+        rows = columns_of (o.1.1.1.1.1.1.1.0 (λ e. omega (arith, e)) i);
+        received = columns_of (set.rows_are i);
+      }
+
+-- ---- rows that go and rows that come
+
+pub gone : (test passing : Row → Bool) → ((row : Row) → passing row ≡ test (drop 1 row)) → (rows : List Row)
+    → columns_of (filter (λ row. not (passing row)) rows) ≡ replaced test [] (columns_of rows)
+gone test passing alike rows =
+    filter_after (λ row. not (passing row)) (λ row. not (test row)) (λ row. ap not (alike row)) rows ∙ sym (append-nil (filter (λ row. not (test row)) (columns_of rows)))
+
+-- the same of rows that are known to be alike
+pub gone_known : (test passing : Row → Bool) (rows : List Row) → AllByRecursion (λ row. passing row ≡ test (drop 1 row)) rows
+    → columns_of (filter (λ row. not (passing row)) rows) ≡ replaced test [] (columns_of rows)
+gone_known test passing rows alike =
+    ap columns_of (kept_alike (λ row. not (passing row)) (λ row. not (test (drop 1 row))) rows (all_weaker _ (λ row. not (passing row) ≡ not (test (drop 1 row))) (λ row same. ap not same) rows alike))
+    ∙ gone test (λ row. test (drop 1 row)) (λ row. refl) rows
+
+pub come : (rows : List Row) (row : Row) → columns_of (rows ++ row ∷ []) ≡ columns_of rows ++ drop 1 row ∷ []
+come rows row = map-append (drop 1) rows (row ∷ [])
+
+-- rows that go, and then rows that come
+pub replaced_then : (test : Row → Bool) (news rows : List Row) → replaced test [] rows ++ news ≡ replaced test news rows
+replaced_then test news rows = ap (λ left. left ++ news) (append-nil (filter (λ row. not (test row)) rows))

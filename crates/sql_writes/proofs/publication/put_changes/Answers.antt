@@ -1,0 +1,43 @@
+use Rattle.std.proofs.Common.{take, subst, sym, ◌∙◌, arith}
+use Rattle.sql_texts.specs.Meaning.{Means}
+use Rattle.sql_texts.specs.Schema.{bureau}
+use Rattle.sql_texts.specs.Writes.{insert_given}
+use Rattle.std.specs.Prelude.{fold}
+use Rattle.sql_tables.specs.Changes.{published}
+use Rattle.sql_writes.proofs.ChangeFacts.{stopped, was_clean}
+use Rattle.sql_writes.proofs.LoadFacts.{begun, ended, more, published_turn}
+use Rattle.sql_writes.proofs.publication.put_changes.Goals as goal
+
+pub loop-change-init : goal.loop-change-init
+loop-change-init g c = record {
+  same = c.prepare.ensures.same;
+  changes = begun _ _ (λ changes stored. fold published stored changes) (published_turn) c.args.changes.now _ _ _ tt c.in_ok-statement.ensures.changes;
+  clean = λ clean. clean;
+}
+
+pub put_change-requires : goal.put_change-requires
+put_change-requires g c = record {
+  means = λ clean. subst (λ text. Means bureau text (insert_given 4 2) 2) (sym (c.in_ok-statement.ensures.text (c.loop-change.invariant.clean clean))) c.insert_sysmod_sup.ensures;
+}
+
+pub returns-in_err-put_change-clause-same : goal.returns-in_err-put_change-clause-same
+returns-in_err-put_change-clause-same g c = c.put_change.ensures.same ∙ c.loop-change.invariant.same
+
+pub returns-in_err-put_change-clause-changes : goal.returns-in_err-put_change-clause-changes
+returns-in_err-put_change-clause-changes g c =
+    stopped _ _ _ tt _ _ (λ stored. fold published stored (take c.loop-change.change-index c.args.changes.now)) _ _ c.from_residual-in_err-put_change.ensures.0 c.loop-change.invariant.changes c.in_err-put_change.ensures.changes
+
+pub loop-change-preserved : goal.loop-change-preserved
+loop-change-preserved g c = record {
+  same = c.put_change.ensures.same ∙ c.loop-change.invariant.same;
+  changes = more _ _ (λ changes stored. fold published stored changes) (published_turn) c.args.changes.now _ _ _ tt _ c.loop-change.change-index c.change-item.result c.loop-change-test.true c.change-item.is
+      c.loop-change.invariant.changes c.in_ok-put_change.ensures.changes;
+  clean = λ clean. c.loop-change.invariant.clean (was_clean _ _ _ c.put_change.ensures.changes.survives clean);
+}
+
+pub returns-clause-same : goal.returns-clause-same
+returns-clause-same g c = c.loop-change.invariant.same
+
+pub returns-clause-changes : goal.returns-clause-changes
+returns-clause-changes g c =
+    ended _ _ (λ changes stored. fold published stored changes) (published_turn) c.args.changes.now _ _ tt c.loop-change.change-index (omega (arith, c.loop-change-test.false)) c.loop-change.invariant.changes

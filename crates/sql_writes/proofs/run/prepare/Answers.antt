@@ -1,0 +1,6 @@
+use Rattle.sql_writes.proofs.ChangeFacts.{prepared}
+use Rattle.sql_writes.proofs.run.prepare.Goals as goal
+
+pub returns-clause-changes : goal.returns-clause-changes
+returns-clause-changes g c =
+    prepared (λ statement. statement.text) _ _ c.args.text.now _ c.prepare.ensures.ok c.prepare.ensures.err c.prepare.ensures.survives

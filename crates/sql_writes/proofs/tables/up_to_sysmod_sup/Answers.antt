@@ -1,0 +1,13 @@
+use Rattle.std.proofs.Common.{refl}
+use Rattle.sql_texts.specs.Schema as schema
+use Rattle.sql_writes.specs.Making.{IsEmpty, IsMade}
+use Rattle.sql_writes.proofs.MakeFacts.{leads_nowhere, leads_then, table_comes}
+use Rattle.sql_writes.proofs.tables.up_to_sysmod_sup.Goals as goal
+
+pub returns-in_err-up_to_sysmod-clause-made : goal.returns-in_err-up_to_sysmod-clause-made
+returns-in_err-up_to_sysmod-clause-made g c = leads_nowhere _ _ _ _ IsEmpty (IsMade 4 4) _ c.from_residual.ensures.0 c.in_err-up_to_sysmod.ensures.made
+
+pub returns-clause-made : goal.returns-clause-made
+returns-clause-made g c =
+    leads_then _ _ _ tt _ IsEmpty (IsMade 4 4) _ c.in_ok-up_to_sysmod.ensures.made
+    (table_comes (IsMade 4 4) 4 4 5 5 _ schema.sysmod_sup _ _ _ (λ database so_far. (so_far.schema, so_far.empty)) c.sysmod_sup.ensures refl refl refl c.run.ensures.ran)

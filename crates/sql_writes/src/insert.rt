@@ -1,0 +1,168 @@
+//! Rows that come, one by each statement, after those of their table.
+ghost use Rattle.std.specs.Prelude.{◌≡◌, ◌≤◌, [], ◌∷◌};
+ghost use Rattle.bureau_store.specs.Store.{greatest_number};
+ghost use Rattle.sqlite.specs.Held.{state};
+ghost use Rattle.sqlite.specs.State.{HasCleanDisk};
+ghost use Rattle.sql_texts.specs.Meaning.{Means};
+ghost use Rattle.sql_texts.specs.Schema.{bureau};
+ghost use Rattle.sql_texts.specs.Writes.{insert_given};
+ghost use Rattle.sql_state.specs.Writing.{Changes};
+ghost use Rattle.sql_writes.specs.Parts.{with_callers, with_head, with_hold, with_last, with_received, with_rows, with_sups, with_sysmod};
+
+use crate::run::{run, run_prepared};
+use crate::values::{id_of, number_of};
+use bureau_store::CallerRow;
+use catalogue::Sysmod;
+use holddata::Hold;
+use mcs_reader::Id;
+use sql_tables::{
+    categories_value, date_value, hold_kind_value, joined_ids, joined_patterns, optional_id_value,
+    state_value, sysmod_kind_value,
+};
+use sql_texts::write;
+use sqlite::types::ValueRef;
+use sqlite::{Alter, Error, Statement, Transaction};
+use std::alloc::Global;
+use zone_lists::{Pattern, ZoneRow};
+
+/// A caller with its token, by the statement of `write::insert_caller`.
+pub(crate) fn caller<S: Alter>(
+    tx: &mut Transaction<'_, S>,
+    statement: &Statement,
+    row: &CallerRow,
+) -> Result<(), Error>
+    requires means { HasCleanDisk (state S.Store tx.old.conn.now) → Means bureau statement.now.text (insert_given 1 2) 2 }
+    ensures same { tx.new.conn.ghost_name ≡ tx.old.conn.ghost_name }
+    ensures changes { Changes (state S.Store tx.old.conn.now) (state S.Store tx.new.conn.now) result (with_callers (row.now ∷ [])) }
+{
+    let params = [id_of(&row.name), ValueRef::Text(row.token.as_bytes())];
+    run_prepared(tx, statement, &params)
+}
+
+/// The last change of the caller of this name: its number and the reply that is kept.
+pub(crate) fn last_change<S: Alter>(
+    tx: &mut Transaction<'_, S>,
+    name: &Id,
+    number: u64,
+    reply: &[u8],
+) -> Result<(), Error>
+    requires { number ≤ greatest_number }
+    ensures same { tx.new.conn.ghost_name ≡ tx.old.conn.ghost_name }
+    ensures changes { Changes (state S.Store tx.old.conn.now) (state S.Store tx.new.conn.now) result (with_last name.now (record { number = number; reply = reply.now })) }
+{
+    let params = [id_of(name), number_of(number), ValueRef::Blob(reply)];
+    run(tx, write::insert_last_change(), &params)
+}
+
+/// A record of the catalogue, without what it supersedes.
+pub(crate) fn sysmod<S: Alter>(
+    alloc: Global,
+    tx: &mut Transaction<'_, S>,
+    sysmod: &Sysmod,
+) -> Result<(), Error>
+    ensures same { tx.new.conn.ghost_name ≡ tx.old.conn.ghost_name }
+    ensures changes { Changes (state S.Store tx.old.conn.now) (state S.Store tx.new.conn.now) result (with_sysmod sysmod.now) }
+{
+    let fmids = joined_ids(alloc, sysmod.fmids.as_slice())?;
+    let pre = joined_ids(alloc, sysmod.pre.as_slice())?;
+    let req = joined_ids(alloc, sysmod.req.as_slice())?;
+    let params = [
+        id_of(&sysmod.id),
+        sysmod_kind_value(sysmod.kind),
+        ValueRef::Text(fmids.as_slice()),
+        ValueRef::Text(pre.as_slice()),
+        ValueRef::Text(req.as_slice()),
+    ];
+    run(tx, write::insert_sysmod(), &params)
+}
+
+/// One SYSMOD that a record supersedes, by the statement of `write::insert_sysmod_sup`.
+pub(crate) fn sup_row<S: Alter>(
+    tx: &mut Transaction<'_, S>,
+    statement: &Statement,
+    id: &Id,
+    member: &Id,
+) -> Result<(), Error>
+    requires means { HasCleanDisk (state S.Store tx.old.conn.now) → Means bureau statement.now.text (insert_given 4 2) 2 }
+    ensures same { tx.new.conn.ghost_name ≡ tx.old.conn.ghost_name }
+    ensures changes { Changes (state S.Store tx.old.conn.now) (state S.Store tx.new.conn.now) result (with_sups id.now (member.now ∷ [])) }
+{
+    run_prepared(tx, statement, &[id_of(id), id_of(member)])
+}
+
+/// A hold.
+pub(crate) fn hold<S: Alter>(tx: &mut Transaction<'_, S>, hold: &Hold) -> Result<(), Error>
+    ensures same { tx.new.conn.ghost_name ≡ tx.old.conn.ghost_name }
+    ensures changes { Changes (state S.Store tx.old.conn.now) (state S.Store tx.new.conn.now) result (with_hold hold.now) }
+{
+    let params = [
+        id_of(&hold.key.sysmod),
+        hold_kind_value(hold.key.kind),
+        id_of(&hold.key.reason),
+        optional_id_value(&hold.fmid),
+        optional_id_value(&hold.class),
+        date_value(hold.dated),
+        optional_id_value(&hold.resolver),
+        categories_value(&hold.categories),
+    ];
+    run(tx, write::insert_hold_row(), &params)
+}
+
+/// The head of a client's zone, with the patterns that the client asks for in it.
+pub(crate) fn head<S: Alter>(
+    alloc: Global,
+    tx: &mut Transaction<'_, S>,
+    client: &Id,
+    zone: &Id,
+    patterns: &[Pattern],
+) -> Result<(), Error>
+    ensures same { tx.new.conn.ghost_name ≡ tx.old.conn.ghost_name }
+    ensures changes { Changes (state S.Store tx.old.conn.now) (state S.Store tx.new.conn.now) result (with_head client.now zone.now patterns.now) }
+{
+    let joined = joined_patterns(alloc, patterns)?;
+    let params = [
+        id_of(client),
+        id_of(zone),
+        ValueRef::Text(joined.as_slice()),
+    ];
+    run(tx, write::insert_zone_head(), &params)
+}
+
+/// A SYSMOD of a client's zone, by the statement of `write::insert_zone_row`.
+pub(crate) fn zone_row<S: Alter>(
+    tx: &mut Transaction<'_, S>,
+    statement: &Statement,
+    client: &Id,
+    zone: &Id,
+    row: &ZoneRow,
+) -> Result<(), Error>
+    requires means { HasCleanDisk (state S.Store tx.old.conn.now) → Means bureau statement.now.text (insert_given 7 4) 4 }
+    ensures same { tx.new.conn.ghost_name ≡ tx.old.conn.ghost_name }
+    ensures changes { Changes (state S.Store tx.old.conn.now) (state S.Store tx.new.conn.now) result (with_rows client.now zone.now (row.now ∷ [])) }
+{
+    let params = [
+        id_of(client),
+        id_of(zone),
+        id_of(&row.sysmod),
+        state_value(row.state),
+    ];
+    run_prepared(tx, statement, &params)
+}
+
+/// What a client has received.
+pub(crate) fn received<S: Alter>(
+    alloc: Global,
+    tx: &mut Transaction<'_, S>,
+    client: &Id,
+    ids: &[Id],
+) -> Result<(), Error>
+    ensures same { tx.new.conn.ghost_name ≡ tx.old.conn.ghost_name }
+    ensures changes { Changes (state S.Store tx.old.conn.now) (state S.Store tx.new.conn.now) result (with_received client.now ids.now) }
+{
+    let joined = joined_ids(alloc, ids)?;
+    run(
+        tx,
+        write::insert_received_list(),
+        &[id_of(client), ValueRef::Text(joined.as_slice())],
+    )
+}

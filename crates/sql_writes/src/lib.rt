@@ -1,0 +1,21 @@
+//! What the bureau's changes write into a store's file, each in a transaction that is lent. Nothing is committed here.
+//!
+//! - [`put_zone`], [`drop_zone`], [`put_received`], [`put_patterns`]: a client's changes; [`publish`]: the publisher's
+//! - [`create`]: the tables of version 1 with the callers, in an empty database
+//!
+//! A contract says what a change makes of the rows that the transaction sees (`Changes` of `sql_state`), in the words of
+//! `sql_tables`. `specs/Making` says what `create` leads to.
+#![tactic(auto)]
+
+mod change;
+mod delete;
+mod insert;
+mod load;
+mod publication;
+mod run;
+mod tables;
+mod values;
+mod zone;
+
+pub use change::{drop_zone, publish, put_patterns, put_received, put_zone};
+pub use tables::create;

@@ -1,0 +1,67 @@
+//! Lists of rows that come, each list by one prepared statement.
+ghost use Rattle.std.specs.Prelude.{◌≡◌};
+ghost use Rattle.sqlite.specs.Held.{state};
+ghost use Rattle.sqlite.specs.State.{HasCleanDisk};
+ghost use Rattle.sql_texts.specs.Meaning.{Means};
+ghost use Rattle.sql_texts.specs.Schema.{bureau};
+ghost use Rattle.sql_texts.specs.Writes.{insert_given};
+ghost use Rattle.sql_state.specs.Writing.{Changes};
+ghost use Rattle.sql_writes.specs.Parts.{with_callers, with_rows, with_sups, without_sups};
+
+use crate::run::prepare;
+use crate::{delete, insert};
+use bureau_store::CallerRow;
+use mcs_reader::Id;
+use sql_texts::write;
+use sqlite::{Alter, Error, Statement, Transaction};
+use zone_lists::ZoneRow;
+
+/// The rows of a client's zone.
+pub(crate) fn zone_rows<S: Alter>(
+    tx: &mut Transaction<'_, S>,
+    client: &Id,
+    zone: &Id,
+    rows: &[ZoneRow],
+) -> Result<(), Error>
+    ensures same { tx.new.conn.ghost_name ≡ tx.old.conn.ghost_name }
+    ensures changes { Changes (state S.Store tx.old.conn.now) (state S.Store tx.new.conn.now) result (with_rows client.now zone.now rows.now) }
+{
+    let statement = prepare(tx, write::insert_zone_row())?;
+    for row in rows {
+        insert::zone_row(tx, &statement, client, zone, row)?;
+    }
+    Ok(())
+}
+
+/// What a record supersedes, in place of what stands there, by the statement of `write::insert_sysmod_sup`.
+pub(crate) fn superseded<S: Alter>(
+    tx: &mut Transaction<'_, S>,
+    statement: &Statement,
+    id: &Id,
+    members: &[Id],
+) -> Result<(), Error>
+    requires means { HasCleanDisk (state S.Store tx.old.conn.now) → Means bureau statement.now.text (insert_given 4 2) 2 }
+    ensures same { tx.new.conn.ghost_name ≡ tx.old.conn.ghost_name }
+    ensures changes { Changes (state S.Store tx.old.conn.now) (state S.Store tx.new.conn.now) result (λ stored. with_sups id.now members.now (without_sups id.now stored)) }
+{
+    delete::superseded(tx, id)?;
+    for member in members {
+        insert::sup_row(tx, statement, id, member)?;
+    }
+    Ok(())
+}
+
+/// The callers.
+pub(crate) fn callers<S: Alter>(
+    tx: &mut Transaction<'_, S>,
+    rows: &[CallerRow],
+) -> Result<(), Error>
+    ensures same { tx.new.conn.ghost_name ≡ tx.old.conn.ghost_name }
+    ensures changes { Changes (state S.Store tx.old.conn.now) (state S.Store tx.new.conn.now) result (with_callers rows.now) }
+{
+    let statement = prepare(tx, write::insert_caller())?;
+    for row in rows {
+        insert::caller(tx, &statement, row)?;
+    }
+    Ok(())
+}

@@ -1,0 +1,91 @@
+//! A publication, one change after the other.
+ghost use Rattle.std.specs.Prelude.{◌≡◌, fold};
+ghost use Rattle.holddata.specs.declared.hold.HoldChange.TheVariants.{Put};
+ghost use Rattle.catalogue.specs.declared.change.Change.TheVariants.{Whole};
+ghost use Rattle.sqlite.specs.Held.{state};
+ghost use Rattle.sqlite.specs.State.{HasCleanDisk};
+ghost use Rattle.sql_texts.specs.Meaning.{Means};
+ghost use Rattle.sql_texts.specs.Schema.{bureau};
+ghost use Rattle.sql_texts.specs.Writes.{insert_given};
+ghost use Rattle.sql_tables.specs.Changes.{holds_changed, published};
+ghost use Rattle.sql_state.specs.Writing.{Changes};
+ghost use Rattle.sql_writes.specs.Parts.{with_sysmod, without_sysmod};
+
+use crate::run::prepare;
+use crate::{delete, insert, load};
+use catalogue::{Change, Sysmod};
+use holddata::{Hold, HoldChange};
+use sql_texts::write;
+use sqlite::{Alter, Error, Statement, Transaction};
+use std::alloc::Global;
+
+/// The hold comes in place of one with its key.
+fn put_hold<S: Alter>(tx: &mut Transaction<'_, S>, hold: &Hold) -> Result<(), Error>
+    ensures same { tx.new.conn.ghost_name ≡ tx.old.conn.ghost_name }
+    ensures changes { Changes (state S.Store tx.old.conn.now) (state S.Store tx.new.conn.now) result (λ stored. record stored { holds = holds_changed (Put hold.now) stored.holds }) }
+{
+    delete::hold(tx, &hold.key)?;
+    insert::hold(tx, hold)
+}
+
+/// The row of the record comes in place of that of its SYSMOD.
+fn put_row<S: Alter>(
+    alloc: Global,
+    tx: &mut Transaction<'_, S>,
+    sysmod: &Sysmod,
+) -> Result<(), Error>
+    ensures same { tx.new.conn.ghost_name ≡ tx.old.conn.ghost_name }
+    ensures changes { Changes (state S.Store tx.old.conn.now) (state S.Store tx.new.conn.now) result (λ stored. with_sysmod sysmod.now (without_sysmod sysmod.now.id stored)) }
+{
+    delete::sysmod(tx, &sysmod.id)?;
+    insert::sysmod(alloc, tx, sysmod)
+}
+
+/// The record comes in place of that of its SYSMOD, with what it supersedes.
+fn put_record<S: Alter>(
+    alloc: Global,
+    tx: &mut Transaction<'_, S>,
+    statement: &Statement,
+    sysmod: &Sysmod,
+) -> Result<(), Error>
+    requires means { HasCleanDisk (state S.Store tx.old.conn.now) → Means bureau statement.now.text (insert_given 4 2) 2 }
+    ensures same { tx.new.conn.ghost_name ≡ tx.old.conn.ghost_name }
+    ensures changes { Changes (state S.Store tx.old.conn.now) (state S.Store tx.new.conn.now) result (λ stored. published stored (Whole sysmod.now)) }
+{
+    put_row(alloc, tx, sysmod)?;
+    load::superseded(tx, statement, &sysmod.id, sysmod.sup.as_slice())
+}
+
+/// One change.
+fn put_change<S: Alter>(
+    alloc: Global,
+    tx: &mut Transaction<'_, S>,
+    statement: &Statement,
+    change: &Change,
+) -> Result<(), Error>
+    requires means { HasCleanDisk (state S.Store tx.old.conn.now) → Means bureau statement.now.text (insert_given 4 2) 2 }
+    ensures same { tx.new.conn.ghost_name ≡ tx.old.conn.ghost_name }
+    ensures changes { Changes (state S.Store tx.old.conn.now) (state S.Store tx.new.conn.now) result (λ stored. published stored change.now) }
+{
+    match change {
+        Change::Whole(sysmod) => put_record(alloc, tx, statement, sysmod),
+        Change::OfHold(HoldChange::Put(hold)) => put_hold(tx, hold),
+        Change::OfHold(HoldChange::Release(key)) => delete::hold(tx, key),
+    }
+}
+
+/// All changes of a publication in turn.
+pub(crate) fn put_changes<S: Alter>(
+    alloc: Global,
+    tx: &mut Transaction<'_, S>,
+    changes: &[Change],
+) -> Result<(), Error>
+    ensures same { tx.new.conn.ghost_name ≡ tx.old.conn.ghost_name }
+    ensures changes { Changes (state S.Store tx.old.conn.now) (state S.Store tx.new.conn.now) result (λ stored. fold published stored changes.now) }
+{
+    let statement = prepare(tx, write::insert_sysmod_sup())?;
+    for change in changes {
+        put_change(alloc, tx, &statement, change)?;
+    }
+    Ok(())
+}

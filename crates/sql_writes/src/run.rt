@@ -1,0 +1,45 @@
+//! One statement of a transaction.
+ghost use Rattle.std.specs.Prelude.{◌≡◌, IfOk};
+ghost use Rattle.sqlite.specs.Held.{state};
+ghost use Rattle.sqlite.specs.State.{HasCleanDisk};
+ghost use Rattle.sqlite.specs.Values.{bound};
+ghost use Rattle.sql_state.specs.Writing.{Changes};
+ghost use Rattle.sql_writes.specs.Running.{Ran};
+
+use sqlite::types::ValueRef;
+use sqlite::{Alter, Error, Statement, Transaction};
+
+/// Runs a text with these parameters.
+pub(crate) fn run<S: Alter>(
+    tx: &mut Transaction<'_, S>,
+    text: &str,
+    params: &[ValueRef<'_>],
+) -> Result<(), Error>
+    ensures same { tx.new.conn.ghost_name ≡ tx.old.conn.ghost_name }
+    ensures ran { Ran text.now (bound params.now) (state S.Store tx.old.conn.now) (state S.Store tx.new.conn.now) result }
+{
+    tx.execute(text, params)?;
+    Ok(())
+}
+
+/// Prepares a text.
+pub(crate) fn prepare<S: Alter>(tx: &mut Transaction<'_, S>, text: &str) -> Result<Statement, Error>
+    ensures same { tx.new.conn.ghost_name ≡ tx.old.conn.ghost_name }
+    ensures text { IfOk result (λ statement. HasCleanDisk (state S.Store tx.new.conn.now) → statement.text ≡ text.now) }
+    ensures changes { Changes (state S.Store tx.old.conn.now) (state S.Store tx.new.conn.now) result (λ stored. stored) }
+{
+    tx.prepare(text)
+}
+
+/// Runs a statement that is prepared.
+pub(crate) fn run_prepared<S: Alter>(
+    tx: &mut Transaction<'_, S>,
+    statement: &Statement,
+    params: &[ValueRef<'_>],
+) -> Result<(), Error>
+    ensures same { tx.new.conn.ghost_name ≡ tx.old.conn.ghost_name }
+    ensures ran { Ran statement.now.text (bound params.now) (state S.Store tx.old.conn.now) (state S.Store tx.new.conn.now) result }
+{
+    tx.execute_prepared(statement, params)?;
+    Ok(())
+}
