@@ -215,7 +215,7 @@ fn each_read_that_fails_is_passed_on(rt: HostRuntime) -> Result<(), Fail> {
         (Call::Verdict, 7),
         (Call::Statuses, 7),
         (Call::ErrRows, 11),
-        (Call::MissingRows, 12),
+        (Call::MissingRows, 15),
         (Call::PlanJson, 8),
     ];
     for (which, count) in reads {

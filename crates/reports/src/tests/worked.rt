@@ -222,6 +222,68 @@ fn nothing_resolves_a_fix(rt: HostRuntime) -> Result<(), Fail> {
 }
 
 #[test]
+fn a_resolver_that_is_held(rt: HostRuntime) -> Result<(), Fail> {
+    let source = format!(in rt.alloc();
+        "{FIXCAT}{RESOLVERS}++HOLD(UA10009) ERROR FMID(HBB7790) REASON(AA30003).\n"
+    )?;
+    let text = missing_report(
+        rt.alloc(),
+        source.as_str(),
+        ALPHA,
+        b"CATEGORY\nibm.device\n",
+    )?;
+    let wanted = format!(in rt.alloc();
+        "{MISSING_FRONT}{DEVICE}  UA10009  HELD   YES\n{DEVICE}  UA10011  GOOD   NO\nROWS 2\n"
+    )?;
+    assert!(rt; text.as_slice() == wanted.as_bytes());
+    Ok(())
+}
+
+#[test]
+fn a_report_of_1001_rows(rt: HostRuntime) -> Result<(), Fail> {
+    let mut holds = String::new(rt.alloc());
+    let mut wanted = format!(in rt.alloc();
+        "{ERR_FRONT}HBB7790  UA10001  AA20002  UA10002  GOOD   NO       PE\n"
+    )?;
+    for i in 0..1000u32 {
+        writeln!(
+            holds,
+            "++HOLD(UA10001) ERROR FMID(HBB7790) REASON(AB{i:05})."
+        )?;
+        writeln!(
+            wanted,
+            "HBB7790  UA10001  AB{i:05}  - NONE - -      -        -"
+        )?;
+    }
+    wanted.push_str("ROWS 1001\n")?;
+    let text = err_report(rt.alloc(), holds.as_str(), b"SYSMOD\n")?;
+    assert!(rt; text.as_slice() == wanted.as_bytes());
+    Ok(())
+}
+
+#[test]
+fn a_chain_of_1000_members(rt: HostRuntime) -> Result<(), Fail> {
+    // each of them needs the one before it
+    let mut source = String::from_str(rt.alloc(), "++PTF(UB00000).\n++VER(Z038) FMID(HBB7790).\n")?;
+    let mut wanted = String::from_str(
+        rt.alloc(),
+        r#"{"plan":[{"id":"UB00000","system":[],"user":[]}"#,
+    )?;
+    for i in 1..1000u32 {
+        let before = i.saturating_sub(1);
+        writeln!(
+            source,
+            "++PTF(UB{i:05}).\n++VER(Z038) FMID(HBB7790) PRE(UB{before:05})."
+        )?;
+        write!(wanted, ",{{\"id\":\"UB{i:05}\",\"system\":[],\"user\":[]}}")?;
+    }
+    wanted.push_str(r#"],"status":"GOOD","sysmod":"UB00999","zone":"TGT1"}"#)?;
+    let text = chain(rt.alloc(), source.as_str(), &id("UB00999")?)?;
+    assert!(rt; text.as_slice() == wanted.as_bytes());
+    Ok(())
+}
+
+#[test]
 fn chains_as_json(rt: HostRuntime) -> Result<(), Fail> {
     let cases: [(&str, &str, &str); 5] = [
         (RING, "UA10006", IN_RING),
