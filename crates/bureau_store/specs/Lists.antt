@@ -84,6 +84,9 @@ lists_lawful = record {
   one = λ lists is_open this other first second. first ∙ sym second;
 }
 
+pub lists_hold_tables : (lists : Lists) → IsOurs lists → IsOpen lists_view lists → (this : Tables) × (this ≡ tables_of lists)
+lists_hold_tables lists ours is_open = (tables_of lists, refl)
+
 pub lists_in_order : (lists : Lists) (this : Tables) → IsOurs lists → IsOpen lists_view lists → this ≡ tables_of lists → AreInOrder this
 lists_in_order lists this ours is_open is = subst AreInOrder (sym is) ours.in_order
 

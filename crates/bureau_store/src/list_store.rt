@@ -196,7 +196,7 @@ impl ListStore {
 
 impl Store for ListStore {
     ghost use Rattle.bureau_store.specs.Lists.{NeverOutgrown, tables_of};
-    ghost use Rattle.bureau_store.specs.Lists.{lists_in_order, lists_lawful, lists_show_content, lists_view};
+    ghost use Rattle.bureau_store.specs.Lists.{lists_hold_tables, lists_in_order, lists_lawful, lists_show_content, lists_view};
 
     ghost tables_view = { lists_view };
 
@@ -398,6 +398,8 @@ impl Store for ListStore {
     ghost tables_lawful = { lists_lawful };
 
     ghost shows_content = { lists_show_content };
+
+    ghost holds_tables = { lists_hold_tables };
 
     ghost tables_in_order = { lists_in_order };
 }

@@ -176,6 +176,9 @@ pub trait Store: Published {
     /// What is published is part of the tables.
     ghost shows_content: { AreOfOneStore Self.Published.content_view tables_view };
 
+    /// A store that this product made, and whose device never failed, holds some tables.
+    ghost holds_tables: { (store : Self) → tables_view.is_ours store → IsOpen tables_view store → (tables : Tables) × tables_view.stands store tables };
+
     /// In a store that this product made, what is published and each client's zones are in order.
     ghost tables_in_order: { (store : Self) (tables : Tables) → tables_view.is_ours store → IsOpen tables_view store → tables_view.stands store tables → AreInOrder tables };
 }

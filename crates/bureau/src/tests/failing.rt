@@ -280,5 +280,7 @@ impl Store for Failing {
       stands = λ store this stands standing. ap (λ tables. tables.content) (stands standing);
     } };
 
+    ghost holds_tables = { λ store ours standing. (tables_of store.lists, λ h. refl) };
+
     ghost tables_in_order = { λ store this ours standing stands. subst AreInOrder (stands standing) ours.in_order };
 }
