@@ -7,11 +7,11 @@ use Rattle.sqlite.specs.declared.error.Error.{Error}
 use Rattle.sqlite.proofs.Callers.{survives_begin}
 use Rattle.sqlite.proofs.StateLemmas.{survives_then}
 use Rattle.sqlite_trees.specs.declared.store.Store.{Ghosts}
-use Rattle.sql_tables.specs.InTrees.{stored_in}
+use Rattle.sql_texts.specs.Schema.{bureau}
 use Rattle.sql_tables.specs.Stored.{Stored}
 use Rattle.sql_state.specs.Ours.{IsOurs, held_by}
 use Rattle.sql_state.specs.Writing.{Changes, IsKnown}
-use Rattle.bureau_sql.specs.Committed.{AreChanged, IsCommitted}
+use Rattle.bureau_sql.specs.Committed.{AreChanged, HaveChange, IsCommitted}
 use Rattle.bureau_sql.specs.Laws.{clean_before, no_read}
 use Rattle.bureau_sql.proofs.PlainFacts.{failed_keeps, unchanged_keeps}
 
@@ -28,7 +28,7 @@ refused_commit old new (Err e) fails = λ clean. failed_commit_keeps old new e (
 module _ (old begun mid new : State) (change : Stored → Stored) (same_now : begun.now ≡ old.now) (same_committed : begun.committed ≡ old.committed)
     (same_open : begun.is_open ≡ old.is_open) (inside : IsTrue begun.in_transaction) (settled : IsTrue old.is_open → old.now ≡ old.committed) (live : IsLive old) where
   known : IsTrue old.is_open → IsOurs old.committed → IsKnown begun.now
-  known is_open ours = subst IsKnown (sym (same_now ∙ settled is_open)) (record { schema = ours.schema; sound = (live is_open).1; numbered = ours.numbered })
+  known is_open ours = subst IsKnown (sym (same_now ∙ settled is_open)) (record { schema = ours.schema; sound = (live is_open).1; numbered = ours.rows.numbered })
 
   kept : KeepsCommit begun mid → KeepsCommit mid new → KeepsCommit old new
   kept first then = record {
@@ -40,12 +40,22 @@ module _ (old begun mid new : State) (change : Stored → Stored) (same_now : be
   was_open first is_open = subst IsTrue same_open (first.was_open is_open)
 
   written_so : {Answer Fault : Type 0} (written : Result Answer Fault) → Changes begun mid written change → IsOk written → HasCleanDisk mid
-      → IsTrue mid.is_open × (IsOurs old.committed → IsKnown mid.now × (held_by mid.now ≡ change (held_by old.committed)))
+      → IsTrue mid.is_open × (IsOurs old.committed → (mid.now.schema ≡ bureau) × HaveChange old.committed change mid.now.trees)
   written_so (Err e) changes none clean = absurd cc
   written_so (Ok a) changes done clean =
       let made = changes.done clean inside in
-      let was = was_open (changes.keeps clean inside) made.0 in
-      (made.0, λ ours. let it = made.2 (known was ours) in (it.0, it.1 ∙ ap (λ database. change (held_by database)) (same_now ∙ settled was)))
+      let was = was_open (changes.keeps clean inside) made.0 in (
+        made.0,
+        λ ours.
+            let it = made.2 (known was ours) in (
+              it.0.schema,
+              record {
+                numbered = it.0.numbered;
+                version = it.2 ∙ ap (λ database. database.trees 0) (same_now ∙ settled was);
+                rows = it.1 ∙ ap (λ database. change (held_by database)) (same_now ∙ settled was);
+              },
+            ),
+      )
 
   pub is_committed : {Answer Fault Done Refusal : Type 0} (written : Result Answer Fault) (result : Result Done Refusal) → Survives old begun (λ trees. ⊥) → Changes begun mid written change
       → OnOk result (IsOk written × (HasCleanDisk new → Shows mid new mid.now mid.now false)) → OnErr result (HasCleanDisk new → KeepsCommit mid new)
@@ -57,19 +67,23 @@ module _ (old begun mid new : State) (change : Stored → Stored) (same_now : be
         (survives_then begun mid new (λ trees. ⊥) (λ trees. IsOk written × (trees ≡ mid.now.trees)) (AreChanged old change) (λ clean trees none. absurd none)
         (λ clean trees left was ours.
         let made = written_so written changes left.0 (before clean) in
-        ap stored_in left.1 ∙ (made.1 ours).1) changes.survives survives);
+        subst (HaveChange old.committed change) (sym left.1) (made.1 ours).1) changes.survives survives);
   }
     where
       before : HasCleanDisk new → HasCleanDisk mid
       before = clean_before (λ trees. IsOk written × (trees ≡ mid.now.trees)) mid new survives
 
       done : (result : Result Done Refusal) → OnOk result (IsOk written × (HasCleanDisk new → Shows mid new mid.now mid.now false))
-          → OnOk result (HasCleanDisk new → IsTrue new.is_open × (IsOurs old.committed → IsKnown new.committed × (held_by new.committed ≡ change (held_by old.committed))))
+          → OnOk result (HasCleanDisk new → IsTrue new.is_open × (IsOurs old.committed → (new.committed.schema ≡ bureau) × HaveChange old.committed change new.committed.trees))
       done (Err e) ends = tt
       done (Ok a) ends = λ clean.
           let shows = ends.1 clean in
-          let made = written_so written changes ends.0 (before clean) in
-          (shows.is_open, λ ours. let it = made.1 ours in (subst IsKnown (sym shows.committed_is) it.0, ap held_by shows.committed_is ∙ it.1))
+          let made = written_so written changes ends.0 (before clean) in (
+            shows.is_open,
+            λ ours.
+                let it = made.1 ours in
+                (ap (λ database. database.schema) shows.committed_is ∙ it.0, subst (λ database. HaveChange old.committed change database.trees) (sym shows.committed_is) it.1),
+          )
 
       as_before : (result : Result Done Refusal) → OnErr result (HasCleanDisk new → KeepsCommit mid new) → OnErr result (HasCleanDisk new → KeepsCommit old new)
       as_before (Ok a) refused = tt

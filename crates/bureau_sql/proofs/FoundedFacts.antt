@@ -1,14 +1,24 @@
 -- What a transaction that makes tables leaves of the connection.
-use Rattle.std.proofs.Common.{◌≡◌, ◌∙◌, Err, IsOk, IsTrue, Ok, OnErr, OnOk, Result, ap, false, refl, subst, sym, true}
+use Rattle.std.proofs.Common.{◌≡◌, ◌∙◌, Err, IsOk, IsTrue, List, Ok, OnErr, OnOk, Result, ap, false, refl, subst, sym, true}
 use Rattle.sqlite.specs.Effect.{Database}
 use Rattle.sqlite.specs.Held.{Held, state}
 use Rattle.sqlite.specs.State.{HasCleanDisk, KeepsCommit, Shows, State, Survives}
 use Rattle.sqlite.proofs.Callers.{survives_begin}
 use Rattle.sqlite.proofs.StateLemmas.{survives_then}
-use Rattle.sqlite_trees.specs.Tree.{Trees}
 use Rattle.sqlite_trees.specs.declared.store.Store.{Ghosts}
-use Rattle.sql_writes.specs.Making.{Leads}
+use Rattle.std.specs.List.{AllByRecursion}
+use Rattle.mcs_reader.specs.Id.{IsId}
+use Rattle.bureau_store.specs.Tables as tables
+use Rattle.bureau_store.specs.declared.caller.CallerRow.{CallerRow}
+use Rattle.sql_state.specs.Ours.{AreOurs, IsOurs}
+use Rattle.sql_tables.proofs.ChangeFacts.{opened_tables}
+use Rattle.sql_tables.proofs.WholeFacts.{whole_opened}
+use Rattle.sql_tables.specs.Stored.{tables_of}
+use Rattle.sql_tables.specs.Whole.{IsWhole}
+use Rattle.sql_writes.specs.Making.{IsOpened, Leads}
 use Rattle.bureau_sql.specs.Founded.{AreLed, IsLed}
+use Rattle.bureau_sql.specs.SqlState.{SqlState}
+use Rattle.bureau_sql.specs.SqlView.{IsAtRest, IsOurStore, shown, sql_view}
 use Rattle.bureau_sql.specs.Laws.{clean_before, no_read}
 
 -- The connection at rest, as its transaction begins, after what was written, and after the end.
@@ -21,12 +31,12 @@ module _ (old begun mid new : State) (From To : Database → Type 0) (same_now :
   }
 
   written_so : {Answer Fault : Type 0} (written : Result Answer Fault) → Leads begun mid written From To → IsOk written → HasCleanDisk mid
-      → IsTrue mid.is_open × (From old.committed → To mid.now)
+      → IsTrue old.is_open × IsTrue mid.is_open × (From old.committed → To mid.now)
   written_so (Err e) leads none clean = absurd cc
   written_so (Ok a) leads done clean =
       let made = leads.done clean inside in
       let was = subst IsTrue same_open ((leads.keeps clean inside).was_open made.0) in
-      (made.0, λ from. made.2 (subst From (sym (same_now ∙ settled was)) from))
+      (was, made.0, λ from. made.2 (subst From (sym (same_now ∙ settled was)) from))
 
   pub is_led : {Answer Fault Done Refusal : Type 0} (written : Result Answer Fault) (result : Result Done Refusal) → Survives old begun (λ trees. ⊥) → Leads begun mid written From To
       → OnOk result (IsOk written × (HasCleanDisk new → Shows mid new mid.now mid.now false)) → OnErr result (HasCleanDisk new → KeepsCommit mid new)
@@ -36,19 +46,19 @@ module _ (old begun mid new : State) (From To : Database → Type 0) (same_now :
     refused = as_before result refused;
     survives = survives_then old begun new (λ trees. ⊥) (AreLed old From To) (AreLed old From To) (λ clean trees none. absurd none) (λ clean trees made. made) begins
         (survives_then begun mid new (λ trees. ⊥) (λ trees. IsOk written × (trees ≡ mid.now.trees)) (AreLed old From To) (λ clean trees none. absurd none)
-        (λ clean trees left was from. (mid.now, (written_so written leads left.0 (before clean)).1 from, sym left.1)) leads.survives survives);
+        (λ clean trees left was from. (mid.now, (written_so written leads left.0 (before clean)).2 from, sym left.1)) leads.survives survives);
   }
     where
       before : HasCleanDisk new → HasCleanDisk mid
       before = clean_before (λ trees. IsOk written × (trees ≡ mid.now.trees)) mid new survives
 
       done : (result : Result Done Refusal) → OnOk result (IsOk written × (HasCleanDisk new → Shows mid new mid.now mid.now false))
-          → OnOk result (HasCleanDisk new → IsTrue new.is_open × (From old.committed → To new.committed))
+          → OnOk result (HasCleanDisk new → IsTrue old.is_open × IsTrue new.is_open × (From old.committed → To new.committed))
       done (Err e) ends = tt
       done (Ok a) ends = λ clean.
           let shows = ends.1 clean in
           let made = written_so written leads ends.0 (before clean) in
-          (shows.is_open, λ from. subst To (sym shows.committed_is) (made.1 from))
+          (made.0, shows.is_open, λ from. subst To (sym shows.committed_is) (made.2 from))
 
       as_before : (result : Result Done Refusal) → OnErr result (HasCleanDisk new → KeepsCommit mid new) → OnErr result (HasCleanDisk new → KeepsCommit old new)
       as_before (Ok a) refused = tt
@@ -65,3 +75,26 @@ transaction_led g old begun mid last From To is settled written result leads end
     (subst (λ h. IsTrue h.in_transaction) (sym is) refl) settled written result
     (subst (λ h. Survives (state g old) (state g h) (λ trees. ⊥)) (sym is) (survives_begin g old (state g (record old { in_transaction = true })) (λ trees. ⊥) (no_read (state g (record old { in_transaction = true }))).survives))
     leads ends refused survives
+
+-- ---- a store with callers alone is ours
+
+ours_new : (callers : List CallerRow) (database : Database) → AllByRecursion (λ (caller : CallerRow). IsId caller.name) callers → IsOpened callers database → IsOurs database
+ours_new callers database named is = record {
+  schema = is.known.schema;
+  rows = record {
+    numbered = is.known.numbered;
+    version = is.version;
+    whole = subst IsWhole (sym is.held) (whole_opened callers named);
+  };
+}
+
+module _ {S : Type 0} (g : Ghosts S) (store : SqlState S) (callers : List CallerRow) (named : AllByRecursion (λ (caller : CallerRow). IsId caller.name) callers)
+    (made : HasCleanDisk (shown g store) → IsTrue (shown g store).is_open × IsOpened callers (shown g store).committed) where
+  pub ours_made : IsAtRest (shown g store) → HasCleanDisk (shown g store) → IsOurStore g store
+  ours_made rests clean =
+      let is = made clean in
+      let ours = ours_new callers (shown g store).committed named is.1 in
+      (λ trees may. subst AreOurs (sym (rests trees is.0 may)) ours.rows, λ standing. (is.0, ours))
+
+  pub tables_made : HasCleanDisk (shown g store) → (sql_view g).stands store (tables.opened callers)
+  tables_made clean standing = ap tables_of (made clean).1.held ∙ opened_tables callers named

@@ -19,8 +19,8 @@ use Rattle.sql_tables.specs.Stored.{Stored, tables_of}
 use Rattle.sql_tables.specs.Whole.{IsWhole}
 use Rattle.sql_tables.proofs.ChangeFacts.{change_made}
 use Rattle.sql_tables.proofs.WholeFacts.{whole_after}
-use Rattle.sql_state.specs.Ours.{IsOurs, held_by}
-use Rattle.bureau_sql.specs.Committed.{AreChanged, IsCommitted}
+use Rattle.sql_state.specs.Ours.{AreOurs, IsOurs, held_by}
+use Rattle.bureau_sql.specs.Committed.{AreChanged, HaveChange, IsCommitted}
 use Rattle.bureau_sql.specs.Laws.{clean_before}
 use Rattle.bureau_sql.specs.Outgrown.{HasNoRoom}
 use Rattle.bureau_sql.specs.SqlState.{SqlState}
@@ -60,7 +60,7 @@ module _ {S : Type 0} (g : Ghosts S) (update : Update) (can : CanBeWritten updat
   settles : (store : SqlState S) → ((trees : Trees) → IsTrue (shown g store).is_open → (shown g store).may_leave trees → trees ≡ (shown g store).committed.trees)
       → IsSettled (sql_view g) store
   settles store rests ours clean standing this stands left may =
-      sym may.2 ∙ ap (λ trees. tables_of (stored_in trees)) (rests may.0 (ours standing).0 may.1) ∙ stands standing
+      sym may.2 ∙ ap (λ trees. tables_of (stored_in trees)) (rests may.0 (ours.1 standing).0 may.1) ∙ stands standing
 
   -- a store that is shut refuses each change, and its connection is as it was
   pub shut_makes : {Done : Type 0} (old new : SqlState S) → new.conn ≡ old.conn → HasFailed (sql_view g) old new → old.failures ≤ new.failures
@@ -68,7 +68,7 @@ module _ {S : Type 0} (g : Ghosts S) (update : Update) (can : CanBeWritten updat
   shut_makes old new same failed rise = record {
     goes = record {
       clean = λ clean. subst (λ it. HasCleanDisk (state g it)) same clean;
-      ours = λ ours clean standing. absurd (never_failed g old new failed standing);
+      ours = λ ours clean. (λ trees may. ours.0 trees (subst (λ conn. (state g conn).may_leave trees) same may), λ standing. absurd (never_failed g old new failed standing));
       failures_rise = rise;
     };
     done = tt;
@@ -83,16 +83,31 @@ module _ {S : Type 0} (g : Ghosts S) (update : Update) (can : CanBeWritten updat
 
   module _ (old mid new : SqlState S) (standing : old.failures ≡ 0) (same : mid.failures ≡ old.failures)
       (rests : (trees : Trees) → IsTrue (shown g new).is_open → (shown g new).may_leave trees → trees ≡ (shown g new).committed.trees) where
-    -- what is committed is ours
+    -- rows with the change are ours
+    ours_rows : IsOurs (shown g old).committed → (trees : Trees) → HaveChange (shown g old).committed (change_of update) trees → AreOurs trees
+    ours_rows were trees changed = record {
+      numbered = changed.numbered;
+      version = changed.version ∙ were.rows.version;
+      whole = subst IsWhole (sym changed.rows) (whole_after update.caller update.effect update.last (held_by (shown g old).committed) can were.rows.whole);
+    }
+
+    -- so is what a stop may leave
+    ours_left : {Answer Refusal : Type 0} (made : Result Answer Refusal) → IsCommitted (shown g old) (shown g mid) made (change_of update) → HasCleanDisk (shown g mid) → IsOurStore g old
+        → (trees : Trees) → (shown g mid).may_leave trees → AreOurs trees
+    ours_left made committed clean ours trees may = elim (committed.survives.crash clean trees may) [
+      | inl was ↦ ours.0 trees was
+      | inr changed ↦ let were = ours.1 standing in ours_rows were.1 trees (changed were.0 were.1)
+    ]
+
+    -- and what is committed
     ours_after : {Answer Refusal : Type 0} (made : Result Answer Refusal) → IsCommitted (shown g old) (shown g mid) made (change_of update) → OnOk made (IsOurStore g old → HasCleanDisk (shown g mid)
         → IsTrue (shown g mid).is_open × IsOurs (shown g mid).committed × (held_by (shown g mid).committed ≡ change_of update (held_by (shown g old).committed)))
     ours_after (Err e) committed = tt
     ours_after (Ok a) committed = λ ours clean.
         let done = committed.done clean in
-        let were = (ours standing).1 in
+        let were = (ours.1 standing).1 in
         let is = done.1 were in
-        let whole = subst IsWhole (sym is.1) (whole_after update.caller update.effect update.last (held_by (shown g old).committed) can were.whole) in
-        (done.0, record { schema = is.0.schema; numbered = is.0.numbered; whole = whole }, is.1)
+        (done.0, record { schema = is.0; rows = ours_rows were (shown g mid).committed.trees is.1 }, is.1.rows)
 
     crashes : {Answer Refusal : Type 0} (made : Result Answer Refusal) → IsCommitted (shown g old) (shown g mid) made (change_of update) → HasCleanDisk (shown g mid) → IsOurStore g old
         → (this : Tables) → IsDue update this → (sql_view g).stands old this → (left : Tables) (trees : Trees) → (shown g mid).may_leave trees → tables_of (stored_in trees) ≡ left
@@ -100,8 +115,8 @@ module _ {S : Type 0} (g : Ghosts S) (update : Update) (can : CanBeWritten updat
     crashes made committed clean ours this due stands left trees may is = elim (committed.survives.crash clean trees may) [
       | inl was ↦ inl (trees, was, is)
       | inr changed ↦
-          let rows = changed (ours standing).0 (ours standing).1 in
-          inr (standing, sym is ∙ ap tables_of rows ∙ tables_made update can (held_by (shown g old).committed) this (stands standing) due)
+          let has = changed (ours.1 standing).0 (ours.1 standing).1 in
+          inr (standing, sym is ∙ ap tables_of has.rows ∙ tables_made update can (held_by (shown g old).committed) this (stands standing) due)
     ]
 
     made_so : {Done Answer Refusal : Type 0} (b : Answer) (done : Done) → IsCommitted {Fault = Refusal} (shown g old) (shown g mid) (Ok b) (change_of update)
@@ -112,7 +127,7 @@ module _ {S : Type 0} (g : Ghosts S) (update : Update) (can : CanBeWritten updat
         record {
           goes = record {
             clean = clean_before (AreChanged (shown g old) (change_of update)) (shown g old) (shown g mid) committed.survives;
-            ours = λ ours clean standing_so. let it = after ours clean in (it.0, it.1);
+            ours = λ ours clean. (ours_left {Refusal = Refusal} (Ok b) committed clean ours, λ standing_so. let it = after ours clean in (it.0, it.1));
             failures_rise = omega (arith, same);
           };
           done = λ ours clean this due stands standing_so.
@@ -132,9 +147,15 @@ module _ {S : Type 0} (g : Ghosts S) (update : Update) (can : CanBeWritten updat
         record {
           goes = record {
             clean = λ clean. before (between clean);
-            ours = λ ours clean standing_so.
-                let is_open = still_open standing_so clean in
-                (is_open, subst IsOurs (sym (same_rows clean is_open)) (ours standing).1);
+            ours = λ ours clean. (
+              λ trees may. elim (told.reads.survives.crash clean trees may) [
+                | inl was ↦ ours_left (Err e) committed (between clean) ours trees was
+                | inr none ↦ absurd none
+              ],
+              λ standing_so.
+                  let is_open = still_open standing_so clean in
+                  (is_open, subst IsOurs (sym (same_rows clean is_open)) (ours.1 standing).1),
+            );
             failures_rise = omega (arith, standing);
           };
           done = tt;

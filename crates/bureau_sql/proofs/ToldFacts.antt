@@ -72,7 +72,7 @@ module _ {S : Type 0} (g : Ghosts S) where
       told = λ ours clean this stands.
           let before : HasCleanDisk (shown g mid) = subst (λ it. HasCleanDisk (shown g it)) told.told.1 clean in
           let fact = subst (λ it. IfOk it (λ answer. HasCleanDisk (shown g mid) → IsOurs (shown g old).committed → Fact (held_by (shown g old).committed) answer)) told.told.0 finds.told in
-          subst (λ tables. Meaning tables answer) (stands standing) (means (held_by (shown g old).committed) answer (fact before (ours standing).1));
+          subst (λ tables. Meaning tables answer) (stands standing) (means (held_by (shown g old).committed) answer (fact before (ours.1 standing).1));
     }
     tells Meaning means (Err refusal) told = tt
 

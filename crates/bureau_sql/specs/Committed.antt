@@ -1,20 +1,27 @@
 -- What a change leaves of a connection at rest: it is committed whole, or nothing is.
 use Rattle.std.specs.Prelude.{◌≡◌, IsTrue, OnErr, OnOk, Result}
+use Rattle.sqlite.specs.Effect.{Database}
 use Rattle.sqlite.specs.State.{HasCleanDisk, KeepsCommit, State, Survives}
 use Rattle.sqlite_trees.specs.Tree.{Trees}
+use Rattle.sql_texts.specs.Schema.{bureau}
 use Rattle.sql_tables.specs.InTrees.{stored_in}
 use Rattle.sql_tables.specs.Stored.{Stored}
+use Rattle.sql_state.specs.Numbered.{AreNumbered}
 use Rattle.sql_state.specs.Ours.{IsOurs, held_by}
-use Rattle.sql_state.specs.Writing.{IsKnown}
 
--- the rows of these trees are those of a database that is ours, with this change
+-- the rows of these trees are those of a database with this change, under numbers that rise, and the version is the same
+pub record HaveChange (database : Database) (change : Stored → Stored) (trees : Trees) : Type 0 where
+  pub numbered : AreNumbered trees
+  pub version : trees 0 ≡ database.trees 0
+  pub rows : stored_in trees ≡ change (held_by database)
+
+-- the same of what was committed, where the connection was open and its database ours
 abbrev pub AreChanged : State → (Stored → Stored) → Trees → Type 0
-AreChanged old change trees =
-    IsTrue old.is_open → IsOurs old.committed → stored_in trees ≡ change (held_by old.committed)
+AreChanged old change trees = IsTrue old.is_open → IsOurs old.committed → HaveChange old.committed change trees
 
 pub record IsCommitted {Answer Fault : Type 0} (old new : State) (result : Result Answer Fault) (change : Stored → Stored) : Type 0 where
   pub done : OnOk result (HasCleanDisk new → IsTrue new.is_open
-      × (IsOurs old.committed → IsKnown new.committed × (held_by new.committed ≡ change (held_by old.committed))))
+      × (IsOurs old.committed → (new.committed.schema ≡ bureau) × HaveChange old.committed change new.committed.trees))
   pub refused : OnErr result (HasCleanDisk new → KeepsCommit old new)
   -- a stop may leave the change, and else what it might have left before
   pub survives : Survives old new (AreChanged old change)

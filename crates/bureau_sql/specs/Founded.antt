@@ -1,15 +1,29 @@
 -- What is left of a connection at rest by a transaction that leads from one kind of database to another.
-use Rattle.std.specs.Prelude.{◌≡◌, IsTrue, OnErr, OnOk, Result}
+use Rattle.std.specs.Prelude.{◌≡◌, ◌≢◌, ◌↔◌, IsTrue, List, OnErr, OnOk, Result}
+use Rattle.bureau_store.specs.Store.{IsOfCall}
+use Rattle.bureau_store.specs.declared.caller.CallerRow.{CallerRow}
+use Rattle.bureau_store.specs.declared.fault.StoreFault.{StoreFault}
+use Rattle.bureau_store.specs.declared.fault.StoreFault.TheVariants.{Shape}
 use Rattle.sqlite.specs.Effect.{Database}
 use Rattle.sqlite.specs.State.{HasCleanDisk, KeepsCommit, State, Survives}
 use Rattle.sqlite_trees.specs.Tree.{Trees}
+use Rattle.sql_writes.specs.Making.{IsEmpty, IsOpened}
 
 -- the trees are those of a database of the second kind, where what was committed is of the first
 abbrev pub AreLed : State → (Database → Type 0) → (Database → Type 0) → Trees → Type 0
 AreLed old From To trees = IsTrue old.is_open → From old.committed → (database : Database) × To database × (database.trees ≡ trees)
 
 pub record IsLed {Answer Fault : Type 0} (old new : State) (result : Result Answer Fault) (From To : Database → Type 0) : Type 0 where
-  pub done : OnOk result (HasCleanDisk new → IsTrue new.is_open × (From old.committed → To new.committed))
+  pub done : OnOk result (HasCleanDisk new → IsTrue old.is_open × IsTrue new.is_open × (From old.committed → To new.committed))
   pub refused : OnErr result (HasCleanDisk new → KeepsCommit old new)
   -- a stop may leave such a database, and else what it might have left before
   pub survives : Survives old new (AreLed old From To)
+
+-- the trees are those of a store with these callers and nothing else, where what was committed is an empty database
+abbrev pub AreFounded : State → List CallerRow → Trees → Type 0
+AreFounded old callers = AreLed old IsEmpty (IsOpened callers)
+
+-- Why a store isn't made: its place is taken just where the database of an open connection isn't empty.
+pub record IsNotMade (at : State) (fault : StoreFault) : Type 0 where
+  pub taken : IsTrue at.is_open → (fault ≡ Shape) ↔ (IsEmpty at.committed → ⊥)
+  pub other : fault ≢ Shape → IsOfCall fault

@@ -14,7 +14,7 @@ use Rattle.sql_tables.proofs.ChangeFacts.{tables_in_order}
 use Rattle.sql_state.specs.Ours.{IsOurs, held_by}
 use Rattle.sql_state.specs.Reading.{OnlyReads}
 use Rattle.bureau_sql.specs.SqlState.{SqlState}
-use Rattle.bureau_sql.specs.SqlView.{IsOurStore, shown, sql_view}
+use Rattle.bureau_sql.specs.SqlView.{IsOurStore, shown, sql_view, tables_in}
 
 pub clean_before : (Commits : Trees → Type 0) (old new : State) → Survives old new Commits → HasCleanDisk new → HasCleanDisk old
 clean_before commits old new survives clean = omega (arith, survives.clean, clean)
@@ -62,15 +62,21 @@ module _ {S : Type 0} (g : Ghosts S) where
     keeps = λ old new kept. record {
       goes = record {
         clean = clean_before (λ trees. ⊥) (shown g old) (shown g new) kept.reads.survives;
-        ours = λ ours clean standing.
-            let first : old.failures ≡ 0 = omega (arith, kept.failures_rise, standing) in
-            let is_open = kept.stays_open standing clean (ours first).0 in
-            (is_open, subst IsOurs (sym ((kept.reads.keeps clean).committed is_open)) (ours first).1);
+        ours = λ ours clean. (
+          λ trees left. elim (kept.reads.survives.crash clean trees left) [
+            | inl was ↦ ours.0 trees was
+            | inr none ↦ absurd none
+          ],
+          λ standing.
+              let first : old.failures ≡ 0 = omega (arith, kept.failures_rise, standing) in
+              let is_open = kept.stays_open standing clean (ours.1 first).0 in
+              (is_open, subst IsOurs (sym ((kept.reads.keeps clean).committed is_open)) (ours.1 first).1),
+        );
         failures_rise = kept.failures_rise;
       };
       stays = λ ours clean this stands standing.
           let first : old.failures ≡ 0 = omega (arith, kept.failures_rise, standing) in
-          let is_open = kept.stays_open standing clean (ours first).0 in
+          let is_open = kept.stays_open standing clean (ours.1 first).0 in
           ap (λ database. tables_of (held_by database)) ((kept.reads.keeps clean).committed is_open) ∙ stands first;
       leaves = λ ours clean this left. left_by old new this kept.reads clean left;
     };
@@ -88,6 +94,9 @@ module _ {S : Type 0} (g : Ghosts S) where
 
   pub sql_in_order : (store : SqlState S) (this : Tables) → IsOurStore g store → IsOpen (sql_view g) store → (sql_view g).stands store this → AreInOrder this
   sql_in_order store this ours standing stands = subst AreInOrder (stands standing) (tables_in_order (held_by (shown g store).committed))
+
+  pub sql_holds_tables : (store : SqlState S) → IsOurStore g store → IsOpen (sql_view g) store → (this : Tables) × (sql_view g).stands store this
+  sql_holds_tables store ours standing = (tables_in g store, λ open_still. refl)
 
   -- ---- and with what is published alone
 

@@ -8,9 +8,13 @@ use Rattle.sqlite_trees.specs.Tree.{Trees}
 use Rattle.sqlite_trees.specs.declared.store.Store.{Ghosts}
 use Rattle.sql_tables.specs.InTrees.{stored_in}
 use Rattle.sql_tables.specs.Stored.{tables_of}
-use Rattle.sql_state.specs.Ours.{IsOurs, held_by}
+use Rattle.sql_state.specs.Ours.{AreOurs, IsOurs, held_by}
 use Rattle.sql_state.specs.Reading.{OnlyReads}
 use Rattle.bureau_sql.specs.SqlState.{SqlState}
+
+-- a stop of an open connection leaves what is committed, and nothing else
+abbrev pub IsAtRest : State → Type 0
+IsAtRest at = (trees : Trees) → IsTrue at.is_open → at.may_leave trees → trees ≡ at.committed.trees
 
 module _ {S : Type 0} (g : Ghosts S) where
   -- what its connection shows
@@ -21,9 +25,11 @@ module _ {S : Type 0} (g : Ghosts S) where
   abbrev pub tables_in : SqlState S → Tables
   tables_in store = tables_of (held_by (shown store).committed)
 
-  -- Until the first failure its connection is open, and the bureau made its database.
+  -- A stop leaves rows that the bureau wrote. Until the first failure its connection is open, and its database is ours.
   abbrev pub IsOurStore : SqlState S → Type 0
-  IsOurStore store = store.failures ≡ 0 → IsTrue (shown store).is_open × IsOurs (shown store).committed
+  IsOurStore store =
+      ((trees : Trees) → (shown store).may_leave trees → AreOurs trees)
+      × (store.failures ≡ 0 → IsTrue (shown store).is_open × IsOurs (shown store).committed)
 
   -- What a read leaves: nothing is committed, and the connection stays open where no failure is counted.
   pub record Stays (old new : SqlState S) : Type 0 where

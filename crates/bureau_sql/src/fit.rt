@@ -10,6 +10,7 @@ ghost use Rattle.bureau_store.specs.Effect.{publication, zone_put, zone_dropped,
 ghost use Rattle.bureau_store.specs.declared.caller.Caller.TheVariants.{Client, Publisher};
 ghost use Rattle.sql_tables.specs.Fit.{CanBeWritten, IsFitChange, IsHold, IsRecord};
 
+use bureau_store::CallerRow;
 use catalogue::{Change, Sysmod};
 use holddata::{Hold, HoldChange};
 use mcs_reader::Id;
@@ -37,6 +38,16 @@ fn rows(rows: &[ZoneRow])
 {
     for row in rows {
         id(&row.sysmod);
+    }
+}
+
+/// The callers of a new store.
+#[tactic(auto, using(crate::proofs::FitFacts::all_so_far, crate::proofs::FitFacts::all_seen))]
+pub(crate) fn callers(callers: &[CallerRow])
+    ensures { AllByRecursion (λ caller. IsId caller.name) callers.now }
+{
+    for caller in callers {
+        id(&caller.name);
     }
 }
 

@@ -1,17 +1,30 @@
 //! A store is made on a connection.
-ghost use Rattle.std.specs.Prelude.{◌≡◌, IfErr, IfOk, IsTrue, false};
+ghost use Rattle.std.specs.Prelude.{◌≡◌, ◌↔◌, IfErr, IfOk, IsTrue, false, true};
+ghost use Rattle.bureau_store.specs.Tables.{opened};
 ghost use Rattle.sqlite.specs.Held.{state};
-ghost use Rattle.sqlite.specs.State.{HasCleanDisk, KeepsCommit};
+ghost use Rattle.sqlite.specs.State.{HasCleanDisk, KeepsCommit, Survives};
 ghost use Rattle.sql_writes.specs.Making.{IsEmpty, IsOpened};
-ghost use Rattle.bureau_sql.specs.Founded.{IsLed};
-ghost use Rattle.bureau_sql.specs.SqlView.{shown};
+ghost use Rattle.bureau_sql.specs.Founded.{AreFounded, IsLed, IsNotMade};
+ghost use Rattle.bureau_sql.specs.SqlView.{IsAtRest, IsOurStore, shown, sql_view};
 
-use crate::SqlStore;
 use crate::commit::{begin, end};
+use crate::store::refusal_of;
+use crate::{SqlStore, fit};
 use bureau_store::{CallerRow, StoreFault};
-use sqlite::{Connection, Error, ErrorCode};
+use sqlite::{Connection, Error};
 use sqlite_trees::store::Alter;
 use std::alloc::Global;
+
+// Whether the database has no table, no index and no view.
+fn is_empty<S: Alter>(conn: &Connection<S>) -> bool
+    requires rest { conn.now.in_transaction ≡ false }
+    ensures { IsTrue (state S.Store conn.now).is_open
+        → (result ≡ true) ↔ IsEmpty (state S.Store conn.now).committed }
+{
+    let _settled = conn.is_autocommit();
+    let schema = conn.schema();
+    schema.tables.is_empty() && schema.indexes.is_empty() && schema.views.is_empty()
+}
 
 // Makes the tables with the callers' rows, in one transaction.
 fn found<S: Alter>(conn: &mut Connection<S>, callers: &[CallerRow]) -> Result<(), Error>
@@ -24,24 +37,15 @@ fn found<S: Alter>(conn: &mut Connection<S>, callers: &[CallerRow]) -> Result<()
     end(tx, written)
 }
 
-// Why a store isn't made: a table of its name is there, or memory or room ran out; else the device failed.
-fn fault_of(error: Error) -> StoreFault {
-    match error {
-        Error::SqliteFailure(ErrorCode::NameTaken) => StoreFault::Shape,
-        Error::SqliteFailure(ErrorCode::OutOfMemory) => StoreFault::Memory,
-        Error::SqliteFailure(ErrorCode::TooBig | ErrorCode::DiskFull) => StoreFault::Size,
-        _ => StoreFault::Device,
-    }
-}
-
 impl<S: Alter> SqlStore<S> {
-    /// A store with these callers, and empty otherwise, in a database that has no tables of a store. All is made in one
-    /// transaction. The connection isn't in a transaction.
+    /// A store with these callers, and empty otherwise, in a database that is empty. All is made in one transaction: a stop
+    /// leaves what was there, or the store. The connection isn't in a transaction.
     ///
     /// # Errors
     ///
-    /// [`StoreFault::Shape`] where a table of a store is there already; `Memory`, `Size` or `Device` where memory or room ran out
-    /// or the device failed. Each hands the connection back, with nothing committed.
+    /// [`StoreFault::Shape`] where a table, an index or a view is there already; `Memory`, `Size` or `Device` where memory or
+    /// room ran out or the device failed. Each hands the connection back, with nothing committed.
+    #[tactic(auto, using(crate::proofs::FoundedFacts::ours_made, crate::proofs::FoundedFacts::tables_made))]
     pub fn init(
         alloc: Global,
         mut conn: Connection<S>,
@@ -50,17 +54,27 @@ impl<S: Alter> SqlStore<S> {
         requires rest { conn.in_transaction ≡ false }
         ensures made { IfOk result (λ store. store.failures ≡ 0) }
         ensures opened { IfOk result (λ store. HasCleanDisk (shown S.Store store) → IsTrue (shown S.Store store).is_open
-            × (IsEmpty (state S.Store conn).committed → IsOpened callers.now (shown S.Store store).committed)) }
-        ensures refused { IfErr result (λ refused. HasCleanDisk (state S.Store refused.1) → KeepsCommit (state S.Store conn) (state S.Store refused.1)) }
+            × IsEmpty (state S.Store conn).committed × IsOpened callers.now (shown S.Store store).committed) }
+        ensures ours { IfOk result (λ store. HasCleanDisk (shown S.Store store) → IsOurStore S.Store store) }
+        ensures tables { IfOk result (λ store. HasCleanDisk (shown S.Store store)
+            → (sql_view S.Store).stands store (opened callers.now)) }
+        ensures rests { IfOk result (λ store. IsAtRest (shown S.Store store)) }
+        ensures survives { IfOk result (λ store. Survives (state S.Store conn) (shown S.Store store)
+            (AreFounded (state S.Store conn) callers.now)) }
+        ensures refused { IfErr result (λ refused. HasCleanDisk (state S.Store refused.1)
+            → KeepsCommit (state S.Store conn) (state S.Store refused.1)) }
+        ensures cause { IfErr result (λ refused. IsNotMade (state S.Store conn) refused.0) }
         ensures rest { IfErr result (λ refused. refused.1.in_transaction ≡ false) }
+        ensures stopped { IfErr result (λ refused. Survives (state S.Store conn) (state S.Store refused.1)
+            (AreFounded (state S.Store conn) callers.now)) }
     {
+        if !is_empty(&conn) {
+            return Err((StoreFault::Shape, conn));
+        }
+        fit::callers(callers);
         match found(&mut conn, callers) {
-            Ok(()) => Ok(SqlStore {
-                alloc,
-                conn,
-                failures: 0,
-            }),
-            Err(error) => Err((fault_of(error), conn)),
+            Ok(()) => Ok(SqlStore::over(alloc, conn)),
+            Err(error) => Err((refusal_of(error), conn)),
         }
     }
 }

@@ -1,10 +1,10 @@
 //! The bureau's store in a database.
 //!
 //! - [`SqlStore`]: the store, over a connection of the kit's `sqlite`: [`SqlStore::init`], [`SqlStore::open`],
-//!   [`SqlStore::into_connection`]. It is a `Published`
+//!   [`SqlStore::into_connection`]. It is a `Published` and a `Store`
 //!
-//! `specs/` says how such a store is looked at (`SqlView`), how what a connection gives is told (`Told`), and what a change
-//! of it leaves (`Committed`).
+//! `specs/` says how such a store is looked at (`SqlView`), how what a connection gives is told (`Told`), what a change of it
+//! leaves (`Committed`), how it is made (`Founded`), and why a connection isn't taken for one (`Opening`).
 #![tactic(auto)]
 
 mod changes;
@@ -15,5 +15,6 @@ mod open;
 mod probe;
 mod published;
 mod store;
+mod tables;
 
 pub use store::SqlStore;

@@ -1,11 +1,18 @@
 //! What is looked at before a connection is taken for a store.
-ghost use Rattle.std.specs.Prelude.{◌≡◌, IfErr, IfOk, IsTrue, OnOk, false};
+ghost use Rattle.std.specs.Prelude.{◌≡◌, ◌≢◌, ℕ, IfErr, IfOk, IsTrue, OnOk, Some, false};
+ghost use Rattle.std.specs.List.{AllByRecursion};
+ghost use Rattle.bureau_store.specs.Store.{IsOfRead};
+ghost use Rattle.bureau_store.specs.declared.fault.StoreFault.TheVariants.{Shape};
 ghost use Rattle.sqlite.specs.Held.{state};
 ghost use Rattle.sqlite.specs.State.{HasCleanDisk};
-ghost use Rattle.sql_state.specs.Ours.{IsOurs};
+ghost use Rattle.sqlite.specs.declared.error.Error.TheVariants.{SqlInputError};
+ghost use Rattle.sqlite_resolve.specs.declared.error.CompileError.{CompileError};
+ghost use Rattle.sql_state.specs.Ours.{IsOurs, held_by};
 ghost use Rattle.sql_state.specs.Reading.{OnlyReads};
 ghost use Rattle.sql_reads.specs.Version.{HasVersion};
-ghost use Rattle.bureau_sql.specs.SqlView.{IsOurStore, shown};
+ghost use Rattle.sql_tables.specs.Stored.{tables_of};
+ghost use Rattle.bureau_sql.specs.Opening.{IsNoStore, IsUnderstood};
+ghost use Rattle.bureau_sql.specs.SqlView.{IsAtRest, IsOurStore, shown, sql_view};
 
 use crate::SqlStore;
 use crate::probe::is_open;
@@ -18,10 +25,14 @@ use std::alloc::Global;
 
 // Whether the connection has the tables and the columns that a text reads.
 fn can_read<S: Alter>(conn: &mut Connection<S>, text: &str) -> Result<(), StoreFault>
-    requires { conn.old.in_transaction ≡ false }
+    requires rest { conn.old.in_transaction ≡ false }
+    requires text { IsUnderstood text.now }
     ensures reads { OnlyReads (state S.Store conn.old) (state S.Store conn.new) }
     ensures mode { conn.new.in_transaction ≡ false }
+    ensures cause { IfErr result (λ fault. HasCleanDisk (state S.Store conn.new)
+        → IsNoStore (state S.Store conn.old) fault) }
 {
+    let _settled = conn.is_autocommit();
     match conn.prepare(text) {
         Ok(_) => Ok(()),
         Err(error) => Err(fault_of(error)),
@@ -29,7 +40,10 @@ fn can_read<S: Alter>(conn: &mut Connection<S>, text: &str) -> Result<(), StoreF
 }
 
 // Why a text can't be read.
-fn fault_of(error: Error) -> StoreFault {
+fn fault_of(error: Error) -> StoreFault
+    ensures shape { result ≡ Shape → (fault : CompileError) × (error ≡ SqlInputError fault) }
+    ensures other { result ≢ Shape → IsOfRead result }
+{
     match error {
         Error::SqlInputError(_) => StoreFault::Shape,
         Error::SqliteFailure(ErrorCode::OutOfMemory) => StoreFault::Memory,
@@ -43,7 +57,10 @@ fn is_version_1<S: Alter>(conn: &mut Connection<S>) -> Result<(), StoreFault>
     ensures reads { OnlyReads (state S.Store conn.old) (state S.Store conn.new) }
     ensures mode { conn.new.in_transaction ≡ false }
     ensures is_open { OnOk result (HasCleanDisk (state S.Store conn.new) → IsTrue (state S.Store conn.new).is_open) }
-    ensures version { OnOk result (HasCleanDisk (state S.Store conn.new) → HasVersion 1 (state S.Store conn.old).committed) }
+    ensures version { OnOk result (HasCleanDisk (state S.Store conn.new)
+        → HasVersion (Some 1) (state S.Store conn.old).committed) }
+    ensures cause { IfErr result (λ fault. HasCleanDisk (state S.Store conn.new)
+        → IsNoStore (state S.Store conn.old) fault) }
 {
     match version(conn) {
         Ok(Some(1)) => Ok(()),
@@ -56,9 +73,12 @@ fn is_version_1<S: Alter>(conn: &mut Connection<S>) -> Result<(), StoreFault>
 // Whether each of these texts can be read.
 #[tactic(auto, using(crate::proofs::OpenFacts::reads_after, crate::proofs::OpenFacts::no_read_yet))]
 fn can_read_all<S: Alter>(conn: &mut Connection<S>, texts: &[&str]) -> Result<(), StoreFault>
-    requires { conn.old.in_transaction ≡ false }
+    requires rest { conn.old.in_transaction ≡ false }
+    requires texts { AllByRecursion (λ text. IsUnderstood text.now) texts.now }
     ensures reads { OnlyReads (state S.Store conn.old) (state S.Store conn.new) }
     ensures mode { conn.new.in_transaction ≡ false }
+    ensures cause { IfErr result (λ fault. HasCleanDisk (state S.Store conn.new)
+        → IsNoStore (state S.Store conn.old) fault) }
 {
     for text in texts {
         can_read(conn, text)?;
@@ -66,17 +86,14 @@ fn can_read_all<S: Alter>(conn: &mut Connection<S>, texts: &[&str]) -> Result<()
     Ok(())
 }
 
-// Whether a connection holds a store of version 1 and is open.
-#[tactic(auto, using(crate::proofs::OpenFacts::reads_after, crate::proofs::OpenFacts::found_before))]
-fn holds_a_store<S: Alter>(conn: &mut Connection<S>) -> Result<(), StoreFault>
-    requires { conn.old.in_transaction ≡ false }
+// Whether the connection has the tables and the columns that a store reads.
+fn has_tables<S: Alter>(conn: &mut Connection<S>) -> Result<(), StoreFault>
+    requires rest { conn.old.in_transaction ≡ false }
     ensures reads { OnlyReads (state S.Store conn.old) (state S.Store conn.new) }
     ensures mode { conn.new.in_transaction ≡ false }
-    ensures is_open { OnOk result (HasCleanDisk (state S.Store conn.new) → IsTrue (state S.Store conn.new).is_open) }
-    ensures version { OnOk result (HasCleanDisk (state S.Store conn.new) → HasVersion 1 (state S.Store conn.old).committed) }
+    ensures cause { IfErr result (λ fault. HasCleanDisk (state S.Store conn.new)
+        → IsNoStore (state S.Store conn.old) fault) }
 {
-    can_read(conn, read::version())?;
-    is_version_1(conn)?;
     can_read_all(
         conn,
         &[
@@ -89,7 +106,24 @@ fn holds_a_store<S: Alter>(conn: &mut Connection<S>) -> Result<(), StoreFault>
             read::zone_rows(),
             read::received(),
         ],
-    )?;
+    )
+}
+
+// Whether a connection holds a store of version 1 and is open.
+#[tactic(auto, using(crate::proofs::OpenFacts::reads_after, crate::proofs::OpenFacts::found_before, crate::proofs::OpenFacts::no_store_before))]
+fn holds_a_store<S: Alter>(conn: &mut Connection<S>) -> Result<(), StoreFault>
+    requires { conn.old.in_transaction ≡ false }
+    ensures reads { OnlyReads (state S.Store conn.old) (state S.Store conn.new) }
+    ensures mode { conn.new.in_transaction ≡ false }
+    ensures is_open { OnOk result (HasCleanDisk (state S.Store conn.new) → IsTrue (state S.Store conn.new).is_open) }
+    ensures version { OnOk result (HasCleanDisk (state S.Store conn.new)
+        → HasVersion (Some 1) (state S.Store conn.old).committed) }
+    ensures cause { IfErr result (λ fault. HasCleanDisk (state S.Store conn.new)
+        → IsNoStore (state S.Store conn.old) fault) }
+{
+    can_read(conn, read::version())?;
+    is_version_1(conn)?;
+    has_tables(conn)?;
     if !is_open(conn) {
         return Err(StoreFault::Device);
     }
@@ -103,8 +137,9 @@ impl<S: Alter> SqlStore<S> {
     ///
     /// [`StoreFault::Shape`] where a table of a store or one of its columns is missing, [`StoreFault::Version`] where the
     /// tables are of another version than 1; `Memory` where memory ran out, and `Device` where the device failed. Each hands
-    /// the connection back, with its tables as they were.
-    #[tactic(auto, using(crate::proofs::OpenFacts::ours_opened))]
+    /// the connection back, with its tables as they were. The store of a database that the bureau made is refused for want of
+    /// memory or the device alone.
+    #[tactic(auto, using(crate::proofs::OpenFacts::ours_opened, crate::proofs::OpenFacts::tables_opened))]
     pub fn open(
         alloc: Global,
         mut conn: Connection<S>,
@@ -113,17 +148,20 @@ impl<S: Alter> SqlStore<S> {
         ensures opened { IfOk result (λ store. store.failures ≡ 0) }
         ensures reads { IfOk result (λ store. OnlyReads (state S.Store conn) (shown S.Store store)) }
         ensures is_open { IfOk result (λ store. HasCleanDisk (shown S.Store store) → IsTrue (shown S.Store store).is_open) }
-        ensures version { IfOk result (λ store. HasCleanDisk (shown S.Store store) → HasVersion 1 (state S.Store conn).committed) }
-        ensures ours { IfOk result (λ store. HasCleanDisk (shown S.Store store) → IsOurs (state S.Store conn).committed → IsOurStore S.Store store) }
+        ensures version { IfOk result (λ store. HasCleanDisk (shown S.Store store)
+            → HasVersion (Some 1) (state S.Store conn).committed) }
+        ensures ours { IfOk result (λ store. HasCleanDisk (shown S.Store store)
+            → IsOurs (state S.Store conn).committed → IsOurStore S.Store store) }
+        ensures tables { IfOk result (λ store. HasCleanDisk (shown S.Store store)
+            → (sql_view S.Store).stands store (tables_of (held_by (state S.Store conn).committed))) }
+        ensures rests { IfOk result (λ store. IsAtRest (shown S.Store store)) }
         ensures refused { IfErr result (λ refused. OnlyReads (state S.Store conn) (state S.Store refused.1)) }
         ensures rest { IfErr result (λ refused. refused.1.in_transaction ≡ false) }
+        ensures cause { IfErr result (λ refused. HasCleanDisk (state S.Store refused.1)
+            → IsNoStore (state S.Store conn) refused.0) }
     {
         match holds_a_store(&mut conn) {
-            Ok(()) => Ok(SqlStore {
-                alloc,
-                conn,
-                failures: 0,
-            }),
+            Ok(()) => Ok(SqlStore::over(alloc, conn)),
             Err(fault) => Err((fault, conn)),
         }
     }

@@ -4,9 +4,8 @@ ghost use Rattle.catalogue.specs.View.{HasFailed};
 ghost use Rattle.catalogue.specs.declared.fault.SourceFault.TheVariants.{Device, Memory};
 ghost use Rattle.bureau_store.specs.Store.{IsOfCall, IsOfRead};
 ghost use Rattle.bureau_store.specs.declared.fault.StoreFault.TheVariants.{Device as StoreDevice};
-ghost use Rattle.sqlite_trees.specs.Tree.{Trees};
 ghost use Rattle.sql_state.specs.Reading.{OnlyReads};
-ghost use Rattle.bureau_sql.specs.SqlView.{shown, sql_view};
+ghost use Rattle.bureau_sql.specs.SqlView.{IsAtRest, shown, sql_view};
 ghost use Rattle.bureau_sql.specs.Told.{IsRefusedAs, IsTold};
 
 use crate::probe::is_open;
@@ -19,6 +18,7 @@ use std::alloc::Global;
 use std::marker::Model;
 
 /// All that the bureau keeps, in a database. A contract sees the connection, which is at rest, and how often it failed.
+#[derive(Drop)]
 pub struct SqlStore<S: Alter> {
     pub(crate) alloc: Global,
     pub(crate) conn: Connection<S>,
@@ -39,6 +39,19 @@ impl<S: Alter> Model for SqlStore<S> {
 }
 
 impl<S: Alter> SqlStore<S> {
+    // A store over a connection that has not failed.
+    pub(crate) fn over(alloc: Global, conn: Connection<S>) -> SqlStore<S>
+        requires rest { conn.in_transaction ≡ false }
+        ensures same { (result.conn ≡ conn) × (result.failures ≡ 0) }
+        ensures rests { IsAtRest (shown S.Store result) }
+    {
+        SqlStore {
+            alloc,
+            conn,
+            failures: 0,
+        }
+    }
+
     /// The connection, with the tables as they are.
     pub fn into_connection(self) -> Connection<S>
         ensures { result ≡ self.conn }
@@ -136,8 +149,7 @@ impl<S: Alter> SqlStore<S> {
     pub(crate) fn made(&mut self, made: Result<(), Error>) -> Result<(), StoreFault>
         ensures told { IsTold S.Store StoreDevice self.old self.new made result }
         ensures refusal { IfErr result IsOfCall }
-        ensures rests { (trees : Trees) → IsTrue (shown S.Store self.new).is_open
-            → (shown S.Store self.new).may_leave trees → trees ≡ (shown S.Store self.new).committed.trees }
+        ensures rests { IsAtRest (shown S.Store self.new) }
     {
         match made {
             Ok(()) => Ok(()),
@@ -147,7 +159,7 @@ impl<S: Alter> SqlStore<S> {
 }
 
 // What a refusal of the database may be told as: want of memory, or of room. All else is a failure.
-fn refusal_of(error: Error) -> StoreFault
+pub(crate) fn refusal_of(error: Error) -> StoreFault
     ensures { IsOfCall result }
 {
     match error {

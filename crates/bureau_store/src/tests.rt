@@ -290,6 +290,59 @@ fn each_client_has_what_it_put(rt: HostRuntime) -> Result<(), Fail> {
     Ok(())
 }
 
+// ---- many clients
+
+const CLIENTS: u32 = 200;
+
+// The name of a client, by its number.
+fn client_at(alloc: Global, i: u32) -> Result<Id, Fail> {
+    id(format!(in alloc; "C{i:03}")?.as_bytes())
+}
+
+// A client puts a zone, and a received list, of one SYSMOD each, which no other client has.
+fn put_own(alloc: Global, store: &mut ListStore, i: u32) -> Result<(), Fail> {
+    let client = client_at(alloc, i)?;
+    let rows = format!(in alloc; "SYSMOD,STATE\nUA{i:05},APPLIED\n")?;
+    put_rows(alloc, store, &client, 1, &id(b"TGT1")?, rows.as_bytes())?;
+    let received = format!(in alloc; "SYSMOD\nUB{i:05}\n")?;
+    put_received(alloc, store, &client, 2, received.as_bytes())
+}
+
+// Whether a client drops its zone.
+fn drops(i: u32) -> bool {
+    i % 3 == 0
+}
+
+// What the store is to tell of a client.
+fn own(alloc: Global, i: u32) -> Result<String, Fail> {
+    let text = if drops(i) {
+        format!(in alloc; "3 dropped; received UB{i:05}")?
+    } else {
+        format!(in alloc; "2 received; TGT1 1: UA{i:05}; received UB{i:05}")?
+    };
+    Ok(text)
+}
+
+#[test]
+fn each_of_200_clients_has_what_it_put(rt: HostRuntime) -> Result<(), Fail> {
+    let alloc = rt.alloc();
+    let mut store = opened(alloc)?;
+    // the last client comes first
+    for i in (0..CLIENTS).rev() {
+        put_own(alloc, &mut store, i)?;
+    }
+    for i in 0..CLIENTS {
+        if drops(i) {
+            store.drop_zone(&client_at(alloc, i)?, 3, b"dropped", &id(b"TGT1")?)?;
+        }
+    }
+    for i in 0..CLIENTS {
+        let text = told(alloc, &mut store, &client_at(alloc, i)?)?;
+        assert_eq!(rt; text.as_str(), own(alloc, i)?.as_str());
+    }
+    Ok(())
+}
+
 #[test]
 fn callers_are_known_by_their_tokens(rt: HostRuntime) -> Result<(), Fail> {
     let mut store = opened(rt.alloc())?;

@@ -1,6 +1,6 @@
 -- What a query that counts answers, and what it says of the tables.
-use Rattle.std.proofs.Common.{◌≡◌, ◌<◌, ℕ, suc, Bool, true, false, cond, List, [], ◌∷◌, ◌++◌, length, drop, pos, arith, refl, sym, ◌∙◌, ap, subst, Some, None}
-use Rattle.std.specs.Prelude.{filter, flat_map, map, min, Option}
+use Rattle.std.proofs.Common.{◌≡◌, ◌<◌, ℕ, suc, Bool, true, false, cond, List, [], ◌∷◌, ◌++◌, length, drop, arith, refl, sym, ◌∙◌, ap, subst, Some}
+use Rattle.std.specs.Prelude.{filter, flat_map, map, min}
 use Rattle.std.specs.List.{AllZip, list_all}
 use Rattle.std.specs.List.Sorted.{IsPermutation}
 use Rattle.std.proofs.lemmas.List.{length-map}
@@ -15,8 +15,7 @@ use Rattle.sqlite_sql.specs.Group.{Grouping, IsSummary, value_over}
 use Rattle.sqlite_sql.specs.Query.{end, inner, matches, page}
 use Rattle.sqlite_sql.specs.Term.{Env, eval, holds}
 use Rattle.sqlite_value.specs.Order.{Row, column}
-use Rattle.sqlite_value.specs.declared.value.Value.{Value}
-use Rattle.sqlite_value.specs.declared.value.Value.TheVariants.{Int, Null, Text}
+use Rattle.sqlite_value.specs.declared.value.Value.TheVariants.{Null, Text}
 use Rattle.sql_tables.specs.InTrees.{columns_of, stored_in}
 use Rattle.sql_tables.specs.Stored.{is_of, tables_of}
 use Rattle.sql_tables.specs.Values.{number_in}

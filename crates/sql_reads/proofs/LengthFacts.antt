@@ -1,6 +1,6 @@
 -- How many there are: what is read of rows with keys of their own is as many.
-use Rattle.std.proofs.Common.{◌≡◌, ◌≢◌, ◌+◌, ℕ, suc, Bool, true, false, List, [], ◌∷◌, length, cond, refl, sym, ◌∙◌, ap, subst, arith, Some, None}
-use Rattle.std.specs.Prelude.{filter, fold, map, reverse, take, is_some, Option, option_map, option_and_then, unwrap_or}
+use Rattle.std.proofs.Common.{◌≡◌, ◌≢◌, ◌+◌, ℕ, suc, Bool, true, false, List, [], ◌∷◌, length, cond, refl, sym, ◌∙◌, ap, ap₂, subst, arith, Some, None}
+use Rattle.std.specs.Prelude.{filter, find, fold, map, reverse, take, is_some, Option, option_map}
 use Rattle.std.specs.BTreeSet.{insert_key}
 use Rattle.std.specs.List.{AllByRecursion, Contains, cons_option, filter_map}
 use Rattle.std.specs.Ordering.{match_ordering}
@@ -21,19 +21,21 @@ use Rattle.catalogue.specs.Content as content
 use Rattle.catalogue.specs.Ids.{id_cmp, in_order, same_id}
 use Rattle.catalogue.specs.Publication.{catalogue_of}
 use Rattle.catalogue.specs.declared.sysmod.Sysmod.{Sysmod}
-use Rattle.catalogue.proofs.IdFacts.{exact_ids, one_id}
+use Rattle.catalogue.proofs.IdFacts.{exact_ids, itself, one_id}
+use Rattle.zone_lists.specs.declared.zones.ZoneRow.{ZoneRow}
 use Rattle.sqlite_value.specs.Order.{Row, column}
 use Rattle.sql_tables.specs.Fit.{IsHold, IsRecord}
-use Rattle.sql_tables.specs.Rows.{hold_found, hold_row, sysmod_row}
-use Rattle.sql_tables.specs.Stored.{Stored, is_of, names_of, sysmods_of, tables_of}
-use Rattle.sql_tables.specs.Values.{hold_kind_value, id_in, id_value, texts_value}
-use Rattle.sql_tables.specs.Whole.{AreRowsOf, HaveOwnKeys, Head, IsHead, IsWhole, row_of_head}
+use Rattle.sql_tables.specs.Rows.{hold_found, hold_row, sysmod_row, zone_row, zone_row_found}
+use Rattle.sql_tables.specs.Stored.{Stored, is_named, is_of, is_of_both, names_of, rows_in_order, shown, sysmods_of, tables_of, zone_rows_of}
+use Rattle.sql_tables.specs.Values.{hold_kind_value, id_in, id_value, state_value, texts_value}
+use Rattle.sql_tables.specs.Whole.{AreRowsOf, HaveOwnKeys, Head, IsHead, IsPlace, IsWhole, Place, row_of_head, row_of_place}
 use Rattle.sql_tables.proofs.ContentFacts.{key_itself, last_under, left_put}
 use Rattle.sql_tables.proofs.MemberFacts.{first_in, none_found, rest_in}
 use Rattle.sql_tables.proofs.RecordFacts.{catalogue_ids}
 use Rattle.sql_tables.proofs.RowFacts.{hold_again}
-use Rattle.sql_tables.proofs.ValueFacts.{id_again, named_value}
-use Rattle.sql_tables.proofs.WholeFacts.{all_filter, own_filtered}
+use Rattle.sql_tables.proofs.ValueFacts.{id_again, named_value, state_again}
+use Rattle.sql_tables.proofs.WholeFacts.{own_filtered}
+use Rattle.sql_reads.proofs.JoinFacts.{both}
 use Rattle.sql_reads.proofs.PublishedFacts.{sysmods_ids}
 
 -- ---- keys put in order
@@ -74,6 +76,10 @@ module _ {K : Type 0} (cmp : K → K → Ordering) (exact : CmpEqualImpliesEq cm
       (λ j differ all. insert_all (λ x. j ≢ x) sorted k (λ e. differ (sym e)) all) ks apart.0 new.1) in
       omega (arith, rest, insert_new sorted k new.0)
 
+  fold_all : (P : K → Type 0) (sorted ks : List K) → AllByRecursion P sorted → AllByRecursion P ks → AllByRecursion P (fold (insert_key cmp) sorted ks)
+  fold_all P sorted [] all more = all
+  fold_all P sorted (k ∷ ks) all more = fold_all P (insert_key cmp sorted k) ks (insert_all P sorted k more.0 all) more.1
+
 none_yet : {K : Type 0} (ks : List K) → AllByRecursion (λ k. AllByRecursion (λ x. k ≢ x) []) ks
 none_yet [] = tt
 none_yet (k ∷ ks) = (tt, none_yet ks)
@@ -102,6 +108,45 @@ module _ {K : Type 0} (columns : ℕ) (f : Row → Option K) (P : Row → Type 0
   pub read_length : (rows : List Row) → AllByRecursion P rows → length (filter_map f rows) ≡ length rows
   read_length [] all = refl
   read_length (row ∷ rows) all = ap (λ o. length (cons_option o (filter_map f rows))) (said row all.0).1 ∙ ap suc (read_length rows all.1)
+
+-- what is read of rows by a part of what they say
+part_read : {A K : Type 0} (f : Row → Option A) (key : A → K) (rows : List Row) → filter_map (λ row. option_map key (f row)) rows ≡ map key (filter_map f rows)
+part_read f key [] = refl
+part_read {A} f key (row ∷ rows) = by (f row) (part_read f key rows)
+  where
+    by : (o : Option A) → filter_map (λ r. option_map key (f r)) rows ≡ map key (filter_map f rows)
+        → cons_option (option_map key o) (filter_map (λ r. option_map key (f r)) rows) ≡ map key (cons_option o (filter_map f rows))
+    by None rest = rest
+    by (Some a) rest = ap (λ others. key a ∷ others) rest
+
+kept_length : {A B : Type 0} (f : A → Option B) (xs : List A) → AllByRecursion (λ x. is_some (f x) ≡ true) xs → length (filter_map f xs) ≡ length xs
+kept_length f [] all = refl
+kept_length {B = B} f (x ∷ xs) all = by (f x) all.0 (kept_length f xs all.1)
+  where
+    by : (o : Option B) → is_some o ≡ true → length (filter_map f xs) ≡ length xs → length (cons_option o (filter_map f xs)) ≡ suc (length xs)
+    by None h rest = cc
+    by (Some b) h rest = ap suc rest
+
+-- rows put in order are as many, where each has its own SYSMOD
+in_order_rows_length : (rows : List ZoneRow) → AreApart (map (λ (r : ZoneRow). r.sysmod) rows) → length (rows_in_order rows) ≡ length rows
+in_order_rows_length rows apart =
+    let names = map (λ (r : ZoneRow). r.sysmod) rows in
+    kept_length (λ id. find (λ (r : ZoneRow). same_id r.sysmod id) rows) (in_order names)
+    (fold_all id_cmp exact_ids (λ id. is_some (find (λ (r : ZoneRow). same_id r.sysmod id) rows) ≡ true) [] names tt (each rows (λ row inside. inside)))
+    ∙ in_order_length names apart
+    ∙ length-map rows (λ (r : ZoneRow). r.sysmod)
+  where
+    found : (row : ZoneRow) → Contains rows row → is_some (find (λ (r : ZoneRow). same_id r.sysmod row.sysmod) rows) ≡ true
+    found row inside = by (find (λ (r : ZoneRow). same_id r.sysmod row.sysmod) rows) refl
+      where
+        by : (o : Option ZoneRow) → find (λ (r : ZoneRow). same_id r.sysmod row.sysmod) rows ≡ o → is_some o ≡ true
+        by None at = absurd (none_found (λ (r : ZoneRow). same_id r.sysmod row.sysmod) rows at row inside (itself row.sysmod))
+        by (Some r) at = refl
+
+    each : (some : List ZoneRow) → ((row : ZoneRow) → Contains some row → Contains rows row)
+        → AllByRecursion (λ id. is_some (find (λ (r : ZoneRow). same_id r.sysmod id) rows) ≡ true) (map (λ (r : ZoneRow). r.sysmod) some)
+    each [] inside = tt
+    each (row ∷ some) inside = (found row (inside row (first_in row some)), each some (λ r h. inside r (rest_in row r some h)))
 
 -- ---- records
 
@@ -165,6 +210,56 @@ module _ (stored : Stored) (whole : IsWhole stored) where
         ∙ in_order_length read (read_apart 2 (λ row. id_in (column row 1)) IsHeadRow head_name head_alike rows heads (own_filtered 2 (is_of client) stored.heads whole.head_keys))
         ∙ read_length 2 (λ row. id_in (column row 1)) IsHeadRow head_name head_alike rows heads
 
+  -- ---- rows of a zone
+
+  module _ (client zone : List ℕ) where
+    abbrev IsZoneRow : Row → Type 0
+    IsZoneRow row = (r : ZoneRow) × IsId r.sysmod × (row ≡ zone_row client zone r)
+
+    abbrev row_in : Row → Option ZoneRow
+    row_in row = zone_row_found (shown (2 ∷ 3 ∷ []) row)
+
+    abbrev name_in : Row → Option (List ℕ)
+    name_in row = option_map (λ (r : ZoneRow). r.sysmod) (row_in row)
+
+    rows_here : (rows : List Row) → AreRowsOf row_of_place IsPlace rows → AllByRecursion IsZoneRow (filter (is_of_both client zone) rows)
+    rows_here [] all = tt
+    rows_here (row ∷ rows) all = by (is_of_both client zone row) refl (rows_here rows all.1) all.0
+      where
+        by : (b : Bool) → is_of_both client zone row ≡ b → AllByRecursion IsZoneRow (filter (is_of_both client zone) rows) → (p : Place) × IsPlace p × (row ≡ row_of_place p)
+            → AllByRecursion IsZoneRow (cond b (row ∷ filter (is_of_both client zone) rows) (filter (is_of_both client zone) rows))
+        by true at rest (p, fit, is) =
+            let named = both (is_named client (id_value p.client)) (is_named zone (id_value p.zone)) (ap (is_of_both client zone) (sym is) ∙ at) in
+            let of : p.client ≡ client = one_id p.client client (sym (named_value p.client client fit.0) ∙ named.0) in
+            let inside : p.zone ≡ zone = one_id p.zone zone (sym (named_value p.zone zone fit.1) ∙ named.1) in
+            ((p.row, fit.2, is ∙ ap₂ (λ c z. zone_row c z p.row) of inside), rest)
+        by false at rest it = rest
+
+    row_again : (r : ZoneRow) → IsId r.sysmod → zone_row_found (id_value r.sysmod ∷ state_value r.state ∷ []) ≡ Some r
+    row_again r is = rw (id_again r.sysmod is, state_again r.state) refl
+
+    row_name : (row : Row) → IsZoneRow row → (k : List ℕ) × (name_in row ≡ Some k)
+    row_name row (r, fit, is) = (r.sysmod, ap name_in is ∙ ap (option_map (λ (x : ZoneRow). x.sysmod)) (row_again r fit))
+
+    row_alike : (a b : Row) → IsZoneRow a → IsZoneRow b → name_in a ≡ name_in b → take 3 a ≡ take 3 b
+    unfolding row_name
+    row_alike a b (x, fit, is) (y, fits, at) same =
+        let e : Some x.sysmod ≡ Some y.sysmod = sym (row_name a (x, fit, is)).1 ∙ same ∙ (row_name b (y, fits, at)).1 in
+        let k : x.sysmod ≡ y.sysmod = cc in
+        ap (take 3) is ∙ ap (λ sysmod. id_value client ∷ id_value zone ∷ id_value sysmod ∷ []) k ∙ sym (ap (take 3) at)
+
+    -- as many SYSMODs as rows
+    pub zone_rows_length : length (zone_rows_of stored.rows client zone) ≡ length (filter (is_of_both client zone) stored.rows)
+    zone_rows_length =
+        let rows = filter (is_of_both client zone) stored.rows in
+        let here = rows_here stored.rows whole.rows in
+        let named = part_read row_in (λ (r : ZoneRow). r.sysmod) rows in
+        in_order_rows_length (filter_map row_in rows)
+        (subst AreApart named (read_apart 3 name_in IsZoneRow row_name row_alike rows here (own_filtered 3 (is_of_both client zone) stored.rows whole.row_keys)))
+        ∙ sym (length-map (filter_map row_in rows) (λ (r : ZoneRow). r.sysmod))
+        ∙ ap length (sym named)
+        ∙ read_length 3 name_in IsZoneRow row_name row_alike rows here
+
   -- ---- holds
 
   abbrev IsHoldRow : Row → Type 0
@@ -182,15 +277,6 @@ module _ (stored : Stored) (whole : IsWhole stored) where
       let k : x.key ≡ y.key = cc in
       ap (take 3) is ∙ ap (λ (key : HoldKey). id_value key.sysmod ∷ hold_kind_value key.kind ∷ id_value key.reason ∷ []) k ∙ sym (ap (take 3) at)
 
-keys_of_read : (rows : List Row) → filter_map (λ row. option_map (λ (h : Hold). h.key) (hold_found row)) rows ≡ map (λ (h : Hold). h.key) (filter_map hold_found rows)
-keys_of_read [] = refl
-keys_of_read (row ∷ rows) = by (hold_found row) (keys_of_read rows)
-  where
-    by : (o : Option Hold) → filter_map (λ r. option_map (λ (h : Hold). h.key) (hold_found r)) rows ≡ map (λ (h : Hold). h.key) (filter_map hold_found rows)
-        → cons_option (option_map (λ (h : Hold). h.key) o) (filter_map (λ r. option_map (λ (h : Hold). h.key) (hold_found r)) rows) ≡ map (λ (h : Hold). h.key) (cons_option o (filter_map hold_found rows))
-    by None rest = rest
-    by (Some hold) rest = ap (λ others. hold.key ∷ others) rest
-
 -- as many keys as holds, where each has its own
 named_length : (holds : List Hold) → AreApart (map (λ (h : Hold). h.key) holds) → length (keys_named (map Put holds)) ≡ length holds
 named_length [] apart = refl
@@ -200,14 +286,6 @@ named_length (hold ∷ holds) apart =
     others : (ds : List Hold) → AllByRecursion (λ other. hold.key ≢ other) (map (λ (h : Hold). h.key) ds) → AllByRecursion (λ x. hold.key ≢ x) (keys_named (map Put ds))
     others [] all = tt
     others (d ∷ ds) all = insert_all key_cmp exact_keys (λ x. hold.key ≢ x) (keys_named (map Put ds)) d.key all.0 (others ds all.1)
-
-kept_length : {A B : Type 0} (f : A → Option B) (xs : List A) → AllByRecursion (λ x. is_some (f x) ≡ true) xs → length (filter_map f xs) ≡ length xs
-kept_length f [] all = refl
-kept_length {B = B} f (x ∷ xs) all = by (f x) all.0 (kept_length f xs all.1)
-  where
-    by : (o : Option B) → is_some o ≡ true → length (filter_map f xs) ≡ length xs → length (cons_option o (filter_map f xs)) ≡ suc (length xs)
-    by None h rest = cc
-    by (Some b) h rest = ap suc rest
 
 pub book_length : (holds : List Hold) → AreApart (map (λ (h : Hold). h.key) holds) → length (book_of (map Put holds)) ≡ length holds
 book_length holds apart = kept_length (hold_left (map Put holds)) (keys_named (map Put holds)) (each holds (λ hold inside. inside)) ∙ named_length holds apart
@@ -229,7 +307,7 @@ pub holds_length : (stored : Stored) → IsWhole stored → length (tables_of st
 holds_length stored whole =
     let read = filter_map (λ row. option_map (λ (h : Hold). h.key) (hold_found row)) stored.holds in
     book_length (filter_map hold_found stored.holds)
-    (subst AreApart (keys_of_read stored.holds) (read_apart 3 (λ row. option_map (λ (h : Hold). h.key) (hold_found row)) (IsHoldRow stored whole) (hold_key stored whole) (hold_alike stored whole) stored.holds whole.holds whole.hold_keys))
+    (subst AreApart (part_read hold_found (λ (h : Hold). h.key) stored.holds) (read_apart 3 (λ row. option_map (λ (h : Hold). h.key) (hold_found row)) (IsHoldRow stored whole) (hold_key stored whole) (hold_alike stored whole) stored.holds whole.holds whole.hold_keys))
     ∙ sym (length-map (filter_map hold_found stored.holds) (λ (h : Hold). h.key))
-    ∙ ap length (sym (keys_of_read stored.holds))
+    ∙ ap length (sym (part_read hold_found (λ (h : Hold). h.key) stored.holds))
     ∙ read_length 3 (λ row. option_map (λ (h : Hold). h.key) (hold_found row)) (IsHoldRow stored whole) (hold_key stored whole) (hold_alike stored whole) stored.holds whole.holds

@@ -13,3 +13,4 @@ mod QuietFacts
 mod TableFacts
 mod TextFacts
 mod VersionFacts
+mod ZoneFacts

@@ -90,7 +90,7 @@ module _ (old mid new : State) where
     told = λ clean ours.
         let before = clean_before _ second.reads.survives clean in
         let same : mid.committed ≡ old.committed = (first.reads.keeps before).committed (first.is_open before) in
-        step (held_by old.committed) ours.whole (first.told before ours)
+        step (held_by old.committed) ours.rows.whole (first.told before ours)
         (subst (λ d. Second (held_by d) b) same (second.told clean (subst IsOurs (sym same) ours)));
   }
 

@@ -16,7 +16,7 @@ use Rattle.sql_texts.specs.Found.{is_text, passes}
 use Rattle.sql_texts.specs.Reads.{is_given}
 use Rattle.sql_texts.proofs.AnswerFacts.{same_text}
 
-and_true : (b : Bool) → (b && true) ≡ b
+pub and_true : (b : Bool) → (b && true) ≡ b
 and_true true = refl
 and_true false = refl
 

@@ -1,18 +1,48 @@
 -- The version that a database's row tells.
-use Rattle.std.proofs.Common.{◌≡◌, ℕ, List, [], ◌∷◌, IfSome, None, Ok, Option, Some, subst}
-use Rattle.std.specs.Prelude.{Vec, codes}
+use Rattle.std.proofs.Common.{◌≡◌, ◌∙◌, ℕ, List, [], ◌∷◌, Ok, Option, Some, ap, arith, inl, inr, pos, subst, sym}
+use Rattle.std.specs.Prelude.{Vec, codes, filter, map}
+use Rattle.std.specs.List.{Contains}
+use Rattle.std.specs.List.Sorted.{IsPermutation}
 use Rattle.std.specs.declared.alloc.Global.{Global}
+use Rattle.std.proofs.lemmas.List.Sorted.{Contains-permutation, IsPermutation-sym, length_permutation}
 use Rattle.sqlite.specs.State.{HasCleanDisk, State}
+use Rattle.sqlite.specs.Query.{IsAnswer}
+use Rattle.sqlite.specs.Tree.{Trees}
+use Rattle.sqlite.specs.declared.types.Value.TheVariants.{Int}
 use Rattle.sqlite_value.specs.Order.{Row}
+use Rattle.sql_tables.proofs.MemberFacts.{cases_in, first_in, none_in}
 use Rattle.sql_texts.specs.Meaning.{Reads}
 use Rattle.sql_texts.specs.Reads as read
+use Rattle.sql_texts.specs.Found.{passes, shown}
 use Rattle.sql_texts.specs.Schema.{bureau}
+use Rattle.sql_texts.proofs.AnswerFacts.{table_answer}
+use Rattle.sql_state.specs.Ours.{IsOurs, version_rows}
 use Rattle.sql_reads.specs.Answering.{Answers}
-use Rattle.sql_reads.specs.Version.{HasVersion, Tells}
+use Rattle.sql_reads.specs.Version.{HasVersion, version_in}
 
 pub version_told : {Fault : Type 0} (text : List ℕ) (old new : State) (rows : Vec Row Global) (seen : List Row) → Reads bureau text read.version (codes "version" ∷ []) 0 → seen ≡ rows.items
-    → Answers {Fault = Fault} text [] old new (Ok rows) → (told : Option ℕ) → IfSome told (λ number. Tells number seen)
-    → IfSome told (λ number. HasCleanDisk new → HasVersion number old.committed)
-version_told text old new rows seen reads same answers None tells = tt
-version_told text old new rows seen reads same answers (Some number) tells =
-    λ clean ours. (rows.items, answers.told clean ours read.version (codes "version" ∷ []) 0 reads, subst (Tells number) same tells)
+    → Answers {Fault = Fault} text [] old new (Ok rows) → (told : Option ℕ) → told ≡ version_in seen
+    → HasCleanDisk new → HasVersion told old.committed
+version_told text old new rows seen reads same answers told is clean schema =
+    (rows.items, answers.told clean schema read.version (codes "version" ∷ []) 0 reads, is ∙ ap version_in same)
+
+-- a list of one is in no other order
+one_again : (row : Row) (rows : List Row) → IsPermutation (row ∷ []) rows → rows ≡ row ∷ []
+one_again row [] permuted = absurd (omega (arith, length_permutation (row ∷ []) [] permuted))
+one_again row (other ∷ []) permuted =
+    let here : Contains (row ∷ []) other = Contains-permutation (other ∷ []) (row ∷ []) other (IsPermutation-sym (row ∷ []) (other ∷ []) permuted) (first_in other []) in
+    elim (cases_in row other [] here) [ inl e ↦ ap (λ it. it ∷ []) (sym e) | inr e ↦ absurd (none_in other e) ]
+one_again row (other ∷ more ∷ rows) permuted = absurd (omega (arith, length_permutation (row ∷ []) (other ∷ more ∷ rows) permuted))
+
+version_1 : (trees : Trees) (rows : List Row) → trees 0 ≡ version_rows → IsAnswer read.version trees [] rows → version_in rows ≡ Some 1
+version_1 trees rows is answer =
+    let permuted = table_answer 0 [] (2 ∷ []) (0 ∷ []) trees [] rows answer in
+    let one : IsPermutation ((Int (pos 1) ∷ []) ∷ []) rows = subst (λ stored. IsPermutation (map (shown (2 ∷ [])) (filter (passes [] []) stored)) rows) is permuted in
+    ap version_in (one_again (Int (pos 1) ∷ []) rows one)
+
+-- a database of ours is of version 1
+pub our_version : {Fault : Type 0} (text : List ℕ) (old new : State) (rows : Vec Row Global) (seen : List Row) → Reads bureau text read.version (codes "version" ∷ []) 0 → seen ≡ rows.items
+    → Answers {Fault = Fault} text [] old new (Ok rows) → (told : Option ℕ) → told ≡ version_in seen
+    → HasCleanDisk new → IsOurs old.committed → told ≡ Some 1
+our_version text old new rows seen reads same answers told is clean ours =
+    is ∙ ap version_in same ∙ version_1 old.committed.trees rows.items ours.rows.version (answers.told clean ours.schema read.version (codes "version" ∷ []) 0 reads)

@@ -1,5 +1,5 @@
 -- The version of the tables in a database.
-use Rattle.std.specs.Prelude.{◌≡◌, ℕ, List, [], ◌∷◌, Some}
+use Rattle.std.specs.Prelude.{◌≡◌, ℕ, List, [], ◌∷◌, None, Option}
 use Rattle.sqlite.specs.Effect.{Database}
 use Rattle.sqlite.specs.Query.{IsAnswer}
 use Rattle.sqlite_value.specs.Order.{Row, column}
@@ -7,10 +7,14 @@ use Rattle.sql_tables.specs.Values.{number_in}
 use Rattle.sql_texts.specs.Reads as read
 use Rattle.sql_texts.specs.Schema.{bureau}
 
--- they are one row, which has this number
-abbrev pub Tells : ℕ → List Row → Type 0
-Tells number rows = (row : Row) × (rows ≡ row ∷ []) × (number_in (column row 0) ≡ Some number)
+-- the number of the one row, where there is just one
+abbrev pub version_in : List Row → Option ℕ
+version_in [] = None
+version_in (row ∷ []) = number_in (column row 0)
+version_in (row ∷ other ∷ rows) = None
 
--- In a database with the bureau's tables, the query of the version answers this number alone.
-abbrev pub HasVersion : ℕ → Database → Type 0
-HasVersion number database = database.schema ≡ bureau → (rows : List Row) × IsAnswer read.version database.trees [] rows × Tells number rows
+-- In a database with the bureau's tables, the query of the version answers rows that tell this version, or none.
+abbrev pub HasVersion : Option ℕ → Database → Type 0
+HasVersion version database =
+    database.schema ≡ bureau
+    → (rows : List Row) × IsAnswer read.version database.trees [] rows × (version ≡ version_in rows)

@@ -4,7 +4,8 @@
 //! are a fault of the device.
 //!
 //! - [`caller_of`], [`last`]: callers, and the last change of each
-//! - [`zone_count`], [`has_zone`], [`zone`], [`zone_rows`], [`patterns`], [`received`]: what a client has; [`held_in`]: the holds on it
+//! - [`zones`], [`zone_count`], [`has_zone`], [`zone`], [`zone_rows`], [`patterns`], [`received`]: what a
+//!   client has; [`held_in`]: the holds on it
 //! - [`ids`], [`sysmod`], [`superseders`], [`holds_on`], [`counts`]: what is published
 //! - [`ReadFault`]: why a read is refused
 //!
@@ -18,10 +19,14 @@ mod found;
 mod published;
 mod rows;
 mod tables_version;
+#[cfg(test)]
+mod tests;
 mod values;
+mod zone_counts;
 
 pub use callers::{caller_of, last};
 pub use clients::{has_zone, held_in, patterns, received, zone, zone_count, zone_rows};
 pub use fault::ReadFault;
 pub use published::{counts, holds_on, ids, superseders, sysmod};
 pub use tables_version::version;
+pub use zone_counts::zones;

@@ -1,8 +1,9 @@
 //! The version of the tables.
-ghost use Rattle.std.specs.Prelude.{◌≡◌, IfOk, IfSome, IsTrue, false};
+ghost use Rattle.std.specs.Prelude.{◌≡◌, IfOk, IsTrue, Some, false};
 ghost use Rattle.sqlite.specs.Held.{state};
 ghost use Rattle.sqlite.specs.State.{HasCleanDisk};
-ghost use Rattle.sql_reads.specs.Version.{HasVersion, Tells};
+ghost use Rattle.sql_reads.specs.Version.{HasVersion, version_in};
+ghost use Rattle.sql_state.specs.Ours.{IsOurs};
 ghost use Rattle.sql_state.specs.Reading.{OnlyReads};
 
 use crate::ReadFault;
@@ -11,7 +12,7 @@ use sql_tables::count_in;
 use sql_texts::read;
 use sqlite::{Alter, Connection, Row};
 
-/// The version of the tables, or `None` where not one row tells it.
+/// The version of the tables, or `None` where not one row tells it. Tables of the bureau's own are of version 1.
 ///
 /// # Errors
 ///
@@ -21,8 +22,10 @@ pub fn version<S: Alter>(conn: &mut Connection<S>) -> Result<Option<u64>, ReadFa
     ensures mode { conn.new.in_transaction ≡ false }
     ensures reads { OnlyReads (state S.Store conn.old) (state S.Store conn.new) }
     ensures is_open { IfOk result (λ version. HasCleanDisk (state S.Store conn.new) → IsTrue (state S.Store conn.new).is_open) }
-    ensures version { IfOk result (λ version. IfSome version (λ number. HasCleanDisk (state S.Store conn.new)
-        → HasVersion number (state S.Store conn.old).committed)) }
+    ensures version { IfOk result (λ version. HasCleanDisk (state S.Store conn.new)
+        → HasVersion version (state S.Store conn.old).committed) }
+    ensures ours { IfOk result (λ version. HasCleanDisk (state S.Store conn.new)
+        → IsOurs (state S.Store conn.old).committed → version ≡ Some 1) }
 {
     let rows = rows_of(conn, read::version(), &[])?;
     Ok(told(rows.as_slice()))
@@ -30,7 +33,7 @@ pub fn version<S: Alter>(conn: &mut Connection<S>) -> Result<Option<u64>, ReadFa
 
 // The number of the one row.
 fn told(rows: &[Row]) -> Option<u64>
-    ensures { IfSome result (λ number. Tells number rows.now) }
+    ensures { result ≡ version_in rows.now }
 {
     match rows {
         [row] => count_in(row),

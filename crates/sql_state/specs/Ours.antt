@@ -1,6 +1,9 @@
 -- The databases that are the bureau's own.
-use Rattle.std.specs.Prelude.{◌≡◌}
+use Rattle.std.specs.Prelude.{◌≡◌, List, [], ◌∷◌, pos}
 use Rattle.sqlite.specs.Effect.{Database}
+use Rattle.sqlite.specs.Order.{Row}
+use Rattle.sqlite.specs.Tree.{Trees}
+use Rattle.sqlite.specs.declared.types.Value.TheVariants.{Int, Null}
 use Rattle.sql_texts.specs.Schema.{bureau}
 use Rattle.sql_tables.specs.InTrees.{stored_in}
 use Rattle.sql_tables.specs.Stored.{Stored}
@@ -11,8 +14,17 @@ use Rattle.sql_state.specs.Numbered.{AreNumbered}
 abbrev pub held_by : Database → Stored
 held_by database = stored_in database.trees
 
+-- the row of version 1, after its rowid, which its first column is
+abbrev pub version_rows : List Row
+version_rows = (Int (pos 1) ∷ Null ∷ Int (pos 1) ∷ []) ∷ []
+
+-- In the trees of the tables stand rows that the bureau wrote, under numbers that rise, and the row of version 1.
+pub record AreOurs (trees : Trees) : Type 0 where
+  pub numbered : AreNumbered trees
+  pub version : trees 0 ≡ version_rows
+  pub whole : IsWhole (stored_in trees)
+
 -- It has the tables of version 1, and in them rows that the bureau wrote.
 pub record IsOurs (database : Database) : Type 0 where
   pub schema : database.schema ≡ bureau
-  pub numbered : AreNumbered database.trees
-  pub whole : IsWhole (held_by database)
+  pub rows : AreOurs database.trees

@@ -22,9 +22,9 @@ use Rattle.sql_texts.specs.Schema.{bureau, made, tables}
 use Rattle.sql_texts.specs.Writes.{first_version}
 use Rattle.sql_tables.specs.InTrees.{columns_of}
 use Rattle.sql_state.specs.Numbered.{IsNumbered}
-use Rattle.sql_state.specs.Ours.{held_by}
+use Rattle.sql_state.specs.Ours.{held_by, version_rows}
 use Rattle.sql_state.specs.Writing.{Changes, IsKnown}
-use Rattle.sql_writes.specs.Making.{IsMade, IsOpened, Leads, version_rows}
+use Rattle.sql_writes.specs.Making.{IsMade, IsOpened, Leads}
 use Rattle.sql_writes.specs.Parts.{with_callers}
 use Rattle.sql_writes.specs.Running.{Ran}
 use Rattle.sql_writes.proofs.ChangeFacts.{kept_then, was_clean}

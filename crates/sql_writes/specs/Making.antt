@@ -1,15 +1,13 @@
 -- How the tables of version 1 come to be in an empty database.
-use Rattle.std.specs.Prelude.{◌≡◌, ℕ, IsTrue, List, [], ◌∷◌, map, pos, take, OnOk, Result}
+use Rattle.std.specs.Prelude.{◌≡◌, ℕ, IsTrue, List, [], map, take, OnOk, Result}
 use Rattle.std.specs.List.{AllByRecursion}
 use Rattle.bureau_store.specs.declared.caller.CallerRow.{CallerRow}
 use Rattle.sqlite.specs.Effect.{Database, IsDatabase}
-use Rattle.sqlite.specs.Order.{Row}
 use Rattle.sqlite.specs.State.{HasCleanDisk, KeepsCommit, State, Survives}
-use Rattle.sqlite.specs.declared.types.Value.TheVariants.{Int, Null}
 use Rattle.sql_texts.specs.Schema.{made, tables}
 use Rattle.sql_tables.specs.Rows.{caller_row}
 use Rattle.sql_tables.specs.Stored.{opened}
-use Rattle.sql_state.specs.Ours.{held_by}
+use Rattle.sql_state.specs.Ours.{held_by, version_rows}
 use Rattle.sql_state.specs.Writing.{IsKnown}
 
 -- no table, no index and no view
@@ -21,10 +19,6 @@ pub record IsMade (so_many so_many_indexes : ℕ) (database : Database) : Type 0
   pub schema : database.schema ≡ made so_many so_many_indexes
   pub sound : IsDatabase database
   pub empty : AllByRecursion (λ table. database.trees table.tree ≡ []) (take so_many tables)
-
--- the row of version 1, after its rowid, which its first column is
-abbrev pub version_rows : List Row
-version_rows = (Int (pos 1) ∷ Null ∷ Int (pos 1) ∷ []) ∷ []
 
 -- all tables, with the version and these callers and no other row
 pub record IsOpened (callers : List CallerRow) (database : Database) : Type 0 where

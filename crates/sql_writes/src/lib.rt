@@ -14,6 +14,8 @@ mod load;
 mod publication;
 mod run;
 mod tables;
+#[cfg(test)]
+mod tests;
 mod values;
 mod zone;
 

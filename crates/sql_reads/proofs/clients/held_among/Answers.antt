@@ -27,4 +27,4 @@ returns-clause-finds g c =
     (λ holds. (map Some holds.items ≡ map hold_found c.as_slice.result.now) × IsInKeyOrder holds.items)
     (if_both (λ holds. map Some holds.items ≡ map hold_found c.as_slice.result.now) (λ holds. IsInKeyOrder holds.items) c.holds.result c.holds.ensures.holds c.holds.ensures.in_key_order)
     (λ stored holds. holds.items ≡ held_in (tables_of stored).content (zone_rows_of stored.rows c.args.client.now c.args.zone.now) c.args.kind)
-    (λ ours answer holds said. held_told old.committed.trees c.args.client.now c.args.zone.now c.args.kind c.id_of.ensures.is_id c.id_of-2.ensures.is_id ours.whole c.as_slice.result.now holds.items said.1 answer said.0)
+    (λ ours answer holds said. held_told old.committed.trees c.args.client.now c.args.zone.now c.args.kind c.id_of.ensures.is_id c.id_of-2.ensures.is_id ours.rows.whole c.as_slice.result.now holds.items said.1 answer said.0)

@@ -1,4 +1,4 @@
-use Rattle.std.proofs.Common.{◌≡◌, ◌<◌, [], ◌∷◌, Some, ap, refl, length}
+use Rattle.std.proofs.Common.{◌≡◌, ◌<◌, [], ◌∷◌, Some, ap, length}
 use Rattle.std.specs.Prelude.{codes}
 use Rattle.sqlite.specs.Held.{state}
 use Rattle.sqlite.specs.Values.{bound_value}
@@ -23,4 +23,4 @@ returns-clause-finds g c =
     (λ count. (one_of (λ row. number_in (column row 0)) c.as_slice.result.now ≡ Some (Some count)) × (count < 9223372036854775807))
     (if_both (λ count. one_of (λ row. number_in (column row 0)) c.as_slice.result.now ≡ Some (Some count)) (λ count. count < 9223372036854775807) c.count.result c.count.ensures.count c.count.ensures.below)
     (λ stored count. count ≡ length ((tables_of stored).zones c.args.client.now))
-    (λ ours answer count said. zones_counted old.committed.trees c.as_slice.result.now count ours.whole said.0 said.1 c.args.client.now c.id_of.ensures.is_id answer)
+    (λ ours answer count said. zones_counted old.committed.trees c.as_slice.result.now count ours.rows.whole said.0 said.1 c.args.client.now c.id_of.ensures.is_id answer)

@@ -1,11 +1,7 @@
-use Rattle.std.proofs.Common.{◌≡◌, ◌<◌, [], ◌∷◌, Some, ap, refl, length}
+use Rattle.std.proofs.Common.{◌≡◌, ◌<◌, [], ◌∷◌, Some, refl, length}
 use Rattle.std.specs.Prelude.{codes}
 use Rattle.sqlite.specs.Held.{state}
-use Rattle.sqlite.specs.Values.{bound_value}
 use Rattle.sqlite_value.specs.Order.{column}
-use Rattle.sqlite_value.specs.Value.{owned}
-use Rattle.sqlite_value.specs.declared.value.Value.TheVariants.{Text}
-use Rattle.mcs_reader.specs.Id.{text_of}
 use Rattle.sql_tables.specs.Stored.{tables_of}
 use Rattle.sql_tables.specs.Values.{number_in}
 use Rattle.sql_texts.specs.Reads as read
@@ -22,4 +18,4 @@ returns-clause-finds g c =
     (λ count. (one_of (λ row. number_in (column row 0)) c.as_slice.result.now ≡ Some (Some count)) × (count < 9223372036854775807))
     (if_both (λ count. one_of (λ row. number_in (column row 0)) c.as_slice.result.now ≡ Some (Some count)) (λ count. count < 9223372036854775807) c.count.result c.count.ensures.count c.count.ensures.below)
     (λ stored count. count ≡ length (tables_of stored).content.holds)
-    (λ ours answer count said. holds_counted old.committed.trees c.as_slice.result.now count ours.whole said.0 said.1 answer)
+    (λ ours answer count said. holds_counted old.committed.trees c.as_slice.result.now count ours.rows.whole said.0 said.1 answer)

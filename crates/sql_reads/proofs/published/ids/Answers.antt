@@ -19,4 +19,4 @@ returns-clause-finds g c =
     (λ ids. (map Some ids.items ≡ map (λ row. id_in (column row 0)) c.as_slice.result.now) × Ascend ids.items)
     (if_both (λ ids. map Some ids.items ≡ map (λ row. id_in (column row 0)) c.as_slice.result.now) (λ ids. Ascend ids.items) c.id_list.result c.id_list.ensures.ids c.id_list.ensures.ascend)
     (λ stored ids. ids.items ≡ ids_of (tables_of stored).content)
-    (λ ours answer ids said. ids_told old.committed.trees c.as_slice.result.now ids.items ours.whole said.1 answer said.0)
+    (λ ours answer ids said. ids_told old.committed.trees c.as_slice.result.now ids.items ours.rows.whole said.1 answer said.0)

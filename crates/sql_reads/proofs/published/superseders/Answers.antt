@@ -24,4 +24,4 @@ returns-clause-finds g c =
     (λ ids. (map Some ids.items ≡ map (λ row. id_in (column row 0)) c.as_slice.result.now) × Ascend ids.items)
     (if_both (λ ids. map Some ids.items ≡ map (λ row. id_in (column row 0)) c.as_slice.result.now) (λ ids. Ascend ids.items) c.id_list.result c.id_list.ensures.ids c.id_list.ensures.ascend)
     (λ stored ids. ids.items ≡ superseders (tables_of stored).content c.args.id.now)
-    (λ ours answer ids said. superseders_told old.committed.trees c.args.id.now c.id_of.ensures.is_id ours.whole c.as_slice.result.now ids.items said.1 answer said.0)
+    (λ ours answer ids said. superseders_told old.committed.trees c.args.id.now c.id_of.ensures.is_id ours.rows.whole c.as_slice.result.now ids.items said.1 answer said.0)

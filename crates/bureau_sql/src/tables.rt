@@ -1,0 +1,215 @@
+//! All tables, as a store in a database keeps them.
+ghost use Rattle.std.specs.Prelude.{◌≡◌, nat_lt};
+
+use crate::{SqlStore, changes, fit};
+use bureau_store::{Caller, Store, StoreFault};
+use catalogue::Change;
+use holddata::{Hold, Kind};
+use mcs_reader::Id;
+use sqlite_trees::store::Alter;
+use zone_lists::{Pattern, ZoneRow};
+
+impl<S: Alter> Store for SqlStore<S> {
+    ghost use Rattle.bureau_sql.specs.Laws.{sql_holds_tables, sql_in_order, sql_lawful, sql_shows_content};
+    ghost use Rattle.bureau_sql.specs.Outgrown.{HasNoRoom};
+    ghost use Rattle.bureau_sql.specs.SqlView.{sql_view};
+
+    ghost tables_view = { sql_view S.Store };
+
+    ghost outgrown = { HasNoRoom };
+
+    fn device_failed(&self) -> bool {
+        self.failures > 0
+    }
+
+    fn caller_of(&mut self, token: &[u8]) -> Result<Option<Caller>, StoreFault> {
+        if self.is_shut() {
+            return Err(StoreFault::Device);
+        }
+        let found = sql_reads::caller_of(&mut self.conn, token);
+        self.answered(found)
+    }
+
+    fn last(&mut self, caller: &Caller) -> Result<(u64, Vec<u8>), StoreFault> {
+        if self.is_shut() {
+            return Err(StoreFault::Device);
+        }
+        let found = sql_reads::last(self.alloc, &mut self.conn, caller);
+        self.answered(found)
+    }
+
+    fn counts(&mut self) -> Result<(u64, u64), StoreFault> {
+        if self.is_shut() {
+            return Err(StoreFault::Device);
+        }
+        let found = sql_reads::counts(&mut self.conn);
+        self.answered(found)
+    }
+
+    fn zones(&mut self, client: &Id) -> Result<Vec<(Id, u64)>, StoreFault> {
+        if self.is_shut() {
+            return Err(StoreFault::Device);
+        }
+        let found = sql_reads::zones(self.alloc, &mut self.conn, client);
+        self.answered(found)
+    }
+
+    fn zone_count(&mut self, client: &Id) -> Result<u64, StoreFault> {
+        if self.is_shut() {
+            return Err(StoreFault::Device);
+        }
+        let found = sql_reads::zone_count(&mut self.conn, client);
+        self.answered(found)
+    }
+
+    fn has_zone(&mut self, client: &Id, zone: &Id) -> Result<bool, StoreFault> {
+        if self.is_shut() {
+            return Err(StoreFault::Device);
+        }
+        let found = sql_reads::has_zone(&mut self.conn, client, zone);
+        self.answered(found)
+    }
+
+    fn zone(&mut self, client: &Id, zone: &Id) -> Result<Option<Vec<ZoneRow>>, StoreFault> {
+        if self.is_shut() {
+            return Err(StoreFault::Device);
+        }
+        let found = sql_reads::zone(self.alloc, &mut self.conn, client, zone);
+        self.answered(found)
+    }
+
+    fn received(&mut self, client: &Id) -> Result<Vec<Id>, StoreFault> {
+        if self.is_shut() {
+            return Err(StoreFault::Device);
+        }
+        let found = sql_reads::received(self.alloc, &mut self.conn, client);
+        self.answered(found)
+    }
+
+    fn patterns(&mut self, client: &Id, zone: &Id) -> Result<Vec<Pattern>, StoreFault> {
+        if self.is_shut() {
+            return Err(StoreFault::Device);
+        }
+        let found = sql_reads::patterns(self.alloc, &mut self.conn, client, zone);
+        self.answered(found)
+    }
+
+    fn held_in(&mut self, client: &Id, zone: &Id, kind: Kind) -> Result<Vec<Hold>, StoreFault> {
+        if self.is_shut() {
+            return Err(StoreFault::Device);
+        }
+        let found = sql_reads::held_in(self.alloc, &mut self.conn, client, zone, kind);
+        self.answered(found)
+    }
+
+    fn publish(&mut self, number: u64, reply: &[u8], changes: &[Change]) -> Result<(), StoreFault> {
+        if self.is_shut() {
+            return Err(StoreFault::Device);
+        }
+        fit::publication(changes);
+        let made = changes::publish(self.alloc, &mut self.conn, number, reply, changes);
+        self.made(made)
+    }
+
+    fn put_zone(
+        &mut self,
+        client: &Id,
+        number: u64,
+        reply: &[u8],
+        zone: &Id,
+        rows: &[ZoneRow],
+    ) -> Result<(), StoreFault> {
+        if self.is_shut() {
+            return Err(StoreFault::Device);
+        }
+        fit::zone(client, zone, rows);
+        let made = changes::put_zone(
+            self.alloc,
+            &mut self.conn,
+            client,
+            number,
+            reply,
+            zone,
+            rows,
+        );
+        self.made(made)
+    }
+
+    fn drop_zone(
+        &mut self,
+        client: &Id,
+        number: u64,
+        reply: &[u8],
+        zone: &Id,
+    ) -> Result<(), StoreFault> {
+        if self.is_shut() {
+            return Err(StoreFault::Device);
+        }
+        fit::zone_gone(client, zone);
+        let made = changes::drop_zone(&mut self.conn, client, number, reply, zone);
+        self.made(made)
+    }
+
+    fn put_received(
+        &mut self,
+        client: &Id,
+        number: u64,
+        reply: &[u8],
+        ids: &[Id],
+    ) -> Result<(), StoreFault> {
+        if self.is_shut() {
+            return Err(StoreFault::Device);
+        }
+        fit::received(client, ids);
+        let made = changes::put_received(self.alloc, &mut self.conn, client, number, reply, ids);
+        self.made(made)
+    }
+
+    fn put_patterns(
+        &mut self,
+        client: &Id,
+        number: u64,
+        reply: &[u8],
+        zone: &Id,
+        patterns: &[Pattern],
+    ) -> Result<(), StoreFault> {
+        if self.is_shut() {
+            return Err(StoreFault::Device);
+        }
+        fit::zone_patterns(client, zone, patterns);
+        let made = changes::put_patterns(
+            self.alloc,
+            &mut self.conn,
+            client,
+            number,
+            reply,
+            zone,
+            patterns,
+        );
+        self.made(made)
+    }
+
+    ghost tables_lawful = { sql_lawful _ };
+
+    ghost shows_content = { sql_shows_content _ };
+
+    ghost holds_tables = { sql_holds_tables (record {
+      view = S.Store.view;
+      faults = S.Store.faults;
+      recovers = S.Store.recovers;
+      is_shielded = S.Store.is_shielded;
+      is_step = S.Store.is_step;
+      blamed = S.Store.blamed;
+      names = S.Store.names;
+    }) };
+
+    ghost tables_in_order = { sql_in_order (record {
+      view = S.Store.view;
+      faults = S.Store.faults;
+      recovers = S.Store.recovers;
+      is_shielded = S.Store.is_shielded;
+      is_step = S.Store.is_step;
+      blamed = S.Store.blamed;
+      names = S.Store.names;
+    }) };
+}

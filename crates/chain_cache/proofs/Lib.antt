@@ -1,0 +1,3 @@
+pub mod EntryFacts
+pub mod FillFacts
+pub mod DropFacts

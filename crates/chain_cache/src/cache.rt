@@ -1,0 +1,224 @@
+//! `ChainCache`.
+ghost use Rattle.std.specs.Prelude.{◌≡◌, ◌≤◌, ◌∷◌, [], ℕ, IfOk, IsSome, OnOk, OnErr, Some, map, slice_get, take};
+ghost use Rattle.std.specs.Borrow.{sem};
+ghost use Rattle.std.specs.Map.Iter.{ShowsInOrder, deref_pair};
+ghost use Rattle.catalogue.specs.Content.{Content, IsInOrder};
+ghost use Rattle.catalogue.specs.Touched.{AgreeOutside};
+ghost use Rattle.catalogue.specs.View.{MayAsk, Tells};
+ghost use Rattle.catalogue.specs.declared.fault.SourceFault.TheVariants.{Device};
+ghost use Rattle.chain_cache.specs.Cache.{AreFilled, IsFilled, IsRightFor, MayBeFilled, untouched};
+ghost use Rattle.chain_cache.specs.Lent.{ends_filled};
+ghost use Rattle.chains.specs.Frames.{FrameLists, IsFrame};
+ghost use Rattle.chains.specs.Judge as judge;
+ghost use Rattle.chains.specs.Verdicts.{verdict_of};
+
+use crate::dropping::drop_among;
+use catalogue::{Published, SourceFault};
+use chains::{Frame, Judge, Status, Verdict, Whole, frame, plan};
+use lru::{Iter, LruCache};
+use mcs_reader::{Id, NoMemory};
+use std::alloc::Global;
+use std::hash::RandomState;
+use std::marker::Model;
+use std::num::NonZeroUsize;
+use supersede::Zone;
+
+/// Frames by their ids, the one that was used last first.
+pub(crate) type Frames = LruCache<Id, Frame, RandomState>;
+
+// How many nodes the frames of a report may have: so many, and so many more for each candidate.
+const NODES_AT_FIRST: usize = 256;
+
+const NODES_EACH: usize = 8;
+
+/// Judges from frames, of which it keeps those that were used last. All callers share them: a frame names no
+/// zone and no client.
+#[derive(Debug, Drop)]
+pub struct ChainCache {
+    frames: Frames,
+    built: u64,
+}
+
+impl Model for ChainCache {
+    ghost use Rattle.chain_cache.specs.Cache.{CacheLists};
+
+    ghost Value = { CacheLists };
+
+    ghost view = { λ cache. record {
+      entries = cache.frames.entries;
+      capacity = cache.frames.cap;
+      built = cache.built;
+    } };
+}
+
+impl ChainCache {
+    /// A cache with room for so many frames. It keeps none yet, so it is right for every content. Clients choose
+    /// the ids by which frames are looked up, so the hasher has random keys.
+    ///
+    /// # Errors
+    ///
+    /// `NoMemory` where memory ran out.
+    pub fn new(alloc: Global, capacity: u32, hasher: RandomState) -> Result<Self, NoMemory>
+        requires least { 1 ≤ capacity }
+        requires most { capacity ≤ 65536 }
+        ensures entries { IfOk result (λ cache. cache.entries ≡ []) }
+        ensures capacity { IfOk result (λ cache. cache.capacity ≡ capacity) }
+        ensures built { IfOk result (λ cache. cache.built ≡ 0) }
+        ensures right { IfOk result (λ cache. (content : Content) → IsRightFor cache content) }
+    {
+        let Some(room) = NonZeroUsize::new(capacity as usize) else {
+            unreachable!()
+        };
+        let frames = LruCache::with_hasher(alloc, room, hasher)?;
+        Ok(ChainCache { frames, built: 0 })
+    }
+
+    /// How many frames were put so far. The count stays at its greatest number.
+    pub fn built(&self) -> u64
+        ensures { result ≡ self.now.built }
+    {
+        self.built
+    }
+
+    /// What is kept, each frame with its id, in its order.
+    pub fn iter(&self) -> Iter<'_, Id, Frame>
+        ensures rest { result ≡ self.now.entries }
+        ensures runs { ShowsInOrder (deref_pair {K = Id} {X = Frame}) }
+    {
+        self.frames.iter()
+    }
+
+    /// The frame of a SYSMOD, which need not be catalogued: the one that is kept, or else one that is built and
+    /// put. It stands first afterwards.
+    ///
+    /// # Errors
+    ///
+    /// `Memory` where memory ran out, `Device` where the source failed. What is kept is as it was.
+    pub fn frame_for<P: Published>(
+        &mut self,
+        alloc: Global,
+        source: &mut P,
+        id: &Id,
+    ) -> Result<&Frame, SourceFault>
+        ensures* filled { sem 𝓛 (ends_filled self.entry id.now result) }
+        ensures asks { MayAsk P.content_view Device source.old source.new result }
+        ensures frame { IfOk result (λ frame. Tells P.content_view source.old source.new
+            (λ content. IsRightFor self.old content → IsFrame content id.now frame.now)) }
+    {
+        self.fill(alloc, source, id)?;
+        match self.frames.peek_mru() {
+            Some((_, frame)) => Ok(frame),
+            None => unreachable!(),
+        }
+    }
+
+    // Sees to it that the frame of an id is kept and stands first.
+    fn fill<P: Published>(
+        &mut self,
+        alloc: Global,
+        source: &mut P,
+        id: &Id,
+    ) -> Result<(), SourceFault>
+        ensures asks { MayAsk P.content_view Device source.old source.new result }
+        ensures filled { OnOk result ((frame : FrameLists) × IsFilled id.now frame self.old self.new) }
+        ensures right { Tells P.content_view source.old source.new
+            (λ content. IsRightFor self.old content → IsRightFor self.new content) }
+        ensures err { OnErr result (self.new ≡ self.old) }
+    {
+        if self.frames.promote(id) {
+            return Ok(());
+        }
+        let built = frame(alloc, source, id)?;
+        self.frames.put(*id, built)?;
+        self.built = self.built.saturating_add(1);
+        Ok(())
+    }
+
+    // How many nodes the frame has that stands first.
+    fn first_len(&self) -> usize {
+        match self.frames.peek_mru() {
+            Some((_, frame)) => frame.nodes().len(),
+            None => 0,
+        }
+    }
+
+    // The verdict from the frame that stands first.
+    fn first_verdict(&self, alloc: Global, zone: &Zone, id: &Id) -> Result<Verdict, NoMemory>
+        requires { IsSome (slice_get self.now.entries 0) }
+        ensures { IfOk result (λ verdict. (frame : FrameLists) (content : Content)
+            → slice_get self.now.entries 0 ≡ Some (id.now, frame) → IsFrame content id.now frame → judge.judged_by verdict ≡ verdict_of content zone.now id.now) }
+    {
+        let Some((_, frame)) = self.frames.peek_mru() else {
+            unreachable!()
+        };
+        plan(alloc, frame, zone, id)
+    }
+}
+
+impl<P: Published> Judge<P> for ChainCache {
+    ghost use Rattle.chain_cache.specs.Cache.{IsRightFor};
+
+    ghost is_right = { IsRightFor };
+
+    fn verdict(
+        &mut self,
+        alloc: Global,
+        source: &mut P,
+        zone: &Zone,
+        id: &Id,
+    ) -> Result<Verdict, SourceFault>
+        ensures asks { MayAsk P.content_view Device source.old source.new result }
+        ensures verdict { IfOk result (λ verdict. Tells P.content_view source.old source.new
+            (λ content. IsRightFor self.old content
+            → judge.judged_by verdict ≡ verdict_of content zone.now id.now)) }
+        ensures right { Tells P.content_view source.old source.new
+            (λ content. IsRightFor self.old content → IsRightFor self.new content) }
+        ensures filled { OnOk result ((frame : FrameLists) × IsFilled id.now frame self.old self.new) }
+        ensures err { OnErr result (MayBeFilled id.now self.old self.new) }
+    {
+        self.fill(alloc, source, id)?;
+        Ok(self.first_verdict(alloc, zone, id)?)
+    }
+
+    // From frames, while these are small. Where they are large, the candidates of a report mostly share them, and
+    // one pass over the catalogue costs less than a frame for each.
+    fn statuses(
+        &mut self,
+        alloc: Global,
+        source: &mut P,
+        zone: &Zone,
+        ids: &[Id],
+    ) -> Result<Vec<Status>, SourceFault>
+        ensures asks { MayAsk P.content_view Device source.old source.new result }
+        ensures statuses { IfOk result (λ statuses. Tells P.content_view source.old source.new
+            (λ content. IsRightFor self.old content
+            → statuses.items ≡ map (λ id. judge.status_of (verdict_of content zone.now id)) ids.now)) }
+        ensures right { Tells P.content_view source.old source.new
+            (λ content. IsRightFor self.old content → IsRightFor self.new content) }
+        ensures filled { (n : ℕ) × AreFilled (take n ids.now) self.old self.new }
+    {
+        let mut statuses = Vec::with_capacity(alloc, ids.len())?;
+        let mut room = NODES_AT_FIRST;
+        for id in ids {
+            self.fill(alloc, source, id)?;
+            let nodes = self.first_len();
+            if nodes > room {
+                return Whole::new().statuses(alloc, source, zone, ids);
+            }
+            room = (room - nodes).saturating_add(NODES_EACH);
+            statuses.push(self.first_verdict(alloc, zone, id)?.status())?;
+        }
+        Ok(statuses)
+    }
+
+    fn drop_touched(&mut self, ids: &[Id])
+        ensures stays { (content : Content) → IsRightFor self.old content → IsRightFor self.new content }
+        ensures right { (old new : Content) → IsInOrder old → IsInOrder new → IsRightFor self.old old
+            → AgreeOutside ids.now old new → IsRightFor self.new new }
+        ensures kept { self.new.entries ≡ untouched ids.now self.old.entries }
+        ensures capacity { self.new.capacity ≡ self.old.capacity }
+        ensures built { self.new.built ≡ self.old.built }
+    {
+        drop_among(&mut self.frames, ids);
+    }
+}

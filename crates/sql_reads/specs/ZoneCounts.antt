@@ -1,0 +1,14 @@
+-- No part of what is promised: private contracts cite it. What a row says of a zone and of how many rows it has.
+use Rattle.std.specs.Prelude.{ℕ, nat_lt, List, Option, Some, None, option_and_then, if◌then◌else◌}
+use Rattle.sqlite_value.specs.Order.{Row, column}
+use Rattle.sql_tables.specs.Values.{id_in, number_in}
+use Rattle.sql_texts.specs.Reads.{most_rows}
+
+-- as much as the database can count says nothing, since it may be more
+abbrev pub with_count : List ℕ → ℕ → Option (List ℕ × ℕ)
+with_count name count = if nat_lt count most_rows then Some (name, count) else None
+
+-- the name in the first column, with the count in the second
+abbrev pub zone_counted : Row → Option (List ℕ × ℕ)
+zone_counted row =
+    option_and_then (λ name. option_and_then (with_count name) (number_in (column row 1))) (id_in (column row 0))
