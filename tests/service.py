@@ -13,9 +13,6 @@ CLIENT = os.path.join(TOP, "clients", "bureau-client")
 PROGRAM = os.environ.get("BUREAU_PROGRAM") or os.path.join(TOP, "crates", "bureau_main", "out", "bureau_main")
 SAMPLE = os.path.join(TOP, "examples", "desk")
 
-# Whether the program has `init` and `serve`. Until then tests/desk_stand_in.py stands in for them.
-SERVES = False
-
 results = []
 
 
@@ -54,8 +51,6 @@ def free_port():
 
 def command_of(callers, port):
     """What runs a desk with these callers, and with nothing in its store."""
-    if not SERVES:
-        return [sys.executable, os.path.join(HERE, "desk_stand_in.py"), "--port", str(port), PROGRAM, callers]
     store = os.path.join(folder(), "store")
     subprocess.run([PROGRAM, "init", store, callers], check=True, stdout=subprocess.DEVNULL)
     return [PROGRAM, "serve", "--port", str(port or free_port()), store]

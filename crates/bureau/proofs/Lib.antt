@@ -13,4 +13,3 @@ pub mod AnswerFacts
 pub mod RepeatFacts
 pub mod KeptFacts
 pub mod RunFacts
-mod FailingFacts

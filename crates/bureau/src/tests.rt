@@ -9,7 +9,6 @@ use zone_lists::{ZoneRow, ZoneState};
 mod alone;
 mod asked;
 mod device;
-mod failing;
 mod limits;
 mod verdicts;
 mod worked;

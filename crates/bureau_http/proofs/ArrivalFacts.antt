@@ -1,5 +1,5 @@
 -- Connections that come one after the other.
-use Rattle.std.proofs.Common.{◌≡◌, ℕ, ◌+◌, List, [], ◌∷◌, ◌++◌, length, map, Option, Some, None, IfSome, Result, refl, sym, ap, ◌∙◌, subst, append_assoc, append-nil, length-append}
+use Rattle.std.proofs.Common.{◌≡◌, ℕ, ◌+◌, List, [], ◌∷◌, ◌++◌, length, Option, Some, None, IfSome, refl, sym, ap, ◌∙◌, subst, append_assoc, append-nil, length-append}
 use Rattle.std.proofs.lemmas.Grind.{flat_map-append}
 use Rattle.catalogue.specs.View.{Goes, Tells, View}
 use Rattle.catalogue.proofs.SourceFacts.{told_so}
@@ -10,7 +10,7 @@ use Rattle.bureau.specs.Kept.{IsKeptRun}
 use Rattle.bureau.specs.Runs.{IsLawfulRun}
 use Rattle.bureau.proofs.KeptFacts.{idle, kept_on, stands_after}
 use Rattle.bureau.proofs.RunFacts.{lawful_run, run_callers}
-use Rattle.bureau_http.specs.Arrivals.{Arrival, AreAskedBy, AreHeard, AreMade, AreMadeBy, AreServedInOrder, Event, Logs, Visit, came, closed, events_of, log_of, missed, nobody, visitor}
+use Rattle.bureau_http.specs.Arrivals.{Arrival, AreAskedBy, AreHeard, AreMade, AreServedInOrder, Event, Logs, Visit, came, closed, events_of, log_of, missed, nobody, visitor}
 use Rattle.bureau_http.specs.Exchange.{turns_of}
 use Rattle.bureau_http.specs.Served.{HasRun, IsServed}
 use Rattle.bureau_http.proofs.ServingFacts.{Join}
@@ -135,13 +135,13 @@ module _ {Desk : Type 0} (view : View Desk Tables) where
   }
 
   pub in_order_visitor : (old new : Desk) (log mid log_after : Option (List Event)) (visit : Visit) → Logs log mid (came visit.sent visit.begun ∷ [])
-      → Logs mid log_after (closed visit.left visit.written ∷ []) → Tells view old new (λ this. HasRun (IsLawfulRun view old new) this)
+      → Logs mid log_after (closed visit.left visit.written visit.ended ∷ []) → Tells view old new (λ this. HasRun (IsLawfulRun view old new) this)
       → Tells view old new (λ this. IfSome visit.sent (IsServed (IsLawfulRun view old new) this visit.left visit.begun visit.written visit.ended))
       → InOrder old new log log_after 1
   in_order_visitor old new log mid log_after visit coming closing ran served = record {
     arrivals = visitor visit ∷ [];
     counted = refl;
-    logged = logs_on log mid log_after (came visit.sent visit.begun ∷ []) (closed visit.left visit.written ∷ []) coming closing;
+    logged = logs_on log mid log_after (came visit.sent visit.begun ∷ []) (closed visit.left visit.written visit.ended ∷ []) coming closing;
     heard = record {
       told = λ ours clean this stand. heard_visitor old new this visit (asks old new this visit visit.sent (ran.told ours clean this stand) (served.told ours clean this stand));
     };

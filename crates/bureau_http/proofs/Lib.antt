@@ -9,3 +9,4 @@ mod ConnectionFacts
 mod ReplayFacts
 mod LawfulFacts
 mod ServiceFacts
+mod ListedFacts

@@ -15,11 +15,12 @@ use Rattle.bureau_http.specs.declared.serving.Served.{Served}
 -- ---- what is seen of a listener
 
 -- None could be accepted; or a connection came, with what its peer sends and what was written to it before; or it was closed,
--- with what was left unread and what was written to it by then. Bytes stand here as far as they are known.
+-- with what was left unread, what was written to it by then, and how serving it ended. Bytes stand here as far as they are
+-- known.
 pub data Event : Type 0 where
   missed : Event
   came : Option (List ℕ) → Option (List ℕ) → Event
-  closed : Option (List ℕ) → Option (List ℕ) → Event
+  closed : Option (List ℕ) → Option (List ℕ) → Result Served ConnFault → Event
 
 -- The log grew by these events. A log that is known was known before.
 abbrev pub Logs : Option (List Event) → Option (List Event) → List Event → Type 0
@@ -43,7 +44,7 @@ pub data Arrival : Type 0 where
 -- a connection is closed before anything else comes
 abbrev pub events_of : Arrival → List Event
 events_of nobody = missed ∷ []
-events_of (visitor visit) = came visit.sent visit.begun ∷ closed visit.left visit.written ∷ []
+events_of (visitor visit) = came visit.sent visit.begun ∷ closed visit.left visit.written visit.ended ∷ []
 
 abbrev pub log_of : List Arrival → List Event
 log_of arrivals = flat_map events_of arrivals

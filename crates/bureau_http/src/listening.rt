@@ -6,7 +6,8 @@ ghost use Rattle.bureau_http.specs.Arrivals.{AreServedInOrder, Event, Logs, came
 ghost use Rattle.catalogue.specs.View.{Goes};
 
 use crate::desk::Desk;
-use crate::serving::serve_one;
+use crate::fault::ConnFault;
+use crate::serving::{Served, serve_one};
 use std::alloc::Global;
 use std::io::{self, Read, Write};
 
@@ -31,9 +32,14 @@ pub trait Listening {
         ensures came { IfOk result (λ both. Logs (log self.old) (log self.new) (came (Self.Reader.remaining both.0) (Self.Writer.contents both.1) ∷ [])) }
         ensures missed { OnErr result (Logs (log self.old) (log self.new) (missed ∷ [])) };
 
-    /// Closes a connection, so that its peer gets all that was written, and then its end.
-    fn close(&mut self, reader: Self::Reader, writer: Self::Writer)
-        ensures { Logs (log self.old) (log self.new) (closed (Self.Reader.remaining reader) (Self.Writer.contents writer) ∷ []) };
+    /// Closes a connection, so that its peer gets all that was written, and then its end. It is told how serving it ended.
+    fn close(
+        &mut self,
+        reader: Self::Reader,
+        writer: Self::Writer,
+        ended: Result<Served, ConnFault>,
+    )
+        ensures { Logs (log self.old) (log self.new) (closed (Self.Reader.remaining reader) (Self.Writer.contents writer) ended ∷ []) };
 }
 
 /// Waits so often for a connection, serves each to its end, and closes it before it waits for the next.
@@ -59,7 +65,7 @@ fn serve_next_arrival<D: Desk, L: Listening>(alloc: Global, desk: &mut D, listen
     ensures served { AreServedInOrder D.tables_view desk.old desk.new (IsKeptRun D.tables_view desk.old desk.new) (L.log listening.old) (L.log listening.new) 1 }
 {
     if let Ok((mut reader, mut writer)) = listening.accept() {
-        let _ = serve_one(alloc, desk, &mut reader, &mut writer);
-        listening.close(reader, writer);
+        let ended = serve_one(alloc, desk, &mut reader, &mut writer);
+        listening.close(reader, writer, ended);
     }
 }

@@ -1,5 +1,5 @@
 //! A desk over a store, for connections as they come.
-ghost use Rattle.std.specs.Prelude.{IfErr, OnErr, OnOk, ◌≡◌};
+ghost use Rattle.std.specs.Prelude.{IfErr, OnErr, OnOk, ◌≡◌, nat_lt};
 ghost use Rattle.bureau.specs.Answering.{bureau_view};
 ghost use Rattle.bureau_http.specs.Service.{AreServed, IsEnded, IsSound};
 ghost use Rattle.catalogue.specs.View.{Goes};
@@ -31,10 +31,24 @@ pub fn serve_while_open<S: Store, J: Judge<S>, L: Listening>(
     ensures fault { IfErr result (λ fault. fault ≡ StoreFault.Device) }
 {
     for _ in 0..connections {
-        serve_listener(alloc, bureau, listening, 1);
-        if bureau.store().device_failed() {
+        if serve_and_look(alloc, bureau, listening) {
             return Err(StoreFault::Device);
         }
     }
     Ok(())
+}
+
+// Serves the next connection. Whether the device has failed by then.
+fn serve_and_look<S: Store, J: Judge<S>, L: Listening>(
+    alloc: Global,
+    bureau: &mut Bureau<S, J>,
+    listening: &mut L,
+) -> bool
+    ensures goes { Goes (bureau_view S.tables_view J.is_right) bureau.old bureau.new }
+    ensures served { AreServed (bureau_view S.tables_view J.is_right)
+        bureau.old bureau.new (L.log listening.old) (L.log listening.new) 1 }
+    ensures failed { result ≡ nat_lt 0 ((bureau_view S.tables_view J.is_right).failures bureau.new) }
+{
+    serve_listener(alloc, bureau, listening, 1);
+    bureau.store().device_failed()
 }

@@ -1,7 +1,10 @@
 //! Connections from a socket's listener.
-ghost use Rattle.std.specs.Prelude.{None};
+ghost use Rattle.std.specs.Prelude.{◌≡◌, None};
+ghost use Rattle.std.specs.Duration.{as_nanos};
 
+use crate::fault::ConnFault;
 use crate::listening::Listening;
+use crate::serving::Served;
 use std::io::{self, ErrorKind, Read, Write};
 use std::net::{Shutdown, TcpListener, TcpStream};
 use std::time::{Clock, Duration, Instant};
@@ -25,7 +28,11 @@ pub struct Patience {
 
 impl Patience {
     /// A minute for a read or write, 10 minutes for a connection, and 2 seconds to close it.
-    pub fn usual() -> Patience {
+    pub fn usual() -> Patience
+        ensures each { as_nanos result.each ≡ 60000000000 }
+        ensures whole { as_nanos result.whole ≡ 600000000000 }
+        ensures closing { as_nanos result.closing ≡ 2000000000 }
+    {
         Patience {
             each: Duration::from_secs(60),
             whole: Duration::from_secs(600),
@@ -98,7 +105,12 @@ impl<'a, C: Clock> Listening for Sockets<'a, C> {
 
     // A socket that is closed while bytes lie unread in it tells its peer so, and the peer may lose the last replies. So first
     // its sending side ends, and what still comes is read for a while (RFC 9112, section 9.6).
-    fn close(&mut self, reader: Side<'a, C>, _writer: Side<'a, C>) {
+    fn close(
+        &mut self,
+        reader: Side<'a, C>,
+        _writer: Side<'a, C>,
+        _ended: Result<Served, ConnFault>,
+    ) {
         let Side { stream, .. } = reader;
         if stream.shutdown(Shutdown::Write).is_ok() {
             let _ = read_out(stream, self.clock, self.patience.closing);

@@ -11,8 +11,11 @@ mod arrivals;
 mod closing;
 mod cuts;
 mod devices;
+mod listed;
 mod lists;
+mod patience;
 mod replies;
+mod service;
 mod sockets;
 mod tokens;
 

@@ -1,5 +1,6 @@
 pub mod BookFacts
+pub mod DeskFacts
 pub mod LineFacts
 pub mod OutputFacts
-mod ReadFacts
+pub mod ReadFacts
 mod ReplayFacts

@@ -1,3 +1,4 @@
+pub mod Desk
 pub mod Holds
 pub mod Line
 pub mod Program

@@ -5,7 +5,7 @@ use Rattle.clap.specs.Words.{App, Row, Rule, Text, all_of, first_of, new_app, ne
 use Rattle.clap.specs.declared.builder.ArgAction.TheVariants.{Append, Set}
 use Rattle.clap.specs.declared.builder.value_parser.ValueParser.TheVariants.{Signed}
 use Rattle.bureau_main.specs.declared.line.Line.{Line}
-use Rattle.bureau_main.specs.declared.line.Line.TheVariants.{Holds, Replay}
+use Rattle.bureau_main.specs.declared.line.Line.TheVariants.{Holds, Init, Replay, Serve}
 
 -- an argument that has to be given, with one value
 abbrev pub required_rule : Text → Rule
@@ -24,15 +24,37 @@ several_rule id = record (new_rule id) {
   value_names = 1;
 }
 
--- `--cache N`, a number from 1 to 65,536, and 1,024 where it isn't given
-abbrev pub cache_rule : Rule
-cache_rule = record (new_rule (codes "cache")) {
-  long = Some (codes "cache");
+-- `--NAME N`, a number from one to another, and this text where it isn't given
+abbrev pub number_rule : Text → ℕ → ℕ → Text → Rule
+number_rule name least most default = record (new_rule name) {
+  long = Some name;
   action = Some Set;
-  parser = Some (Signed (pos 1) (pos 65536));
+  parser = Some (Signed (pos least) (pos most));
   value_names = 1;
-  defaults = codes "1024" ∷ [];
+  defaults = default ∷ [];
 }
+
+-- `--cache N`: how many frames are kept at most
+abbrev pub cache_rule : Rule
+cache_rule = number_rule (codes "cache") 1 65536 (codes "1024")
+
+-- `--port P`: the port of 127.0.0.1 that is listened on
+abbrev pub port_rule : Rule
+port_rule = number_rule (codes "port") 1 65535 (codes "8080")
+
+-- `--connections K`: how many connections are served
+abbrev pub connections_rule : Rule
+connections_rule = number_rule (codes "connections") 1 1000000 (codes "1000000")
+
+-- `init STORE CALLERS`
+abbrev pub init_app : App
+init_app = with_rule (with_rule (new_app (codes "init")) (required_rule (codes "store"))) (required_rule (codes "callers"))
+
+-- `serve --port P --cache N --connections K STORE`
+abbrev pub serve_app : App
+serve_app =
+    with_rule (with_rule (with_rule (with_rule (new_app (codes "serve")) port_rule) cache_rule) connections_rule)
+    (required_rule (codes "store"))
 
 -- `replay --cache N CALLERS FILE..`
 abbrev pub replay_app : App
@@ -47,21 +69,52 @@ commands_named name =
 
 -- the commands that there are
 abbrev pub bureau_app : App
-bureau_app = with_subcommand (with_subcommand (commands_named (codes "bureau")) holds_app.top) replay_app.top
+bureau_app =
+    let holds = with_subcommand (commands_named (codes "bureau")) holds_app.top in
+    let init = with_subcommand holds init_app.top in
+    let serve = with_subcommand init serve_app.top in
+    with_subcommand serve replay_app.top
 
--- the text is a number in decimal digits, this one, and a cache may have this capacity
+-- the text is a number in decimal digits, this one, and it is in the range
+abbrev pub IsNumberIn : ℕ → ℕ → Option Text → ℕ → Type 0
+IsNumberIn least most None number = ⊥
+IsNumberIn least most (Some text) number = ParsesUnsigned {E = ⊥} 32 10 text (Ok number) × (least ≤ number) × (number ≤ most)
+
+-- a cache may have this capacity, the port this number, and so many connections may be served
 abbrev pub IsCapacity : Option Text → ℕ → Type 0
-IsCapacity None number = ⊥
-IsCapacity (Some text) number = ParsesUnsigned {E = ⊥} 32 10 text (Ok number) × (1 ≤ number) × (number ≤ 65536)
+IsCapacity = IsNumberIn 1 65536
+
+abbrev pub IsPort : Option Text → ℕ → Type 0
+IsPort = IsNumberIn 1 65535
+
+abbrev pub IsManyConnections : Option Text → ℕ → Type 0
+IsManyConnections = IsNumberIn 1 1000000
+
+-- the command that a line has
+abbrev pub command_of : Line → Text
+command_of (Holds file) = codes "holds"
+command_of (Init store callers) = codes "init"
+command_of (Serve port cache connections store) = codes "serve"
+command_of (Replay cache callers files) = codes "replay"
+
+-- each value among the matches is that of the line
+abbrev pub HasValues : List Row → Line → Type 0
+HasValues rows (Holds file) = first_of (codes "file") rows ≡ Some (string_bytes file)
+HasValues rows (Init store callers) =
+    (first_of (codes "store") rows ≡ Some (string_bytes store)) × (first_of (codes "callers") rows ≡ Some (string_bytes callers))
+HasValues rows (Serve port cache connections store) =
+    IsPort (one_of (codes "port") rows) port
+    × IsCapacity (one_of (codes "cache") rows) cache
+    × IsManyConnections (one_of (codes "connections") rows) connections
+    × (first_of (codes "store") rows ≡ Some (string_bytes store))
+HasValues rows (Replay cache callers files) =
+    IsCapacity (one_of (codes "cache") rows) cache
+    × (first_of (codes "callers") rows ≡ Some (string_bytes callers))
+    × (all_of (codes "files") rows ≡ Some (map string_bytes files.items))
 
 -- the command of this name, with these matches, has the line: each argument's value is that of the line
 abbrev pub IsLineWith : Text → List Row → Line → Type 0
-IsLineWith name rows (Holds file) = (name ≡ codes "holds") × (first_of (codes "file") rows ≡ Some (string_bytes file))
-IsLineWith name rows (Replay cache callers files) =
-    (name ≡ codes "replay")
-    × IsCapacity (one_of (codes "cache") rows) cache
-    × (first_of (codes "callers") rows ≡ Some (string_bytes callers))
-    × (all_of (codes "files") rows ≡ Some (map string_bytes files.items))
+IsLineWith name rows line = (name ≡ command_of line) × HasValues rows line
 
 -- the matches name a command, which has the line
 abbrev pub IsLineIn : Option (Text × List Row) → Line → Type 0
@@ -72,19 +125,17 @@ IsLineIn (Some (name, rows)) line = IsLineWith name rows line
 abbrev pub IsLineOf : List Text → Line → Type 0
 IsLineOf words line = IsLineIn (subcommand_of bureau_app words) line
 
--- two lines say the same: one command, with the same texts and the same capacity
-abbrev pub SaysSame : Line → Line → Type 0
-SaysSame (Holds file) (Holds other) = string_bytes file ≡ string_bytes other
-SaysSame (Holds file) (Replay cache callers files) = ⊥
-SaysSame (Replay cache callers files) (Holds other) = ⊥
-SaysSame (Replay cache callers files) (Replay other_cache other_callers other_files) =
-    (cache ≡ other_cache)
-    × (string_bytes callers ≡ string_bytes other_callers)
-    × (map string_bytes files.items ≡ map string_bytes other_files.items)
+-- what a line says: its command, its numbers and its texts
+abbrev pub said : Line → Text × List ℕ × List Text
+said (Holds file) = (codes "holds", [], string_bytes file ∷ [])
+said (Init store callers) = (codes "init", [], string_bytes store ∷ string_bytes callers ∷ [])
+said (Serve port cache connections store) =
+    (codes "serve", port ∷ cache ∷ connections ∷ [], string_bytes store ∷ [])
+said (Replay cache callers files) = (codes "replay", cache ∷ [], string_bytes callers ∷ map string_bytes files.items)
 
 -- words have at most one line
 abbrev pub HasOneLine : List Text → Type 0
-HasOneLine words = (line other : Line) → IsLineOf words line → IsLineOf words other → SaysSame line other
+HasOneLine words = (line other : Line) → IsLineOf words line → IsLineOf words other → said line ≡ said other
 
 -- Serves private contracts alone: the line is such a one, or there is no such line.
 abbrev pub IsFound : (Line → Type 0) → Option Line → Type 0

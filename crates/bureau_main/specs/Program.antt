@@ -1,11 +1,14 @@
 -- What a run does: from the words of a command line to what it reads, what both streams get, and the exit status.
 use Rattle.std.specs.Prelude.{◌≡◌, ◌≢◌, ◌⊎◌, ℕ, [], List, codes, map, Option, Some, Result, Ok, Err, IfSome, string_bytes}
 use Rattle.std.specs.Io.KnownBytes.{Keeps}
+use Rattle.bureau_store.specs.declared.fault.StoreFault.{StoreFault}
 use Rattle.clap.specs.Words.{fault_of}
+use Rattle.faults.specs.declared.any.AnyFault.{AnyFault}
 use Rattle.transfer.specs.Transfer.{AppendsFront}
 use Rattle.bureau_main.specs.Holds.{IsHoldsRun, IsTold}
 use Rattle.bureau_main.specs.Line.{bureau_app, IsLineOf}
-use Rattle.bureau_main.specs.ProgramFault.{of_program}
+use Rattle.bureau_main.specs.Desk.{IsInitFault, IsInitRun, IsServeRun, of_store}
+use Rattle.bureau_main.specs.ProgramFault.{of_program, status_of}
 use Rattle.bureau_main.specs.Replay.{IsReplayRun}
 use Rattle.bureau_main.specs.Surroundings.{KnownFile, AreContents, IsContent, IsNotOpened, IsOpened}
 use Rattle.bureau_main.specs.declared.fault.ProgramFault.{ProgramFault}
@@ -53,6 +56,31 @@ abbrev pub IsReplay : (List ℕ → KnownFile) → List ℕ → List (List ℕ) 
 IsReplay files callers names outputs status =
     IsServed files callers names outputs status ⊎ IsEndedBy NotRead outputs status ⊎ IsEndedBy Memory outputs status
 
+-- a run that ends with a fault before it makes anything: standard output stays, standard error has the fault's line
+abbrev pub IsToldAlone : AnyFault → Outputs → ℕ → Type 0
+IsToldAlone fault outputs status =
+    Keeps outputs.output outputs.written × IsTold (Some fault) outputs.errors outputs.told × (status ≡ status_of fault.cause)
+
+-- the callers file has a fault
+abbrev pub HasCallerFault : KnownFile → AnyFault → Type 0
+HasCallerFault callers fault = (source : List ℕ) × IsContent callers source × IsInitFault source fault
+
+-- the callers file can't be read or has a fault, the file of the store can't be opened, or memory ran out
+abbrev pub IsNotBegun : KnownFile → AnyFault → Type 0
+IsNotBegun callers fault =
+    (fault ≡ of_program NotRead) ⊎ (fault ≡ of_program Memory)
+    ⊎ ((refused : StoreFault) × (fault ≡ of_store refused)) ⊎ HasCallerFault callers fault
+
+-- `init STORE CALLERS`: the callers file is read, and a store with its callers is made in a database, of which nothing is known
+pub record IsMade (files : List ℕ → KnownFile) (callers : List ℕ) (outputs : Outputs) (status : ℕ) : Type 0 where
+  pub source : List ℕ
+  pub callers_are : IsContent (files callers) source
+  pub made : IsInitRun (λ outcome. Unit {0}) source outputs.output outputs.written outputs.errors outputs.told status
+
+abbrev pub IsInit : (List ℕ → KnownFile) → List ℕ → Outputs → ℕ → Type 0
+IsInit files callers outputs status =
+    IsMade files callers outputs status ⊎ ((fault : AnyFault) × IsNotBegun (files callers) fault × IsToldAlone fault outputs status)
+
 -- words that are no line: what to tell the user stands on standard error
 abbrev pub IsExplained : List ℕ → Outputs → ℕ → Type 0
 IsExplained text outputs status =
@@ -63,6 +91,10 @@ abbrev pub IsAnswered : (List ℕ → KnownFile) → Result Line LineFault → O
 IsAnswered files (Ok (line.Holds file)) input rest outputs status = IsHolds files (string_bytes file) input rest outputs status
 IsAnswered files (Ok (line.Replay cache callers names)) input rest outputs status =
     Keeps input rest × IsReplay files (string_bytes callers) (map string_bytes names.items) outputs status
+IsAnswered files (Ok (line.Init store callers)) input rest outputs status =
+    Keeps input rest × IsInit files (string_bytes callers) outputs status
+IsAnswered files (Ok (line.Serve port cache connections store)) input rest outputs status =
+    Keeps input rest × IsServeRun port outputs.output outputs.written outputs.errors outputs.told status
 IsAnswered files (Err (line_fault.Words text)) input rest outputs status =
     Keeps input rest × IsExplained (string_bytes text) outputs status
 IsAnswered files (Err line_fault.Memory) input rest outputs status = Keeps input rest × IsEndedBy Memory outputs status

@@ -6,12 +6,13 @@ use Rattle.faults.specs.declared.fault.Cause.TheVariants.{Input, Machine}
 use Rattle.transfer.specs.declared.fault.TransferFault.{TransferFault}
 use Rattle.transfer.specs.declared.fault.TransferFault.TheVariants as transfer
 use Rattle.bureau_main.specs.declared.fault.ProgramFault.{ProgramFault}
-use Rattle.bureau_main.specs.declared.fault.ProgramFault.TheVariants.{NotRead, NotWritten, Memory}
+use Rattle.bureau_main.specs.declared.fault.ProgramFault.TheVariants.{NotRead, NotWritten, NotListening, Memory}
 
 -- the number that is printed
 abbrev pub program_number : ProgramFault → ℕ
 program_number NotRead = 71
 program_number NotWritten = 72
+program_number NotListening = 73
 program_number Memory = 74
 
 -- what is told of the program's own faults

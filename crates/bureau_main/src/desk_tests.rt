@@ -7,13 +7,14 @@ use std::process::Abort;
 use std::str;
 use std::test::Fail;
 
-const CALLERS: &[u8] = b"NAME,TOKEN\nPUBLISH,publisher-token\nALPHA,alpha-token\nBETA,beta-token\n";
+pub const CALLERS: &[u8] =
+    b"NAME,TOKEN\nPUBLISH,publisher-token\nALPHA,alpha-token\nBETA,beta-token\n";
 
 // What a caller sends: the token, the request's first words, its lines but for the token and the length, its body.
-type Asked = (&'static str, &'static str, &'static str, &'static str);
+pub type Asked = (&'static str, &'static str, &'static str, &'static str);
 
 // What is written for it: the status, the lines after the length, the body. No status: nothing is written.
-type Told = (&'static str, &'static str, &'static str);
+pub type Told = (&'static str, &'static str, &'static str);
 
 const BASE: &str =
     "++FUNCTION(HBB7790).\n++VER(Z038).\n++PTF(UA10001).\n++VER(Z038) FMID(HBB7790).\n++PTF(UA10002).\n++VER(Z038) FMID(HBB7790) PRE(UA10001) SUP(AA20002).\n++HOLD(UA10001) ERROR FMID(HBB7790)\n REASON(AA20002) CLASS(PE) DATE(12045).\n";
@@ -45,7 +46,7 @@ const SECOND: &str = "bureau-number: 2\r\n";
 const OK: &str = "200 OK";
 
 // A publication, zones, and what each client is told before and after the next publication.
-const SCRIPT: [(Asked, Told); 10] = [
+pub const SCRIPT: [(Asked, Told); 10] = [
     (
         (PUBLISHER, "POST /publish", FIRST, BASE),
         (OK, "", "ACCEPTED SYSMODS 3 HOLDS 1 RELEASES 0\n"),
@@ -211,7 +212,7 @@ fn reply(alloc: Global, asked: Asked, told: Told) -> Result<String, Fail> {
 }
 
 // The requests one after the other, and the replies so.
-fn texts(alloc: Global, exchanges: &[(Asked, Told)]) -> Result<(Vec<u8>, Vec<u8>), Fail> {
+pub fn texts(alloc: Global, exchanges: &[(Asked, Told)]) -> Result<(Vec<u8>, Vec<u8>), Fail> {
     let mut requests = Vec::new(alloc);
     let mut replies = Vec::new(alloc);
     for (asked, told) in exchanges {

@@ -20,6 +20,9 @@ pub enum ProgramFault {
     /// The output can't be written.
     #[error("the output can't be written")]
     NotWritten,
+    /// The port can't be listened on.
+    #[error("the port can't be listened on")]
+    NotListening,
     /// Memory ran out.
     #[error("memory ran out")]
     Memory,
@@ -28,7 +31,7 @@ pub enum ProgramFault {
 impl Fault for ProgramFault {
     ghost use Rattle.std.proofs.Common.{rules};
     ghost use Rattle.faults.specs.declared.fault.Cause.TheVariants.{Machine};
-    ghost use Rattle.bureau_main.specs.declared.fault.ProgramFault.TheVariants.{NotRead, NotWritten, Memory};
+    ghost use Rattle.bureau_main.specs.declared.fault.ProgramFault.TheVariants.{NotRead, NotWritten, NotListening, Memory};
 
     ghost number = { program_number };
 
@@ -36,12 +39,13 @@ impl Fault for ProgramFault {
 
     ghost cause = { λ _. Machine };
 
-    ghost numbers = { elim [ NotRead ↦ Prim.search rules | NotWritten ↦ Prim.search rules | Memory ↦ Prim.search rules ] };
+    ghost numbers = { elim [ NotRead ↦ Prim.search rules | NotWritten ↦ Prim.search rules | NotListening ↦ Prim.search rules | Memory ↦ Prim.search rules ] };
 
     fn number(self) -> u8 {
         match self {
             ProgramFault::NotRead => 71,
             ProgramFault::NotWritten => 72,
+            ProgramFault::NotListening => 73,
             ProgramFault::Memory => 74,
         }
     }

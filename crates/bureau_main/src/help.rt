@@ -20,9 +20,14 @@ there is one, the line on which the statement begins, or the record of the calle
 14 a name is not one id: 1 to 7 of A-Z 0-9 @ # $
 15 a DATE is not yyddd
 16 a CATEGORY is not one: 1 to 64 characters
+42 the store cannot be opened, or its device failed
+43 there is no room for the store on its device
+44 the file is no store; or, for init, it is one already
+45 the store is of another version
 46 the callers file does not begin with NAME,TOKEN
 47 a record is no caller: an id and a token of 8 to 64 of A-Z a-z 0-9 - . _ ~, neither of which came before
 48 no caller is named PUBLISH
 71 a file cannot be read
 72 the output cannot be written
+73 the port cannot be listened on
 6, 17, 41, 49, 54, 74 memory ran out";

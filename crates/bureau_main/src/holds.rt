@@ -70,8 +70,8 @@ fn read_input<R: Read>(alloc: Global, reader: &mut R) -> Result<Vec<u8>, Program
     Ok(read_source(alloc, reader, MOST_READ, &mut { RETRIES })?)
 }
 
-// Writes a whole text.
-fn write_text<W: Write>(writer: &mut W, text: &[u8]) -> Result<(), ProgramFault>
+/// Writes a whole text.
+pub fn write_text<W: Write>(writer: &mut W, text: &[u8]) -> Result<(), ProgramFault>
     ensures ok { OnOk result (Appends (W.contents writer.old) (W.contents writer.new) text.now) }
     ensures fault { IfErr result (λ fault. fault ≡ ProgramFault.NotWritten) }
     ensures err { OnErr result (AppendsFront (W.contents writer.old) (W.contents writer.new) text.now) }

@@ -1,15 +1,14 @@
 //! The words of a command line, read with `clap`.
 ghost use Rattle.std.specs.Prelude.{◌≡◌, ◌≢◌, ℕ, false, [], codes, map, string_bytes, IfOk, IfErr, IfSome, IsNone, OnOk};
-ghost use Rattle.clap.specs.Words.{app_of, fault_of, found_of, kind_of, one_of, rows_of, rule_of, subcommand_rows_of};
-ghost use Rattle.clap.specs.declared.builder.command.Command.TheViews.{out-Command as fields_of};
+ghost use Rattle.clap.specs.Words.{fault_of, found_of, kind_of, one_of, rows_of, subcommand_rows_of};
 ghost use Rattle.faults.specs.Refusal.{IsRefusal};
-ghost use Rattle.bureau_main.specs.Line.{bureau_app, cache_rule, holds_app, replay_app, HasOneLine, IsCapacity, IsFound, IsLineIn, IsLineOf, IsLineWith};
+ghost use Rattle.bureau_main.specs.Line.{bureau_app, HasOneLine, IsFound, IsLineIn, IsLineOf, IsLineWith, IsNumberIn, IsPort};
 ghost use Rattle.bureau_main.specs.declared.line.Line.{Line};
 ghost use Rattle.bureau_main.specs.declared.line.LineFault.TheVariants.{Memory};
 
-use crate::help::{STATUSES_AND_FAULTS, VERSION};
+use crate::commands::command;
+use clap::ArgMatches;
 use clap::error::ErrorKind;
-use clap::{Arg, ArgAction, ArgMatches, Command};
 use faults::NoMemory;
 use std::alloc::Global;
 
@@ -19,6 +18,19 @@ pub enum Line {
     /// `holds FILE`: the hold book of a file, or of standard input where FILE is `-`.
     Holds {
         file: String,
+    },
+    /// `init STORE CALLERS`: a store is made in a file, and has these callers.
+    Init {
+        store: String,
+        callers: String,
+    },
+    /// `serve --port P --cache N --connections K STORE`: K connections to a port of 127.0.0.1, 1 to 65,535, are served over
+    /// the store in a file. N frames at most are kept, 1 to 65,536, and K is 1 to 1,000,000.
+    Serve {
+        port: u16,
+        cache: u32,
+        connections: u32,
+        store: String,
     },
     /// `replay --cache N CALLERS FILE..`: what is written to connections whose bytes stand in files, over a store in
     /// memory that has these callers. N frames at most are kept, 1 to 65,536.
@@ -81,6 +93,8 @@ fn line_with(alloc: Global, name: &str, matches: &ArgMatches) -> Result<Option<L
 {
     match name {
         "holds" => holds_with(alloc, matches),
+        "init" => init_with(alloc, matches),
+        "serve" => serve_with(alloc, matches),
         "replay" => replay_with(alloc, matches),
         _ => Ok(None),
     }
@@ -96,10 +110,48 @@ fn holds_with(alloc: Global, matches: &ArgMatches) -> Result<Option<Line>, NoMem
     Ok(Some(Line::Holds { file }))
 }
 
+fn init_with(alloc: Global, matches: &ArgMatches) -> Result<Option<Line>, NoMemory>
+    ensures { IfOk result (IsFound (IsLineWith (codes "init") (rows_of (found_of matches.now)))) }
+{
+    let Some(store) = matches.get_str("store") else {
+        return Ok(None);
+    };
+    let Some(callers) = matches.get_str("callers") else {
+        return Ok(None);
+    };
+    let store = String::from_str(alloc, store)?;
+    let callers = String::from_str(alloc, callers)?;
+    Ok(Some(Line::Init { store, callers }))
+}
+
+fn serve_with(alloc: Global, matches: &ArgMatches) -> Result<Option<Line>, NoMemory>
+    ensures { IfOk result (IsFound (IsLineWith (codes "serve") (rows_of (found_of matches.now)))) }
+{
+    let Some(port) = port_with(matches) else {
+        return Ok(None);
+    };
+    let Some(cache) = number_with(matches, "cache", 1, 65_536) else {
+        return Ok(None);
+    };
+    let Some(connections) = number_with(matches, "connections", 1, 1_000_000) else {
+        return Ok(None);
+    };
+    let Some(store) = matches.get_str("store") else {
+        return Ok(None);
+    };
+    let store = String::from_str(alloc, store)?;
+    Ok(Some(Line::Serve {
+        port,
+        cache,
+        connections,
+        store,
+    }))
+}
+
 fn replay_with(alloc: Global, matches: &ArgMatches) -> Result<Option<Line>, NoMemory>
     ensures { IfOk result (IsFound (IsLineWith (codes "replay") (rows_of (found_of matches.now)))) }
 {
-    let Some(cache) = capacity_with(matches) else {
+    let Some(cache) = number_with(matches, "cache", 1, 65_536) else {
         return Ok(None);
     };
     let Some(callers) = matches.get_str("callers") else {
@@ -117,14 +169,23 @@ fn replay_with(alloc: Global, matches: &ArgMatches) -> Result<Option<Line>, NoMe
     }))
 }
 
-// The capacity of the cache. clap lets no other number through.
-fn capacity_with(matches: &ArgMatches) -> Option<u32>
-    ensures some { IfSome result (IsCapacity (one_of (codes "cache") (rows_of (found_of matches.now)))) }
-    ensures none { IsNone result → (number : ℕ) → IsCapacity (one_of (codes "cache") (rows_of (found_of matches.now))) number → ⊥ }
+// The port. clap lets no other number through.
+fn port_with(matches: &ArgMatches) -> Option<u16>
+    ensures some { IfSome result (IsPort (one_of (codes "port") (rows_of (found_of matches.now)))) }
+    ensures none { IsNone result → (number : ℕ) → IsPort (one_of (codes "port") (rows_of (found_of matches.now))) number → ⊥ }
 {
-    let cache = matches.get_one::<u32>("cache")?;
-    if (1..=65_536).contains(&cache) {
-        Some(cache)
+    let port = number_with(matches, "port", 1, 65_535)?;
+    u16::try_from(port).ok()
+}
+
+// The number of an option, in its range. clap lets no other number through.
+fn number_with(matches: &ArgMatches, name: &str, least: u32, most: u32) -> Option<u32>
+    ensures some { IfSome result (IsNumberIn least most (one_of name.now (rows_of (found_of matches.now)))) }
+    ensures none { IsNone result → (number : ℕ) → IsNumberIn least most (one_of name.now (rows_of (found_of matches.now))) number → ⊥ }
+{
+    let number = matches.get_one::<u32>(name)?;
+    if (least..=most).contains(&number) {
+        Some(number)
     } else {
         None
     }
@@ -152,75 +213,4 @@ fn told(alloc: Global, error: &clap::Error) -> LineFault
         Ok(text) => LineFault::Words(text),
         Err(_) => LineFault::Memory,
     }
-}
-
-// The commands that there are.
-fn command<'a>(alloc: Global) -> Result<Command<'a>, NoMemory>
-    ensures { IfOk result (λ command. app_of command ≡ bureau_app) }
-{
-    let holds = holds_command(alloc)?;
-    let replay = replay_command(alloc)?;
-    let bureau = Command::new(alloc, "bureau").bin_name("bureau")?;
-    bureau
-        .about("Exception SYSMODs and missing fixes of z/OS SMP/E zones")
-        .version(VERSION)
-        .after_help(STATUSES_AND_FAULTS)
-        .no_binary_name(true)
-        .subcommand_required(true)
-        .subcommand(holds)?
-        .subcommand(replay)
-}
-
-// `holds FILE`
-fn holds_command<'a>(alloc: Global) -> Result<Command<'a>, NoMemory>
-    ensures app { IfOk result (λ command. app_of command ≡ holds_app) }
-    ensures local { IfOk result (λ command. (fields_of command).has_globals ≡ false) }
-{
-    let file = Arg::new(alloc, "file")
-        .required(true)
-        .action(ArgAction::Set)
-        .value_name("FILE")
-        .help("The HOLDDATA to read; `-` is standard input");
-    Command::new(alloc, "holds")
-        .about("Prints the hold book that the ++HOLD and ++RELEASE statements of FILE leave")
-        .arg(file)
-}
-
-// `replay --cache N CALLERS FILE..`
-fn replay_command<'a>(alloc: Global) -> Result<Command<'a>, NoMemory>
-    ensures app { IfOk result (λ command. app_of command ≡ replay_app) }
-    ensures local { IfOk result (λ command. (fields_of command).has_globals ≡ false) }
-{
-    let callers = Arg::new(alloc, "callers")
-        .required(true)
-        .action(ArgAction::Set)
-        .value_name("CALLERS")
-        .help("The callers of the desk: CSV with the header NAME,TOKEN");
-    let files = Arg::new(alloc, "files")
-        .required(true)
-        .action(ArgAction::Append)
-        .num_args(1..)
-        .value_name("FILE")
-        .help("The bytes of a connection to the desk: HTTP/1.1 requests one after the other");
-    Command::new(alloc, "replay")
-        .about(
-            "Serves each FILE as a connection to a desk in memory, and prints what the desk replies",
-        )
-        .arg(cache_option(alloc))?
-        .arg(callers)?
-        .arg(files)
-}
-
-// `--cache N`
-fn cache_option<'a>(alloc: Global) -> Arg<'a>
-    ensures rule { rule_of result ≡ cache_rule }
-    ensures local { result.global ≡ false }
-{
-    Arg::new(alloc, "cache")
-        .long("cache")
-        .action(ArgAction::Set)
-        .value_parser(clap::value_parser!(u32).range(1..=65536))
-        .value_name("N")
-        .default_value("1024")
-        .help("How many frames are kept at most, 1 to 65536")
 }

@@ -22,8 +22,25 @@ fn text_in(line: Result<Line, LineFault>) -> Option<String> {
 #[test]
 fn lines(rt: HostRuntime) -> Result<(), Fail> {
     let alloc = rt.alloc();
-    let taken: [(&[&str], &str); 5] = [
+    let taken: [(&[&str], &str); 8] = [
         (&["holds", "-"], "Holds { file: \"-\" }"),
+        (&["init", "s", "c"], "Init { store: \"s\", callers: \"c\" }"),
+        (
+            &["serve", "s"],
+            "Serve { port: 8080, cache: 1024, connections: 1000000, store: \"s\" }",
+        ),
+        (
+            &[
+                "serve",
+                "--connections",
+                "1",
+                "--port=65535",
+                "--cache",
+                "2",
+                "s",
+            ],
+            "Serve { port: 65535, cache: 2, connections: 1, store: \"s\" }",
+        ),
         (
             &["replay", "c", "a"],
             "Replay { cache: 1024, callers: \"c\", files: [\"a\"] }",
@@ -47,7 +64,22 @@ fn lines(rt: HostRuntime) -> Result<(), Fail> {
         let text = format!(in alloc; "{line:?}")?;
         assert_eq!(rt; text.as_str(), shown);
     }
-    let refused: [(&[&str], &str); 12] = [
+    let refused: [(&[&str], &str); 18] = [
+        (&["init", "s"], "Usage: bureau init <STORE> <CALLERS>"),
+        (&["serve"], "Usage: bureau serve <STORE>"),
+        (&["serve", "--port", "0", "s"], "0 is not in 1..=65535"),
+        (
+            &["serve", "--port", "65536", "s"],
+            "65536 is not in 1..=65535",
+        ),
+        (
+            &["serve", "--connections", "0", "s"],
+            "0 is not in 1..=1000000",
+        ),
+        (
+            &["serve", "--connections", "1000001", "s"],
+            "1000001 is not in 1..=1000000",
+        ),
         (&["hold", "-"], "unrecognized subcommand 'hold'"),
         (&[], "requires a subcommand"),
         (&["holds"], "Usage: bureau holds <FILE>"),

@@ -1,6 +1,8 @@
 //! The programs of the bureau: what a command line asks for, from bytes to bytes.
 #![tactic(auto)]
 
+mod commands;
+mod desk;
 #[cfg(test)]
 mod desk_tests;
 mod fault;
@@ -11,6 +13,8 @@ mod line;
 mod line_tests;
 mod program;
 mod replay;
+#[cfg(test)]
+mod store_tests;
 mod surroundings;
 #[cfg(test)]
 mod tests;

@@ -1,20 +1,23 @@
 //! A run of the program: what its words ask for, over files and the three streams.
-ghost use Rattle.std.specs.Prelude.{◌≡◌, ◌↔◌, codes, map, string_bytes, IfErr, IfOk, IsTrue, Some};
+ghost use Rattle.std.specs.Prelude.{◌≡◌, ◌↔◌, codes, false, map, string_bytes, IfErr, IfOk, IsTrue, Some};
 ghost use Rattle.faults.specs.Refusal.{IsRefusal};
 ghost use Rattle.transfer.specs.Transfer.{AppendsFront};
-ghost use Rattle.bureau_main.specs.Program.{IsAnswered, IsHolds, IsReplay, IsRun};
+ghost use Rattle.bureau_main.specs.Program.{IsAnswered, IsHolds, IsInit, IsNotBegun, IsReplay, IsRun};
 ghost use Rattle.bureau_main.specs.Holds.{IsTold};
 ghost use Rattle.bureau_main.specs.ProgramFault.{of_program};
 ghost use Rattle.bureau_main.specs.Surroundings.{AreContents, IsContent};
 
+use crate::desk::{callers_in, close, of_store, run_init, run_serve};
 use crate::fault::{ProgramFault, exit_status, report, tell};
 use crate::holds::run_holds;
 use crate::line::{Line, LineFault, line_of};
 use crate::replay::run_replay;
-use crate::surroundings::Surroundings;
+use crate::surroundings::{StoreFile, Surroundings};
 use faults::AnyFault;
+use sqlite::Connection;
 use std::alloc::Global;
 use std::io::{Read, Write};
+use std::time::Clock;
 use transfer::{RETRIES, read_source};
 
 // The exit status where the words aren't understood.
@@ -24,7 +27,7 @@ const NOT_UNDERSTOOD: u8 = 2;
 ///
 /// Standard input is read where `holds` has `-` for a FILE, and nowhere else. Every other FILE is opened by its name.
 /// What is made of it goes to standard output, and a fault's line to standard error.
-pub fn run<S: Surroundings, I: Read, O: Write, E: Write>(
+pub fn run<S: Surroundings + Clock, I: Read, O: Write, E: Write>(
     surroundings: &S,
     alloc: Global,
     input: &mut I,
@@ -48,7 +51,7 @@ pub fn run<S: Surroundings, I: Read, O: Write, E: Write>(
 }
 
 // Does what a line asks for.
-fn answer<S: Surroundings, I: Read, O: Write, E: Write>(
+fn answer<S: Surroundings + Clock, I: Read, O: Write, E: Write>(
     surroundings: &S,
     alloc: Global,
     line: Result<Line, LineFault>,
@@ -78,6 +81,29 @@ fn answer<S: Surroundings, I: Read, O: Write, E: Write>(
         ) => {
             let (callers, files) = (callers.as_str(), files.as_slice());
             do_replay(surroundings, alloc, cache, callers, files, output, errors)
+        }
+        Ok(Line::Init { store, callers }) => {
+            let (store, callers) = (store.as_str(), callers.as_str());
+            do_init(surroundings, alloc, store, callers, output, errors)
+        }
+        Ok(
+            Line::Serve {
+                port,
+                connections,
+                store,
+                ..
+            },
+        ) => {
+            let store = store.as_str();
+            run_serve(
+                surroundings,
+                alloc,
+                port,
+                connections,
+                store,
+                output,
+                errors,
+            )
         }
         Err(LineFault::Words(text)) => explain(errors, text.as_str()),
         Err(LineFault::Memory) => refuse(errors, ProgramFault::Memory),
@@ -150,6 +176,59 @@ fn do_replay<S: Surroundings, O: Write, E: Write>(
     }
 }
 
+// Makes a store in a file, with the callers of the callers file.
+#[tactic(auto, using(crate::proofs::DeskFacts::database_unknown))]
+fn do_init<S: Surroundings, O: Write, E: Write>(
+    surroundings: &S,
+    alloc: Global,
+    store: &str,
+    callers: &str,
+    output: &mut O,
+    errors: &mut E,
+) -> u8
+    ensures { IsInit (S.known_file surroundings.now) callers.now
+        (record {
+          output = O.contents output.old;
+          written = O.contents output.new;
+          errors = E.contents errors.old;
+          told = E.contents errors.new;
+        }) result }
+{
+    match read_and_connect(surroundings, alloc, store, callers) {
+        Ok((callers, conn)) => {
+            let (status, conn) = run_init(alloc, conn, callers.as_slice(), output, errors);
+            close(conn);
+            status
+        }
+        Err(fault) => {
+            let _ = report(errors, fault);
+            exit_status(fault)
+        }
+    }
+}
+
+// What stands in the callers file, and a connection to the file of a store. Where that isn't there it is made, unless the
+// callers file has a fault.
+fn read_and_connect<S: Surroundings>(
+    surroundings: &S,
+    alloc: Global,
+    store: &str,
+    callers: &str,
+) -> Result<(Vec<u8>, Connection<StoreFile>), AnyFault>
+    ensures callers { IfOk result (λ both. IsContent (S.known_file surroundings.now callers.now) both.0.items) }
+    ensures rest { IfOk result (λ both. both.1.in_transaction ≡ false) }
+    ensures fault { IfErr result (IsNotBegun (S.known_file surroundings.now callers.now)) }
+{
+    let source = read_file(surroundings, alloc, callers, &mut { RETRIES })?;
+    if surroundings.open(store).is_err() {
+        let _rows = callers_in(alloc, source.as_slice())?;
+    }
+    match surroundings.connect(store, true) {
+        Ok(conn) => Ok((source, conn)),
+        Err(fault) => Err(of_store(fault)),
+    }
+}
+
 // What stands in the callers file, and in the file of each connection. They are read in this order, with 64 retries in
 // all.
 fn read_files<S: Surroundings>(
@@ -173,6 +252,7 @@ fn read_files<S: Surroundings>(
 }
 
 // All that stands in a file, in room of its own size.
+#[tactic(auto, using(crate::proofs::ReadFacts::content_read))]
 fn read_file<S: Surroundings>(
     surroundings: &S,
     alloc: Global,

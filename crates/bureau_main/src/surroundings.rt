@@ -1,13 +1,19 @@
-//! What surrounds a run: the words of its command line, and files by their names.
-ghost use Rattle.std.specs.Prelude.{◌≡◌, ℕ, List, Option, None, map, string_bytes, IfOk, IfErr, IfSome};
+//! What surrounds a run: the words of its command line, files by their names, and ports.
+ghost use Rattle.std.specs.Prelude.{◌≡◌, ℕ, List, Option, None, false, map, string_bytes, IfOk, IfErr, IfSome};
 ghost use Rattle.faults.specs.Refusal.{IsRefusal};
 ghost use Rattle.bureau_main.specs.Surroundings.{KnownFile, IsNotOpened, IsOpened};
 
 use crate::line::LineFault;
+use bureau_store::StoreFault;
+use sqlite::{Connection, Error, ErrorCode, FileStore};
 use std::alloc::Global;
 use std::env;
 use std::fs::File;
 use std::io::{self, Read};
+use std::net::{Ipv4Addr, TcpListener};
+
+/// What the file of a store is kept on, as the system has it.
+pub type StoreFile = FileStore<sqlite::File>;
 
 /// The words of a command line, and the files that they may name.
 ///
@@ -41,6 +47,23 @@ pub trait Surroundings {
         ensures file { IfOk result
             (λ file. IsOpened (known_file self.now name.now) (Self.File.remaining file)) }
         ensures fault { IfErr result (λ _. IsNotOpened (known_file self.now name.now)) };
+
+    /// A connection to the database in the file of this name, at rest. A file that isn't there is made, where that is
+    /// asked for.
+    ///
+    /// # Errors
+    ///
+    /// `Shape` where the file isn't there and isn't to be made; `Memory` where memory ran out; `Device` where the name is no
+    /// file's, where another has the file open, or where it is no database.
+    fn connect(&self, name: &str, makes: bool) -> Result<Connection<StoreFile>, StoreFault>
+        ensures rest { IfOk result (λ conn. conn.in_transaction ≡ false) };
+
+    /// Listens on a port of 127.0.0.1.
+    ///
+    /// # Errors
+    ///
+    /// The port is in use, or may not be listened on.
+    fn listen(&self, port: u16) -> io::Result<TcpListener>;
 }
 
 /// The system's own words and files.
@@ -66,5 +89,20 @@ impl Surroundings for HostRuntime {
 
     fn open(&self, name: &str) -> io::Result<File> {
         File::open(self, name)
+    }
+
+    fn connect(&self, name: &str, makes: bool) -> Result<Connection<StoreFile>, StoreFault> {
+        if !makes && File::open(self, name).is_err() {
+            return Err(StoreFault::Shape);
+        }
+        match Connection::open(self, name) {
+            Ok(conn) => Ok(conn),
+            Err(Error::SqliteFailure(ErrorCode::OutOfMemory)) => Err(StoreFault::Memory),
+            Err(_) => Err(StoreFault::Device),
+        }
+    }
+
+    fn listen(&self, port: u16) -> io::Result<TcpListener> {
+        TcpListener::bind(self, (Ipv4Addr::LOCALHOST, port))
     }
 }

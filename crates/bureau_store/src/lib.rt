@@ -17,8 +17,6 @@ mod held;
 mod kept;
 mod list_store;
 mod store;
-#[cfg(test)]
-mod tests;
 
 pub use caller::{Caller, CallerRow, Token};
 pub use callers_file::{CALLER_RECORDS, callers};

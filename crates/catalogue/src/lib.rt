@@ -23,8 +23,6 @@ mod list_published;
 mod published;
 mod reading;
 mod sysmod;
-#[cfg(test)]
-mod tests;
 mod touching;
 
 pub use asked::publication_operands;

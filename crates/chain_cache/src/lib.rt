@@ -6,7 +6,5 @@
 
 mod cache;
 mod dropping;
-#[cfg(test)]
-mod tests;
 
 pub use cache::ChainCache;

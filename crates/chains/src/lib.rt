@@ -21,8 +21,6 @@ mod listing;
 mod nodes;
 mod places;
 mod planning;
-#[cfg(test)]
-mod tests;
 mod touching;
 mod verdict;
 mod whole;

@@ -7,8 +7,6 @@
 mod column;
 mod line;
 mod table;
-#[cfg(test)]
-mod tests;
 
 pub use column::Column;
 use std::alloc::AllocError as NoMemory;

@@ -12,8 +12,6 @@
 
 mod any;
 mod fault;
-#[cfg(test)]
-mod tests;
 mod text;
 
 pub use any::AnyFault;

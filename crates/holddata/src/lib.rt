@@ -27,8 +27,6 @@ mod operands;
 mod place;
 mod print;
 mod reading;
-#[cfg(test)]
-mod tests;
 
 pub use asked::hold_operands;
 pub use book::{HoldBook, book_left};

@@ -29,8 +29,6 @@ mod scratch;
 mod source;
 mod statement;
 mod statements;
-#[cfg(test)]
-mod tests;
 
 pub use category::{is_category, is_category_byte};
 pub use fault::{McsFault, NoMemory};

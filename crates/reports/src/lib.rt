@@ -12,8 +12,6 @@ mod errors;
 mod missing;
 mod resolvers;
 mod rows;
-#[cfg(test)]
-mod tests;
 mod text;
 
 pub use chain::plan_json;

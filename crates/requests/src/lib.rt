@@ -41,6 +41,3 @@ pub use resource::Resource;
 pub use routes::Routes;
 pub use status::Status;
 pub use turn::{Request, Turn, read_turn};
-
-#[cfg(test)]
-mod tests;

@@ -14,8 +14,6 @@ mod reversed;
 mod rings;
 mod rows;
 mod sources;
-#[cfg(test)]
-mod tests;
 mod verdict;
 
 pub use good::{Resolution, resolve};

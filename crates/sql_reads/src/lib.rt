@@ -19,8 +19,6 @@ mod found;
 mod published;
 mod rows;
 mod tables_version;
-#[cfg(test)]
-mod tests;
 mod values;
 mod zone_counts;
 

@@ -14,8 +14,6 @@
 pub mod law;
 mod lists;
 mod rows;
-#[cfg(test)]
-mod tests;
 mod values;
 
 pub use faults::NoMemory;

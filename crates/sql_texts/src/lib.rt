@@ -13,6 +13,4 @@
 pub mod create;
 pub mod law;
 pub mod read;
-#[cfg(test)]
-mod tests;
 pub mod write;

@@ -14,8 +14,6 @@ mod load;
 mod publication;
 mod run;
 mod tables;
-#[cfg(test)]
-mod tests;
 mod values;
 mod zone;
 

@@ -9,8 +9,6 @@
 mod giving;
 mod presence;
 mod search;
-#[cfg(test)]
-mod tests;
 mod zone;
 
 pub use giving::givers;

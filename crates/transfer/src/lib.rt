@@ -14,8 +14,6 @@ mod fault;
 mod intake;
 mod reading;
 mod retrying;
-#[cfg(test)]
-mod tests;
 mod writing;
 
 pub use fault::TransferFault;

@@ -34,6 +34,3 @@ pub use list::{Entries, read_list};
 pub use pattern::Pattern;
 pub use received::{RECEIVED_RECORDS, received_rows};
 pub use zones::{ZONE_RECORDS, ZoneRow, ZoneState, zone_rows};
-
-#[cfg(test)]
-mod tests;

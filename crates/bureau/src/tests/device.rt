@@ -3,10 +3,10 @@ use super::asked::{
     ALPHA, BASE, BOTH, FUNCTION, PUBLISHER, asked, assert_told, drop_zone, id, in_lists, publish,
     put_patterns, put_received, put_zone,
 };
-use super::failing::Failing;
 use crate::{Bureau, Call, Reply};
 use bureau_store::{ListStore, Store, StoreFault};
 use chains::Whole;
+use failing_store::FailingStore;
 use std::alloc::Global;
 use std::process::Abort;
 use std::test::Fail;
@@ -50,7 +50,7 @@ fn told_by<S: Store>(
 fn assert_shut(
     rt: &impl Abort,
     alloc: Global,
-    bureau: &mut Bureau<Failing, Whole>,
+    bureau: &mut Bureau<FailingStore, Whole>,
     calls: &[Asked],
 ) -> Result<(), Fail> {
     assert!(rt; bureau.store().device_failed());
@@ -72,7 +72,7 @@ fn places_of(rt: &impl Abort, alloc: Global, calls: &[Asked], asked: &Asked) -> 
     let told = told_by(alloc, &mut whole, asked)?;
     assert_eq!(rt; told.status, 200);
     for left in 0..64u64 {
-        let mut bureau = in_store(alloc, Failing::new(begun(alloc)?, left));
+        let mut bureau = in_store(alloc, FailingStore::new(begun(alloc)?, left));
         let reply = told_by(alloc, &mut bureau, asked)?;
         if reply.status != 503 {
             assert!(rt; are_same(&reply, &told) && !bureau.store().device_failed());

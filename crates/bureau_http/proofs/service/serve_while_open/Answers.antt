@@ -1,4 +1,4 @@
-use Rattle.std.proofs.Common.{◌≡◌, ◌<◌, arith, inl, inr, refl, rules, subst}
+use Rattle.std.proofs.Common.{◌≡◌, ◌+◌, ◌∙◌, arith, inl, inr, refl, rules, subst, sym}
 use Rattle.bureau.specs.Answering.{bureau_view}
 use Rattle.bureau.specs.Kept.{IsKeptRun}
 use Rattle.catalogue.proofs.SourceFacts.{goes_on}
@@ -21,24 +21,27 @@ pub loop-preserved : goal.loop-preserved
 loop-preserved g c =
     let view = bureau_view g.S.Store.tables_view g.J.Judge.is_right in
     let so = c.loop.invariant in
-    let next = c.serve_listener.ensures in
+    let next = c.serve_and_look.ensures in
     let log = g.L.Listening.log c.args.listening.now in
     let mid = g.L.Listening.log c.loop.listening in
-    let log_after = g.L.Listening.log c.serve_listener.new.listening in
+    let new = c.serve_and_look.new.bureau in
+    let log_after = g.L.Listening.log c.serve_and_look.new.listening in
     record {
       goes = goes_on so.goes next.goes;
-      served = in_order_on view c.args.bureau.now c.loop.bureau c.serve_listener.new.desk log mid log_after c.loop.counter 1 so.goes next.goes so.served
-          (in_order_kept view c.loop.bureau c.serve_listener.new.desk mid log_after 1 next.served);
-      sound = inr (subst (λ store. g.S.Store.tables_view.failures store ≡ 0) c.store.ensures (has_not_failed (g.S.Store.tables_view.failures c.store.result.now) c.if-device_failed.ensures));
+      served = in_order_on view c.args.bureau.now c.loop.bureau new log mid log_after c.loop.counter 1 so.goes next.goes so.served
+          (in_order_kept view c.loop.bureau new mid log_after 1 next.served);
+      sound = inr (has_not_failed (view.failures new) (sym c.if-serve_and_look.false ∙ next.failed));
     }
 
-pub returns-then-device_failed-clause-ended : goal.returns-then-device_failed-clause-ended
-returns-then-device_failed-clause-ended g c =
+pub returns-then-serve_and_look-clause-ended : goal.returns-then-serve_and_look-clause-ended
+returns-then-serve_and_look-clause-ended g c =
     let view = bureau_view g.S.Store.tables_view g.J.Judge.is_right in
     let so = c.loop.invariant in
-    let next = c.serve_listener.ensures in
+    let next = c.serve_and_look.ensures in
     let log = g.L.Listening.log c.args.listening.now in
     let mid = g.L.Listening.log c.loop.listening in
+    let new = c.serve_and_look.new.bureau in
+    let log_after = g.L.Listening.log c.serve_and_look.new.listening in
     record {
       count = c.loop.counter;
       within = search rules;
@@ -47,7 +50,10 @@ returns-then-device_failed-clause-ended g c =
       served = in_order_lawful view c.args.bureau.now c.loop.bureau log mid c.loop.counter so.served;
       sound = so.sound;
       last = next.served;
-      failed = subst (λ store. 0 < g.S.Store.tables_view.failures store) c.store.ensures (has_failed (g.S.Store.tables_view.failures c.store.result.now) c.if-device_failed.ensures);
+      failed = has_failed (view.failures new) (sym c.if-serve_and_look.true ∙ next.failed);
+      whole = in_order_lawful view c.args.bureau.now new log log_after (c.loop.counter + 1)
+          (in_order_on view c.args.bureau.now c.loop.bureau new log mid log_after c.loop.counter 1 so.goes next.goes so.served
+          (in_order_kept view c.loop.bureau new mid log_after 1 next.served));
     }
 
 pub returns-clause-served : goal.returns-clause-served

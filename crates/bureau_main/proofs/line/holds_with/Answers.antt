@@ -1,15 +1,17 @@
-use Rattle.std.proofs.Common.{rules, ◌≡◌, ◌∙◌, sym, ap, refl, arith, codes, ℕ, List, Some, None, slice_index, string_bytes}
+use Rattle.std.proofs.Common.{rules, ◌≡◌, ◌∙◌, sym, refl, codes, List, Some, None, string_bytes, ap, arith}
 use Rattle.clap.specs.Words.{Row, first_of, found_of, rows_of}
 use Rattle.clap.proofs.WalkLemmas.{first_value-rows}
 use Rattle.bureau_main.specs.Line.{IsLineWith}
 use Rattle.bureau_main.specs.declared.line.Line.{Line}
-use Rattle.bureau_main.specs.declared.line.Line.TheVariants.{Holds, Replay}
+use Rattle.bureau_main.specs.declared.line.Line.TheVariants.{Holds, Init, Replay, Serve}
+use Rattle.bureau_main.proofs.LineFacts.{letter, other_command}
 use Rattle.bureau_main.proofs.line.holds_with.Goals as goal
 
 fileless : (rows : List Row) (line : Line) → first_of (codes "file") rows ≡ None → IsLineWith (codes "holds") rows line → ⊥
-fileless rows (Holds file) none (named, value) = let no : None ≡ Some (string_bytes file) = sym none ∙ value in cc
-fileless rows (Replay cache callers files) none (named, number, called, connections) =
-    let no : ◌≡◌ {A = ℕ} 104 114 = ap (λ (t : List ℕ). slice_index t 0) named in absurd (omega arith)
+fileless rows (Holds file) none is = let no : None ≡ Some (string_bytes file) = sym none ∙ is.1 in cc
+fileless rows (Init store callers) none is = other_command 104 105 (omega arith) (ap letter is.0)
+fileless rows (Serve port cache connections store) none is = other_command 104 115 (omega arith) (ap letter is.0)
+fileless rows (Replay cache callers files) none is = other_command 104 114 (omega arith) (ap letter is.0)
 
 pub returns-in_default : goal.returns-in_default
 returns-in_default c line is =

@@ -34,6 +34,12 @@ returns-in-Ok-clause-understood c =
 pub returns-in-Ok-clause-one_line : goal.returns-in-Ok-clause-one_line
 returns-in-Ok-clause-one_line c = one_line (map string_bytes c.args.words.now)
 
+pub returns-in-Err-clause-one_line : goal.returns-in-Err-clause-one_line
+returns-in-Err-clause-one_line c = one_line (map string_bytes c.args.words.now)
+
+pub returns-in_err-command-clause-one_line : goal.returns-in_err-command-clause-one_line
+returns-in_err-command-clause-one_line c = one_line (map string_bytes c.args.words.now)
+
 refused_line : (Is : Line → Type 0) (kinds : Kinds) (error : Error) (result : LineFault) → HasKind kinds error → (kind_of error ≡ kind.OutOfMemory → result ≡ Memory)
     → IsRefusal Memory (λ (_ : LineFault). (line : Line) → Is line → kinds ≢ []) result
 refused_line Is kinds error result (inl memory) told = inl (told memory)

@@ -1,9 +1,10 @@
-use Rattle.std.proofs.Common.{rules, ◌≡◌, ◌∙◌, sym, ap, refl, arith, codes, ℕ, List, Some, None, map, slice_index, string_bytes}
+use Rattle.std.proofs.Common.{rules, ◌≡◌, ◌∙◌, sym, refl, codes, ℕ, List, Some, None, map, string_bytes, ap, arith}
 use Rattle.clap.specs.Words.{Row, Text, all_of, first_of, found_of, one_of, rows_of}
 use Rattle.clap.proofs.WalkLemmas.{first_value-rows, raw_values-rows}
 use Rattle.bureau_main.specs.Line.{IsCapacity, IsLineWith}
 use Rattle.bureau_main.specs.declared.line.Line.{Line}
-use Rattle.bureau_main.specs.declared.line.Line.TheVariants.{Holds, Replay}
+use Rattle.bureau_main.specs.declared.line.Line.TheVariants.{Holds, Init, Replay, Serve}
+use Rattle.bureau_main.proofs.LineFacts.{letter, other_command}
 use Rattle.bureau_main.proofs.line.replay_with.Goals as goal
 
 -- what a line of the command has
@@ -13,13 +14,15 @@ IsReplay rows cache callers files =
 
 no_line : (rows : List Row) (line : Line) → ((cache : ℕ) (callers : Text) (files : List Text) → IsReplay rows cache callers files → ⊥)
     → IsLineWith (codes "replay") rows line → ⊥
-no_line rows (Holds file) none (named, value) = let no : ◌≡◌ {A = ℕ} 114 104 = ap (λ (t : List ℕ). slice_index t 0) named in absurd (omega arith)
-no_line rows (Replay cache callers files) none (named, number, called, connections) = none cache (string_bytes callers) (map string_bytes files.items) (number, called, connections)
+no_line rows (Holds file) none is = other_command 114 104 (omega arith) (ap letter is.0)
+no_line rows (Init store callers) none is = other_command 114 105 (omega arith) (ap letter is.0)
+no_line rows (Serve port cache connections store) none is = other_command 114 115 (omega arith) (ap letter is.0)
+no_line rows (Replay cache callers files) none is = none cache (string_bytes callers) (map string_bytes files.items) is.1
 
 pub returns-in_default : goal.returns-in_default
 returns-in_default c line is =
     let found = found_of c.args.matches.now in
-    let none = c.capacity_with.ensures.none (search rules) in
+    let none = c.number_with.ensures.none (search rules) in
     no_line (rows_of found) line (λ cache callers files line_is. none cache line_is.0) is
 
 pub returns-in_default-get_str : goal.returns-in_default-get_str
@@ -42,4 +45,4 @@ returns c =
     sym (first_value-rows found (codes "callers")) ∙ sym c.get_str.ensures ∙ search rules in
     let connected : all_of (codes "files") (rows_of found) ≡ Some (map string_bytes c.in_ok-files.files.items) =
     sym (raw_values-rows found (codes "files")) ∙ sym c.get_strs.ensures ∙ search rules in
-    (refl, capacity, called, connected)
+    (refl, (capacity, called, connected))

@@ -1,0 +1,248 @@
+//! How long the desk waits, by clocks that tests set, and for a client that doesn't read.
+ghost use Rattle.std.proofs.Common.{arith};
+
+use super::{Echo, TOKEN, request, served};
+use crate::{Desk, Patience, Sockets, serve_listener};
+use bureau::{Body, Call, Reply};
+use bureau_store::{Caller, StoreFault};
+use std::alloc::Global;
+use std::cell::Cell;
+use std::io::{self, Read, Write};
+use std::net::{Shutdown, TcpListener, TcpStream};
+use std::test::Fail;
+use std::time::{Clock, Duration, Instant};
+
+// A clock by which a second passes before each look, and none in a pause.
+#[derive(Drop)]
+struct Ticking {
+    looks: Cell<u64>,
+    paused: Cell<u128>,
+}
+
+impl Clock for Ticking {
+    fn monotonic(&self) -> io::Result<Duration> {
+        self.looks.set(self.looks.get().saturating_add(1));
+        Ok(Duration::from_secs(self.looks.get()))
+    }
+
+    fn since_1970(&self) -> io::Result<Duration> {
+        self.monotonic()
+    }
+
+    fn sleep(&self, duration: Duration) {
+        let paused = self.paused.get().saturating_add(duration.as_millis());
+        self.paused.set(paused);
+    }
+}
+
+impl Ticking {
+    fn new() -> Ticking {
+        Ticking {
+            looks: Cell::new(0),
+            paused: Cell::new(0),
+        }
+    }
+}
+
+// A clock that stands still. At each look a client reads all that it gets. It closes its side once it sees its end.
+#[derive(Drop)]
+struct Watching {
+    client: Cell<Option<TcpStream>>,
+    got: Cell<usize>,
+    saw_end: Cell<bool>,
+}
+
+impl Watching {
+    // The client as it waits on, or none where it has seen its end.
+    fn read_out(&self, mut client: TcpStream) -> Option<TcpStream> {
+        let mut room = [0u8; 512];
+        for _ in 0..64u32 {
+            match client.read(&mut room) {
+                Ok(0) => {
+                    self.saw_end.set(true);
+                    return None;
+                }
+                Ok(count) => self.got.set(self.got.get().saturating_add(count)),
+                Err(_) => break,
+            }
+        }
+        Some(client)
+    }
+}
+
+impl Clock for Watching {
+    fn monotonic(&self) -> io::Result<Duration> {
+        if let Some(client) = self.client.take() {
+            self.client.set(self.read_out(client));
+        }
+        Ok(Duration::from_secs(1))
+    }
+
+    fn since_1970(&self) -> io::Result<Duration> {
+        self.monotonic()
+    }
+}
+
+// A desk that answers each call with a million bytes. It holds no tables, so that nothing is said of its answers.
+#[derive(Drop)]
+struct Loud {
+    alloc: Global,
+}
+
+impl Desk for Loud {
+    ghost tables_view = { record {
+      stands = λ _ _. ⊥;
+      is_clean = λ _. Unit {0};
+      is_ours = λ _. Unit {0};
+      failures = λ _. 0;
+      may_leave = λ _ _. ⊥;
+      keeps = λ _ _. Unit {0};
+    } };
+
+    ghost tables_lawful = { record {
+      keeps = λ old new kept. record {
+        goes = record { clean = λ clean. clean; ours = λ _ _. tt; failures_rise = omega arith };
+        stays = λ ours clean this stands. stands;
+        leaves = λ ours clean this left. left;
+      };
+      itself = λ desk. tt;
+      on = λ first second third sooner later. tt;
+      one = λ desk is_open this other first second. absurd first;
+    } };
+
+    fn caller_of(&mut self, _token: &[u8]) -> Result<Option<Caller>, StoreFault> {
+        Ok(Some(Caller::Publisher))
+    }
+
+    fn answer(&mut self, _caller: &Caller, _call: &Call<'_>) -> Reply {
+        let mut bytes = Vec::new(self.alloc);
+        match bytes.resize(1_000_000, b'x') {
+            Ok(()) => Reply {
+                status: 200,
+                json: false,
+                body: Body::from_vec(bytes),
+            },
+            Err(_) => Reply::no_room(self.alloc),
+        }
+    }
+}
+
+fn short() -> Duration {
+    Duration::from_millis(200)
+}
+
+fn long() -> Duration {
+    Duration::from_secs(50)
+}
+
+#[test]
+fn a_client_that_does_not_read_is_left_when_patience_ends(rt: HostRuntime) -> Result<(), Fail> {
+    let one = request(rt.alloc(), b"GET /published", TOKEN, b"")?;
+    // the replies to so many requests find no room on their way
+    let mut text = Vec::new(rt.alloc());
+    for _ in 0..20u32 {
+        text.extend_from_slice(one.as_slice())?;
+    }
+    for (each, whole) in [(short(), long()), (long(), short())] {
+        let listener = TcpListener::bind(&rt, "127.0.0.1:0")?;
+        let mut client = TcpStream::connect(&rt, listener.local_addr()?)?;
+        client.write_all(text.as_slice())?;
+        let patience = Patience {
+            each,
+            whole,
+            closing: short(),
+        };
+        let mut desk = Loud { alloc: rt.alloc() };
+        let begin = Instant::now(&rt)?;
+        let mut sockets = Sockets::new(&listener, &rt, patience);
+        serve_listener(rt.alloc(), &mut desk, &mut sockets, 1);
+        let took = begin.elapsed(&rt)?;
+        assert!(rt; took < Duration::from_secs(20), "{took:?}");
+    }
+    Ok(())
+}
+
+#[test]
+fn patience_with_a_connection_ends_in_reads_and_writes(rt: HostRuntime) -> Result<(), Fail> {
+    let text = request(rt.alloc(), b"GET /published", TOKEN, b"")?;
+    let (written, _) = served(rt.alloc(), false, text.as_slice())?;
+    // a second passes until the first read, one more until the reply, and one more until the end is read
+    let rows: [(u64, &[u8]); 4] = [
+        (1, b""),
+        (2, b""),
+        (3, written.as_slice()),
+        (9, written.as_slice()),
+    ];
+    for (seconds, wanted) in rows {
+        let listener = TcpListener::bind(&rt, "127.0.0.1:0")?;
+        let mut client = TcpStream::connect(&rt, listener.local_addr()?)?;
+        client.write_all(text.as_slice())?;
+        client.shutdown(Shutdown::Write)?;
+        let patience = Patience {
+            each: long(),
+            whole: Duration::from_secs(seconds),
+            closing: long(),
+        };
+        let clock = Ticking::new();
+        let mut desk = Echo {
+            alloc: rt.alloc(),
+            is_shut: false,
+        };
+        let mut sockets = Sockets::new(&listener, &clock, patience);
+        serve_listener(rt.alloc(), &mut desk, &mut sockets, 1);
+        let mut got = Vec::new(rt.alloc());
+        client.read_to_end(&mut got)?;
+        assert_eq!(rt; got.as_slice(), wanted, "{seconds}");
+    }
+    Ok(())
+}
+
+#[test]
+fn a_client_that_waits_for_its_end_sees_it(rt: HostRuntime) -> Result<(), Fail> {
+    let lines = b"bureau-token: publisher-token\r\nconnection: close\r\n";
+    let text = request(rt.alloc(), b"GET /published", lines, b"")?;
+    let (written, _) = served(rt.alloc(), false, text.as_slice())?;
+    let listener = TcpListener::bind(&rt, "127.0.0.1:0")?;
+    let mut client = TcpStream::connect(&rt, listener.local_addr()?)?;
+    client.write_all(text.as_slice())?;
+    client.set_read_timeout(Some(short()))?;
+    // it closes its side after that, so that the desk doesn't wait on
+    let clock = Watching {
+        client: Cell::new(Some(client)),
+        got: Cell::new(0),
+        saw_end: Cell::new(false),
+    };
+    let patience = Patience {
+        each: long(),
+        whole: long(),
+        closing: long(),
+    };
+    let mut desk = Echo {
+        alloc: rt.alloc(),
+        is_shut: false,
+    };
+    let begin = Instant::now(&rt)?;
+    let mut sockets = Sockets::new(&listener, &clock, patience);
+    serve_listener(rt.alloc(), &mut desk, &mut sockets, 1);
+    let took = begin.elapsed(&rt)?;
+    assert!(rt; clock.saw_end.get());
+    assert_eq!(rt; clock.got.get(), written.len());
+    assert!(rt; took < Duration::from_secs(20), "{took:?}");
+    Ok(())
+}
+
+#[test]
+fn the_desk_pauses_where_it_can_accept_no_connection(rt: HostRuntime) -> Result<(), Fail> {
+    let listener = TcpListener::bind(&rt, "127.0.0.1:0")?;
+    // from now on an `accept` fails where nobody waits
+    listener.set_nonblocking(true)?;
+    let clock = Ticking::new();
+    let mut desk = Echo {
+        alloc: rt.alloc(),
+        is_shut: false,
+    };
+    let mut sockets = Sockets::new(&listener, &clock, Patience::usual());
+    serve_listener(rt.alloc(), &mut desk, &mut sockets, 3);
+    assert_eq!(rt; clock.paused.get(), 60);
+    Ok(())
+}

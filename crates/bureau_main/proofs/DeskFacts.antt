@@ -1,0 +1,69 @@
+-- What `init` leaves of a database, and what `serve` and an opening tell.
+use Rattle.std.proofs.Common.{◌≡◌, ◌∙◌, ℕ, List, Option, None, Some, Ok, Err, Result, IfErr, ap, inl, inr, refl, subst}
+use Rattle.std.specs.Io.KnownBytes.{Appends}
+use Rattle.std.proofs.KnownBytes.{Keeps-refl}
+use Rattle.faults.specs.declared.any.AnyFault.{AnyFault}
+use Rattle.sqlite.specs.State.{HasCleanDisk, KeepsCommit, State}
+use Rattle.sql_writes.specs.Making.{IsOpened}
+use Rattle.transfer.specs.Transfer.{AppendsFront}
+use Rattle.bureau_store.specs.Callers.{callers_of}
+use Rattle.bureau_store.specs.declared.caller.CallerRow.{CallerRow}
+use Rattle.bureau_store.specs.declared.fault.StoreFault.{StoreFault}
+use Rattle.bureau_store.specs.declared.fault.StoreFault.TheVariants.{Device}
+use Rattle.bureau_main.specs.Desk.{IsInitLeft, IsInitRun, IsOpenRefused, IsServeOutput, IsServeRun, listening_text, of_store}
+use Rattle.bureau_main.specs.Holds.{IsTold, fault_in, run_status}
+use Rattle.bureau_main.specs.Program.{IsInit, Outputs}
+use Rattle.bureau_main.specs.ProgramFault.{of_program}
+use Rattle.bureau_main.specs.Surroundings.{KnownFile}
+use Rattle.bureau_main.specs.declared.fault.ProgramFault.TheVariants.{NotWritten}
+
+-- ---- what is left of a database
+
+pub nothing_committed : (at : State) → KeepsCommit at at
+nothing_committed at = record { was_open = λ h. h; committed = λ h. refl }
+
+-- the tables are made, whether or not the line could be written
+pub tables_left : {T : Type 0} (outcome : Result T AnyFault) (source : List ℕ) (rows slice : List CallerRow) (before after : State) → callers_of source ≡ Ok rows
+    → slice ≡ rows → (HasCleanDisk after → IsOpened slice after.committed) → IfErr outcome (λ fault. fault ≡ of_program NotWritten)
+    → IsInitLeft (fault_in outcome) source before after
+tables_left (Ok done) source rows slice before after read same made fault = λ clean. (rows, read, subst (λ (these : List CallerRow). IsOpened these after.committed) same (made clean))
+tables_left (Err why) source rows slice before after read same made fault = inl (fault, λ clean. (rows, read, subst (λ (these : List CallerRow). IsOpened these after.committed) same (made clean)))
+
+pub none_left : (fault : AnyFault) (source : List ℕ) (before after : State) → (HasCleanDisk after → KeepsCommit before after) → IsInitLeft (Some fault) source before after
+none_left fault source before after kept = inr kept
+
+pub database_unknown : (Leaves : Option AnyFault → Type 0) (source : List ℕ) (old new old_errors new_errors : Option (List ℕ)) (status : ℕ)
+    → IsInitRun Leaves source old new old_errors new_errors status → IsInitRun (λ outcome. Unit {0}) source old new old_errors new_errors status
+database_unknown Leaves source old new old_errors new_errors status run =
+    record { outcome = run.outcome; left = tt; output = run.output; told = run.told; status_is = run.status_is }
+
+-- ---- what is told
+
+pub open_refused : (fault : StoreFault) (any : AnyFault) (old new : Option (List ℕ)) (status : ℕ) → any ≡ of_store fault → IsTold (Some any) old new
+    → status ≡ run_status (Some any) → IsOpenRefused old new status
+open_refused fault any old new status is told status_is =
+    (fault, subst (λ (it : AnyFault). IsTold (Some it) old new) is told, status_is ∙ ap (λ it. run_status (Some it)) is)
+
+module _ (port : ℕ) (line slice : List ℕ) (old new : Option (List ℕ)) (is : line ≡ listening_text port) (same : slice ≡ line) where
+  pub served : Appends old new slice → IsServeOutput None port old new
+  served all = subst (Appends old new) (same ∙ is) all
+
+  pub device_told : (fault : AnyFault) → fault ≡ of_store Device → Appends old new slice → IsServeOutput (Some fault) port old new
+  device_told fault told all = inl (told, subst (Appends old new) (same ∙ is) all)
+
+  pub cut_short : (fault : AnyFault) → fault ≡ of_program NotWritten → AppendsFront old new slice → IsServeOutput (Some fault) port old new
+  cut_short fault told front = inr (inl (told, subst (AppendsFront old new) (same ∙ is) front))
+
+-- a store that is refused is not served
+pub not_served : (port : ℕ) (output old new : Option (List ℕ)) (status : ℕ) → IsOpenRefused old new status → IsServeRun port output output old new status
+not_served port output old new status refused =
+    record { outcome = Some (of_store refused.0); output = inr (inr (inl (refused.0, refl), Keeps-refl output)); told = refused.1; status_is = refused.2 }
+
+pub not_connected : (port : ℕ) (output : Option (List ℕ)) (fault : StoreFault) (any : AnyFault) (old new : Option (List ℕ)) (status : ℕ) → any ≡ of_store fault
+    → IsTold (Some any) old new → status ≡ run_status (Some any) → IsServeRun port output output old new status
+not_connected port output fault any old new status is told status_is = not_served port output old new status (open_refused fault any old new status is told status_is)
+
+-- `init` of a callers file by the same name
+pub same_init : (files : List ℕ → KnownFile) (name slice : List ℕ) (outputs : Outputs) (status : ℕ) → slice ≡ name → IsInit files slice outputs status
+    → IsInit files name outputs status
+same_init files name slice outputs status same init = subst (λ (it : List ℕ). IsInit files it outputs status) same init

@@ -1,0 +1,8 @@
+//! A store whose device fails, for tests of what stands over a store.
+//!
+//! - [`FailingStore`]: a store in lists that answers a number of calls, and then fails for good
+#![tactic(auto)]
+
+mod store;
+
+pub use store::FailingStore;

@@ -1,0 +1,20 @@
+//! Tests of what is read: tables in columns, lines of faults, bytes in and out, statements, lists, HOLDDATA and requests.
+//!
+//! Each file tests the public items of the crate that it is named after. A crate with tests of its own is proved twice by the gate,
+//! so those of the lower crates stand here.
+#![tactic(auto)]
+
+#[cfg(test)]
+mod columns_tests;
+#[cfg(test)]
+mod faults_tests;
+#[cfg(test)]
+mod holddata_tests;
+#[cfg(test)]
+mod mcs_reader_tests;
+#[cfg(test)]
+mod requests_tests;
+#[cfg(test)]
+mod transfer_tests;
+#[cfg(test)]
+mod zone_lists_tests;

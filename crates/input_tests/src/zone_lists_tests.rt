@@ -1,0 +1,288 @@
+//! Lists and patterns, as tables.
+use faults::{NoMemory, fault_text};
+use mcs_reader::Id;
+use std::alloc::Global;
+use std::test::Fail;
+use zone_lists::{ListFault, Pattern, ZoneRow, ZoneState, patterns, received_rows, zone_rows};
+
+// A header and the same record so many times.
+fn repeated(alloc: Global, header: &[u8], record: &[u8], times: u32) -> Result<Vec<u8>, NoMemory> {
+    let mut text = Vec::from_slice(alloc, header)?;
+    for _ in 0..times {
+        text.extend_from_slice(record)?;
+    }
+    Ok(text)
+}
+
+fn row(sysmod: &[u8], state: ZoneState) -> Result<ZoneRow, Fail> {
+    let sysmod = Id::new(sysmod).ok_or("an id")?;
+    Ok(ZoneRow { sysmod, state })
+}
+
+#[test]
+fn a_zone_lists_its_sysmods_in_order(rt: HostRuntime) -> Result<(), Fail> {
+    let function = row(b"HBB7790", ZoneState::Applied)?;
+    let fix = row(b"UA10001", ZoneState::Applied)?;
+    let base = b"SYSMOD,STATE\nUA10001,APPLIED\nHBB7790,APPLIED\n";
+    assert!(rt; zone_rows(rt.alloc(), base)?.as_slice() == [function, fix].as_slice());
+
+    let one_row: [&[u8]; 6] = [
+        b"\xEF\xBB\xBF SYSMOD ,STATE\nUA10001 , APPLIED\n",
+        b"SYSMOD,STATE\r\nUA10001,APPLIED\r\n",
+        b"SYSMOD,STATE\nUA10001,APPLIED",
+        b"\"SYSMOD\",\"STATE\"\n\"UA10001\",\" APPLIED\t\"\n",
+        b"\n\nSYSMOD,STATE\n\n\nUA10001,APPLIED\n\n",
+        b"SYSMOD,STATE\nUA10001,APPLIED\nUA10001,APPLIED\n",
+    ];
+    for text in one_row {
+        assert!(rt;
+            zone_rows(rt.alloc(), text)?.as_slice() == [fix].as_slice(),
+            "{text:?}"
+        );
+    }
+    assert!(rt; zone_rows(rt.alloc(), b"SYSMOD,STATE\n")?.is_empty());
+
+    // An id may begin with `#`, which begins no comment.
+    let states = b"SYSMOD,STATE\nA,SUPERSEDED\nB,ACCEPTED\n@,APPLIED\n#1,APPLIED\n";
+    let sign = row(b"#1", ZoneState::Applied)?;
+    let at = row(b"@", ZoneState::Applied)?;
+    let a = row(b"A", ZoneState::Superseded)?;
+    let b = row(b"B", ZoneState::Accepted)?;
+    assert!(rt; zone_rows(rt.alloc(), states)?.as_slice() == [sign, at, a, b].as_slice());
+    Ok(())
+}
+
+#[test]
+fn a_zone_has_its_first_fault(rt: HostRuntime) {
+    let faulty: [(&[u8], ListFault); 14] = [
+        (b"", ListFault::Header),
+        (b"\n \n", ListFault::Header),
+        (b"sysmod,state\n", ListFault::Header),
+        (b"SYSMOD\n", ListFault::Header),
+        (b"\xEF\xBB\xBF\xEF\xBB\xBFSYSMOD,STATE\n", ListFault::Header),
+        (
+            b"SYSMOD,STATE\nUA10001,APPLIED,X\n",
+            ListFault::BadRecord(1),
+        ),
+        (b"SYSMOD,STATE\nua10001\n", ListFault::BadRecord(1)),
+        (
+            b"SYSMOD,STATE\nUA10001,APPLIED\n \t\n",
+            ListFault::BadRecord(2),
+        ),
+        (b"SYSMOD,STATE\n\nua10001,APPLIED\n", ListFault::BadId(1)),
+        (b"SYSMOD,STATE\nUA100012,WRONG\n", ListFault::BadId(1)),
+        (b"SYSMOD,STATE\n,APPLIED\n", ListFault::BadId(1)),
+        (b"SYSMOD,STATE\nUA10001,applied\n", ListFault::BadState(1)),
+        (
+            b"SYSMOD,STATE\nUA10001,APPLIED\nUA10001,SUPERSEDED\n",
+            ListFault::Repeated(2),
+        ),
+        (
+            b"SYSMOD,STATE\nA,APPLIED\nB,ACCEPTED\nA,APPLIED\nB,APPLIED\nc,APPLIED\n",
+            ListFault::Repeated(4),
+        ),
+    ];
+    for (text, fault) in faulty {
+        assert!(rt;
+            zone_rows(rt.alloc(), text) == Err(fault),
+            "{text:?} {fault}"
+        );
+    }
+}
+
+#[test]
+fn received_sysmods_ascend(rt: HostRuntime) -> Result<(), Fail> {
+    let first = Id::new(b"UA10001").ok_or("an id")?;
+    let second = Id::new(b"UA10002").ok_or("an id")?;
+    let text = b"SYSMOD\nUA10002\nUA10001\nUA10002\n";
+    assert!(rt; received_rows(rt.alloc(), text)?.as_slice() == [first, second].as_slice());
+    let faulty: [(&[u8], ListFault); 3] = [
+        (b"SYSMOD,STATE\n", ListFault::Header),
+        (b"SYSMOD\nUA10001\nUA10002,\n", ListFault::BadRecord(2)),
+        (b"SYSMOD\nUA 1\n", ListFault::BadId(1)),
+    ];
+    for (text, fault) in faulty {
+        assert!(rt;
+            received_rows(rt.alloc(), text) == Err(fault),
+            "{text:?} {fault}"
+        );
+    }
+    Ok(())
+}
+
+#[test]
+fn patterns_ascend_by_their_bytes(rt: HostRuntime) -> Result<(), Fail> {
+    let text = b"CATEGORY\nibm.device.*\n\"A\"\"B\"\nIBM.Device\nibm.device.*\n";
+    let found = patterns(rt.alloc(), text)?;
+    let texts: [&[u8]; 3] = [b"A\"B", b"IBM.Device", b"ibm.device.*"];
+    assert_eq!(rt; found.len(), 3);
+    for (pattern, text) in found.iter().zip(texts) {
+        assert!(rt; pattern.text() == text, "{text:?}");
+    }
+    let faulty: [(&[u8], ListFault); 5] = [
+        (b"category\n", ListFault::Header),
+        (b"CATEGORY\nA,B\n", ListFault::BadRecord(1)),
+        (b"CATEGORY\nA\nIBM.*.X\n", ListFault::BadPattern(2)),
+        (b"CATEGORY\nA'B\n", ListFault::BadPattern(1)),
+        (b"CATEGORY\n\"\"\n", ListFault::BadPattern(1)),
+    ];
+    for (text, fault) in faulty {
+        assert!(rt;
+            patterns(rt.alloc(), text) == Err(fault),
+            "{text:?} {fault}"
+        );
+    }
+    Ok(())
+}
+
+#[test]
+fn lists_are_long_up_to_their_limits(rt: HostRuntime) -> Result<(), Fail> {
+    let zone = b"SYSMOD,STATE\n";
+    let text = repeated(rt.alloc(), zone, b"UA10001,APPLIED\n", 20_000)?;
+    assert_eq!(rt; zone_rows(rt.alloc(), &text)?.len(), 1);
+    let text = repeated(rt.alloc(), zone, b"UA10001,APPLIED\n", 20_001)?;
+    assert!(rt; zone_rows(rt.alloc(), &text) == Err(ListFault::TooMany));
+
+    let received = b"SYSMOD\n";
+    let text = repeated(rt.alloc(), received, b"UA10001\n", 20_000)?;
+    assert_eq!(rt; received_rows(rt.alloc(), &text)?.len(), 1);
+    let text = repeated(rt.alloc(), received, b"UA10001\n", 20_001)?;
+    assert!(rt; received_rows(rt.alloc(), &text) == Err(ListFault::TooMany));
+
+    let categories = b"CATEGORY\n";
+    let text = repeated(rt.alloc(), categories, b"IBM.Device.*\n", 64)?;
+    assert_eq!(rt; patterns(rt.alloc(), &text)?.len(), 1);
+    let text = repeated(rt.alloc(), categories, b"IBM.Device.*\n", 65)?;
+    assert!(rt; patterns(rt.alloc(), &text) == Err(ListFault::TooMany));
+    Ok(())
+}
+
+// The id with this number: U000000, U000001, ..
+fn numbered(alloc: Global, number: u32) -> Result<String, NoMemory> {
+    Ok(format!(in alloc; "U{number:06}")?)
+}
+
+// A header and 20,000 records, each id once, out of order.
+fn twenty_thousand(alloc: Global, header: &str, rest: &str) -> Result<Vec<u8>, NoMemory> {
+    let mut text = Vec::from_slice(alloc, header.as_bytes())?;
+    for n in 0..20_000u32 {
+        text.extend_from_slice(numbered(alloc, n * 7_919 % 20_000)?.as_str().as_bytes())?;
+        text.extend_from_slice(rest.as_bytes())?;
+    }
+    Ok(text)
+}
+
+#[test]
+fn lists_of_20000_ids_are_put_in_order(rt: HostRuntime) -> Result<(), Fail> {
+    let alloc = rt.alloc();
+    let zone = zone_rows(
+        alloc,
+        &twenty_thousand(alloc, "SYSMOD,STATE\n", ",ACCEPTED\n")?,
+    )?;
+    let received = received_rows(alloc, &twenty_thousand(alloc, "SYSMOD\n", "\n")?)?;
+    assert_eq!(rt; zone.len(), 20_000);
+    assert_eq!(rt; received.len(), 20_000);
+    for (n, (row, sysmod)) in (0..20_000u32).zip(zone.iter().zip(received.iter())) {
+        let id = numbered(alloc, n)?;
+        assert!(rt; row.sysmod.as_bytes() == id.as_str().as_bytes(), "{n}");
+        assert!(rt; row.state == ZoneState::Accepted, "{n}");
+        assert!(rt; sysmod.as_bytes() == id.as_str().as_bytes(), "{n}");
+    }
+    Ok(())
+}
+
+// A long list with one fault at its end.
+#[test]
+fn the_last_of_20000_records_is_read(rt: HostRuntime) -> Result<(), Fail> {
+    let mut zone = Vec::from_slice(rt.alloc(), b"SYSMOD,STATE\n")?;
+    for n in 0..19_999u32 {
+        zone.extend_from_slice(numbered(rt.alloc(), n)?.as_str().as_bytes())?;
+        zone.extend_from_slice(b",APPLIED\n")?;
+    }
+    zone.extend_from_slice(b"U000000,ACCEPTED\n")?;
+    assert!(rt; zone_rows(rt.alloc(), &zone) == Err(ListFault::Repeated(20_000)));
+    Ok(())
+}
+
+#[test]
+fn a_list_of_64_patterns(rt: HostRuntime) -> Result<(), Fail> {
+    let mut text = Vec::from_slice(rt.alloc(), b"CATEGORY\n")?;
+    for n in 0..64u32 {
+        let pattern = format!(in rt.alloc(); "IBM.{:02}.*\n", 63 - n)?;
+        text.extend_from_slice(pattern.as_str().as_bytes())?;
+    }
+    let found = patterns(rt.alloc(), &text)?;
+    assert_eq!(rt; found.len(), 64);
+    for (n, pattern) in (0..64u32).zip(found.iter()) {
+        let wanted = format!(in rt.alloc(); "IBM.{n:02}.*")?;
+        assert!(rt; pattern.text() == wanted.as_str().as_bytes(), "{n}");
+    }
+    Ok(())
+}
+
+#[test]
+fn a_pattern_keeps_its_text(rt: HostRuntime) -> Result<(), Fail> {
+    let pattern = Pattern::new(rt.alloc(), b"IBM.*")?.ok_or("a pattern")?;
+    assert!(rt; pattern.text() == b"IBM.*".as_slice());
+    let copy = pattern.copy()?;
+    assert!(rt; copy == pattern);
+    let refused: [&[u8]; 5] = [b"", b"A*B", b"**", b"A B", b"\x7F"];
+    for text in refused {
+        assert!(rt; Pattern::new(rt.alloc(), text)?.is_none(), "{text:?}");
+    }
+    for (length, is_one) in [(1, true), (64, true), (65, false)] {
+        let text = repeated(rt.alloc(), b"", b"A", length)?;
+        assert_eq!(rt;
+            Pattern::new(rt.alloc(), &text)?.is_some(),
+            is_one,
+            "{length}"
+        );
+    }
+    Ok(())
+}
+
+#[test]
+fn a_pattern_matches_without_regard_to_case(rt: HostRuntime) -> Result<(), Fail> {
+    let matches: [(&str, &str, bool); 8] = [
+        ("ibm.device.*", "IBM.Device.Server", true),
+        ("ibm.device.*", "IBM.Device", false),
+        ("ibm.device.*", "IBM.Device.", true),
+        ("IBM.Device", "ibm.device", true),
+        ("IBM.Device", "IBM.Device.Server", false),
+        ("IBM.Device", "IBM", false),
+        ("*", "IBM.Device", true),
+        ("[A]", "{a}", false),
+    ];
+    for (text, category, does) in matches {
+        let pattern = Pattern::new(rt.alloc(), text.as_bytes())?.ok_or("a pattern")?;
+        assert_eq!(rt;
+            pattern.matches(category.as_bytes()),
+            does,
+            "{text} {category}"
+        );
+    }
+    Ok(())
+}
+
+#[test]
+fn faults_have_their_numbers(rt: HostRuntime) -> Result<(), Fail> {
+    let rows = [
+        (ListFault::Header, "FAULT 31\n"),
+        (ListFault::BadRecord(1), "FAULT 32 1\n"),
+        (ListFault::BadId(20_000), "FAULT 33 20000\n"),
+        (ListFault::BadState(3), "FAULT 34 3\n"),
+        (ListFault::BadPattern(64), "FAULT 35 64\n"),
+        (ListFault::Repeated(2), "FAULT 36 2\n"),
+        (ListFault::TooMany, "FAULT 37\n"),
+        (ListFault::Memory, "FAULT 38\n"),
+    ];
+    for (fault, line) in rows {
+        assert_eq!(rt; fault_text(fault).as_str(), line, "{fault}");
+    }
+    let words = format!(in rt.alloc(); "{}", ListFault::Repeated(2))?;
+    assert_eq!(rt;
+        words.as_str(),
+        "record 2: the SYSMOD came before with another state"
+    );
+    Ok(())
+}

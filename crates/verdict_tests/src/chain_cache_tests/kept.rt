@@ -1,0 +1,217 @@
+//! Which frames are kept, in what order, and how many were put.
+use super::{id_of, kept_text, publish, verdict_text, zone_of};
+use catalogue::{ListPublished, Published};
+use chain_cache::ChainCache;
+use chains::{Judge, Status};
+use std::alloc::Global;
+use std::fmt::Write;
+use std::hash::RandomState;
+use std::test::Fail;
+
+const ZONE: &[u8] = b"SYSMOD,STATE\nHBB7790,APPLIED\nUA10001,APPLIED\n";
+
+// A function, three PTFs, and an error of the first that the second fixes, which the third supersedes.
+const BASE: &[u8] = b"++FUNCTION(HBB7790).\n\
+++VER(Z038).\n\
+++PTF(UA10001).\n\
+++VER(Z038) FMID(HBB7790).\n\
+++PTF(UA10002).\n\
+++VER(Z038) FMID(HBB7790) PRE(UA10001) SUP(AA20002).\n\
+++HOLD(UA10001) ERROR FMID(HBB7790)\n \
+REASON(AA20002) CLASS(PE) DATE(12045).\n\
+++PTF(UA10005).\n\
+++VER(Z038) FMID(HBB7790) SUP(UA10002).\n";
+
+// The capacity, the ids that are asked for, and after each: what is kept, and how many frames were put.
+const ASKED: [(u32, &[(&str, &str, u64)]); 3] = [
+    (
+        1,
+        &[
+            ("UA10002", "UA10002", 1),
+            ("UA10002", "UA10002", 1),
+            ("UA10001", "UA10001", 2),
+            ("UA10002", "UA10002", 3),
+        ],
+    ),
+    (
+        2,
+        &[
+            ("UA10002", "UA10002", 1),
+            ("UA10001", "UA10001 UA10002", 2),
+            ("UA10002", "UA10002 UA10001", 2),
+            ("UA10005", "UA10005 UA10002", 3),
+            ("UA10001", "UA10001 UA10005", 4),
+        ],
+    ),
+    (
+        65_536,
+        &[
+            ("UA99999", "UA99999", 1),
+            ("UA10005", "UA10005 UA99999", 2),
+            ("HBB7790", "HBB7790 UA10005 UA99999", 3),
+            ("UA99999", "UA99999 HBB7790 UA10005", 3),
+        ],
+    ),
+];
+
+#[test]
+fn the_frame_used_longest_ago_goes(rt: HostRuntime) -> Result<(), Fail> {
+    let alloc = rt.alloc();
+    let zone = zone_of(alloc, ZONE)?;
+    for (capacity, rows) in ASKED {
+        let mut lists = ListPublished::new(alloc);
+        let mut cache = ChainCache::new(alloc, capacity, RandomState::new(&rt)?)?;
+        publish(alloc, &mut lists, &mut cache, BASE)?;
+        for (id, kept, built) in rows {
+            drop(cache.verdict(alloc, &mut lists, &zone, &id_of(id.as_bytes())?)?);
+            assert_eq!(rt;
+                kept_text(alloc, &cache)?.as_str(),
+                *kept,
+                "{capacity} {id}"
+            );
+            assert_eq!(rt; cache.built(), *built, "{capacity} {id}");
+        }
+    }
+    Ok(())
+}
+
+fn nodes_of_frame(
+    alloc: Global,
+    lists: &mut ListPublished,
+    cache: &mut ChainCache,
+    id: &str,
+) -> Result<usize, Fail> {
+    let frame = cache.frame_for(alloc, lists, &id_of(id.as_bytes())?)?;
+    Ok(frame.nodes().len())
+}
+
+#[test]
+fn a_frame_is_given_and_kept(rt: HostRuntime) -> Result<(), Fail> {
+    let alloc = rt.alloc();
+    let mut lists = ListPublished::new(alloc);
+    let mut cache = ChainCache::new(alloc, 2, RandomState::new(&rt)?)?;
+    publish(alloc, &mut lists, &mut cache, BASE)?;
+    for (id, nodes) in [
+        ("UA10002", 4),
+        ("UA10001", 4),
+        ("HBB7790", 1),
+        ("UA10001", 4),
+    ] {
+        let count = nodes_of_frame(alloc, &mut lists, &mut cache, id)?;
+        assert_eq!(rt; count, nodes, "{id}");
+    }
+    assert_eq!(rt; kept_text(alloc, &cache)?.as_str(), "UA10001 HBB7790");
+    assert_eq!(rt; cache.built(), 3);
+    Ok(())
+}
+
+// So many SYSMODs, each of which needs the next, and the last the first.
+fn ring(alloc: Global, count: u32) -> Result<String, Fail> {
+    let mut text = String::new(alloc);
+    for id in 0..count {
+        let next = if id.saturating_add(1) < count {
+            id.saturating_add(1)
+        } else {
+            0
+        };
+        write!(
+            text,
+            "++PTF(N{id:05}).\n++VER(Z038) FMID(HBB7790) REQ(N{next:05}).\n"
+        )?;
+    }
+    Ok(text)
+}
+
+// How many SYSMODs a ring has, and how many frames are put where each of them is a candidate of one report.
+const RINGS: [(u32, u64); 3] = [(1, 1), (12, 12), (300, 1)];
+
+#[test]
+fn a_report_over_a_large_frame_builds_one(rt: HostRuntime) -> Result<(), Fail> {
+    let alloc = rt.alloc();
+    let zone = zone_of(alloc, ZONE)?;
+    for (count, built) in RINGS {
+        let mut lists = ListPublished::new(alloc);
+        let mut cache = ChainCache::new(alloc, 16, RandomState::new(&rt)?)?;
+        publish(
+            alloc,
+            &mut lists,
+            &mut cache,
+            ring(alloc, count)?.as_bytes(),
+        )?;
+        let ids = lists.ids()?;
+        let statuses = cache.statuses(alloc, &mut lists, &zone, ids.as_slice())?;
+        assert_eq!(rt; statuses.len(), count as usize);
+        assert!(rt;
+            statuses.iter().all(|status| *status == Status::Good),
+            "{count}"
+        );
+        assert_eq!(rt; cache.built(), built, "{count}");
+    }
+    Ok(())
+}
+
+// What is published, which frames stay, and then the verdict on UA10002 and how many frames were put.
+const PUBLISHED: [(&[u8], &str, &str, u64); 7] = [
+    (
+        b"++PTF(UA19999).\n++VER(Z038).\n",
+        "UA10002 HBB7790",
+        "GOOD UA10002",
+        2,
+    ),
+    (
+        b"++PTF(UA1000).\n++VER(Z038) FMID(HBB7790).\n",
+        "UA10002 HBB7790",
+        "GOOD UA10002",
+        2,
+    ),
+    (
+        b"++HOLD(UA10002) SYSTEM FMID(HBB7790) REASON(IPL).\n",
+        "UA10002 HBB7790",
+        "GOOD UA10002",
+        2,
+    ),
+    (
+        b"++PTF(UA10010).\n++VER(Z038) FMID(HBB7790) SUP(UA10002).\n",
+        "HBB7790",
+        "GOOD UA10002",
+        3,
+    ),
+    (
+        b"++HOLD(UA10002) ERROR FMID(HBB7790) REASON(AA30003).\n",
+        "HBB7790",
+        "HELD AA30003",
+        4,
+    ),
+    (
+        b"++PTF(UA10005).\n++VER(Z038) FMID(HBB7790).\n",
+        "HBB7790",
+        "HELD AA30003",
+        5,
+    ),
+    (
+        b"++FUNCTION(HBB7790).\n++VER(Z038).\n",
+        "UA10002",
+        "HELD AA30003",
+        5,
+    ),
+];
+
+#[test]
+fn a_publication_drops_the_frames_that_it_touches(rt: HostRuntime) -> Result<(), Fail> {
+    let alloc = rt.alloc();
+    let zone = zone_of(alloc, ZONE)?;
+    let id = id_of(b"UA10002")?;
+    let mut lists = ListPublished::new(alloc);
+    let mut cache = ChainCache::new(alloc, 16, RandomState::new(&rt)?)?;
+    publish(alloc, &mut lists, &mut cache, BASE)?;
+    drop(cache.verdict(alloc, &mut lists, &zone, &id_of(b"HBB7790")?)?);
+    drop(cache.verdict(alloc, &mut lists, &zone, &id)?);
+    for (place, (source, kept, verdict, built)) in PUBLISHED.iter().enumerate() {
+        publish(alloc, &mut lists, &mut cache, source)?;
+        assert_eq!(rt; kept_text(alloc, &cache)?.as_str(), *kept, "{place}");
+        let given = cache.verdict(alloc, &mut lists, &zone, &id)?;
+        assert_eq!(rt; verdict_text(alloc, &given)?.as_str(), *verdict, "{place}");
+        assert_eq!(rt; cache.built(), *built, "{place}");
+    }
+    Ok(())
+}

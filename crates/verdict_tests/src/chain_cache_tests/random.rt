@@ -1,0 +1,171 @@
+//! Catalogues that are drawn at random, with publications between: what is kept is what would be built, and each
+//! verdict is that over the whole catalogue.
+use super::{id_of, publish, verdict_text, zone_of};
+use catalogue::{Ids, ListPublished, Published};
+use chain_cache::ChainCache;
+use chains::{Frame, Judge, Whole, frame};
+use std::alloc::Global;
+use std::fmt::Write;
+use std::hash::RandomState;
+use std::test::Fail;
+use supersede::Zone;
+
+const RUNS: u32 = 60;
+
+const PUBLICATIONS: u32 = 12;
+
+const IDS: u32 = 8;
+
+#[derive(Drop)]
+struct Draws {
+    state: u64,
+}
+
+impl Draws {
+    // A number below 2 to the 31.
+    fn next(&mut self) -> u32 {
+        self.state = self
+            .state
+            .wrapping_mul(6_364_136_223_846_793_005)
+            .wrapping_add(1_442_695_040_888_963_407);
+        (self.state.wrapping_shr(33) & 0x7FFF_FFFF) as u32
+    }
+
+    fn id(&mut self) -> u32 {
+        self.next() & (IDS - 1)
+    }
+
+    fn is(&mut self) -> bool {
+        self.next() & 0x10 == 0
+    }
+}
+
+fn put_operand(text: &mut String, draws: &mut Draws, name: &str) -> Result<(), Fail> {
+    if draws.is() {
+        write!(text, " {name}(UA1000{},UA1000{})\n", draws.id(), draws.id())?;
+    }
+    Ok(())
+}
+
+// A publication: a SYSMOD or two, and some holds and releases.
+fn statements(alloc: Global, draws: &mut Draws) -> Result<String, Fail> {
+    let mut text = String::new(alloc);
+    for _ in 0..draws.next() & 3 {
+        write!(
+            text,
+            "++PTF(UA1000{}).\n++VER(Z038) FMID(HBB7790)\n",
+            draws.id()
+        )?;
+        for name in ["PRE", "REQ", "SUP"] {
+            put_operand(&mut text, draws, name)?;
+        }
+        text.push_str(" .\n")?;
+    }
+    for verb in ["HOLD", "RELEASE"] {
+        if draws.is() {
+            write!(
+                text,
+                "++{verb}(UA1000{}) ERROR FMID(HBB7790) REASON(UA1000{}).\n",
+                draws.id(),
+                draws.id()
+            )?;
+        }
+    }
+    Ok(text)
+}
+
+fn are_same(ids: &Ids, others: &Ids) -> bool {
+    ids.as_slice() == others.as_slice()
+}
+
+fn is_same_frame(frame: &Frame, other: &Frame) -> bool {
+    frame.nodes().len() == other.nodes().len()
+        && frame.nodes().iter().zip(other.nodes()).all(|(node, same)| {
+            node.id == same.id
+                && node.catalogued == same.catalogued
+                && are_same(&node.fmids, &same.fmids)
+                && are_same(&node.needs, &same.needs)
+                && are_same(&node.givers, &same.givers)
+        })
+}
+
+// Whether each frame that is kept is what would be built.
+fn are_as_built(
+    alloc: Global,
+    lists: &mut ListPublished,
+    cache: &ChainCache,
+) -> Result<bool, Fail> {
+    for (id, kept) in cache.iter() {
+        if !is_same_frame(kept, &frame(alloc, lists, id)?) {
+            return Ok(false);
+        }
+    }
+    Ok(true)
+}
+
+// Whether some verdicts are those over the whole catalogue.
+fn are_verdicts(
+    alloc: Global,
+    draws: &mut Draws,
+    lists: &mut ListPublished,
+    cache: &mut ChainCache,
+    zone: &Zone,
+) -> Result<bool, Fail> {
+    for _ in 0..4 {
+        let name = format!(in alloc; "UA1000{}", draws.id())?;
+        let id = id_of(name.as_bytes())?;
+        let given = cache.verdict(alloc, lists, zone, &id)?;
+        let whole = Whole::new().verdict(alloc, lists, zone, &id)?;
+        if verdict_text(alloc, &given)? != verdict_text(alloc, &whole)? {
+            return Ok(false);
+        }
+    }
+    Ok(true)
+}
+
+// Whether the statuses of all that is catalogued are those over the whole catalogue.
+fn are_statuses(
+    alloc: Global,
+    lists: &mut ListPublished,
+    cache: &mut ChainCache,
+    zone: &Zone,
+) -> Result<bool, Fail> {
+    let ids = lists.ids()?;
+    let given = cache.statuses(alloc, lists, zone, ids.as_slice())?;
+    let whole = Whole::new().statuses(alloc, lists, zone, ids.as_slice())?;
+    Ok(given.as_slice() == whole.as_slice())
+}
+
+// Whether frames, verdicts and statuses are as over the whole catalogue after one more publication.
+fn is_as_whole_after(
+    alloc: Global,
+    draws: &mut Draws,
+    lists: &mut ListPublished,
+    cache: &mut ChainCache,
+    zone: &Zone,
+) -> Result<bool, Fail> {
+    let source = statements(alloc, draws)?;
+    publish(alloc, lists, cache, source.as_bytes())?;
+    Ok(
+        are_as_built(alloc, lists, cache)?
+            && are_verdicts(alloc, draws, lists, cache, zone)?
+            && are_statuses(alloc, lists, cache, zone)?
+            && are_as_built(alloc, lists, cache)?,
+    )
+}
+
+#[test]
+fn what_is_kept_is_what_would_be_built(rt: HostRuntime) -> Result<(), Fail> {
+    let alloc = rt.alloc();
+    let mut draws = Draws { state: 20_261_124 };
+    let zone = zone_of(alloc, b"SYSMOD,STATE\nHBB7790,APPLIED\nUA10003,APPLIED\n")?;
+    for run in 0..RUNS {
+        let mut lists = ListPublished::new(alloc);
+        let mut cache = ChainCache::new(alloc, 1 + (run & 7), RandomState::new(&rt)?)?;
+        for _ in 0..PUBLICATIONS {
+            let is_right = is_as_whole_after(alloc, &mut draws, &mut lists, &mut cache, &zone)?;
+            assert!(rt; is_right, "{run}");
+        }
+    }
+    Ok(())
+}

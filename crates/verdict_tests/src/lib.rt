@@ -1,0 +1,18 @@
+//! Tests of what a catalogue says: changes, superseding, plans, chains, frames and both reports.
+//!
+//! Each file tests the public items of the crate that it is named after. A crate with tests of its own is proved twice by the gate,
+//! so those of the lower crates stand here.
+#![tactic(auto)]
+
+#[cfg(test)]
+mod catalogue_tests;
+#[cfg(test)]
+mod chain_cache_tests;
+#[cfg(test)]
+mod chains_tests;
+#[cfg(test)]
+mod reports_tests;
+#[cfg(test)]
+mod requisites_tests;
+#[cfg(test)]
+mod supersede_tests;

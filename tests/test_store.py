@@ -1,0 +1,301 @@
+#!/usr/bin/env python3
+"""The program with real files: `init`, `serve`, what they refuse, stops, and the tables that sqlite3 reads."""
+import os
+import re
+import shutil
+import signal
+import socket
+import sqlite3
+import subprocess
+import time
+
+from service import PROGRAM, TOP, check, exchange, finish, folder, free_port, same, write
+
+PAGE = os.path.join(TOP, "docs", "API.md")
+PUBLISHER, ALPHA, BETA = "publisher-token", "alpha-token", "beta-token"
+CALLERS = b"NAME,TOKEN\nPUBLISH,publisher-token\nALPHA,alpha-token\nBETA,beta-token\n"
+ZONE = b"SYSMOD,STATE\nHBB77E0,APPLIED\nUJ90201,APPLIED\n"
+TABLES = [
+    "bureau_version", "caller", "last_change", "sysmod", "sysmod_sup", "hold_row", "zone_head", "zone_row",
+    "received_list",
+]
+
+room = folder()
+callers = write(room + "/callers.csv", CALLERS)
+
+
+def run(*words, **more):
+    """Status, standard output and standard error of a run that ends."""
+    done = subprocess.run([PROGRAM, *words], capture_output=True, text=True, timeout=60, cwd=room, **more)
+    return done.returncode, done.stdout, done.stderr
+
+
+def refused(fault, status):
+    return status, "", "FAULT %d\n" % fault
+
+
+def read(path):
+    with open(path, "rb") as file:
+        return file.read()
+
+
+def there():
+    return sorted(os.listdir(room))
+
+
+def made(name):
+    """A new store with the three callers."""
+    path = os.path.join(room, name)
+    same("init makes %s" % name, run("init", path, callers), (0, "CALLERS 3\n", ""))
+    return path
+
+
+class Served:
+    """A desk over a store, until it is ended."""
+
+    def __init__(self, store, *options):
+        self.process = subprocess.Popen(
+            [PROGRAM, "serve", "--port", str(free_port()), *options, store],
+            stdout=subprocess.PIPE, stderr=subprocess.PIPE, text=True, cwd=room,
+        )
+        self.line = self.process.stdout.readline()
+        self.address = self.line.split()[1] if self.line.startswith("LISTENING 127.0.0.1:") else ""
+        check("serve says where it listens", self.address, self.line or self.process.stderr.read())
+        self.port = int(self.address.split(":")[1])
+        self.url = "http://" + self.address
+
+    def ask(self, method, path, token, number=None, body=None):
+        return exchange(self.url, method, path, token, number, body)
+
+    def bytes(self, request):
+        """All that the desk writes on one connection."""
+        with socket.create_connection(("127.0.0.1", self.port), timeout=60) as connection:
+            connection.sendall(request)
+            connection.shutdown(socket.SHUT_WR)
+            reply = b""
+            while piece := connection.recv(65536):
+                reply += piece
+            return reply
+
+    def end(self, how=signal.SIGTERM):
+        self.process.send_signal(how)
+        self.process.wait()
+        self.process.stdout.close()
+        self.process.stderr.close()
+
+
+# ---- init
+
+store = made("store")
+kept = read(store)
+same("init refuses a store that is there", run("init", store, callers), refused(44, 1))
+same("and leaves it as it is", read(store), kept)
+before = there()
+same("a missing callers file", run("init", "new", "missing"), refused(71, 3))
+for name, text, line in (
+    ("short", CALLERS.replace(b"beta-token", b"beta"), "FAULT 47 3\n"),
+    ("headless", CALLERS[11:], "FAULT 46\n"),
+    ("unpublished", b"NAME,TOKEN\nALPHA,alpha-token\n", "FAULT 48\n"),
+):
+    bad = write(room + "/" + name, text)
+    same("callers: %s" % name, run("init", "new", bad), (1, "", line))
+    os.remove(bad)
+same("a refused init leaves no file behind", there(), before)
+same("a store in a folder that is not there", run("init", "nowhere/store", callers), refused(42, 3))
+
+others = sqlite3.connect(room + "/others")
+others.execute("CREATE TABLE letters (letter TEXT)")
+others.commit()
+others.close()
+same("init refuses a database of somebody else", run("init", "others", callers), refused(44, 1))
+
+# ---- what serve refuses
+
+before = there()
+same("a store that is not there", run("serve", "missing"), refused(44, 1))
+same("is not made", there(), before)
+same("a database of somebody else", run("serve", "others"), refused(44, 1))
+text = write(room + "/text", b"This file is no database, and has more than a hundred bytes. " * 20)
+same("a file that is no database", run("serve", "text"), refused(42, 3))
+same("is left as it is", read(text), b"This file is no database, and has more than a hundred bytes. " * 20)
+same("a folder", run("serve", room)[0], 3)
+
+
+def altered(name, *statements):
+    """A copy of the store, changed behind the bureau's back."""
+    path = os.path.join(room, name)
+    shutil.copy(store, path)
+    with sqlite3.connect(path) as conn:
+        for statement in statements:
+            conn.execute(statement)
+    conn.close()
+    return path
+
+
+same(
+    "a store of another version",
+    run("serve", altered("later", "UPDATE bureau_version SET version = 2")),
+    refused(45, 1),
+)
+same("a store without a table", run("serve", altered("less", "DROP TABLE received_list")), refused(44, 1))
+same(
+    "a store without a column",
+    run("serve", altered("column", "ALTER TABLE zone_row RENAME COLUMN state TO other")),
+    refused(44, 1),
+)
+before = there()
+for name in (":memory:", "file:odd", "file:odd?mode=memory", ""):
+    for words in (("init", name, callers), ("serve", name)):
+        status, output, errors = run(*words)
+        check("%s of %r is refused" % (words[0], name), status in (1, 2, 3) and not output, (status, output, errors))
+same("and makes nothing", there(), before)
+
+# ---- one server
+
+desk = Served(store)
+same("published", desk.ask("GET", "/published", PUBLISHER), (200, b"PUBLISHED SYSMODS 0 HOLDS 0\n"))
+same("a second server on the store", run("serve", "--port", str(free_port()), store), refused(42, 3))
+same("init of a store that is served", run("init", store, callers)[0] in (1, 3), True)
+same("a port in use", run("serve", "--port", str(desk.port), made("other")), refused(73, 3))
+same("harms nobody", desk.ask("PUT", "/zones/TGT1", ALPHA, 1, ZONE), (200, b"ZONE TGT1 ROWS 2\n"))
+desk.end()
+
+os.symlink(store, room + "/link")
+desk = Served("link")
+same("a store through a link", desk.ask("GET", "/zones", ALPHA), (200, b"ZONE     SYSMODS\nTGT1     2\nROWS 1\n"))
+desk.end()
+
+desk = Served(store, "--connections", "2")
+first, second = desk.ask("GET", "/published", ALPHA), desk.ask("GET", "/published", BETA)
+desk.process.wait(timeout=10)
+same("two connections, and the end", (first[0], second[0], desk.process.returncode), (200, 200, 0))
+
+# ---- each exchange of the page, over a file that is opened again before each connection
+
+
+def exchanges():
+    """The requests and replies of the page by connection, as `.ci/exchanges` takes them off it."""
+    place = folder()
+    subprocess.run([os.path.join(TOP, ".ci", "exchanges"), PAGE, place], check=True)
+    names = sorted(name for name in os.listdir(place) if name.startswith("connection."))
+    return place + "/callers.csv", [read(os.path.join(place, name)) for name in names], read(place + "/replies.txt")
+
+
+listed, connections, wanted = exchanges()
+page = os.path.join(room, "page")
+same("the callers of the page", run("init", page, listed)[:2], (0, "CALLERS 3\n"))
+got = b""
+for number, connection in enumerate(connections):
+    desk = Served(page)
+    got += desk.bytes(connection)
+    desk.end(signal.SIGKILL if number % 2 else signal.SIGTERM)
+same("each exchange of the page", got, wanted)
+
+
+def curl_lines():
+    """Each `curl` of the page with the body that it sends, and the body of the reply that the page shows."""
+    with open(PAGE) as file:
+        text = file.read()
+    for block, line in re.findall(r"```\n(> [^`]*?)```\n\n`(curl [^`]*)`", text):
+        sent = re.search(r"^>\n((?:[^<].*\n)*)<", block, re.M)[1]
+        yield line, sent.encode(), re.search(r"^<\n((?:.*\n)*)", block, re.M)[1].encode()
+
+
+again = os.path.join(room, "again")
+run("init", again, listed)
+desk = Served(again)
+lines = list(curl_lines())
+check("the page has lines for curl", len(lines) >= 10, len(lines))
+for line, sent, shown in lines:
+    for name in re.findall(r"@(\S+)", line):
+        write(os.path.join(room, name), sent)
+    if "/zones/PROD" in line:
+        desk.ask("PUT", "/zones/PROD", BETA, 1, ZONE)
+    line = line.replace("127.0.0.1:8080", desk.address)
+    done = subprocess.run(line, shell=True, capture_output=True, cwd=room)
+    same(line, (done.returncode, done.stdout.rstrip(b"\n")), (0, shown.rstrip(b"\n")))
+
+# ---- a stop in the middle
+
+whole = b"PUT /zones/TGT2 HTTP/1.1\r\nbureau-token: alpha-token\r\nbureau-number: 4\r\ncontent-length: 45\r\n\r\n" + ZONE
+for how in (signal.SIGTERM, signal.SIGKILL):
+    with socket.create_connection(("127.0.0.1", desk.port)) as half:
+        half.sendall(whole[:-7])
+        time.sleep(0.1)
+        desk.end(how)
+    desk = Served(again)
+    same(
+        "what was acknowledged is there, and half a request did nothing",
+        (desk.ask("GET", "/zones", ALPHA), desk.ask("PUT", "/received", ALPHA, 9, b"SYSMOD\n")),
+        ((200, b"ZONE     SYSMODS\nTGT1     2\nROWS 1\n"), (409, b"GAP LAST 3\n")),
+    )
+for how in (signal.SIGTERM, signal.SIGKILL):
+    same("a change that was acknowledged", desk.bytes(whole)[-17:], b"ZONE TGT2 ROWS 2\n")
+    desk.end(how)
+    desk = Served(again)
+    same("is there after a stop", desk.ask("GET", "/zones", ALPHA)[1], b"ZONE     SYSMODS\nTGT1     2\nTGT2     2\nROWS 2\n")
+
+# ---- what another program reads in it, with the server stopped
+
+published = desk.ask("GET", "/published", PUBLISHER)
+desk.end()
+conn = sqlite3.connect(again)
+same("sqlite3 finds it sound", conn.execute("PRAGMA integrity_check").fetchall(), [("ok",)])
+same(
+    "its tables",
+    sorted(name for (name,) in conn.execute("SELECT name FROM sqlite_schema WHERE type = 'table' AND name NOT LIKE 'sqlite_%'")),
+    sorted(TABLES),
+)
+same("its version", conn.execute("SELECT * FROM bureau_version").fetchall(), [(1, 1)])
+same(
+    "its callers",
+    conn.execute("SELECT name, token FROM caller ORDER BY name").fetchall(),
+    [("ALPHA", ALPHA), ("BETA", BETA), ("PUBLISH", PUBLISHER)],
+)
+same(
+    "a zone's rows",
+    conn.execute("SELECT sysmod, state FROM zone_row WHERE client = 'ALPHA' AND zone = 'TGT1' ORDER BY sysmod").fetchall(),
+    [("HBB77E0", 0), ("UJ90201", 0)],
+)
+same(
+    "patterns and what was received",
+    (
+        conn.execute("SELECT zone, patterns FROM zone_head WHERE client = 'ALPHA' ORDER BY zone").fetchall(),
+        conn.execute("SELECT client, ids FROM received_list").fetchall(),
+    ),
+    ([("TGT1", "IBM.Function.*"), ("TGT2", "")], [("ALPHA", "UJ90203")]),
+)
+same(
+    "a SYSMOD with what it supersedes",
+    (
+        conn.execute("SELECT kind, fmids, pre, req FROM sysmod WHERE id = 'UJ90203'").fetchall(),
+        conn.execute("SELECT member FROM sysmod_sup WHERE id = 'UJ90203' ORDER BY member").fetchall(),
+    ),
+    ([(1, "HBB77E0", "", "")], [("AJ61140",), ("UJ90201",), ("UJ90202",)]),
+)
+same(
+    "a hold",
+    conn.execute("SELECT kind, reason, fmid, class, dated, resolver, categories FROM hold_row WHERE sysmod = 'UJ90201'").fetchall(),
+    [(0, "AJ61140", "HBB77E0", "HIPER", 25119, "", "")],
+)
+same(
+    "the last change of each",
+    conn.execute("SELECT caller, number, body FROM last_change ORDER BY caller").fetchall(),
+    [
+        ("ALPHA", 4, b"ZONE TGT2 ROWS 2\n"),
+        ("BETA", 2, b"ZONE PROD DROPPED\n"),
+        ("PUBLISH", 1, b"ACCEPTED SYSMODS 7 HOLDS 4 RELEASES 0\n"),
+    ],
+)
+# A copy that sqlite3 makes is a store too.
+backup = sqlite3.connect(room + "/backup")
+conn.backup(backup)
+backup.close()
+conn.close()
+desk = Served(room + "/backup")
+same("a copy by sqlite3 is served", desk.ask("GET", "/published", PUBLISHER), published)
+desk.end()
+desk = Served(again)
+same("and so is the store that sqlite3 looked at", desk.ask("GET", "/published", PUBLISHER), published)
+desk.end()
+finish("store")
