@@ -44,45 +44,6 @@ impl Ticking {
     }
 }
 
-// A clock that stands still. At each look a client reads all that it gets. It closes its side once it sees its end.
-#[derive(Drop)]
-struct Watching {
-    client: Cell<Option<TcpStream>>,
-    got: Cell<usize>,
-    saw_end: Cell<bool>,
-}
-
-impl Watching {
-    // The client as it waits on, or none where it has seen its end.
-    fn read_out(&self, mut client: TcpStream) -> Option<TcpStream> {
-        let mut room = [0u8; 512];
-        for _ in 0..64u32 {
-            match client.read(&mut room) {
-                Ok(0) => {
-                    self.saw_end.set(true);
-                    return None;
-                }
-                Ok(count) => self.got.set(self.got.get().saturating_add(count)),
-                Err(_) => break,
-            }
-        }
-        Some(client)
-    }
-}
-
-impl Clock for Watching {
-    fn monotonic(&self) -> io::Result<Duration> {
-        if let Some(client) = self.client.take() {
-            self.client.set(self.read_out(client));
-        }
-        Ok(Duration::from_secs(1))
-    }
-
-    fn since_1970(&self) -> io::Result<Duration> {
-        self.monotonic()
-    }
-}
-
 // A desk that answers each call with a million bytes. It holds no tables, so that nothing is said of its answers.
 #[derive(Drop)]
 struct Loud {
@@ -194,40 +155,6 @@ fn patience_with_a_connection_ends_in_reads_and_writes(rt: HostRuntime) -> Resul
         client.read_to_end(&mut got)?;
         assert_eq!(rt; got.as_slice(), wanted, "{seconds}");
     }
-    Ok(())
-}
-
-#[test]
-fn a_client_that_waits_for_its_end_sees_it(rt: HostRuntime) -> Result<(), Fail> {
-    let lines = b"bureau-token: publisher-token\r\nconnection: close\r\n";
-    let text = request(rt.alloc(), b"GET /published", lines, b"")?;
-    let (written, _) = served(rt.alloc(), false, text.as_slice())?;
-    let listener = TcpListener::bind(&rt, "127.0.0.1:0")?;
-    let mut client = TcpStream::connect(&rt, listener.local_addr()?)?;
-    client.write_all(text.as_slice())?;
-    client.set_read_timeout(Some(short()))?;
-    // it closes its side after that, so that the desk doesn't wait on
-    let clock = Watching {
-        client: Cell::new(Some(client)),
-        got: Cell::new(0),
-        saw_end: Cell::new(false),
-    };
-    let patience = Patience {
-        each: long(),
-        whole: long(),
-        closing: long(),
-    };
-    let mut desk = Echo {
-        alloc: rt.alloc(),
-        is_shut: false,
-    };
-    let begin = Instant::now(&rt)?;
-    let mut sockets = Sockets::new(&listener, &clock, patience);
-    serve_listener(rt.alloc(), &mut desk, &mut sockets, 1);
-    let took = begin.elapsed(&rt)?;
-    assert!(rt; clock.saw_end.get());
-    assert_eq!(rt; clock.got.get(), written.len());
-    assert!(rt; took < Duration::from_secs(20), "{took:?}");
     Ok(())
 }
 

@@ -113,12 +113,12 @@ fn assert_ended(rt: &impl Abort, alloc: Global, left: u64) -> Result<Option<usiz
 
 #[test]
 fn a_service_ends_where_its_device_fails(rt: HostRuntime) -> Result<(), Fail> {
-    let mut at = 0;
+    let mut at: usize = 0;
     for left in 0..64u64 {
         match assert_ended(&rt, rt.alloc(), left)? {
             // the more calls are answered, the more connections are served
             Some(place) => {
-                assert!(rt; place == at || place == at + 1, "{left}");
+                assert!(rt; place == at || place == at.saturating_add(1), "{left}");
                 at = place;
             }
             None => {
