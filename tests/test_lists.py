@@ -35,7 +35,7 @@ def zone_lists():
     same(
         "the received list of JSON",
         run(ZONE_CSV, "received", "tgt1.csi.json")[:2],
-        (0, "SYSMOD\nUJ92004\nUJ92005\n"),
+        (0, kept("received.csv")),
     )
     same(
         "a distribution zone of JSON",
@@ -51,6 +51,14 @@ def zone_lists():
         run(ZONE_CSV, "zone", "DLB1", "-", given=page)[:2],
         (0, "SYSMOD,STATE\n@A#1$,APPLIED\nUJ1,ACCEPTED\n"),
     )
+    # a name with a character of another code page is an entry of its own: the one before keeps its state
+    listing = kept("tgt1.smplist.txt").replace(" UJ92006", " \u00a7J92006").encode()
+    status, out, err = run(ZONE_CSV, "zone", "TGT1", "-", given=listing)
+    same("a name of another code page", (status, out), (0, kept("tgt1.csv")))
+    check("is named", "\u00a7J92006" in err, err)
+    digits = b"T SYSMOD ENTRIES\n0UJ1  TYPE = PTF\n     STATUS = APP\n1UJ2  STATUS = ACC\nA NOTE\n     STATUS = ERR\n"
+    status, out, err = run(ZONE_CSV, "zone", "T", "-", given=digits)
+    same("names with a digit in front", (status, out), (0, "SYSMOD,STATE\n0UJ1,APPLIED\n1UJ2,ACCEPTED\n"))
     many = b"T SYSMOD ENTRIES\n" + b"".join(b"UA%05d  STATUS = APP\n" % i for i in range(20000))
     same(
         "20,000 rows",
