@@ -2,6 +2,7 @@
 """The package, unpacked in an empty folder, with nothing else of the repository in reach: the sample
 runs there."""
 import os
+import re
 import subprocess
 import tarfile
 
@@ -125,6 +126,10 @@ if debs:
         hidden(root, "usr/bin/bureau holds usr/lib/bureau/examples/holddata.txt | tail -n 1"),
         (0, b"ROWS 39\n"),
     )
+    with open(root + "/usr/lib/bureau/examples/service/bureau.service") as unit:
+        named = re.findall(r"^(?:Documentation=file://|ExecStart=)(/[^ \n]*)", unit.read(), re.M)
+    same("the unit names what is there", [path for path in named if not os.path.exists(root + path)], [])
+    same("the unit names its page and the program", len(named), 2)
     same("with the client", hidden(root, "usr/bin/bureau-client help | head -n 1")[0], 0)
     same(
         "publication finds the program",
