@@ -28,10 +28,7 @@ class Front:
             "listen 8443 ssl;", "listen 127.0.0.1:%d%s;" % (self.port, "" if plain else " ssl")
         )
         write(self.place + "/nginx.conf", conf)
-        write(
-            self.place + "/desks.map",
-            "publisher-token publisher;\n" + "".join("%s desk_%d;\n" % pair for pair in desks.items()),
-        )
+        self.deal_out(desks)
         os.mkdir(self.place + "/tmp")
         shutil.copytree(os.path.join(TOP, "clients", "page"), self.place + "/page") if os.path.isdir(
             TOP + "/clients/page"
@@ -71,7 +68,24 @@ class Front:
                 return
             except OSError:
                 time.sleep(0.05)
-        sys.exit("nginx does not start: " + open(self.place + "/tmp/error.log").read())
+        command = [NGINX, "-p", self.place, "-c", "nginx.conf", "-t"]
+        sys.exit("nginx does not start: " + subprocess.run(command, capture_output=True, text=True).stderr)
+
+    def deal_out(self, desks):
+        lines = "".join("%s desk_%d;\n" % pair for pair in desks.items())
+        write(self.place + "/desks.map", "publisher-token publisher;\n" + lines)
+
+    def reload(self):
+        """Lets nginx read its files again, and waits until the processes that read the old ones have ended."""
+        old = self.workers()
+        command = [NGINX, "-p", self.place, "-c", "nginx.conf", "-s", "reload"]
+        subprocess.run(command, check=True, stderr=subprocess.DEVNULL)
+        while self.workers() & old or not self.workers():
+            time.sleep(0.05)
+
+    def workers(self):
+        with open("/proc/%d/task/%d/children" % (self.process.pid, self.process.pid)) as file:
+            return set(file.read().split())
 
     def end(self):
         self.process.terminate()
