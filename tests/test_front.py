@@ -7,7 +7,7 @@ and built anew.
 The publisher and four clients send requests at random: to one desk alone, and through the front.
 Each reply is compared: its status, the head that the desk wrote, and the body. Then a desk is
 thrown away in mid-run and built from the kept publications and the clients' folders, and the
-comparison goes on.
+comparison goes on. Then a client moves to the other desk, and back.
 """
 import http.client
 import os
@@ -197,6 +197,18 @@ def main():
     status, _, err = publisher.run("publish", write(place + "/publication", "++PTF(UJ1).\n"))
     check("the publisher has to name a desk", status == 3 and "/desk/1, /desk/2" in err, (status, err))
 
+    # the clients of the second desk have sent their folders, as each night
+    def send_folder(name, *words):
+        site, desk = sites[name], desks[AT[name] - 1]
+        status, _, err = site.client.run("sync", *words, site.site)
+        same("the lists of %s: %s" % (name, err), status, 0)
+        site.at_front, site.is_repeatable = desk.last(TOKENS[name]), False
+        return err
+
+    for name in CLIENTS:
+        if AT[name] == 2:
+            send_folder(name)
+
     # the second desk is lost: its clients get no answer, those of the first don't notice
     lost = desks[1]
     lost.end()
@@ -216,13 +228,28 @@ def main():
     same("the publications: " + err, (status, out.count("publication")), (0, 5))
     for name in CLIENTS:
         if AT[name] == 2:
-            status, _, err = sites[name].client.run("sync", "--all", sites[name].site)
-            same("the lists of %s: %s" % (name, err), status, 0)
-            sites[name].at_front, sites[name].is_repeatable = desks[1].last(TOKENS[name]), False
+            check("a desk built anew is noticed", "was built anew" in send_folder(name))
     compare(REQUESTS // 4, dice, one, front, sites, True)
     status, _, err = publish(5)
     same("published on both again: " + err, status, 0)
     compare(REQUESTS // 8, dice, one, front, sites, True)
+
+    # a client moves to the other desk, and later back to the one that has its old lists
+    for turn, to in enumerate((1, 2)):
+        AT["CLIENT4"] = to
+        front.deal_out({TOKENS[name]: at for name, at in AT.items()})
+        front.reload()
+        if to == 1:
+            answer = ask(front.port, front.context, "GET", "/zones/TGT1/errsysmods", TOKENS["CLIENT4"])
+            same("nothing is there before it has sent its lists", (answer[0], answer[2]), (404, b"NOT FOUND\n"))
+        for line in send_folder("CLIENT4", "--all").splitlines():
+            if "also has the zone" in line:
+                zone = line.split("also has the zone ")[1].split(",")[0]
+                same("dropped", sites["CLIENT4"].client.run("drop-zone", zone)[0], 0)
+        sites["CLIENT4"].at_front = desks[to - 1].last(TOKENS["CLIENT4"])
+        compare(REQUESTS // 8, dice, one, front, sites, True)
+        status, _, err = publish(6 + turn)
+        same("published on both after a move: " + err, status, 0)
     for each in (front, one, *desks):
         each.end()
     finish("front")

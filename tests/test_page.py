@@ -13,10 +13,14 @@ import time
 from chromium import Browser
 from front import Front
 from service import SAMPLE, TOP, Client, Desk, check, finish, folder, same, write
+from stand_in import StandIn
 
 PICTURES = sys.argv[1] if len(sys.argv) > 1 else None
 SITE = os.path.join(TOP, "examples", "site")
 NORTH, SOUTH, PUBLISHER = "north-token", "south-token", "publisher-token"
+TWO_LINES = """[...document.querySelectorAll('.of-fmid, .of-sysmod, .of-reason')].filter(cell => {
+    const text = document.createRange(); text.selectNodeContents(cell); return text.getClientRects().length > 1;
+}).map(cell => cell.innerText)"""
 SHOWN = """[...document.querySelectorAll('#%s tbody tr')].filter(r => !r.hidden).map(r => [...r.cells].map(c => c.innerText.trim()))"""
 
 
@@ -82,6 +86,16 @@ def sample(browser, front, north):
     check(
         "the time of asking",
         browser.run("document.querySelector('#errsysmods .asked').innerText").startswith("Asked 20"),
+    )
+    same(
+        "statuses as words",
+        browser.run("[...document.querySelectorAll('#errsysmods .status')].map(e => e.innerText + ' ' + e.className)"),
+        ["HELD status held", "GOOD status good"],
+    )
+    same(
+        "and each with a colour of its own",
+        browser.run("new Set([...document.querySelectorAll('dl .status')].map(e => getComputedStyle(e).color)).size"),
+        4,
     )
     same("the field of the token is empty", browser.run("document.getElementById('token').value"), "")
     picture(browser, "reports-1400")
@@ -152,8 +166,8 @@ def keyboard(browser, front):
         browser.key("Tab", 9)
         reached.append(browser.run("document.activeElement.innerText || document.activeElement.id || ''"))
     check(
-        "Tab reaches zone, heading, filter, resolver",
-        {"MVSPROD", "RESOLVER", "UJ92005", "sysmod"} <= set(reached),
+        "Tab reaches zone, link, heading, filter, resolver",
+        {"MVSPROD", "Chain", "RESOLVER", "UJ92005", "sysmod"} <= set(reached),
         reached,
     )
     browser.run(
@@ -169,13 +183,34 @@ def keyboard(browser, front):
         ),
         ["RESOLVERdescending"],
     )
+    browser.run("[...document.querySelectorAll('#jump a')].find(a => a.innerText === 'Chain').focus()")
+    browser.key("Enter", 13, "\r")
+    browser.key("Tab", 9)
+    same("a link leads to the chain", browser.run("document.activeElement.id"), "sysmod")
+    browser.write("uj92003")
+    browser.key("Enter", 13, "\r")
+    said(browser, "The chain of UJ92003.")
+    click(browser, "errsysmods", "UJ92005")
+    said(browser, "The chain of UJ92005.")
+    same("the chain has the focus", browser.run("document.activeElement.id"), "chain")
+    click(browser, "picture", "Back to the report")
+    same("and a way back to the row", browser.run("document.activeElement.innerText"), "UJ92005")
 
 
 def refusals(browser, front):
     browser.open(front.url + "/page/?refused")
-    click(browser, "enter", "Forget the token")
+    enter(browser, NORTH)
+    said(browser, "The reports of the zone MVSPROD.")
     enter(browser, "nobodys-token")
     said(browser, "The desk does not know this token.")
+    same("nothing of the earlier token is shown", (shown(browser, "zones"), shown(browser, "errsysmods")), ([], []))
+    same("nor kept", browser.run("sessionStorage.length"), 0)
+    browser.run("sessionStorage.setItem('bureau-token', 'nobodys-token')")
+    browser.open(front.url + "/page/?refused-again")
+    said(browser, "The desk does not know this token.")
+    check("it can be forgotten", browser.run("document.getElementById('leave').offsetParent !== null"))
+    click(browser, "enter", "Forget the token")
+    same("and is", browser.run("sessionStorage.length"), 0)
     enter(browser, PUBLISHER)
     said(browser, "publisher has no zones")
     enter(browser, "short")
@@ -188,6 +223,10 @@ def marks(browser, front, client):
     browser.open(front.url + "/page/?marks")
     enter(browser, SOUTH)
     said(browser, "Choose a zone.")
+    click(browser, "zones", "ZONE")
+    same("names in the order of their codes", [row[0] for row in shown(browser, "zones")], ["LARGE", "Z0", "Z@#$"])
+    click(browser, "zones", "SYSMODS")
+    same("numbers by their size", [row[1] for row in shown(browser, "zones")], ["2", "9", "5000"])
     click(browser, "zones", "Z@#$")
     said(browser, "The reports of the zone Z@#$.")
     same("texts are texts", shown(browser, "missingfix"), csv_rows(client, "missingfix", "Z@#$"))
@@ -205,6 +244,15 @@ def marks(browser, front, client):
     )
     click(browser, "errsysmods", "@A$#001")
     said(browser, "The chain of @A$#001.")
+    text = browser.run("document.getElementById('picture').innerText")
+    check("with its holds", "SYSTEM hold: IPL" in text and "USER hold: OURS" in text, text)
+    browser.size(700)
+    browser.call("Emulation.setEmulatedMedia", media="print")
+    check("on paper nothing is cut off", not is_wide(browser))
+    same("and no id takes two lines", browser.run(TWO_LINES), [])
+    picture(browser, "paper")
+    browser.call("Emulation.setEmulatedMedia", media="")
+    browser.size(1400)
 
 
 def many_rows(browser, front, client):
@@ -217,7 +265,6 @@ def many_rows(browser, front, client):
     print("page: 5,000 rows after %.1f seconds" % (time.time() - began))
     rows = shown(browser, "errsysmods")
     same("5,000 rows", (len(rows), rows == csv_rows(client, "errsysmods", "LARGE")), (5000, True))
-    began = time.time()
     browser.run(
         "(f => { f.value = 'uj01234'; f.dispatchEvent(new Event('input')); })(document.querySelector('#errsysmods input'))"
     )
@@ -229,30 +276,91 @@ def many_rows(browser, front, client):
         ),
         (["UJ01234"], "1 of 5000 rows"),
     )
-    browser.run(
-        "(f => { f.value = ''; f.dispatchEvent(new Event('input')); })(document.querySelector('#errsysmods input'))"
-    )
+    for text, count in (("uj0123 hiper", 10), ("uj01234 uj01235", 0), ("", 5000)):
+        browser.run(
+            "(f => { f.value = '%s'; f.dispatchEvent(new Event('input')); })(document.querySelector('#errsysmods input'))"
+            % text
+        )
+        same("all words count: " + text, len(shown(browser, "errsysmods")), count)
+    began = time.time()
     for _ in range(2):
         browser.run(
             "[...document.querySelectorAll('#errsysmods th button')].find(b => b.innerText === 'REASON').click()"
         )
+    check("in little time", time.time() - began < 5, time.time() - began)
     same(
         "sorted down",
         [row[2] for row in shown(browser, "errsysmods")],
         sorted((row[2] for row in rows), reverse=True),
     )
-    check("in little time", time.time() - began < 10, time.time() - began)
     browser.size(320)
     check("also at 320 pixels", not is_wide(browser))
     browser.size(1400)
+
+
+def made_up(first):
+    """Three zones A, B and C, each with one row, which tells the zone."""
+    path = first.split()[1].split("/")
+    if path[-1] == "zones":
+        return b"ZONE     SYSMODS\nA        1\nB        1\nC        1\nROWS 3\n"
+    if path[-1] == "missingfix":
+        return b"MISSING FIX REPORT FOR ZONE %s\nCATEGORY\nROWS 0\n" % path[2].encode()
+    return (
+        "EXCEPTION SYSMOD REPORT FOR ZONE %s\nFMID     SYSMOD   REASON   RESOLVER STATUS RECEIVED CLASS\n"
+        "HBB77E0  UJ0000%s  AJ00001  - NONE - -      -        PE\nROWS 1\n" % (path[2], path[2])
+    ).encode()
+
+
+def slow(browser):
+    """A desk that lets one wait, and answers that are none."""
+    desk = StandIn()
+    desk.reply = made_up
+    front = Front([desk.port, desk.port], {NORTH: 1})
+    browser.open(front.url + "/page/?slow")
+    enter(browser, NORTH)
+    said(browser, "Choose a zone.")
+    click(browser, "zones", "A")
+    said(browser, "The reports of the zone A.")
+    desk.may_answer.clear()
+    for zone in "BACABC":  # more than the front lets one token ask at a time
+        click(browser, "zones", zone)
+        said(browser, "Asking for the reports of the zone %s." % zone)
+        same("nothing old is shown meanwhile", shown(browser, "errsysmods"), [])
+        time.sleep(0.5)
+    latest = browser.run("Date.now()")
+    time.sleep(2)
+    desk.may_answer.set()
+    said(browser, "The reports of the zone C.")
+    same("of the zone chosen last", [row[1] for row in shown(browser, "errsysmods")], ["UJ0000C"])
+    asked = "Date.parse(document.querySelector('#errsysmods .asked').innerText.slice(6, 25).replace(' ', 'T'))"
+    asked = browser.run(asked) or 0
+    check("the time is that of asking", latest - 60000 < asked <= latest, asked - latest)
+    half = made_up("GET /zones/A/errsysmods x")
+    for name, reply in (
+        ("half a report", half[: half.index(b"ROWS")]),
+        ("a row less than it says", half.replace(b"ROWS 1", b"ROWS 2")),
+        ("the report of another zone", made_up("GET /zones/B/errsysmods x")),
+        ("a page of something between", b"<html><b>Please log in</b></html>\n"),
+    ):
+        desk.reply = lambda first: reply if "errsysmods" in first else made_up(first)
+        click(browser, "zones", "A")
+        said(browser, "What came is no answer of a desk.")
+        same(name, (shown(browser, "errsysmods"), shown(browser, "missingfix")), ([], []))
+    front.end()
 
 
 def away(browser, front, desk):
     browser.open(front.url + "/page/?away")
     enter(browser, NORTH)
     said(browser, "The reports of the zone MVSPROD.")
+    click(browser, "errsysmods", "UJ92005")
+    said(browser, "The chain of UJ92005.")
     desk.end()
+    click(browser, "errsysmods", "UJ92002")
+    said(browser, "No answer: the desk is away")
+    same("no chain is shown", browser.run("document.getElementById('picture').innerText"), "")
     click(browser, "zones", "MVSPROD")
+    check("an answer", browser.until("!document.body.hasAttribute('aria-busy')"))
     said(browser, "No answer: the desk is away")
     same("nothing old is shown", (shown(browser, "errsysmods"), shown(browser, "missingfix")), ([], []))
     front.end()
@@ -272,7 +380,9 @@ def main():
             place + "/p",
             (
                 "++PTF(@A$#001).\n++VER(Z038) FMID(HBB77E0).\n++HOLD(UJ1) ERROR REASON(@A$#001).\n"
-                '++HOLD(UJ1) FIXCAT REASON(AJ3)\n CATEGORY(IBM.<b>"&amp;<img/src=x/onerror=document.title=1>).\n'
+                "++HOLD(@A$#001) SYSTEM REASON(IPL).\n++HOLD(@A$#001) USER REASON(OURS).\n"
+                '++HOLD(UJ1) FIXCAT REASON(AJ3)\n CATEGORY(IBM.<b>"&amp;<img/src=x/onerror=document.title=1>,\n'
+                " IBM.%s).\n" % ("Long" * 15)
             )
             + "".join(
                 "++HOLD(UJ%05d) ERROR REASON(AJ%05d) CLASS(HIPER).\n" % (i, i * 7919 % 100000)
@@ -283,6 +393,8 @@ def main():
     north.run("sync", SITE + "/north")
     south.run("zone", "Z@#$", write(place + "/z", "SYSMOD,STATE\nHBB77E0,APPLIED\nUJ1,APPLIED\n"))
     south.run("categories", "Z@#$", write(place + "/c", "CATEGORY\n*\n"))
+    nine = "".join("HBB77E%d,APPLIED\n" % i for i in range(9))
+    south.run("zone", "Z0", write(place + "/9", "SYSMOD,STATE\n" + nine))
     south.run(
         "zone",
         "LARGE",
@@ -294,6 +406,7 @@ def main():
     refusals(browser, front)
     marks(browser, front, south)
     many_rows(browser, front, south)
+    slow(browser)
     away(browser, front, desk)
     same(
         "no fault in the page",
@@ -305,6 +418,8 @@ def main():
         [],
     )
     browser.end()
+    log = open(front.place + "/tmp/access.log").read()
+    check("no token stands in a path", "/errsysmods" in log and "-token" not in log)
     finish("page")
 
 

@@ -53,8 +53,8 @@ function sentence(chain) {
   return chain.sysmod + ' is not published, or is for a function that the zone lacks.';
 }
 
-// The JSON of a chain, or a fault where it is none.
-function chainOf(text) {
+// The chain of a SYSMOD in a zone, from the desk's JSON, or a fault where that is none.
+function chainOf(text, zone, sysmod) {
   let chain;
   try {
     chain = JSON.parse(text);
@@ -65,5 +65,6 @@ function chainOf(text) {
     chain.plan.some((member) => member.id === chain.sysmod);
   const isHeld = chain?.status === 'HELD' && typeof chain.blocked === 'string';
   if (!isGood && !isHeld && chain?.status !== 'LACK') throw new NoReport();
+  if (chain.zone !== zone || chain.sysmod !== sysmod) throw new NoReport();
   return chain;
 }

@@ -14,14 +14,14 @@ const REPORTS = {
   },
 };
 
-// An answer that is no report: a page of something between, or half a report.
+// An answer that is no report: a page of something between, half a report, or that of another zone.
 class NoReport extends Error {}
 
 // The rows of a report, each an object with a text for each column. An absent field is the empty text.
-function rowsOf(name, text) {
+function rowsOf(name, zone, text) {
   const { first, heading, columns } = REPORTS[name];
   const lines = text.split('\n');
-  if (!text.endsWith('\n') || !lines[0].startsWith(first)) throw new NoReport();
+  if (!text.endsWith('\n') || lines[0] !== first + zone) throw new NoReport();
   const last = lines[lines.length - 2];
   const rows = lines.slice(heading + 1, -2);
   if (last !== 'ROWS ' + rows.length) throw new NoReport();
@@ -40,14 +40,15 @@ function rowsOf(name, text) {
 // A refusal, with the words that are shown for it.
 class Refusal extends Error {}
 
-// Asks the desk, which stands one folder above this page.
-async function ask(path, token) {
+// Asks the desk, which stands one folder above this page. SIGNAL ends that.
+async function ask(path, token, signal) {
   const url = new URL('..' + path, document.baseURI);
+  const headers = { 'bureau-token': token };
   let reply;
   try {
-    reply = await fetch(url, { headers: { 'bureau-token': token }, cache: 'no-store', credentials: 'omit' });
+    reply = await fetch(url, { headers, signal, cache: 'no-store', credentials: 'omit' });
   } catch (fault) {
-    throw new Refusal('No answer: the desk is away, or the network is. Nothing is shown that could be old.');
+    throw new Refusal('No answer: the desk is away, or the network is. Try again later.');
   }
   const body = await reply.text().catch(() => '');
   if (reply.status === 200) return body;
