@@ -144,6 +144,22 @@ def limits(front, one, two):
     same("the four", statuses, [200] * 4)
 
 
+def half_a_head(front, ended):
+    """A head that does not come to its end, and after how many seconds the front ends the connection."""
+    began = time.time()
+    line = front.context.wrap_socket(
+        socket.create_connection(("127.0.0.1", front.port)), server_hostname="127.0.0.1"
+    )
+    line.sendall(b"GET /zones HTTP/1.1\r\nhost: a\r\n")
+    line.settimeout(40)
+    try:
+        line.recv(1000)
+        ended.append(time.time() - began)
+    except OSError:
+        pass
+    line.close()
+
+
 def files(front):
     """Of the files of the front, the page alone is served, as what it is."""
     paths = ("/desks.map", "/page/../desks.map", "/page/%2e%2e/key.pem", "/page/..%2fdesks.map", "/tmp/access.log")
@@ -176,12 +192,17 @@ def main():
     # as many clients as a callers file may have
     many = {"client-%05d" % n: 1 for n in range(9997)}
     front = Front([one.port, two.port], {CLIENT: 1, OTHER: 2, LONG: 2, **many})
+    ended = []
+    idle = threading.Thread(target=half_a_head, args=(front, ended))
+    idle.start()
     as_it_came(front, one, two)
     once(front, one, two)
     of_the_publisher(front, one, two)
     slow_clients(front, one)
     limits(front, one, two)
     files(front)
+    idle.join()
+    check("a head has 20 seconds", len(ended) == 1 and 19 < ended[0] < 30, ended)
     front.end()
     finish("front alone")
 

@@ -287,7 +287,7 @@ def many_rows(browser, front, client):
         browser.run(
             "[...document.querySelectorAll('#errsysmods th button')].find(b => b.innerText === 'REASON').click()"
         )
-    check("in little time", time.time() - began < 5, time.time() - began)
+    check("in little time", time.time() - began < 20, time.time() - began)
     same(
         "sorted down",
         [row[2] for row in shown(browser, "errsysmods")],
