@@ -34,7 +34,7 @@ clear_up() {
 # Ends the launcher where a signal came. Until this looks, a signal is only noted, so that nothing is left half begun.
 end_if_stopped() {
     [ -n "$signalled" ] || return 0
-    trap '' INT TERM HUP
+    trap '' INT TERM HUP PIPE
     end_all
     say "stopped; what was proved so far is kept"
     clear_up
@@ -257,6 +257,7 @@ build_program() {
     trap 'signalled=130' INT
     trap 'signalled=143' TERM
     trap 'signalled=129' HUP
+    trap 'signalled=141' PIPE
     take_lock
     if ! is_current; then
         began=$SECONDS
@@ -265,6 +266,6 @@ build_program() {
         build_from_sources || return 1
         end_if_stopped
     fi
-    trap - INT TERM HUP
+    trap - INT TERM HUP PIPE
     exec 9>&-
 }
