@@ -374,6 +374,28 @@ def together():
     desk.end()
 
 
+def onlooker():
+    """Whoever looks on is told at once that a desk gives no answer; a job at night is told once, at the end."""
+    north = Client("http://127.0.0.1:9", NORTH, SHELL)
+    terminal, side = os.openpty()
+    run = subprocess.run([*north.shell, CLIENT, "zones"], env=north.environment, stderr=side)
+    os.close(side)
+    told = b""
+    try:
+        while piece := os.read(terminal, 65536):
+            told += piece
+    except OSError:  # a terminal that nobody has open any more
+        pass
+    os.close(terminal)
+    told = told.decode()
+    check(
+        "told at once",
+        run.returncode == 3 and told.count("no answer from") == 2 and "again, 2 times in all" in told,
+        told,
+    )
+    same("told once", north.run("zones")[2].count("no answer from"), 1)
+
+
 def no_desk():
     """What answers is a web page and no desk: it is never shown as a report."""
 
@@ -397,6 +419,7 @@ def no_desk():
     server.shutdown()
 
 
-for part in (sample, rows_without_resolver, refusals, hidden_token, waiting, lost_replies, together, no_desk):
+PARTS = (sample, rows_without_resolver, refusals, hidden_token, waiting, lost_replies, together, onlooker, no_desk)
+for part in PARTS:
     part()
 finish("client" + (", " + SHELL if SHELL else ""))

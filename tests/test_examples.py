@@ -58,6 +58,14 @@ check(
     "== 2-north.http: PUT /zones/MVSPROD, number 1\nHTTP/1.1 200 OK\nZONE MVSPROD ROWS 3\n\n" in shown,
     shown,
 )
+stopped = subprocess.Popen(
+    [os.path.join(TOP, "examples", "pairs"), CALLERS, *FILES],
+    stdout=subprocess.PIPE,
+    stderr=subprocess.PIPE,
+    env={**os.environ, "BUREAU_PROGRAM": PROGRAM},
+)
+stopped.stdout.close()
+same("a reader that stops is no fault", stopped.stderr.read(), b"")
 cut = write(folder() + "/cut.http", read(FILES[0])[:-1])
 check("a cut request is named", "== cut.http: GET /published (cut off)\nno reply\n" in pairs(cut), pairs(cut))
 finish("examples")
