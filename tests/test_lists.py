@@ -42,7 +42,15 @@ def zone_lists():
         run(ZONE_CSV, "--accepted", "zone", "DLB1", "tgt1.csi.json")[:2],
         (0, "SYSMOD,STATE\nUJ92002,ACCEPTED\n"),
     )
-    same("a zone that is not there", run(ZONE_CSV, "zone", "TGT9", "tgt1.smplist.txt")[0], 1)
+    same(
+        "a zone that is not there gives no list, which would empty it at the desk",
+        run(ZONE_CSV, "zone", "TGT9", "tgt1.smplist.txt")[:2],
+        (1, ""),
+    )
+    nothing = b"T SYSMOD ENTRIES\nUJ1  TYPE = PTF\n     STATUS = REC\n"
+    same("nor one of which nothing is installed", run(ZONE_CSV, "zone", "T", "-", given=nothing)[:2], (1, ""))
+    nothing = b"GLOBAL SYSMOD ENTRIES\nUJ1  TYPE = PTF\n     STATUS = APP\n"
+    same("a received list may be empty", run(ZONE_CSV, "received", "-", given=nothing)[:2], (0, "SYSMOD\n"))
     same("a file that is not there", run(ZONE_CSV, "zone", "TGT1", "none")[0], 3)
     same("no words", run(ZONE_CSV)[0], 2)
     page = b"DLB1 SYSMOD ENTRIES\r\n  NAME\r\nUJ1  TYPE = PTF\r\n     STATUS = REC ACC\r\n@A#1$  TYPE = PTF\r\n     STATUS = APP\r\n"
@@ -110,7 +118,7 @@ def publications():
     status, out, err = run(
         PUBLICATION, write(site + "/ebcdic", bytes(b"\x4e\x4e\xc8\xd6\xd3\xc4\x4d\x15") * 20)
     )
-    check("EBCDIC is noticed", (status, out) == (0, "") and "EBCDIC" in err, err)
+    check("EBCDIC is noticed", (status, out) == (1, "") and "EBCDIC" in err, err)
     same(
         "++VER before any SYSMOD",
         run(PUBLICATION, write(site + "/ver", "++VER(Z038).\n++PTF(A).\n"))[:2],
