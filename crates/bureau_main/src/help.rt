@@ -9,9 +9,9 @@ Exit status: 0 done; 1 the input is refused; 2 the words are not understood, or 
 3 the machine fails (a device, memory). Where it is 1 or 3, standard error has FAULT, a number and, where
 there is one, the line on which the statement begins, or the record of the callers file (47).
 
- 1 no period ends the statement, or ++ begins a line before it
+ 1 no period ends the statement, up to column 72 of its lines, or ++ begins a line before it
  2 the list after the verb is missing, or is not one id
- 3 parentheses do not match, or a comment does not end
+ 3 parentheses do not match, up to column 72 of each line, or a comment does not end
  4 a character stands where it cannot
  5 the source has over 67,108,864 bytes
 11 a hold has no kind: ERROR, SYSTEM, USER or FIXCAT
