@@ -7,6 +7,7 @@ import signal
 import socket
 import sqlite3
 import subprocess
+import threading
 import time
 
 from service import PROGRAM, TOP, check, exchange, finish, folder, free_port, same, write
@@ -53,9 +54,9 @@ def made(name):
 class Served:
     """A desk over a store, until it is ended."""
 
-    def __init__(self, store, *options):
+    def __init__(self, store, *options, under=()):
         self.process = subprocess.Popen(
-            [PROGRAM, "serve", "--port", str(free_port()), *options, store],
+            [*under, PROGRAM, "serve", "--port", str(free_port()), *options, store],
             stdout=subprocess.PIPE, stderr=subprocess.PIPE, text=True, cwd=room,
         )
         self.line = self.process.stdout.readline()
@@ -73,8 +74,11 @@ class Served:
             connection.sendall(request)
             connection.shutdown(socket.SHUT_WR)
             reply = b""
-            while piece := connection.recv(65536):
-                reply += piece
+            try:
+                while piece := connection.recv(65536):
+                    reply += piece
+            except OSError as fault:
+                reply += repr(fault).encode()
             return reply
 
     def end(self, how=signal.SIGTERM):
@@ -83,6 +87,24 @@ class Served:
         self.process.stdout.close()
         self.process.stderr.close()
 
+
+# ---- a client that says nothing, while all else is tried
+
+quiet = Served(made("quiet"))
+silence = []
+
+
+def be_silent():
+    began = time.monotonic()
+    with socket.create_connection(("127.0.0.1", quiet.port), timeout=75) as silent:
+        try:
+            silence.append((silent.recv(1), time.monotonic() - began))
+        except OSError as fault:
+            silence.append((fault, time.monotonic() - began))
+
+
+silent = threading.Thread(target=be_silent)
+silent.start()
 
 # ---- init
 
@@ -165,10 +187,63 @@ desk = Served("link")
 same("a store through a link", desk.ask("GET", "/zones", ALPHA), (200, b"ZONE     SYSMODS\nTGT1     2\nROWS 1\n"))
 desk.end()
 
+desk = Served(store)
+
+
+def is_reached(address):
+    try:
+        socket.create_connection((address, desk.port), timeout=5).close()
+        return True
+    except OSError:
+        return False
+
+
+same("it listens on 127.0.0.1 alone", [is_reached("127.0.0.1"), is_reached("127.0.0.2")], [True, False])
+desk.end()
+
 desk = Served(store, "--connections", "2")
 first, second = desk.ask("GET", "/published", ALPHA), desk.ask("GET", "/published", BETA)
 desk.process.wait(timeout=10)
 same("two connections, and the end", (first[0], second[0], desk.process.returncode), (200, 200, 0))
+
+# ---- a long report
+
+
+def request(first, token, number="", body=b""):
+    lines = "%s HTTP/1.1\r\nbureau-token: %s\r\n" % (first, token)
+    if number:
+        lines += "bureau-number: %s\r\ncontent-length: %d\r\n" % (number, len(body))
+    return lines.encode() + b"\r\n" + body
+
+
+ids = ["UJ%05d" % number for number in range(6000)]
+holds = "++FUNCTION(HBB77E0).\n++VER(Z038).\n" + "".join("++HOLD(%s) ERROR FMID(HBB77E0) REASON(A%s).\n" % (name, name[1:]) for name in ids)
+zone = "SYSMOD,STATE\nHBB77E0,APPLIED\n" + "".join("%s,APPLIED\n" % name for name in ids)
+asked = write(
+    room + "/asked",
+    request("POST /publish", PUBLISHER, "1", holds.encode())
+    + request("PUT /zones/TGT1", ALPHA, "1", zone.encode())
+    + request("GET /zones/TGT1/errsysmods", ALPHA),
+)
+replies = subprocess.run([PROGRAM, "replay", callers, asked], capture_output=True, cwd=room, timeout=100).stdout
+check("a report of 6,000 rows", replies.endswith(b"ROWS 6000\n") and len(replies) > 300000, len(replies))
+desk = Served(made("long"))
+check("is the same over a socket, to the byte", desk.bytes(read(asked)) == replies)
+desk.end()
+
+# ---- a device that fails
+
+limited = made("limited")
+desk = Served(limited, under=("bash", "-c", 'trap "" XFSZ; ulimit -f 300; exec "$@"', "bash"))
+same("a change before the device fails", desk.ask("PUT", "/zones/TGT1", ALPHA, 1, ZONE), (200, b"ZONE TGT1 ROWS 2\n"))
+large = request("PUT /zones/TGT2", ALPHA, "2", zone.encode())
+check("the change under which it fails is not acknowledged", desk.bytes(large).endswith(b"\r\n\r\nNO ROOM\n"))
+output, errors = desk.process.communicate(timeout=60)
+same("the desk ends, and says why", (desk.process.returncode, output, errors), (3, "", "FAULT 42\n"))
+desk = Served(limited)
+same("what was acknowledged is there", desk.ask("GET", "/zones", ALPHA)[1], b"ZONE     SYSMODS\nTGT1     2\nROWS 1\n")
+check("and the change that was not is made now", desk.bytes(large).endswith(b"ZONE TGT2 ROWS 6001\n"))
+desk.end()
 
 # ---- each exchange of the page, over a file that is opened again before each connection
 
@@ -298,4 +373,12 @@ desk.end()
 desk = Served(again)
 same("and so is the store that sqlite3 looked at", desk.ask("GET", "/published", PUBLISHER), published)
 desk.end()
+
+# ---- the client that said nothing
+
+silent.join()
+((got, waited),) = silence
+check("it sees its end after a minute", got == b"" and 59 < waited < 75, silence)
+same("and the next one is served", quiet.ask("GET", "/published", PUBLISHER)[0], 200)
+quiet.end()
 finish("store")
