@@ -44,6 +44,69 @@ impl Ticking {
     }
 }
 
+// A clock that stands still. At each look a client reads all that it gets. It closes its side once it sees its end.
+#[derive(Drop)]
+struct Watching<'a> {
+    client: &'a TcpStream,
+    got: Cell<usize>,
+    saw_end: Cell<bool>,
+}
+
+impl Watching<'_> {
+    fn read_out(&self) -> io::Result<()> {
+        let mut client = self.client.try_clone()?;
+        let mut room = [0u8; 512];
+        for _ in 0..64u32 {
+            let count = client.read(&mut room)?;
+            if count == 0 {
+                self.saw_end.set(true);
+                return self.client.shutdown(Shutdown::Write);
+            }
+            self.got.set(self.got.get().saturating_add(count));
+        }
+        Ok(())
+    }
+}
+
+impl Clock for Watching<'_> {
+    fn monotonic(&self) -> io::Result<Duration> {
+        if !self.saw_end.get() {
+            let _ = self.read_out();
+        }
+        Ok(Duration::from_secs(1))
+    }
+
+    fn since_1970(&self) -> io::Result<Duration> {
+        self.monotonic()
+    }
+}
+
+// A clock by which a second passes before each look. At each look a client sends one byte, so that it is never silent; it
+// stops long after patience has ended.
+#[derive(Drop)]
+struct Dripping<'a> {
+    client: &'a TcpStream,
+    looks: Cell<u64>,
+}
+
+impl Clock for Dripping<'_> {
+    fn monotonic(&self) -> io::Result<Duration> {
+        let looks = self.looks.get().saturating_add(1);
+        self.looks.set(looks);
+        let mut client = self.client.try_clone()?;
+        if looks < 200 {
+            let _ = client.write(b"x");
+        } else {
+            let _ = client.shutdown(Shutdown::Write);
+        }
+        Ok(Duration::from_secs(looks))
+    }
+
+    fn since_1970(&self) -> io::Result<Duration> {
+        self.monotonic()
+    }
+}
+
 // A desk that answers each call with a million bytes. It holds no tables, so that nothing is said of its answers.
 #[derive(Drop)]
 struct Loud {
@@ -158,6 +221,81 @@ fn patience_with_a_connection_ends_in_reads_and_writes(rt: HostRuntime) -> Resul
     Ok(())
 }
 
+// How often the clock is looked at until a client is left that sends this, and then a byte each second.
+fn looks_at_a_client(rt: &HostRuntime, sent: &[u8]) -> Result<u64, Fail> {
+    let listener = TcpListener::bind(rt, "127.0.0.1:0")?;
+    let mut client = TcpStream::connect(rt, listener.local_addr()?)?;
+    client.write_all(sent)?;
+    let clock = Dripping {
+        client: &client,
+        looks: Cell::new(0),
+    };
+    let patience = Patience {
+        each: long(),
+        whole: Duration::from_secs(20),
+        closing: Duration::from_secs(5),
+    };
+    let mut desk = Echo {
+        alloc: rt.alloc(),
+        is_shut: false,
+    };
+    let mut sockets = Sockets::new(&listener, &clock, patience);
+    serve_listener(rt.alloc(), &mut desk, &mut sockets, 1);
+    Ok(clock.looks.get())
+}
+
+#[test]
+fn patience_ends_with_a_request_that_never_stands_whole(rt: HostRuntime) -> Result<(), Fail> {
+    // 20 seconds, 5 until it is closed, and the looks that begin both
+    let looks = looks_at_a_client(&rt, b"GET /")?;
+    assert!(rt; looks <= 30, "{looks}");
+    Ok(())
+}
+
+#[test]
+fn patience_ends_with_a_client_that_sends_on(rt: HostRuntime) -> Result<(), Fail> {
+    let lines = b"bureau-token: publisher-token\r\nconnection: close\r\n";
+    let text = request(rt.alloc(), b"GET /published", lines, b"")?;
+    // the reply is written at once, and 5 seconds later it is closed
+    let looks = looks_at_a_client(&rt, text.as_slice())?;
+    assert!(rt; looks <= 12, "{looks}");
+    Ok(())
+}
+
+#[test]
+fn a_client_that_waits_for_its_end_sees_it(rt: HostRuntime) -> Result<(), Fail> {
+    let lines = b"bureau-token: publisher-token\r\nconnection: close\r\n";
+    let text = request(rt.alloc(), b"GET /published", lines, b"")?;
+    let (written, _) = served(rt.alloc(), false, text.as_slice())?;
+    let listener = TcpListener::bind(&rt, "127.0.0.1:0")?;
+    let mut client = TcpStream::connect(&rt, listener.local_addr()?)?;
+    client.write_all(text.as_slice())?;
+    client.set_read_timeout(Some(short()))?;
+    // it closes its side after that, so that the desk doesn't wait on
+    let clock = Watching {
+        client: &client,
+        got: Cell::new(0),
+        saw_end: Cell::new(false),
+    };
+    let patience = Patience {
+        each: long(),
+        whole: long(),
+        closing: long(),
+    };
+    let mut desk = Echo {
+        alloc: rt.alloc(),
+        is_shut: false,
+    };
+    let begin = Instant::now(&rt)?;
+    let mut sockets = Sockets::new(&listener, &clock, patience);
+    serve_listener(rt.alloc(), &mut desk, &mut sockets, 1);
+    let took = begin.elapsed(&rt)?;
+    assert!(rt; clock.saw_end.get());
+    assert_eq!(rt; clock.got.get(), written.len());
+    assert!(rt; took < Duration::from_secs(20), "{took:?}");
+    Ok(())
+}
+
 #[test]
 fn the_desk_pauses_where_it_can_accept_no_connection(rt: HostRuntime) -> Result<(), Fail> {
     let listener = TcpListener::bind(&rt, "127.0.0.1:0")?;
@@ -171,5 +309,7 @@ fn the_desk_pauses_where_it_can_accept_no_connection(rt: HostRuntime) -> Result<
     let mut sockets = Sockets::new(&listener, &clock, Patience::usual());
     serve_listener(rt.alloc(), &mut desk, &mut sockets, 3);
     assert_eq!(rt; clock.paused.get(), 60);
+    // patience with a client doesn't begin before it comes
+    assert_eq!(rt; clock.looks.get(), 0);
     Ok(())
 }
