@@ -221,9 +221,9 @@ pub fn close(conn: Connection<StoreFile>) {
     let _ = conn.close();
 }
 
-// Serves the desk whose store a connection has, and gives the connection back.
+/// Serves the desk whose store a connection has, and gives the connection back.
 #[tactic(auto, using(crate::proofs::DeskFacts::not_served))]
-fn open_and_serve<S: Surroundings + Clock, D: Alter + Drop, W: Write, E: Write>(
+pub fn open_and_serve<S: Surroundings + Clock, D: Alter + Drop, W: Write, E: Write>(
     surroundings: &S,
     alloc: Global,
     port: u16,
