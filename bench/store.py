@@ -1,0 +1,318 @@
+#!/usr/bin/env python3
+"""Times the served store beside python's sqlite3 and nginx, side by side in one run.
+
+    store.py [publication zone small start zones reports]
+
+Without names it times all of it. The program is crates/bureau_main/out/bureau_main, or the one that BUREAU_PROGRAM
+names. nginx is needed for `zones` alone. Each figure is the least of three runs in turns, in seconds or as it says.
+"""
+import http.client
+import os
+import shutil
+import socket
+import sqlite3
+import subprocess
+import sys
+import tempfile
+import time
+
+HERE = os.path.dirname(os.path.abspath(__file__))
+PROGRAM = os.environ.get("BUREAU_PROGRAM") or os.path.join(HERE, "..", "crates", "bureau_main", "out", "bureau_main")
+PUBLISHER, ALPHA = "publisher-token", "alpha-token"
+RUNS = 3
+
+room = tempfile.mkdtemp(prefix="bureau-bench-")
+callers = os.path.join(room, "callers.csv")
+with open(callers, "w") as out:
+    out.write("NAME,TOKEN\nPUBLISH,%s\nALPHA,%s\n" % (PUBLISHER, ALPHA))
+
+
+def free_port():
+    with socket.socket() as probe:
+        probe.bind(("127.0.0.1", 0))
+        return probe.getsockname()[1]
+
+
+class Desk:
+    """A desk over a store, made where it isn't there. `began` is the time up to its line LISTENING."""
+
+    def __init__(self, name):
+        self.store = os.path.join(room, name)
+        if not os.path.exists(self.store):
+            subprocess.run([PROGRAM, "init", self.store, callers], check=True, stdout=subprocess.DEVNULL)
+        began = time.monotonic()
+        self.port = free_port()
+        self.process = subprocess.Popen(
+            [PROGRAM, "serve", "--port", str(self.port), self.store], stdout=subprocess.PIPE, text=True
+        )
+        line = self.process.stdout.readline()
+        self.began = time.monotonic() - began
+        if not line.startswith("LISTENING"):
+            sys.exit("the desk does not start: %r" % line)
+        self.connection = http.client.HTTPConnection("127.0.0.1", self.port, timeout=600)
+
+    def ask(self, method, path, token, number=None, body=None):
+        headers = {"bureau-token": token}
+        if number:
+            headers["bureau-number"] = str(number)
+        self.connection.request(method, path, body, headers)
+        reply = self.connection.getresponse()
+        text = reply.read()
+        if reply.status != 200:
+            sys.exit("%s %s: %d %r" % (method, path, reply.status, text))
+        return text
+
+    def last(self):
+        """The number of ALPHA's last change."""
+        self.connection.request("PUT", "/received", b"SYSMOD\n", {"bureau-token": ALPHA, "bureau-number": str((1 << 63) - 1)})
+        return int(self.connection.getresponse().read().split()[2])
+
+    def timed(self, *words):
+        began = time.monotonic()
+        self.ask(*words)
+        return time.monotonic() - began
+
+    def peak(self):
+        """The peak of its memory, in MB."""
+        with open("/proc/%d/status" % self.process.pid) as status:
+            return next(int(line.split()[1]) for line in status if line.startswith("VmHWM")) / 1024
+
+    def end(self):
+        self.connection.close()
+        self.process.kill()
+        self.process.wait()
+
+
+def statements(count, first=0):
+    """A function, and PTFs for it with two holds each."""
+    lines = ["++FUNCTION(HBB7790).", "++VER(Z038)."]
+    for i in range(first, first + count):
+        lines += ["++PTF(U%d)." % i, "++VER(Z038) FMID(HBB7790) PRE(U%d) SUP(A%d)." % (max(0, i - 7), i)]
+    for i in range(first, first + count):
+        lines += ["++HOLD(U%d) ERROR FMID(HBB7790) REASON(B%d) CLASS(PE) DATE(12045)." % (i, i)]
+        lines += ["++HOLD(U%d) SYSTEM FMID(HBB7790) REASON(IPL)." % i]
+    return ("\n".join(lines) + "\n").encode()
+
+
+def zone(count, state="APPLIED"):
+    return ("SYSMOD,STATE\nHBB7790,APPLIED\n" + "".join("U%d,%s\n" % (i, state) for i in range(count - 1))).encode()
+
+
+def tables():
+    """A database of python's with the tables of the desk, and its settings."""
+    path = tempfile.mktemp(dir=room)
+    subprocess.run([PROGRAM, "init", path + ".model", callers], check=True, stdout=subprocess.DEVNULL)
+    model = sqlite3.connect(path + ".model")
+    texts = [sql for (sql,) in model.execute("SELECT sql FROM sqlite_schema WHERE sql IS NOT NULL")]
+    model.close()
+    conn = sqlite3.connect(path, isolation_level=None)
+    conn.execute("PRAGMA journal_mode = WAL")
+    conn.execute("PRAGMA synchronous = FULL")
+    for text in texts:
+        conn.execute(text)
+    return conn
+
+
+def python_publication(count):
+    """The same rows, by prepared statements in one transaction."""
+    conn = tables()
+    began = time.monotonic()
+    conn.execute("BEGIN")
+    conn.execute("INSERT INTO sysmod VALUES ('HBB7790', 0, '', '', '')")
+    for i in range(count):
+        name, before = "U%d" % i, "U%d" % max(0, i - 7)
+        conn.execute("DELETE FROM sysmod WHERE id = ?", (name,))
+        conn.execute("DELETE FROM sysmod_sup WHERE id = ?", (name,))
+        conn.execute("INSERT INTO sysmod VALUES (?, 1, 'HBB7790', ?, '')", (name, before))
+        conn.execute("INSERT INTO sysmod_sup VALUES (?, ?)", (name, "A%d" % i))
+    for i in range(count):
+        name = "U%d" % i
+        for kind, reason, css, date in ((0, "B%d" % i, "PE", 12045), (1, "IPL", "", -1)):
+            conn.execute("DELETE FROM hold_row WHERE sysmod = ? AND kind = ? AND reason = ?", (name, kind, reason))
+            conn.execute("INSERT INTO hold_row VALUES (?, ?, ?, 'HBB7790', ?, ?, '', '')", (name, kind, reason, css, date))
+    conn.execute("COMMIT")
+    took = time.monotonic() - began
+    conn.close()
+    return took
+
+
+def python_zone(count):
+    conn = tables()
+    began = time.monotonic()
+    conn.execute("BEGIN")
+    conn.execute("DELETE FROM zone_row WHERE client = 'ALPHA' AND zone = 'TGT1'")
+    conn.execute("INSERT INTO zone_head VALUES ('ALPHA', 'TGT1', '')")
+    for i in range(count):
+        conn.execute("INSERT INTO zone_row VALUES ('ALPHA', 'TGT1', ?, 0)", ("U%d" % i,))
+    conn.execute("COMMIT")
+    took = time.monotonic() - began
+    conn.close()
+    return took
+
+
+def least(*ways):
+    """The least time of each of these, run in turns."""
+    times = [[] for _ in ways]
+    for _ in range(RUNS):
+        for way, found in zip(ways, times):
+            found.append(way())
+    return [min(found) for found in times]
+
+
+fresh = iter(range(1 << 30))
+
+
+def publication(count=30000):
+    text = statements(count)
+    peaks = []
+
+    def ours():
+        desk = Desk("publication%d" % next(fresh))
+        took = desk.timed("POST", "/publish", PUBLISHER, 1, text)
+        peaks.append(desk.peak())
+        desk.end()
+        return took
+
+    mine, theirs = least(ours, lambda: python_publication(count))
+    print("a publication of %d SYSMODs with %d holds: %.2f; python's sqlite3 %.2f; %.2f times; peak %.0f MB, text %.1f MB" % (
+        count, 2 * count, mine, theirs, mine / theirs, max(peaks), len(text) / 1e6))
+
+
+def a_zone(count=20000):
+    text = zone(count)
+
+    def ours():
+        desk = Desk("zone%d" % next(fresh))
+        took = desk.timed("PUT", "/zones/TGT1", ALPHA, 1, text)
+        desk.end()
+        return took
+
+    mine, theirs = least(ours, lambda: python_zone(count))
+    print("a zone of %d rows: %.3f; python's sqlite3 %.3f; %.2f times" % (count, mine, theirs, mine / theirs))
+
+
+def filled(rows):
+    """A store with so many rows: a fifth SYSMODs with their superseded ids and two holds each, and zones."""
+    name = "filled%d" % rows
+    is_there = os.path.exists(os.path.join(room, name))
+    desk = Desk(name)
+    if is_there:
+        return desk
+    desk.ask("POST", "/publish", PUBLISHER, 1, statements(rows // 5))
+    left, number = rows - rows // 5 * 4, 0
+    while left > 0:
+        number += 1
+        desk.ask("PUT", "/zones/Z%d" % number, ALPHA, number, zone(min(left, 20000)))
+        left -= 20000
+    desk.end()
+    return Desk(name)
+
+
+def small():
+    for rows in (1000, 10000, 50000, 200000):
+        desk = filled(rows)
+        first, turns = desk.last() + 1, 200
+        look = min(timed_look(desk) for _ in range(turns))
+        took = sorted(desk.timed("PUT", "/zones/SMALL", ALPHA, first + i, zone(3)) for i in range(turns))
+        counts = min(desk.timed("GET", "/published", ALPHA) for _ in range(5))
+        print("%7d rows: LISTENING after %.2f s, a question for a zone that isn't there %.0f us, a small change %.0f us, counts %.1f ms, peak %.0f MB" % (
+            rows, desk.began, look * 1e6, took[turns // 2] * 1e6, counts * 1e3, desk.peak()))
+        desk.end()
+
+
+def timed_look(desk):
+    """A look-up of the token and of one zone."""
+    began = time.monotonic()
+    desk.connection.request("GET", "/zones/NONE/errsysmods", None, {"bureau-token": ALPHA})
+    reply = desk.connection.getresponse()
+    reply.read()
+    return time.monotonic() - began
+
+
+def requests_in(port, path, token, kept, turns):
+    """Seconds for so many requests, on one connection or on a new one each, by sockets."""
+    request = ("GET %s HTTP/1.1\r\nhost: localhost\r\nbureau-token: %s\r\n%s\r\n" % (
+        path, token, "" if kept else "connection: close\r\n")).encode()
+    began = time.monotonic()
+    connection = socket.create_connection(("127.0.0.1", port)) if kept else None
+    for _ in range(turns):
+        if not kept:
+            connection = socket.create_connection(("127.0.0.1", port))
+        connection.setsockopt(socket.IPPROTO_TCP, socket.TCP_NODELAY, 1)
+        connection.sendall(request)
+        reply = connection.recv(65536)
+        if not kept:
+            while more := connection.recv(65536):
+                reply += more
+            connection.close()
+        if not reply.startswith(b"HTTP/1.1 200"):
+            sys.exit("%r" % reply)
+    took = time.monotonic() - began
+    if kept:
+        connection.close()
+    return took
+
+
+def zones():
+    nginx = shutil.which("nginx") or "/usr/sbin/nginx"
+    if not os.path.exists(nginx):
+        print("GET /zones: nginx is not there")
+        return
+    desk = Desk("zones")
+    for number in range(1, 9):
+        desk.ask("PUT", "/zones/TGT%d" % number, ALPHA, number, zone(20))
+    text = desk.ask("GET", "/zones", ALPHA)
+    place = os.path.join(room, "nginx")
+    os.makedirs(place + "/tmp")
+    with open(place + "/zones", "wb") as out:
+        out.write(text)
+    port = free_port()
+    with open(place + "/nginx.conf", "w") as out:
+        out.write(
+            "worker_processes 1; daemon off; pid tmp/pid; error_log tmp/error.log; user root;\n"
+            "events { worker_connections 64; }\n"
+            "http { access_log off; keepalive_requests 1000000; client_body_temp_path tmp; proxy_temp_path tmp;\n"
+            "fastcgi_temp_path tmp; uwsgi_temp_path tmp; scgi_temp_path tmp;\n"
+            "server { listen 127.0.0.1:%d; root %s; } }\n" % (port, place)
+        )
+    process = subprocess.Popen([nginx, "-p", place, "-c", place + "/nginx.conf"])
+    time.sleep(0.5)
+    desk.connection.close()
+    try:
+        for kept, turns in ((True, 9000), (False, 2000)):
+            mine, theirs = least(
+                lambda: requests_in(desk.port, "/zones", ALPHA, kept, turns),
+                lambda: requests_in(port, "/zones", ALPHA, kept, turns),
+            )
+            print("GET /zones, %s: %.0f a second; nginx %.0f; %.2f of it" % (
+                "one connection" if kept else "a connection each", turns / mine, turns / theirs, theirs / mine))
+    finally:
+        process.terminate()
+        process.wait()
+        desk.end()
+
+
+def reports():
+    for count in (10000, 30000):
+        desk = Desk("reports%d" % count)
+        desk.ask("POST", "/publish", PUBLISHER, 1, statements(count))
+        desk.ask("PUT", "/zones/TGT1", ALPHA, 1, zone(1000))
+        shown = []
+        for path in ("errsysmods", "missingfix", "chains/U%d" % (count - 1)):
+            shown.append("%s %.1f ms" % (path, 1e3 * min(desk.timed("GET", "/zones/TGT1/" + path, ALPHA) for _ in range(3))))
+        print("%d SYSMODs, a zone of 1000 rows: %s" % (count, ", ".join(shown)))
+        desk.end()
+
+
+def start():
+    desk = filled(200000)
+    print("LISTENING at 200,000 rows: %.2f s, peak %.0f MB" % (desk.began, desk.peak()))
+    desk.end()
+
+
+PARTS = {"publication": publication, "zone": a_zone, "small": small, "start": start, "zones": zones, "reports": reports}
+try:
+    for name in sys.argv[1:] or PARTS:
+        PARTS[name]()
+finally:
+    shutil.rmtree(room, ignore_errors=True)
