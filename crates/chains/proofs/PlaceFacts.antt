@@ -268,6 +268,12 @@ there_from rows members supersedes installed marks sources are least there = rec
       absurd (least.unreached q at.source e (record { is = are.each at.source at.within ∙ at.installed }) (subst L (sym are.len) at.leads))
 
 -- what follows from a fact of an answer
+pub some_is : {X : Type 0} (P : X → Type 0) (found : Option X) (x : X) → found ≡ Some x → IfSome found P → P x
+some_is P None x is so = absurd cc
+some_is P (Some y) x is so =
+    let same : y ≡ x = cc is in
+    subst P same so
+
 pub ok_so : {X E : Type 0} {P Q : X → Type 0} (r : Result X E) → IfOk r P → ((x : X) → P x → Q x) → IfOk r Q
 ok_so (Ok x) p so = so x p
 ok_so (Err e) p so = tt

@@ -1,5 +1,5 @@
 -- Walks from one id to all to which steps lead, and the map of what is read on the way.
-use Rattle.std.proofs.Common.{◌≡◌, ◌⊎◌, ◌∙◌, ℕ, ◌+◌, ◌<◌, ◌≤◌, ◌||◌, true, cond, List, [], ◌∷◌, ◌++◌, length, map, take, get_or, is_some, Some, refl, sym, ap, subst, inl, inr, arith}
+use Rattle.std.proofs.Common.{◌≡◌, ◌⊎◌, ◌∙◌, ℕ, ◌+◌, ◌<◌, ◌≤◌, ◌||◌, true, cond, List, [], ◌∷◌, ◌++◌, length, map, take, get_or, is_some, IfSome, Option, None, Some, refl, sym, ap, subst, inl, inr, arith}
 use Rattle.std.specs.BTreeMap.{insert_entry, is_at}
 use Rattle.std.specs.BTreeSet.{insert_key}
 use Rattle.std.specs.List.{Contains, list_any}
@@ -160,6 +160,22 @@ module _ {X : Type 0} where
       | inl same ↦ (let P : X → Type 0 = λ z. Contains (e.1 ∷ values_of es) z in inr (subst P same (first_inside e.1 (values_of es))))
       | inr later ↦ elim (rest later) [ inl same ↦ inl same | inr before ↦ inr (rest_inside e.1 w (values_of es) before) ]
     ]
+
+  -- there is at most one key more
+  pub keys_longer : (es : List (List ℕ × X)) (k : List ℕ) (v : X) → length (keys_of (insert_entry id_cmp es k v)) ≤ length (keys_of es) + 1
+  keys_longer [] k v = omega (arith)
+  keys_longer (e ∷ es) k v = go (id_cmp k e.0) (keys_longer es k v) where
+    go : (o : Ordering) → length (keys_of (insert_entry id_cmp es k v)) ≤ length (keys_of es) + 1
+        → length (keys_of (match_ordering o ((k, v) ∷ e ∷ es) ((e.0, v) ∷ es) (e ∷ insert_entry id_cmp es k v))) ≤ length (keys_of (e ∷ es)) + 1
+    go Less rest = omega (arith)
+    go Equal rest = omega (arith)
+    go Greater rest = omega (arith, rest)
+
+  -- where there was room for one more, there are not too many then
+  pub few_now : (most : Option ℕ) (old new : List (List ℕ × X)) (k : List ℕ) (v : X) → new ≡ insert_entry id_cmp old k v → IfSome most (λ m. length (keys_of old) < m)
+      → IfSome most (λ m. length (keys_of new) ≤ m)
+  few_now None old new k v is room = tt
+  few_now (Some m) old new k v is room = omega (arith, keys_longer old k v, ap (λ es. length (keys_of es)) is, room)
 
   pub says_more : (f : List ℕ → X) (es : List (List ℕ × X)) (k : List ℕ) (v : X) → v ≡ f k → values_of es ≡ map f (keys_of es)
       → values_of (insert_entry id_cmp es k v) ≡ map f (keys_of (insert_entry id_cmp es k v))

@@ -5,6 +5,7 @@ pub mod Cuts
 pub mod Sights
 pub mod Places
 pub mod Whole
+pub mod Surveys
 pub mod Frames
 pub mod Gathered
 pub mod FramePlaces

@@ -61,8 +61,9 @@ impl Frame {
     /// The frame of what was gathered.
     pub(crate) fn of(alloc: Global, found: BTreeMap<Id, Gathered>) -> Result<Frame, NoMemory>
         requires { AreNamed (values found) (keys found) }
-        ensures { IfOk result (λ frame. (content : Content) (start : List ℕ) → IsInOrder content
+        ensures frame { IfOk result (λ frame. (content : Content) (start : List ℕ) → IsInOrder content
             → IsGathered content start (keys found) (values found) → IsFrame content start frame) }
+        ensures ids { IfOk result (λ frame. ids_in frame.nodes ≡ keys found) }
     {
         let ids = ids_found(alloc, &found)?;
         let all = gathered_found(alloc, found)?;

@@ -1,5 +1,5 @@
 //! The frame of a SYSMOD, from a source.
-ghost use Rattle.std.specs.Prelude.{IfOk};
+ghost use Rattle.std.specs.Prelude.{◌≤◌, IfOk, IfSome, length};
 ghost use Rattle.catalogue.specs.View.{MayAsk, Tells};
 ghost use Rattle.catalogue.specs.declared.fault.SourceFault.TheVariants.{Device};
 ghost use Rattle.chains.specs.Frames.{IsFrame};
@@ -21,6 +21,30 @@ pub fn frame<P: Published>(alloc: Global, source: &mut P, id: &Id) -> Result<Fra
     ensures frame { IfOk result (λ frame. Tells P.content_view source.old source.new
         (λ content. IsFrame content id.now frame)) }
 {
-    let found = gather(alloc, source, id)?;
-    Ok(Frame::of(alloc, found)?)
+    match gather(alloc, source, id, None)? {
+        Some(found) => Ok(Frame::of(alloc, found)?),
+        None => unreachable!(),
+    }
+}
+
+/// The same, where it has at most so many nodes. Of a larger one no more than these are read.
+///
+/// # Errors
+///
+/// `Memory` where memory ran out, `Device` where the source failed.
+pub fn frame_within<P: Published>(
+    alloc: Global,
+    source: &mut P,
+    id: &Id,
+    most: usize,
+) -> Result<Option<Frame>, SourceFault>
+    ensures asks { MayAsk P.content_view Device source.old source.new result }
+    ensures frame { IfOk result (λ found. IfSome found (λ frame. Tells P.content_view source.old source.new
+        (λ content. IsFrame content id.now frame))) }
+    ensures small { IfOk result (λ found. IfSome found (λ frame. length frame.nodes ≤ most)) }
+{
+    match gather(alloc, source, id, Some(most))? {
+        Some(found) => Ok(Some(Frame::of(alloc, found)?)),
+        None => Ok(None),
+    }
 }

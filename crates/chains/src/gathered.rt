@@ -1,5 +1,5 @@
 //! All that a SYSMOD reaches, read once.
-ghost use Rattle.std.specs.Prelude.{◌≡◌, ◌++◌, Contains, IfOk, OnOk};
+ghost use Rattle.std.specs.Prelude.{◌≡◌, ◌++◌, ◌≤◌, ◌<◌, true, false, Contains, IfNone, IfOk, IfSome, IsSome, OnOk, length};
 ghost use Rattle.std.specs.BTreeMap.{insert_entry, keys, values};
 ghost use Rattle.catalogue.specs.Ids.{Ascend, id_cmp, in_order};
 ghost use Rattle.catalogue.specs.View.{IsOpen, MayAsk, Tells};
@@ -28,17 +28,20 @@ pub(crate) struct Gathered {
 }
 
 /// What the source says of a SYSMOD, of all that it may need and all that supersedes it, of all that these may
-/// need, and so on. Each is read once.
+/// need, and so on. Each is read once. With a limit it gives up where there are more than so many.
 pub(crate) fn gather<P: Published>(
     alloc: Global,
     source: &mut P,
     start: &Id,
-) -> Result<BTreeMap<Id, Gathered>, SourceFault>
+    most: Option<usize>,
+) -> Result<Option<BTreeMap<Id, Gathered>>, SourceFault>
     ensures asks { MayAsk P.content_view Device source.old source.new result }
-    ensures gathered { IfOk result (λ found. Tells P.content_view source.old source.new
-        (λ content. IsGathered content start.now (keys found) (values found))) }
-    ensures named { IfOk result (λ found. AreNamed (values found) (keys found)) }
-    ensures standing { IfOk result (λ found. IsOpen P.content_view source.new) }
+    ensures gathered { IfOk result (λ found. IfSome found (λ found. Tells P.content_view source.old source.new
+        (λ content. IsGathered content start.now (keys found) (values found)))) }
+    ensures named { IfOk result (λ found. IfSome found (λ found. AreNamed (values found) (keys found))) }
+    ensures standing { IfOk result (λ found. IfSome found (λ found. IsOpen P.content_view source.new)) }
+    ensures whole { IfOk result (λ found. IfNone found (IsSome most)) }
+    ensures few { IfOk result (λ found. IfSome found (λ found. IfSome most (λ most. length (keys found) ≤ most))) }
 {
     let mut found = BTreeMap::new(alloc);
     let mut order = Vec::new(alloc);
@@ -50,10 +53,24 @@ pub(crate) fn gather<P: Published>(
         if found.contains_key(&id) {
             continue;
         }
+        if is_full(&found, most) {
+            return Ok(None);
+        }
         let gathered = gathered_of(alloc, source, &id)?;
         add(&mut found, &mut order, id, gathered)?;
     }
-    Ok(found)
+    Ok(Some(found))
+}
+
+// Whether there is no room for one more.
+fn is_full(found: &BTreeMap<Id, Gathered>, most: Option<usize>) -> bool
+    ensures full { result ≡ true → IsSome most }
+    ensures room { result ≡ false → IfSome most (λ most. length (keys found.now) < most) }
+{
+    match most {
+        Some(most) => found.len() >= most,
+        None => false,
+    }
 }
 
 // Puts what is read of an id among what was found, and the ids that it names at the end of the order.

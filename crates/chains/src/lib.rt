@@ -4,8 +4,10 @@
 //!   which of these
 //! - [`Judge`]: who gives verdicts over published content
 //! - [`Whole`]: judges over all that is catalogued, and is right for every content
-//! - [`Frame`]: all that one SYSMOD reaches, as [`FrameNode`]s; [`frame`]: that of a SYSMOD, from a source
+//! - [`Frame`]: all that one SYSMOD reaches, as [`FrameNode`]s; [`frame`], [`frame_within`]: that of a
+//!   SYSMOD, from a source
 //! - [`plan`], [`good`]: verdicts from a frame alone
+//! - [`Survey`]: all verdicts of one zone; [`survey_of`]: that of a zone, from a source
 //! - [`touches`]: whether a publication may change a frame
 //! - [`good_is_planned`], [`verdicts_are_right`]: laws of the definitions
 #![tactic(auto)]
@@ -21,15 +23,17 @@ mod listing;
 mod nodes;
 mod places;
 mod planning;
+mod surveying;
 mod touching;
 mod verdict;
 mod whole;
 
 pub use frames::{Frame, FrameNode};
-pub use framing::frame;
+pub use framing::{frame, frame_within};
 pub use judge::Judge;
 pub use law::{good_is_planned, verdicts_are_right};
 pub use planning::{good, plan};
+pub use surveying::{Survey, survey_of};
 pub use touching::touches;
 pub use verdict::{Status, Verdict};
 pub use whole::Whole;

@@ -16,7 +16,7 @@ use crate::cut::there_marks;
 use crate::frames::{Frame, FrameNode};
 use crate::listing::is_any_installed;
 use crate::places::{by_ids, place_of};
-use crate::whole::is_marked;
+use crate::surveying::is_marked;
 use mcs_reader::{Id, NoMemory};
 use requisites::{Nodes, resolve, verdict_of_place};
 use std::alloc::Global;

@@ -1,5 +1,5 @@
 //! Zones.
-ghost use Rattle.std.specs.Prelude.{◌≡◌, length, IfOk};
+ghost use Rattle.std.specs.Prelude.{◌≡◌, ◌↔◌, true, length, IfOk};
 ghost use Rattle.std.specs.Cmp.Lexicographic.{slice_cmp};
 ghost use Rattle.std.specs.List.Sorted.{IsBinarySearchResult, IsSearchInRange};
 ghost use Rattle.std.specs.Ordering.{nat_cmp};
@@ -53,6 +53,34 @@ impl Zone {
         ensures { result ≡ rows.items }
     {
         Zone { rows }
+    }
+
+    /// Its rows, ascending by SYSMOD, each once.
+    pub fn rows(&self) -> &[ZoneRow]
+        ensures value { result.now ≡ self.now }
+        ensures ascend { RowsAscend result.now }
+    {
+        self.rows.as_slice()
+    }
+
+    /// The same zone once more.
+    ///
+    /// # Errors
+    ///
+    /// `NoMemory` where memory ran out.
+    pub fn copy(&self) -> Result<Zone, NoMemory>
+        ensures { IfOk result (λ copy. copy ≡ self.now) }
+    {
+        Ok(Zone {
+            rows: self.rows.clone()?,
+        })
+    }
+
+    /// Whether both have the same rows.
+    pub fn is_same(&self, other: &Zone) -> bool
+        ensures { (result ≡ true) ↔ (self.now ≡ other.now) }
+    {
+        self.rows.as_slice() == other.rows.as_slice()
     }
 
     /// Whether the zone has a row of this SYSMOD, in whatever state.

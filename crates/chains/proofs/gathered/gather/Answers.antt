@@ -4,7 +4,7 @@ use Rattle.std.specs.List.{Contains}
 use Rattle.std.proofs.lemmas.List.Elements.{Contains-append_left}
 use Rattle.chains.specs.Gathered.{named_by}
 use Rattle.catalogue.proofs.SourceFacts.{told_both, told_later, told_so, told_sooner}
-use Rattle.chains.proofs.WalkFacts.{all_asked, asked_now, asked_passes, found_key, gather_ends, gather_passes, gather_reads, named_ends, named_now}
+use Rattle.chains.proofs.WalkFacts.{all_asked, asked_now, asked_passes, few_now, found_key, gather_ends, gather_passes, gather_reads, named_ends, named_now}
 use Rattle.chains.proofs.gathered.gather.Goals as goal
 
 pub loop-at-preserved-then-contains_key : goal.loop-at-preserved-then-contains_key
@@ -22,6 +22,7 @@ loop-at-preserved-then-contains_key g c =
       begun = was.begun;
       asked = asked_passes (keys c.loop-at.found) order c.loop-at.at id below is here was.asked;
       named = was.named;
+      few = was.few;
       told = told_so was.told (λ content so_far. gather_passes content c.args.start.now (keys c.loop-at.found) order (values c.loop-at.found) c.loop-at.at id below is here so_far);
     }
 
@@ -47,6 +48,7 @@ loop-at-preserved g c =
       begun = (let P : List (List ℕ) → Type 0 = λ l. Contains l c.args.start.now in subst P (sym c.in_ok-add.ensures.order) (Contains-append_left order (named_by v) c.args.start.now was.begun));
       asked = asked_now old new id v c.in_ok-add.ensures.found order order' c.loop-at.at below is c.in_ok-add.ensures.order was.asked;
       named = named_now old new id v c.in_ok-add.ensures.found order order' c.in_ok-add.ensures.order was.named;
+      few = few_now c.args.most old new id v c.in_ok-add.ensures.found (c.is_full.ensures.room c.if-is_full.false);
       told = told_so both (λ content facts.
           gather_reads old new id v c.in_ok-add.ensures.found content c.args.start.now order order' c.loop-at.at below is c.in_ok-add.ensures.order facts.1 facts.0);
     }

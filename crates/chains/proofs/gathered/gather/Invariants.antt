@@ -1,4 +1,4 @@
-use Rattle.std.proofs.Common.{◌-◌, ◌^◌, ℕ, List, take}
+use Rattle.std.proofs.Common.{◌-◌, ◌^◌, ◌≤◌, ℕ, List, IfSome, length, take}
 use Rattle.std.specs.BTreeMap.{keys, values}
 use Rattle.std.specs.List.{Contains}
 use Rattle.catalogue.specs.View.{IsOpen, Tells}
@@ -16,6 +16,7 @@ invariant-loop-at g l =
       begun : Contains l.order.items l.start;
       asked : (id : List ℕ) → Contains (take l.at l.order.items) id → Contains (keys l.found) id;
       named : AreNamed (values l.found) l.order.items;
+      few : IfSome l.most (λ most. length (keys l.found) ≤ most);
       told : Tells source.content_view l.fn.source l.source
           (λ content. IsGathering content l.start (keys l.found) l.order.items l.at (values l.found));
     }

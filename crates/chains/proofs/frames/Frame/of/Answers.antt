@@ -1,4 +1,4 @@
-use Rattle.std.proofs.Common.{refl}
+use Rattle.std.proofs.Common.{◌∙◌, refl, sym}
 use Rattle.chains.proofs.NodeFacts.{frame_found, framed_found}
 use Rattle.chains.proofs.frames.Frame.of.Goals as goal
 
@@ -8,8 +8,16 @@ invariant_of-result c =
     c.in_ok-nodes.nodes.items c.in_ok-needs.field-0.above c.in_ok-ids.ensures.ids c.in_ok-all.ensures c.deref.ensures.value c.deref-2.ensures.value c.deref-3.ensures.value c.deref-4.ensures.value
     c.in_ok-ids.ensures.ascend c.requires c.in_ok-nodes.ensures c.in_ok-needs.field-0.needs c.in_ok-needs.ensures.needs
 
-pub returns : goal.returns
-returns c = λ content start ordered is.
+pub returns-clause-frame : goal.returns-clause-frame
+returns-clause-frame c = λ content start ordered is.
     frame_found c.args.found.entries c.in_ok-ids.ids.items c.deref.result.now c.deref-3.result.now c.in_ok-all.all.items c.deref-2.result.now c.deref-4.result.now
     c.in_ok-nodes.nodes.items c.in_ok-needs.field-0.above c.in_ok-ids.ensures.ids c.in_ok-all.ensures c.deref.ensures.value c.deref-2.ensures.value c.deref-3.ensures.value c.deref-4.ensures.value
     c.in_ok-ids.ensures.ascend c.requires c.in_ok-nodes.ensures c.in_ok-needs.field-0.supersedes c.in_ok-needs.ensures.supersedes _ refl refl content start ordered is
+
+pub returns-clause-ids : goal.returns-clause-ids
+returns-clause-ids c =
+    let framed =
+    framed_found c.args.found.entries c.in_ok-ids.ids.items c.deref.result.now c.deref-3.result.now c.in_ok-all.all.items c.deref-2.result.now c.deref-4.result.now
+    c.in_ok-nodes.nodes.items c.in_ok-needs.field-0.above c.in_ok-ids.ensures.ids c.in_ok-all.ensures c.deref.ensures.value c.deref-2.ensures.value c.deref-3.ensures.value c.deref-4.ensures.value
+    c.in_ok-ids.ensures.ascend c.requires c.in_ok-nodes.ensures c.in_ok-needs.field-0.needs c.in_ok-needs.ensures.needs in
+    sym framed.are ∙ c.in_ok-ids.ensures.ids

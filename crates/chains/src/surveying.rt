@@ -1,0 +1,135 @@
+//! All verdicts of one zone.
+ghost use Rattle.std.specs.Prelude.{◌≡◌, ℕ, List, IfOk, length, map};
+ghost use Rattle.catalogue.specs.Content.{Content, ids_of};
+ghost use Rattle.catalogue.specs.Ids.{Ascend};
+ghost use Rattle.catalogue.specs.View.{MayAsk, Tells};
+ghost use Rattle.catalogue.specs.declared.fault.SourceFault.TheVariants.{Device};
+ghost use Rattle.requisites.specs.Nodes.{mark_of};
+ghost use Rattle.chains.specs.Judge as judge;
+ghost use Rattle.chains.specs.Sights.{sight_of};
+ghost use Rattle.chains.specs.Surveys.{IsSurvey};
+ghost use Rattle.chains.specs.Verdicts.{verdict_of};
+ghost use Rattle.zone_lists.specs.declared.zones.ZoneRow.{ZoneRow};
+
+use crate::cut::Cut;
+use crate::listing::{Entry, entries_of};
+use crate::places::{by_ids, place_of};
+use crate::{Status, Verdict};
+use catalogue::{Published, SourceFault};
+use mcs_reader::{Id, NoMemory};
+use requisites::{Resolution, resolve, verdict_of_place};
+use std::alloc::Global;
+use std::marker::Model;
+use supersede::Zone;
+
+/// What can be installed in one zone of all that is catalogued, found in one pass over the catalogue. Each verdict
+/// of the zone can be read from it for as long as what is published and the zone stay.
+#[derive(Debug, Drop)]
+pub struct Survey {
+    cut: Cut,
+    resolution: Resolution,
+}
+
+impl Model for Survey {
+    ghost use Rattle.chains.specs.Surveys.{IsResolved, SurveyLists};
+
+    ghost Value = { SurveyLists };
+
+    ghost view = { λ survey. record { members = survey.cut.members.items; nodes = survey.cut.nodes } };
+
+    ghost invariant = { λ survey. IsResolved survey.cut.members.items survey.cut.nodes survey.resolution.good.items survey.resolution.givers.items };
+}
+
+impl Survey {
+    // By what is read of all that is catalogued.
+    fn of(
+        alloc: Global,
+        zone: &Zone,
+        catalogued: &[Id],
+        entries: &[Entry],
+    ) -> Result<Survey, NoMemory>
+        requires ascend { Ascend catalogued.now }
+        requires entries { length entries.now ≡ length catalogued.now }
+        ensures { IfOk result (λ survey. (content : Content) → catalogued.now ≡ ids_of content → entries.now ≡ map (sight_of content zone.now) catalogued.now
+            → IsSurvey content zone.now survey) }
+    {
+        let cut = Cut::of(alloc, zone, catalogued, entries)?;
+        let resolution = resolve(alloc, &cut.nodes)?;
+        Ok(Survey { cut, resolution })
+    }
+
+    /// The verdict on a SYSMOD.
+    ///
+    /// # Errors
+    ///
+    /// `NoMemory` where memory ran out.
+    pub fn verdict(&self, alloc: Global, id: &Id) -> Result<Verdict, NoMemory>
+        ensures { IfOk result (λ verdict. (content : Content) (rows : List ZoneRow) → IsSurvey content rows self.now
+            → judge.judged_by verdict ≡ verdict_of content rows id.now) }
+    {
+        let Some(place) = place_of(&self.cut.members, id) else {
+            return Ok(Verdict::Lack);
+        };
+        let verdict = verdict_of_place(alloc, &self.cut.nodes, &self.resolution, place)?;
+        by_ids(alloc, &self.cut.members, verdict)
+    }
+
+    /// For each SYSMOD which verdict it is, in the order of the list.
+    ///
+    /// # Errors
+    ///
+    /// `NoMemory` where memory ran out.
+    pub fn statuses(&self, alloc: Global, ids: &[Id]) -> Result<Vec<Status>, NoMemory>
+        ensures { IfOk result (λ statuses. (content : Content) (rows : List ZoneRow) → IsSurvey content rows self.now
+            → statuses.items ≡ map (λ id. judge.status_of (verdict_of content rows id)) ids.now) }
+    {
+        let mut statuses = Vec::with_capacity(alloc, ids.len())?;
+        for id in ids {
+            statuses.push(self.status(id))?;
+        }
+        Ok(statuses)
+    }
+
+    /// Which verdict it is on a SYSMOD. It takes no memory.
+    pub fn status(&self, id: &Id) -> Status
+        ensures { (content : Content) (rows : List ZoneRow) → IsSurvey content rows self.now
+            → result ≡ judge.status_of (verdict_of content rows id.now) }
+    {
+        let Some(place) = place_of(&self.cut.members, id) else {
+            return Status::Lack;
+        };
+        if is_marked(&self.resolution.good, place) {
+            return Status::Good;
+        }
+        if is_marked(&self.cut.nodes.candidates, place) {
+            return Status::Held;
+        }
+        Status::Lack
+    }
+}
+
+/// The survey of a zone: all that is catalogued is read, once.
+///
+/// # Errors
+///
+/// `Memory` where memory ran out, `Device` where the source failed.
+pub fn survey_of<P: Published>(
+    alloc: Global,
+    source: &mut P,
+    zone: &Zone,
+) -> Result<Survey, SourceFault>
+    ensures asks { MayAsk P.content_view Device source.old source.new result }
+    ensures survey { IfOk result (λ survey. Tells P.content_view source.old source.new
+        (λ content. IsSurvey content zone.now survey)) }
+{
+    let catalogued = source.ids()?;
+    let entries = entries_of(alloc, source, zone, &catalogued)?;
+    Ok(Survey::of(alloc, zone, &catalogued, &entries)?)
+}
+
+/// Whether a place is marked.
+pub(crate) fn is_marked(marks: &[bool], place: usize) -> bool
+    ensures { result ≡ mark_of marks.now place }
+{
+    marks.get(place).copied().unwrap_or(false)
+}
