@@ -1,5 +1,5 @@
 -- What a hit and a miss leave.
-use Rattle.std.proofs.Common.{◌≡◌, ◌∙◌, ◌-◌, ◌+◌, ◌<◌, ◌++◌, ℕ, true, false, List, [], ◌∷◌, get_or, length, min, take, OnErr, Some, Result, Ok, Err, refl, sym, ap, subst, inl, inr}
+use Rattle.std.proofs.Common.{◌≡◌, ◌∙◌, ◌⊎◌, ◌-◌, ◌+◌, ◌<◌, ◌++◌, ℕ, true, false, List, [], ◌∷◌, Contains, get_or, length, min, take, OnErr, Some, Result, Ok, Err, refl, sym, ap, subst, inl, inr}
 use Rattle.std.proofs.lemmas.List.{take_more}
 use Rattle.catalogue.specs.Content.{Content}
 use Rattle.catalogue.specs.Ids.{same_id}
@@ -8,13 +8,15 @@ use Rattle.lru.specs.LruCache.{LruCache, lru_cache, promoted, put_entries}
 use Rattle.lru.proofs.CallerLemmas.{Contains-promoted, Contains-take}
 use Rattle.lru.proofs.Pairs.{promoted_absent}
 use Rattle.lru.proofs.Splits.{Contains-cons}
+use Rattle.zone_lists.specs.declared.zones.ZoneRow.{ZoneRow}
 use Rattle.chains.specs.Frames.{FrameLists, IsFrame}
-use Rattle.chain_cache.specs.Cache.{AreFilled, CacheLists, IsFilled, IsRightFor, after_hit, after_miss, has, most_built}
+use Rattle.chains.specs.Surveys.{IsSurvey, SurveyLists}
+use Rattle.chain_cache.specs.Cache.{AreFilled, AreFrames, CacheLists, IsFilled, IsRightFor, ZoneSurvey, after_hit, after_miss, has, most_built}
 use Rattle.chain_cache.proofs.EntryFacts.{promoted_first, put_first}
 
 -- a cache as contracts see it
-abbrev pub lists_of : LruCache (List ℕ) FrameLists → ℕ → CacheLists
-lists_of frames built = record { entries = frames.entries; capacity = frames.cap; built = built }
+abbrev pub lists_of : LruCache (List ℕ) FrameLists → ℕ → List ZoneSurvey → CacheLists
+lists_of frames built surveys = record { entries = frames.entries; capacity = frames.cap; built = built; surveys = surveys }
 
 -- what stands first where the frame of an id was kept
 pub record IsHit (id : List ℕ) (cache : CacheLists) : Type 0 where
@@ -39,28 +41,50 @@ filled_miss id frame cache absent = record { hit = λ kept. absurd cc; miss = λ
 
 pub right_hit : (content : Content) (id : List ℕ) (cache : CacheLists) → IsRightFor cache content → IsRightFor (after_hit id cache) content
 right_hit content id cache right = record {
-  each = λ other frame member. right.each other frame (Contains-promoted (same_id id) cache.entries (other, frame) member);
+  frames = record { each = λ other frame member. right.frames.each other frame (Contains-promoted (same_id id) cache.entries (other, frame) member) };
+  surveys = right.surveys;
 }
 
 pub right_miss : (content : Content) (id : List ℕ) (frame : FrameLists) (cache : CacheLists) → IsRightFor cache content → IsFrame content id frame
     → IsRightFor (after_miss id frame cache) content
 right_miss content id frame cache right is = record {
-  each = λ other its member. elim (Contains-cons (id, frame) (take (cache.capacity - 1) cache.entries) (other, its) member) [
-    | inl same ↦ (let P : List ℕ × FrameLists → Type 0 = λ entry. IsFrame content entry.0 entry.1 in subst P same is)
-    | inr kept ↦ right.each other its (Contains-take (cache.capacity - 1) cache.entries (other, its) kept)
-  ];
+  frames = record {
+    each = λ other its member. elim (Contains-cons (id, frame) (take (cache.capacity - 1) cache.entries) (other, its) member) [
+      | inl same ↦ (let P : List ℕ × FrameLists → Type 0 = λ entry. IsFrame content entry.0 entry.1 in subst P same is)
+      | inr kept ↦ right.frames.each other its (Contains-take (cache.capacity - 1) cache.entries (other, its) kept)
+    ];
+  };
+  surveys = right.surveys;
 }
+
+-- one more survey, of a content, is kept
+pub right_surveyed : (content : Content) (old : CacheLists) (frames : LruCache (List ℕ) FrameLists) (built : ℕ) (before after : List ZoneSurvey) (rows : List ZoneRow) (survey : SurveyLists)
+    → lists_of frames built before ≡ old → IsRightFor old content → IsSurvey content rows survey
+    → ((kept : ZoneSurvey) → Contains after kept → Contains before kept ⊎ (kept ≡ record { rows = rows; survey = survey }))
+    → IsRightFor (lists_of frames built after) content
+right_surveyed content old frames built before after rows survey is_old right is only =
+    let P : CacheLists → Type 0 = λ cache. IsRightFor cache content in
+    let was = subst P (sym is_old) right in
+    record {
+      frames = was.frames;
+      surveys = record {
+        each = λ kept member. elim (only kept member) [
+          | inl earlier ↦ was.surveys.each kept earlier
+          | inr this ↦ (let Q : ZoneSurvey → Type 0 = λ kept. IsSurvey content kept.rows kept.survey in subst Q (sym this) is)
+        ];
+      };
+    }
 
 -- nothing moves where the frame of an id isn't kept
 pub same_frames : (id : List ℕ) (frames : LruCache (List ℕ) FrameLists) → has frames.entries id ≡ false → lru_cache (promoted (same_id id) frames.entries) frames.cap ≡ frames
 same_frames id frames absent = ap (λ entries. lru_cache entries frames.cap) (promoted_absent same_id frames id absent).1
 
 -- what is put then stands first, and is counted
-pub put_is : (id : List ℕ) (frame : FrameLists) (frames after : LruCache (List ℕ) FrameLists) (built count : ℕ) → has frames.entries id ≡ false
-    → after ≡ lru_cache (put_entries same_id frames id frame) frames.cap → count ≡ min (built + 1) most_built → lists_of after count ≡ after_miss id frame (lists_of frames built)
-put_is id frame frames after built count absent is counted =
-    ap (λ cache. lists_of cache count) (is ∙ ap (λ entries. lru_cache entries frames.cap) (put_first same_id frames id frame absent))
-    ∙ ap (lists_of (lru_cache ((id, frame) ∷ take (frames.cap - 1) frames.entries) frames.cap)) counted
+pub put_is : (id : List ℕ) (frame : FrameLists) (frames after : LruCache (List ℕ) FrameLists) (built count : ℕ) (surveys : List ZoneSurvey) → has frames.entries id ≡ false
+    → after ≡ lru_cache (put_entries same_id frames id frame) frames.cap → count ≡ min (built + 1) most_built → lists_of after count surveys ≡ after_miss id frame (lists_of frames built surveys)
+put_is id frame frames after built count surveys absent is counted =
+    ap (λ cache. lists_of cache count surveys) (is ∙ ap (λ entries. lru_cache entries frames.cap) (put_first same_id frames id frame absent))
+    ∙ ap (λ n. lists_of (lru_cache ((id, frame) ∷ take (frames.cap - 1) frames.entries) frames.cap) n surveys) counted
 
 -- what is so is so of an answer that is a refusal
 pub on_err : {A E : Type 0} (answer : Result A E) (P : Type 0) → P → OnErr answer P

@@ -2,15 +2,23 @@
 use Rattle.std.specs.Prelude.{◌⊎◌, [], ◌≡◌, ◌+◌, ◌-◌, ℕ, Bool, true, false, List, ◌∷◌, Contains, Some, filter, is_some, min, not, slice_get, take}
 use Rattle.std.specs.Map.{lookup}
 use Rattle.lru.specs.LruCache.{promoted}
+use Rattle.zone_lists.specs.declared.zones.ZoneRow.{ZoneRow}
 use Rattle.catalogue.specs.Content.{Content}
 use Rattle.catalogue.specs.Ids.{same_id}
 use Rattle.chains.specs.Frames.{FrameLists, IsFrame, shares}
+use Rattle.chains.specs.Surveys.{IsSurvey, SurveyLists}
 
--- what is kept, for how many frames there is room, and how many were put so far
+-- a zone that was looked over whole, with its survey
+pub record ZoneSurvey : Type 0 where
+  pub rows : List ZoneRow
+  pub survey : SurveyLists
+
+-- what is kept: frames, for how many of them there is room, how many were put so far, and surveys of zones
 pub record CacheLists : Type 0 where
   pub entries : List (List ℕ × FrameLists)
   pub capacity : ℕ
   pub built : ℕ
+  pub surveys : List ZoneSurvey
 
 -- the frames that were put are counted up to this number, at which the count stays
 abbrev pub most_built : ℕ
@@ -24,13 +32,18 @@ has entries id = is_some (lookup (same_id id) entries)
 pub record AreFrames (content : Content) (entries : List (List ℕ × FrameLists)) : Type 0 where
   pub each : (id : List ℕ) (frame : FrameLists) → Contains entries (id, frame) → IsFrame content id frame
 
+-- each survey is that of its zone over a content
+pub record AreSurveys (content : Content) (surveys : List ZoneSurvey) : Type 0 where
+  pub each : (kept : ZoneSurvey) → Contains surveys kept → IsSurvey content kept.rows kept.survey
+
 -- what is kept is true of a content
-abbrev pub IsRightFor : CacheLists → Content → Type 0
-IsRightFor cache content = AreFrames content cache.entries
+pub record IsRightFor (cache : CacheLists) (content : Content) : Type 0 where
+  pub frames : AreFrames content cache.entries
+  pub surveys : AreSurveys content cache.surveys
 
 -- after a hit the entry of the id stands first
 abbrev pub after_hit : List ℕ → CacheLists → CacheLists
-after_hit id cache = record { entries = promoted (same_id id) cache.entries; capacity = cache.capacity; built = cache.built }
+after_hit id cache = record { entries = promoted (same_id id) cache.entries; capacity = cache.capacity; built = cache.built; surveys = cache.surveys }
 
 -- after a miss the new entry stands first, and the last one of a full cache is gone
 abbrev pub after_miss : List ℕ → FrameLists → CacheLists → CacheLists
@@ -38,6 +51,7 @@ after_miss id frame cache = record {
   entries = (id, frame) ∷ take (cache.capacity - 1) cache.entries;
   capacity = cache.capacity;
   built = min (cache.built + 1) most_built;
+  surveys = cache.surveys;
 }
 
 -- What asking for the frame of an id leaves. The frame stands first afterwards.
@@ -49,6 +63,18 @@ pub record IsFilled (id : List ℕ) (frame : FrameLists) (old new : CacheLists) 
 -- what asking for the frame of an id may leave: that, or all as it was
 abbrev pub MayBeFilled : List ℕ → CacheLists → CacheLists → Type 0
 MayBeFilled id old new = (new ≡ old) ⊎ ((frame : FrameLists) × IsFilled id frame old new)
+
+-- the frames are as they were, and so is their count
+pub record KeepsFrames (old new : CacheLists) : Type 0 where
+  pub entries : new.entries ≡ old.entries
+  pub capacity : new.capacity ≡ old.capacity
+  pub built : new.built ≡ old.built
+
+-- What a verdict leaves of the frames. One that is kept is used and stands first afterwards. Else one may be built and put, or
+-- all stays: where a survey answers.
+pub record IsAsked (id : List ℕ) (old new : CacheLists) : Type 0 where
+  pub hit : has old.entries id ≡ true → new ≡ after_hit id old
+  pub filled : MayBeFilled id old new ⊎ KeepsFrames old new
 
 -- what asking for the frames of some ids leaves, one after the other
 abbrev pub AreFilled : List (List ℕ) → CacheLists → CacheLists → Type 0

@@ -1,20 +1,21 @@
 //! `ChainCache`.
-ghost use Rattle.std.specs.Prelude.{◌≡◌, ◌≤◌, ◌∷◌, [], ℕ, IfOk, IsSome, OnOk, OnErr, Some, map, slice_get, take};
+ghost use Rattle.std.specs.Prelude.{◌≡◌, ◌≤◌, ◌∷◌, [], ℕ, true, false, IfOk, IfSome, IsSome, OnOk, OnErr, Some, map, slice_get, take};
 ghost use Rattle.std.specs.Borrow.{sem};
 ghost use Rattle.std.specs.Map.Iter.{ShowsInOrder, deref_pair};
 ghost use Rattle.catalogue.specs.Content.{Content, IsInOrder};
 ghost use Rattle.catalogue.specs.Touched.{AgreeOutside};
 ghost use Rattle.catalogue.specs.View.{MayAsk, Tells};
 ghost use Rattle.catalogue.specs.declared.fault.SourceFault.TheVariants.{Device};
-ghost use Rattle.chain_cache.specs.Cache.{AreFilled, IsFilled, IsRightFor, MayBeFilled, untouched};
+ghost use Rattle.chain_cache.specs.Cache.{AreFilled, CacheLists, IsAsked, IsFilled, IsRightFor, KeepsFrames, after_hit, has, untouched};
 ghost use Rattle.chain_cache.specs.Lent.{ends_filled};
 ghost use Rattle.chains.specs.Frames.{FrameLists, IsFrame};
 ghost use Rattle.chains.specs.Judge as judge;
 ghost use Rattle.chains.specs.Verdicts.{verdict_of};
 
 use crate::dropping::drop_among;
+use crate::surveys::Surveys;
 use catalogue::{Published, SourceFault};
-use chains::{Frame, Judge, Status, Verdict, Whole, frame, plan};
+use chains::{Frame, Judge, Status, Verdict, frame, frame_within, plan, survey_of};
 use lru::{Iter, LruCache};
 use mcs_reader::{Id, NoMemory};
 use std::alloc::Global;
@@ -26,17 +27,24 @@ use supersede::Zone;
 /// Frames by their ids, the one that was used last first.
 pub(crate) type Frames = LruCache<Id, Frame, RandomState>;
 
-// How many nodes the frames of a report may have: so many, and so many more for each candidate.
-const NODES_AT_FIRST: usize = 256;
+// How many nodes a frame has at most that is kept for a chain.
+const NODES_MOST: usize = 256;
+
+// How many SYSMODs a report may have that is judged from frames, and how many nodes more for each of them.
+const FEW: usize = 256;
 
 const NODES_EACH: usize = 8;
 
 /// Judges from frames, of which it keeps those that were used last. All callers share them: a frame names no
 /// zone and no client.
+///
+/// A SYSMOD that reaches far has a large frame. So where a chain has more than 256 nodes, or a report many SYSMODs, the
+/// zone is looked over whole, and its survey is kept until the next publication. Surveys of 16 zones are kept.
 #[derive(Debug, Drop)]
 pub struct ChainCache {
     frames: Frames,
     built: u64,
+    surveys: Surveys,
 }
 
 impl Model for ChainCache {
@@ -48,6 +56,7 @@ impl Model for ChainCache {
       entries = cache.frames.entries;
       capacity = cache.frames.cap;
       built = cache.built;
+      surveys = cache.surveys;
     } };
 }
 
@@ -64,13 +73,18 @@ impl ChainCache {
         ensures entries { IfOk result (λ cache. cache.entries ≡ []) }
         ensures capacity { IfOk result (λ cache. cache.capacity ≡ capacity) }
         ensures built { IfOk result (λ cache. cache.built ≡ 0) }
+        ensures surveys { IfOk result (λ cache. cache.surveys ≡ []) }
         ensures right { IfOk result (λ cache. (content : Content) → IsRightFor cache content) }
     {
         let Some(room) = NonZeroUsize::new(capacity as usize) else {
             unreachable!()
         };
         let frames = LruCache::with_hasher(alloc, room, hasher)?;
-        Ok(ChainCache { frames, built: 0 })
+        Ok(ChainCache {
+            frames,
+            built: 0,
+            surveys: Surveys::new(alloc),
+        })
     }
 
     /// How many frames were put so far. The count stays at its greatest number.
@@ -125,10 +139,58 @@ impl ChainCache {
             (λ content. IsRightFor self.old content → IsRightFor self.new content) }
         ensures err { OnErr result (self.new ≡ self.old) }
     {
-        if self.frames.promote(id) {
+        if self.use_kept(id) {
             return Ok(());
         }
         let built = frame(alloc, source, id)?;
+        Ok(self.put(id, built)?)
+    }
+
+    // The same, where the frame is kept or has at most so many nodes. Whether it stands first then; else all is as it was.
+    fn fill_small<P: Published>(
+        &mut self,
+        alloc: Global,
+        source: &mut P,
+        id: &Id,
+        most: usize,
+    ) -> Result<bool, SourceFault>
+        ensures asks { MayAsk P.content_view Device source.old source.new result }
+        ensures filled { IfOk result (λ is. is ≡ true → (frame : FrameLists) × IsFilled id.now frame self.old self.new) }
+        ensures same { IfOk result (λ is. is ≡ false → self.new ≡ self.old) }
+        ensures right { Tells P.content_view source.old source.new
+            (λ content. IsRightFor self.old content → IsRightFor self.new content) }
+        ensures err { OnErr result (self.new ≡ self.old) }
+    {
+        if self.use_kept(id) {
+            return Ok(true);
+        }
+        match frame_within(alloc, source, id, most)? {
+            Some(built) => {
+                self.put(id, built)?;
+                Ok(true)
+            }
+            None => Ok(false),
+        }
+    }
+
+    // Sees to it that the frame of an id stands first, where it is kept. Whether it is.
+    fn use_kept(&mut self, id: &Id) -> bool
+        ensures kept { result ≡ has self.old.entries id.now }
+        ensures hit { result ≡ true → self.new ≡ after_hit id.now self.old }
+        ensures filled { result ≡ true → (frame : FrameLists) × IsFilled id.now frame self.old self.new }
+        ensures same { result ≡ false → self.new ≡ self.old }
+        ensures right { (content : Content) → IsRightFor self.old content → IsRightFor self.new content }
+    {
+        self.frames.promote(id)
+    }
+
+    // Puts the frame of an id of which none is kept. It stands first then.
+    fn put(&mut self, id: &Id, built: Frame) -> Result<(), NoMemory>
+        requires { has self.now.entries id.now ≡ false }
+        ensures filled { OnOk result (IsFilled id.now built self.old self.new) }
+        ensures right { OnOk result ((content : Content) → IsRightFor self.old content → IsFrame content id.now built → IsRightFor self.new content) }
+        ensures err { OnErr result (self.new ≡ self.old) }
+    {
         self.frames.put(*id, built)?;
         self.built = self.built.saturating_add(1);
         Ok(())
@@ -155,11 +217,87 @@ impl ChainCache {
     }
 }
 
+impl ChainCache {
+    // The verdict by a survey of the zone, which is kept.
+    fn verdict_by_survey<P: Published>(
+        &mut self,
+        alloc: Global,
+        source: &mut P,
+        zone: &Zone,
+        id: &Id,
+    ) -> Result<Verdict, SourceFault>
+        ensures asks { MayAsk P.content_view Device source.old source.new result }
+        ensures verdict { IfOk result (λ verdict. Tells P.content_view source.old source.new
+            (λ content. judge.judged_by verdict ≡ verdict_of content zone.now id.now)) }
+        ensures right { Tells P.content_view source.old source.new
+            (λ content. IsRightFor self.old content → IsRightFor self.new content) }
+        ensures frames { KeepsFrames self.old self.new }
+    {
+        let survey = survey_of(alloc, source, zone)?;
+        let verdict = survey.verdict(alloc, id)?;
+        self.surveys.keep(zone, survey)?;
+        Ok(verdict)
+    }
+
+    // For each SYSMOD which verdict it is, by a survey of the zone, which is kept.
+    fn statuses_by_survey<P: Published>(
+        &mut self,
+        alloc: Global,
+        source: &mut P,
+        zone: &Zone,
+        ids: &[Id],
+    ) -> Result<Vec<Status>, SourceFault>
+        ensures asks { MayAsk P.content_view Device source.old source.new result }
+        ensures statuses { IfOk result (λ statuses. Tells P.content_view source.old source.new
+            (λ content. statuses.items ≡ map (λ id. judge.status_of (verdict_of content zone.now id)) ids.now)) }
+        ensures right { Tells P.content_view source.old source.new
+            (λ content. IsRightFor self.old content → IsRightFor self.new content) }
+        ensures frames { KeepsFrames self.old self.new }
+    {
+        let survey = survey_of(alloc, source, zone)?;
+        let statuses = survey.statuses(alloc, ids)?;
+        self.surveys.keep(zone, survey)?;
+        Ok(statuses)
+    }
+
+    // The same from frames, where all of them together are small.
+    fn statuses_by_frames<P: Published>(
+        &mut self,
+        alloc: Global,
+        source: &mut P,
+        zone: &Zone,
+        ids: &[Id],
+    ) -> Result<Option<Vec<Status>>, SourceFault>
+        ensures asks { MayAsk P.content_view Device source.old source.new result }
+        ensures statuses { IfOk result (λ found. IfSome found (λ statuses. Tells P.content_view source.old source.new
+            (λ content. IsRightFor self.old content
+            → statuses.items ≡ map (λ id. judge.status_of (verdict_of content zone.now id)) ids.now))) }
+        ensures right { Tells P.content_view source.old source.new
+            (λ content. IsRightFor self.old content → IsRightFor self.new content) }
+        ensures filled { (n : ℕ) × AreFilled (take n ids.now) self.old self.new }
+    {
+        let mut statuses = Vec::with_capacity(alloc, ids.len())?;
+        let mut room = NODES_MOST;
+        for id in ids {
+            let is_first = self.fill_small(alloc, source, id, room)?;
+            if !is_first {
+                return Ok(None);
+            }
+            room = room
+                .saturating_sub(self.first_len())
+                .saturating_add(NODES_EACH);
+            statuses.push(self.first_verdict(alloc, zone, id)?.status())?;
+        }
+        Ok(Some(statuses))
+    }
+}
+
 impl<P: Published> Judge<P> for ChainCache {
     ghost use Rattle.chain_cache.specs.Cache.{IsRightFor};
 
     ghost is_right = { IsRightFor };
 
+    // From the frame, where it is kept or small; else from a survey of the zone.
     fn verdict(
         &mut self,
         alloc: Global,
@@ -173,15 +311,23 @@ impl<P: Published> Judge<P> for ChainCache {
             → judge.judged_by verdict ≡ verdict_of content zone.now id.now)) }
         ensures right { Tells P.content_view source.old source.new
             (λ content. IsRightFor self.old content → IsRightFor self.new content) }
-        ensures filled { OnOk result ((frame : FrameLists) × IsFilled id.now frame self.old self.new) }
-        ensures err { OnErr result (MayBeFilled id.now self.old self.new) }
+        ensures asked { IsAsked id.now self.old self.new }
     {
-        self.fill(alloc, source, id)?;
-        Ok(self.first_verdict(alloc, zone, id)?)
+        if self.use_kept(id) {
+            return Ok(self.first_verdict(alloc, zone, id)?);
+        }
+        if let Some(survey) = self.surveys.of(zone) {
+            return Ok(survey.verdict(alloc, id)?);
+        }
+        let is_first = self.fill_small(alloc, source, id, NODES_MOST)?;
+        if is_first {
+            return Ok(self.first_verdict(alloc, zone, id)?);
+        }
+        self.verdict_by_survey(alloc, source, zone, id)
     }
 
-    // From frames, while these are small. Where they are large, the candidates of a report mostly share them, and
-    // one pass over the catalogue costs less than a frame for each.
+    // From a survey of the zone where one is kept, else from frames, while these are small. Where they are large, the
+    // candidates of a report mostly share them, and one pass over the catalogue costs less than a frame for each.
     fn statuses(
         &mut self,
         alloc: Global,
@@ -195,20 +341,17 @@ impl<P: Published> Judge<P> for ChainCache {
             → statuses.items ≡ map (λ id. judge.status_of (verdict_of content zone.now id)) ids.now)) }
         ensures right { Tells P.content_view source.old source.new
             (λ content. IsRightFor self.old content → IsRightFor self.new content) }
-        ensures filled { (n : ℕ) × AreFilled (take n ids.now) self.old self.new }
+        ensures filled { (n : ℕ) × (between : CacheLists) × AreFilled (take n ids.now) self.old between × KeepsFrames between self.new }
     {
-        let mut statuses = Vec::with_capacity(alloc, ids.len())?;
-        let mut room = NODES_AT_FIRST;
-        for id in ids {
-            self.fill(alloc, source, id)?;
-            let nodes = self.first_len();
-            if nodes > room {
-                return Whole::new().statuses(alloc, source, zone, ids);
-            }
-            room = (room - nodes).saturating_add(NODES_EACH);
-            statuses.push(self.first_verdict(alloc, zone, id)?.status())?;
+        if let Some(survey) = self.surveys.of(zone) {
+            return Ok(survey.statuses(alloc, ids)?);
         }
-        Ok(statuses)
+        if ids.len() <= FEW {
+            if let Some(statuses) = self.statuses_by_frames(alloc, source, zone, ids)? {
+                return Ok(statuses);
+            }
+        }
+        self.statuses_by_survey(alloc, source, zone, ids)
     }
 
     fn drop_touched(&mut self, ids: &[Id])
@@ -218,7 +361,9 @@ impl<P: Published> Judge<P> for ChainCache {
         ensures kept { self.new.entries ≡ untouched ids.now self.old.entries }
         ensures capacity { self.new.capacity ≡ self.old.capacity }
         ensures built { self.new.built ≡ self.old.built }
+        ensures surveys { self.new.surveys ≡ [] }
     {
         drop_among(&mut self.frames, ids);
+        self.surveys.clear();
     }
 }

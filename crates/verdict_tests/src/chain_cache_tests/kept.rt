@@ -2,11 +2,12 @@
 use super::{id_of, kept_text, publish, verdict_text, zone_of};
 use catalogue::{ListPublished, Published};
 use chain_cache::ChainCache;
-use chains::{Judge, Status};
+use chains::{Judge, Status, Verdict};
 use std::alloc::Global;
 use std::fmt::Write;
 use std::hash::RandomState;
 use std::test::Fail;
+use supersede::Zone;
 
 const ZONE: &[u8] = b"SYSMOD,STATE\nHBB7790,APPLIED\nUA10001,APPLIED\n";
 
@@ -122,11 +123,12 @@ fn ring(alloc: Global, count: u32) -> Result<String, Fail> {
     Ok(text)
 }
 
-// How many SYSMODs a ring has, and how many frames are put where each of them is a candidate of one report.
-const RINGS: [(u32, u64); 3] = [(1, 1), (12, 12), (300, 1)];
+// How many SYSMODs a ring has, and how many frames are put where each of them is a candidate of one report. Those of the last
+// two reports would have more nodes in all than a report may have, and there are more candidates than a report may have.
+const RINGS: [(u32, u64); 4] = [(1, 1), (12, 12), (256, 1), (257, 0)];
 
 #[test]
-fn a_report_over_a_large_frame_builds_one(rt: HostRuntime) -> Result<(), Fail> {
+fn a_report_over_large_frames_builds_none(rt: HostRuntime) -> Result<(), Fail> {
     let alloc = rt.alloc();
     let zone = zone_of(alloc, ZONE)?;
     for (count, built) in RINGS {
@@ -147,6 +149,79 @@ fn a_report_over_a_large_frame_builds_one(rt: HostRuntime) -> Result<(), Fail> {
         );
         assert_eq!(rt; cache.built(), built, "{count}");
     }
+    Ok(())
+}
+
+// How many SYSMODs a ring has, and how many frames are put for chains of two of them.
+const CHAINS: [(u32, u64); 3] = [(255, 2), (256, 2), (257, 0)];
+
+#[test]
+fn a_chain_of_many_keeps_no_frame(rt: HostRuntime) -> Result<(), Fail> {
+    let alloc = rt.alloc();
+    let zone = zone_of(alloc, ZONE)?;
+    let other = zone_of(alloc, b"SYSMOD,STATE\nHXX0001,APPLIED\n")?;
+    for (count, built) in CHAINS {
+        let mut lists = ListPublished::new(alloc);
+        let mut cache = ChainCache::new(alloc, 16, RandomState::new(&rt)?)?;
+        let text = ring(alloc, count)?;
+        publish(alloc, &mut lists, &mut cache, text.as_bytes())?;
+        for id in [b"N00007".as_slice(), b"N00003"] {
+            match cache.verdict(alloc, &mut lists, &zone, &id_of(id)?)? {
+                Verdict::Good(plan) => assert_eq!(rt; plan.len(), count as usize),
+                _ => return Err("a plan".into()),
+            }
+            let given = cache.verdict(alloc, &mut lists, &other, &id_of(id)?)?;
+            assert_eq!(rt; verdict_text(alloc, &given)?.as_str(), "LACK", "{count}");
+        }
+        assert_eq!(rt; cache.built(), built, "{count}");
+        // once one of the ring needs what isn't there, all are held
+        let broken = b"++PTF(N00005).\n++VER(Z038) FMID(HBB7790) REQ(N99999).\n";
+        publish(alloc, &mut lists, &mut cache, broken)?;
+        let given = cache.verdict(alloc, &mut lists, &zone, &id_of(b"N00003")?)?;
+        assert_eq!(rt;
+            verdict_text(alloc, &given)?.as_str(),
+            "HELD N00004",
+            "{count}"
+        );
+    }
+    Ok(())
+}
+
+// A zone of a function of its own.
+fn own_zone(alloc: Global, number: u32) -> Result<Zone, Fail> {
+    let text = format!(in alloc; "SYSMOD,STATE\nHBB7790,APPLIED\nX{number:05},APPLIED\n")?;
+    zone_of(alloc, text.as_bytes())
+}
+
+// More zones than surveys are kept of: each has its own verdicts, again too, and the others' don't show.
+#[test]
+fn each_zone_has_its_own_verdicts(rt: HostRuntime) -> Result<(), Fail> {
+    let alloc = rt.alloc();
+    let mut lists = ListPublished::new(alloc);
+    let mut cache = ChainCache::new(alloc, 1, RandomState::new(&rt)?)?;
+    let mut text = ring(alloc, 257)?;
+    for number in 0..20u32 {
+        write!(
+            text,
+            "++PTF(M{number:05}).\n++VER(Z038) FMID(HBB7790) REQ(X{number:05},N00000).\n"
+        )?;
+    }
+    publish(alloc, &mut lists, &mut cache, text.as_bytes())?;
+    for zone in [
+        0, 1, 19, 0, 7, 2, 3, 4, 5, 6, 8, 9, 10, 11, 12, 13, 14, 15, 0, 16, 1, 19,
+    ] {
+        let rows = own_zone(alloc, zone)?;
+        for number in 0..20u32 {
+            let id = format!(in alloc; "M{number:05}")?;
+            let given = cache.verdict(alloc, &mut lists, &rows, &id_of(id.as_bytes())?)?;
+            assert_eq!(rt;
+                matches!(given, Verdict::Good(_)),
+                number == zone,
+                "{zone} {number}"
+            );
+        }
+    }
+    assert_eq!(rt; cache.built(), 0);
     Ok(())
 }
 

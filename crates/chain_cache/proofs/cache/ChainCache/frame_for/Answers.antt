@@ -24,6 +24,6 @@ returns g c =
         };
         frame = told_so said.right (λ content keeps right.
             let R : FrameLists → Type 0 = λ frame. IsFrame content id frame in
-            subst R (sym same) ((keeps right).each id filled.0 (first_inside _ _ filled.1.first)));
+            subst R (sym same) ((keeps right).frames.each id filled.0 (first_inside _ _ filled.1.first)));
       },
     )

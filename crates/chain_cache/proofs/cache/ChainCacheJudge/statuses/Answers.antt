@@ -1,42 +1,12 @@
-use Rattle.std.proofs.Common.{◌∙◌, ◌+◌, ap}
-use Rattle.catalogue.proofs.SourceFacts.{no_fault, told_both, told_later, told_so, told_sooner}
-use Rattle.chains.specs.Judge.{status_of}
-use Rattle.chains.specs.Verdicts.{verdict_of}
-use Rattle.chains.proofs.PlaceFacts.{made_more}
-use Rattle.chain_cache.proofs.EntryFacts.{first_inside}
-use Rattle.chain_cache.proofs.FillFacts.{filled_on}
+use Rattle.std.proofs.Common.{subst}
+use Rattle.std.specs.List.{Contains}
+use Rattle.chain_cache.specs.Cache.{CacheLists}
 use Rattle.chain_cache.proofs.cache.ChainCacheJudge.statuses.Goals as goal
 
-pub loop-id-preserved : goal.loop-id-preserved
-loop-id-preserved g c =
-    let law = g.met.P.Published in
-    let sooner = law.lawful.keeps _ _ c.loop-id.invariant.keeps in
-    let later = law.lawful.keeps _ _ c.fill.ensures.asks.keeps in
-    let so_far = told_both (told_sooner c.loop-id.invariant.told later) (told_sooner c.loop-id.invariant.right later) in
-    let all = told_both so_far (told_later sooner later c.in_ok-fill.ensures.right) in
-    let filled = c.in_ok-fill.ensures.filled in
+pub returns-in-Some-clause-statuses : goal.returns-in-Some-clause-statuses
+returns-in-Some-clause-statuses g c =
+    let P : CacheLists → Type 0 = λ cache. Contains cache.surveys (record { rows = c.args.zone.now; survey = c.in-Some.survey.now }) in
     record {
-      keeps = law.lawful.on _ _ _ c.loop-id.invariant.keeps c.fill.ensures.asks.keeps;
-      still_open = λ standing. c.in_ok-fill.ensures.asks.stays_open (no_fault _) (c.loop-id.invariant.still_open standing);
-      told = told_so all (λ content facts held.
-          made_more (λ id. status_of (verdict_of content c.args.zone.now id)) c.args.ids.now c.loop-id.id-index c.id-item.result c.status.result c.loop-id.statuses.items c.push.new.self.items
-          c.loop-id-test.true c.id-item.is (facts.0.0 held) c.in_ok-push.ensures.items
-          (c.status.ensures ∙ ap status_of (c.in_ok-first_verdict.ensures filled.0 content filled.1.first ((facts.1 (facts.0.1 held)).each _ filled.0 (first_inside _ _ filled.1.first)))));
-      right = told_so (told_both (told_sooner c.loop-id.invariant.right later) (told_later sooner later c.in_ok-fill.ensures.right)) (λ content facts held. facts.1 (facts.0 held));
-      filled = filled_on c.args.ids.now c.loop-id.id-index c.id-item.result filled.0 c.args.self.now c.loop-id.self c.fill.new.self c.loop-id-test.true c.id-item.is c.loop-id.invariant.filled filled.1;
+      told = λ ours clean content stands right.
+          c.in_ok-statuses.ensures content c.args.zone.now (right.surveys.each _ (subst P c.self.view_is c.in-Some.ensures));
     }
-
-pub returns-then-nodes-room-clause-filled : goal.returns-then-nodes-room-clause-filled
-returns-then-nodes-room-clause-filled g c =
-    let filled = c.in_ok-fill.ensures.filled in
-    (c.loop-id.id-index + 1, filled_on c.args.ids.now c.loop-id.id-index c.id-item.result filled.0 c.args.self.now c.loop-id.self c.fill.new.self c.loop-id-test.true c.id-item.is c.loop-id.invariant.filled filled.1)
-
-pub returns-in_err-first_verdict-clause-filled : goal.returns-in_err-first_verdict-clause-filled
-returns-in_err-first_verdict-clause-filled g c =
-    let filled = c.in_ok-fill.ensures.filled in
-    (c.loop-id.id-index + 1, filled_on c.args.ids.now c.loop-id.id-index c.id-item.result filled.0 c.args.self.now c.loop-id.self c.fill.new.self c.loop-id-test.true c.id-item.is c.loop-id.invariant.filled filled.1)
-
-pub returns-in_err-push-clause-filled : goal.returns-in_err-push-clause-filled
-returns-in_err-push-clause-filled g c =
-    let filled = c.in_ok-fill.ensures.filled in
-    (c.loop-id.id-index + 1, filled_on c.args.ids.now c.loop-id.id-index c.id-item.result filled.0 c.args.self.now c.loop-id.self c.fill.new.self c.loop-id-test.true c.id-item.is c.loop-id.invariant.filled filled.1)

@@ -3,7 +3,7 @@ use Rattle.catalogue.specs.View.{IsOpen, Tells}
 use Rattle.chains.specs.Judge.{status_of}
 use Rattle.chains.specs.Verdicts.{verdict_of}
 use Rattle.chain_cache.specs.Cache.{AreFilled, IsRightFor}
-use Rattle.chain_cache.proofs.cache.ChainCacheJudge.statuses.Given as goal
+use Rattle.chain_cache.proofs.cache.ChainCache.statuses_by_frames.Given as goal
 
 abbrev pub invariant-loop-id : goal.invariant-loop-id
 invariant-loop-id g l =
