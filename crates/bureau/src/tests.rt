@@ -8,6 +8,7 @@ use zone_lists::{ZoneRow, ZoneState};
 
 mod alone;
 mod asked;
+mod cached;
 mod device;
 mod limits;
 mod verdicts;

@@ -6,7 +6,7 @@ mod ArrivalFacts
 mod IsolatedFacts
 mod ListFacts
 mod ConnectionFacts
-mod ReplayFacts
+pub mod ReplayFacts
 mod LawfulFacts
 mod ServiceFacts
 mod ListedFacts

@@ -1,5 +1,5 @@
 //! Connections from a socket's listener.
-ghost use Rattle.std.specs.Prelude.{◌≡◌, None};
+ghost use Rattle.std.specs.Prelude.{◌≡◌, IfOk, None};
 ghost use Rattle.std.specs.Duration.{as_nanos};
 
 use crate::fault::ConnFault;
@@ -48,12 +48,15 @@ impl Patience {
 pub struct Sockets<'a, C> {
     listener: &'a TcpListener,
     clock: &'a C,
-    patience: Patience,
+    /// How long it waits for each client.
+    pub patience: Patience,
 }
 
 impl<'a, C: Clock> Sockets<'a, C> {
     /// The connections of a listener.
-    pub fn new(listener: &'a TcpListener, clock: &'a C, patience: Patience) -> Self {
+    pub fn new(listener: &'a TcpListener, clock: &'a C, patience: Patience) -> Self
+        ensures patience { result.patience ≡ patience }
+    {
         Sockets {
             listener,
             clock,
@@ -62,7 +65,10 @@ impl<'a, C: Clock> Sockets<'a, C> {
     }
 
     // The next connection, with its limits set.
-    fn next(&self) -> io::Result<(Side<'a, C>, Side<'a, C>)> {
+    fn next(&self) -> io::Result<(Side<'a, C>, Side<'a, C>)>
+        ensures reader { IfOk result (λ both. both.0.each ≡ self.now.patience.each) }
+        ensures writer { IfOk result (λ both. both.1.each ≡ self.now.patience.each) }
+    {
         let (stream, _) = self.listener.accept()?;
         let Patience { each, whole, .. } = self.patience;
         stream.set_nodelay(true)?;

@@ -2,7 +2,7 @@
 use super::asked::{ALPHA, BASE, BETA, BOTH, FUNCTION, GAMMA, PUBLISHER, asked, id, in_lists};
 use crate::{Bureau, Call, Reply};
 use bureau_store::Store;
-use chains::Whole;
+use chains::Judge;
 use mcs_reader::Id;
 use std::alloc::Global;
 use std::process::Abort;
@@ -134,9 +134,9 @@ fn token_of(caller: usize) -> &'static [u8] {
 }
 
 // Drawn calls of all callers, with what each was answered.
-fn run_of_all<S: Store>(
+fn run_of_all<S: Store, J: Judge<S>>(
     alloc: Global,
-    bureau: &mut Bureau<S, Whole>,
+    bureau: &mut Bureau<S, J>,
 ) -> Result<Vec<(Drawn, Reply)>, Fail> {
     let mut draws = Draws { state: 20_261_122 };
     let mut last = [0u64; 4];
@@ -174,20 +174,43 @@ fn last_after(last: u64, drawn: &Drawn, reply: &Reply) -> u64 {
     }
 }
 
-// A caller is answered the same where the publisher and it alone ask.
-fn assert_alone<S: Store>(
+// A drawn call is answered so.
+fn assert_same<S: Store, J: Judge<S>>(
     rt: &impl Abort,
-    bureau: &mut Bureau<S, Whole>,
+    bureau: &mut Bureau<S, J>,
+    drawn: &Drawn,
+    reply: &Reply,
+) -> Result<(), Fail> {
+    let given = asked(bureau, token_of(drawn.caller), &drawn.call())?;
+    assert_eq!(rt; given.body.as_slice(), reply.body.as_slice());
+    assert_eq!(rt; given.status, reply.status);
+    assert_eq!(rt; given.json, reply.json);
+    Ok(())
+}
+
+// A caller is answered the same where the publisher and it alone ask.
+fn assert_alone<S: Store, J: Judge<S>>(
+    rt: &impl Abort,
+    bureau: &mut Bureau<S, J>,
     all: &[(Drawn, Reply)],
     caller: usize,
 ) -> Result<(), Fail> {
     for (drawn, reply) in all {
         if drawn.caller == 0 || drawn.caller == caller {
-            let alone = asked(bureau, token_of(drawn.caller), &drawn.call())?;
-            assert_eq!(rt; alone.body.as_slice(), reply.body.as_slice());
-            assert_eq!(rt; alone.status, reply.status);
-            assert_eq!(rt; alone.json, reply.json);
+            assert_same(rt, bureau, drawn, reply)?;
         }
+    }
+    Ok(())
+}
+
+/// All drawn calls are answered as by a bureau that judges over the whole catalogue.
+pub(super) fn assert_drawn<S: Store, J: Judge<S>>(
+    rt: &impl Abort,
+    alloc: Global,
+    bureau: &mut Bureau<S, J>,
+) -> Result<(), Fail> {
+    for (drawn, reply) in &run_of_all(alloc, &mut in_lists(alloc)?)? {
+        assert_same(rt, bureau, drawn, reply)?;
     }
     Ok(())
 }

@@ -1,7 +1,7 @@
 //! A bureau over any store, and what its callers ask.
 use crate::{Bureau, Call, Reply};
 use bureau_store::{CallerRow, ListStore, Store, callers};
-use chains::Whole;
+use chains::{Judge, Whole};
 use mcs_reader::Id;
 use std::alloc::Global;
 use std::process::Abort;
@@ -94,8 +94,8 @@ pub(super) fn put_patterns(number: u64, zone: Id, body: &[u8]) -> Call<'_> {
 }
 
 /// What the caller with this token is answered.
-pub(super) fn asked<S: Store>(
-    bureau: &mut Bureau<S, Whole>,
+pub(super) fn asked<S: Store, J: Judge<S>>(
+    bureau: &mut Bureau<S, J>,
     token: &[u8],
     call: &Call<'_>,
 ) -> Result<Reply, Fail> {
@@ -111,9 +111,9 @@ pub(super) fn assert_told(rt: &impl Abort, reply: &Reply, status: u16, text: &st
 }
 
 /// Each row is answered as it says, one after the other.
-pub(super) fn assert_answers<S: Store>(
+pub(super) fn assert_answers<S: Store, J: Judge<S>>(
     rt: &impl Abort,
-    bureau: &mut Bureau<S, Whole>,
+    bureau: &mut Bureau<S, J>,
     rows: &[Row],
 ) -> Result<(), Fail> {
     for (token, call, status, text) in rows {

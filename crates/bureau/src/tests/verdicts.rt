@@ -4,7 +4,7 @@ use super::asked::{
 };
 use crate::{Bureau, Call};
 use bureau_store::Store;
-use chains::Whole;
+use chains::Judge;
 use std::process::Abort;
 use std::test::Fail;
 
@@ -42,7 +42,10 @@ HBB7790  UA10001  AA20009  - NONE - -      -        -
 ROWS 2
 ";
 
-fn assert_verdicts<S: Store>(rt: &impl Abort, bureau: &mut Bureau<S, Whole>) -> Result<(), Fail> {
+pub(super) fn assert_verdicts<S: Store, J: Judge<S>>(
+    rt: &impl Abort,
+    bureau: &mut Bureau<S, J>,
+) -> Result<(), Fail> {
     let zone = id(b"TGT1")?;
     let sysmod = id(b"UA10002")?;
     let pair = id(b"UA10006")?;

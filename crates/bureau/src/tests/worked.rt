@@ -5,19 +5,19 @@ use super::asked::{
 };
 use crate::{Bureau, Call, Reply};
 use bureau_store::{Caller, Store};
-use chains::Whole;
+use chains::Judge;
 use std::process::Abort;
 use std::test::Fail;
 
-const SUPERSEDING: &[u8] = b"++PTF(UA10005).\n++VER(Z038) FMID(HBB7790) SUP(UA10002).\n";
+pub(super) const SUPERSEDING: &[u8] = b"++PTF(UA10005).\n++VER(Z038) FMID(HBB7790) SUP(UA10002).\n";
 
-const ONE_GIVER: &str = "EXCEPTION SYSMOD REPORT FOR ZONE TGT1
+pub(super) const ONE_GIVER: &str = "EXCEPTION SYSMOD REPORT FOR ZONE TGT1
 FMID     SYSMOD   REASON   RESOLVER STATUS RECEIVED CLASS
 HBB7790  UA10001  AA20002  UA10002  GOOD   NO       PE
 ROWS 1
 ";
 
-const TWO_GIVERS: &str = "EXCEPTION SYSMOD REPORT FOR ZONE TGT1
+pub(super) const TWO_GIVERS: &str = "EXCEPTION SYSMOD REPORT FOR ZONE TGT1
 FMID     SYSMOD   REASON   RESOLVER STATUS RECEIVED CLASS
 HBB7790  UA10001  AA20002  UA10002  GOOD   NO       PE
 HBB7790  UA10001  AA20002  UA10005  GOOD   NO       PE
@@ -31,10 +31,10 @@ HBB7790  UA10001  AA20002  UA10005  GOOD   NO       PE
 ROWS 2
 ";
 
-const SHORT_PLAN: &str = "{\"plan\":[{\"id\":\"UA10002\",\"system\":[],\"user\":[]}],\
+pub(super) const SHORT_PLAN: &str = "{\"plan\":[{\"id\":\"UA10002\",\"system\":[],\"user\":[]}],\
 \"status\":\"GOOD\",\"sysmod\":\"UA10002\",\"zone\":\"TGT1\"}";
 
-const LONG_PLAN: &str = "{\"plan\":[{\"id\":\"UA10001\",\"system\":[],\"user\":[]},\
+pub(super) const LONG_PLAN: &str = "{\"plan\":[{\"id\":\"UA10001\",\"system\":[],\"user\":[]},\
 {\"id\":\"UA10002\",\"system\":[],\"user\":[]}],\
 \"status\":\"GOOD\",\"sysmod\":\"UA10002\",\"zone\":\"TGT1\"}";
 
@@ -54,7 +54,7 @@ const TOLD: [&str; 10] = [
 ];
 
 // Two publications, a zone of the same name of each of two clients, and what they ask.
-fn run_of_three<S: Store>(bureau: &mut Bureau<S, Whole>) -> Result<Vec<Reply>, Fail> {
+fn run_of_three<S: Store, J: Judge<S>>(bureau: &mut Bureau<S, J>) -> Result<Vec<Reply>, Fail> {
     let alpha = bureau.caller_of(ALPHA)?.ok_or("a caller")?;
     let beta = bureau.caller_of(BETA)?.ok_or("a caller")?;
     let zone = id(b"TGT1")?;
@@ -74,7 +74,10 @@ fn run_of_three<S: Store>(bureau: &mut Bureau<S, Whole>) -> Result<Vec<Reply>, F
     Ok(replies)
 }
 
-fn assert_run<S: Store>(rt: &impl Abort, bureau: &mut Bureau<S, Whole>) -> Result<(), Fail> {
+pub(super) fn assert_run<S: Store, J: Judge<S>>(
+    rt: &impl Abort,
+    bureau: &mut Bureau<S, J>,
+) -> Result<(), Fail> {
     let replies = run_of_three(bureau)?;
     assert_eq!(rt; replies.len(), TOLD.len());
     for (reply, told) in replies.iter().zip(&TOLD) {
@@ -90,7 +93,10 @@ fn a_run_of_three_callers(rt: HostRuntime) -> Result<(), Fail> {
 
 // ---- what comes after it
 
-fn assert_received<S: Store>(rt: &impl Abort, bureau: &mut Bureau<S, Whole>) -> Result<(), Fail> {
+pub(super) fn assert_received<S: Store, J: Judge<S>>(
+    rt: &impl Abort,
+    bureau: &mut Bureau<S, J>,
+) -> Result<(), Fail> {
     assert_run(rt, bureau)?;
     let zone = id(b"TGT1")?;
     let rows: [Row; 5] = [
@@ -120,7 +126,10 @@ fn what_is_received_is_its_clients_alone(rt: HostRuntime) -> Result<(), Fail> {
 
 // ---- numbers
 
-fn assert_numbers<S: Store>(rt: &impl Abort, bureau: &mut Bureau<S, Whole>) -> Result<(), Fail> {
+fn assert_numbers<S: Store, J: Judge<S>>(
+    rt: &impl Abort,
+    bureau: &mut Bureau<S, J>,
+) -> Result<(), Fail> {
     let zone = id(b"TGT1")?;
     let other = id(b"TGT9")?;
     let no_number = Call::DropZone { number: None, zone };
@@ -176,7 +185,10 @@ fn a_repeat_has_the_kept_reply(rt: HostRuntime) -> Result<(), Fail> {
 
 // ---- refusals
 
-fn assert_refusals<S: Store>(rt: &impl Abort, bureau: &mut Bureau<S, Whole>) -> Result<(), Fail> {
+fn assert_refusals<S: Store, J: Judge<S>>(
+    rt: &impl Abort,
+    bureau: &mut Bureau<S, J>,
+) -> Result<(), Fail> {
     let zone = id(b"TGT1")?;
     let sysmod = id(b"UA10002")?;
     let rows: [Row; 21] = [
@@ -283,7 +295,10 @@ CATEGORY                                                          FMID     REASO
 ROWS 0
 ";
 
-fn assert_patterns<S: Store>(rt: &impl Abort, bureau: &mut Bureau<S, Whole>) -> Result<(), Fail> {
+fn assert_patterns<S: Store, J: Judge<S>>(
+    rt: &impl Abort,
+    bureau: &mut Bureau<S, J>,
+) -> Result<(), Fail> {
     let zone = id(b"TGT1")?;
     let other = id(b"TGT9")?;
     let rows: [Row; 13] = [

@@ -256,9 +256,9 @@ fn patience_ends_with_a_request_that_never_stands_whole(rt: HostRuntime) -> Resu
 fn patience_ends_with_a_client_that_sends_on(rt: HostRuntime) -> Result<(), Fail> {
     let lines = b"bureau-token: publisher-token\r\nconnection: close\r\n";
     let text = request(rt.alloc(), b"GET /published", lines, b"")?;
-    // the reply is written at once, and 5 seconds later it is closed
+    // the reply is written at once, and what comes in the next 5 seconds is read before it is closed
     let looks = looks_at_a_client(&rt, text.as_slice())?;
-    assert!(rt; looks <= 12, "{looks}");
+    assert!(rt; (8..=12).contains(&looks), "{looks}");
     Ok(())
 }
 
