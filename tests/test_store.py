@@ -110,6 +110,7 @@ silent.start()
 
 store = made("store")
 kept = read(store)
+empty_log = os.path.getsize(store + "-wal")
 same("init refuses a store that is there", run("init", store, callers), refused(44, 1))
 same("and leaves it as it is", read(store), kept)
 before = there()
@@ -202,9 +203,10 @@ same("it listens on 127.0.0.1 alone", [is_reached("127.0.0.1"), is_reached("127.
 desk.end()
 
 desk = Served(store, "--connections", "2")
-first, second = desk.ask("GET", "/published", ALPHA), desk.ask("GET", "/published", BETA)
+first, second = desk.ask("GET", "/published", ALPHA), desk.ask("PUT", "/zones/TGT1", BETA, 1, ZONE)
 desk.process.wait(timeout=10)
 same("two connections, and the end", (first[0], second[0], desk.process.returncode), (200, 200, 0))
+same("which leaves nothing in the log", os.path.getsize(store + "-wal"), empty_log)
 
 # ---- a long report
 
@@ -229,6 +231,26 @@ replies = subprocess.run([PROGRAM, "replay", callers, asked], capture_output=Tru
 check("a report of 6,000 rows", replies.endswith(b"ROWS 6000\n") and len(replies) > 300000, len(replies))
 desk = Served(made("long"))
 check("is the same over a socket, to the byte", desk.bytes(read(asked)) == replies)
+desk.end()
+
+# ---- a reply of two writes, on a connection that stays open
+
+desk = Served(made("open"))
+part = "".join(holds.splitlines(True)[:42])
+same("40 holds", desk.ask("POST", "/publish", PUBLISHER, 1, part.encode()), (200, b"ACCEPTED SYSMODS 1 HOLDS 40 RELEASES 0\n"))
+part = "".join(zone.splitlines(True)[:42])
+same("a zone of 41 rows", desk.ask("PUT", "/zones/TGT2", ALPHA, 1, part.encode()), (200, b"ZONE TGT2 ROWS 41\n"))
+took = []
+with socket.create_connection(("127.0.0.1", desk.port), timeout=60) as connection:
+    for _ in range(40):
+        connection.sendall(request("GET /zones/TGT2/errsysmods", ALPHA))
+        got = connection.recv(65536)
+        began = time.monotonic()
+        while not got.endswith(b"ROWS 40\n") and (piece := connection.recv(65536)):
+            got += piece
+        took.append(time.monotonic() - began)
+# a body that waits until the client has acknowledged the head comes 40 milliseconds after it
+check("each reply goes out without delay", len(got) > 2000 and sorted(took)[20] < 0.02, took)
 desk.end()
 
 # ---- a device that fails

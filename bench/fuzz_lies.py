@@ -1,0 +1,237 @@
+#!/usr/bin/env python3
+"""Shows that fuzz.py can fail: fuzz_lies.py PROGRAM
+
+Each lie is a program in front of PROGRAM that changes what is sent to it, or what it writes, in one way that fuzz.py has to see.
+It prints for each lie which check saw it, and after how many desks.
+"""
+import ctypes
+import os
+import re
+import signal
+import socket
+import sqlite3
+import subprocess
+import sys
+import tempfile
+
+HERE = os.path.dirname(os.path.abspath(__file__))
+HEAD = re.compile(rb"(?:GET|PUT|POST|DELETE) [^\n]*HTTP/1\.[01]\r?\n(?:[^\r\n]+\r?\n)*")
+NUMBER = re.compile(rb"(bureau-number:[ \t]*)(\d+)", re.IGNORECASE)
+REPORT = re.compile(rb"HTTP/1\.1 200 OK(\r\n[^\0]{0,120}?\r\n\r\nMISSING FIX)")
+
+
+class Truth:
+    """Changes nothing. A lie changes one of these. `sent` is what goes to one connection, `written` what comes back."""
+
+    seen_by = None
+
+    def __init__(self, tokens, words, life):
+        self.tokens, self.words, self.life = tokens, words, life
+        self.clients = [token for name, token in sorted(tokens.items()) if name != "PUBLISH"]
+
+    def sent(self, connection, first=None):
+        return connection
+
+    def written(self, reply):
+        return reply
+
+
+class Leaks(Truth):
+    """Questions of the second client are answered as those of the first."""
+
+    seen_by = "alone"
+
+    def sent(self, connection, first=None):
+        if len(self.clients) < 2:
+            return connection
+        one, other = (token.encode() for token in self.clients[:2])
+        return HEAD.sub(lambda head: head[0].replace(other, one) if head[0].startswith(b"GET") else head[0], connection)
+
+
+class ActsAgain(Truth):
+    """A change that comes again under its number acts again."""
+
+    seen_by = "sent again"
+
+    def __init__(self, *words):
+        super().__init__(*words)
+        self.seen = set()
+
+    def sent(self, connection, first=None):
+        def again(head):
+            number = NUMBER.search(head[0])
+            token = next((token for token in self.tokens.values() if token.encode() in head[0]), None)
+            if not number or not token or (token, number[2]) not in self.seen:
+                self.seen.add((token, number and number[2]))
+                return head[0]
+            return NUMBER.sub(lambda found: found[1] + b"%d" % (int(found[2]) + 1), head[0])
+
+        return HEAD.sub(again, connection)
+
+
+class ForgetsInSmallCache(Truth):
+    """With room for one frame a verdict is wrong."""
+
+    seen_by = "room for 1 frames"
+
+    def written(self, reply):
+        return reply.replace(b'"status":"GOOD"', b'"status":"HELD"') if "--cache 1 " in " ".join(self.words) + " " else reply
+
+
+class ForgetsAtStart(Truth):
+    """After a second start the zones have other sizes."""
+
+    seen_by = "ended or killed"
+
+    def written(self, reply):
+        return reply.replace(b"ROWS 0\n", b"ROWS 1\n") if self.life > 1 else reply
+
+
+class CutsHeads(Truth):
+    """A head that comes in two reads is refused."""
+
+    seen_by = "cut into pieces"
+
+    def sent(self, connection, first=None):
+        return b"\0" + connection if first is not None and first < len(connection) and b"\n" not in connection[:first] else connection
+
+
+class HasNoRoom(Truth):
+    """A report of missing fixes is 503."""
+
+    seen_by = "over a file"
+
+    def written(self, reply):
+        return REPORT.sub(rb"HTTP/1.1 503 Service Unavailable\1", reply)
+
+
+class CountsClients(Truth):
+    """What the publisher is told depends on how many clients there are."""
+
+    seen_by = "publisher alone"
+
+    def written(self, reply):
+        return reply.replace(b"PUBLISHED SYSMODS 1", b"PUBLISHED SYSMODS 2") if len(self.clients) > 1 else reply
+
+
+class KnowsTheStore(Truth):
+    """Lists in memory tell another number than a file."""
+
+    seen_by = "replay with room"
+
+    def written(self, reply):
+        return reply.replace(b"RELEASES 1\n", b"RELEASES 0\n") if self.words[0] == "replay" else reply
+
+
+class CountsRequests(Truth):
+    """The third question of a connection is nobody's."""
+
+    seen_by = "other connections"
+
+    def sent(self, connection, first=None):
+        heads = [head for head in HEAD.finditer(connection) if head[0].startswith(b"GET")]
+        if len(heads) < 3:
+            return connection
+        begin, end = heads[2].span()
+        return connection[:begin] + re.sub(rb"(?i)bureau-token", b"bureau-taken", connection[begin:end]) + connection[end:]
+
+
+class IsWrong(Truth):
+    """A SYSMOD that no plan has is told as one that is no candidate, always and to all."""
+
+    seen_by = "the plain desk"
+
+    def written(self, reply):
+        return re.sub(rb'content-length: \d+\r\n\r\n\{"blocked":"[^"]*","status":"HELD","sysmod":"UA(\d)","zone":"TGT(\d)"\}',
+                      rb'content-length: 46\r\n\r\n{"status":"LACK","sysmod":"UA\1","zone":"TGT\2"}', reply)
+
+
+LIES = [Leaks, ActsAgain, ForgetsInSmallCache, ForgetsAtStart, CutsHeads, HasNoRoom, CountsClients, KnowsTheStore, CountsRequests, IsWrong]
+
+
+def replay(lie, program, words):
+    place = next(i for i, word in enumerate(words) if word.endswith("callers.csv"))
+    for name in words[place + 1 :]:
+        with open(name, "rb") as file:
+            sent = lie.sent(file.read())
+        with open(name, "wb") as file:
+            file.write(sent)
+    done = subprocess.run([program, *words], stdout=subprocess.PIPE)
+    sys.stdout.buffer.write(lie.written(done.stdout))
+    return done.returncode
+
+
+def end_with_parent():
+    """A desk behind a lie ends when the lie is killed (prctl, PR_SET_PDEATHSIG)."""
+    ctypes.CDLL(None).prctl(1, signal.SIGKILL)
+
+
+def serve(lie, program, words):
+    """Stands on the port that was asked for, before a desk on another one."""
+    port, count = (int(words[words.index(name) + 1]) for name in ("--port", "--connections"))
+    with socket.create_server(("127.0.0.1", port)) as listener, socket.socket() as probe:
+        probe.bind(("127.0.0.1", 0))
+        behind = probe.getsockname()[1]
+        probe.close()
+        words[words.index("--port") + 1] = str(behind)
+        desk = subprocess.Popen([program, *words], stdout=subprocess.PIPE, preexec_fn=end_with_parent)
+        desk.stdout.readline()
+        print("LISTENING 127.0.0.1:%d" % port, flush=True)
+        for _ in range(count):
+            client, _ = listener.accept()
+            taken, first = b"", None
+            while piece := client.recv(1 << 16):
+                taken += piece
+                first = first or len(piece)
+            with socket.create_connection(("127.0.0.1", behind)) as connection:
+                connection.sendall(lie.sent(taken, first))
+                connection.shutdown(socket.SHUT_WR)
+                reply = b""
+                while piece := connection.recv(1 << 16):
+                    reply += piece
+            client.sendall(lie.written(reply))
+            client.close()
+        return desk.wait()
+
+
+def tell(name, program, words):
+    """Runs the program behind a lie."""
+    life, store, tokens = 0, words[-1], {}
+    if words[0] == "serve":
+        with open(store + ".lives", "ab") as lives:
+            lives.write(b".")
+            life = lives.tell()
+        conn = sqlite3.connect(store)
+        tokens = dict(conn.execute("SELECT name, token FROM caller"))
+        conn.close()
+    if words[0] == "replay":
+        with open(next(word for word in words if word.endswith("callers.csv"))) as file:
+            tokens = dict(line.strip().split(",") for line in file.readlines()[1:])
+    lie = next(lie for lie in LIES if lie.__name__ == name)(tokens, words, life)
+    runs = {"replay": replay, "serve": serve}.get(words[0])
+    return runs(lie, program, words) if runs else subprocess.run([program, *words]).returncode
+
+
+def main():
+    program, passed = os.path.abspath(sys.argv[1]), 0
+    for lie in LIES:
+        with tempfile.TemporaryDirectory() as room:
+            liar = os.path.join(room, "liar")
+            with open(liar, "w") as out:
+                out.write('#!/bin/sh\nexec %s %s --as %s %s "$@"\n' % (sys.executable, os.path.abspath(__file__), lie.__name__, program))
+            os.chmod(liar, 0o755)
+            done = subprocess.run(
+                [sys.executable, os.path.join(HERE, "fuzz.py"), liar, "--desks", "60", "--seconds", "600", "--failures", "1"],
+                capture_output=True, text=True)
+        failure = re.search(r"fuzz: seed (\d+): (.*?) \.\.\. FAILED", done.stdout)
+        seen = failure and lie.seen_by in failure[2]
+        passed += bool(seen)
+        print("%-20s %s" % (lie.__name__, "seed %s: %s" % failure.groups() if failure else "NOT SEEN " + done.stdout + done.stderr), flush=True)
+        if failure and not seen:
+            print("    seen by another check than %r\n%s" % (lie.seen_by, done.stdout))
+    print("fuzz_lies: %d passed, %d failed" % (passed, len(LIES) - passed))
+    return 0 if passed == len(LIES) else 1
+
+
+if __name__ == "__main__":
+    sys.exit(tell(sys.argv[2], sys.argv[3], sys.argv[4:]) if sys.argv[1] == "--as" else main())

@@ -1,0 +1,335 @@
+#!/usr/bin/env python3
+"""Refuses each growth of memory in turn, while ten calls of three callers run: refusals.py PROGRAM [WAY..] [--every N]
+
+    replay     by `replay`, with room for 1 and 16 frames, in one connection and in ten
+    serve      by `serve` over a file; then what was answered 503 is sent again, and all is asked that can be asked, before and after
+               the desk is started again
+    open       `serve` is refused before it listens
+    init       `init` is refused
+    holds      `holds` is refused
+
+For N = 1, 2, .. the Nth growth alone is refused, up to the first run that meets no refusal. What is told otherwise than by 503 is
+what a second desk tells, which never got the call that was answered 503. The second desk is tests/plain_desk.py. With --every N
+only each Nth growth is refused, from a place that moves with each run. It makes hostile/refuse.c with any C compiler. Python 3.9.
+"""
+import argparse
+import mmap
+import os
+import shutil
+import socket
+import sqlite3
+import struct
+import subprocess
+import sys
+import tempfile
+
+HERE = os.path.dirname(os.path.abspath(__file__))
+sys.path.append(os.path.join(HERE, "..", "tests"))
+from load_shapes import ALPHA, BASE, BETA, PUBLISHER, TOKENS, list_of_callers
+from plain_desk import PlainDesk
+from resources import request
+
+MEMORY = {6, 17, 24, 25, 38, 41, 49, 54, 74}  # the faults that tell of memory
+NO_ROOM = b"HTTP/1.1 503 Service Unavailable\r\ncontent-type: text/plain\r\ncontent-length: 8\r\n\r\nNO ROOM\n"
+BOTH, ONE = b"SYSMOD,STATE\nHBB7790,APPLIED\nUA10001,APPLIED\n", b"SYSMOD,STATE\nHBB7790,APPLIED\n"
+SCRIPT = [
+    request("POST /publish", PUBLISHER, 1, BASE.encode()),
+    request("PUT /zones/TGT1", ALPHA, 1, BOTH),
+    request("PUT /zones/TGT1", BETA, 1, ONE),
+    request("GET /zones/TGT1/chains/UA10002", ALPHA),
+    request("GET /zones/TGT1/chains/UA10002", BETA),
+    request("GET /zones/TGT1/errsysmods", ALPHA),
+    request("POST /publish", PUBLISHER, 2, b"++PTF(UA10005).\n++VER(Z038) FMID(HBB7790) SUP(UA10002).\n"),
+    request("PUT /zones/TGT1", BETA, 2, BOTH),
+    request("GET /zones/TGT1/errsysmods", ALPHA),
+    request("GET /zones/TGT1/chains/UA10002", ALPHA),
+]
+QUESTIONS = [request("GET /published", PUBLISHER)] + [
+    request("GET /zones" + path, token)
+    for token in (ALPHA, BETA)
+    for path in ["", "/TGT1/errsysmods", "/TGT1/missingfix"] + ["/TGT1/chains/" + name for name in ("UA10001", "UA10002", "UA10005", "AA20002")]
+] + [request("PUT /received", token, 1 << 62, b"SYSMOD\n") for token in (ALPHA, BETA)]
+
+
+MOST_WRONG = 5
+
+
+class Wrong(Exception):
+    """The program did what it must not do."""
+
+
+def see(good, *shown):
+    if not good:
+        raise Wrong(" ".join(str(each)[:1500] for each in shown))
+
+
+def compiled(room):
+    """The library that refuses."""
+    kit = os.path.dirname(os.path.dirname(os.path.realpath(shutil.which("rt") or "/")))
+    target = os.path.join(room, "refuse.so")
+    for compiler in ("cc", "gcc", "clang", os.path.join(kit, "toolchain", "bin", "clang")):
+        more = ["-fuse-ld=lld"] if "toolchain" in compiler else []
+        words = [compiler, "-O1", "-shared", "-fPIC", "-nostdlib", *more, "-o", target, os.path.join(HERE, "hostile", "refuse.c")]
+        try:
+            if subprocess.run(words, capture_output=True).returncode == 0:
+                return target
+        except OSError:
+            pass
+    sys.exit("refusals: no C compiler makes hostile/refuse.c")
+
+
+class Refusing:
+    """Runs the program with one growth refused."""
+
+    def __init__(self, program, room):
+        self.program, self.room = program, room
+        path = self.write("counts", bytes(16))
+        self.environment = {**os.environ, "LD_PRELOAD": compiled(room), "REFUSE": path}
+        with open(path, "r+b") as file:
+            self.counts = mmap.mmap(file.fileno(), 16)
+        self.callers = self.write("callers", list_of_callers(TOKENS))
+
+    def write(self, name, text):
+        path = os.path.join(self.room, name)
+        with open(path, "wb") as out:
+            out.write(text)
+        return path
+
+    def refuse(self, place):
+        """From here on growths are counted from 1, and the one at this place is refused; 0 refuses none."""
+        self.counts[:] = struct.pack("QQ", 0, place)
+
+    def met(self):
+        """Whether so many growths were asked for that one was refused."""
+        asked, refused = struct.unpack("QQ", self.counts[:])
+        return asked >= refused
+
+    def run(self, *words, **more):
+        done = subprocess.run([self.program, *words], env=self.environment, capture_output=True, timeout=120, **more)
+        see(done.returncode >= 0, "ended by signal", -done.returncode)
+        return done.returncode, done.stdout, done.stderr
+
+    def refused_run(self, place, *words, **more):
+        """A run that is refused or is what it is without: whether it was refused, and its output."""
+        self.refuse(place)
+        status, output, errors = self.run(*words, **more)
+        if status != 3:
+            see(status == 0 and not errors, "status", status, errors)
+            return False, output
+        number = int(errors.split()[1]) if errors.startswith(b"FAULT ") else 0
+        see(number in MEMORY and not output and self.met(), "status 3 with", errors, "and", output)
+        return True, output
+
+
+def replies_of(written):
+    """The replies in some written bytes."""
+    found, place = [], 0
+    while place < len(written):
+        end = written.index(b"\r\n\r\n", place) + 4
+        length = int(written[place:end].split(b"content-length: ")[1].split(b"\r\n")[0])
+        found.append(written[place : end + length])
+        place = end + length
+    return found
+
+
+def second(requests):
+    """What a second desk tells to these requests, and the desk."""
+    desk = PlainDesk(TOKENS)
+    return [b"".join(desk.connection(sent)) for sent in requests], desk
+
+
+def see_replies(replies, requests):
+    """At most one is 503, and the others are those of a desk that didn't get that call. Tells which one."""
+    refused = [place for place, reply in enumerate(replies) if reply.startswith(b"HTTP/1.1 503 ")]
+    see(len(refused) <= 1 and all(replies[place] == NO_ROOM for place in refused), "refused", refused, replies)
+    told, _ = second([sent for place, sent in enumerate(requests) if place not in refused])
+    got = [reply for place, reply in enumerate(replies) if place not in refused]
+    see(got == told, "got", got, "wanted", told)
+    return refused
+
+
+def replay(capacity, is_cut):
+    def way(refusing, place):
+        files = [refusing.write("file%d" % i, sent) for i, sent in enumerate(SCRIPT if is_cut else [b"".join(SCRIPT)])]
+        ended, output = refusing.refused_run(place, "replay", "--cache", str(capacity), refusing.callers, *files)
+        if ended:
+            return "no replies", True
+        replies = replies_of(output)
+        see(len(replies) == len(SCRIPT), "replies", replies)
+        return "a 503" if see_replies(replies, SCRIPT) else "all replies", refusing.met()
+
+    return way
+
+
+def holds(refusing, place):
+    ended, output = refusing.refused_run(place, "holds", "-", input=BASE.encode())
+    see(ended or output.endswith(b"ROWS 1\n"), output)
+    return "no print" if ended else "the print", refusing.met()
+
+
+def init(refusing, place):
+    """A refused `init` leaves nothing, or nothing that keeps it from being made after it; or a store with its callers."""
+    store = os.path.join(refusing.room, "made")
+    ended, output = refusing.refused_run(place, "init", store, refusing.callers)
+    see(ended or output == b"CALLERS 3\n", output)
+    met = refusing.met()
+    refusing.refuse(0)
+    if ended:
+        status, output, errors = refusing.run("init", store, refusing.callers)
+        see((status, output, errors) == (0, b"CALLERS 3\n", b"") or errors == b"FAULT 44\n", "again", status, output, errors)
+    desk = Desk(refusing, store)
+    see(desk.exchange(QUESTIONS[:1]) == second(QUESTIONS[:1])[0], "the store that was made")
+    desk.end()
+    remove(store)
+    return "refused" if ended else "made", met
+
+
+def opening(refusing, place):
+    """A refused `serve` ends before it listens, or serves as ever; the store is as it was."""
+    store = os.path.join(refusing.room, "opened")
+    shutil.copy(refusing.made, store)
+    desk = Desk(refusing, store, place)
+    told, met = "served" if desk.line else "refused", refusing.met()
+    if desk.line:
+        desk.end()
+    else:
+        output, errors = desk.process.communicate(timeout=60)
+        number = int(errors.split()[1]) if errors.startswith(b"FAULT ") else 0
+        see(desk.process.returncode == 3 and not output and number in MEMORY, "ended with", desk.process.returncode, output, errors)
+    refusing.refuse(0)
+    desk = Desk(refusing, store)
+    replies = desk.exchange(SCRIPT + QUESTIONS)
+    see(replies == second(SCRIPT + QUESTIONS)[0], "after a refused opening", replies)
+    desk.end()
+    remove(store)
+    return told, met
+
+
+class Desk:
+    """A desk over a store."""
+
+    def __init__(self, refusing, store, place=0, capacity=16):
+        with socket.socket() as probe:
+            probe.bind(("127.0.0.1", 0))
+            self.port = probe.getsockname()[1]
+        refusing.refuse(place)
+        words = [refusing.program, "serve", "--cache", str(capacity), "--port", str(self.port), store]
+        self.process = subprocess.Popen(words, env=refusing.environment, stdout=subprocess.PIPE, stderr=subprocess.PIPE)
+        self.line = self.process.stdout.readline()
+
+    def exchange(self, requests):
+        """The replies to these requests in one connection."""
+        with socket.create_connection(("127.0.0.1", self.port), timeout=60) as connection:
+            connection.sendall(b"".join(requests))
+            connection.shutdown(socket.SHUT_WR)
+            written = []
+            while part := connection.recv(1 << 16):
+                written.append(part)
+        return replies_of(b"".join(written))
+
+    def end(self):
+        see(self.process.poll() is None, "the desk ended", self.process.poll())
+        self.process.kill()
+        self.process.communicate()
+
+
+def remove(store):
+    for name in os.listdir(os.path.dirname(store)):
+        if name.startswith(os.path.basename(store)):
+            os.remove(os.path.join(os.path.dirname(store), name))
+
+
+def serve(capacity):
+    def way(refusing, place):
+        store = os.path.join(refusing.room, "served")
+        shutil.copy(refusing.made, store)
+        desk = Desk(refusing, store, 0, capacity)
+        refusing.refuse(place)
+        replies = desk.exchange(SCRIPT)
+        met = refusing.met()
+        refusing.refuse(0)
+        refused = see_replies(replies, SCRIPT[: len(replies)])
+        see(met or (len(replies) == len(SCRIPT) and not refused), "without a refusal", replies)
+        given = [sent for i, sent in enumerate(SCRIPT[: len(replies)]) if i not in refused]
+        again = [SCRIPT[i] for i in refused] + SCRIPT[len(replies) :]
+        told, plain = second(given + again + QUESTIONS)
+        got = desk.exchange(again + QUESTIONS)
+        see(got == told[len(given) :], "sent again: got", got, "wanted", told[len(given) :])
+        see(all(reply.startswith(b"HTTP/1.1 200 ") for reply in got[: len(refused)]), "a refused call, sent again", got)
+        desk.end()
+        see_tables(store, plain)
+        desk = Desk(refusing, store, 0, capacity)
+        got = desk.exchange(QUESTIONS)
+        see(got == told[-len(QUESTIONS) :], "started again: got", got, "wanted", told[-len(QUESTIONS) :])
+        desk.end()
+        remove(store)
+        return "a 503" if refused else "a connection's end" if len(replies) < len(SCRIPT) else "all replies", met
+
+    return way
+
+
+def see_tables(store, plain):
+    """The file holds what the second desk holds."""
+    conn = sqlite3.connect(store)
+    states = (b"APPLIED", b"ACCEPTED", b"SUPERSEDED")
+    for text, wanted in (
+        ("SELECT caller, number, CAST(body AS TEXT) FROM last_change", [(name, *last) for name, last in plain.last.items() if last[0]]),
+        ("SELECT client, zone, sysmod, state FROM zone_row",
+         [(client, zone.decode(), name.decode(), states.index(state)) for client, zones in plain.zones.items()
+          for zone, kept in zones.items() for name, state in kept.rows.items()]),
+        ("SELECT id FROM sysmod", [(name.decode(),) for name in plain.catalogue]),
+        ("SELECT id, member FROM sysmod_sup", [(name.decode(), member.decode()) for name, record in plain.catalogue.items() for member in record[b"SUP"]]),
+        ("SELECT sysmod, kind, reason FROM hold_row", [(key[0].decode(), key[1], key[2].decode()) for key in plain.book]),
+    ):
+        got = sorted(conn.execute(text).fetchall())
+        see(got == sorted(wanted), text, "got", got, "wanted", sorted(wanted))
+    conn.close()
+
+
+WAYS = {
+    "holds": [holds],
+    "init": [init],
+    "open": [opening],
+    "replay": [replay(capacity, is_cut) for capacity in (1, 16) for is_cut in (False, True)],
+    "serve": [serve(capacity) for capacity in (1, 16)],
+}
+
+
+def sweep(name, way, refusing, every, place):
+    """Refuses one growth after the other, up to the first run that meets no refusal. Tells whether all went well."""
+    counts, met, wrong = {}, True, 0
+    while met and wrong < MOST_WRONG:
+        try:
+            told, met = way(refusing, place)
+            counts[told] = counts.get(told, 0) + 1
+        except Wrong as fault:
+            wrong += 1
+            print("refusals: %s: growth %d ... FAILED: %s" % (name, place, fault), flush=True)
+        place += every
+    print("refusals: %s: up to growth %d: %s" % (name, place - every, ", ".join("%s: %d" % pair for pair in sorted(counts.items()))), flush=True)
+    return wrong == 0
+
+
+def main():
+    reader = argparse.ArgumentParser(description=__doc__, formatter_class=argparse.RawDescriptionHelpFormatter)
+    reader.add_argument("program")
+    reader.add_argument("ways", nargs="*", metavar="WAY")
+    reader.add_argument("--every", type=int, default=1)
+    words, passed, failed = reader.parse_args(), 0, 0
+    with tempfile.TemporaryDirectory(dir="/dev/shm" if os.access("/dev/shm", os.W_OK) else None) as room:
+        refusing = Refusing(os.path.abspath(words.program), room)
+        refusing.made = os.path.join(room, "store")
+        refusing.refuse(0)
+        see(refusing.run("init", refusing.made, refusing.callers)[1] == b"CALLERS 3\n", "init")
+        for name in words.ways or WAYS:
+            for turn, way in enumerate(WAYS[name]):
+                if sweep(name, way, refusing, words.every, 1 + turn * 7 % words.every):
+                    passed += 1
+                else:
+                    failed += 1
+    print("refusals: %d passed, %d failed" % (passed, failed))
+    sys.exit(1 if failed else 0)
+
+
+if __name__ == "__main__":
+    main()

@@ -1,0 +1,274 @@
+"""A second desk, in plain Python: what a caller is told, worked out anew for each question from all that was accepted.
+
+It was written from the rules alone, beside the program. It has no cache, no frames and no store; a plan is found by leaving out
+what is in none. The fuzzer compares the program with it.
+"""
+import json
+from urllib.parse import unquote_to_bytes
+
+from plain import Fault, changes, is_id, padded, patterns, received_ids, refusal, zone_rows
+
+MOST = 9223372036854775807
+ROUTES = [
+    (("publish",), {b"POST": "publish"}),
+    (("published",), {b"GET": "counts"}),
+    (("zones",), {b"GET": "list_zones"}),
+    (("zones", None), {b"DELETE": "drop_zone", b"PUT": "put_zone"}),
+    (("zones", None, "categories"), {b"PUT": "put_patterns"}),
+    (("received",), {b"PUT": "put_received"}),
+    (("zones", None, "errsysmods"), {b"GET": "err_report"}),
+    (("zones", None, "missingfix"), {b"GET": "missing_report"}),
+    (("zones", None, "chains", None), {b"GET": "chain"}),
+]
+CHANGES = {"publish", "put_zone", "drop_zone", "put_patterns", "put_received"}
+REASONS = {200: "OK", 400: "Bad Request", 401: "Unauthorized", 403: "Forbidden", 404: "Not Found", 405: "Method Not Allowed",
+           409: "Conflict", 411: "Length Required", 413: "Payload Too Large", 422: "Unprocessable Entity",
+           431: "Request Header Fields Too Large"}
+ERROR, SYSTEM, USER, FIXCAT = range(4)
+
+
+class Refused(Exception):
+    """A status with its body, and more lines of the head."""
+
+
+class Zone:
+    def __init__(self, rows):
+        self.rows, self.patterns = rows, set()
+
+    def installed(self, name):
+        return self.rows.get(name) in (b"APPLIED", b"ACCEPTED")
+
+
+class PlainDesk:
+    def __init__(self, tokens):
+        self.names = {token.encode(): name for name, token in tokens.items()}
+        self.last = {name: (0, "") for name in tokens}
+        self.zones, self.received = {name: {} for name in tokens}, {name: set() for name in tokens}
+        self.catalogue, self.book = {}, {}
+
+    # ---- bytes
+
+    def connection(self, sent):
+        """The reply to each request of a connection that stands whole, up to one that ends it."""
+        written = []
+        while (first := refusal(sent)) is not None:
+            if len(first) == 2:
+                return written + [reply(*first, close=True)]
+            (method, target, is_old, headers), body, sent = first
+            closes = is_old or any(
+                b"close" in [each.strip(b" \t").lower() for each in value.split(b",")] for name, value in headers if name == b"connection")
+            try:
+                status, text, kind, more = 200, *self.answered(method, target, headers, body), ""
+            except Refused as refused:
+                (status, text, *more), kind = refused.args, "text/plain"
+                more = "".join(more)
+            written.append(reply(status, text, more, closes, kind, method == b"HEAD"))
+            if closes:
+                break
+        return written
+
+    def answered(self, method, target, headers, body):
+        tokens = [value for name, value in headers if name == b"bureau-token"]
+        if len(tokens) != 1 or tokens[0] not in self.names:
+            raise Refused(401, "UNKNOWN TOKEN\n", "www-authenticate: Bureau\r\n")
+        caller = self.names[tokens[0]]
+        parts = target.split(b"?")[0][1:].split(b"/")
+        methods, captured = route(parts)
+        if method not in methods:
+            raise Refused(405, "METHOD NOT ALLOWED\n", "allow: %s\r\n" % ", ".join(sorted(each.decode() for each in methods)))
+        if not all(is_id(each) for each in captured):
+            raise Refused(404, "NOT FOUND\n")
+        call = methods[method]
+        if (call == "publish") != (caller == "PUBLISH") and not (call == "counts"):
+            raise Refused(403, "NOT ALLOWED\n")
+        if call in CHANGES:
+            return self.change(caller, call, captured, headers, body), "text/plain"
+        if call not in ("counts", "list_zones") and captured[0] not in self.zones[caller]:
+            raise Refused(404, "NOT FOUND\n")
+        return getattr(self, call)(caller, *captured), "application/json" if call == "chain" else "text/plain"
+
+    # ---- changes
+
+    def change(self, caller, call, captured, headers, body):
+        numbers = [value for name, value in headers if name == b"bureau-number"]
+        reads = len(numbers) == 1 and numbers[0].isdigit() and len(numbers[0]) <= 19 and 0 < int(numbers[0]) <= MOST
+        if not reads:
+            raise Refused(400, "BAD NUMBER\n")
+        number, (last, kept) = int(numbers[0]), self.last[caller]
+        if number == last:
+            return kept
+        if number < last:
+            raise Refused(409, "STALE\n")
+        if number > last + 1:
+            raise Refused(409, "GAP LAST %d\n" % last)
+        if call in ("drop_zone", "put_patterns") and captured[0] not in self.zones[caller]:
+            raise Refused(404, "NOT FOUND\n")
+        try:
+            text = getattr(self, call)(caller, body, *captured)
+        except Fault as fault:
+            raise Refused(422, fault.line + "\n")
+        self.last[caller] = number, text
+        return text
+
+    def publish(self, _, body):
+        found, counts = changes(body), [0, 0, 0]
+        for key, said in found:
+            if isinstance(key, bytes):
+                self.catalogue[key] = said
+                counts[0] += 1
+            else:
+                self.book.pop(key, None)
+                if said:
+                    self.book[key] = said
+                counts[1 if said else 2] += 1
+        return "ACCEPTED SYSMODS %d HOLDS %d RELEASES %d\n" % tuple(counts)
+
+    def put_zone(self, caller, body, name):
+        rows = zone_rows(body)
+        if name not in self.zones[caller] and len(self.zones[caller]) == 64:
+            raise Fault(61)
+        zone = Zone(rows)
+        if name in self.zones[caller]:
+            zone.patterns = self.zones[caller][name].patterns
+        self.zones[caller][name] = zone
+        return "ZONE %s ROWS %d\n" % (name.decode(), len(rows))
+
+    def drop_zone(self, caller, _, name):
+        del self.zones[caller][name]
+        return "ZONE %s DROPPED\n" % name.decode()
+
+    def put_patterns(self, caller, body, name):
+        self.zones[caller][name].patterns = found = patterns(body)
+        return "ZONE %s PATTERNS %d\n" % (name.decode(), len(found))
+
+    def put_received(self, caller, body):
+        self.received[caller] = found = received_ids(body)
+        return "RECEIVED ROWS %d\n" % len(found)
+
+    # ---- questions
+
+    def counts(self, _):
+        return "PUBLISHED SYSMODS %d HOLDS %d\n" % (len(self.catalogue), len(self.book))
+
+    def list_zones(self, caller):
+        zones = self.zones[caller]
+        rows = ["%-9s%d\n" % (name.decode(), len(zones[name].rows)) for name in sorted(zones, key=ordered)]
+        return "%-9sSYSMODS\n" % "ZONE" + "".join(rows) + "ROWS %d\n" % len(rows)
+
+    def err_report(self, caller, name):
+        zone, rows = self.zones[caller][name], []
+        good = self.good(zone)
+        for (sysmod, kind, reason), hold in self.book.items():
+            if kind == ERROR and zone.installed(sysmod) and not self.there(zone, reason):
+                resolvers = {y: status(y in good) for y in self.givers(reason) if self.candidate(zone, y)}
+                for resolver, shown in self.shown(caller, resolvers):
+                    fmid, css = hold.get(b"FMID", b""), hold.get(b"CLASS", b"-")
+                    rows.append(((ordered(fmid), ordered(sysmod), ordered(reason)), (fmid or b"-", sysmod, reason, *resolver, *shown, css)))
+        return report("EXCEPTION SYSMOD REPORT FOR ZONE ", name, "%-9s%-9s%-9s%-9s%-7s%-9s%s\n",
+                      ("FMID", "SYSMOD", "REASON", "RESOLVER", "STATUS", "RECEIVED", "CLASS"), rows)
+
+    def missing_report(self, caller, name):
+        zone, rows = self.zones[caller][name], []
+        good = self.good(zone)
+        for (sysmod, kind, reason), hold in self.book.items():
+            named = hold.get(b"RESOLVER")
+            if kind != FIXCAT or not zone.installed(sysmod) or self.there(zone, reason) or (named and self.there(zone, named)):
+                continue
+            givers = self.givers(reason) | (self.givers(named) if named else set())
+            resolvers = {y: status(y in good) for y in givers if self.candidate(zone, y)}
+            if named:
+                resolvers.setdefault(named, b"LACK")
+            for category in hold[b"CATEGORY"]:
+                if any(matches(pattern, category) for pattern in zone.patterns):
+                    for resolver, shown in self.shown(caller, resolvers):
+                        rows.append(((category, ordered(sysmod), ordered(reason)), (category, sysmod, reason, *resolver, *shown)))
+        return report("MISSING FIX REPORT FOR ZONE ", name, "%-66s%-9s%-9s%-9s%-7s%s\n",
+                      ("CATEGORY", "FMID", "REASON", "RESOLVER", "STATUS", "RECEIVED"), rows)
+
+    def shown(self, caller, resolvers):
+        if not resolvers:
+            return [((b"- NONE -",), (b"-", b"-"))]
+        return [((y,), (resolvers[y], b"YES" if y in self.received[caller] else b"NO")) for y in sorted(resolvers, key=ordered)]
+
+    def chain(self, caller, name, sysmod):
+        zone = self.zones[caller][name]
+        good = self.good(zone)
+        told = {"sysmod": sysmod.decode(), "zone": name.decode()}
+        if not self.candidate(zone, sysmod):
+            told["status"] = "LACK"
+        elif sysmod in good:
+            told["status"], told["plan"] = "GOOD", [self.member(y) for y in self.plan(zone, good, sysmod)]
+        else:
+            blocked = [r for r in self.needs(sysmod) if not self.there(zone, r) and not self.givers(r) & good]
+            told["status"], told["blocked"] = "HELD", min(blocked, key=ordered).decode()
+        return json.dumps(told, separators=(",", ":"), sort_keys=True)
+
+    def member(self, y):
+        reasons = lambda kind: [r.decode() for r in sorted((k[2] for k in self.book if k[:2] == (y, kind)), key=ordered)]
+        return {"id": y.decode(), "system": reasons(SYSTEM), "user": reasons(USER)}
+
+    # ---- resolution
+
+    def givers(self, r):
+        found, new = set(), {r}
+        while new:
+            found |= new
+            new = {y for y, record in self.catalogue.items() if record[b"SUP"] & new} - found
+        return found & set(self.catalogue)
+
+    def there(self, zone, r):
+        return r in zone.rows or any(zone.installed(y) for y in self.givers(r))
+
+    def candidate(self, zone, y):
+        return y in self.catalogue and any(zone.installed(fmid) for fmid in self.catalogue[y][b"FMID"])
+
+    def needs(self, y):
+        return self.catalogue[y][b"PRE"] | self.catalogue[y][b"REQ"] | {key[2] for key in self.book if key[:2] == (y, ERROR)}
+
+    def good(self, zone):
+        """What is in some plan: all candidates, without those that need what neither is there nor is given by one that is left."""
+        left = {y for y in self.catalogue if self.candidate(zone, y)}
+        wanted = {y: [self.givers(r) for r in self.needs(y) if not self.there(zone, r)] for y in left}
+        while True:
+            out = {y for y in left if any(not givers & left for givers in wanted[y])}
+            if not out:
+                return left
+            left -= out
+
+    def plan(self, zone, good, x):
+        found, new = set(), {x}
+        while new:
+            found |= new
+            needed = {r for y in new for r in self.needs(y) if not self.there(zone, r)}
+            new = {r if r in good else min(self.givers(r) & good, key=ordered) for r in needed} - found
+        return sorted(found, key=ordered)
+
+
+def route(parts):
+    for names, methods in ROUTES:
+        if len(names) == len(parts) and all(part and (name is None or name.encode() == part) for name, part in zip(names, parts)):
+            return methods, [unquote_to_bytes(part) for name, part in zip(names, parts) if name is None]
+    raise Refused(404, "NOT FOUND\n")
+
+
+def ordered(name):
+    return name.ljust(7)
+
+
+def status(is_good):
+    return b"GOOD" if is_good else b"HELD"
+
+
+def matches(pattern, category):
+    pattern, category = pattern.upper(), category.upper()
+    return category.startswith(pattern[:-1]) if pattern.endswith(b"*") else pattern == category
+
+
+def report(title, name, form, heading, rows):
+    rows = [form % tuple(field.decode() for field in row) for _, row in sorted(rows, key=lambda row: row[0])]
+    return title + name.decode() + "\n" + form % heading + "".join(rows) + "ROWS %d\n" % len(rows)
+
+
+def reply(status, body, more="", close=False, kind="text/plain", is_bare=False):
+    return ("HTTP/1.1 %d %s\r\ncontent-type: %s\r\ncontent-length: %d\r\n%s%s\r\n%s" % (
+        status, REASONS[status], kind, len(body), more, "connection: close\r\n" if close else "", "" if is_bare else body)).encode()
