@@ -15,7 +15,7 @@ ghost use Rattle.bureau_sql.specs.Opening.{IsNoStore, IsUnderstood};
 ghost use Rattle.bureau_sql.specs.SqlView.{IsAtRest, IsOurStore, shown, sql_view};
 
 use crate::SqlStore;
-use crate::probe::is_open;
+use crate::probe::look;
 use bureau_store::StoreFault;
 use sql_reads::{ReadFault, version};
 use sql_texts::read;
@@ -124,9 +124,7 @@ fn holds_a_store<S: Alter>(conn: &mut Connection<S>) -> Result<(), StoreFault>
     can_read(conn, read::version())?;
     is_version_1(conn)?;
     has_tables(conn)?;
-    if !is_open(conn) {
-        return Err(StoreFault::Device);
-    }
+    look(conn)?;
     Ok(())
 }
 

@@ -1,20 +1,37 @@
 //! Whether a connection is open after it refused a call.
-ghost use Rattle.std.specs.Prelude.{◌≡◌, IsTrue, true, false};
+ghost use Rattle.std.specs.Prelude.{◌≡◌, IfErr, IsTrue, OnOk, true, false};
 ghost use Rattle.sqlite.specs.State.{HasCleanDisk};
 ghost use Rattle.sqlite.specs.Held.{state};
 ghost use Rattle.sql_state.specs.Reading.{OnlyReads};
+ghost use Rattle.bureau_store.specs.Store.{IsOfRead};
 
+use bureau_store::StoreFault;
 use sql_texts::write::rollback;
-use sqlite::{Connection, Error};
+use sqlite::{Connection, Error, ErrorCode};
 use sqlite_trees::store::Alter;
 
-/// Whether the connection is open. Outside a transaction an open one refuses ROLLBACK as a query, and nothing changes. It may
-/// answer `false` of an open one where memory runs out.
+/// Looks whether the connection is open: `Memory` where memory ran out, so that nothing is known, and `Device` where it isn't.
+/// Outside a transaction an open one refuses ROLLBACK as a query, and nothing changes.
+pub(crate) fn look<S: Alter>(conn: &mut Connection<S>) -> Result<(), StoreFault>
+    requires { conn.old.in_transaction ≡ false }
+    ensures reads { OnlyReads (state S.Store conn.old) (state S.Store conn.new) }
+    ensures open { OnOk result (HasCleanDisk (state S.Store conn.new) → IsTrue (state S.Store conn.new).is_open) }
+    ensures mode { conn.new.in_transaction ≡ false }
+    ensures cause { IfErr result IsOfRead }
+{
+    match conn.query_all(rollback(), &[]) {
+        Err(Error::InvalidQuery) => Ok(()),
+        Err(Error::SqliteFailure(ErrorCode::OutOfMemory)) => Err(StoreFault::Memory),
+        _ => Err(StoreFault::Device),
+    }
+}
+
+/// Whether the connection is open. It may answer `false` of an open one where memory runs out.
 pub(crate) fn is_open<S: Alter>(conn: &mut Connection<S>) -> bool
     requires { conn.old.in_transaction ≡ false }
     ensures reads { OnlyReads (state S.Store conn.old) (state S.Store conn.new) }
     ensures open { result ≡ true → HasCleanDisk (state S.Store conn.new) → IsTrue (state S.Store conn.new).is_open }
     ensures mode { conn.new.in_transaction ≡ false }
 {
-    matches!(conn.query_all(rollback(), &[]), Err(Error::InvalidQuery))
+    look(conn).is_ok()
 }
