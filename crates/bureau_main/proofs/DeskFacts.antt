@@ -15,7 +15,7 @@ use Rattle.bureau_main.specs.Holds.{IsTold, fault_in, run_status}
 use Rattle.bureau_main.specs.Program.{IsInit, Outputs}
 use Rattle.bureau_main.specs.ProgramFault.{of_program}
 use Rattle.bureau_main.specs.Surroundings.{KnownFile}
-use Rattle.bureau_main.specs.declared.fault.ProgramFault.TheVariants.{NotWritten}
+use Rattle.bureau_main.specs.declared.fault.ProgramFault.TheVariants.{NotWritten, Memory}
 
 -- ---- what is left of a database
 
@@ -62,6 +62,10 @@ not_served port output old new status refused =
 pub not_connected : (port : ℕ) (output : Option (List ℕ)) (fault : StoreFault) (any : AnyFault) (old new : Option (List ℕ)) (status : ℕ) → any ≡ of_store fault
     → IsTold (Some any) old new → status ≡ run_status (Some any) → IsServeRun port output output old new status
 not_connected port output fault any old new status is told status_is = not_served port output old new status (open_refused fault any old new status is told status_is)
+
+-- without a cache nothing is served
+pub no_cache : (port : ℕ) (output : Option (List ℕ)) (fault : AnyFault) → fault ≡ of_program Memory → IsServeOutput (Some fault) port output output
+no_cache port output fault is = inr (inr (inr (inr is), Keeps-refl output))
 
 -- `init` of a callers file by the same name
 pub same_init : (files : List ℕ → KnownFile) (name slice : List ℕ) (outputs : Outputs) (status : ℕ) → slice ≡ name → IsInit files slice outputs status

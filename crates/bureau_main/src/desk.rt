@@ -8,7 +8,9 @@ ghost use Rattle.bureau_main.specs.Holds.{IsTold, fault_in, run_status};
 ghost use Rattle.bureau_main.specs.ProgramFault.{of_program};
 ghost use Rattle.bureau_sql.specs.SqlView.{IsOurStore, shown};
 ghost use Rattle.bureau_store.specs.Callers.{callers_of};
+ghost use Rattle.catalogue.specs.Content.{Content};
 ghost use Rattle.catalogue.specs.View.{Goes};
+ghost use Rattle.chain_cache.specs.Cache.{IsRightFor};
 ghost use Rattle.sql_state.specs.Ours.{IsOurs};
 ghost use Rattle.sql_state.specs.Reading.{OnlyReads};
 ghost use Rattle.sqlite.specs.Held.{state};
@@ -16,6 +18,7 @@ ghost use Rattle.sqlite.specs.State.{HasCleanDisk, KeepsCommit};
 ghost use Rattle.sql_writes.specs.Making.{IsOpened};
 ghost use Rattle.transfer.specs.Transfer.{AppendsFront};
 
+use crate::cache::cache_of;
 use crate::fault::{ProgramFault, exit_status, report};
 use crate::holds::write_text;
 use crate::surroundings::{StoreFile, Surroundings};
@@ -23,7 +26,8 @@ use bureau::Bureau;
 use bureau_http::{Patience, Sockets, serve_while_open};
 use bureau_sql::SqlStore;
 use bureau_store::{CallerRow, Store, StoreFault, callers};
-use chains::{Judge, Whole};
+use chain_cache::ChainCache;
+use chains::Judge;
 use faults::AnyFault;
 use itoa::Buffer;
 use sqlite::{Alter, Connection};
@@ -31,6 +35,14 @@ use std::alloc::Global;
 use std::io::Write;
 use std::net::TcpListener;
 use std::time::Clock;
+
+/// How a desk is served: the port of 127.0.0.1 where it listens, how many frames it keeps, and how many connections it takes.
+#[derive(Clone, Copy, Debug)]
+pub struct Service {
+    pub port: u16,
+    pub cache: u32,
+    pub connections: u32,
+}
 
 /// Makes the tables of a store that has the callers of a callers file and nothing else, and prints how many there are. Returns
 /// the exit status, and the connection, at rest.
@@ -189,26 +201,17 @@ pub fn run_open<S: Alter + Drop, E: Write>(
 pub fn run_serve<S: Surroundings + Clock, W: Write, E: Write>(
     surroundings: &S,
     alloc: Global,
-    port: u16,
-    connections: u32,
+    service: Service,
     store: &str,
     writer: &mut W,
     errors: &mut E,
 ) -> u8
-    ensures { IsServeRun port (W.contents writer.old) (W.contents writer.new)
+    ensures { IsServeRun service.port (W.contents writer.old) (W.contents writer.new)
         (E.contents errors.old) (E.contents errors.new) result }
 {
     match surroundings.connect(store, false) {
         Ok(conn) => {
-            let (status, conn) = open_and_serve(
-                surroundings,
-                alloc,
-                port,
-                connections,
-                conn,
-                writer,
-                errors,
-            );
+            let (status, conn) = open_and_serve(surroundings, alloc, service, conn, writer, errors);
             close(conn);
             status
         }
@@ -226,24 +229,59 @@ pub fn close(conn: Connection<StoreFile>) {
 pub fn open_and_serve<S: Surroundings + Clock, D: Alter + Drop, W: Write, E: Write>(
     surroundings: &S,
     alloc: Global,
-    port: u16,
-    connections: u32,
+    service: Service,
     conn: Connection<D>,
     writer: &mut W,
     errors: &mut E,
 ) -> (u8, Connection<D>)
     requires rest { conn.in_transaction ≡ false }
-    ensures { IsServeRun port (W.contents writer.old) (W.contents writer.new)
+    ensures { IsServeRun service.port (W.contents writer.old) (W.contents writer.new)
         (E.contents errors.old) (E.contents errors.new) result.0 }
 {
     match run_open(alloc, conn, errors) {
         Ok(store) => {
-            let mut bureau = Bureau::new(alloc, store, Whole::new());
-            let served = serve(surroundings, alloc, port, connections, &mut bureau, writer);
-            let (store, _) = bureau.into_parts();
+            let (served, store) = serve_store(surroundings, alloc, service, store, writer);
             (told(errors, served), store.into_connection())
         }
         Err(refused) => refused,
+    }
+}
+
+// Serves a store, and gives it back. All callers share one cache of frames.
+#[tactic(auto, using(crate::proofs::DeskFacts::no_cache))]
+fn serve_store<S: Surroundings + Clock, D: Alter + Drop, W: Write>(
+    surroundings: &S,
+    alloc: Global,
+    service: Service,
+    store: SqlStore<D>,
+    writer: &mut W,
+) -> (Result<(), AnyFault>, SqlStore<D>)
+    ensures output { IsServeOutput (fault_in result.0) service.port (W.contents writer.old) (W.contents writer.new) }
+    ensures sound { OnOk result.0 ((service.connections ≡ 0) ⊎ (result.1.failures ≡ 0)) }
+{
+    match new_cache(surroundings, alloc, service.cache) {
+        Ok(cache) => {
+            let mut bureau = Bureau::new(alloc, store, cache);
+            let served = serve(surroundings, alloc, service, &mut bureau, writer);
+            let (store, _) = bureau.into_parts();
+            (served, store)
+        }
+        Err(fault) => (Err(AnyFault::from(fault)), store),
+    }
+}
+
+// An empty cache with room for so many frames, which are looked up by keys that nobody knows.
+fn new_cache<S: Surroundings>(
+    surroundings: &S,
+    alloc: Global,
+    capacity: u32,
+) -> Result<ChainCache, ProgramFault>
+    ensures right { IfOk result (λ cache. (content : Content) → IsRightFor cache content) }
+    ensures fault { IfErr result (λ fault. fault ≡ ProgramFault.Memory) }
+{
+    match surroundings.random_keys() {
+        Ok(keys) => cache_of(alloc, capacity, keys),
+        Err(_) => Err(ProgramFault::Memory),
     }
 }
 
@@ -252,18 +290,17 @@ pub fn open_and_serve<S: Surroundings + Clock, D: Alter + Drop, W: Write, E: Wri
 fn serve<S: Surroundings + Clock, D: Alter + Drop, W: Write>(
     surroundings: &S,
     alloc: Global,
-    port: u16,
-    connections: u32,
-    bureau: &mut Bureau<SqlStore<D>, Whole>,
+    service: Service,
+    bureau: &mut Bureau<SqlStore<D>, ChainCache>,
     writer: &mut W,
 ) -> Result<(), AnyFault>
-    ensures output { IsServeOutput (fault_in result) port (W.contents writer.old) (W.contents writer.new) }
-    ensures sound { OnOk result ((connections ≡ 0) ⊎ (bureau.new.store.failures ≡ 0)) }
+    ensures output { IsServeOutput (fault_in result) service.port (W.contents writer.old) (W.contents writer.new) }
+    ensures sound { OnOk result ((service.connections ≡ 0) ⊎ (bureau.new.store.failures ≡ 0)) }
 {
-    let line = listening_line(alloc, port)?;
-    let listener = listen(surroundings, port)?;
+    let line = listening_line(alloc, service.port)?;
+    let listener = listen(surroundings, service.port)?;
     printed(writer, line.as_slice())?;
-    match serve_connections(alloc, surroundings, &listener, bureau, connections) {
+    match serve_connections(alloc, surroundings, &listener, bureau, service.connections) {
         Ok(()) => Ok(()),
         Err(fault) => Err(of_store(fault)),
     }

@@ -2,8 +2,10 @@
 //! its reply, also where the connection is cut after any byte and where the output takes any part of the replies.
 use crate::replay::run_replay;
 use std::alloc::Global;
+use std::hash::RandomState;
 use std::io::{self, ErrorKind, Write};
 use std::process::Abort;
+use std::random::RandomSource;
 use std::str;
 use std::test::Fail;
 
@@ -223,39 +225,48 @@ pub fn texts(alloc: Global, exchanges: &[(Asked, Told)]) -> Result<(Vec<u8>, Vec
 }
 
 // What these connections have on standard output.
-fn replayed(alloc: Global, connections: &[&[u8]]) -> Result<Vec<u8>, Fail> {
+fn replayed(alloc: Global, keys: RandomState, connections: &[&[u8]]) -> Result<Vec<u8>, Fail> {
     let mut files = Vec::new(alloc);
     for connection in connections {
         files.push(Vec::from_slice(alloc, *connection)?)?;
     }
     let mut writer = Vec::new(alloc);
     let mut errors = Vec::new(alloc);
-    if run_replay(alloc, CALLERS, files, 1024, &mut writer, &mut errors) != 0
-        || !errors.is_empty()
-    {
+    let status = run_replay(alloc, CALLERS, files, 1024, keys, &mut writer, &mut errors);
+    if status != 0 || !errors.is_empty() {
         return Err("status 0 and no error".into());
     }
     Ok(writer)
+}
+
+fn keys_of(rt: &impl RandomSource) -> Result<RandomState, Fail> {
+    Ok(RandomState::new(rt).ok().ok_or("random keys")?)
 }
 
 #[test]
 fn script_in_one_connection_and_in_ten(rt: HostRuntime) -> Result<(), Fail> {
     let alloc = rt.alloc();
     let (requests, replies) = texts(alloc, SCRIPT.as_slice())?;
-    let one = replayed(alloc, &[requests.as_slice()])?;
+    let keys = keys_of(&rt)?;
+    let one = replayed(alloc, keys, &[requests.as_slice()])?;
     assert_eq!(rt;
         str::from_utf8(one.as_slice()),
         str::from_utf8(replies.as_slice())
     );
-    let mut files = Vec::new(alloc);
-    for (asked, _) in SCRIPT.as_slice() {
-        files.push(Vec::from_slice(alloc, request(alloc, *asked)?.as_str().as_bytes())?)?;
+    for cache in [1, 2, 65_536] {
+        let mut files = Vec::new(alloc);
+        for (asked, _) in SCRIPT.as_slice() {
+            files.push(Vec::from_slice(alloc, request(alloc, *asked)?.as_str().as_bytes())?)?;
+        }
+        let mut writer = Vec::new(alloc);
+        let mut errors = Vec::new(alloc);
+        let status = run_replay(alloc, CALLERS, files, cache, keys, &mut writer, &mut errors);
+        assert_eq!(rt; status, 0);
+        assert!(rt;
+            writer.as_slice() == replies.as_slice() && errors.is_empty(),
+            "{cache}"
+        );
     }
-    let mut writer = Vec::new(alloc);
-    let mut errors = Vec::new(alloc);
-    let status = run_replay(alloc, CALLERS, files, 1, &mut writer, &mut errors);
-    assert_eq!(rt; status, 0);
-    assert!(rt; writer.as_slice() == replies.as_slice() && errors.is_empty());
     Ok(())
 }
 
@@ -263,6 +274,7 @@ fn script_in_one_connection_and_in_ten(rt: HostRuntime) -> Result<(), Fail> {
 fn cut_anywhere(
     rt: &impl Abort,
     alloc: Global,
+    keys: RandomState,
     before: &[(Asked, Told)],
     exchanges: &[(Asked, Told)],
 ) -> Result<(), Fail> {
@@ -273,7 +285,7 @@ fn cut_anywhere(
         for cut in 0..text.len() {
             let mut part = whole.clone()?;
             part.extend_from_slice(&text.as_str().as_bytes()[..cut])?;
-            let written = replayed(alloc, &[opening.as_slice(), part.as_slice()])?;
+            let written = replayed(alloc, keys, &[opening.as_slice(), part.as_slice()])?;
             assert_eq!(rt;
                 str::from_utf8(written.as_slice()),
                 str::from_utf8(wanted.as_slice()),
@@ -283,7 +295,7 @@ fn cut_anywhere(
         whole.extend_from_slice(text.as_str().as_bytes())?;
         wanted.extend_from_slice(reply(alloc, *asked, *told)?.as_str().as_bytes())?;
     }
-    let written = replayed(alloc, &[opening.as_slice(), whole.as_slice()])?;
+    let written = replayed(alloc, keys, &[opening.as_slice(), whole.as_slice()])?;
     assert_eq!(rt;
         str::from_utf8(written.as_slice()),
         str::from_utf8(wanted.as_slice())
@@ -293,12 +305,18 @@ fn cut_anywhere(
 
 #[test]
 fn script_cut_after_every_byte(rt: HostRuntime) -> Result<(), Fail> {
-    cut_anywhere(&rt, rt.alloc(), &[], SCRIPT.as_slice())
+    cut_anywhere(&rt, rt.alloc(), keys_of(&rt)?, &[], SCRIPT.as_slice())
 }
 
 #[test]
 fn requests_cut_after_every_byte(rt: HostRuntime) -> Result<(), Fail> {
-    cut_anywhere(&rt, rt.alloc(), &SCRIPT[..2], REQUESTS.as_slice())
+    cut_anywhere(
+        &rt,
+        rt.alloc(),
+        keys_of(&rt)?,
+        &SCRIPT[..2],
+        REQUESTS.as_slice(),
+    )
 }
 
 // A writer that takes so many bytes in all, and then fails.
@@ -327,14 +345,15 @@ impl Write for Narrow {
 #[test]
 fn output_that_takes_a_part(rt: HostRuntime) -> Result<(), Fail> {
     let alloc = rt.alloc();
-    let (requests, replies) = texts(alloc, SCRIPT.as_slice())?;
+    let keys = keys_of(&rt)?;
+    let (requests, replies) = texts(alloc, &SCRIPT[..4])?;
     for room in 0..replies.len() {
         let mut files = Vec::new(alloc);
         files.push(requests.clone()?)?;
         let taken = Vec::new(alloc);
         let mut writer = Narrow { taken, room };
         let mut errors = Vec::new(alloc);
-        let status = run_replay(alloc, CALLERS, files, 1024, &mut writer, &mut errors);
+        let status = run_replay(alloc, CALLERS, files, 1024, keys, &mut writer, &mut errors);
         assert_eq!(rt; status, 3, "{room}");
         assert!(rt; writer.taken.as_slice() == &replies[..room], "{room}");
         assert!(rt; errors.as_slice() == b"FAULT 72\n".as_slice(), "{room}");
@@ -365,6 +384,7 @@ fn a_callers_file_with_a_fault(rt: HostRuntime) -> Result<(), Fail> {
             callers,
             Vec::new(alloc),
             1024,
+            keys_of(&rt)?,
             &mut writer,
             &mut errors,
         );

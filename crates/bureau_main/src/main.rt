@@ -1,6 +1,7 @@
 //! The programs of the bureau: what a command line asks for, from bytes to bytes.
 #![tactic(auto)]
 
+mod cache;
 mod commands;
 mod desk;
 #[cfg(test)]
@@ -12,6 +13,8 @@ mod line;
 #[cfg(test)]
 mod line_tests;
 mod program;
+#[cfg(test)]
+mod program_tests;
 mod replay;
 #[cfg(test)]
 mod store_tests;

@@ -7,7 +7,7 @@ ghost use Rattle.bureau_main.specs.Holds.{IsTold};
 ghost use Rattle.bureau_main.specs.ProgramFault.{of_program};
 ghost use Rattle.bureau_main.specs.Surroundings.{AreContents, IsContent};
 
-use crate::desk::{callers_in, close, of_store, run_init, run_serve};
+use crate::desk::{Service, callers_in, close, of_store, run_init, run_serve};
 use crate::fault::{ProgramFault, exit_status, report, tell};
 use crate::holds::run_holds;
 use crate::line::{Line, LineFault, line_of};
@@ -89,21 +89,17 @@ fn answer<S: Surroundings + Clock, I: Read, O: Write, E: Write>(
         Ok(
             Line::Serve {
                 port,
+                cache,
                 connections,
                 store,
-                ..
             },
         ) => {
-            let store = store.as_str();
-            run_serve(
-                surroundings,
-                alloc,
+            let service = Service {
                 port,
+                cache,
                 connections,
-                store,
-                output,
-                errors,
-            )
+            };
+            run_serve(surroundings, alloc, service, store.as_str(), output, errors)
         }
         Err(LineFault::Words(text)) => explain(errors, text.as_str()),
         Err(LineFault::Memory) => refuse(errors, ProgramFault::Memory),
@@ -161,18 +157,16 @@ fn do_replay<S: Surroundings, O: Write, E: Write>(
           told = E.contents errors.new;
         }) result }
 {
-    match read_files(surroundings, alloc, callers, files) {
-        Ok((callers, connections)) => {
-            run_replay(
-                alloc,
-                callers.as_slice(),
-                connections,
-                cache,
-                output,
-                errors,
-            )
+    let (callers, connections) = match read_files(surroundings, alloc, callers, files) {
+        Ok(read) => read,
+        Err(fault) => return refuse(errors, fault),
+    };
+    match surroundings.random_keys() {
+        Ok(keys) => {
+            let callers = callers.as_slice();
+            run_replay(alloc, callers, connections, cache, keys, output, errors)
         }
-        Err(fault) => refuse(errors, fault),
+        Err(_) => refuse(errors, ProgramFault::Memory),
     }
 }
 

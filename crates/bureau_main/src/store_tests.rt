@@ -2,7 +2,7 @@
 ghost use Rattle.std.specs.Prelude.{◌≡◌, IfOk, IsTrue, false};
 ghost use Rattle.sqlite_disk.specs.Memory.{memory_is_usable};
 
-use crate::desk::{open_and_serve, run_init, run_open};
+use crate::desk::{Service, open_and_serve, run_init, run_open};
 use crate::desk_tests::CALLERS;
 use crate::line::LineFault;
 use crate::surroundings::{StoreFile, Surroundings};
@@ -12,8 +12,9 @@ use sqlite_disk::Memory;
 use std::alloc::Global;
 use std::cell::Cell;
 use std::fs::File;
-use std::io::{self, ErrorKind};
-use std::net::TcpListener;
+use std::hash::RandomState;
+use std::io::{self, ErrorKind, Read, Write};
+use std::net::{TcpListener, TcpStream};
 use std::str;
 use std::test::Fail;
 use std::time::{Clock, Duration};
@@ -128,6 +129,10 @@ impl Surroundings for Deserted<'_> {
         Err(StoreFault::Shape)
     }
 
+    fn random_keys(&self) -> io::Result<RandomState> {
+        RandomState::new(self.rt)
+    }
+
     // It listens on a free port, and remembers which one was asked for.
     fn listen(&self, port: u16) -> io::Result<TcpListener> {
         self.port.set(port);
@@ -152,8 +157,11 @@ fn a_desk_waits_as_often_as_it_is_asked_to(rt: HostRuntime) -> Result<(), Fail> 
         let (status, _) = open_and_serve(
             &deserted,
             alloc,
-            4_711,
-            connections,
+            Service {
+                port: 4_711,
+                cache: 1,
+                connections,
+            },
             conn,
             &mut output,
             &mut errors,
@@ -164,5 +172,97 @@ fn a_desk_waits_as_often_as_it_is_asked_to(rt: HostRuntime) -> Result<(), Fail> 
         assert_eq!(rt; deserted.port.get(), 4_711);
         assert_eq!(rt; deserted.paused.get(), 20 * u128::from(connections));
     }
+    Ok(())
+}
+
+// Surroundings in which 100 seconds pass before each look at the clock, and which listen already.
+#[derive(Drop)]
+struct Hurried<'a> {
+    rt: &'a HostRuntime,
+    listener: &'a TcpListener,
+    looks: Cell<u64>,
+}
+
+impl Clock for Hurried<'_> {
+    fn monotonic(&self) -> io::Result<Duration> {
+        let looks = self.looks.get().saturating_add(1);
+        self.looks.set(looks);
+        Ok(Duration::from_secs(looks.saturating_mul(100)))
+    }
+
+    fn since_1970(&self) -> io::Result<Duration> {
+        self.monotonic()
+    }
+}
+
+impl Surroundings for Hurried<'_> {
+    ghost use Rattle.bureau_main.specs.Surroundings.{Unknown};
+    ghost use Rattle.std.specs.Prelude.{None};
+
+    type File = File;
+
+    ghost known_words = { λ _. None };
+
+    ghost known_file = { λ _ _. Unknown };
+
+    fn words(&self, _alloc: Global) -> Result<Vec<String>, LineFault> {
+        Err(LineFault::Memory)
+    }
+
+    fn open(&self, _name: &str) -> io::Result<File> {
+        Err(io::Error::from(ErrorKind::NotFound))
+    }
+
+    fn connect(&self, _name: &str, _makes: bool) -> Result<Connection<StoreFile>, StoreFault> {
+        Err(StoreFault::Shape)
+    }
+
+    fn listen(&self, _port: u16) -> io::Result<TcpListener> {
+        self.listener.try_clone()
+    }
+
+    fn random_keys(&self) -> io::Result<RandomState> {
+        RandomState::new(self.rt)
+    }
+}
+
+#[test]
+fn a_desk_waits_ten_minutes_for_a_connection(rt: HostRuntime) -> Result<(), Fail> {
+    let alloc = rt.alloc();
+    let refused: &[u8] =
+        b"HTTP/1.1 401 Unauthorized\r\ncontent-type: text/plain\r\ncontent-length: 14\r\nwww-authenticate: Bureau\r\n\r\nUNKNOWN TOKEN\n";
+    let (mut sent, mut wanted) = (Vec::new(alloc), Vec::new(alloc));
+    for _ in 0..8u32 {
+        sent.extend_from_slice(b"GET /zones HTTP/1.1\r\n\r\n")?;
+    }
+    // it comes when 100 seconds have passed, one read brings all requests at 200, and a reply goes out at 300, 400, 500 and 600
+    for _ in 0..4u32 {
+        wanted.extend_from_slice(refused)?;
+    }
+    // the client does not close its side
+    let listener = TcpListener::bind(&rt, "127.0.0.1:0")?;
+    let mut client = TcpStream::connect(&rt, listener.local_addr()?)?;
+    client.write_all(sent.as_slice())?;
+    let (_, conn) = init(alloc, connected(alloc, Memory::new(alloc))?, CALLERS)?;
+    let hurried = Hurried {
+        rt: &rt,
+        listener: &listener,
+        looks: Cell::new(0),
+    };
+    let (mut output, mut errors) = (Vec::new(alloc), Vec::new(alloc));
+    let service = Service {
+        port: 4_711,
+        cache: 1,
+        connections: 1,
+    };
+    let (status, _) = open_and_serve(&hurried, alloc, service, conn, &mut output, &mut errors);
+    assert_eq!(rt; status, 0);
+    assert!(rt; errors.is_empty());
+    let mut got = Vec::new(alloc);
+    client.read_to_end(&mut got)?;
+    assert_eq!(rt;
+        str::from_utf8(got.as_slice()),
+        str::from_utf8(wanted.as_slice())
+    );
     Ok(())
 }

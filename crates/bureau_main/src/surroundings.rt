@@ -1,4 +1,4 @@
-//! What surrounds a run: the words of its command line, files by their names, and ports.
+//! What surrounds a run: the words of its command line, files by their names, ports, and random keys.
 ghost use Rattle.std.specs.Prelude.{◌≡◌, ℕ, List, Option, None, false, map, string_bytes, IfOk, IfErr, IfSome};
 ghost use Rattle.faults.specs.Refusal.{IsRefusal};
 ghost use Rattle.bureau_main.specs.Surroundings.{KnownFile, IsNotOpened, IsOpened};
@@ -9,6 +9,7 @@ use sqlite::{Connection, Error, ErrorCode, FileStore};
 use std::alloc::Global;
 use std::env;
 use std::fs::File;
+use std::hash::RandomState;
 use std::io::{self, Read};
 use std::net::{Ipv4Addr, TcpListener};
 
@@ -54,7 +55,7 @@ pub trait Surroundings {
     /// # Errors
     ///
     /// `Shape` where the file isn't there and isn't to be made; `Memory` where memory ran out; `Device` where the name is no
-    /// file's, where another has the file open, or where it is no database.
+    /// file's, where the file may not be opened or another has it open, or where it is no database.
     fn connect(&self, name: &str, makes: bool) -> Result<Connection<StoreFile>, StoreFault>
         ensures rest { IfOk result (λ conn. conn.in_transaction ≡ false) };
 
@@ -64,6 +65,13 @@ pub trait Surroundings {
     ///
     /// The port is in use, or may not be listened on.
     fn listen(&self, port: u16) -> io::Result<TcpListener>;
+
+    /// Random keys for a hasher, which no client can know.
+    ///
+    /// # Errors
+    ///
+    /// The system gives no random bytes.
+    fn random_keys(&self) -> io::Result<RandomState>;
 }
 
 /// The system's own words and files.
@@ -92,8 +100,13 @@ impl Surroundings for HostRuntime {
     }
 
     fn connect(&self, name: &str, makes: bool) -> Result<Connection<StoreFile>, StoreFault> {
-        if !makes && File::open(self, name).is_err() {
-            return Err(StoreFault::Shape);
+        if !makes {
+            match File::open(self, name) {
+                Err(error) if error.kind() == io::ErrorKind::NotFound => {
+                    return Err(StoreFault::Shape);
+                }
+                _ => {}
+            }
         }
         match Connection::open(self, name) {
             Ok(conn) => Ok(conn),
@@ -104,5 +117,9 @@ impl Surroundings for HostRuntime {
 
     fn listen(&self, port: u16) -> io::Result<TcpListener> {
         TcpListener::bind(self, (Ipv4Addr::LOCALHOST, port))
+    }
+
+    fn random_keys(&self) -> io::Result<RandomState> {
+        RandomState::new(self)
     }
 }

@@ -1,0 +1,25 @@
+//! The cache of frames that all callers of a desk share.
+ghost use Rattle.std.specs.Prelude.{◌≡◌, IfErr, IfOk};
+ghost use Rattle.catalogue.specs.Content.{Content};
+ghost use Rattle.chain_cache.specs.Cache.{IsRightFor};
+
+use crate::fault::ProgramFault;
+use chain_cache::ChainCache;
+use std::alloc::Global;
+use std::hash::RandomState;
+
+// As many frames as a cache may have room for.
+const CAPACITY_MOST: u32 = 65_536;
+
+/// An empty cache with room for so many frames, at least one and at most 65,536.
+///
+/// # Errors
+///
+/// `Memory` where memory ran out.
+pub fn cache_of(alloc: Global, capacity: u32, keys: RandomState) -> Result<ChainCache, ProgramFault>
+    ensures right { IfOk result (λ cache. (content : Content) → IsRightFor cache content) }
+    ensures fault { IfErr result (λ fault. fault ≡ ProgramFault.Memory) }
+{
+    let capacity = capacity.clamp(1, CAPACITY_MOST);
+    Ok(ChainCache::new(alloc, capacity, keys)?)
+}
