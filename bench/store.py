@@ -4,7 +4,8 @@
     store.py [publication zone small start zones reports]
 
 Without names it times all of it. The program is crates/bureau_main/out/bureau_main, or the one that BUREAU_PROGRAM
-names. nginx is needed for `zones` alone. Each figure is the least of three runs in turns, in seconds or as it says.
+names. nginx and wrk are needed for `zones` alone: a client in Python would measure itself. Each figure is the best of three runs
+in turns, in seconds or as it says.
 """
 import http.client
 import os
@@ -229,34 +230,19 @@ def timed_look(desk):
     return time.monotonic() - began
 
 
-def requests_in(port, path, token, kept, turns):
-    """Seconds for so many requests, on one connection or on a new one each, by sockets."""
-    request = ("GET %s HTTP/1.1\r\nhost: localhost\r\nbureau-token: %s\r\n%s\r\n" % (
-        path, token, "" if kept else "connection: close\r\n")).encode()
-    began = time.monotonic()
-    connection = socket.create_connection(("127.0.0.1", port)) if kept else None
-    for _ in range(turns):
-        if not kept:
-            connection = socket.create_connection(("127.0.0.1", port))
-        connection.setsockopt(socket.IPPROTO_TCP, socket.TCP_NODELAY, 1)
-        connection.sendall(request)
-        reply = connection.recv(65536)
-        if not kept:
-            while more := connection.recv(65536):
-                reply += more
-            connection.close()
-        if not reply.startswith(b"HTTP/1.1 200"):
-            sys.exit("%r" % reply)
-    took = time.monotonic() - began
-    if kept:
-        connection.close()
-    return took
+def rate(port, kept):
+    """Answers in a second to GET /zones, on one connection or on a new one each, asked for by wrk."""
+    words = ["wrk", "-t1", "-c1", "-d3", "-H", "bureau-token: " + ALPHA] + ([] if kept else ["-H", "connection: close"])
+    told = subprocess.run(words + ["http://127.0.0.1:%d/zones" % port], check=True, capture_output=True, text=True).stdout
+    if "Non-2xx" in told:
+        sys.exit(told)
+    return float(told.split("Requests/sec:")[1].split()[0])
 
 
 def zones():
     nginx = shutil.which("nginx") or "/usr/sbin/nginx"
-    if not os.path.exists(nginx):
-        print("GET /zones: nginx is not there")
+    if not os.path.exists(nginx) or not shutil.which("wrk"):
+        print("GET /zones: nginx or wrk is not there")
         return
     desk = Desk("zones")
     for number in range(1, 9):
@@ -279,13 +265,11 @@ def zones():
     time.sleep(0.5)
     desk.connection.close()
     try:
-        for kept, turns in ((True, 9000), (False, 2000)):
-            mine, theirs = least(
-                lambda: requests_in(desk.port, "/zones", ALPHA, kept, turns),
-                lambda: requests_in(port, "/zones", ALPHA, kept, turns),
-            )
+        for kept in (True, False):
+            rates = [(rate(desk.port, kept), rate(port, kept)) for _ in range(RUNS)]
+            mine, theirs = max(rate for rate, _ in rates), max(rate for _, rate in rates)
             print("GET /zones, %s: %.0f a second; nginx %.0f; %.2f of it" % (
-                "one connection" if kept else "a connection each", turns / mine, turns / theirs, theirs / mine))
+                "one connection" if kept else "a connection each", mine, theirs, mine / theirs))
     finally:
         process.terminate()
         process.wait()
