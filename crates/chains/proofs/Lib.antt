@@ -15,4 +15,8 @@ pub mod PlanFacts
 pub mod WalkFacts
 pub mod LinkFacts
 pub mod NodeFacts
+pub mod ClimbFacts
+pub mod AboveFacts
+pub mod WalkingFacts
+pub mod AnswerFacts
 mod Examples

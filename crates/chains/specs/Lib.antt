@@ -9,3 +9,5 @@ pub mod Surveys
 pub mod Frames
 pub mod Gathered
 pub mod FramePlaces
+pub mod Candidates
+pub mod Climbs

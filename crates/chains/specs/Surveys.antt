@@ -1,5 +1,5 @@
 -- Surveys: what can be installed in one zone of all that is catalogued, by the places of ids.
-use Rattle.std.specs.Prelude.{◌≡◌, ℕ, Bool, List, Option, Contains, length}
+use Rattle.std.specs.Prelude.{ℕ, Bool, List, Option, Contains}
 use Rattle.zone_lists.specs.declared.zones.ZoneRow.{ZoneRow}
 use Rattle.catalogue.specs.Content.{Content, ids_of}
 use Rattle.catalogue.specs.Ids.{Ascend}

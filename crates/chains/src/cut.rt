@@ -155,13 +155,15 @@ fn is_there(zone: &Zone, member: &Id, sources: &[Option<usize>], place: usize) -
     zone.listed(member) || has_source(sources, place)
 }
 
-fn has_source(sources: &[Option<usize>], place: usize) -> bool
+/// Whether a place has a source.
+pub(crate) fn has_source(sources: &[Option<usize>], place: usize) -> bool
     ensures { (result ≡ true) ↔ HasSource sources.now place }
 {
     source_at(sources, place).is_some()
 }
 
-fn source_at(sources: &[Option<usize>], place: usize) -> Option<usize>
+/// The source of a place, where it has one.
+pub(crate) fn source_at(sources: &[Option<usize>], place: usize) -> Option<usize>
     ensures { result ≡ source_of sources.now place }
 {
     sources.get(place).copied().flatten()

@@ -8,10 +8,13 @@
 //!   SYSMOD, from a source
 //! - [`plan`], [`good`]: verdicts from a frame alone
 //! - [`Survey`]: all verdicts of one zone; [`survey_of`]: that of a zone, from a source
+//! - [`candidates_for`]: the candidates that give each of several SYSMODs
 //! - [`touches`]: whether a publication may change a frame
 //! - [`good_is_planned`], [`verdicts_are_right`]: laws of the definitions
 #![tactic(auto)]
 
+mod candidates;
+mod climbing;
 mod cut;
 mod frames;
 mod framing;
@@ -26,8 +29,10 @@ mod planning;
 mod surveying;
 mod touching;
 mod verdict;
+mod walks;
 mod whole;
 
+pub use candidates::candidates_for;
 pub use frames::{Frame, FrameNode};
 pub use framing::{frame, frame_within};
 pub use judge::Judge;

@@ -1,5 +1,5 @@
 -- The rows of the missing fix report, one category of a hold at a time.
-use Rattle.std.proofs.Common.{◌≡◌, ◌∙◌, ℕ, ◌+◌, ◌<◌, ◌≤◌, ◌||◌, Bool, true, false, not, List, [], ◌∷◌, ◌++◌, Option, Some, None, filter, get_or, length, map, take, if◌then◌else◌, refl, sym, ap, inl, inr, arith}
+use Rattle.std.proofs.Common.{◌≡◌, ◌∙◌, ℕ, ◌+◌, ◌<◌, ◌≤◌, ◌||◌, Bool, true, false, not, List, [], ◌∷◌, ◌++◌, Option, Some, None, filter, get_or, length, map, option_map, take, if◌then◌else◌, refl, sym, ap, inl, inr, arith}
 use Rattle.std.specs.BTreeSet.{insert_key}
 use Rattle.std.specs.List.{AllByRecursion, cons_option, flat_map, fold, list_any}
 use Rattle.std.specs.Option.{IfSome}
@@ -17,12 +17,13 @@ use Rattle.catalogue.specs.Ids.{in_order, same_id}
 use Rattle.catalogue.proofs.IdFacts.{in_order_any, itself}
 use Rattle.supersede.specs.Giving.{is_there}
 use Rattle.supersede.specs.Reach.{has}
-use Rattle.reports.specs.MissingFound.{both_of, held_cmp, held_in_order, missing_held, put_held, resolvers_in, row_found, row_told, rows_by, rows_each, rows_found, rows_of, rows_with, unless_resolver_there, unless_there}
+use Rattle.reports.specs.MissingFound.{both_of, held_cmp, held_in_order, missing_held, named_by, put_held, resolver_listed, resolvers_in, row_found, row_told, rows_by, rows_each, rows_found, rows_of, rows_with, unless_resolver_there, unless_there}
 use Rattle.reports.specs.MissingRows.{Missing, by_category, categories_asked, is_missing, is_resolver_there, missing_rows_of, missing_rows_of_category, resolvers_by, resolvers_of}
 use Rattle.reports.specs.Resolvers.{candidates_for, each_or_none, status_in}
 use Rattle.reports.specs.declared.missing.MissingHeld.{MissingHeld}
 use Rattle.reports.specs.declared.rows.MissingRow.{MissingRow}
-use Rattle.reports.proofs.ErrorFacts.{has_more, map_fold, map_map}
+use Rattle.reports.proofs.ErrorFacts.{has_more, map_fold, map_map, or_right}
+use Rattle.reports.proofs.ResolverFacts.{if_some, names_has}
 
 -- ---- the categories that patterns match
 
@@ -86,6 +87,37 @@ all_in_order asked rows are = all_asked asked rows (λ id h. ap (λ ids. has ids
 pub each_is : (held : MissingHeld) (resolvers : List (List ℕ)) → 1 ≤ length resolvers → rows_each held resolvers ≡ rows_with held resolvers
 each_is held [] some = absurd (omega (arith, some))
 each_is held (first ∷ more) some = sym (map_map (row_found held) Some (first ∷ more))
+
+-- ---- what was answered
+
+-- what a hold names was asked for
+named_asked : (helds : List MissingHeld) (i : ℕ) (held : MissingHeld) (asked : List (List ℕ)) (id : List ℕ) → i < length helds → held ≡ get_or helds i held → asked ≡ in_order (flat_map named_by helds)
+    → has (named_by held) id ≡ true → has asked id ≡ true
+named_asked helds i held asked id below at are h =
+    ap (λ ids. has ids id) are ∙ in_order_any (same_id id) (flat_map named_by helds)
+    ∙ names_has named_by helds i held id below (ap (λ one. has (named_by one) id) (sym at) ∙ h)
+
+pub reason_asked : (helds : List MissingHeld) (i : ℕ) (held : MissingHeld) (asked : List (List ℕ)) → i < length helds → held ≡ get_or helds i held → asked ≡ in_order (flat_map named_by helds)
+    → has asked held.reason ≡ true
+reason_asked helds i held asked below at are = named_asked helds i held asked held.reason below at are (rw (itself held.reason) refl)
+
+pub resolver_asked : (helds : List MissingHeld) (i : ℕ) (held : MissingHeld) (asked : List (List ℕ)) → i < length helds → held ≡ get_or helds i held → asked ≡ in_order (flat_map named_by helds)
+    → IfSome held.resolver (λ resolver. has asked resolver ≡ true)
+resolver_asked helds i held asked below at are = if_some (λ resolver. has asked resolver ≡ true) held.resolver (λ id is.
+    let last : has (resolver_listed held.resolver) id ≡ true = ap (λ o. has (resolver_listed o) id) is ∙ rw (itself id) refl in
+    named_asked helds i held asked id below at are (or_right (same_id id held.reason) (has (resolver_listed held.resolver) id) last))
+
+-- the candidates that were found, and the resolver
+pub with_resolver : {X : Type 0} (f : X → List (List ℕ)) (found : Option X) (id : List ℕ) (there : Bool) (candidates : List (List ℕ)) → option_map f found ≡ (if there then None else Some candidates)
+    → option_map (λ x. f x ++ id ∷ []) found ≡ (if there then None else Some (candidates ++ id ∷ []))
+with_resolver {X} f found id there candidates are = twice found ∙ ap (option_map (λ ids. ids ++ id ∷ [])) are ∙ by there where
+  twice : (o : Option X) → option_map (λ x. f x ++ id ∷ []) o ≡ option_map (λ ids. ids ++ id ∷ []) (option_map f o)
+  twice None = refl
+  twice (Some x) = refl
+
+  by : (b : Bool) → option_map (λ ids. ids ++ id ∷ []) (if b then None else Some candidates) ≡ (if b then None else Some (candidates ++ id ∷ []))
+  by true = refl
+  by false = refl
 
 -- ---- what was found, as rows
 

@@ -1,5 +1,5 @@
 -- No part of what is promised: private contracts cite it. How the rows of the missing fix report are found.
-use Rattle.std.specs.Prelude.{ℕ, List, [], ◌++◌, Option, Some, None, filter_map, map, option_map, if◌then◌else◌}
+use Rattle.std.specs.Prelude.{ℕ, List, [], ◌∷◌, ◌++◌, Option, Some, None, filter_map, map, option_map, if◌then◌else◌}
 use Rattle.std.specs.BTreeSet.{insert_key}
 use Rattle.std.specs.Cmp.Lexicographic.{slice_cmp}
 use Rattle.std.specs.List.{flat_map, fold}
@@ -36,6 +36,14 @@ put_held keys missing = fold (insert_key held_cmp) keys (map missing_held missin
 
 abbrev pub held_in_order : List (List ℕ) → List Hold → List MissingHeld
 held_in_order patterns holds = put_held [] (flat_map (categories_asked patterns) holds)
+
+-- what a hold names: its reason, and its resolver where it has one
+abbrev pub resolver_listed : Option (List ℕ) → List (List ℕ)
+resolver_listed None = []
+resolver_listed (Some resolver) = resolver ∷ []
+
+abbrev pub named_by : MissingHeld → List (List ℕ)
+named_by held = held.reason ∷ resolver_listed held.resolver
 
 -- what is known of the candidates for a reason, and of the SYSMODs by a resolver, unless one is there
 abbrev pub both_of : Option (List (List ℕ)) → Option (List (List ℕ)) → Option (List (List ℕ))

@@ -1,17 +1,20 @@
 //! The rows of the exception SYSMOD report.
 ghost use Rattle.std.specs.Prelude.{◌≡◌, ◌++◌, true, ℕ, List, map, option_map, IfOk, IfSome, OnOk};
+ghost use Rattle.zone_lists.specs.declared.zones.ZoneRow.{ZoneRow};
+ghost use Rattle.catalogue.specs.Content.{Content};
 ghost use Rattle.catalogue.specs.Ids.{Ascend, in_order};
 ghost use Rattle.catalogue.specs.View.{MayAsk, Tells};
 ghost use Rattle.catalogue.specs.declared.fault.SourceFault.TheVariants.{Device};
 ghost use Rattle.supersede.specs.Reach.{has};
+ghost use Rattle.chains.specs.Candidates.{candidates_unless_there};
 ghost use Rattle.chains.specs.declared.verdict.Status.{Status};
 ghost use Rattle.reports.specs.ErrRows.{ErrRowsAscend, err_rows_of};
 ghost use Rattle.reports.specs.Found.{error_row, errors_by, errors_each, errors_found, errors_with, held_in_order, resolvers_in};
 
-use crate::resolvers::{candidates_unless_there, is_among, status_among};
+use crate::resolvers::{answer_among, is_among, status_among};
 use crate::{ErrRow, Status};
 use catalogue::{Published, SourceFault};
-use chains::Judge;
+use chains::{Judge, candidates_for};
 use faults::NoMemory;
 use holddata::Hold;
 use mcs_reader::Id;
@@ -97,10 +100,41 @@ fn errors_of<P: Published>(
     ensures found { IfOk result (λ found. Tells P.content_view source.old source.new
         (λ content. found.items ≡ errors_found content zone.now held.now)) }
 {
-    let mut found = Vec::new(alloc);
+    let reasons = reasons_in(alloc, held)?;
+    let answers = candidates_for(alloc, source, zone, &reasons)?;
+    Ok(errors_answered(alloc, held, &reasons, &answers)?)
+}
+
+// The reasons of the holds, ascending, each once.
+fn reasons_in(alloc: Global, held: &[ErrorHeld]) -> Result<Vec<Id>, NoMemory>
+    ensures reasons { IfOk result (λ ids. ids.items ≡ in_order (map (λ one. one.reason) held.now)) }
+    ensures ascend { IfOk result (λ ids. Ascend ids.items) }
+{
+    let mut ids = BTreeSet::new(alloc);
     for one in held {
-        let resolvers = candidates_unless_there(alloc, source, zone, &one.reason)?;
-        put_found(&mut found, one, &resolvers)?;
+        ids.insert(one.reason)?;
+    }
+    ids.into_iter().collect(alloc)
+}
+
+// What is found for the holds, by what was answered for each reason.
+fn errors_answered(
+    alloc: Global,
+    held: &[ErrorHeld],
+    reasons: &[Id],
+    answers: &[Option<Vec<Id>>],
+) -> Result<Vec<ErrorFound>, NoMemory>
+    requires { Ascend reasons.now }
+    ensures { IfOk result (λ found. (content : Content) (rows : List ZoneRow)
+        → map (option_map (λ ids. ids.items)) answers.now ≡ map (candidates_unless_there content rows) reasons.now
+        → reasons.now ≡ in_order (map (λ one. one.reason) held.now)
+        → found.items ≡ errors_found content rows held.now) }
+{
+    let mut found = Vec::new(alloc);
+    let other = None;
+    for one in held {
+        let resolvers = answer_among(reasons, answers, &other, &one.reason);
+        put_found(&mut found, one, resolvers)?;
     }
     Ok(found)
 }

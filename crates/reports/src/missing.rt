@@ -1,19 +1,22 @@
 //! The rows of the missing fix report.
 ghost use Rattle.std.specs.Prelude.{◌≡◌, ◌++◌, ◌∷◌, [], true, ℕ, List, Some, map, option_map, IfOk, IfSome, OnOk};
-ghost use Rattle.std.specs.List.{list_any};
+ghost use Rattle.std.specs.List.{flat_map, list_any};
 ghost use Rattle.zone_lists.specs.Pattern.{does_match};
+ghost use Rattle.zone_lists.specs.declared.zones.ZoneRow.{ZoneRow};
+ghost use Rattle.catalogue.specs.Content.{Content};
 ghost use Rattle.catalogue.specs.Ids.{Ascend, in_order, put_among};
 ghost use Rattle.catalogue.specs.View.{MayAsk, Tells};
 ghost use Rattle.catalogue.specs.declared.fault.SourceFault.TheVariants.{Device};
 ghost use Rattle.supersede.specs.Reach.{has};
+ghost use Rattle.chains.specs.Candidates.{candidates_unless_there};
 ghost use Rattle.chains.specs.declared.verdict.Status.{Status};
 ghost use Rattle.reports.specs.MissingRows.{MissingRowsAscend, categories_asked, missing_rows_of};
-ghost use Rattle.reports.specs.MissingFound.{both_of, held_in_order, missing_held, put_held, resolvers_in, row_found, row_told, rows_by, rows_each, rows_found, rows_with, unless_resolver_there};
+ghost use Rattle.reports.specs.MissingFound.{both_of, held_in_order, missing_held, named_by, put_held, resolvers_in, row_found, row_told, rows_by, rows_each, rows_found, rows_with, unless_resolver_there};
 
-use crate::resolvers::{candidates_unless_there, is_among, status_among};
+use crate::resolvers::{answer_among, is_among, status_among};
 use crate::{MissingCategory, MissingRow, Status};
 use catalogue::{Published, SourceFault};
-use chains::Judge;
+use chains::{Judge, candidates_for};
 use faults::NoMemory;
 use holddata::Hold;
 use mcs_reader::Id;
@@ -129,42 +132,85 @@ fn rows_of<P: Published>(
     ensures rows { IfOk result (λ rows. Tells P.content_view source.old source.new
         (λ content. rows.items ≡ rows_found content zone.now held.now)) }
 {
-    let mut rows = Vec::new(alloc);
+    let asked = asked_in(alloc, held)?;
+    let answers = candidates_for(alloc, source, zone, &asked)?;
+    Ok(rows_answered(alloc, held, &asked, &answers)?)
+}
+
+// The reasons and the resolvers of the holds, ascending, each once.
+fn asked_in(alloc: Global, held: &[MissingHeld]) -> Result<Vec<Id>, NoMemory>
+    ensures asked { IfOk result (λ ids. ids.items ≡ in_order (flat_map named_by held.now)) }
+    ensures ascend { IfOk result (λ ids. Ascend ids.items) }
+{
+    let mut ids = BTreeSet::new(alloc);
     for one in held {
-        let by_reason = candidates_unless_there(alloc, source, zone, &one.reason)?;
-        let by_resolver = unless_resolver_there(alloc, source, zone, &one.resolver)?;
-        let resolvers = both_of(alloc, &by_reason, &by_resolver)?;
+        put_named(&mut ids, one)?;
+    }
+    ids.into_iter().collect(alloc)
+}
+
+fn put_named(ids: &mut BTreeSet<Id>, held: &MissingHeld) -> Result<(), NoMemory>
+    ensures { OnOk result (ids.new.keys ≡ put_among ids.old.keys (named_by held.now)) }
+{
+    ids.insert(held.reason)?;
+    if let Some(resolver) = held.resolver {
+        ids.insert(resolver)?;
+    }
+    Ok(())
+}
+
+// The rows, by what was answered for each reason and resolver.
+fn rows_answered(
+    alloc: Global,
+    held: &[MissingHeld],
+    asked: &[Id],
+    answers: &[Option<Vec<Id>>],
+) -> Result<Vec<MissingRow>, NoMemory>
+    requires { Ascend asked.now }
+    ensures { IfOk result (λ found. (content : Content) (rows : List ZoneRow)
+        → map (option_map (λ ids. ids.items)) answers.now ≡ map (candidates_unless_there content rows) asked.now
+        → asked.now ≡ in_order (flat_map named_by held.now) → found.items ≡ rows_found content rows held.now) }
+{
+    let mut rows = Vec::new(alloc);
+    let other = None;
+    for one in held {
+        let by_reason = answer_among(asked, answers, &other, &one.reason);
+        let by_resolver = unless_resolver_there(alloc, asked, answers, &one.resolver)?;
+        let resolvers = both_of(alloc, by_reason, &by_resolver)?;
         put_rows(alloc, &mut rows, one, &resolvers)?;
     }
     Ok(rows)
 }
 
 // The resolver of a hold and the candidates that give it, unless it is there; none where a hold has none.
-fn unless_resolver_there<P: Published>(
+fn unless_resolver_there(
     alloc: Global,
-    source: &mut P,
-    zone: &Zone,
+    asked: &[Id],
+    answers: &[Option<Vec<Id>>],
     resolver: &Option<Id>,
-) -> Result<Option<Vec<Id>>, SourceFault>
-    ensures asks { MayAsk P.content_view Device source.old source.new result }
-    ensures resolvers { IfOk result (λ found. Tells P.content_view source.old source.new
-        (λ content. option_map (λ ids. ids.items) found ≡ unless_resolver_there content zone.now resolver.now)) }
+) -> Result<Option<Vec<Id>>, NoMemory>
+    requires { Ascend asked.now }
+    ensures { IfOk result (λ found. (content : Content) (rows : List ZoneRow)
+        → map (option_map (λ ids. ids.items)) answers.now ≡ map (candidates_unless_there content rows) asked.now
+        → IfSome resolver.now (λ resolver. has asked.now resolver ≡ true)
+        → option_map (λ ids. ids.items) found ≡ unless_resolver_there content rows resolver.now) }
 {
     let Some(resolver) = resolver else {
         return Ok(Some(Vec::new(alloc)));
     };
-    let found = candidates_unless_there(alloc, source, zone, resolver)?;
-    Ok(with_itself(found, resolver)?)
+    let other = None;
+    with_itself(answer_among(asked, answers, &other, resolver), resolver)
 }
 
 // The candidates that give a resolver, and the resolver.
-fn with_itself(found: Option<Vec<Id>>, resolver: &Id) -> Result<Option<Vec<Id>>, NoMemory>
-    ensures { IfOk result (λ all. option_map (λ ids. ids.items) all ≡ option_map (λ ids. ids.items ++ resolver.now ∷ []) found) }
+fn with_itself(found: &Option<Vec<Id>>, resolver: &Id) -> Result<Option<Vec<Id>>, NoMemory>
+    ensures { IfOk result (λ all. option_map (λ ids. ids.items) all ≡ option_map (λ ids. ids.items ++ resolver.now ∷ []) found.now) }
 {
     match found {
-        Some(mut ids) => {
-            ids.push(*resolver)?;
-            Ok(Some(ids))
+        Some(ids) => {
+            let mut all = ids.clone()?;
+            all.push(*resolver)?;
+            Ok(Some(all))
         }
         None => Ok(None),
     }

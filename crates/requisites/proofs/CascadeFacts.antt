@@ -7,8 +7,8 @@ use Rattle.std.proofs.lemmas.List.{get_or-replicate, take_all, take_more}
 use Rattle.std.proofs.lemmas.List.Elements.{Contains-push_cases}
 use Rattle.requisites.specs.Leads.{Leads}
 use Rattle.requisites.specs.World.{IsGood, IsGoodGiver}
-use Rattle.requisites.specs.Nodes.{IsMarked, Links, mark_of, row, world}
-use Rattle.requisites.specs.Good.{AreClosedBut, AreMarksLeft, AreOpen, AreReversed, AreShutOff, AreUngiven, AreUnmarked, CanClose, ComesNearer, HasClosedNeed, IsShut, marked_count}
+use Rattle.requisites.specs.Nodes.{AreReversed, IsMarked, Links, mark_of, row, world}
+use Rattle.requisites.specs.Good.{AreClosedBut, AreMarksLeft, AreOpen, AreShutOff, AreUngiven, AreUnmarked, CanClose, ComesNearer, HasClosedNeed, IsShut, marked_count}
 use Rattle.requisites.specs.declared.nodes.Nodes.{Nodes}
 use Rattle.requisites.proofs.LeadsFacts.{leads_closed, leads_itself, leads_last, leads_more}
 use Rattle.requisites.proofs.PickFacts.{unmarked}

@@ -1,14 +1,13 @@
 -- Links the other way round.
-use Rattle.std.proofs.Common.{◌≡◌, ◌≢◌, ℕ, zero, suc, map, set, ◌++◌, ◌+◌, ◌<◌, ◌≤◌, List, [], ◌∷◌, length, get_or, take, append_assoc, refl, sym, ap, ◌∙◌, subst, inl, inr, arith}
+use Rattle.std.proofs.Common.{◌≡◌, ◌≢◌, ℕ, zero, suc, map, set, ◌++◌, ◌+◌, ◌<◌, ◌≤◌, List, [], ◌∷◌, length, get_or, replicate, take, append_assoc, refl, sym, ap, ◌∙◌, subst, inl, inr, arith}
 use Rattle.std.specs.List.{Contains}
 use Rattle.std.proofs.lemmas.Bool.{cases_eq, cases_lt}
-use Rattle.std.proofs.lemmas.List.{get_or-set_other, get_or-set_same, get_or_append_left, get_or_past, get_or_push, length-set, take_all, take_more}
+use Rattle.std.proofs.lemmas.List.{get_or-set_other, get_or-set_same, get_or_append_left, get_or_past, get_or_push, length-set, get_or-replicate, length-replicate, take_all, take_more}
 use Rattle.std.proofs.Math.ListN.{get_or-map, length-map}
 use Rattle.std.proofs.lemmas.Grind.{common_steps}
-use Rattle.std.proofs.lemmas.List.Elements.{Contains-append_left, Contains-append_right, Contains-push, Contains-push_cases}
+use Rattle.std.proofs.lemmas.List.Elements.{Contains-append_cases, Contains-append_left, Contains-append_right, Contains-push, Contains-push_cases}
 use Rattle.requisites.proofs.SpreadFacts.{in_one}
-use Rattle.requisites.specs.Nodes.{Links, row}
-use Rattle.requisites.specs.Good.{AreReversed}
+use Rattle.requisites.specs.Nodes.{AreReversed, Links, row}
 use Rattle.requisites.specs.Reversed.{AreChained, RowAdded, chain, chains_of}
 use Rattle.requisites.specs.declared.reversed.Chains.{Chains}
 
@@ -17,6 +16,7 @@ added_none place rows = record {
   len = refl;
   keeps = λ q p inside. inside;
   added = λ q inside h. absurd (omega (arith, inside.1));
+  only = λ q p inside. inl inside;
 }
 
 pub added_more : (listed : List ℕ) (i place : ℕ) (old mid new : List (List ℕ)) → i < length listed → RowAdded (take i listed) place old mid → RowAdded (get_or listed i 0 ∷ []) place mid new → RowAdded (take (i + 1) listed) place old new
@@ -27,6 +27,13 @@ added_more listed i place old mid new h a b = rw (take_more listed i 0 h) (recor
     | inl before ↦ b.keeps q place (a.added q before below)
     | inr same ↦ b.added q (let P : ℕ → Type 0 = λ k. Contains (get_or listed i 0 ∷ []) k in subst P same (Contains-push [] (get_or listed i 0))) (omega (arith, a.len))
   ];
+  only = λ q p inside. elim (b.only q p inside) [
+    | inl before ↦ elim (a.only q p before) [
+      | inl old_one ↦ inl old_one
+      | inr earlier ↦ inr (record { is = earlier.is; within = earlier.within; inside = Contains-append_left (take i listed) (get_or listed i 0 ∷ []) q earlier.inside })
+    ]
+    | inr now ↦ inr (record { is = now.is; within = (let w = now.within in omega (arith, w, a.len)); inside = Contains-append_right (take i listed) (get_or listed i 0 ∷ []) q now.inside })
+  ];
 })
 
 pub added_all : (listed : List ℕ) (i place : ℕ) (old new : List (List ℕ)) → length listed ≤ i → RowAdded (take i listed) place old new → RowAdded listed place old new
@@ -36,6 +43,7 @@ added_all listed i place old new h a = let P : List ℕ → Type 0 = λ l. RowAd
 pub record AreTurnedBelow (lists : List (List ℕ)) (n i : ℕ) (rows : List (List ℕ)) : Type 0 where
   pub len : length rows ≡ n
   pub turned : (p q : ℕ) → p < i → Links lists n p q → Contains (row rows q) p
+  pub only : (p q : ℕ) → Contains (row rows q) p → Links lists n p q
 
 pub turned_more : (lists : List (List ℕ)) (n i : ℕ) (own : List ℕ) (old new : List (List ℕ)) → own ≡ row lists i → AreTurnedBelow lists n i old → RowAdded own i old new → AreTurnedBelow lists n (i + 1) new
 turned_more lists n i own old new same a b = record {
@@ -46,6 +54,13 @@ turned_more lists n i own old new same a b = record {
         let P : ℕ → Type 0 = λ k. Contains (row new q) k in
         subst P at (b.added q (let Q : ℕ → Type 0 = λ k. Contains (row lists k) q in let R : List ℕ → Type 0 = λ l. Contains l q in subst R (sym same) (subst Q (sym at) link.listed)) (omega (arith, link.place, a.len))))
   ];
+  only = λ p q inside. elim (b.only q p inside) [
+    | inl before ↦ a.only p q before
+    | inr now ↦
+        let P : List ℕ → Type 0 = λ l. Contains l q in
+        let Q : ℕ → Type 0 = λ k. Contains (row lists k) q in
+        record { listed = subst Q now.is (subst P same now.inside); place = (let w = now.within in omega (arith, w, a.len)) }
+  ];
 }
 
 pub turned_all : (lists : List (List ℕ)) (n i : ℕ) (rows : List (List ℕ)) → length lists ≤ i → AreTurnedBelow lists n i rows → AreReversed lists n rows
@@ -54,6 +69,7 @@ turned_all lists n i rows end a = record {
     | inl before ↦ a.turned p q before link
     | inr after ↦ absurd (let P : List ℕ → Type 0 = λ l. Contains l q in let inside : Contains [] q = subst P (get_or_past lists p [] (omega arith)) link.listed in omega (arith, inside.1))
   ];
+  only = a.only;
 }
 
 -- ---- chains of links
@@ -148,6 +164,20 @@ link_in last from before x b as_many earlier within h = record {
       let P : List ℕ → Type 0 = λ l. Contains l x in
       let R : ℕ → Type 0 = λ k. Contains (row (rows_in L F B) k) x in
       subst R (sym same) (subst P (sym own) (Contains-append_left (x ∷ []) (row (rows_in last from before) b) x (Contains-push [] x)));
+  only = λ q p inside. elim (cases_eq q b) [
+    | inl same ↦ (let P : List ℕ → Type 0 = λ l. Contains l p in
+        let Q : ℕ → Type 0 = λ k. Contains (row (rows_in last from before) k) p in
+        let R : ℕ → Type 0 = λ k. Contains (row (rows_in L F B) k) p in
+        elim (Contains-append_cases (x ∷ []) (row (rows_in last from before) b) p (subst P own (subst R same inside))) [
+          | inl first ↦ inr (record {
+            is = in_one x p first;
+            within = (let many = length-map last (λ (link : ℕ). chain from before link link) in omega (arith, h, same, many));
+            inside = (let S : ℕ → Type 0 = λ k. Contains (b ∷ []) k in subst S (sym same) (Contains-push [] b));
+          })
+          | inr later ↦ inl (subst Q (sym same) later)
+        ])
+    | inr other ↦ (let P : List ℕ → Type 0 = λ l. Contains l p in inl (subst P (another q other) inside))
+  ];
 } where
   F : List ℕ
   F = from ++ x ∷ []
@@ -166,8 +196,31 @@ link_in last from before x b as_many earlier within h = record {
   another q other = row_in L F B q ∙ ap (λ (k : ℕ). chain F B k k) (get_or-set_other last b q (length F) 0 other)
       ∙ stays from before x (get_or last b 0) as_many earlier (get_or last q 0) (get_or last q 0) (within q) ∙ sym (row_in last from before q)
 
-pub chained_none : (lists : List (List ℕ)) (chains : Chains) → AreTurnedBelow lists (length chains.last.items) 0 (chains_of chains)
-chained_none lists chains = record { len = length-map chains.last.items (λ (link : ℕ). chain chains.from.items chains.before.items link link); turned = λ p q h link. absurd (omega (arith, h)) }
+pub chained_none : (lists : List (List ℕ)) (chains : Chains) → ((q p : ℕ) → Contains (row (chains_of chains) q) p → ⊥) → AreTurnedBelow lists (length chains.last.items) 0 (chains_of chains)
+chained_none lists chains none = record {
+  len = length-map chains.last.items (λ (link : ℕ). chain chains.from.items chains.before.items link link);
+  turned = λ p q h link. absurd (omega (arith, h));
+  only = λ p q inside. absurd (none q p inside);
+}
+
+abbrev pub nought : ℕ
+nought = 0
+
+-- where no place has a link, no row has an entry
+pub no_links : (chains : Chains) (n : ℕ) → chains.last.items ≡ replicate n nought → (q p : ℕ) → Contains (row (chains_of chains) q) p → ⊥
+no_links chains n is q p inside =
+    let P : List ℕ → Type 0 = λ l. Contains l p in
+    let none : get_or chains.last.items q nought ≡ nought = ap (λ (l : List ℕ). get_or l q nought) is ∙ zeros n q in
+    let empty : row (chains_of chains) q ≡ [] =
+    row_in chains.last.items chains.from.items chains.before.items q ∙ ap (λ (k : ℕ). chain chains.from.items chains.before.items k k) none in
+    let nothing : Contains [] p = subst P empty inside in
+    omega (arith, nothing.1)
+  where
+    zeros : (m k : ℕ) → get_or (replicate m nought) k nought ≡ nought
+    zeros m k = elim (cases_lt k m) [
+      | inl below ↦ get_or-replicate m k nought nought below
+      | inr past ↦ get_or_past (replicate m nought) k nought (omega (arith, past, length-replicate m nought))
+    ]
 
 module _ (old new : Chains) (b x : ℕ) (chained : AreChained old) (h : b < length old.last.items) (from_is : new.from.items ≡ old.from.items ++ x ∷ [])
     (before_is : new.before.items ≡ old.before.items ++ get_or old.last.items b 0 ∷ []) (last_is : new.last.items ≡ set old.last.items b (length new.from.items)) where

@@ -1,7 +1,7 @@
 -- Which places are good, and what gives what.
 use Rattle.std.specs.Prelude.{◌≡◌, ◌<◌, ◌≤◌, ◌⊎◌, ℕ, List, Bool, true, false, Option, None, length, Contains, sum_by, if◌then◌else◌}
 use Rattle.requisites.specs.World.{IsGood, IsGoodGiver}
-use Rattle.requisites.specs.Nodes.{IsMarked, Links, mark_of, row, world}
+use Rattle.requisites.specs.Nodes.{IsMarked, mark_of, row, world}
 use Rattle.requisites.specs.Sources.{AreLeastSources, HasSource, source_of}
 use Rattle.requisites.specs.declared.nodes.Nodes.{Nodes}
 
@@ -57,10 +57,6 @@ pub record AreMarksLeft (nodes : Nodes) (marks : List Bool) : Type 0 where
 -- open: each place that a good one gives is
 pub record AreOpen (nodes : Nodes) (marks : List Bool) : Type 0 where
   pub given : (r z : ℕ) → IsGoodGiver (world nodes) r z → IsMarked marks r
-
--- the rows have, for each place, those that link to it
-pub record AreReversed (lists : List (List ℕ)) (n : ℕ) (reversed : List (List ℕ)) : Type 0 where
-  pub turned : (p q : ℕ) → Links lists n p q → Contains (row reversed q) p
 
 -- a need of p isn't there, and isn't open
 pub record HasClosedNeed (nodes : Nodes) (marks : List Bool) (p : ℕ) : Type 0 where

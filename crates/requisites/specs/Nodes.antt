@@ -20,6 +20,11 @@ pub record Links (lists : List (List ℕ)) (n p q : ℕ) : Type 0 where
   pub listed : Contains (row lists p) q
   pub place : q < n
 
+-- the rows have, for each of n places, those that link to it, and nothing else
+pub record AreReversed (lists : List (List ℕ)) (n : ℕ) (reversed : List (List ℕ)) : Type 0 where
+  pub turned : (p q : ℕ) → Links lists n p q → Contains (row reversed q) p
+  pub only : (p q : ℕ) → Contains (row reversed q) p → Links lists n p q
+
 -- the places as a world: a place gives those to which a list of superseded places leads
 abbrev pub world : Nodes → World ℕ
 world nodes = record {

@@ -1,13 +1,20 @@
 -- No part of what is promised: private contracts cite it. Links the other way round, while they are gathered.
-use Rattle.std.specs.Prelude.{◌≡◌, ◌<◌, ◌≤◌, ℕ, zero, suc, List, [], ◌∷◌, length, map, slice_index, Contains}
+use Rattle.std.specs.Prelude.{◌≡◌, ◌<◌, ◌≤◌, ◌⊎◌, ℕ, zero, suc, List, [], ◌∷◌, length, map, slice_index, Contains}
 use Rattle.requisites.specs.Nodes.{row}
 use Rattle.requisites.specs.declared.reversed.Chains.{Chains}
 
--- each row keeps what it has, and the rows of the listed have the place too
+-- a place that the row of a listed one has got
+pub record IsAdded (listed : List ℕ) (place n q p : ℕ) : Type 0 where
+  pub is : place ≡ p
+  pub within : q < n
+  pub inside : Contains listed q
+
+-- each row keeps what it has, and the rows of the listed have the place too, and nothing else
 pub record RowAdded (listed : List ℕ) (place : ℕ) (old new : List (List ℕ)) : Type 0 where
   pub len : length new ≡ length old
   pub keeps : (q p : ℕ) → Contains (row old q) p → Contains (row new q) p
   pub added : (q : ℕ) → Contains listed q → q < length old → Contains (row new q) place
+  pub only : (q p : ℕ) → Contains (row new q) p → Contains (row old q) p ⊎ IsAdded listed place (length old) q p
 
 -- whence a link comes, and those before it that lead to the same place, at most so many
 abbrev pub chain : List ℕ → List ℕ → ℕ → ℕ → List ℕ

@@ -5,11 +5,11 @@
 //! whole takes time in proportion to the nodes and their links.
 ghost use Rattle.std.specs.Prelude.{◌≡◌, ◌≤◌, ◌⊎◌, false, length, Contains, IfOk, OnOk};
 ghost use Rattle.std.specs.Bool.{OnTrue};
-ghost use Rattle.requisites.specs.Good.{AreAmong, AreClosedBut, AreMarksLeft, AreOpen, AreReversed, AreShutOff, AreUngiven, AreUnmarked, CanClose, ComesNearer, HasClosedNeed, IsShut, marked_count};
-ghost use Rattle.requisites.specs.Nodes.{mark_of, row};
+ghost use Rattle.requisites.specs.Good.{AreAmong, AreClosedBut, AreMarksLeft, AreOpen, AreShutOff, AreUngiven, AreUnmarked, CanClose, ComesNearer, HasClosedNeed, IsShut, marked_count};
+ghost use Rattle.requisites.specs.Nodes.{AreReversed, mark_of, row};
 
 use crate::nodes::{Nodes, is_marked};
-use crate::reversed::reversed;
+use crate::reversed::turned;
 use crate::rings::Rings;
 use crate::{NoMemory, Rows};
 use std::alloc::Global;
@@ -26,8 +26,8 @@ impl Around {
         ensures { IfOk result (λ around. AreReversed nodes.now.supersedes (length nodes.now.candidates.items) around.superseders) }
     {
         let len = nodes.candidates.len();
-        let superseders = reversed(alloc, &nodes.supersedes, len)?;
-        let needed_by = reversed(alloc, &nodes.needs, len)?;
+        let superseders = turned(alloc, &nodes.supersedes, len)?;
+        let needed_by = turned(alloc, &nodes.needs, len)?;
         Ok(Around {
             superseders,
             needed_by,

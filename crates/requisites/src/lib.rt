@@ -5,6 +5,7 @@
 //! - [`resolve`]: which places some plan holds, and what gives what, as a [`Resolution`]
 //! - [`verdict_of_place`]: a place's chosen plan or its blocked need, as a [`Verdict`]
 //! - [`least_sources`]: for each place the least marked one that leads to it
+//! - [`turned`]: for each place those in whose rows it stands
 #![tactic(auto)]
 
 mod cascade;
@@ -18,6 +19,7 @@ mod verdict;
 
 pub use good::{Resolution, resolve};
 pub use nodes::Nodes;
+pub use reversed::turned;
 pub use rows::Rows;
 pub use sources::least_sources;
 /// Memory ran out.

@@ -1,13 +1,19 @@
 //! Links the other way round.
-ghost use Rattle.std.specs.Prelude.{◌≡◌, ◌≤◌, [], ◌∷◌, length, IfOk, OnOk};
-ghost use Rattle.requisites.specs.Good.{AreReversed};
+ghost use Rattle.std.specs.Prelude.{◌≡◌, ◌≤◌, ℕ, [], ◌∷◌, Contains, length, IfOk, OnOk};
+ghost use Rattle.requisites.specs.Nodes.{AreReversed, row};
 ghost use Rattle.requisites.specs.Reversed.{AreChained, RowAdded, chain, chains_of};
 
 use crate::{NoMemory, Rows};
 use std::alloc::Global;
 
 /// For each of `len` places those in whose rows it is listed.
-pub(crate) fn reversed(alloc: Global, lists: &Rows, len: usize) -> Result<Rows, NoMemory>
+///
+/// It takes time in proportion to the places and the links.
+///
+/// # Errors
+///
+/// `NoMemory` where memory ran out.
+pub fn turned(alloc: Global, lists: &Rows, len: usize) -> Result<Rows, NoMemory>
     ensures { IfOk result (λ reversed. AreReversed lists.now len reversed) }
 {
     let mut chains = Chains {
@@ -29,7 +35,8 @@ struct Chains {
 }
 
 fn turn(lists: &Rows, chains: &mut Chains) -> Result<(), NoMemory>
-    requires { AreChained chains.old }
+    requires chained { AreChained chains.old }
+    requires none { (q p : ℕ) → Contains (row (chains_of chains.old) q) p → ⊥ }
     ensures chained { OnOk result (AreChained chains.new) }
     ensures turned { OnOk result (AreReversed lists.now (length chains.old.last.items) (chains_of chains.new)) }
 {

@@ -1,21 +1,15 @@
-use Rattle.std.proofs.Common.{◌∙◌, ◌++◌, ap}
-use Rattle.catalogue.proofs.SourceFacts.{no_fault, told_both, told_later, told_so, told_sooner}
-use Rattle.reports.specs.Found.{errors_by}
-use Rattle.reports.proofs.ErrorFacts.{errors_more}
+use Rattle.std.proofs.Common.{◌≡◌, ◌∙◌, List, Option, ap, map, option_map, subst, sym}
+use Rattle.std.specs.Global.{Vec}
+use Rattle.mcs_reader.specs.declared.id.Id.{Id}
+use Rattle.catalogue.proofs.SourceFacts.{told_so}
+use Rattle.chains.specs.Candidates.{candidates_unless_there}
 use Rattle.reports.proofs.errors.errors_of.Goals as goal
 
-pub loop-one-preserved : goal.loop-one-preserved
-loop-one-preserved g c =
-    let law = g.met.P.Published in
-    let was = c.loop-one.invariant in
-    let sooner = law.lawful.keeps _ _ was.keeps in
-    let later = law.lawful.keeps _ _ c.in_ok-resolvers.ensures.asks.keeps in
-    let both = told_both (told_sooner was.told later) (told_later sooner later c.in_ok-resolvers.ensures.candidates) in
-    record {
-      keeps = law.lawful.on _ _ _ was.keeps c.in_ok-resolvers.ensures.asks.keeps;
-      still_open = λ standing. c.in_ok-resolvers.ensures.asks.stays_open (no_fault _) (c.loop-one.invariant.still_open standing);
-      told = told_so both (λ content facts.
-          errors_more content c.args.zone.now c.args.held.now c.loop-one.one-index c.one-item.result c.loop-one.found.items c.put_found.new.found.items
-          c.loop-one-test.true c.one-item.is facts.0
-          (c.in_ok-put_found.ensures ∙ ap (λ resolvers. c.loop-one.found.items ++ errors_by c.one-item.result resolvers) facts.1));
-    }
+pub returns-clause-found : goal.returns-clause-found
+returns-clause-found g c =
+    told_so c.in_ok-answers.ensures.candidates (λ content answered.
+    let rows = c.args.zone.now in
+    let A : List (Option (Vec Id)) → Type 0 = λ l. map (option_map (λ ids. ids.items)) l ≡ map (candidates_unless_there content rows) c.deref-2.result.now in
+    c.in_ok-errors_answered.ensures content rows
+    (subst A (sym c.deref-3.ensures.value) (answered ∙ ap (map (candidates_unless_there content rows)) (c.deref.ensures.value ∙ sym c.deref-2.ensures.value)))
+    (c.deref-2.ensures.value ∙ c.in_ok-reasons.ensures.reasons))

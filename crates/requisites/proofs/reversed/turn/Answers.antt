@@ -4,7 +4,7 @@ use Rattle.requisites.proofs.ReversedFacts.{chained_none, turned_all, turned_mor
 use Rattle.requisites.proofs.reversed.turn.Goals as goal
 
 pub loop-place-init : goal.loop-place-init
-loop-place-init c = record { chained = c.requires; turned = chained_none c.args.lists.now c.args.chains.now }
+loop-place-init c = record { chained = c.requires.chained; turned = chained_none c.args.lists.now c.args.chains.now c.requires.none }
 
 pub loop-place-preserved : goal.loop-place-preserved
 loop-place-preserved c = record {

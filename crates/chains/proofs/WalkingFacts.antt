@@ -1,0 +1,169 @@
+-- Walks by rows of places, each with its number.
+use Rattle.std.proofs.Common.{◌≡◌, ◌∙◌, ℕ, ◌+◌, ◌<◌, ◌≤◌, List, [], ◌∷◌, ◌++◌, length, take, set, get_or, refl, sym, ap, subst, inl, inr, append_assoc, arith}
+use Rattle.std.specs.Prelude.{◌↔◌}
+use Rattle.std.specs.List.{Contains}
+use Rattle.std.proofs.lemmas.Bool.{cases_eq}
+use Rattle.std.proofs.lemmas.List.{append-nil, get_or-set_other, get_or-set_same, length-append, length-set, take_all, take_more, take-append-le}
+use Rattle.std.proofs.lemmas.List.Elements.{Contains-append_cases, Contains-append_left, Contains-append_right, Contains-push, Contains-push_cases}
+use Rattle.requisites.specs.Leads.{Leads}
+use Rattle.requisites.specs.Nodes.{Links, row}
+use Rattle.requisites.proofs.LeadsFacts.{leads_closed, leads_itself, leads_more}
+use Rattle.chains.specs.Climbs.{AreTaken, IsWalking}
+use Rattle.chains.proofs.SearchFacts.{first_inside, inside_cases, none_inside}
+
+-- ---- what a row gives
+
+in_one : (p q : ℕ) → Contains (p ∷ []) q → p ≡ q
+in_one p q inside = elim (inside_cases p q [] inside) [ inl same ↦ same | inr none ↦ absurd (none_inside q none) ]
+
+pub taken_none : (turn : ℕ) (seen order : List ℕ) → AreTaken turn [] seen seen order order
+taken_none turn seen order = record {
+  more = [];
+  goes_on = sym (append-nil order);
+  drawn = λ q inside. absurd (none_inside q inside);
+  placed = λ q inside. absurd (none_inside q inside);
+  marked = λ were. were;
+  whole = λ q inside within. absurd (none_inside q inside);
+  stays = λ q is. is;
+  bound = λ was. was;
+  len = refl;
+}
+
+-- a place to which the walk comes now
+pub taken_now : (turn place : ℕ) (seen order order' : List ℕ) → place < length seen → order' ≡ order ++ place ∷ [] → AreTaken turn (place ∷ []) seen (set seen place turn) order order'
+taken_now turn place seen order order' within now = record {
+  more = place ∷ [];
+  goes_on = now;
+  drawn = λ q inside. inside;
+  placed = λ q inside. (let P : ℕ → Type 0 = λ k. k < length seen in subst P (in_one place q inside) within);
+  marked = λ were q is. (let P : List ℕ → Type 0 = λ l. Contains l q in subst P (sym now) (elim (cases_eq q place) [
+    | inl same ↦ (let Q : ℕ → Type 0 = λ k. Contains (order ++ place ∷ []) k in subst Q (sym same) (Contains-push order place))
+    | inr other ↦ Contains-append_left order (place ∷ []) q (were q (sym (get_or-set_other seen place q turn 0 other) ∙ is))
+  ]));
+  whole = λ q inside below. (let P : ℕ → Type 0 = λ k. get_or (set seen place turn) k 0 ≡ turn in subst P (in_one place q inside) (get_or-set_same seen place turn 0 within));
+  stays = λ q is. elim (cases_eq q place) [
+    | inl same ↦ (let P : ℕ → Type 0 = λ k. get_or (set seen place turn) k 0 ≡ turn in subst P (sym same) (get_or-set_same seen place turn 0 within))
+    | inr other ↦ get_or-set_other seen place q turn 0 other ∙ is
+  ];
+  bound = λ was q. elim (cases_eq q place) [
+    | inl same ↦ (let P : ℕ → Type 0 = λ k. get_or (set seen place turn) k 0 ≤ turn in subst P (sym same) (omega (arith, get_or-set_same seen place turn 0 within)))
+    | inr other ↦ omega (arith, get_or-set_other seen place q turn 0 other, was q)
+  ];
+  len = length-set seen place turn;
+}
+
+-- a place to which it has come, or that is no place
+pub taken_before : (turn place : ℕ) (seen order : List ℕ) → (place < length seen → get_or seen place 0 ≡ turn) → AreTaken turn (place ∷ []) seen seen order order
+taken_before turn place seen order here = record {
+  more = [];
+  goes_on = sym (append-nil order);
+  drawn = λ q inside. absurd (none_inside q inside);
+  placed = λ q inside. absurd (none_inside q inside);
+  marked = λ were. were;
+  whole = λ q inside within. (let P : ℕ → Type 0 = λ k. k < length seen → get_or seen k 0 ≡ turn in subst P (in_one place q inside) here within);
+  stays = λ q is. is;
+  bound = λ was. was;
+  len = refl;
+}
+
+pub taken_more : (turn : ℕ) (listed : List ℕ) (i place : ℕ) (a b c x y z : List ℕ) → i < length listed → place ≡ get_or listed i place → AreTaken turn (take i listed) a b x y → AreTaken turn (place ∷ []) b c y z
+    → AreTaken turn (take (i + 1) listed) a c x z
+taken_more turn listed i place a b c x y z below at first second =
+    let front : take (i + 1) listed ≡ take i listed ++ place ∷ [] = take_more listed i place below ∙ ap (λ k. take i listed ++ k ∷ []) (sym at) in
+    let T : List ℕ → Type 0 = λ l. AreTaken turn l a c x z in
+    subst T (sym front) (record {
+      more = first.more ++ second.more;
+      goes_on = second.goes_on ∙ ap (λ l. l ++ second.more) first.goes_on ∙ append_assoc x first.more second.more;
+      drawn = λ q inside. elim (Contains-append_cases first.more second.more q inside) [
+        | inl before ↦ Contains-append_left (take i listed) (place ∷ []) q (first.drawn q before)
+        | inr now ↦ Contains-append_right (take i listed) (place ∷ []) q (second.drawn q now)
+      ];
+      placed = λ q inside. elim (Contains-append_cases first.more second.more q inside) [
+        | inl before ↦ first.placed q before
+        | inr now ↦ (let within = second.placed q now in omega (arith, within, first.len))
+      ];
+      marked = λ were. second.marked (first.marked were);
+      whole = λ q inside within. elim (Contains-append_cases (take i listed) (place ∷ []) q inside) [
+        | inl before ↦ second.stays q (first.whole q before within)
+        | inr now ↦ second.whole q now (omega (arith, within, first.len))
+      ];
+      stays = λ q is. second.stays q (first.stays q is);
+      bound = λ was. second.bound (first.bound was);
+      len = second.len ∙ first.len;
+    })
+
+pub taken_all : (turn : ℕ) (listed : List ℕ) (i : ℕ) (a b x y : List ℕ) → length listed ≤ i → AreTaken turn (take i listed) a b x y → AreTaken turn listed a b x y
+taken_all turn listed i a b x y end taken = let T : List ℕ → Type 0 = λ l. AreTaken turn l a b x y in subst T (take_all i listed end) taken
+
+-- ---- the walk
+
+module _ (rows : List (List ℕ)) (n start turn : ℕ) where
+  pub walk_begins : (seen seen' order : List ℕ) → length seen ≡ n → start < n → ((q : ℕ) → get_or seen q 0 < turn) → AreTaken turn (start ∷ []) seen seen' [] order → IsWalking rows n start turn seen' order 0
+  walk_begins seen seen' order len within fresh taken = record {
+    begun = marked start (taken.whole start (first_inside start []) (omega (arith, within, len)));
+    marked = marked;
+    closed = λ p q inside link. absurd (none_inside p inside);
+    reached = λ q inside.
+        (let P : List ℕ → Type 0 = λ l. Contains l q in
+        let Q : ℕ → Type 0 = λ k. Leads (Links rows n) start k in
+        subst Q (in_one start q (taken.drawn q (subst P taken.goes_on inside))) (leads_itself (Links rows n) start));
+    bound = taken.bound (λ q. let less = fresh q in omega (arith, less));
+    within = omega arith;
+    len = taken.len ∙ len;
+  } where
+    marked : (q : ℕ) → get_or seen' q 0 ≡ turn → Contains order q
+    marked = taken.marked (λ q is. let less = fresh q in absurd (omega (arith, less, is)))
+
+  pub walk_goes_on : (seen seen' order order' own : List ℕ) (at next : ℕ) → at < length order → next ≡ get_or order at next → own ≡ row rows next → AreTaken turn own seen seen' order order'
+      → IsWalking rows n start turn seen order at → IsWalking rows n start turn seen' order' (at + 1)
+  walk_goes_on seen seen' order order' own at next below is own_is taken was = record {
+    begun = kept start was.begun;
+    marked = marked;
+    closed = λ p q inside link. (
+        let P : List ℕ → Type 0 = λ l. Contains l p in
+        elim (Contains-push_cases (take at order) next p (subst P front inside)) [
+          | inl before ↦ kept q (was.closed p q before link)
+          | inr same ↦
+              let R : ℕ → Type 0 = λ k. Contains (row rows k) q in
+              let L : List ℕ → Type 0 = λ l. Contains l q in
+              let listed : Contains own q = subst L (sym own_is) (subst R (sym same) link.listed) in
+              let place = link.place in
+              marked q (taken.whole q listed (omega (arith, place, was.len)))
+        ]);
+    reached = λ q inside. (
+        let L : List ℕ → Type 0 = λ l. Contains l q in
+        elim (Contains-append_cases order taken.more q (subst L taken.goes_on inside)) [
+          | inl before ↦ was.reached q before
+          | inr now ↦
+              let place = taken.placed q now in
+              leads_more (was.reached next here) (record { listed = subst L own_is (taken.drawn q now); place = omega (arith, place, was.len) })
+        ]);
+    bound = taken.bound was.bound;
+    within = (let longer = length_more in omega (arith, below, longer));
+    len = taken.len ∙ was.len;
+  } where
+    marked : (q : ℕ) → get_or seen' q 0 ≡ turn → Contains order' q
+    marked = taken.marked was.marked
+
+    kept : (q : ℕ) → Contains order q → Contains order' q
+    kept q inside = let L : List ℕ → Type 0 = λ l. Contains l q in subst L (sym taken.goes_on) (Contains-append_left order taken.more q inside)
+
+    here : Contains order next
+    here = (at, below, sym is)
+
+    front : take (at + 1) order' ≡ take at order ++ next ∷ []
+    front =
+        ap (take (at + 1)) taken.goes_on ∙ take-append-le (at + 1) order taken.more (omega (arith, below)) ∙ take_more order at next below
+        ∙ ap (λ k. take at order ++ k ∷ []) (sym is)
+
+    length_more : length order ≤ length order'
+    length_more = omega (arith, ap length taken.goes_on ∙ length-append order taken.more)
+
+  pub walk_ends : (seen order : List ℕ) (at : ℕ) → length order ≤ at → IsWalking rows n start turn seen order at → (q : ℕ) → Contains order q ↔ Leads (Links rows n) start q
+  walk_ends seen order at whole was q = (
+    was.reached q,
+    λ leads.
+        let all = take_all at order whole in
+        let P : ℕ → List ℕ → Type 0 = λ p l. Contains l p in
+        leads_closed (λ p. Contains order p) (λ p r here link. let Q : List ℕ → Type 0 = λ l. Contains l p in was.closed p r (subst Q (sym all) here) link) was.begun leads,
+  )

@@ -1,0 +1,273 @@
+//! The candidates that give each of several SYSMODs.
+ghost use Rattle.std.specs.Prelude.{◌≡◌, ◌<◌, ◌≤◌, ℕ, List, Option, true, false, Contains, IfNone, IfOk, IfSome, OnOk, filter, length, map, option_map, slice_index};
+ghost use Rattle.std.specs.List.{list_any};
+ghost use Rattle.zone_lists.specs.Installed.{is_installed};
+ghost use Rattle.zone_lists.specs.declared.zones.ZoneRow.{ZoneRow};
+ghost use Rattle.catalogue.specs.Content.{Content};
+ghost use Rattle.catalogue.specs.Ids.{Ascend, in_order};
+ghost use Rattle.catalogue.specs.View.{MayAsk, Tells};
+ghost use Rattle.catalogue.specs.declared.fault.SourceFault.TheVariants.{Device};
+ghost use Rattle.requisites.specs.Nodes.{AreReversed, mark_of, row};
+ghost use Rattle.requisites.specs.Sources.{HasSource};
+ghost use Rattle.supersede.specs.Giving.{fmids_of, is_candidate};
+ghost use Rattle.chains.specs.Candidates.{candidates_unless_there};
+ghost use Rattle.chains.specs.Climbs.{AreFrom, IsAnswer, IsFound, with_source};
+ghost use Rattle.chains.specs.Cuts.{id_at};
+ghost use Rattle.chains.specs.Places.{IsAt, MarksAre, RowsAre};
+
+use crate::climbing::{Climb, climb_from};
+use crate::cut::{has_source, source_at, there_marks};
+use crate::listing::is_any_installed;
+use crate::places::{ids_at, place_of, sort_each_once};
+use crate::surveying::is_marked;
+use crate::walks::Walks;
+use catalogue::{Published, SourceFault, Sysmod};
+use mcs_reader::{Id, NoMemory};
+use requisites::{Rows, least_sources};
+use std::alloc::Global;
+use supersede::Zone;
+
+/// For each of some SYSMODs the candidates that give it, ascending, or `None` where it is there: the zone lists it, or
+/// an installed SYSMOD gives it (IBM z/OS SMP/E Reference, `++VER`, operands SUP and FMID).
+///
+/// What supersedes a SYSMOD is asked for once, and so is the record of each that gives one that isn't there. Which are
+/// there is found in time in proportion to what was read.
+///
+/// # Errors
+///
+/// `Memory` where memory ran out, `Device` where the source failed.
+pub fn candidates_for<P: Published>(
+    alloc: Global,
+    source: &mut P,
+    zone: &Zone,
+    ids: &[Id],
+) -> Result<Vec<Option<Vec<Id>>>, SourceFault>
+    ensures asks { MayAsk P.content_view Device source.old source.new result }
+    ensures candidates { IfOk result (λ found. Tells P.content_view source.old source.new
+        (λ content. map (option_map (λ ids. ids.items)) found.items
+        ≡ map (candidates_unless_there content zone.now) ids.now)) }
+{
+    if ids.is_empty() {
+        return Ok(Vec::new(alloc));
+    }
+    let climb = climb_from(alloc, source, ids)?;
+    let there = there_marks(alloc, zone, &climb.ids, &climb.below)?;
+    let absent = absent_marks(alloc, &climb.ids, &there, ids)?;
+    let wanted = least_sources(alloc, &climb.above, &absent)?;
+    let candidates = wanted_candidates(alloc, source, zone, &climb.ids, &wanted)?;
+    Ok(found_among(alloc, ids, &climb, &there, &candidates)?)
+}
+
+// The marks of the ids asked for that aren't there, among all.
+fn absent_marks(
+    alloc: Global,
+    ids: &[Id],
+    there: &[bool],
+    asked: &[Id],
+) -> Result<Vec<bool>, NoMemory>
+    requires { Ascend ids.now }
+    ensures len { IfOk result (λ marks. length marks.items ≡ length ids.now) }
+    ensures marked { IfOk result (λ marks. (p : ℕ) → p < length ids.now → Contains asked.now (id_at ids.now p)
+        → mark_of there.now p ≡ false → mark_of marks.items p ≡ true) }
+{
+    let mut marks = vec![in alloc; false; ids.len()]?;
+    for id in asked {
+        if let Some(place) = absent_at(ids, there, id) {
+            marks[place] = true;
+        }
+    }
+    Ok(marks)
+}
+
+// Which of the ids that have a source are candidates. The others aren't asked for.
+fn wanted_candidates<P: Published>(
+    alloc: Global,
+    source: &mut P,
+    zone: &Zone,
+    ids: &[Id],
+    wanted: &[Option<usize>],
+) -> Result<Vec<bool>, SourceFault>
+    ensures asks { MayAsk P.content_view Device source.old source.new result }
+    ensures len { IfOk result (λ marks. length marks.items ≡ length ids.now) }
+    ensures marks { IfOk result (λ marks. Tells P.content_view source.old source.new
+        (λ content. MarksAre (λ p mark. HasSource wanted.now p → mark ≡ is_candidate content zone.now (id_at ids.now p))
+        (length ids.now) marks.items)) }
+{
+    let mut marks = Vec::with_capacity(alloc, ids.len())?;
+    for (place, id) in ids.iter().enumerate() {
+        marks.push(is_wanted_candidate(source, zone, id, has_source(wanted, place))?)?;
+    }
+    Ok(marks)
+}
+
+fn is_wanted_candidate<P: Published>(
+    source: &mut P,
+    zone: &Zone,
+    id: &Id,
+    wanted: bool,
+) -> Result<bool, SourceFault>
+    ensures asks { MayAsk P.content_view Device source.old source.new result }
+    ensures candidate { IfOk result (λ mark. Tells P.content_view source.old source.new
+        (λ content. wanted ≡ true → mark ≡ is_candidate content zone.now id.now)) }
+{
+    if !wanted {
+        return Ok(false);
+    }
+    let sysmod = source.sysmod(id)?;
+    Ok(applies(zone, &sysmod))
+}
+
+// Whether one of the functions to which a record applies is installed.
+fn applies(zone: &Zone, sysmod: &Option<Sysmod>) -> bool
+    ensures { result ≡ list_any (λ fmid. is_installed zone.now fmid) (fmids_of sysmod.now) }
+{
+    match sysmod {
+        Some(sysmod) => is_any_installed(zone, &sysmod.fmids),
+        None => false,
+    }
+}
+
+// What is found for each of the ids asked for. The walks go by ids that a candidate gives, so that they come to
+// candidates alone and to what leads there.
+fn found_among(
+    alloc: Global,
+    asked: &[Id],
+    climb: &Climb,
+    there: &[bool],
+    candidates: &[bool],
+) -> Result<Vec<Option<Vec<Id>>>, NoMemory>
+    requires ascend { Ascend climb.now.ids.items }
+    requires rows { length climb.now.above ≡ length climb.now.ids.items }
+    requires turned { AreReversed climb.now.above (length climb.now.ids.items) climb.now.below }
+    requires marks { length candidates.now ≡ length climb.now.ids.items }
+    ensures { IfOk result (λ found. (content : Content) (rows : List ZoneRow)
+        → IsFound content rows asked.now climb.now.ids.items climb.now.above there.now candidates.now
+        → map (option_map (λ ids. ids.items)) found.items ≡ map (candidates_unless_there content rows) asked.now) }
+{
+    let given = least_sources(alloc, &climb.below, candidates)?;
+    let above = rows_with_source(alloc, &climb.above, &given)?;
+    found_for_each(alloc, asked, &climb.ids, &above, there, candidates)
+}
+
+// Of each row the places that have a source.
+fn rows_with_source(alloc: Global, rows: &Rows, sources: &[Option<usize>]) -> Result<Rows, NoMemory>
+    ensures { IfOk result (λ kept. RowsAre (λ p places. places ≡ with_source sources.now (row rows.now p))
+        (length rows.now) kept) }
+{
+    let mut kept = Rows::new(alloc);
+    let mut own = Vec::new(alloc);
+    for place in 0..rows.len() {
+        put_with_source(&mut own, rows.row(place), sources)?;
+        kept.push_row(&own)?;
+    }
+    Ok(kept)
+}
+
+fn put_with_source(
+    own: &mut Vec<usize>,
+    places: &[usize],
+    sources: &[Option<usize>],
+) -> Result<(), NoMemory>
+    ensures { OnOk result (own.new.items ≡ with_source sources.now places.now) }
+{
+    own.clear();
+    for place in places {
+        if source_at(sources, *place).is_some() {
+            own.push(*place)?;
+        }
+    }
+    Ok(())
+}
+
+fn found_for_each(
+    alloc: Global,
+    asked: &[Id],
+    ids: &[Id],
+    above: &Rows,
+    there: &[bool],
+    candidates: &[bool],
+) -> Result<Vec<Option<Vec<Id>>>, NoMemory>
+    requires { Ascend ids.now }
+    ensures { IfOk result (λ found. (f : List ℕ → Option (List (List ℕ)))
+        → ((id : List ℕ) (answer : Option (List (List ℕ))) → Contains asked.now id
+        → IsAnswer ids.now above.now there.now candidates.now id answer → answer ≡ f id)
+        → map (option_map (λ ids. ids.items)) found.items ≡ map f asked.now) }
+{
+    let mut found = Vec::with_capacity(alloc, asked.len())?;
+    let mut walks = Walks::over(alloc, ids.len())?;
+    for (turn, id) in asked.iter().enumerate() {
+        let place = absent_at(ids, there, id);
+        found.push(found_from(alloc, ids, above, candidates, &mut walks, turn + 1, place)?)?;
+    }
+    Ok(found)
+}
+
+// The marked ids above a place.
+fn found_from(
+    alloc: Global,
+    ids: &[Id],
+    above: &Rows,
+    marks: &[bool],
+    walks: &mut Walks,
+    turn: usize,
+    place: Option<usize>,
+) -> Result<Option<Vec<Id>>, NoMemory>
+    requires fresh { (q : ℕ) → slice_index walks.old.seen.items q < turn }
+    requires len { length walks.old.seen.items ≡ length ids.now }
+    requires within { IfSome place (λ place. place < length ids.now) }
+    ensures found { IfOk result (λ found. AreFrom ids.now above.now marks.now place
+        (option_map (λ ids. ids.items) found)) }
+    ensures bound { IfOk result (λ found. (q : ℕ) → slice_index walks.new.seen.items q ≤ turn) }
+    ensures len { IfOk result (λ found. length walks.new.seen.items ≡ length ids.now) }
+{
+    let Some(place) = place else {
+        return Ok(None);
+    };
+    walks.walk(above, turn, place)?;
+    Ok(Some(ids_marked(alloc, ids, marks, walks.places())?))
+}
+
+// Where an id stands, unless it is there.
+fn absent_at(ids: &[Id], there: &[bool], id: &Id) -> Option<usize>
+    requires { Ascend ids.now }
+    ensures some { IfSome result (λ place. IsAt ids.now id.now place) }
+    ensures absent { IfSome result (λ place. mark_of there.now place ≡ false) }
+    ensures none { IfNone result ((p : ℕ) → IsAt ids.now id.now p → mark_of there.now p ≡ true) }
+{
+    let place = place_of(ids, id)?;
+    if is_marked(there, place) {
+        return None;
+    }
+    Some(place)
+}
+
+// The ids at those of some places that are marked, ascending, each once.
+fn ids_marked(
+    alloc: Global,
+    ids: &[Id],
+    marks: &[bool],
+    places: &[usize],
+) -> Result<Vec<Id>, NoMemory>
+    requires { (q : ℕ) → Contains places.now q → q < length ids.now }
+    ensures ascend { IfOk result (λ found. Ascend found.items) }
+    ensures ids { IfOk result (λ found. found.items
+        ≡ in_order (map (id_at ids.now) (filter (mark_of marks.now) places.now))) }
+{
+    let those = those_marked(alloc, marks, places)?;
+    let mut found = ids_at(alloc, ids, &those)?;
+    sort_each_once(&mut found)?;
+    Ok(found)
+}
+
+// Those of some places that are marked.
+fn those_marked(alloc: Global, marks: &[bool], places: &[usize]) -> Result<Vec<usize>, NoMemory>
+    ensures { IfOk result (λ those. those.items ≡ filter (mark_of marks.now) places.now) }
+{
+    let mut those = Vec::new(alloc);
+    for place in places {
+        if is_marked(marks, *place) {
+            those.push(*place)?;
+        }
+    }
+    Ok(those)
+}

@@ -1,0 +1,139 @@
+//! What supersedes some SYSMODs, directly or through others, read once.
+ghost use Rattle.std.specs.Prelude.{◌≡◌, ◌++◌, ◌<◌, ℕ, List, Contains, IfOk, OnOk, length, map};
+ghost use Rattle.std.specs.BTreeMap.{insert_entry, keys, values};
+ghost use Rattle.catalogue.specs.Content.{superseders};
+ghost use Rattle.catalogue.specs.Ids.{Ascend, id_cmp};
+ghost use Rattle.catalogue.specs.View.{IsOpen, MayAsk, Tells};
+ghost use Rattle.catalogue.specs.declared.fault.SourceFault.TheVariants.{Device};
+ghost use Rattle.requisites.specs.Nodes.{AreReversed};
+ghost use Rattle.chains.specs.Climbs.{AreAbove, AreListed};
+ghost use Rattle.chains.specs.FramePlaces.{ArePlaced};
+
+use crate::gathered::ascending;
+use crate::places::put_places;
+use catalogue::{Ids, Published, SourceFault};
+use mcs_reader::{Id, NoMemory};
+use requisites::{Rows, turned};
+use std::alloc::Global;
+use std::collections::BTreeMap;
+
+/// Some SYSMODs and all that supersede them, directly or through others, ascending.
+#[derive(Debug, Drop)]
+pub(crate) struct Climb {
+    pub(crate) ids: Vec<Id>,
+    // For each the places of those that supersede it directly, and of those that it supersedes directly.
+    pub(crate) above: Rows,
+    pub(crate) below: Rows,
+}
+
+/// What supersedes these SYSMODs, directly or through others. Each SYSMOD is asked for once.
+pub(crate) fn climb_from<P: Published>(
+    alloc: Global,
+    source: &mut P,
+    starts: &[Id],
+) -> Result<Climb, SourceFault>
+    ensures asks { MayAsk P.content_view Device source.old source.new result }
+    ensures above { IfOk result (λ climb. Tells P.content_view source.old source.new
+        (λ content. AreAbove content climb.ids.items climb.above)) }
+    ensures ascend { IfOk result (λ climb. Ascend climb.ids.items) }
+    ensures starts { IfOk result (λ climb. (id : List ℕ) → Contains starts.now id → Contains climb.ids.items id) }
+    ensures rows { IfOk result (λ climb. length climb.above ≡ length climb.ids.items) }
+    ensures turned { IfOk result (λ climb. AreReversed climb.above (length climb.ids.items) climb.below) }
+    ensures standing { IfOk result (λ climb. (id : List ℕ) → Contains starts.now id
+        → IsOpen P.content_view source.new) }
+{
+    let found = superseders_of(alloc, source, starts)?;
+    Ok(by_places(alloc, found)?)
+}
+
+// What supersedes each of these directly, and each of those, and so on.
+fn superseders_of<P: Published>(
+    alloc: Global,
+    source: &mut P,
+    starts: &[Id],
+) -> Result<BTreeMap<Id, Ids>, SourceFault>
+    ensures asks { MayAsk P.content_view Device source.old source.new result }
+    ensures above { IfOk result (λ found. Tells P.content_view source.old source.new
+        (λ content. values found ≡ map (superseders content) (keys found))) }
+    ensures listed { IfOk result (λ found. AreListed (values found) (keys found)) }
+    ensures starts { IfOk result (λ found. (id : List ℕ) → Contains starts.now id → Contains (keys found) id) }
+    ensures standing { IfOk result (λ found. (id : List ℕ) → Contains (keys found) id
+        → IsOpen P.content_view source.new) }
+{
+    let mut found = BTreeMap::new(alloc);
+    let mut order = Vec::from_slice(alloc, starts)?;
+    let mut at = 0;
+    while at < order.len() {
+        let id = order[at];
+        at += 1;
+        if found.contains_key(&id) {
+            continue;
+        }
+        let above = source.superseders(&id)?;
+        add(&mut found, &mut order, id, ascending(above))?;
+    }
+    Ok(found)
+}
+
+// Puts what supersedes an id among what was found, and at the end of the order.
+fn add(
+    found: &mut BTreeMap<Id, Ids>,
+    order: &mut Vec<Id>,
+    id: Id,
+    above: Ids,
+) -> Result<(), NoMemory>
+    ensures found { OnOk result (found.new.entries ≡ insert_entry id_cmp found.old.entries id above) }
+    ensures order { OnOk result (order.new.items ≡ order.old.items ++ above) }
+{
+    order.extend_from_slice(above.as_slice())?;
+    found.insert(id, above)?;
+    Ok(())
+}
+
+fn by_places(alloc: Global, found: BTreeMap<Id, Ids>) -> Result<Climb, NoMemory>
+    ensures ids { IfOk result (λ climb. climb.ids.items ≡ keys found) }
+    ensures ascend { IfOk result (λ climb. Ascend climb.ids.items) }
+    ensures placed { IfOk result (λ climb. ArePlaced climb.ids.items (values found) climb.above) }
+    ensures turned { IfOk result (λ climb. AreReversed climb.above (length climb.ids.items) climb.below) }
+{
+    let ids = ids_found(alloc, &found)?;
+    let lists = lists_found(alloc, found)?;
+    let above = rows_of(alloc, &ids, &lists)?;
+    let below = turned(alloc, &above, ids.len())?;
+    Ok(Climb { ids, above, below })
+}
+
+// The ids of which something was read, ascending.
+fn ids_found(alloc: Global, found: &BTreeMap<Id, Ids>) -> Result<Vec<Id>, NoMemory>
+    ensures ids { IfOk result (λ ids. ids.items ≡ keys found.now) }
+    ensures ascend { IfOk result (λ ids. Ascend ids.items) }
+{
+    let mut ids = Vec::with_capacity(alloc, found.len())?;
+    for id in found.keys() {
+        ids.push(*id)?;
+    }
+    Ok(ids)
+}
+
+// What was read of them, in their order.
+fn lists_found(alloc: Global, found: BTreeMap<Id, Ids>) -> Result<Vec<Ids>, NoMemory>
+    ensures lists { IfOk result (λ lists. lists.items ≡ values found) }
+    ensures len { IfOk result (λ lists. length lists.items ≡ length (keys found)) }
+{
+    found.into_values().collect(alloc)
+}
+
+// For each of the ids the places of those that are listed for it.
+fn rows_of(alloc: Global, ids: &[Id], lists: &[Ids]) -> Result<Rows, NoMemory>
+    requires ascend { Ascend ids.now }
+    requires len { length lists.now ≡ length ids.now }
+    ensures { IfOk result (λ rows. ArePlaced ids.now lists.now rows) }
+{
+    let mut rows = Rows::new(alloc);
+    let mut places = Vec::new(alloc);
+    for (place, list) in lists.iter().enumerate() {
+        put_places(&mut places, ids, place + 1, list.as_slice())?;
+        rows.push_row(&places)?;
+    }
+    Ok(rows)
+}

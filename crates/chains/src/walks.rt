@@ -1,0 +1,80 @@
+//! Walks by rows of places, many after one another over the same places.
+ghost use Rattle.std.specs.Prelude.{◌≡◌, ◌<◌, ◌≤◌, ◌↔◌, ℕ, [], ◌∷◌, Contains, IfOk, OnOk, length, slice_index};
+ghost use Rattle.requisites.specs.Leads.{Leads};
+ghost use Rattle.requisites.specs.Nodes.{Links};
+ghost use Rattle.chains.specs.Climbs.{AreTaken};
+
+use mcs_reader::NoMemory;
+use requisites::Rows;
+use std::alloc::Global;
+
+/// Walks that have numbers. A walk costs what it comes to, and nothing for the other places.
+#[derive(Debug, Drop)]
+pub(crate) struct Walks {
+    // For each place the number of the last walk that came to it.
+    seen: Vec<usize>,
+    // The places to which the last walk came.
+    order: Vec<usize>,
+}
+
+impl Walks {
+    /// No walks over so many places.
+    pub(crate) fn over(alloc: Global, len: usize) -> Result<Walks, NoMemory>
+        ensures len { IfOk result (λ walks. length walks.seen.items ≡ len) }
+        ensures fresh { IfOk result (λ walks. (q : ℕ) → slice_index walks.seen.items q ≡ 0) }
+    {
+        Ok(Walks {
+            seen: vec![in alloc; 0; len]?,
+            order: Vec::new(alloc),
+        })
+    }
+
+    /// The places to which the last walk came, each once.
+    pub(crate) fn places(&self) -> &[usize]
+        ensures { result.now ≡ self.now.order.items }
+    {
+        self.order.as_slice()
+    }
+
+    /// Walks from a place to all to which rows lead, itself among them. Its number is higher than those before.
+    pub(crate) fn walk(&mut self, rows: &Rows, turn: usize, start: usize) -> Result<(), NoMemory>
+        requires fresh { (q : ℕ) → slice_index self.old.seen.items q < turn }
+        requires start { start < length self.old.seen.items }
+        ensures each { OnOk result ((q : ℕ) → Contains self.new.order.items q
+            ↔ Leads (Links rows.now (length self.old.seen.items)) start q) }
+        ensures bound { OnOk result ((q : ℕ) → slice_index self.new.seen.items q ≤ turn) }
+        ensures len { OnOk result (length self.new.seen.items ≡ length self.old.seen.items) }
+    {
+        self.order.clear();
+        self.take(turn, start)?;
+        let mut at = 0;
+        while at < self.order.len() {
+            let next = self.order[at];
+            at += 1;
+            self.take_row(turn, rows.row(next))?;
+        }
+        Ok(())
+    }
+
+    // Comes to each place of a row to which the walk has not come.
+    fn take_row(&mut self, turn: usize, row: &[usize]) -> Result<(), NoMemory>
+        ensures { OnOk result (AreTaken turn row.now self.old.seen.items self.new.seen.items
+            self.old.order.items self.new.order.items) }
+    {
+        for place in row {
+            self.take(turn, *place)?;
+        }
+        Ok(())
+    }
+
+    fn take(&mut self, turn: usize, place: usize) -> Result<(), NoMemory>
+        ensures { OnOk result (AreTaken turn (place ∷ []) self.old.seen.items self.new.seen.items
+            self.old.order.items self.new.order.items) }
+    {
+        if place < self.seen.len() && self.seen[place] != turn {
+            self.seen[place] = turn;
+            self.order.push(place)?;
+        }
+        Ok(())
+    }
+}

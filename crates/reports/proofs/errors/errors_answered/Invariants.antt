@@ -1,0 +1,12 @@
+use Rattle.std.proofs.Common.{◌≡◌, List, map, option_map, take}
+use Rattle.zone_lists.specs.declared.zones.ZoneRow.{ZoneRow}
+use Rattle.catalogue.specs.Content.{Content}
+use Rattle.catalogue.specs.Ids.{in_order}
+use Rattle.chains.specs.Candidates.{candidates_unless_there}
+use Rattle.reports.specs.Found.{errors_found}
+use Rattle.reports.proofs.errors.errors_answered.Given as goal
+
+abbrev pub invariant-loop-one : goal.invariant-loop-one
+invariant-loop-one l =
+    (content : Content) (rows : List ZoneRow) → map (option_map (λ ids. ids.items)) l.answers ≡ map (candidates_unless_there content rows) l.reasons
+    → l.reasons ≡ in_order (map (λ one. one.reason) l.held) → l.found.items ≡ errors_found content rows (take l.one-index l.held)
