@@ -4,6 +4,7 @@ use reports::{ErrRow, MissingCategory, MissingRow, Status, err_text, missing_tex
 use std::test::Fail;
 
 mod failing;
+mod long_row;
 mod worked;
 
 const ERR_FRONT: &str = "\

@@ -18,13 +18,21 @@ use zone_lists::{Pattern, patterns, zone_rows};
 
 // Lists that answer a number of reads, and then fail for good.
 #[derive(Drop)]
-struct Failing {
+pub(crate) struct Failing {
     lists: ListPublished,
     left: u64,
     failures: u64,
 }
 
 impl Failing {
+    pub(crate) fn after(lists: ListPublished, left: u64) -> Failing {
+        Failing {
+            lists,
+            left,
+            failures: 0,
+        }
+    }
+
     // Counts a read. Whether it fails.
     fn fails(&mut self) -> bool
         ensures lists { self.new.lists ≡ self.old.lists }
@@ -39,6 +47,11 @@ impl Failing {
         self.left -= 1;
         false
     }
+}
+
+// How many reads it still answers.
+pub(crate) fn reads_left(source: &Failing) -> u64 {
+    source.left
 }
 
 impl Published for Failing {
@@ -185,11 +198,7 @@ fn make(alloc: Global, source: &mut Failing, asked: &Asked, call: Call) -> Resul
 fn reads_of(alloc: Global, asked: &Asked, which: Call) -> Result<u64, Fail> {
     for left in 0..64 {
         let lists = published(alloc, FIXCAT)?;
-        let mut source = Failing {
-            lists,
-            left,
-            failures: 0,
-        };
+        let mut source = Failing::after(lists, left);
         match make(alloc, &mut source, asked, which) {
             Ok(()) => return Ok(left),
             Err(SourceFault::Memory) => return Err(Fail::from(
@@ -215,7 +224,7 @@ fn each_read_that_fails_is_passed_on(rt: HostRuntime) -> Result<(), Fail> {
         (Call::Verdict, 7),
         (Call::Statuses, 7),
         (Call::ErrRows, 11),
-        (Call::MissingRows, 15),
+        (Call::MissingRows, 11),
         (Call::PlanJson, 8),
     ];
     for (which, count) in reads {
