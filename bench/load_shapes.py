@@ -215,7 +215,7 @@ def superseding(count=1000):
 
 def reasons_in_a_row(count=500):
     """Holds whose reasons stand in a row of superseding. The last of it is installed, so each reason is there and no row is shown.
-    Today a report walks the row anew for each hold, which costs the square of its length (`bench/README.md`)."""
+    A report that walked the row anew for each hold would cost the square of its length (`bench/README.md`)."""
     names = ["S%06d" % place for place in range(count)]
     held_ones = ["U%06d" % place for place in range(count)]
     text = FUNCTION + ptf(names[0]) + "".join(ptf(name, "SUP(%s)" % before) for before, name in zip(names, names[1:]))
