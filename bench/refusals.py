@@ -63,19 +63,19 @@ def see(good, *shown):
         raise Wrong(" ".join(str(each)[:1500] for each in shown))
 
 
-def compiled(room):
-    """The library that refuses."""
+def compiled(room, name="refuse"):
+    """The library that hostile/NAME.c makes."""
     kit = os.path.dirname(os.path.dirname(os.path.realpath(shutil.which("rt") or "/")))
-    target = os.path.join(room, "refuse.so")
+    target = os.path.join(room, name + ".so")
     for compiler in ("cc", "gcc", "clang", os.path.join(kit, "toolchain", "bin", "clang")):
         more = ["-fuse-ld=lld"] if "toolchain" in compiler else []
-        words = [compiler, "-O1", "-shared", "-fPIC", "-nostdlib", *more, "-o", target, os.path.join(HERE, "hostile", "refuse.c")]
+        words = [compiler, "-O1", "-shared", "-fPIC", "-nostdlib", *more, "-o", target, os.path.join(HERE, "hostile", name + ".c")]
         try:
             if subprocess.run(words, capture_output=True).returncode == 0:
                 return target
         except OSError:
             pass
-    sys.exit("refusals: no C compiler makes hostile/refuse.c")
+    sys.exit("no C compiler makes hostile/%s.c" % name)
 
 
 class Refusing:

@@ -1,0 +1,15 @@
+//! Tests of what a stop leaves of a store in files, whose device fails at each of its calls in turn.
+//!
+//! They stand in a crate of their own, since they are proved too, and cross all crates of the store.
+#![tactic(auto)]
+
+#[cfg(test)]
+mod damage_tests;
+#[cfg(test)]
+mod desk;
+#[cfg(test)]
+mod device_tests;
+#[cfg(test)]
+mod files;
+#[cfg(test)]
+mod script;
