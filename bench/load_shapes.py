@@ -213,7 +213,7 @@ def superseding(count=1000):
     return shape
 
 
-def reasons_in_a_row(count=500):
+def reasons_in_a_row(count=19000):
     """Holds whose reasons stand in a row of superseding. The last of it is installed, so each reason is there and no row is shown.
     A report that walked the row anew for each hold would cost the square of its length (`bench/README.md`)."""
     names = ["S%06d" % place for place in range(count)]
