@@ -6,6 +6,7 @@ pub mod OpenFacts
 pub mod SweepFacts
 pub mod PlanFacts
 pub mod PickFacts
+pub mod MarkingFacts
 pub mod VerdictFacts
 pub mod CascadeFacts
 pub mod ReversedFacts

@@ -15,6 +15,6 @@ pub from_none : {X : Type 0} {P : Type 0} (o : Option X) → o ≡ None → IfNo
 from_none None e holds = holds
 from_none (Some x) e holds = absurd (cc)
 
-pub both_ok : {X E : Type 0} {P Q R : X → Type 0} (r : Result X E) → IfOk r P → IfOk r Q → ((x : X) → P x → Q x → R x) → IfOk r R
-both_ok (Ok x) p q both = both x p q
-both_ok (Err e) p q both = tt
+pub ok_then : {X E : Type 0} {P Q : X → Type 0} (r : Result X E) → IfOk r P → ((x : X) → P x → Q x) → IfOk r Q
+ok_then (Ok x) holds then = then x holds
+ok_then (Err e) holds then = tt

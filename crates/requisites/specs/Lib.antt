@@ -5,6 +5,7 @@ pub mod Sources
 pub mod Spread
 pub mod Good
 pub mod Picks
+pub mod Marking
 pub mod Verdict
 pub mod Reversed
 pub mod Rows

@@ -1,7 +1,7 @@
 -- No part of what is promised: private contracts cite it. Picks by place.
-use Rattle.std.specs.Prelude.{◌<◌, ◌⊎◌, ℕ, List, Contains}
+use Rattle.std.specs.Prelude.{◌⊎◌, ℕ, List, Contains}
 use Rattle.requisites.specs.World.{IsGoodGiver, IsPick, PicksFor}
-use Rattle.requisites.specs.Nodes.{IsMarked, row, world}
+use Rattle.requisites.specs.Nodes.{IsMarked, world}
 use Rattle.requisites.specs.declared.nodes.Nodes.{Nodes}
 
 -- z is the pick for a need that isn't there
@@ -17,7 +17,3 @@ HasNoPick nodes need = IsMarked nodes.there.items need ⊎ ((z : ℕ) → IsGood
 pub record ArePicksFor (nodes : Nodes) (p : ℕ) (picks : List ℕ) : Type 0 where
   pub picked : (z : ℕ) → Contains picks z → PicksFor (world nodes) p z
   pub whole : (z : ℕ) → PicksFor (world nodes) p z → Contains picks z
-
--- each place below n has the row of its picks
-pub record ArePicks (nodes : Nodes) (n : ℕ) (picks : List (List ℕ)) : Type 0 where
-  pub rows : (p : ℕ) → p < n → ArePicksFor nodes p (row picks p)

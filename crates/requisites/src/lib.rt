@@ -10,6 +10,7 @@
 
 mod cascade;
 mod good;
+mod marking;
 mod nodes;
 mod reversed;
 mod rings;

@@ -1,17 +1,16 @@
 //! The verdict on one place: its chosen plan, or why it has none.
-ghost use Rattle.std.specs.Prelude.{◌≡◌, ◌<◌, ℕ, length, Contains, IfNone, IfOk, IfSome, OnOk};
+ghost use Rattle.std.specs.Prelude.{◌≡◌, IfNone, IfOk, IfSome, OnOk};
 ghost use Rattle.std.specs.List.Sorted.{IsStrictlyIncreasing};
 ghost use Rattle.requisites.specs.Good.{AreGood};
 ghost use Rattle.requisites.specs.Nodes.{IsMarked, world};
-ghost use Rattle.requisites.specs.Picks.{ArePicks, ArePicksFor, HasNoPick, IsNeedPick};
-ghost use Rattle.requisites.specs.Sources.{HasSource};
+ghost use Rattle.requisites.specs.Picks.{ArePicksFor, HasNoPick, IsNeedPick};
 ghost use Rattle.requisites.specs.Verdict.{IsVerdict};
 ghost use Rattle.requisites.specs.World.{IsChosenPlan};
 
+use crate::NoMemory;
 use crate::good::{Resolution, least_open_need};
+use crate::marking::Marked;
 use crate::nodes::Nodes;
-use crate::sources::{least_sources, source_at};
-use crate::{NoMemory, Rows};
 use std::alloc::Global;
 
 /// Whether a place can be installed, and with what, or why not.
@@ -51,7 +50,7 @@ pub fn verdict_of_place(
     }
 }
 
-// The chosen plan of a good place, ascending: all to which a list of picks leads.
+// The chosen plan of a good place, ascending: all to which a list of picks leads. The needs of no other place are looked at.
 fn chosen_plan(
     alloc: Global,
     nodes: &Nodes,
@@ -63,51 +62,17 @@ fn chosen_plan(
     ensures chosen { IfOk result (λ plan. IsChosenPlan (world nodes.now) place plan.items) }
     ensures ascends { IfOk result (λ plan. IsStrictlyIncreasing plan.items) }
 {
-    let picks = all_picks(alloc, nodes, resolution)?;
-    let start = only(alloc, nodes.candidates.len(), place)?;
-    let sources = least_sources(alloc, &picks, &start)?;
-    reached_places(alloc, &sources)
-}
-
-// The marks of one place alone.
-fn only(alloc: Global, len: usize, place: usize) -> Result<Vec<bool>, NoMemory>
-    requires { place < len }
-    ensures len { IfOk result (λ marks. length marks.items ≡ len) }
-    ensures own { IfOk result (λ marks. IsMarked marks.items place) }
-    ensures alone { IfOk result (λ marks. (p : ℕ) → IsMarked marks.items p → p ≡ place) }
-{
-    let mut marks = vec![in alloc; false; len]?;
-    marks[place] = true;
-    Ok(marks)
-}
-
-// The places that have a source, ascending.
-fn reached_places(alloc: Global, sources: &[Option<usize>]) -> Result<Vec<usize>, NoMemory>
-    ensures reached { IfOk result (λ places. (p : ℕ) → Contains places.items p → HasSource sources.now p) }
-    ensures whole { IfOk result (λ places. (p : ℕ) → HasSource sources.now p → Contains places.items p) }
-    ensures ascends { IfOk result (λ places. IsStrictlyIncreasing places.items) }
-{
-    let mut places = Vec::new(alloc);
-    for place in 0..sources.len() {
-        if source_at(sources, place).is_some() {
-            places.push(place)?;
-        }
+    let mut chosen = Marked::none(alloc, nodes.candidates.len())?;
+    chosen.mark(place)?;
+    let mut picks = Vec::new(alloc);
+    let mut at = 0;
+    while at < chosen.order.len() {
+        let next = chosen.order[at];
+        at += 1;
+        put_picks(&mut picks, nodes, resolution, next)?;
+        chosen.mark_row(&picks)?;
     }
-    Ok(places)
-}
-
-// For each place the picks for its needs.
-fn all_picks(alloc: Global, nodes: &Nodes, resolution: &Resolution) -> Result<Rows, NoMemory>
-    requires { AreGood nodes.now resolution.now.good.items resolution.now.givers.items }
-    ensures { IfOk result (λ picks. ArePicks nodes.now (length nodes.now.candidates.items) picks) }
-{
-    let mut picks = Rows::new(alloc);
-    let mut own = Vec::new(alloc);
-    for place in 0..nodes.candidates.len() {
-        put_picks(&mut own, nodes, resolution, place)?;
-        picks.push_row(&own)?;
-    }
-    Ok(picks)
+    chosen.ascending(alloc)
 }
 
 // Makes a list that of the picks for the needs of a place that aren't there.

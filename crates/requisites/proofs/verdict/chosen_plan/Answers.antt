@@ -1,18 +1,34 @@
-use Rattle.std.proofs.Common.{ℕ, List, Option, refl, sym, subst, arith}
-use Rattle.requisites.specs.Sources.{AreLeastSources}
-use Rattle.requisites.proofs.TestFacts.{both_ok}
-use Rattle.requisites.proofs.VerdictFacts.{plan_found, sources_read}
+use Rattle.std.proofs.Common.{◌≡◌, ◌<◌, ◌∷◌, [], List, ℕ, Bool, length, get_or, replicate, false, rules, subst, arith}
+use Rattle.requisites.specs.Marking.{AreMarked}
+use Rattle.requisites.proofs.MarkingFacts.{picking_begins, picking_ends, picking_goes_on, plan_marked}
+use Rattle.requisites.proofs.TestFacts.{ok_then}
 use Rattle.requisites.proofs.verdict.chosen_plan.Goals as goal
+
+pub loop-at-init : goal.loop-at-init
+loop-at-init c =
+    let nodes = c.args.nodes.now in
+    let x = c.args.place in
+    let M : List Bool → Type 0 = λ l. AreMarked (x ∷ []) l c.mark.new.self.marks.items c.in_ok-chosen.chosen.order.items c.mark.new.self.order.items in
+    let T : List ℕ → Type 0 = λ l. AreMarked (x ∷ []) (replicate c.len.result false) c.mark.new.self.marks.items l c.mark.new.self.order.items in
+    let N : ℕ → Type 0 = λ n. AreMarked (x ∷ []) (replicate n false) c.mark.new.self.marks.items [] c.mark.new.self.order.items in
+    picking_begins nodes x c.mark.new.self.marks.items c.mark.new.self.order.items (c.requires.good.marked x c.requires.marked)
+    (subst N (omega (arith, c.len.ensures, nodes.candidates.ok.0)) (subst T c.in_ok-chosen.ensures.order (subst M c.in_ok-chosen.ensures.marks c.in_ok-mark.ensures)))
+
+pub loop-at-preserved : goal.loop-at-preserved
+loop-at-preserved c =
+    let order = c.loop-at.chosen.order.items in
+    let next = c.index-next.result.now in
+    let below : c.loop-at.at < length order = search rules in
+    let is : next ≡ get_or order c.loop-at.at next = search rules in
+    let P : List ℕ → Type 0 = λ l. AreMarked l c.loop-at.chosen.marks.items c.mark_row.new.self.marks.items order c.mark_row.new.self.order.items in
+    picking_goes_on c.args.nodes.now c.args.place c.loop-at.chosen.marks.items c.mark_row.new.self.marks.items order c.mark_row.new.self.order.items
+    c.put_picks.new.picks.items c.loop-at.at next below is c.in_ok-put_picks.ensures (subst P c.deref.ensures.value c.in_ok-mark_row.ensures) c.loop-at.invariant
 
 pub returns-clause-chosen : goal.returns-clause-chosen
 returns-clause-chosen c =
     let nodes = c.args.nodes.now in
     let x = c.args.place in
-    let picks = c.in_ok-picks.picks in
-    let start = c.in_ok-start.start.items in
-    let found = sources_read picks picks start c.deref.result.now c.in_ok-sources.sources.items refl c.deref.ensures.value c.in_ok-sources.ensures.sources in
-    let P : List (Option ℕ) → Type 0 = λ s. AreLeastSources picks start s in
-    both_ok c.reached_places.result c.reached_places.ensures.reached c.reached_places.ensures.whole
-    (λ plan reached whole. plan_found nodes x picks start c.deref-2.result.now plan.items
-    (c.requires.good.marked x c.requires.marked) c.in_ok-picks.ensures (omega (arith, c.in_ok-start.ensures.len, c.len.ensures, nodes.candidates.ok.0)) c.in_ok-start.ensures.own c.in_ok-start.ensures.alone
-    (subst P (sym c.deref-2.ensures.value) found) reached whole)
+    let marks = c.loop-at.chosen.marks.items in
+    ok_then c.ascending.result c.ascending.ensures.marked
+    (λ plan are. plan_marked nodes x marks plan.items (c.requires.good.marked x c.requires.marked)
+    (picking_ends nodes x marks c.loop-at.chosen.order.items c.loop-at.at (search rules) c.loop-at.invariant) are)

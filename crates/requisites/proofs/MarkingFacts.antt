@@ -1,0 +1,284 @@
+-- Walks by picks, over places that are marked.
+use Rattle.std.proofs.Common.{◌≡◌, ◌↔◌, ◌∙◌, ℕ, ◌+◌, ◌<◌, ◌≤◌, List, [], ◌∷◌, ◌++◌, Bool, true, false, length, get_or, set, replicate, take, refl, sym, ap, subst, inl, inr, arith}
+use Rattle.std.specs.List.{Contains}
+use Rattle.std.specs.List.Sorted.{IsStrictlyIncreasing}
+use Rattle.std.proofs.lemmas.Bool.{cases_eq, cases_lt}
+use Rattle.std.proofs.lemmas.Grind.{common_steps}
+use Rattle.std.proofs.lemmas.List.{append-nil, append_assoc, get_or-replicate, get_or-set_other, get_or-set_same, get_or_append_left, get_or_past, get_or_push, length-append, length-set, take-append-le, take_all, take_more}
+use Rattle.std.proofs.lemmas.List.Elements.{Contains-append_cases, Contains-append_left, Contains-append_right, Contains-get_or, Contains-push, Contains-push_cases}
+use Rattle.requisites.specs.Marking.{AreChosenMarks, AreMarked, IsPicking}
+use Rattle.requisites.specs.Nodes.{IsMarked, mark_of, world}
+use Rattle.requisites.specs.Picks.{ArePicksFor}
+use Rattle.requisites.specs.World.{IsChosen, IsChosenPlan, IsGood, PicksFor}
+use Rattle.requisites.specs.declared.nodes.Nodes.{Nodes}
+use Rattle.requisites.proofs.LeadsFacts.{leads_closed, leads_itself, leads_more}
+use Rattle.requisites.proofs.VerdictFacts.{good_inside, good_of_pick}
+
+none_inside : (x : ℕ) → Contains [] x → ⊥
+none_inside x inside = omega (arith, inside.1)
+
+in_one : (p q : ℕ) → Contains (p ∷ []) q → p ≡ q
+in_one p q inside = elim (Contains-push_cases [] p q inside) [ inl none ↦ absurd (none_inside q none) | inr same ↦ same ]
+
+no_marks : (len p : ℕ) → IsMarked (replicate len false) p → ⊥
+no_marks len p marked = let on : mark_of (replicate len false) p ≡ true = marked.is in let off = never in cc where
+  never : mark_of (replicate len false) p ≡ false
+  never = elim (cases_lt p len) [
+    | inl inside ↦ get_or-replicate len p false false inside
+    | inr past ↦ get_or_past (replicate len false) p false (let e : length (replicate len false) ≡ len = grind (arith, common_steps) in omega arith)
+  ]
+
+-- ---- places of a row
+
+pub marked_none : (marks : List Bool) (order : List ℕ) → AreMarked [] marks marks order order
+marked_none marks order = record {
+  more = [];
+  goes_on = sym (append-nil order);
+  drawn = λ q inside. absurd (none_inside q inside);
+  put = λ were. were;
+  marked = λ were. were;
+  whole = λ q inside within. absurd (none_inside q inside);
+  stays = λ q is. is;
+  len = refl;
+}
+
+-- a place that had no mark
+pub marked_now : (place : ℕ) (marks : List Bool) (order order' : List ℕ) → place < length marks → order' ≡ order ++ place ∷ []
+    → AreMarked (place ∷ []) marks (set marks place true) order order'
+marked_now place marks order order' within now = record {
+  more = place ∷ [];
+  goes_on = now;
+  drawn = λ q inside. inside;
+  put = λ were q is. listed q (elim (cases_eq q place) [
+    | inl same ↦ (let Q : ℕ → Type 0 = λ k. Contains (order ++ place ∷ []) k in subst Q (sym same) (Contains-push order place))
+    | inr other ↦ Contains-append_left order (place ∷ []) q (were q (record { is = sym (elsewhere q other) ∙ is.is }))
+  ]);
+  marked = λ were q inside. (let P : List ℕ → Type 0 = λ l. Contains l q in elim (Contains-push_cases order place q (subst P now inside)) [
+    | inl before ↦ kept q (were q before)
+    | inr same ↦ (let Q : ℕ → Type 0 = λ k. IsMarked (set marks place true) k in subst Q same here)
+  ]);
+  whole = λ q inside below. (let Q : ℕ → Type 0 = λ k. IsMarked (set marks place true) k in subst Q (in_one place q inside) here);
+  stays = kept;
+  len = length-set marks place true;
+} where
+  listed : (q : ℕ) → Contains (order ++ place ∷ []) q → Contains order' q
+  listed q inside = let P : List ℕ → Type 0 = λ l. Contains l q in subst P (sym now) inside
+
+  elsewhere : (q : ℕ) → (q ≡ place → ⊥) → mark_of (set marks place true) q ≡ mark_of marks q
+  elsewhere q other = get_or-set_other marks place q true false other
+
+  here : IsMarked (set marks place true) place
+  here = record { is = get_or-set_same marks place true false within }
+
+  kept : (q : ℕ) → IsMarked marks q → IsMarked (set marks place true) q
+  kept q is = elim (cases_eq q place) [
+    | inl same ↦ (let Q : ℕ → Type 0 = λ k. IsMarked (set marks place true) k in subst Q (sym same) here)
+    | inr other ↦ record { is = elsewhere q other ∙ is.is }
+  ]
+
+-- a place that has a mark, or that is no place
+pub marked_before : (place : ℕ) (marks : List Bool) (order : List ℕ) → (place < length marks → mark_of marks place ≡ true) → AreMarked (place ∷ []) marks marks order order
+marked_before place marks order here = record {
+  more = [];
+  goes_on = sym (append-nil order);
+  drawn = λ q inside. absurd (none_inside q inside);
+  put = λ were. were;
+  marked = λ were. were;
+  whole = λ q inside within. (let P : ℕ → Type 0 = λ k. k < length marks → mark_of marks k ≡ true in record { is = subst P (in_one place q inside) here within });
+  stays = λ q is. is;
+  len = refl;
+}
+
+pub marked_more : (listed : List ℕ) (i place : ℕ) (a b c : List Bool) (x y z : List ℕ) → i < length listed → place ≡ get_or listed i 0
+    → AreMarked (take i listed) a b x y → AreMarked (place ∷ []) b c y z → AreMarked (take (i + 1) listed) a c x z
+marked_more listed i place a b c x y z below at first second =
+    let front : take (i + 1) listed ≡ take i listed ++ place ∷ [] = take_more listed i 0 below ∙ ap (λ k. take i listed ++ k ∷ []) (sym at) in
+    let T : List ℕ → Type 0 = λ l. AreMarked l a c x z in
+    subst T (sym front) (record {
+      more = first.more ++ second.more;
+      goes_on = second.goes_on ∙ ap (λ l. l ++ second.more) first.goes_on ∙ append_assoc x first.more second.more;
+      drawn = λ q inside. elim (Contains-append_cases first.more second.more q inside) [
+        | inl before ↦ Contains-append_left (take i listed) (place ∷ []) q (first.drawn q before)
+        | inr now ↦ Contains-append_right (take i listed) (place ∷ []) q (second.drawn q now)
+      ];
+      put = λ were. second.put (first.put were);
+      marked = λ were. second.marked (first.marked were);
+      whole = λ q inside within. elim (Contains-append_cases (take i listed) (place ∷ []) q inside) [
+        | inl before ↦ second.stays q (first.whole q before within)
+        | inr now ↦ second.whole q now (omega (arith, within, first.len))
+      ];
+      stays = λ q is. second.stays q (first.stays q is);
+      len = second.len ∙ first.len;
+    })
+
+pub marked_all : (listed : List ℕ) (i : ℕ) (a b : List Bool) (x y : List ℕ) → length listed ≤ i → AreMarked (take i listed) a b x y → AreMarked listed a b x y
+marked_all listed i a b x y end marked = let T : List ℕ → Type 0 = λ l. AreMarked l a b x y in subst T (take_all i listed end) marked
+
+-- ---- the walk
+
+module _ (nodes : Nodes) (x : ℕ) where
+  pub picking_begins : (marks : List Bool) (order : List ℕ) → IsGood (world nodes) x
+      → AreMarked (x ∷ []) (replicate (length nodes.candidates.items) false) marks [] order → IsPicking nodes x marks order 0
+  picking_begins marks order good first = record {
+    begun = put x (first.whole x (Contains-push [] x) (let inside = good_inside nodes x good in omega (arith, inside, blank)));
+    put = put;
+    marked = first.marked (λ q inside. absurd (none_inside q inside));
+    followed = λ p z inside picks. absurd (none_inside p inside);
+    chosen = λ q inside.
+        (let P : List ℕ → Type 0 = λ l. Contains l q in
+        let Q : ℕ → Type 0 = λ k. IsChosen (world nodes) x k in
+        subst Q (in_one x q (first.drawn q (subst P first.goes_on inside))) (leads_itself (PicksFor (world nodes)) x));
+    within = omega arith;
+    len = first.len ∙ blank;
+  } where
+    n : ℕ
+    n = length nodes.candidates.items
+
+    blank : length (replicate (length nodes.candidates.items) false) ≡ length nodes.candidates.items
+    blank = grind (arith, common_steps)
+
+    put : (q : ℕ) → IsMarked marks q → Contains order q
+    put = first.put (λ q is. absurd (no_marks (length nodes.candidates.items) q is))
+
+  pub picking_goes_on : (marks marks' : List Bool) (order order' own : List ℕ) (at next : ℕ) → at < length order → next ≡ get_or order at next
+      → ArePicksFor nodes next own → AreMarked own marks marks' order order' → IsPicking nodes x marks order at → IsPicking nodes x marks' order' (at + 1)
+  picking_goes_on marks marks' order order' own at next below is picks now was = record {
+    begun = kept x was.begun;
+    put = put;
+    marked = now.marked was.marked;
+    followed = λ p z inside picks_for. (
+        let P : List ℕ → Type 0 = λ l. Contains l p in
+        elim (Contains-push_cases (take at order) next p (subst P front inside)) [
+          | inl before ↦ kept z (was.followed p z before picks_for)
+          | inr same ↦
+              let R : ℕ → Type 0 = λ k. PicksFor (world nodes) k z in
+              let place = good_inside nodes z (good_of_pick nodes picks_for.need z picks_for.pick) in
+              put z (now.whole z (picks.whole z (subst R (sym same) picks_for)) (omega (arith, place, was.len)))
+        ]);
+    chosen = λ q inside. (
+        let L : List ℕ → Type 0 = λ l. Contains l q in
+        elim (Contains-append_cases order now.more q (subst L now.goes_on inside)) [
+          | inl before ↦ was.chosen q before
+          | inr later ↦ leads_more (was.chosen next here) (picks.picked q (now.drawn q later))
+        ]);
+    within = (let longer = length_more in omega (arith, below, longer));
+    len = now.len ∙ was.len;
+  } where
+    put : (q : ℕ) → IsMarked marks' q → Contains order' q
+    put = now.put was.put
+
+    kept : (q : ℕ) → Contains order q → Contains order' q
+    kept q inside = let L : List ℕ → Type 0 = λ l. Contains l q in subst L (sym now.goes_on) (Contains-append_left order now.more q inside)
+
+    here : Contains order next
+    here = (at, below, sym is)
+
+    front : take (at + 1) order' ≡ take at order ++ next ∷ []
+    front =
+        ap (take (at + 1)) now.goes_on ∙ take-append-le (at + 1) order now.more (omega (arith, below)) ∙ take_more order at next below
+        ∙ ap (λ k. take at order ++ k ∷ []) (sym is)
+
+    length_more : length order ≤ length order'
+    length_more = omega (arith, ap length now.goes_on ∙ length-append order now.more)
+
+  pub picking_ends : (marks : List Bool) (order : List ℕ) (at : ℕ) → length order ≤ at → IsPicking nodes x marks order at → AreChosenMarks nodes x marks
+  picking_ends marks order at whole was = record {
+    chosen = λ q is. was.chosen q (was.put q is);
+    whole = λ q chosen. was.marked q (leads_closed (λ p. Contains order p) step was.begun chosen);
+  } where
+    step : (p z : ℕ) → Contains order p → PicksFor (world nodes) p z → Contains order z
+    step p z here picks_for =
+        let Q : List ℕ → Type 0 = λ l. Contains l p in
+        was.followed p z (subst Q (sym (take_all at order whole)) here) picks_for
+
+  -- the marked places are the chosen plan
+  pub plan_marked : (marks : List Bool) (plan : List ℕ) → IsGood (world nodes) x → AreChosenMarks nodes x marks
+      → ((p : ℕ) → Contains plan p ↔ IsMarked marks p) → IsChosenPlan (world nodes) x plan
+  plan_marked marks plan good chosen are = record {
+    good = good;
+    chosen = λ y inside. chosen.chosen y ((are y).0 inside);
+    whole = λ y is. (are y).1 (chosen.whole y is);
+  }
+
+-- ---- the marked places, ascending
+
+-- a mark that is read through a reference
+pub mark_read : (seen marks : List Bool) (i : ℕ) (b : Bool) → seen ≡ marks → mark_of seen i ≡ b → mark_of marks i ≡ b
+mark_read seen marks i b same is = let P : List Bool → Type 0 = λ l. mark_of l i ≡ b in subst P same is
+
+pub record AreMarkedBelow (marks : List Bool) (i : ℕ) (places : List ℕ) : Type 0 where
+  pub marked : (p : ℕ) → Contains places p → IsMarked marks p
+  pub below : (p : ℕ) → Contains places p → p < i
+  pub whole : (p : ℕ) → p < i → IsMarked marks p → Contains places p
+  pub ascends : IsStrictlyIncreasing places
+
+pub below_none : (marks : List Bool) → AreMarkedBelow marks 0 []
+below_none marks = record {
+  marked = λ p inside. absurd (none_inside p inside);
+  below = λ p inside. absurd (none_inside p inside);
+  whole = λ p h is. absurd (omega arith);
+  ascends = λ k h. absurd (omega arith);
+}
+
+increasing_push : (xs : List ℕ) (y : ℕ) → IsStrictlyIncreasing xs → ((p : ℕ) → Contains xs p → p < y) → IsStrictlyIncreasing (xs ++ y ∷ [])
+increasing_push xs y up below k h = elim (cases_lt (k + 1) (length xs)) [
+  | inl inside ↦
+      (let first : get_or (xs ++ y ∷ []) k 0 ≡ get_or xs k 0 = get_or_append_left xs (y ∷ []) 0 k (omega arith) in
+      let second : get_or (xs ++ y ∷ []) (k + 1) 0 ≡ get_or xs (k + 1) 0 = get_or_append_left xs (y ∷ []) 0 (k + 1) inside in
+      let order : get_or xs k 0 < get_or xs (k + 1) 0 = up k inside in
+      omega arith)
+  | inr past ↦
+      (let len : length (xs ++ y ∷ []) ≡ length xs + 1 = length-append xs (y ∷ []) in
+      let last : length xs ≡ k + 1 = omega arith in
+      let first : get_or (xs ++ y ∷ []) k 0 ≡ get_or xs k 0 = get_or_append_left xs (y ∷ []) 0 k (omega arith) in
+      let second : get_or (xs ++ y ∷ []) (k + 1) 0 ≡ y = get_or_push xs y 0 (k + 1) last in
+      let order : get_or xs k 0 < y = below (get_or xs k 0) (Contains-get_or xs k 0 (omega arith)) in
+      omega arith)
+]
+
+pub below_more : (marks : List Bool) (i : ℕ) (places places' : List ℕ) → places' ≡ places ++ i ∷ [] → mark_of marks i ≡ true → AreMarkedBelow marks i places → AreMarkedBelow marks (i + 1) places'
+below_more marks i places places' now on was =
+    let T : List ℕ → Type 0 = λ l. AreMarkedBelow marks (i + 1) l in
+    subst T (sym now) (record {
+      marked = λ p inside. elim (Contains-push_cases places i p inside) [
+        | inl before ↦ was.marked p before
+        | inr same ↦ (let P : ℕ → Type 0 = λ k. IsMarked marks k in subst P same (record { is = on }))
+      ];
+      below = λ p inside. elim (Contains-push_cases places i p inside) [
+        | inl before ↦ omega (arith, was.below p before)
+        | inr same ↦ omega arith
+      ];
+      whole = λ p h is. elim (cases_lt p i) [
+        | inl before ↦ Contains-append_left places (i ∷ []) p (was.whole p before is)
+        | inr after ↦ (let same : i ≡ p = omega arith in let P : ℕ → Type 0 = λ k. Contains (places ++ i ∷ []) k in subst P same (Contains-push places i))
+      ];
+      ascends = increasing_push places i was.ascends was.below;
+    })
+
+pub below_skip : (marks : List Bool) (i : ℕ) (places places' : List ℕ) → places' ≡ places → mark_of marks i ≡ false → AreMarkedBelow marks i places → AreMarkedBelow marks (i + 1) places'
+below_skip marks i places places' same off was =
+    let T : List ℕ → Type 0 = λ l. AreMarkedBelow marks (i + 1) l in
+    subst T (sym same) (record {
+      marked = was.marked;
+      below = λ p inside. omega (arith, was.below p inside);
+      whole = λ p h is. elim (cases_lt p i) [
+        | inl before ↦ was.whole p before is
+        | inr after ↦ absurd (
+            let here : p ≡ i = omega arith in
+            let P : ℕ → Type 0 = λ k. mark_of marks k ≡ true in
+            let on : mark_of marks i ≡ true = subst P here is.is in
+            cc)
+      ];
+      ascends = was.ascends;
+    })
+
+pub below_whole : (marks : List Bool) (i : ℕ) (places : List ℕ) → length marks ≤ i → AreMarkedBelow marks i places → (p : ℕ) → Contains places p ↔ IsMarked marks p
+below_whole marks i places end was p = (was.marked p, λ is. was.whole p (inside is) is) where
+  inside : IsMarked marks p → p < i
+  inside is = elim (cases_lt p (length marks)) [
+    | inl within ↦ omega arith
+    | inr past ↦ absurd (
+        let off : mark_of marks p ≡ false = get_or_past marks p false past in
+        let on : mark_of marks p ≡ true = is.is in
+        cc)
+  ]

@@ -1,0 +1,31 @@
+-- No part of what is promised: private contracts cite it. What a walk by picks has marked so far.
+use Rattle.std.specs.Prelude.{◌≡◌, ◌<◌, ◌≤◌, ◌++◌, ℕ, Bool, List, length, Contains, take}
+use Rattle.requisites.specs.Nodes.{IsMarked, world}
+use Rattle.requisites.specs.World.{IsChosen, PicksFor}
+use Rattle.requisites.specs.declared.nodes.Nodes.{Nodes}
+
+-- each place of a row is marked now; those that had no mark are put to the order, and nothing else is
+pub record AreMarked (row : List ℕ) (marks marks' : List Bool) (order order' : List ℕ) : Type 0 where
+  pub more : List ℕ
+  pub goes_on : order' ≡ order ++ more
+  pub drawn : (q : ℕ) → Contains more q → Contains row q
+  pub put : ((q : ℕ) → IsMarked marks q → Contains order q) → (q : ℕ) → IsMarked marks' q → Contains order' q
+  pub marked : ((q : ℕ) → Contains order q → IsMarked marks q) → (q : ℕ) → Contains order' q → IsMarked marks' q
+  pub whole : (q : ℕ) → Contains row q → q < length marks → IsMarked marks' q
+  pub stays : (q : ℕ) → IsMarked marks q → IsMarked marks' q
+  pub len : length marks' ≡ length marks
+
+-- the order has x and what picks lead to from there; of those before a place of it all picks are in it
+pub record IsPicking (nodes : Nodes) (x : ℕ) (marks : List Bool) (order : List ℕ) (at : ℕ) : Type 0 where
+  pub begun : Contains order x
+  pub put : (q : ℕ) → IsMarked marks q → Contains order q
+  pub marked : (q : ℕ) → Contains order q → IsMarked marks q
+  pub followed : (p z : ℕ) → Contains (take at order) p → PicksFor (world nodes) p z → Contains order z
+  pub chosen : (q : ℕ) → Contains order q → IsChosen (world nodes) x q
+  pub within : at ≤ length order
+  pub len : length marks ≡ length nodes.candidates.items
+
+-- just what is chosen for x is marked
+pub record AreChosenMarks (nodes : Nodes) (x : ℕ) (marks : List Bool) : Type 0 where
+  pub chosen : (q : ℕ) → IsMarked marks q → IsChosen (world nodes) x q
+  pub whole : (q : ℕ) → IsChosen (world nodes) x q → IsMarked marks q
