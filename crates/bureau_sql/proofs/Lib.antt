@@ -1,5 +1,6 @@
 pub mod PlainFacts
 pub mod ToldFacts
+pub mod RecentFacts
 pub mod CommitFacts
 pub mod MadeFacts
 pub mod FitFacts

@@ -2,6 +2,7 @@ pub mod Committed
 pub mod Founded
 pub mod Laws
 pub mod Opening
+pub mod Recent
 pub mod Outgrown
 pub mod SqlState
 pub mod SqlView

@@ -14,6 +14,7 @@ mod init;
 mod open;
 mod probe;
 mod published;
+mod recent;
 mod store;
 mod tables;
 

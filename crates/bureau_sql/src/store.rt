@@ -9,6 +9,7 @@ ghost use Rattle.bureau_sql.specs.SqlView.{IsAtRest, shown, sql_view};
 ghost use Rattle.bureau_sql.specs.Told.{IsRefusedAs, IsTold};
 
 use crate::probe::is_open;
+use crate::recent::Recent;
 use bureau_store::StoreFault;
 use catalogue::SourceFault;
 use sql_reads::ReadFault;
@@ -18,16 +19,22 @@ use std::alloc::Global;
 use std::marker::Model;
 
 /// All that the bureau keeps, in a database. A contract sees the connection, which is at rest, and how often it failed.
+///
+/// Whose token it was, which zones a client has, and the rows of a zone are kept from when they were read until the next
+/// change, the last sixteen or fewer of each: they are answered without a query.
 #[derive(Drop)]
 pub struct SqlStore<S: Alter> {
     pub(crate) alloc: Global,
     pub(crate) conn: Connection<S>,
     pub(crate) failures: u64,
+    pub(crate) recent: Recent,
 }
 
 impl<S: Alter> Model for SqlStore<S> {
     ghost use Rattle.std.specs.Prelude.{◌≡◌, false};
+    ghost use Rattle.bureau_sql.specs.Recent.{IsRecent};
     ghost use Rattle.bureau_sql.specs.SqlState.{SqlState, sql_code};
+    ghost use Rattle.sqlite.specs.Held.{state};
 
     ghost Value = { SqlState S };
 
@@ -35,7 +42,7 @@ impl<S: Alter> Model for SqlStore<S> {
 
     ghost view = { λ store. record { conn = store.conn; failures = store.failures } };
 
-    ghost invariant = { λ store. store.conn.in_transaction ≡ false };
+    ghost invariant = { λ store. (store.conn.in_transaction ≡ false) × IsRecent (state S.Store store.conn) store.recent };
 }
 
 impl<S: Alter> SqlStore<S> {
@@ -49,6 +56,7 @@ impl<S: Alter> SqlStore<S> {
             alloc,
             conn,
             failures: 0,
+            recent: Recent::nothing(alloc),
         }
     }
 
@@ -60,6 +68,7 @@ impl<S: Alter> SqlStore<S> {
             alloc: _,
             conn,
             failures: _,
+            recent: _,
         } = self;
         conn
     }

@@ -26,7 +26,11 @@ impl<S: Alter> Store for SqlStore<S> {
         if self.is_shut() {
             return Err(StoreFault::Device);
         }
+        if let Some(caller) = self.recent.caller_of(token) {
+            return Ok(Some(caller));
+        }
         let found = sql_reads::caller_of(&mut self.conn, token);
+        self.recent.keep_caller(self.alloc, token, &found);
         self.answered(found)
     }
 
@@ -50,7 +54,11 @@ impl<S: Alter> Store for SqlStore<S> {
         if self.is_shut() {
             return Err(StoreFault::Device);
         }
+        if let Some(zones) = self.recent.zones_of(self.alloc, client) {
+            return Ok(zones);
+        }
         let found = sql_reads::zones(self.alloc, &mut self.conn, client);
+        self.recent.keep_zones(self.alloc, client, &found);
         self.answered(found)
     }
 
@@ -74,7 +82,11 @@ impl<S: Alter> Store for SqlStore<S> {
         if self.is_shut() {
             return Err(StoreFault::Device);
         }
+        if let Some(rows) = self.recent.rows_of(self.alloc, client, zone) {
+            return Ok(Some(rows));
+        }
         let found = sql_reads::zone(self.alloc, &mut self.conn, client, zone);
+        self.recent.keep_rows(self.alloc, client, zone, &found);
         self.answered(found)
     }
 
@@ -106,6 +118,7 @@ impl<S: Alter> Store for SqlStore<S> {
         if self.is_shut() {
             return Err(StoreFault::Device);
         }
+        self.recent.forget();
         fit::publication(changes);
         let made = changes::publish(self.alloc, &mut self.conn, number, reply, changes);
         self.made(made)
@@ -122,6 +135,7 @@ impl<S: Alter> Store for SqlStore<S> {
         if self.is_shut() {
             return Err(StoreFault::Device);
         }
+        self.recent.forget();
         fit::zone(client, zone, rows);
         let made = changes::put_zone(
             self.alloc,
@@ -145,6 +159,7 @@ impl<S: Alter> Store for SqlStore<S> {
         if self.is_shut() {
             return Err(StoreFault::Device);
         }
+        self.recent.forget();
         fit::zone_gone(client, zone);
         let made = changes::drop_zone(&mut self.conn, client, number, reply, zone);
         self.made(made)
@@ -160,6 +175,7 @@ impl<S: Alter> Store for SqlStore<S> {
         if self.is_shut() {
             return Err(StoreFault::Device);
         }
+        self.recent.forget();
         fit::received(client, ids);
         let made = changes::put_received(self.alloc, &mut self.conn, client, number, reply, ids);
         self.made(made)
@@ -176,6 +192,7 @@ impl<S: Alter> Store for SqlStore<S> {
         if self.is_shut() {
             return Err(StoreFault::Device);
         }
+        self.recent.forget();
         fit::zone_patterns(client, zone, patterns);
         let made = changes::put_patterns(
             self.alloc,

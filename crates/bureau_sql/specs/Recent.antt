@@ -1,0 +1,58 @@
+-- What a store has read since its last change, and answers again.
+use Rattle.std.specs.Prelude.{◌≡◌, ◌⊎◌, ℕ, IsTrue, List, [], Ok, Result, Some, Contains, length, map}
+use Rattle.std.specs.Option.{option_map}
+use Rattle.bureau_store.specs.Caller.{caller_with}
+use Rattle.bureau_store.specs.Tables.{Tables, zone_named}
+use Rattle.bureau_store.specs.declared.caller.Caller.{Caller}
+use Rattle.sqlite.specs.State.{HasCleanDisk, State}
+use Rattle.sql_state.specs.Ours.{IsOurs, held_by}
+use Rattle.sql_tables.specs.Stored.{tables_of}
+use Rattle.zone_lists.specs.declared.zones.ZoneRow.{ZoneRow}
+
+-- whose token this is
+pub record TokenRead : Type 0 where
+  pub token : List ℕ
+  pub caller : Caller
+
+-- which zones a client has, each with how many SYSMODs its list has
+pub record ZonesRead : Type 0 where
+  pub client : List ℕ
+  pub zones : List (List ℕ × ℕ)
+
+-- the rows of a client's zone
+pub record RowsRead : Type 0 where
+  pub client : List ℕ
+  pub zone : List ℕ
+  pub rows : List ZoneRow
+
+pub record RecentLists : Type 0 where
+  pub tokens : List TokenRead
+  pub zones : List ZonesRead
+  pub rows : List RowsRead
+
+abbrev pub nothing_read : RecentLists
+nothing_read = record { tokens = []; zones = []; rows = [] }
+
+abbrev pub IsTokenOf : Tables → TokenRead → Type 0
+IsTokenOf tables read = caller_with tables.callers read.token ≡ Some read.caller
+
+abbrev pub AreZonesOf : Tables → ZonesRead → Type 0
+AreZonesOf tables read = read.zones ≡ map (λ zone. (zone.0, length zone.1.rows)) (tables.zones read.client)
+
+abbrev pub AreRowsOf : Tables → RowsRead → Type 0
+AreRowsOf tables read = Some read.rows ≡ option_map (λ table. table.rows) (zone_named read.zone (tables.zones read.client))
+
+-- each is what the tables have
+pub record AreReadFrom (tables : Tables) (recent : RecentLists) : Type 0 where
+  pub tokens : (read : TokenRead) → Contains recent.tokens read → IsTokenOf tables read
+  pub zones : (read : ZonesRead) → Contains recent.zones read → AreZonesOf tables read
+  pub rows : (read : RowsRead) → Contains recent.rows read → AreRowsOf tables read
+
+-- Of an open connection whose database is ours, each is what the committed tables have.
+abbrev pub IsRecent : State → RecentLists → Type 0
+IsRecent at recent = HasCleanDisk at → IsTrue at.is_open → IsOurs at.committed → AreReadFrom (tables_of (held_by at.committed)) recent
+
+-- those of before, and what was found now, if anything was
+abbrev pub HasMore : {Read Found Fault : Type 0} → (Found → Read → Type 0) → Result Found Fault → List Read → List Read → Type 0
+HasMore {Read} {Found} Is found old new =
+    (read : Read) → Contains new read → Contains old read ⊎ ((answer : Found) × (found ≡ Ok answer) × Is answer read)
