@@ -41,8 +41,8 @@ candidate_catalogued content rows id h = listed_record content.sysmods id (known
 module _ (content : Content) (rows : List ZoneRow) (members : List (List ℕ)) (nodes : Nodes)
     (ascend : Ascend members)
     (ids_inside : (id : List ℕ) → Contains (ids_of content) id → Contains members id)
-    (needs_inside : (id : List ℕ) → Contains (flat_map (λ s. s.needs) (map (sight_of content rows) (ids_of content))) id → Contains members id)
-    (seen : AreSeen (sight_of content rows) (ids_of content) members (length members) nodes.candidates.items nodes.needs nodes.supersedes)
+    (needs_inside : (id : List ℕ) → Contains (flat_map (λ s. s.needs) (map (sight_of content) (ids_of content))) id → Contains members id)
+    (seen : AreSeen rows (sight_of content) (ids_of content) members (length members) nodes.candidates.items nodes.needs nodes.supersedes)
     (there : AreThere rows members nodes.supersedes nodes.there.items) where
   as_many : length nodes.candidates.items ≡ length members
   as_many = seen.candidates_are.len
@@ -70,14 +70,14 @@ module _ (content : Content) (rows : List ZoneRow) (members : List (List ℕ)) (
   candidate_up p below marked =
       let view = seen.candidates_are.each p below in
       elim (is_listed_id (id_at members p)) [
-        | inl listed ↦ sym (ap (λ (s : Sight). s.candidate) (view.seen.listed listed)) ∙ sym view.so ∙ marked.is
-        | inr outside ↦ (let off : mark_of nodes.candidates.items p ≡ false = view.so ∙ ap (λ (s : Sight). s.candidate) (view.seen.unlisted outside) in let on = marked.is in absurd (cc))
+        | inl listed ↦ sym (ap (λ (s : Sight). list_any (λ fmid. is_installed rows fmid) s.fmids) (view.seen.listed listed)) ∙ sym view.so ∙ marked.is
+        | inr outside ↦ (let off : mark_of nodes.candidates.items p ≡ false = view.so ∙ ap (λ (s : Sight). list_any (λ fmid. is_installed rows fmid) s.fmids) (view.seen.unlisted outside) in let on = marked.is in absurd (cc))
       ]
 
   candidate_down : (p : ℕ) → p < length members → is_candidate content rows (id_at members p) ≡ true → IsMarked nodes.candidates.items p
   candidate_down p below h =
       let view = seen.candidates_are.each p below in
-      record { is = view.so ∙ ap (λ (s : Sight). s.candidate) (view.seen.listed (candidate_listed (id_at members p) h)) ∙ h }
+      record { is = view.so ∙ ap (λ (s : Sight). list_any (λ fmid. is_installed rows fmid) s.fmids) (view.seen.listed (candidate_listed (id_at members p) h)) ∙ h }
 
   candidate_within : (p : ℕ) → IsMarked nodes.candidates.items p → p < length members
   candidate_within p marked = let inside = marked_inside nodes.candidates.items p marked in omega (arith, inside, as_many)
@@ -99,7 +99,7 @@ module _ (content : Content) (rows : List ZoneRow) (members : List (List ℕ)) (
       let below = candidate_within p marked in
       let listed = candidate_listed (id_at members p) (candidate_up p below marked) in
       let view = seen.needs_are.each p below in
-      let at = inside_at members need (needs_inside need (need_inside (sight_of content rows) (ids_of content) (id_at members p) need listed needs)) in
+      let at = inside_at members need (needs_inside need (need_inside (sight_of content) (ids_of content) (id_at members p) need listed needs)) in
       let P : Sight → Type 0 = λ s. Contains s.needs (id_at members at.place) in
       let Q : List ℕ → Type 0 = λ x. Contains (needs_in content rows (id_at members p)) x in
       record {
@@ -223,20 +223,20 @@ module _ (content : Content) (rows : List ZoneRow) (members : List (List ℕ)) (
 
 -- the same, as the call that makes the nodes has it
 pub cut_of : (content : Content) (rows : List ZoneRow) (ids : List (List ℕ)) (sights : List Sight) (members seen_members : List (List ℕ)) (nodes : Nodes)
-    → ids ≡ ids_of content → sights ≡ map (sight_of content rows) ids → seen_members ≡ members → Ascend members
+    → ids ≡ ids_of content → sights ≡ map (sight_of content) ids → seen_members ≡ members → Ascend members
     → ((id : List ℕ) → Contains ids id → Contains members id)
     → ((id : List ℕ) → Contains (flat_map (λ s. s.needs) sights) id → Contains members id)
-    → AreSeen (sight_of content rows) ids seen_members (length seen_members) nodes.candidates.items nodes.needs nodes.supersedes
+    → AreSeen rows (sight_of content) ids seen_members (length seen_members) nodes.candidates.items nodes.needs nodes.supersedes
     → AreThere rows seen_members nodes.supersedes nodes.there.items
     → IsCut (world_of content rows) members (world nodes)
 cut_of content rows ids sights members seen_members nodes ids_are sights_are same ascend ids_inside needs_inside seen there =
     let P : List (List ℕ) → Type 0 = λ l. (id : List ℕ) → Contains l id → Contains members id in
     let Q : List Sight → Type 0 = λ l. (id : List ℕ) → Contains (flat_map (λ s. s.needs) l) id → Contains members id in
-    let R : List (List ℕ) → Type 0 = λ l. AreSeen (sight_of content rows) l members (length members) nodes.candidates.items nodes.needs nodes.supersedes in
-    let S : List (List ℕ) → Type 0 = λ l. AreSeen (sight_of content rows) ids l (length l) nodes.candidates.items nodes.needs nodes.supersedes in
+    let R : List (List ℕ) → Type 0 = λ l. AreSeen rows (sight_of content) l members (length members) nodes.candidates.items nodes.needs nodes.supersedes in
+    let S : List (List ℕ) → Type 0 = λ l. AreSeen rows (sight_of content) ids l (length l) nodes.candidates.items nodes.needs nodes.supersedes in
     let T : List (List ℕ) → Type 0 = λ l. AreThere rows l nodes.supersedes nodes.there.items in
     made_cut content rows members nodes ascend
     (subst P ids_are ids_inside)
-    (subst Q (sights_are ∙ ap (map (sight_of content rows)) ids_are) needs_inside)
+    (subst Q (sights_are ∙ ap (map (sight_of content)) ids_are) needs_inside)
     (subst R ids_are (subst S same seen))
     (subst T same there)

@@ -1,6 +1,6 @@
 -- Ids by their places in a list that ascends.
 use Rattle.std.proofs.Common.{◌≡◌, ◌⊎◌, ◌∙◌, ℕ, zero, suc, ◌+◌, ◌<◌, ◌≤◌, Bool, true, false, List, [], ◌∷◌, ◌++◌, length, map, take, get_or, Option, Some, None, Result, Ok, Err, refl, sym, ap, subst, inl, inr, append_assoc, arith}
-use Rattle.std.specs.List.{AllByRecursion, Contains, flat_map, slice_get}
+use Rattle.std.specs.List.{AllByRecursion, Contains, flat_map, list_any, slice_get}
 use Rattle.std.specs.List.Sorted.{IsStrictlySortedBy}
 use Rattle.std.specs.Ordering.{ordering_reverse}
 use Rattle.std.specs.declared.cmp.Ordering.TheVariants.{Less, Greater}
@@ -19,7 +19,6 @@ use Rattle.requisites.specs.Leads.{Leads}
 use Rattle.requisites.specs.Nodes.{Links, mark_of, row}
 use Rattle.requisites.specs.Sources.{AreLeastSources, HasSource, source_of}
 use Rattle.requisites.proofs.SourceFacts.{marked_inside}
-use Rattle.requisites.proofs.VerdictFacts.{row_before, row_last}
 use Rattle.chains.specs.Places.{AreSeen, ArePlacesOf, AreThere, InstalledAt, IsAt, IsThereAt, MarksAre, RowsAre, SeenAs}
 use Rattle.chains.specs.Sights.{IsSeen, Sight}
 use Rattle.chains.proofs.OrderFacts.{not_above_itself, not_below_itself}
@@ -171,6 +170,12 @@ length-push xs x = grind (arith, common_steps)
 pub rows_none : (P : ℕ → List ℕ → Type 0) (rows : List (List ℕ)) → rows ≡ [] → RowsAre P 0 rows
 rows_none P rows is = record { len = ap length is; each = λ p below. absurd (omega (arith, below)) }
 
+row_before : (lists : List (List ℕ)) (v : List ℕ) (p : ℕ) → p < length lists → row (lists ++ v ∷ []) p ≡ row lists p
+row_before lists v p h = get_or_append_left lists (v ∷ []) [] p h
+
+row_last : (lists : List (List ℕ)) (v : List ℕ) (p : ℕ) → p ≡ length lists → row (lists ++ v ∷ []) p ≡ v
+row_last lists v p e = get_or_push lists v [] p (sym e)
+
 pub rows_more : (P : ℕ → List ℕ → Type 0) (n : ℕ) (old new : List (List ℕ)) (row_of_it : List ℕ) → RowsAre P n old → P n row_of_it → new ≡ old ++ row_of_it ∷ [] → RowsAre P (n + 1) new
 rows_more P n old new v are own is = record {
   len = ap length is ∙ length-push old v ∙ ap (λ (k : ℕ). k + 1) are.len;
@@ -213,15 +218,15 @@ seen_here f ids members i member sight Q below at seen so = record {
   so = so;
 }
 
-pub seen_more : (f : List ℕ → Sight) (ids members : List (List ℕ)) (i : ℕ) (member : List ℕ) (sight : Sight) (old_marks new_marks : List Bool) (old_needs new_needs old_supersedes new_supersedes : List (List ℕ)) (mark : Bool) (needs supersedes : List ℕ)
+pub seen_more : (rows : List ZoneRow) (f : List ℕ → Sight) (ids members : List (List ℕ)) (i : ℕ) (member : List ℕ) (sight : Sight) (old_marks new_marks : List Bool) (old_needs new_needs old_supersedes new_supersedes : List (List ℕ)) (mark : Bool) (needs supersedes : List ℕ)
     → i < length members → member ≡ get_or members i member → IsSeen f ids member sight
-    → mark ≡ sight.candidate → ArePlacesOf members sight.needs needs → ArePlacesOf members sight.superseded supersedes
-    → AreSeen f ids members i old_marks old_needs old_supersedes
+    → mark ≡ list_any (λ fmid. is_installed rows fmid) sight.fmids → ArePlacesOf members sight.needs needs → ArePlacesOf members sight.superseded supersedes
+    → AreSeen rows f ids members i old_marks old_needs old_supersedes
     → new_marks ≡ old_marks ++ mark ∷ [] → new_needs ≡ old_needs ++ needs ∷ [] → new_supersedes ≡ old_supersedes ++ supersedes ∷ []
-    → AreSeen f ids members (i + 1) new_marks new_needs new_supersedes
-seen_more f ids members i member sight old_marks new_marks old_needs new_needs old_supersedes new_supersedes mark needs supersedes below at seen mark_is needs_are supersedes_are are marks_now needs_now supersedes_now = record {
-  candidates_are = marks_more (λ p m. SeenAs f ids (id_at members p) (λ s. m ≡ s.candidate)) i old_marks new_marks mark are.candidates_are
-      (seen_here f ids members i member sight (λ s. mark ≡ s.candidate) below at seen mark_is) marks_now;
+    → AreSeen rows f ids members (i + 1) new_marks new_needs new_supersedes
+seen_more rows f ids members i member sight old_marks new_marks old_needs new_needs old_supersedes new_supersedes mark needs supersedes below at seen mark_is needs_are supersedes_are are marks_now needs_now supersedes_now = record {
+  candidates_are = marks_more (λ p m. SeenAs f ids (id_at members p) (λ s. m ≡ list_any (λ fmid. is_installed rows fmid) s.fmids)) i old_marks new_marks mark are.candidates_are
+      (seen_here f ids members i member sight (λ s. mark ≡ list_any (λ fmid. is_installed rows fmid) s.fmids) below at seen mark_is) marks_now;
   needs_are = rows_more (λ p places. SeenAs f ids (id_at members p) (λ s. ArePlacesOf members s.needs places)) i old_needs new_needs needs are.needs_are
       (seen_here f ids members i member sight (λ s. ArePlacesOf members s.needs needs) below at seen needs_are) needs_now;
   supersedes_are = rows_more (λ p places. SeenAs f ids (id_at members p) (λ s. ArePlacesOf members s.superseded places)) i old_supersedes new_supersedes supersedes are.supersedes_are

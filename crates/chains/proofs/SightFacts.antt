@@ -38,12 +38,13 @@ reasons_more holds i hold start old new below at was now =
     ∙ ap (λ l. start ++ l) (sym (reasons_push (take i holds) hold))
     ∙ ap (λ hs. start ++ reasons_in hs) (sym (take_more holds i hold below ∙ ap (λ h. take i holds ++ h ∷ []) (sym at)))
 
-pub sights_more : (f : List ℕ → Sight) (ids : List (List ℕ)) (i : ℕ) (id : List ℕ) (old new : List Sight) (sight : Sight) → i < length ids → id ≡ get_or ids i id
-    → old ≡ map f (take i ids) → new ≡ old ++ sight ∷ [] → sight ≡ f id
+-- one more is read
+pub sights_more : (f : List ℕ → Sight) (ids : List (List ℕ)) (i : ℕ) (id : List ℕ) (old new : List Sight) (one : Sight) → i < length ids → id ≡ get_or ids i id
+    → old ≡ map f (take i ids) → new ≡ old ++ one ∷ [] → one ≡ f id
     → new ≡ map f (take (i + 1) ids)
-sights_more f ids i id old new sight below at was now is =
+sights_more f ids i id old new one below at was now is =
     now
-    ∙ ap (λ l. l ++ sight ∷ []) was
+    ∙ ap (λ l. l ++ one ∷ []) was
     ∙ ap (λ s. map f (take i ids) ++ s ∷ []) is
     ∙ sym (map-append f (take i ids) (id ∷ []))
     ∙ ap (map f) (sym (take_more ids i id below ∙ ap (λ x. take i ids ++ x ∷ []) (sym at)))

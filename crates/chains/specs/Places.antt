@@ -1,6 +1,7 @@
 -- No part of what is promised: private contracts cite it. Ids by their places in a list that ascends, and what is
 -- listed for each place.
 use Rattle.std.specs.Prelude.{◌≡◌, ◌<◌, ◌↔◌, ◌⊎◌, ℕ, Bool, true, List, length, map, Contains}
+use Rattle.std.specs.List.{list_any}
 use Rattle.zone_lists.specs.Installed.{is_installed, is_listed}
 use Rattle.zone_lists.specs.declared.zones.ZoneRow.{ZoneRow}
 use Rattle.requisites.specs.Leads.{Leads}
@@ -39,9 +40,9 @@ pub record MarksAre (P : ℕ → Bool → Type 0) (n : ℕ) (marks : List Bool) 
   pub len : length marks ≡ n
   pub each : (p : ℕ) → p < n → P p (mark_of marks p)
 
--- the marks and the rows of the first n members, by what is seen of each
-pub record AreSeen (f : List ℕ → Sight) (ids members : List (List ℕ)) (n : ℕ) (candidates : List Bool) (needs supersedes : List (List ℕ)) : Type 0 where
-  pub candidates_are : MarksAre (λ p mark. SeenAs f ids (id_at members p) (λ sight. mark ≡ sight.candidate)) n candidates
+-- the marks and the rows of the first n members, by what is seen of each: it may be installed in a zone that has a function of it
+pub record AreSeen (rows : List ZoneRow) (f : List ℕ → Sight) (ids members : List (List ℕ)) (n : ℕ) (candidates : List Bool) (needs supersedes : List (List ℕ)) : Type 0 where
+  pub candidates_are : MarksAre (λ p mark. SeenAs f ids (id_at members p) (λ sight. mark ≡ list_any (λ fmid. is_installed rows fmid) sight.fmids)) n candidates
   pub needs_are : RowsAre (λ p places. SeenAs f ids (id_at members p) (λ sight. ArePlacesOf members sight.needs places)) n needs
   pub supersedes_are : RowsAre (λ p places. SeenAs f ids (id_at members p) (λ sight. ArePlacesOf members sight.superseded places)) n supersedes
 

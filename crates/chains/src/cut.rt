@@ -37,7 +37,7 @@ impl Cut {
         requires ascend { Ascend ids.now }
         requires entries { length entries.now ≡ length ids.now }
         ensures ascend { IfOk result (λ cut. Ascend cut.members.items) }
-        ensures cut { IfOk result (λ cut. (content : Content) → ids.now ≡ ids_of content → entries.now ≡ map (sight_of content zone.now) ids.now
+        ensures cut { IfOk result (λ cut. (content : Content) → ids.now ≡ ids_of content → entries.now ≡ map (sight_of content) ids.now
             → IsCut (world_of content zone.now) cut.members.items (world cut.nodes)) }
         ensures within { IfOk result (λ cut. AreNodesWithin cut.members.items cut.nodes) }
         ensures ids { IfOk result (λ cut. (id : List ℕ) → Contains ids.now id → Contains cut.members.items id) }
@@ -59,7 +59,7 @@ fn nodes_of(
     requires ascend { Ascend ids.now }
     requires entries { length entries.now ≡ length ids.now }
     ensures seen { IfOk result (λ nodes. (f : List ℕ → Sight) → entries.now ≡ map f ids.now
-        → AreSeen f ids.now members.now (length members.now) nodes.candidates.items nodes.needs nodes.supersedes) }
+        → AreSeen zone.now f ids.now members.now (length members.now) nodes.candidates.items nodes.needs nodes.supersedes) }
     ensures within { IfOk result (λ nodes. AreNodesWithin members.now nodes) }
     ensures there { IfOk result (λ nodes. AreThere zone.now members.now nodes.supersedes nodes.there.items) }
 {
@@ -74,7 +74,7 @@ fn nodes_of(
         if next < ids.len() && ids[next] == *member {
             next += 1;
         }
-        candidates.push(entry.is_candidate())?;
+        candidates.push(entry.is_candidate(zone))?;
         put_places(&mut places, members, place + 1, entry.needs())?;
         needs.push_row(&places)?;
         put_places(&mut places, members, place + 1, entry.superseded())?;

@@ -7,7 +7,8 @@
 //! - [`Frame`]: all that one SYSMOD reaches, as [`FrameNode`]s; [`frame`], [`frame_within`]: that of a
 //!   SYSMOD, from a source
 //! - [`plan`], [`good`]: verdicts from a frame alone
-//! - [`Survey`]: all verdicts of one zone; [`survey_of`]: that of a zone, from a source
+//! - [`Listing`]: all that is catalogued, whatever the zone; [`listing_of`]: that of a source, read once
+//! - [`Survey`]: all verdicts of one zone; [`Survey::of`]: by a listing; [`survey_of`]: from a source
 //! - [`candidates_for`]: the candidates that give each of several SYSMODs
 //! - [`touches`]: whether a publication may change a frame
 //! - [`good_is_planned`], [`verdicts_are_right`]: laws of the definitions
@@ -37,6 +38,7 @@ pub use frames::{Frame, FrameNode};
 pub use framing::{frame, frame_within};
 pub use judge::Judge;
 pub use law::{good_is_planned, verdicts_are_right};
+pub use listing::{Listing, listing_of};
 pub use planning::{good, plan};
 pub use surveying::{Survey, survey_of};
 pub use touching::touches;

@@ -2,9 +2,10 @@
 ghost use Rattle.std.specs.Prelude.{◌≡◌, ◌++◌, length, map, IfOk, OnOk};
 ghost use Rattle.std.specs.List.{list_any};
 ghost use Rattle.zone_lists.specs.Installed.{is_installed};
+ghost use Rattle.catalogue.specs.Ids.{Ascend};
 ghost use Rattle.catalogue.specs.View.{MayAsk, Tells};
 ghost use Rattle.catalogue.specs.declared.fault.SourceFault.TheVariants.{Device};
-ghost use Rattle.chains.specs.Sights.{reasons_in, sight_from, sight_of, unseen};
+ghost use Rattle.chains.specs.Sights.{IsListing, reasons_in, sight_from, sight_of, unseen};
 
 use catalogue::{Ids, Published, SourceFault, Sysmod};
 use holddata::{Hold, Kind};
@@ -16,9 +17,9 @@ use supersede::Zone;
 /// What is read of a SYSMOD. A contract sees it with its lists.
 #[derive(Debug, Drop)]
 pub(crate) struct Entry {
-    pub(crate) candidate: bool,
-    pub(crate) needs: Vec<Id>,
-    pub(crate) superseded: Vec<Id>,
+    fmids: Ids,
+    needs: Vec<Id>,
+    superseded: Vec<Id>,
 }
 
 impl Model for Entry {
@@ -26,7 +27,7 @@ impl Model for Entry {
 
     ghost Value = { Sight };
 
-    ghost view = { λ entry. record { candidate = entry.candidate; needs = entry.needs.items; superseded = entry.superseded.items } };
+    ghost view = { λ entry. record { fmids = entry.fmids; needs = entry.needs.items; superseded = entry.superseded.items } };
 }
 
 impl Entry {
@@ -35,16 +36,17 @@ impl Entry {
         ensures { result ≡ unseen }
     {
         Entry {
-            candidate: false,
+            fmids: Ids::new(alloc),
             needs: Vec::new(alloc),
             superseded: Vec::new(alloc),
         }
     }
 
-    pub(crate) fn is_candidate(&self) -> bool
-        ensures { result ≡ self.now.candidate }
+    /// Whether it may be installed in a zone: one of the functions that it is for is there.
+    pub(crate) fn is_candidate(&self, zone: &Zone) -> bool
+        ensures { result ≡ list_any (λ fmid. is_installed zone.now fmid) self.now.fmids }
     {
-        self.candidate
+        is_any_installed(zone, &self.fmids)
     }
 
     pub(crate) fn needs(&self) -> &[Id]
@@ -60,53 +62,94 @@ impl Entry {
     }
 }
 
-/// What the source says of each of the SYSMODs, in their order.
-pub(crate) fn entries_of<P: Published>(
+/// All that is catalogued: of each SYSMOD the functions that it is for, what it needs and what it supersedes. It names no zone.
+#[derive(Debug, Drop)]
+pub struct Listing {
+    ids: Vec<Id>,
+    entries: Vec<Entry>,
+}
+
+impl Model for Listing {
+    ghost use Rattle.std.specs.Prelude.{◌≡◌, length};
+    ghost use Rattle.catalogue.specs.Ids.{Ascend};
+    ghost use Rattle.chains.specs.Sights.{ListingLists};
+
+    ghost Value = { ListingLists };
+
+    ghost view = { λ listing. record { ids = listing.ids.items; sights = listing.entries.items } };
+
+    ghost invariant = { λ listing. Ascend listing.ids.items × (length listing.entries.items ≡ length listing.ids.items) };
+}
+
+impl Listing {
+    /// What is catalogued, ascending.
+    pub(crate) fn ids(&self) -> &[Id]
+        ensures ids { result.now ≡ self.now.ids }
+        ensures ascend { Ascend result.now }
+    {
+        self.ids.as_slice()
+    }
+
+    /// What is read of each of them, in their order.
+    pub(crate) fn entries(&self) -> &[Entry]
+        ensures sights { result.now ≡ self.now.sights }
+        ensures len { length result.now ≡ length self.now.ids }
+    {
+        self.entries.as_slice()
+    }
+}
+
+/// All that is catalogued, read once.
+///
+/// # Errors
+///
+/// `Memory` where memory ran out, `Device` where the source failed.
+pub fn listing_of<P: Published>(alloc: Global, source: &mut P) -> Result<Listing, SourceFault>
+    ensures asks { MayAsk P.content_view Device source.old source.new result }
+    ensures listing { IfOk result (λ listing. Tells P.content_view source.old source.new
+        (λ content. IsListing content listing)) }
+{
+    let ids = source.ids()?;
+    let entries = entries_of(alloc, source, &ids)?;
+    Ok(Listing { ids, entries })
+}
+
+// What the source says of each of the SYSMODs, in their order.
+fn entries_of<P: Published>(
     alloc: Global,
     source: &mut P,
-    zone: &Zone,
     ids: &[Id],
 ) -> Result<Vec<Entry>, SourceFault>
     ensures asks { MayAsk P.content_view Device source.old source.new result }
     ensures entries { IfOk result (λ entries. Tells P.content_view source.old source.new
-        (λ content. entries.items ≡ map (sight_of content zone.now) ids.now)) }
+        (λ content. entries.items ≡ map (sight_of content) ids.now)) }
     ensures len { IfOk result (λ entries. length entries.items ≡ length ids.now) }
 {
     let mut entries = Vec::with_capacity(alloc, ids.len())?;
     for id in ids {
-        entries.push(entry_of(alloc, source, zone, id)?)?;
+        entries.push(entry_of(alloc, source, id)?)?;
     }
     Ok(entries)
 }
 
-fn entry_of<P: Published>(
-    alloc: Global,
-    source: &mut P,
-    zone: &Zone,
-    id: &Id,
-) -> Result<Entry, SourceFault>
+fn entry_of<P: Published>(alloc: Global, source: &mut P, id: &Id) -> Result<Entry, SourceFault>
     ensures asks { MayAsk P.content_view Device source.old source.new result }
     ensures entry { IfOk result (λ entry. Tells P.content_view source.old source.new
-        (λ content. entry ≡ sight_of content zone.now id.now)) }
+        (λ content. entry ≡ sight_of content id.now)) }
 {
     let sysmod = source.sysmod(id)?;
     let holds = source.holds_on(id)?;
-    Ok(entry_from(alloc, zone, sysmod, &holds)?)
+    Ok(entry_from(alloc, sysmod, &holds)?)
 }
 
-fn entry_from(
-    alloc: Global,
-    zone: &Zone,
-    sysmod: Option<Sysmod>,
-    holds: &[Hold],
-) -> Result<Entry, NoMemory>
-    ensures { IfOk result (λ entry. entry ≡ sight_from zone.now sysmod holds.now) }
+fn entry_from(alloc: Global, sysmod: Option<Sysmod>, holds: &[Hold]) -> Result<Entry, NoMemory>
+    ensures { IfOk result (λ entry. entry ≡ sight_from sysmod holds.now) }
 {
     let Some(sysmod) = sysmod else {
         let mut needs = Vec::new(alloc);
         push_reasons(&mut needs, holds)?;
         return Ok(Entry {
-            candidate: false,
+            fmids: Ids::new(alloc),
             needs,
             superseded: Vec::new(alloc),
         });
@@ -114,7 +157,7 @@ fn entry_from(
     let mut needs = joined(sysmod.pre.into_vec(), sysmod.req.into_vec())?;
     push_reasons(&mut needs, holds)?;
     Ok(Entry {
-        candidate: is_any_installed(zone, &sysmod.fmids),
+        fmids: sysmod.fmids,
         needs,
         superseded: sysmod.sup.into_vec(),
     })

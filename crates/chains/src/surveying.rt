@@ -1,18 +1,17 @@
 //! All verdicts of one zone.
-ghost use Rattle.std.specs.Prelude.{◌≡◌, ℕ, List, IfOk, length, map};
-ghost use Rattle.catalogue.specs.Content.{Content, ids_of};
-ghost use Rattle.catalogue.specs.Ids.{Ascend};
+ghost use Rattle.std.specs.Prelude.{◌≡◌, List, IfOk, map};
+ghost use Rattle.catalogue.specs.Content.{Content};
 ghost use Rattle.catalogue.specs.View.{MayAsk, Tells};
 ghost use Rattle.catalogue.specs.declared.fault.SourceFault.TheVariants.{Device};
 ghost use Rattle.requisites.specs.Nodes.{mark_of};
 ghost use Rattle.chains.specs.Judge as judge;
-ghost use Rattle.chains.specs.Sights.{sight_of};
+ghost use Rattle.chains.specs.Sights.{IsListing};
 ghost use Rattle.chains.specs.Surveys.{IsSurvey};
 ghost use Rattle.chains.specs.Verdicts.{verdict_of};
 ghost use Rattle.zone_lists.specs.declared.zones.ZoneRow.{ZoneRow};
 
 use crate::cut::Cut;
-use crate::listing::{Entry, entries_of};
+use crate::listing::{Listing, listing_of};
 use crate::places::{by_ids, place_of};
 use crate::{Status, Verdict};
 use catalogue::{Published, SourceFault};
@@ -41,19 +40,16 @@ impl Model for Survey {
 }
 
 impl Survey {
-    // By what is read of all that is catalogued.
-    fn of(
-        alloc: Global,
-        zone: &Zone,
-        catalogued: &[Id],
-        entries: &[Entry],
-    ) -> Result<Survey, NoMemory>
-        requires ascend { Ascend catalogued.now }
-        requires entries { length entries.now ≡ length catalogued.now }
-        ensures { IfOk result (λ survey. (content : Content) → catalogued.now ≡ ids_of content → entries.now ≡ map (sight_of content zone.now) catalogued.now
+    /// That of a zone, by what is listed of all that is catalogued. Nothing is read.
+    ///
+    /// # Errors
+    ///
+    /// `NoMemory` where memory ran out.
+    pub fn of(alloc: Global, zone: &Zone, listing: &Listing) -> Result<Survey, NoMemory>
+        ensures { IfOk result (λ survey. (content : Content) → IsListing content listing.now
             → IsSurvey content zone.now survey) }
     {
-        let cut = Cut::of(alloc, zone, catalogued, entries)?;
+        let cut = Cut::of(alloc, zone, listing.ids(), listing.entries())?;
         let resolution = resolve(alloc, &cut.nodes)?;
         Ok(Survey { cut, resolution })
     }
@@ -122,9 +118,8 @@ pub fn survey_of<P: Published>(
     ensures survey { IfOk result (λ survey. Tells P.content_view source.old source.new
         (λ content. IsSurvey content zone.now survey)) }
 {
-    let catalogued = source.ids()?;
-    let entries = entries_of(alloc, source, zone, &catalogued)?;
-    Ok(Survey::of(alloc, zone, &catalogued, &entries)?)
+    let listing = listing_of(alloc, source)?;
+    Ok(Survey::of(alloc, zone, &listing)?)
 }
 
 /// Whether a place is marked.

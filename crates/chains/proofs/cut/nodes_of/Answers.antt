@@ -15,7 +15,7 @@ loop-place-preserved c =
       seen = λ f are.
           let P : List (List ℕ) → Type 0 = λ ids. ArePlacesOf members ids needs in
           let Q : List (List ℕ) → Type 0 = λ ids. ArePlacesOf members ids superseded in
-          seen_more f c.args.ids.now members c.loop-place.place c.index-members-place.result c.entry_for-entry.result.now
+          seen_more c.args.zone.now f c.args.ids.now members c.loop-place.place c.index-members-place.result c.entry_for-entry.result.now
           c.loop-place.candidates.items _ c.loop-place.needs _ c.loop-place.supersedes _ c.is_candidate.result needs superseded
           c.loop-place-test.true c.index-members-place.is (c.entry_for-entry.ensures f are)
           c.is_candidate.ensures (subst P c.needs-in-loop-place.ensures c.in_ok-put_places.ensures) (subst Q c.superseded.ensures c.in_ok-put_places-2.ensures)
@@ -36,5 +36,5 @@ pub returns-clause-seen : goal.returns-clause-seen
 returns-clause-seen c = λ f are.
     let members = c.args.members.now in
     let all : c.loop-place.place ≡ length members = omega arith in
-    let R : ℕ → Type 0 = λ n. AreSeen f c.args.ids.now members n c.loop-place.candidates.items c.loop-place.needs c.loop-place.supersedes in
+    let R : ℕ → Type 0 = λ n. AreSeen c.args.zone.now f c.args.ids.now members n c.loop-place.candidates.items c.loop-place.needs c.loop-place.supersedes in
     subst R all (c.loop-place.invariant.seen f are)

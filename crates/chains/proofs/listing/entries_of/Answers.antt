@@ -17,11 +17,11 @@ loop-id-preserved g c =
       keeps = law.lawful.on _ _ _ c.loop-id.invariant.keeps c.in_ok-entry_of.ensures.asks.keeps;
       still_open = λ standing. c.in_ok-entry_of.ensures.asks.stays_open (no_fault _) (c.loop-id.invariant.still_open standing);
       told = told_so both (λ content facts.
-          sights_more (sight_of content c.args.zone.now) c.args.ids.now c.loop-id.id-index c.id-item.result c.loop-id.entries.items c.push.new.self.items c.in_ok-entry_of.field-0
+          sights_more (sight_of content) c.args.ids.now c.loop-id.id-index c.id-item.result c.loop-id.entries.items c.push.new.self.items c.in_ok-entry_of.field-0
           c.loop-id-test.true c.id-item.is facts.0 c.in_ok-push.ensures.items facts.1);
     }
 
 pub returns-clause-entries : goal.returns-clause-entries
 returns-clause-entries g c =
     told_so c.loop-id.invariant.told (λ content is.
-    is ∙ ap (λ ids. map (sight_of content c.args.zone.now) ids) (take_all c.loop-id.id-index c.args.ids.now c.loop-id-test.false))
+    is ∙ ap (λ ids. map (sight_of content) ids) (take_all c.loop-id.id-index c.args.ids.now c.loop-id-test.false))

@@ -11,5 +11,5 @@ invariant-loop-id g l =
       keeps : source.content_view.keeps l.fn.source l.source;
       still_open : IsOpen source.content_view l.fn.source → IsOpen source.content_view l.source;
       told : Tells source.content_view l.fn.source l.source
-          (λ content. l.entries.items ≡ map (sight_of content l.zone) (take l.id-index l.ids));
+          (λ content. l.entries.items ≡ map (sight_of content) (take l.id-index l.ids));
     }

@@ -12,5 +12,5 @@ returns-clause-entry g c =
     let both = told_both (told_sooner c.in_ok-sysmod.ensures.sysmod second) (told_later first second c.in_ok-holds.ensures.holds) in
     told_so both (λ content facts.
     c.in_ok-entry_from.ensures
-    ∙ ap (λ holds. sight_from c.args.zone.now c.in_ok-sysmod.sysmod holds) (c.deref.ensures.value ∙ facts.1)
-    ∙ ap (λ found. sight_from c.args.zone.now found (holds_on content c.args.id.now)) facts.0)
+    ∙ ap (λ holds. sight_from c.in_ok-sysmod.sysmod holds) (c.deref.ensures.value ∙ facts.1)
+    ∙ ap (λ found. sight_from found (holds_on content c.args.id.now)) facts.0)

@@ -1,5 +1,6 @@
-use Rattle.std.proofs.Common.{List, ℕ, subst}
+use Rattle.std.proofs.Common.{◌∙◌, List, ap, map, subst, sym, ℕ}
 use Rattle.std.specs.List.{Contains}
+use Rattle.chains.specs.Sights.{sight_of}
 use Rattle.chains.proofs.surveying.Survey.of.Goals as goal
 
 pub invariant_of-result : goal.invariant_of-result
@@ -10,8 +11,10 @@ invariant_of-result c = record {
 }
 
 pub returns : goal.returns
-returns c = λ content ids_are entries_are.
+returns c = λ content is.
     let Q : List (List ℕ) → Type 0 = λ l. (id : List ℕ) → Contains l id → Contains c.in_ok-cut.cut.members.items id in
+    let ids_are = c.ids.ensures.ids ∙ is.ids in
+    let entries_are = c.entries.ensures.sights ∙ is.sights ∙ ap (map (sight_of content)) (sym c.ids.ensures.ids) in
     record {
       cut = c.in_ok-cut.ensures.cut content ids_are entries_are;
       whole = subst Q ids_are c.in_ok-cut.ensures.ids;
