@@ -1,5 +1,5 @@
 -- What a hit and a miss leave.
-use Rattle.std.proofs.Common.{◌≡◌, ◌∙◌, ◌⊎◌, ◌-◌, ◌+◌, ◌<◌, ◌++◌, ℕ, true, false, List, [], ◌∷◌, Contains, get_or, length, min, take, OnErr, Some, Result, Ok, Err, refl, sym, ap, subst, inl, inr}
+use Rattle.std.proofs.Common.{◌≡◌, ◌∙◌, ◌-◌, ◌+◌, ◌<◌, ◌++◌, ℕ, true, false, List, [], ◌∷◌, get_or, length, min, take, OnErr, Some, Result, Ok, Err, refl, sym, ap, subst, inl, inr}
 use Rattle.std.proofs.lemmas.List.{take_more}
 use Rattle.catalogue.specs.Content.{Content}
 use Rattle.catalogue.specs.Ids.{same_id}
@@ -8,14 +8,12 @@ use Rattle.lru.specs.LruCache.{LruCache, lru_cache, promoted, put_entries}
 use Rattle.lru.proofs.CallerLemmas.{Contains-promoted, Contains-take}
 use Rattle.lru.proofs.Pairs.{promoted_absent}
 use Rattle.lru.proofs.Splits.{Contains-cons}
-use Rattle.zone_lists.specs.declared.zones.ZoneRow.{ZoneRow}
 use Rattle.chains.specs.Frames.{FrameLists, IsFrame}
-use Rattle.chains.specs.Surveys.{IsSurvey, SurveyLists}
-use Rattle.chain_cache.specs.Cache.{AreFilled, AreFrames, CacheLists, IsFilled, IsRightFor, ZoneSurvey, after_hit, after_miss, has, most_built}
+use Rattle.chain_cache.specs.Cache.{AreFilled, AreSurveys, CacheLists, IsFilled, IsRightFor, SurveyedLists, after_hit, after_miss, has, most_built}
 use Rattle.chain_cache.proofs.EntryFacts.{promoted_first, put_first}
 
 -- a cache as contracts see it
-abbrev pub lists_of : LruCache (List ℕ) FrameLists → ℕ → List ZoneSurvey → CacheLists
+abbrev pub lists_of : LruCache (List ℕ) FrameLists → ℕ → SurveyedLists → CacheLists
 lists_of frames built surveys = record { entries = frames.entries; capacity = frames.cap; built = built; surveys = surveys }
 
 -- what stands first where the frame of an id was kept
@@ -57,30 +55,20 @@ right_miss content id frame cache right is = record {
   surveys = right.surveys;
 }
 
--- one more survey, of a content, is kept
-pub right_surveyed : (content : Content) (old : CacheLists) (frames : LruCache (List ℕ) FrameLists) (built : ℕ) (before after : List ZoneSurvey) (rows : List ZoneRow) (survey : SurveyLists)
-    → lists_of frames built before ≡ old → IsRightFor old content → IsSurvey content rows survey
-    → ((kept : ZoneSurvey) → Contains after kept → Contains before kept ⊎ (kept ≡ record { rows = rows; survey = survey }))
-    → IsRightFor (lists_of frames built after) content
-right_surveyed content old frames built before after rows survey is_old right is only =
+-- what is kept of the whole catalogue is another now, which is right where that of before was
+pub right_surveyed : (content : Content) (old : CacheLists) (frames : LruCache (List ℕ) FrameLists) (built : ℕ) (before after : SurveyedLists) → lists_of frames built before ≡ old → IsRightFor old content
+    → (AreSurveys content before → AreSurveys content after) → IsRightFor (lists_of frames built after) content
+right_surveyed content old frames built before after is_old right so =
     let P : CacheLists → Type 0 = λ cache. IsRightFor cache content in
     let was = subst P (sym is_old) right in
-    record {
-      frames = was.frames;
-      surveys = record {
-        each = λ kept member. elim (only kept member) [
-          | inl earlier ↦ was.surveys.each kept earlier
-          | inr this ↦ (let Q : ZoneSurvey → Type 0 = λ kept. IsSurvey content kept.rows kept.survey in subst Q (sym this) is)
-        ];
-      };
-    }
+    record { frames = was.frames; surveys = so was.surveys }
 
 -- nothing moves where the frame of an id isn't kept
 pub same_frames : (id : List ℕ) (frames : LruCache (List ℕ) FrameLists) → has frames.entries id ≡ false → lru_cache (promoted (same_id id) frames.entries) frames.cap ≡ frames
 same_frames id frames absent = ap (λ entries. lru_cache entries frames.cap) (promoted_absent same_id frames id absent).1
 
 -- what is put then stands first, and is counted
-pub put_is : (id : List ℕ) (frame : FrameLists) (frames after : LruCache (List ℕ) FrameLists) (built count : ℕ) (surveys : List ZoneSurvey) → has frames.entries id ≡ false
+pub put_is : (id : List ℕ) (frame : FrameLists) (frames after : LruCache (List ℕ) FrameLists) (built count : ℕ) (surveys : SurveyedLists) → has frames.entries id ≡ false
     → after ≡ lru_cache (put_entries same_id frames id frame) frames.cap → count ≡ min (built + 1) most_built → lists_of after count surveys ≡ after_miss id frame (lists_of frames built surveys)
 put_is id frame frames after built count surveys absent is counted =
     ap (λ cache. lists_of cache count surveys) (is ∙ ap (λ entries. lru_cache entries frames.cap) (put_first same_id frames id frame absent))

@@ -1,3 +1,4 @@
 pub mod EntryFacts
 pub mod FillFacts
+pub mod SurveyFacts
 pub mod DropFacts

@@ -1,11 +1,12 @@
 -- Kept frames. An entry is an id with its frame; the one that was used last stands first.
-use Rattle.std.specs.Prelude.{◌⊎◌, [], ◌≡◌, ◌+◌, ◌-◌, ℕ, Bool, true, false, List, ◌∷◌, Contains, Some, filter, is_some, min, not, slice_get, take}
+use Rattle.std.specs.Prelude.{◌⊎◌, [], ◌≡◌, ◌+◌, ◌-◌, ℕ, Bool, true, false, List, ◌∷◌, Contains, IfSome, None, Option, Some, filter, is_some, min, not, slice_get, take}
 use Rattle.std.specs.Map.{lookup}
 use Rattle.lru.specs.LruCache.{promoted}
 use Rattle.zone_lists.specs.declared.zones.ZoneRow.{ZoneRow}
 use Rattle.catalogue.specs.Content.{Content}
 use Rattle.catalogue.specs.Ids.{same_id}
 use Rattle.chains.specs.Frames.{FrameLists, IsFrame, shares}
+use Rattle.chains.specs.Sights.{IsListing, ListingLists}
 use Rattle.chains.specs.Surveys.{IsSurvey, SurveyLists}
 
 -- a zone that was looked over whole, with its survey
@@ -13,12 +14,20 @@ pub record ZoneSurvey : Type 0 where
   pub rows : List ZoneRow
   pub survey : SurveyLists
 
--- what is kept: frames, for how many of them there is room, how many were put so far, and surveys of zones
+-- what is kept of the whole catalogue: what was read of it, if it was, and zones with their surveys
+pub record SurveyedLists : Type 0 where
+  pub listing : Option ListingLists
+  pub zones : List ZoneSurvey
+
+abbrev pub nothing_surveyed : SurveyedLists
+nothing_surveyed = record { listing = None; zones = [] }
+
+-- what is kept: frames, for how many of them there is room, how many were put so far, and what is kept of the whole catalogue
 pub record CacheLists : Type 0 where
   pub entries : List (List ℕ × FrameLists)
   pub capacity : ℕ
   pub built : ℕ
-  pub surveys : List ZoneSurvey
+  pub surveys : SurveyedLists
 
 -- the frames that were put are counted up to this number, at which the count stays
 abbrev pub most_built : ℕ
@@ -32,9 +41,10 @@ has entries id = is_some (lookup (same_id id) entries)
 pub record AreFrames (content : Content) (entries : List (List ℕ × FrameLists)) : Type 0 where
   pub each : (id : List ℕ) (frame : FrameLists) → Contains entries (id, frame) → IsFrame content id frame
 
--- each survey is that of its zone over a content
-pub record AreSurveys (content : Content) (surveys : List ZoneSurvey) : Type 0 where
-  pub each : (kept : ZoneSurvey) → Contains surveys kept → IsSurvey content kept.rows kept.survey
+-- what was read is what a content has, and each survey is that of its zone over the content
+pub record AreSurveys (content : Content) (surveys : SurveyedLists) : Type 0 where
+  pub listing : IfSome surveys.listing (IsListing content)
+  pub each : (kept : ZoneSurvey) → Contains surveys.zones kept → IsSurvey content kept.rows kept.survey
 
 -- what is kept is true of a content
 pub record IsRightFor (cache : CacheLists) (content : Content) : Type 0 where

@@ -6,7 +6,7 @@ ghost use Rattle.catalogue.specs.Content.{Content, IsInOrder};
 ghost use Rattle.catalogue.specs.Touched.{AgreeOutside};
 ghost use Rattle.catalogue.specs.View.{MayAsk, Tells};
 ghost use Rattle.catalogue.specs.declared.fault.SourceFault.TheVariants.{Device};
-ghost use Rattle.chain_cache.specs.Cache.{AreFilled, CacheLists, IsAsked, IsFilled, IsRightFor, KeepsFrames, after_hit, has, untouched};
+ghost use Rattle.chain_cache.specs.Cache.{AreFilled, CacheLists, IsAsked, IsFilled, IsRightFor, KeepsFrames, after_hit, has, nothing_surveyed, untouched};
 ghost use Rattle.chain_cache.specs.Lent.{ends_filled};
 ghost use Rattle.chains.specs.Frames.{FrameLists, IsFrame};
 ghost use Rattle.chains.specs.Judge as judge;
@@ -15,7 +15,7 @@ ghost use Rattle.chains.specs.Verdicts.{verdict_of};
 use crate::dropping::drop_among;
 use crate::surveys::Surveys;
 use catalogue::{Published, SourceFault};
-use chains::{Frame, Judge, Status, Verdict, frame, frame_within, plan, survey_of};
+use chains::{Frame, Judge, Status, Verdict, frame, frame_within, plan};
 use lru::{Iter, LruCache};
 use mcs_reader::{Id, NoMemory};
 use std::alloc::Global;
@@ -39,7 +39,8 @@ const NODES_EACH: usize = 8;
 /// zone and no client.
 ///
 /// A SYSMOD that reaches far has a large frame. So where a chain has more than 256 nodes, or a report many SYSMODs, the
-/// zone is looked over whole, and its survey is kept until the next publication. Surveys of 16 zones are kept.
+/// zone is looked over whole. What is catalogued is read once for that, whatever the zone; it and the surveys of up to 16
+/// zones are kept until the next publication.
 #[derive(Debug, Drop)]
 pub struct ChainCache {
     frames: Frames,
@@ -73,7 +74,7 @@ impl ChainCache {
         ensures entries { IfOk result (λ cache. cache.entries ≡ []) }
         ensures capacity { IfOk result (λ cache. cache.capacity ≡ capacity) }
         ensures built { IfOk result (λ cache. cache.built ≡ 0) }
-        ensures surveys { IfOk result (λ cache. cache.surveys ≡ []) }
+        ensures surveys { IfOk result (λ cache. cache.surveys ≡ nothing_surveyed) }
         ensures right { IfOk result (λ cache. (content : Content) → IsRightFor cache content) }
     {
         let Some(room) = NonZeroUsize::new(capacity as usize) else {
@@ -228,12 +229,12 @@ impl ChainCache {
     ) -> Result<Verdict, SourceFault>
         ensures asks { MayAsk P.content_view Device source.old source.new result }
         ensures verdict { IfOk result (λ verdict. Tells P.content_view source.old source.new
-            (λ content. judge.judged_by verdict ≡ verdict_of content zone.now id.now)) }
+            (λ content. IsRightFor self.old content → judge.judged_by verdict ≡ verdict_of content zone.now id.now)) }
         ensures right { Tells P.content_view source.old source.new
             (λ content. IsRightFor self.old content → IsRightFor self.new content) }
         ensures frames { KeepsFrames self.old self.new }
     {
-        let survey = survey_of(alloc, source, zone)?;
+        let survey = self.surveys.survey(alloc, source, zone)?;
         let verdict = survey.verdict(alloc, id)?;
         self.surveys.keep(zone, survey)?;
         Ok(verdict)
@@ -249,12 +250,12 @@ impl ChainCache {
     ) -> Result<Vec<Status>, SourceFault>
         ensures asks { MayAsk P.content_view Device source.old source.new result }
         ensures statuses { IfOk result (λ statuses. Tells P.content_view source.old source.new
-            (λ content. statuses.items ≡ map (λ id. judge.status_of (verdict_of content zone.now id)) ids.now)) }
+            (λ content. IsRightFor self.old content → statuses.items ≡ map (λ id. judge.status_of (verdict_of content zone.now id)) ids.now)) }
         ensures right { Tells P.content_view source.old source.new
             (λ content. IsRightFor self.old content → IsRightFor self.new content) }
         ensures frames { KeepsFrames self.old self.new }
     {
-        let survey = survey_of(alloc, source, zone)?;
+        let survey = self.surveys.survey(alloc, source, zone)?;
         let statuses = survey.statuses(alloc, ids)?;
         self.surveys.keep(zone, survey)?;
         Ok(statuses)
@@ -346,12 +347,13 @@ impl<P: Published> Judge<P> for ChainCache {
         if let Some(survey) = self.surveys.of(zone) {
             return Ok(survey.statuses(alloc, ids)?);
         }
-        if ids.len() <= FEW {
-            if let Some(statuses) = self.statuses_by_frames(alloc, source, zone, ids)? {
-                return Ok(statuses);
-            }
+        if ids.len() > FEW {
+            return self.statuses_by_survey(alloc, source, zone, ids);
         }
-        self.statuses_by_survey(alloc, source, zone, ids)
+        match self.statuses_by_frames(alloc, source, zone, ids)? {
+            Some(statuses) => Ok(statuses),
+            None => self.statuses_by_survey(alloc, source, zone, ids),
+        }
     }
 
     fn drop_touched(&mut self, ids: &[Id])
@@ -361,7 +363,7 @@ impl<P: Published> Judge<P> for ChainCache {
         ensures kept { self.new.entries ≡ untouched ids.now self.old.entries }
         ensures capacity { self.new.capacity ≡ self.old.capacity }
         ensures built { self.new.built ≡ self.old.built }
-        ensures surveys { self.new.surveys ≡ [] }
+        ensures surveys { self.new.surveys ≡ nothing_surveyed }
     {
         drop_among(&mut self.frames, ids);
         self.surveys.clear();

@@ -1,8 +1,13 @@
-//! Surveys of zones that are kept.
-ghost use Rattle.std.specs.Prelude.{◌≡◌, ◌⊎◌, [], true, IfSome, Contains};
-ghost use Rattle.chain_cache.specs.Cache.{ZoneSurvey};
+//! What is kept of the whole catalogue: what was read of it, and surveys of zones.
+ghost use Rattle.std.specs.Prelude.{◌≡◌, true, IfOk, Some, IfOk, IfSome, IsSome, OnOk, Contains};
+ghost use Rattle.catalogue.specs.Content.{Content};
+ghost use Rattle.catalogue.specs.View.{MayAsk, Tells};
+ghost use Rattle.catalogue.specs.declared.fault.SourceFault.TheVariants.{Device};
+ghost use Rattle.chain_cache.specs.Cache.{AreSurveys, ZoneSurvey, nothing_surveyed};
+ghost use Rattle.chains.specs.Surveys.{IsSurvey};
 
-use chains::Survey;
+use catalogue::{Published, SourceFault};
+use chains::{Listing, Survey, listing_of};
 use mcs_reader::NoMemory;
 use std::alloc::Global;
 use std::marker::Model;
@@ -40,34 +45,35 @@ impl Surveyed {
     }
 }
 
-/// Surveys of zones, of at most so many.
+/// What is catalogued, if it was read, and surveys of at most so many zones.
 #[derive(Debug, Drop)]
 pub(crate) struct Surveys {
+    listing: Option<Listing>,
     kept: Vec<Surveyed>,
 }
 
 impl Model for Surveys {
-    ghost use Rattle.std.specs.Prelude.{List};
-    ghost use Rattle.chain_cache.specs.Cache.{ZoneSurvey};
+    ghost use Rattle.chain_cache.specs.Cache.{SurveyedLists};
 
-    ghost Value = { List ZoneSurvey };
+    ghost Value = { SurveyedLists };
 
-    ghost view = { λ surveys. surveys.kept.items };
+    ghost view = { λ surveys. record { listing = surveys.listing; zones = surveys.kept.items } };
 }
 
 impl Surveys {
-    /// None yet. It takes no memory.
+    /// Nothing yet. It takes no memory.
     pub(crate) fn new(alloc: Global) -> Self
-        ensures { result ≡ [] }
+        ensures { result ≡ nothing_surveyed }
     {
         Surveys {
+            listing: None,
             kept: Vec::new(alloc),
         }
     }
 
     /// The survey of a zone with these rows, if it is kept.
     pub(crate) fn of(&self, zone: &Zone) -> Option<&Survey>
-        ensures { IfSome result (λ survey. Contains self.now (record { rows = zone.now; survey = survey.now })) }
+        ensures { IfSome result (λ survey. Contains self.now.zones (record { rows = zone.now; survey = survey.now })) }
     {
         for surveyed in &self.kept {
             if surveyed.is_of(zone) {
@@ -77,9 +83,55 @@ impl Surveys {
         None
     }
 
+    /// Makes the survey of a zone, by what is catalogued. That is read where it isn't kept, and kept then.
+    pub(crate) fn survey<P: Published>(
+        &mut self,
+        alloc: Global,
+        source: &mut P,
+        zone: &Zone,
+    ) -> Result<Survey, SourceFault>
+        ensures asks { MayAsk P.content_view Device source.old source.new result }
+        ensures survey { IfOk result (λ survey. Tells P.content_view source.old source.new
+            (λ content. AreSurveys content self.old → IsSurvey content zone.now survey)) }
+        ensures right { Tells P.content_view source.old source.new
+            (λ content. AreSurveys content self.old → AreSurveys content self.new) }
+    {
+        self.read_listing(alloc, source)?;
+        match &self.listing {
+            Some(listing) => Ok(Survey::of(alloc, zone, listing)?),
+            None => unreachable!(),
+        }
+    }
+
+    // Reads what is catalogued, where it isn't kept.
+    fn read_listing<P: Published>(
+        &mut self,
+        alloc: Global,
+        source: &mut P,
+    ) -> Result<(), SourceFault>
+        ensures asks { MayAsk P.content_view Device source.old source.new result }
+        ensures right { Tells P.content_view source.old source.new
+            (λ content. AreSurveys content self.old → AreSurveys content self.new) }
+        ensures kept { OnOk result (IsSome self.new.listing) }
+    {
+        if self.listing.is_none() {
+            let listing = listing_of(alloc, source)?;
+            self.put_listing(listing);
+        }
+        Ok(())
+    }
+
+    fn put_listing(&mut self, listing: Listing)
+        ensures listing { self.new.listing ≡ Some listing }
+        ensures zones { self.new.zones ≡ self.old.zones }
+    {
+        self.listing = Some(listing);
+    }
+
     /// Keeps the survey of a zone. Where there are as many as are kept, they go first.
     pub(crate) fn keep(&mut self, zone: &Zone, survey: Survey) -> Result<(), NoMemory>
-        ensures { (kept : ZoneSurvey) → Contains self.new kept → Contains self.old kept ⊎ (kept ≡ record { rows = zone.now; survey = survey }) }
+        ensures right { (content : Content) → IsSurvey content zone.now survey
+            → AreSurveys content self.old → AreSurveys content self.new }
     {
         let zone = zone.copy()?;
         self.make_room();
@@ -88,17 +140,19 @@ impl Surveys {
     }
 
     fn make_room(&mut self)
-        ensures { (kept : ZoneSurvey) → Contains self.new kept → Contains self.old kept }
+        ensures listing { self.new.listing ≡ self.old.listing }
+        ensures zones { (kept : ZoneSurvey) → Contains self.new.zones kept → Contains self.old.zones kept }
     {
         if self.kept.len() >= MOST {
-            self.clear();
+            self.kept.clear();
         }
     }
 
-    /// Keeps none. It takes no memory.
+    /// Keeps nothing. It takes no memory.
     pub(crate) fn clear(&mut self)
-        ensures { self.new ≡ [] }
+        ensures { self.new ≡ nothing_surveyed }
     {
+        self.listing = None;
         self.kept.clear();
     }
 }

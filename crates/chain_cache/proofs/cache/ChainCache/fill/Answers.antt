@@ -1,7 +1,4 @@
-use Rattle.std.proofs.Common.{◌∙◌, sym, subst}
 use Rattle.catalogue.proofs.SourceFacts.{told_so}
-use Rattle.chain_cache.specs.Cache.{CacheLists, IsFilled, IsRightFor}
-use Rattle.chain_cache.proofs.FillFacts.{on_err}
 use Rattle.chain_cache.proofs.cache.ChainCache.fill.Goals as goal
 
 pub returns-clause-right : goal.returns-clause-right

@@ -1,5 +1,4 @@
 use Rattle.std.proofs.Common.{◌∙◌, ap, subst, sym}
-use Rattle.catalogue.specs.Ids.{same_id}
 use Rattle.chain_cache.specs.Cache.{CacheLists, IsFilled, IsRightFor, after_miss, has}
 use Rattle.chain_cache.proofs.FillFacts.{filled_miss, lists_of, on_err, put_is, right_miss}
 use Rattle.chain_cache.proofs.cache.ChainCache.put.Goals as goal

@@ -1,4 +1,4 @@
-use Rattle.std.proofs.Common.{◌≡◌, ◌∙◌, ap, subst, sym}
+use Rattle.std.proofs.Common.{◌∙◌, ap, subst, sym}
 use Rattle.chain_cache.specs.Cache.{CacheLists, IsFilled, IsRightFor, after_hit, has}
 use Rattle.chain_cache.proofs.FillFacts.{filled_hit, lists_of, right_hit, same_frames}
 use Rattle.chain_cache.proofs.cache.ChainCache.use_kept.Goals as goal

@@ -15,7 +15,7 @@ returns-then-use_kept-clause-verdict g c =
 
 pub returns-in-Some-clause-verdict : goal.returns-in-Some-clause-verdict
 returns-in-Some-clause-verdict g c =
-    let P : CacheLists → Type 0 = λ cache. Contains cache.surveys (record { rows = c.args.zone.now; survey = c.in-Some.survey.now }) in
+    let P : CacheLists → Type 0 = λ cache. Contains cache.surveys.zones (record { rows = c.args.zone.now; survey = c.in-Some.survey.now }) in
     record {
       told = λ ours clean content stands right.
           c.in_ok-verdict.ensures content c.args.zone.now ((c.use_kept.ensures.right content right).surveys.each _ (subst P c.self.view_is c.in-Some.ensures));
