@@ -1,7 +1,7 @@
 #!/usr/bin/env python3
 """Tries random desks.
 
-    fuzz.py PROGRAM [--seconds N] [--desks N] [--seed S] [--failures N] [--keep FOLDER]
+    fuzz.py PROGRAM [--lists DESKS] [--seconds N] [--desks N] [--seed S] [--failures N] [--keep FOLDER]
 
 A desk is drawn from a seed (fuzz_desks.py): callers, and what they send on each connection. PROGRAM serves it over a file, and
 once more in each of these ways (fuzz_checks.py), in which each reply has to be the same, byte for byte:
@@ -10,6 +10,7 @@ once more in each of these ways (fuzz_checks.py), in which each reply has to be 
     the desk ended or killed between connections              each change sent again between connections
     the requests in other connections                         the publisher alone, with no other caller known
     the publisher and one client alone, for each client
+    over lists, judged by `Whole` and with room for 1 and 16 frames, by the program that desks.sh makes (where it is given)
 
 Its replies are those of a second desk in plain Python (tests/plain_desk.py). None is 503, and each is well formed. The first desk
 has the seed S (1), the next one S + 1. It ends after N seconds (60), after N desks, or at the Nth failure (5). A failure prints its
@@ -35,6 +36,7 @@ MEMORY = "/dev/shm" if os.access("/dev/shm", os.W_OK) else None
 def arguments():
     reader = argparse.ArgumentParser(description=__doc__, formatter_class=argparse.RawDescriptionHelpFormatter)
     reader.add_argument("program")
+    reader.add_argument("--lists")
     reader.add_argument("--seconds", type=float, default=60)
     reader.add_argument("--desks", type=int, default=1 << 60)
     reader.add_argument("--seed", type=int, default=1)
@@ -62,7 +64,7 @@ def try_desk(seed, words, count):
     count.desks += 1
     try:
         desk = drawn(seed)
-        checks = Checks(Runner(os.path.abspath(words.program), room), desk, random.Random(seed))
+        checks = Checks(Runner(os.path.abspath(words.program), room, words.lists), desk, random.Random(seed))
         count.of(checks)
         count.passed += 1
         for name, check in checks.all():
@@ -71,7 +73,8 @@ def try_desk(seed, words, count):
     except Difference as difference:
         count.failed += 1
         print("fuzz: seed %d: %s ... FAILED: %s" % (seed, name, difference))
-        print("fuzz: again: bench/fuzz.py %s --seed %d --desks 1 --keep FOLDER" % (words.program, seed), flush=True)
+        again = words.program + (" --lists " + words.lists if words.lists else "")
+        print("fuzz: again: bench/fuzz.py %s --seed %d --desks 1 --keep FOLDER" % (again, seed), flush=True)
         if words.keep:
             shutil.copytree(room, words.keep, dirs_exist_ok=True)
     finally:

@@ -33,8 +33,9 @@ def free_port():
 class Runner:
     """Runs the program, with files in a folder."""
 
-    def __init__(self, program, room):
+    def __init__(self, program, room, lists=None):
         self.program, self.room, self.made = program, room, 0
+        self.lists = lists and os.path.abspath(lists)  # the program that desks.sh makes
 
     def write(self, name, text):
         path = os.path.join(self.room, name)
@@ -43,11 +44,15 @@ class Runner:
         return path
 
     def replay(self, tokens, connections, *options):
+        return self.run_over([self.program, "replay", *options], tokens, connections)
+
+    def run_over(self, words, tokens, connections):
+        """What a run without sockets writes to these connections."""
         callers = self.write("callers.csv", list_of_callers(tokens))
         files = [self.write("connection%d" % place, sent) for place, sent in enumerate(connections)]
-        done = subprocess.run([self.program, "replay", *options, callers, *files], capture_output=True, timeout=120)
+        done = subprocess.run([*words, callers, *files], capture_output=True, timeout=120)
         if done.returncode or done.stderr:
-            raise Difference("replay ended with %d: %r" % (done.returncode, done.stderr))
+            raise Difference("it ended with %d: %r" % (done.returncode, done.stderr))
         return done.stdout
 
     def store(self, tokens):
@@ -191,6 +196,8 @@ class Checks:
         """Each check by its name."""
         for capacity in (1, 2, 1024):
             yield "replay with room for %d frames" % capacity, lambda: self.replayed("--cache", str(capacity))
+        for judge in ("whole", "1", "16") if self.runner.lists else ():
+            yield "over lists, judge %s" % judge, lambda: self.over_lists(judge)
         yield "requests cut into pieces, and another capacity", self.cut
         yield "the desk ended or killed between connections", self.restarted
         yield "each change sent again", self.repeated
@@ -209,6 +216,9 @@ class Checks:
 
     def replayed(self, *options):
         see_same(self.runner.replay(self.desk.tokens, self.sent, *options), b"".join(self.written))
+
+    def over_lists(self, judge):
+        see_same(self.runner.run_over([self.runner.lists, judge], self.desk.tokens, self.sent), b"".join(self.written))
 
     def cut(self):
         capacity = str(self.dice.choice([1, 3, 65536]))

@@ -1,7 +1,8 @@
 #!/usr/bin/env python3
-"""Shows that fuzz.py can fail: fuzz_lies.py PROGRAM
+"""Shows that fuzz.py can fail: fuzz_lies.py PROGRAM [DESKS]
 
-Each lie is a program in front of PROGRAM that changes what is sent to it, or what it writes, in one way that fuzz.py has to see.
+Each lie is a program in front of PROGRAM that changes what is sent to it, or what it writes, in one way that fuzz.py has to see. Two
+more stand in front of DESKS, the program that desks.sh makes, where it is given.
 It prints for each lie which check saw it, and after how many desks.
 """
 import ctypes
@@ -24,6 +25,7 @@ class Truth:
     """Changes nothing. A lie changes one of these. `sent` is what goes to one connection, `written` what comes back."""
 
     seen_by = None
+    is_over_lists = False
 
     def __init__(self, tokens, words, life):
         self.tokens, self.words, self.life = tokens, words, life
@@ -115,7 +117,7 @@ class CountsClients(Truth):
 
 
 class KnowsTheStore(Truth):
-    """Lists in memory tell another number than a file."""
+    """Files in memory tell another number than those on a disk."""
 
     seen_by = "replay with room"
 
@@ -146,6 +148,27 @@ class IsWrong(Truth):
                       rb'content-length: 46\r\n\r\n{"status":"LACK","sysmod":"UA\1","zone":"TGT\2"}', reply)
 
 
+class KnowsLists(Truth):
+    """Lists tell another number than SQL."""
+
+    seen_by = "over lists, judge whole"
+    is_over_lists = True
+
+    def written(self, reply):
+        return reply.replace(b"RELEASES 1\n", b"RELEASES 0\n")
+
+
+class ForgetsOverLists(Truth):
+    """With room for sixteen frames over lists a verdict is wrong."""
+
+    seen_by = "over lists, judge 16"
+    is_over_lists = True
+
+    def written(self, reply):
+        return reply.replace(b'"status":"GOOD"', b'"status":"HELD"') if self.words[0] == "16" else reply
+
+
+LIES_OVER_LISTS = [KnowsLists, ForgetsOverLists]
 LIES = [Leaks, ActsAgain, ForgetsInSmallCache, ForgetsAtStart, CutsHeads, HasNoRoom, CountsClients, KnowsTheStore, CountsRequests, IsWrong]
 
 
@@ -204,24 +227,29 @@ def tell(name, program, words):
         conn = sqlite3.connect(store)
         tokens = dict(conn.execute("SELECT name, token FROM caller"))
         conn.close()
-    if words[0] == "replay":
+    if words[0] not in ("serve", "init"):
         with open(next(word for word in words if word.endswith("callers.csv"))) as file:
             tokens = dict(line.strip().split(",") for line in file.readlines()[1:])
-    lie = next(lie for lie in LIES if lie.__name__ == name)(tokens, words, life)
-    runs = {"replay": replay, "serve": serve}.get(words[0])
-    return runs(lie, program, words) if runs else subprocess.run([program, *words]).returncode
+    if words[0] == "init":
+        return subprocess.run([program, *words]).returncode
+    lie = next(lie for lie in LIES + LIES_OVER_LISTS if lie.__name__ == name)(tokens, words, life)
+    return serve(lie, program, words) if words[0] == "serve" else replay(lie, program, words)
 
 
 def main():
     program, passed = os.path.abspath(sys.argv[1]), 0
-    for lie in LIES:
+    desks = [os.path.abspath(word) for word in sys.argv[2:3]]
+    lies = LIES + (LIES_OVER_LISTS if desks else [])
+    for lie in lies:
         with tempfile.TemporaryDirectory() as room:
             liar = os.path.join(room, "liar")
             with open(liar, "w") as out:
-                out.write('#!/bin/sh\nexec %s %s --as %s %s "$@"\n' % (sys.executable, os.path.abspath(__file__), lie.__name__, program))
+                behind = desks[0] if lie.is_over_lists else program
+                out.write('#!/bin/sh\nexec %s %s --as %s %s "$@"\n' % (sys.executable, os.path.abspath(__file__), lie.__name__, behind))
             os.chmod(liar, 0o755)
+            words = [program, "--lists", liar] if lie.is_over_lists else [liar]
             done = subprocess.run(
-                [sys.executable, os.path.join(HERE, "fuzz.py"), liar, "--desks", "60", "--seconds", "600", "--failures", "1"],
+                [sys.executable, os.path.join(HERE, "fuzz.py"), *words, "--desks", "60", "--seconds", "600", "--failures", "1"],
                 capture_output=True, text=True)
         failure = re.search(r"fuzz: seed (\d+): (.*?) \.\.\. FAILED", done.stdout)
         seen = failure and lie.seen_by in failure[2]
@@ -229,8 +257,8 @@ def main():
         print("%-20s %s" % (lie.__name__, "seed %s: %s" % failure.groups() if failure else "NOT SEEN " + done.stdout + done.stderr), flush=True)
         if failure and not seen:
             print("    seen by another check than %r\n%s" % (lie.seen_by, done.stdout))
-    print("fuzz_lies: %d passed, %d failed" % (passed, len(LIES) - passed))
-    return 0 if passed == len(LIES) else 1
+    print("fuzz_lies: %d passed, %d failed" % (passed, len(lies) - passed))
+    return 0 if passed == len(lies) else 1
 
 
 if __name__ == "__main__":

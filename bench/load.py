@@ -2,7 +2,7 @@
 """Gives a desk the largest that it may be given, and sees that memory is never told as wanting: load.py PROGRAM [SHAPE..]
 
     --settings one,small,large,file,file-small,each     the runs of each shape (all); the last three are `serve` over a file
-
+    --lists DESKS      and three runs over lists: lists-whole, lists-one, lists-small. DESKS is the program that desks.sh makes
 
 Each shape knows its own replies: the counts, the texts and the plans follow from how it was made, and each byte that the program
 writes is compared with them, in each setting. So a body that gives up at a long list, a large body, a report of many rows or the
@@ -32,6 +32,7 @@ SETTINGS = {
     "file-small": ("serve", "--cache", "1"),
     "each": ("serve", "--cache", "1024"),
 }
+OVER_LISTS = {"lists-whole": ("whole",), "lists-one": ("1",), "lists-small": ("16",)}  # the words of `desks`
 slowest, largest = {}, {}  # by route: seconds or MB, with the shape and the bytes of request and reply
 
 
@@ -39,8 +40,13 @@ def arguments():
     reader = argparse.ArgumentParser(description=__doc__, formatter_class=argparse.RawDescriptionHelpFormatter)
     reader.add_argument("program")
     reader.add_argument("shapes", nargs="*", metavar="SHAPE", help=", ".join(SHAPES))
-    reader.add_argument("--settings", default=",".join(SETTINGS))
-    return reader.parse_args()
+    reader.add_argument("--settings")
+    reader.add_argument("--lists")
+    words = reader.parse_args()
+    words.settings = words.settings.split(",") if words.settings else [*SETTINGS, *(OVER_LISTS if words.lists else ())]
+    if not words.lists and any(setting in OVER_LISTS for setting in words.settings):
+        reader.error("runs over lists need --lists")
+    return words
 
 
 def write(path, text):
@@ -166,15 +172,16 @@ def difference(got, wanted):
     return "at byte %d of %d\n   got: %r\nwanted: %r" % (place, len(wanted), got[begin : place + 150], wanted[begin : place + 150])
 
 
-def run(name, setting, program, shape):
+def run(name, setting, words, shape):
     room = tempfile.mkdtemp(prefix="bureau-load-")
-    options = SETTINGS[setting]
     try:
         began = time.monotonic()
-        if options[0] == "replay":
-            got, ended, peak = replayed(program, options, room, shape)
+        if setting in OVER_LISTS:
+            got, ended, peak = replayed(os.path.abspath(words.lists), OVER_LISTS[setting], room, shape)
+        elif SETTINGS[setting][0] == "replay":
+            got, ended, peak = replayed(os.path.abspath(words.program), SETTINGS[setting], room, shape)
         else:
-            got, ended, peak = served(program, options, room, shape, name, setting == "each")
+            got, ended, peak = served(os.path.abspath(words.program), SETTINGS[setting], room, shape, name, setting == "each")
         took = time.monotonic() - began
     finally:
         shutil.rmtree(room, ignore_errors=True)
@@ -188,10 +195,10 @@ def main():
     resource.setrlimit(resource.RLIMIT_CORE, (0, 0))
     for name in words.shapes or SHAPES:
         shape = SHAPES[name]()
-        for setting in words.settings.split(","):
+        for setting in words.settings:
             if setting in shape.left_out:
                 continue
-            if run(name, setting, os.path.abspath(words.program), shape):
+            if run(name, setting, words, shape):
                 passed += 1
             else:
                 failed += 1

@@ -1,7 +1,9 @@
 #!/usr/bin/env python3
-"""Refuses each growth of memory in turn, while ten calls of three callers run: refusals.py PROGRAM [WAY..] [--every N]
+"""Refuses each growth of memory in turn, while ten calls of three callers run: refusals.py PROGRAM [WAY..] [--every N] [--lists DESKS]
 
-    replay     by `replay`, with room for 1 and 16 frames, in one connection and in ten
+    replay     by `replay`, with room for 1 and 16 frames, in one connection and in a connection each; then each change is sent again,
+               and all is asked that can be asked
+    lists      the same over lists, judged by `Whole` and with room for 1 and 16 frames, by DESKS, the program that desks.sh makes
     serve      by `serve` over a file; then what was answered 503 is sent again, and all is asked that can be asked, before and after
                the desk is started again
     open       `serve` is refused before it listens
@@ -30,6 +32,7 @@ from plain_desk import PlainDesk
 from resources import request
 
 MEMORY = {6, 17, 24, 25, 38, 41, 49, 54, 74}  # the faults that tell of memory
+DEVICE = {42}  # and of a device. The files of `replay` are in memory: where they can't grow, the device of the store has failed
 NO_ROOM = b"HTTP/1.1 503 Service Unavailable\r\ncontent-type: text/plain\r\ncontent-length: 8\r\n\r\nNO ROOM\n"
 BOTH, ONE = b"SYSMOD,STATE\nHBB7790,APPLIED\nUA10001,APPLIED\n", b"SYSMOD,STATE\nHBB7790,APPLIED\n"
 SCRIPT = [
@@ -49,7 +52,7 @@ QUESTIONS = [request("GET /published", PUBLISHER)] + [
     for token in (ALPHA, BETA)
     for path in ["", "/TGT1/errsysmods", "/TGT1/missingfix"] + ["/TGT1/chains/" + name for name in ("UA10001", "UA10002", "UA10005", "AA20002")]
 ] + [request("PUT /received", token, 1 << 62, b"SYSMOD\n") for token in (ALPHA, BETA)]
-
+AGAIN = [sent for sent in SCRIPT if not sent.startswith(b"GET ")]
 
 MOST_WRONG = 5
 
@@ -81,8 +84,8 @@ def compiled(room, name="refuse"):
 class Refusing:
     """Runs the program with one growth refused."""
 
-    def __init__(self, program, room):
-        self.program, self.room = program, room
+    def __init__(self, program, room, lists=None):
+        self.program, self.room, self.lists = program, room, lists
         path = self.write("counts", bytes(16))
         self.environment = {**os.environ, "LD_PRELOAD": compiled(room), "REFUSE": path}
         with open(path, "r+b") as file:
@@ -104,12 +107,12 @@ class Refusing:
         asked, refused = struct.unpack("QQ", self.counts[:])
         return asked >= refused
 
-    def run(self, *words, **more):
-        done = subprocess.run([self.program, *words], env=self.environment, capture_output=True, timeout=120, **more)
+    def run(self, *words, program=None, **more):
+        done = subprocess.run([program or self.program, *words], env=self.environment, capture_output=True, timeout=120, **more)
         see(done.returncode >= 0, "ended by signal", -done.returncode)
         return done.returncode, done.stdout, done.stderr
 
-    def refused_run(self, place, *words, **more):
+    def refused_run(self, place, *words, faults=MEMORY, **more):
         """A run that is refused or is what it is without: whether it was refused, and its output."""
         self.refuse(place)
         status, output, errors = self.run(*words, **more)
@@ -117,7 +120,7 @@ class Refusing:
             see(status == 0 and not errors, "status", status, errors)
             return False, output
         number = int(errors.split()[1]) if errors.startswith(b"FAULT ") else 0
-        see(number in MEMORY and not output and self.met(), "status 3 with", errors, "and", output)
+        see(number in faults and not output and self.met(), "status 3 with", errors, "and", output)
         return True, output
 
 
@@ -148,15 +151,24 @@ def see_replies(replies, requests):
     return refused
 
 
-def replay(capacity, is_cut):
+def replay(words, is_cut, is_over_lists=False):
+    """A change that is answered 503 is accepted when it is sent again. Another one is a repeat then, or comes out of its turn."""
+
     def way(refusing, place):
-        files = [refusing.write("file%d" % i, sent) for i, sent in enumerate(SCRIPT if is_cut else [b"".join(SCRIPT)])]
-        ended, output = refusing.refused_run(place, "replay", "--cache", str(capacity), refusing.callers, *files)
+        sent = SCRIPT + AGAIN + QUESTIONS
+        files = [refusing.write("file%d" % i, text) for i, text in enumerate(sent if is_cut else [b"".join(sent)])]
+        how = {"program": refusing.lists} if is_over_lists else {"faults": MEMORY | DEVICE}
+        ended, output = refusing.refused_run(place, *words, refusing.callers, *files, **how)
         if ended:
             return "no replies", True
         replies = replies_of(output)
-        see(len(replies) == len(SCRIPT), "replies", replies)
-        return "a 503" if see_replies(replies, SCRIPT) else "all replies", refusing.met()
+        see(len(replies) == len(sent), "replies", replies)
+        refused = see_replies(replies, sent)
+        for first in refused:
+            if sent[first] in AGAIN and first < len(SCRIPT):
+                reply = replies[len(SCRIPT) + AGAIN.index(sent[first])]
+                see(reply.startswith(b"HTTP/1.1 200 "), "a refused change, sent again", reply)
+        return "a 503" if refused else "all replies", refusing.met()
 
     return way
 
@@ -290,7 +302,8 @@ WAYS = {
     "holds": [holds],
     "init": [init],
     "open": [opening],
-    "replay": [replay(capacity, is_cut) for capacity in (1, 16) for is_cut in (False, True)],
+    "replay": [replay(("replay", "--cache", capacity), is_cut) for capacity in ("1", "16") for is_cut in (False, True)],
+    "lists": [replay((judge,), is_cut, True) for judge in ("whole", "1", "16") for is_cut in (False, True)],
     "serve": [serve(capacity) for capacity in (1, 16)],
 }
 
@@ -315,13 +328,17 @@ def main():
     reader.add_argument("program")
     reader.add_argument("ways", nargs="*", metavar="WAY")
     reader.add_argument("--every", type=int, default=1)
+    reader.add_argument("--lists")
     words, passed, failed = reader.parse_args(), 0, 0
+    if "lists" in words.ways and not words.lists:
+        reader.error("the way over lists needs --lists")
+    ways = words.ways or [name for name in WAYS if words.lists or name != "lists"]
     with tempfile.TemporaryDirectory(dir="/dev/shm" if os.access("/dev/shm", os.W_OK) else None) as room:
-        refusing = Refusing(os.path.abspath(words.program), room)
+        refusing = Refusing(os.path.abspath(words.program), room, words.lists and os.path.abspath(words.lists))
         refusing.made = os.path.join(room, "store")
         refusing.refuse(0)
         see(refusing.run("init", refusing.made, refusing.callers)[1] == b"CALLERS 3\n", "init")
-        for name in words.ways or WAYS:
+        for name in ways:
             for turn, way in enumerate(WAYS[name]):
                 if sweep(name, way, refusing, words.every, 1 + turn * 7 % words.every):
                     passed += 1

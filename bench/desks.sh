@@ -1,0 +1,27 @@
+#!/usr/bin/env bash
+# Makes the program `desks`, which does what `bureau replay` does over lists, and prints where it is: bench/desks.sh [OPTIONS OF rt run]
+#
+#   desks whole|FRAMES CALLERS FILE..
+#
+# It judges by `Whole` or from a cache with room for so many frames. load.py, refusals.py and fuzz.py take it by `--lists`, since
+# the bureau's own program keeps no store in lists. The program bench/desks/main.rt.txt is proved and built over copies of the
+# crates, under bench/out; what was proved of them before is copied too.
+set -euo pipefail
+top=$(cd "$(dirname "$0")/.." && pwd)
+work=$top/bench/out/desks
+below='faults columns transfer mcs_reader holddata zone_lists catalogue supersede requisites chains chain_cache reports
+  requests bureau_store failing_store bureau bureau_http'
+mkdir -p "$work/crates/desks/src"
+: > "$work/crates.txt"
+for crate in $below; do
+    rm -rf "$work/crates/$crate"
+    cp -a "$top/crates/$crate" "$work/crates/$crate"
+    grep "^$crate:" "$top/crates.txt" >> "$work/crates.txt"
+done
+echo 'desks: faults transfer bureau_store chain_cache bureau bureau_http' >> "$work/crates.txt"
+cp "$top/bench/desks/main.rt.txt" "$work/crates/desks/src/main.rt"
+cp "$top/HANDLES" "$work/"
+cd "$work/crates/desks"
+# without words it ends with 2
+rt run "$@" > "$work/built" 2>&1 || [ -x out/desks ] || { cat "$work/built"; exit 1; }
+echo "$work/crates/desks/out/desks"
