@@ -7,6 +7,8 @@ use std::test::Fail;
 use supersede::{Zone, givers, there};
 use zone_lists::zone_rows;
 
+mod largest;
+
 #[test]
 fn a_zone_tells_its_sysmods(rt: HostRuntime) -> Result<(), Fail> {
     let text = b"SYSMOD,STATE\nUA10001,APPLIED\nHBB7790,ACCEPTED\nUA10002,SUPERSEDED\n";
