@@ -3,6 +3,7 @@
 
     replay     by `replay`, with room for 1 and 16 frames, in one connection and in a connection each; then each change is sent again,
                and all is asked that can be asked
+    large      the same by `replay` with growths of 16 KiB and more alone, each of them in any case: those of its files are among them
     lists      the same over lists, judged by `Whole` and with room for 1 and 16 frames, by DESKS, the program that desks.sh makes
     serve      by `serve` over a file; then what was answered 503 is sent again, and all is asked that can be asked, before and after
                the desk is started again
@@ -86,10 +87,10 @@ class Refusing:
 
     def __init__(self, program, room, lists=None):
         self.program, self.room, self.lists = program, room, lists
-        path = self.write("counts", bytes(16))
+        path = self.write("counts", bytes(24))
         self.environment = {**os.environ, "LD_PRELOAD": compiled(room), "REFUSE": path}
         with open(path, "r+b") as file:
-            self.counts = mmap.mmap(file.fileno(), 16)
+            self.counts = mmap.mmap(file.fileno(), 24)
         self.callers = self.write("callers", list_of_callers(TOKENS))
 
     def write(self, name, text):
@@ -98,13 +99,13 @@ class Refusing:
             out.write(text)
         return path
 
-    def refuse(self, place):
-        """From here on growths are counted from 1, and the one at this place is refused; 0 refuses none."""
-        self.counts[:] = struct.pack("QQ", 0, place)
+    def refuse(self, place, least=0):
+        """From here on growths of so many bytes at least are counted from 1, and the one at this place is refused; 0 refuses none."""
+        self.counts[:] = struct.pack("QQQ", 0, place, least)
 
     def met(self):
         """Whether so many growths were asked for that one was refused."""
-        asked, refused = struct.unpack("QQ", self.counts[:])
+        asked, refused, _ = struct.unpack("QQQ", self.counts[:])
         return asked >= refused
 
     def run(self, *words, program=None, **more):
@@ -112,9 +113,9 @@ class Refusing:
         see(done.returncode >= 0, "ended by signal", -done.returncode)
         return done.returncode, done.stdout, done.stderr
 
-    def refused_run(self, place, *words, faults=MEMORY, **more):
+    def refused_run(self, place, *words, faults=MEMORY, least=0, **more):
         """A run that is refused or is what it is without: whether it was refused, and its output."""
-        self.refuse(place)
+        self.refuse(place, least)
         status, output, errors = self.run(*words, **more)
         if status != 3:
             see(status == 0 and not errors, "status", status, errors)
@@ -151,14 +152,14 @@ def see_replies(replies, requests):
     return refused
 
 
-def replay(words, is_cut, is_over_lists=False):
+def replay(words, is_cut, is_over_lists=False, least=0):
     """A change that is answered 503 is accepted when it is sent again. Another one is a repeat then, or comes out of its turn."""
 
     def way(refusing, place):
         sent = SCRIPT + AGAIN + QUESTIONS
         files = [refusing.write("file%d" % i, text) for i, text in enumerate(sent if is_cut else [b"".join(sent)])]
         how = {"program": refusing.lists} if is_over_lists else {"faults": MEMORY | DEVICE}
-        ended, output = refusing.refused_run(place, *words, refusing.callers, *files, **how)
+        ended, output = refusing.refused_run(place, *words, refusing.callers, *files, least=least, **how)
         if ended:
             return "no replies", True
         replies = replies_of(output)
@@ -303,6 +304,7 @@ WAYS = {
     "init": [init],
     "open": [opening],
     "replay": [replay(("replay", "--cache", capacity), is_cut) for capacity in ("1", "16") for is_cut in (False, True)],
+    "large": [replay(("replay", "--cache", "1"), False, least=1 << 14)],
     "lists": [replay((judge,), is_cut, True) for judge in ("whole", "1", "16") for is_cut in (False, True)],
     "serve": [serve(capacity) for capacity in (1, 16)],
 }
@@ -340,7 +342,8 @@ def main():
         see(refusing.run("init", refusing.made, refusing.callers)[1] == b"CALLERS 3\n", "init")
         for name in ways:
             for turn, way in enumerate(WAYS[name]):
-                if sweep(name, way, refusing, words.every, 1 + turn * 7 % words.every):
+                every = 1 if name == "large" else words.every
+                if sweep(name, way, refusing, every, 1 + turn * 7 % every):
                     passed += 1
                 else:
                     failed += 1

@@ -26,7 +26,7 @@ abbrev pub IsReplayCutShort : AnyFault → List ℕ → List (List ℕ) → Opti
 IsReplayCutShort fault callers connections old new =
     (fault ≡ of_program NotWritten) × ((written : List (List ℕ)) × IsReplayed callers connections written × AppendsFront old new (joined written))
 
--- no store can be made, or memory ran out
+-- no store can be made, its device failed, or memory ran out
 abbrev pub IsNotServed : AnyFault → Type 0
 IsNotServed fault =
     ((refused : StoreFault) × (fault ≡ of_store refused)) ⊎ (fault ≡ of_program Memory)

@@ -17,7 +17,7 @@ use crate::fault::{ProgramFault, exit_status, report};
 use bureau::Bureau;
 use bureau_http::serve_list;
 use bureau_sql::SqlStore;
-use bureau_store::{CallerRow, StoreFault};
+use bureau_store::{CallerRow, Store, StoreFault};
 use chain_cache::ChainCache;
 use faults::AnyFault;
 use sqlite::{Alter, Connection, FileStore, Files, Options};
@@ -127,6 +127,7 @@ fn serve_over<S: Alter + Drop>(
     };
     let mut bureau = Bureau::new(alloc, store, judge);
     match serve_list(alloc, &mut bureau, files) {
+        Ok(_) if bureau.store().device_failed() => Err(of_store(StoreFault::Device)),
         Ok(written) => Ok(written),
         Err((fault, _)) => Err(AnyFault::from(fault)),
     }
