@@ -22,6 +22,7 @@ echo 'desks: faults transfer bureau_store chain_cache bureau bureau_http' >> "$w
 cp "$top/bench/desks/main.rt.txt" "$work/crates/desks/src/main.rt"
 cp "$top/HANDLES" "$work/"
 cd "$work/crates/desks"
-# without words it ends with 2
+# It is run without words, so it ends with 2: whether it was built is seen by its file.
+rm -f out/desks
 rt run "$@" > "$work/built" 2>&1 || [ -x out/desks ] || { cat "$work/built"; exit 1; }
 echo "$work/crates/desks/out/desks"
