@@ -1,4 +1,4 @@
--- What a writer gets of texts that are written one after the other.
+-- What a writer gets of texts that are written one after the other, and why nothing is written.
 use Rattle.std.proofs.Common.{◌≡◌, ◌⊎◌, inl, inr, ℕ, ◌+◌, ◌<◌, ◌≤◌, Bool, true, false, List, [], ◌∷◌, ◌++◌, length, map, take, drop, get_or, nat_le, Option, refl, sym, ap, ◌∙◌, subst, arith, append-nil, append_assoc, take-append-drop}
 use Rattle.std.proofs.KnownBytes.{Appends-trans}
 use Rattle.std.proofs.Math.Seq.{take-append-add}
@@ -7,7 +7,10 @@ use Rattle.std.proofs.lemmas.Grind.{flat_map-append}
 use Rattle.std.proofs.lemmas.List.{map-append, take-append-le, take_all, take_more}
 use Rattle.std.specs.Io.KnownBytes.{Appends}
 use Rattle.transfer.specs.Transfer.{AppendsFront}
-use Rattle.bureau_main.specs.Replay.{joined}
+use Rattle.faults.specs.declared.any.AnyFault.{AnyFault}
+use Rattle.bureau_store.specs.declared.fault.StoreFault.TheVariants.{Device}
+use Rattle.bureau_main.specs.Desk.{of_store}
+use Rattle.bureau_main.specs.Replay.{IsNotServed, joined}
 
 order : (t : Bool) (a b : ℕ) → nat_le a b ≡ t → (a ≤ b) ⊎ (b ≤ a)
 order true a b h = inl (grind (arith, nat_tests))
@@ -56,3 +59,7 @@ module _ {V : Type 0} (f : V → List ℕ) (texts : List V) (i : ℕ) (item : V)
       let joins : joined (map f texts) ≡ joined (map f (take i texts)) ++ (f item ++ joined rest) =
       ap joined all ∙ joined_on (map f (take i texts)) (f item ∷ rest) in
       subst (AppendsFront old new) (sym joins) (front_after old mid new (joined (map f (take i texts))) (f item) (joined rest) before front)
+
+-- the device of the store has failed
+pub device_not_served : (fault : AnyFault) → fault ≡ of_store Device → IsNotServed fault
+device_not_served fault is = inl (Device, is)

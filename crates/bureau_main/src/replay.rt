@@ -126,8 +126,11 @@ fn serve_over<S: Alter + Drop>(
         Err((fault, _)) => return Err(of_store(fault)),
     };
     let mut bureau = Bureau::new(alloc, store, judge);
-    match serve_list(alloc, &mut bureau, files) {
-        Ok(_) if bureau.store().device_failed() => Err(of_store(StoreFault::Device)),
+    let served = serve_list(alloc, &mut bureau, files);
+    if bureau.store().device_failed() {
+        return Err(of_store(StoreFault::Device));
+    }
+    match served {
         Ok(written) => Ok(written),
         Err((fault, _)) => Err(AnyFault::from(fault)),
     }
