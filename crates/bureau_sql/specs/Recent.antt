@@ -25,6 +25,7 @@ pub record RowsRead : Type 0 where
   pub zone : List ℕ
   pub rows : List ZoneRow
 
+-- what is kept of each kind
 pub record RecentLists : Type 0 where
   pub tokens : List TokenRead
   pub zones : List ZonesRead
@@ -33,6 +34,7 @@ pub record RecentLists : Type 0 where
 abbrev pub nothing_read : RecentLists
 nothing_read = record { tokens = []; zones = []; rows = [] }
 
+-- the tables have what was read
 abbrev pub IsTokenOf : Tables → TokenRead → Type 0
 IsTokenOf tables read = caller_with tables.callers read.token ≡ Some read.caller
 
