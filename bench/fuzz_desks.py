@@ -32,6 +32,10 @@ BAD_STATEMENTS = [
     b"++PTF(TOOLONGNAME).\n",
     b"++HOLD(UA1) ERROR REASON(AA1) DATE(12367).\n",
     b"++PTF(UA1).\n++VER(Z038) PRE(NOT.ID).\n",
+    b"++IF FMID(HBB7790) REQ(UA1).\n",
+    b"++PTF(UA1).\n++IF REQ(not.id).\n",
+    b"++PTF(UA1).\n++IF FMID(HBB7790) REQ(not.id).\n",
+    b"++PTF(UA1).\n++IF(HBB7790) REQ(UA2).\n",
 ]
 BAD_LISTS = [b"", b"SYSMOD\nbad-id\n", b"NAME\nUA1\n", b"SYSMOD,STATE\nUA1,GONE\n", b"SYSMOD,STATE\nUA1\n", b"CATEGORY\na*b\n", b"\xff\n"]
 
@@ -199,6 +203,8 @@ class Drawing:
                     if dice.random() < 0.35
                 )
                 text += "++VER(Z038) FMID(%s)%s.\n" % (dice.choice(FUNCTIONS[:1] * 4 + FUNCTIONS), lists)
+                if dice.random() < 0.3:
+                    text += self.condition()
         for _ in range(dice.choice([0, 0, 1, 2, 4])):
             text += self.hold()
         if dice.random() < 0.2:
@@ -206,6 +212,12 @@ class Drawing:
         if dice.random() < 0.1:
             text = "".join("%-72s%08d\n" % (line, number) for number, line in enumerate(text.splitlines()))
         return text.encode()
+
+    def condition(self):
+        """What is required where a function is installed, or, now and then, a PTF in a function's place."""
+        dice = self.dice
+        fmid, needs = dice.choice(FUNCTIONS * 2 + PTFS[:2]), ",".join(dice.choices(IDS, k=dice.randint(1, 3)))
+        return "++IF FMID(%s)%s\n REQ(%s).\n" % (fmid, dice.choice([" THEN", ""]), needs)
 
     def hold(self):
         dice = self.dice

@@ -1,7 +1,7 @@
 """The shapes of load.py: what is sent, and the replies that follow from how a shape was made."""
 PUBLISHER, ALPHA, BETA = "publisher-token", "alpha-token", "beta-token"
 TOKENS = {"PUBLISH": PUBLISHER, "ALPHA": ALPHA, "BETA": BETA}
-FULL = 20000  # the most rows of a zone, and ids of a received list
+FULL, LISTED = 40000, 20000  # the most rows of a zone, and ids of a received list
 BASE = """++FUNCTION(HBB7790).
 ++VER(Z038).
 ++PTF(UA10001).
@@ -127,7 +127,7 @@ def worked():
     rows += [("HBB7790", "UA10001", "S0001", name, "GOOD", "NO", "-") for name in row]
     shape.err_report(ALPHA, "TGT1", rows)
     shape.put_zone(ALPHA, "TGT3", ["T%06d" % place for place in range(FULL)])
-    shape.put_received(ALPHA, ["T%06d" % place for place in range(FULL)])
+    shape.put_received(ALPHA, ["T%06d" % place for place in range(LISTED)])
     shape.put_patterns(ALPHA, "TGT3", ["IBM.Category.%02d.*" % place for place in range(64)])
     shape.chain(ALPHA, "TGT1", "R0100", good(rings))
     shape.missing_report(ALPHA, "TGT3", [])
@@ -151,7 +151,7 @@ def full_zone():
         text += "++HOLD(%s) ERROR FMID(HBB7790) REASON(%s) CLASS(PE).\n" % (installed[place], reasons[place])
         text += "++HOLD(%s) FIXCAT FMID(HBB7790) REASON(%s)\n RESOLVER(%s) CATEGORY(IBM.Category.%02d.Name).\n" % (
             installed[place], reasons[place], first[place], place % 64)
-    received = set(first[::2] + second[:10000])
+    received = set(first[: LISTED : 2] + second[: LISTED // 2])
     shape = Shape()
     shape.connect()
     shape.publish(text, 1 + 2 * count, 2 * count)
@@ -196,6 +196,28 @@ def one_component():
     shape.chain(ALPHA, "TGT1", small[7], good(small))
     shape.chain(ALPHA, "TGT1", small_row[0], good(small_row))
     shape.chain(ALPHA, "TGT1", names[0], good(names))
+    return shape
+
+
+def conditions(count=10000):
+    """Pairs in rings: each of so many requires the next of its ring of five, and of one ring of a tenth, where a second function is
+    installed. Another tenth is a row whose last requires what is nowhere."""
+    names, large, row = (["%s%06d" % (letter, place) for place in range(many)] for letter, many in (("C", count), ("D", count // 10), ("E", count // 10)))
+    rings = [names[begin : begin + 5] for begin in range(0, count, 5)] + [large]
+    pairs = [pair for ring in rings for pair in zip(ring, ring[1:] + ring[:1])] + list(zip(row, row[1:] + ["NEVER"]))
+    shape = Shape()
+    shape.connect()
+    shape.publish(FUNCTION + "".join(ptf(name) + "++IF FMID(HXX0001) THEN REQ(%s).\n" % need for name, need in pairs), 1 + len(pairs), 0)
+    shape.put_zone(ALPHA, "TGT1", ["HBB7790"])
+    shape.put_zone(ALPHA, "TGT2", ["HBB7790", "HXX0001"])
+    for _ in range(2):
+        shape.chain(ALPHA, "TGT1", names[7], good(names[7:8]))
+        shape.chain(ALPHA, "TGT2", names[7], good(names[5:10]))
+        shape.chain(ALPHA, "TGT1", large[0], good(large[:1]))
+        shape.chain(ALPHA, "TGT2", large[0], good(large))
+        shape.chain(ALPHA, "TGT1", row[0], good(row[:1]))
+        shape.chain(ALPHA, "TGT2", row[0], held(row[1]))
+        shape.publish("++HOLD(%s) ERROR FMID(HBB7790) REASON(HBB7790).\n" % names[0], 0, 1)
     return shape
 
 
@@ -245,7 +267,7 @@ def full_zones():
     shape.ask("PUT /zones/MORE", ALPHA, "FAULT 61\n", 65, "SYSMOD,STATE\n", status=422)
     shape.ask("PUT /zones/TGT00", ALPHA, "FAULT 37\n", 65, "SYSMOD,STATE\n" + "".join("Z%06d,APPLIED\n" % place for place in range(FULL + 1)), status=422)
     shape.put_zone(ALPHA, "TGT63", ids[:1])
-    shape.ask("GET /zones", ALPHA, text.replace("TGT63    20000", "TGT63    1"))
+    shape.ask("GET /zones", ALPHA, text.replace("TGT63    %d" % FULL, "TGT63    1"))
     return shape
 
 
@@ -313,6 +335,7 @@ SHAPES = {
     "worked": worked,
     "full-zone": full_zone,
     "one-component": one_component,
+    "conditions": conditions,
     "superseding": superseding,
     "reasons": reasons_in_a_row,
     "full-zones": full_zones,

@@ -43,7 +43,9 @@ SCRIPT = [
     request("GET /zones/TGT1/chains/UA10002", ALPHA),
     request("GET /zones/TGT1/chains/UA10002", BETA),
     request("GET /zones/TGT1/errsysmods", ALPHA),
-    request("POST /publish", PUBLISHER, 2, b"++PTF(UA10005).\n++VER(Z038) FMID(HBB7790) SUP(UA10002).\n"),
+    request("POST /publish", PUBLISHER, 2, b"++PTF(UA10005).\n++VER(Z038) FMID(HBB7790) SUP(UA10002).\n"
+            b"++PTF(UA10020).\n++VER(Z038) FMID(HBB7790).\n++IF FMID(HXX0001) THEN REQ(UA10021).\n"
+            b"++PTF(UA10021).\n++VER(Z038) FMID(HBB7790).\n"),
     request("PUT /zones/TGT1", BETA, 2, BOTH),
     request("GET /zones/TGT1/errsysmods", ALPHA),
     request("GET /zones/TGT1/chains/UA10002", ALPHA),
@@ -51,7 +53,7 @@ SCRIPT = [
 QUESTIONS = [request("GET /published", PUBLISHER)] + [
     request("GET /zones" + path, token)
     for token in (ALPHA, BETA)
-    for path in ["", "/TGT1/errsysmods", "/TGT1/missingfix"] + ["/TGT1/chains/" + name for name in ("UA10001", "UA10002", "UA10005", "AA20002")]
+    for path in ["", "/TGT1/errsysmods", "/TGT1/missingfix"] + ["/TGT1/chains/" + name for name in ("UA10001", "UA10002", "UA10005", "UA10020", "AA20002")]
 ] + [request("PUT /received", token, 1 << 62, b"SYSMOD\n") for token in (ALPHA, BETA)]
 AGAIN = [sent for sent in SCRIPT if not sent.startswith(b"GET ")]
 
@@ -292,6 +294,8 @@ def see_tables(store, plain):
           for zone, kept in zones.items() for name, state in kept.rows.items()]),
         ("SELECT id FROM sysmod", [(name.decode(),) for name in plain.catalogue]),
         ("SELECT id, member FROM sysmod_sup", [(name.decode(), member.decode()) for name, record in plain.catalogue.items() for member in record[b"SUP"]]),
+        ("SELECT id, fmid, member FROM sysmod_cond",
+         [(name.decode(), fmid.decode(), need.decode()) for name, record in plain.catalogue.items() for fmid, need in record[b"IF"]]),
         ("SELECT sysmod, kind, reason FROM hold_row", [(key[0].decode(), key[1], key[2].decode()) for key in plain.book]),
     ):
         got = sorted(conn.execute(text).fetchall())

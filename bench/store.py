@@ -179,7 +179,7 @@ def publication(count=30000):
         count, 2 * count, mine, theirs, mine / theirs, max(peaks), len(text) / 1e6))
 
 
-def a_zone(count=20000):
+def a_zone(count=40000):
     text = zone(count)
 
     def ours():
@@ -203,8 +203,8 @@ def filled(rows):
     left, number = rows - rows // 5 * 4, 0
     while left > 0:
         number += 1
-        desk.ask("PUT", "/zones/Z%d" % number, ALPHA, number, zone(min(left, 20000)))
-        left -= 20000
+        desk.ask("PUT", "/zones/Z%d" % number, ALPHA, number, zone(min(left, 40000)))
+        left -= 40000
     desk.end()
     return Desk(name)
 

@@ -7,7 +7,8 @@ import re
 
 BLANKS = b" \t"
 NAME = frozenset(b"ABCDEFGHIJKLMNOPQRSTUVWXYZabcdefghijklmnopqrstuvwxyz0123456789@#$")
-VERBS = (b"HOLD", b"RELEASE", b"FUNCTION", b"PTF", b"APAR", b"USERMOD", b"VER")
+VERBS = (b"HOLD", b"RELEASE", b"FUNCTION", b"PTF", b"APAR", b"USERMOD", b"VER", b"IF")
+LISTS = (b"FMID", b"PRE", b"REQ", b"SUP")
 HEADERS = (b"FUNCTION", b"PTF", b"APAR", b"USERMOD")
 KINDS = {b"ERROR": 0, b"ERR": 0, b"SYSTEM": 1, b"SYS": 1, b"USER": 2, b"FIXCAT": 3}
 TOKEN = frozenset(b"!#$%&'*+-.^_`|~0123456789abcdefghijklmnopqrstuvwxyzABCDEFGHIJKLMNOPQRSTUVWXYZ")
@@ -82,10 +83,17 @@ def one_statement(lines, first, verb, column):
             break
         else:
             raise Fault(3 if byte == b")" else 4, place)
-    if subject is None or (verb != b"VER" and not (len(subject) == 1 and is_id(subject[0]))):
+    if not is_subject(verb, subject):
         raise Fault(2, place)
     behind = first + next(i for i, begin in enumerate(begins) if begin > at)
-    return (verb, subject[0] if verb != b"VER" else None, operands, place), behind
+    return (verb, subject[0] if verb not in (b"VER", b"IF") else None, operands, place), behind
+
+
+def is_subject(verb, values):
+    """Whether a verb may have this list after it; None is no list."""
+    if verb == b"IF":
+        return values is None
+    return values is not None and (verb == b"VER" or (len(values) == 1 and is_id(values[0])))
 
 
 def comment_end(text, at, place):
@@ -178,24 +186,40 @@ def hold_book(source):
 
 
 def changes(source):
-    """What a publication says: (id, lists) of a record, whose lists are sets by operand; (key, hold) of a hold or a release."""
+    """What a publication says: (id, lists) of a record, whose lists are sets by operand, with pairs of an FMID and a REQ of its
+    IFs under IF; (key, hold) of a hold or a release."""
     found, record = [], None
     for statement in statements(source):
         verb, sysmod, _, place = statement
         if verb in (b"HOLD", b"RELEASE"):
             found.append(hold_of(statement))
         elif verb in HEADERS:
-            record = {name: set() for name in (b"FMID", b"PRE", b"REQ", b"SUP")}
+            record = {name: set() for name in LISTS + (b"IF",)}
             found.append((sysmod, record))
+        elif verb == b"IF":
+            if record is None:
+                raise Fault(27, place)
+            record[b"IF"].update(pairs_of(statement))
         elif record is None:
             raise Fault(21, place)
         else:
             operands = operands_of(statement)
-            if any(not is_id(value) for name in record for value in operands.get(name, [])):
+            if any(not is_id(value) for name in LISTS for value in operands.get(name, [])):
                 raise Fault(22, place)
-            for name in record:
+            for name in LISTS:
                 record[name].update(operands.get(name, []))
     return found
+
+
+def pairs_of(statement):
+    """What an IF requires: pairs of its function and of what its REQ names."""
+    operands, place = operands_of(statement), statement[3]
+    functions, needs = operands.get(b"FMID", []), operands.get(b"REQ", [])
+    if len(functions) != 1:
+        raise Fault(28, place)
+    if any(not is_id(value) for value in functions + needs):
+        raise Fault(22, place)
+    return {(functions[0], need) for need in needs}
 
 
 def publication(source):
@@ -246,7 +270,7 @@ def records(text, header, most):
 
 def zone_rows(text):
     rows = {}
-    for place, (name, state) in records(text, [b"SYSMOD", b"STATE"], 20000):
+    for place, (name, state) in records(text, [b"SYSMOD", b"STATE"], 40000):
         if not is_id(name):
             raise Fault(33, place)
         if state not in (b"APPLIED", b"ACCEPTED", b"SUPERSEDED"):

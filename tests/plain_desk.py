@@ -199,7 +199,7 @@ class PlainDesk:
         elif sysmod in good:
             told["status"], told["plan"] = "GOOD", [self.member(y) for y in self.plan(zone, good, sysmod)]
         else:
-            blocked = [r for r in self.needs(sysmod) if not self.there(zone, r) and not self.givers(r) & good]
+            blocked = [r for r in self.needs(zone, sysmod) if not self.there(zone, r) and not self.givers(r) & good]
             told["status"], told["blocked"] = "HELD", min(blocked, key=ordered).decode()
         return json.dumps(told, separators=(",", ":"), sort_keys=True)
 
@@ -222,13 +222,16 @@ class PlainDesk:
     def candidate(self, zone, y):
         return y in self.catalogue and any(zone.installed(fmid) for fmid in self.catalogue[y][b"FMID"])
 
-    def needs(self, y):
-        return self.catalogue[y][b"PRE"] | self.catalogue[y][b"REQ"] | {key[2] for key in self.book if key[:2] == (y, ERROR)}
+    def needs(self, zone, y):
+        """What has to be there for a SYSMOD in a zone. The REQ of an IF counts where its function is installed."""
+        record = self.catalogue[y]
+        under = {need for fmid, need in record[b"IF"] if zone.installed(fmid)}
+        return record[b"PRE"] | record[b"REQ"] | under | {key[2] for key in self.book if key[:2] == (y, ERROR)}
 
     def good(self, zone):
         """What is in some plan: all candidates, without those that need what neither is there nor is given by one that is left."""
         left = {y for y in self.catalogue if self.candidate(zone, y)}
-        wanted = {y: [self.givers(r) for r in self.needs(y) if not self.there(zone, r)] for y in left}
+        wanted = {y: [self.givers(r) for r in self.needs(zone, y) if not self.there(zone, r)] for y in left}
         while True:
             out = {y for y in left if any(not givers & left for givers in wanted[y])}
             if not out:
@@ -239,7 +242,7 @@ class PlainDesk:
         found, new = set(), {x}
         while new:
             found |= new
-            needed = {r for y in new for r in self.needs(y) if not self.there(zone, r)}
+            needed = {r for y in new for r in self.needs(zone, y) if not self.there(zone, r)}
             new = {r if r in good else min(self.givers(r) & good, key=ordered) for r in needed} - found
         return sorted(found, key=ordered)
 

@@ -88,6 +88,8 @@ def publication():
             if dice.random() < 0.3
         )
         text += "++PTF(%s).\n++VER(Z038) FMID(HBB77E0)\n%s.\n" % (name, parts)
+        if dice.random() < 0.3:
+            text += "++IF FMID(%s) REQ(%s).\n" % (dice.choice(["HBB77E0", "HXX0001"]), ",".join(dice.sample(IDS, dice.randint(1, 3))))
     for name in dice.sample(IDS, dice.randint(0, 6)):
         verb = "RELEASE" if dice.random() < 0.3 else "HOLD"
         kind = dice.choice(["ERROR", "SYSTEM", "USER"])

@@ -67,9 +67,9 @@ def zone_lists():
     digits = b"T SYSMOD ENTRIES\n0UJ1  TYPE = PTF\n     STATUS = APP\n1UJ2  STATUS = ACC\nA NOTE\n     STATUS = ERR\n"
     status, out, err = run(ZONE_CSV, "zone", "T", "-", given=digits)
     same("names with a digit in front", (status, out), (0, "SYSMOD,STATE\n0UJ1,APPLIED\n1UJ2,ACCEPTED\n"))
-    many = b"T SYSMOD ENTRIES\n" + b"".join(b"UA%05d  STATUS = APP\n" % i for i in range(20000))
+    many = b"T SYSMOD ENTRIES\n" + b"".join(b"UA%05d  STATUS = APP\n" % i for i in range(40000))
     same(
-        "20,000 rows",
+        "40,000 rows",
         (
             run(ZONE_CSV, "zone", "T", "-", given=many)[0],
             run(ZONE_CSV, "zone", "T", "-", given=many + b"UB1  STATUS = APP\n")[0],

@@ -17,8 +17,8 @@ PUBLISHER, ALPHA, BETA = "publisher-token", "alpha-token", "beta-token"
 CALLERS = b"NAME,TOKEN\nPUBLISH,publisher-token\nALPHA,alpha-token\nBETA,beta-token\n"
 ZONE = b"SYSMOD,STATE\nHBB77E0,APPLIED\nUJ90201,APPLIED\n"
 TABLES = [
-    "bureau_version", "caller", "last_change", "sysmod", "sysmod_sup", "hold_row", "zone_head", "zone_row",
-    "received_list",
+    "bureau_version", "caller", "last_change", "sysmod", "sysmod_cond", "sysmod_sup", "hold_row", "zone_head",
+    "zone_row", "received_list",
 ]
 
 room = folder()
@@ -157,7 +157,7 @@ def altered(name, *statements):
 
 same(
     "a store of another version",
-    run("serve", altered("later", "UPDATE bureau_version SET version = 2")),
+    run("serve", altered("later", "UPDATE bureau_version SET version = 3")),
     refused(45, 1),
 )
 same("a store without a table", run("serve", altered("less", "DROP TABLE received_list")), refused(44, 1))
@@ -343,7 +343,7 @@ same(
     sorted(name for (name,) in conn.execute("SELECT name FROM sqlite_schema WHERE type = 'table' AND name NOT LIKE 'sqlite_%'")),
     sorted(TABLES),
 )
-same("its version", conn.execute("SELECT * FROM bureau_version").fetchall(), [(1, 1)])
+same("its version", conn.execute("SELECT * FROM bureau_version").fetchall(), [(1, 2)])
 same(
     "its callers",
     conn.execute("SELECT name, token FROM caller ORDER BY name").fetchall(),

@@ -1,18 +1,10 @@
-//! Texts of answers, turns by their numbers, and the bureau over a store, asked as its callers ask it.
+//! Texts of answers, and turns by their numbers. What callers ask of the bureau over a store stands in `desk_tests`.
 use crate::texts::{counts_line, received_line, zone_dropped_line, zone_put_line};
 use crate::turn::{Turn, turn_of};
 use crate::{Body, Reply};
 use mcs_reader::Id;
 use std::test::Fail;
 use zone_lists::{ZoneRow, ZoneState};
-
-mod alone;
-mod asked;
-mod cached;
-mod device;
-mod limits;
-mod verdicts;
-mod worked;
 
 #[test]
 fn turns_by_their_numbers(rt: HostRuntime) {

@@ -1,16 +1,17 @@
 -- What `init` leaves of a database, and what `serve` and an opening tell.
-use Rattle.std.proofs.Common.{◌≡◌, ◌∙◌, ℕ, List, Option, None, Some, Ok, Err, Result, IfErr, ap, inl, inr, refl, subst}
+use Rattle.std.proofs.Common.{◌≡◌, ◌∙◌, ℕ, List, Option, None, Some, Ok, Err, Result, IfErr, ap, arith, inl, inr, refl, subst, sym}
 use Rattle.std.specs.Io.KnownBytes.{Appends}
 use Rattle.std.proofs.KnownBytes.{Keeps-refl}
 use Rattle.faults.specs.declared.any.AnyFault.{AnyFault}
-use Rattle.sqlite.specs.State.{HasCleanDisk, KeepsCommit, State}
+use Rattle.bureau_sql.specs.Founded.{AreFounded, IsNotMade}
+use Rattle.sqlite.specs.State.{HasCleanDisk, KeepsCommit, State, Survives}
 use Rattle.sql_writes.specs.Making.{IsOpened}
 use Rattle.transfer.specs.Transfer.{AppendsFront}
 use Rattle.bureau_store.specs.Callers.{callers_of}
 use Rattle.bureau_store.specs.declared.caller.CallerRow.{CallerRow}
 use Rattle.bureau_store.specs.declared.fault.StoreFault.{StoreFault}
 use Rattle.bureau_store.specs.declared.fault.StoreFault.TheVariants.{Device}
-use Rattle.bureau_main.specs.Desk.{IsInitLeft, IsInitRun, IsOpenRefused, IsServeOutput, IsServeRun, listening_text, of_store}
+use Rattle.bureau_main.specs.Desk.{InitSurvives, IsInitLeft, IsInitRefused, IsInitRun, IsOpenRefused, IsServeOutput, IsServeRun, listening_text, of_store}
 use Rattle.bureau_main.specs.Holds.{IsTold, fault_in, run_status}
 use Rattle.bureau_main.specs.Program.{IsInit, Outputs}
 use Rattle.bureau_main.specs.ProgramFault.{of_program}
@@ -29,8 +30,31 @@ pub tables_left : {T : Type 0} (outcome : Result T AnyFault) (source : List ℕ)
 tables_left (Ok done) source rows slice before after read same made fault = λ clean. (rows, read, subst (λ (these : List CallerRow). IsOpened these after.committed) same (made clean))
 tables_left (Err why) source rows slice before after read same made fault = inl (fault, λ clean. (rows, read, subst (λ (these : List CallerRow). IsOpened these after.committed) same (made clean)))
 
-pub none_left : (fault : AnyFault) (source : List ℕ) (before after : State) → (HasCleanDisk after → KeepsCommit before after) → IsInitLeft (Some fault) source before after
-none_left fault source before after kept = inr kept
+pub none_left : (fault : AnyFault) (source : List ℕ) (before after : State) → IsInitRefused source before fault → (HasCleanDisk after → KeepsCommit before after)
+    → IsInitLeft (Some fault) source before after
+none_left fault source before after why kept = inr (why, kept)
+
+pub none_made : (source : List ℕ) (before : State) (refused : StoreFault) (fault : AnyFault) → fault ≡ of_store refused → IsNotMade before refused
+    → IsInitRefused source before fault
+none_made source before refused fault is why = inr (refused, is, why)
+
+-- what a stop may leave where nothing was asked of the database
+pub stays_alive : (source : List ℕ) (at : State) → InitSurvives source at at
+stays_alive source at rows read = record {
+  clean = omega arith;
+  shield = λ h. h;
+  counts = omega arith;
+  limit = refl;
+  closes = λ clean was. inl was;
+  crash = λ clean trees left. inl left;
+}
+
+-- and where the tables were made, or were to be
+pub founded : (source : List ℕ) (rows slice : List CallerRow) (before after : State) → callers_of source ≡ Ok rows → slice ≡ rows
+    → Survives before after (AreFounded before slice) → InitSurvives source before after
+founded source rows slice before after read same survives others also =
+    let is : rows ≡ others = let both : Ok rows ≡ Ok others = sym read ∙ also in cc in
+    subst (λ (these : List CallerRow). Survives before after (AreFounded before these)) (same ∙ is) survives
 
 pub database_unknown : (Leaves : Option AnyFault → Type 0) (source : List ℕ) (old new old_errors new_errors : Option (List ℕ)) (status : ℕ)
     → IsInitRun Leaves source old new old_errors new_errors status → IsInitRun (λ outcome. Unit {0}) source old new old_errors new_errors status

@@ -3,7 +3,7 @@ use Rattle.std.proofs.Common.{◌≡◌, ℕ, List, [], ◌∷◌, ap₂, codes,
 use Rattle.clap.specs.Words.{Row, Text, subcommand_of}
 use Rattle.bureau_main.specs.Line.{HasOneLine, IsLineIn, IsLineWith, IsNumberIn, bureau_app, said}
 use Rattle.bureau_main.specs.declared.line.Line.{Line}
-use Rattle.bureau_main.specs.declared.line.Line.TheVariants.{Holds, Init, Replay, Serve}
+use Rattle.bureau_main.specs.declared.line.Line.TheVariants.{Holds, Init, Migrate, Replay, Serve}
 
 -- the first letter of a command, by which the commands are told apart
 abbrev pub letter : Text → ℕ
@@ -32,6 +32,7 @@ one_with name rows (Serve port cache connections store) (Serve other_port other_
 one_with name rows (Replay cache callers files) (Replay other_cache other_callers other_files) is also =
     ap₂ (λ (n : ℕ) (texts : List Text). (codes "replay", n ∷ [], texts)) (one_number 1 65536 _ cache other_cache is.1.0 also.1.0)
     (ap₂ (λ (text : Text) (texts : List Text). text ∷ texts) (some_once _ _ _ is.1.1 also.1.1) (some_once _ _ _ is.1.2 also.1.2))
+one_with name rows (Migrate store) (Migrate other) is also = ap (λ text. (codes "migrate", [], text ∷ [])) (some_once _ _ _ is.1 also.1)
 one_with name rows (Holds file) (Init store callers) is also = other_command 104 105 (omega arith) (ap letter (sym is.0 ∙ also.0))
 one_with name rows (Holds file) (Serve port cache connections store) is also = other_command 104 115 (omega arith) (ap letter (sym is.0 ∙ also.0))
 one_with name rows (Holds file) (Replay cache callers files) is also = other_command 104 114 (omega arith) (ap letter (sym is.0 ∙ also.0))
@@ -44,6 +45,14 @@ one_with name rows (Serve port cache connections store) (Replay other callers fi
 one_with name rows (Replay cache callers files) (Holds file) is also = other_command 114 104 (omega arith) (ap letter (sym is.0 ∙ also.0))
 one_with name rows (Replay cache callers files) (Init store others) is also = other_command 114 105 (omega arith) (ap letter (sym is.0 ∙ also.0))
 one_with name rows (Replay cache callers files) (Serve port other connections store) is also = other_command 114 115 (omega arith) (ap letter (sym is.0 ∙ also.0))
+one_with name rows (Holds file) (Migrate other_store) is also = other_command 104 109 (omega arith) (ap letter (sym is.0 ∙ also.0))
+one_with name rows (Init store callers) (Migrate other_store) is also = other_command 105 109 (omega arith) (ap letter (sym is.0 ∙ also.0))
+one_with name rows (Serve port cache connections store) (Migrate other_store) is also = other_command 115 109 (omega arith) (ap letter (sym is.0 ∙ also.0))
+one_with name rows (Replay cache callers files) (Migrate other_store) is also = other_command 114 109 (omega arith) (ap letter (sym is.0 ∙ also.0))
+one_with name rows (Migrate old_store) (Holds file) is also = other_command 109 104 (omega arith) (ap letter (sym is.0 ∙ also.0))
+one_with name rows (Migrate old_store) (Init store callers) is also = other_command 109 105 (omega arith) (ap letter (sym is.0 ∙ also.0))
+one_with name rows (Migrate old_store) (Serve port cache connections store) is also = other_command 109 115 (omega arith) (ap letter (sym is.0 ∙ also.0))
+one_with name rows (Migrate old_store) (Replay cache callers files) is also = other_command 109 114 (omega arith) (ap letter (sym is.0 ∙ also.0))
 
 one_in : (found : Option (Text × List Row)) (line other : Line) → IsLineIn found line → IsLineIn found other → said line ≡ said other
 one_in None line other is also = absurd is

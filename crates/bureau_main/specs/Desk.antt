@@ -11,7 +11,8 @@ use Rattle.bureau_store.specs.declared.fault.CallerFault.TheVariants as callers
 use Rattle.bureau_store.specs.declared.fault.StoreFault.{StoreFault}
 use Rattle.bureau_store.specs.declared.fault.StoreFault.TheVariants as store
 use Rattle.bureau_http.specs.Replay.{of_callers}
-use Rattle.sqlite.specs.State.{HasCleanDisk, KeepsCommit, State}
+use Rattle.bureau_sql.specs.Founded.{AreFounded, IsNotMade}
+use Rattle.sqlite.specs.State.{HasCleanDisk, KeepsCommit, State, Survives}
 use Rattle.sql_writes.specs.Making.{IsOpened}
 use Rattle.bureau_main.specs.Holds.{IsTold, run_status}
 use Rattle.bureau_main.specs.ProgramFault.{of_program}
@@ -31,13 +32,22 @@ of_store store.Version = record { number = 45; place = None; cause = Input }
 abbrev pub init_text : List CallerRow → List ℕ
 init_text rows = codes "CALLERS " ++ decimal (length rows) ++ codes "\n"
 
--- the callers file has this fault, the store can't be made, or memory ran out
-abbrev pub IsInitFault : List ℕ → AnyFault → Type 0
-IsInitFault source fault =
+-- the callers file has this fault, or memory ran out
+abbrev pub IsCallersFault : List ℕ → AnyFault → Type 0
+IsCallersFault source fault =
     ((refused : CallerFault) × (callers_of source ≡ Err refused) × (fault ≡ of_callers refused))
-    ⊎ ((refused : StoreFault) × (fault ≡ of_store refused))
     ⊎ (fault ≡ of_callers callers.Memory)
     ⊎ (fault ≡ of_program Memory)
+
+-- that, or the store can't be made
+abbrev pub IsInitFault : List ℕ → AnyFault → Type 0
+IsInitFault source fault = IsCallersFault source fault ⊎ ((refused : StoreFault) × (fault ≡ of_store refused))
+
+-- why a database is left as it was: the fault of the callers file; or that of a store which isn't made there, among them 44,
+-- just where the database isn't empty
+abbrev pub IsInitRefused : List ℕ → State → AnyFault → Type 0
+IsInitRefused source before fault =
+    IsCallersFault source fault ⊎ ((refused : StoreFault) × (fault ≡ of_store refused) × IsNotMade before refused)
 
 -- a write failed: standard output has a front part of the line, and the store is made
 abbrev pub IsInitCutShort : AnyFault → List ℕ → Option (List ℕ) → Option (List ℕ) → Type 0
@@ -57,7 +67,12 @@ HasCallers source after = HasCleanDisk after → (rows : List CallerRow) × (cal
 abbrev pub IsInitLeft : Option AnyFault → List ℕ → State → State → Type 0
 IsInitLeft None source before after = HasCallers source after
 IsInitLeft (Some fault) source before after =
-    ((fault ≡ of_program NotWritten) × HasCallers source after) ⊎ (HasCleanDisk after → KeepsCommit before after)
+    ((fault ≡ of_program NotWritten) × HasCallers source after)
+    ⊎ (IsInitRefused source before fault × (HasCleanDisk after → KeepsCommit before after))
+
+-- What a stop may leave: the trees of a store with the file's callers and no other row, and else what it might have left before.
+abbrev pub InitSurvives : List ℕ → State → State → Type 0
+InitSurvives source before after = (rows : List CallerRow) → callers_of source ≡ Ok rows → Survives before after (AreFounded before rows)
 
 -- A whole run: from a callers file to what is left of the database, what standard output and standard error get, and the exit
 -- status.

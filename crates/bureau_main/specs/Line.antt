@@ -5,7 +5,7 @@ use Rattle.clap.specs.Words.{App, Row, Rule, Text, all_of, first_of, new_app, ne
 use Rattle.clap.specs.declared.builder.ArgAction.TheVariants.{Append, Set}
 use Rattle.clap.specs.declared.builder.value_parser.ValueParser.TheVariants.{Signed}
 use Rattle.bureau_main.specs.declared.line.Line.{Line}
-use Rattle.bureau_main.specs.declared.line.Line.TheVariants.{Holds, Init, Replay, Serve}
+use Rattle.bureau_main.specs.declared.line.Line.TheVariants.{Holds, Init, Migrate, Replay, Serve}
 
 -- an argument that has to be given, with one value
 abbrev pub required_rule : Text → Rule
@@ -61,6 +61,10 @@ abbrev pub replay_app : App
 replay_app =
     with_rule (with_rule (with_rule (new_app (codes "replay")) cache_rule) (required_rule (codes "callers"))) (several_rule (codes "files"))
 
+-- `migrate STORE`
+abbrev pub migrate_app : App
+migrate_app = with_rule (new_app (codes "migrate")) (required_rule (codes "store"))
+
 -- a command that takes the words after its own name, has a version, and wants the name of one below it
 abbrev pub commands_named : Text → App
 commands_named name =
@@ -73,7 +77,8 @@ bureau_app =
     let holds = with_subcommand (commands_named (codes "bureau")) holds_app.top in
     let init = with_subcommand holds init_app.top in
     let serve = with_subcommand init serve_app.top in
-    with_subcommand serve replay_app.top
+    let replay = with_subcommand serve replay_app.top in
+    with_subcommand replay migrate_app.top
 
 -- the text is a number in decimal digits, this one, and it is in the range
 abbrev pub IsNumberIn : ℕ → ℕ → Option Text → ℕ → Type 0
@@ -96,6 +101,7 @@ command_of (Holds file) = codes "holds"
 command_of (Init store callers) = codes "init"
 command_of (Serve port cache connections store) = codes "serve"
 command_of (Replay cache callers files) = codes "replay"
+command_of (Migrate store) = codes "migrate"
 
 -- each value among the matches is that of the line
 abbrev pub HasValues : List Row → Line → Type 0
@@ -111,6 +117,7 @@ HasValues rows (Replay cache callers files) =
     IsCapacity (one_of (codes "cache") rows) cache
     × (first_of (codes "callers") rows ≡ Some (string_bytes callers))
     × (all_of (codes "files") rows ≡ Some (map string_bytes files.items))
+HasValues rows (Migrate store) = first_of (codes "store") rows ≡ Some (string_bytes store)
 
 -- the command of this name, with these matches, has the line: each argument's value is that of the line
 abbrev pub IsLineWith : Text → List Row → Line → Type 0
@@ -132,6 +139,7 @@ said (Init store callers) = (codes "init", [], string_bytes store ∷ string_byt
 said (Serve port cache connections store) =
     (codes "serve", port ∷ cache ∷ connections ∷ [], string_bytes store ∷ [])
 said (Replay cache callers files) = (codes "replay", cache ∷ [], string_bytes callers ∷ map string_bytes files.items)
+said (Migrate store) = (codes "migrate", [], string_bytes store ∷ [])
 
 -- words have at most one line
 abbrev pub HasOneLine : List Text → Type 0

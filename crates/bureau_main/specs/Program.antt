@@ -7,7 +7,8 @@ use Rattle.faults.specs.declared.any.AnyFault.{AnyFault}
 use Rattle.transfer.specs.Transfer.{AppendsFront}
 use Rattle.bureau_main.specs.Holds.{IsHoldsRun, IsTold}
 use Rattle.bureau_main.specs.Line.{bureau_app, IsLineOf}
-use Rattle.bureau_main.specs.Desk.{IsInitFault, IsInitRun, IsServeRun, of_store}
+use Rattle.bureau_main.specs.Desk.{IsCallersFault, IsInitRun, IsServeRun, of_store}
+use Rattle.bureau_main.specs.Migrating.{IsMigrateRun}
 use Rattle.bureau_main.specs.ProgramFault.{of_program, status_of}
 use Rattle.bureau_main.specs.Replay.{IsReplayRun}
 use Rattle.bureau_main.specs.Surroundings.{KnownFile, AreContents, IsContent, IsNotOpened, IsOpened}
@@ -63,7 +64,7 @@ IsToldAlone fault outputs status =
 
 -- the callers file has a fault
 abbrev pub HasCallerFault : KnownFile → AnyFault → Type 0
-HasCallerFault callers fault = (source : List ℕ) × IsContent callers source × IsInitFault source fault
+HasCallerFault callers fault = (source : List ℕ) × IsContent callers source × IsCallersFault source fault
 
 -- the callers file can't be read or has a fault, the file of the store can't be opened, or memory ran out
 abbrev pub IsNotBegun : KnownFile → AnyFault → Type 0
@@ -95,6 +96,8 @@ IsAnswered files (Ok (line.Init store callers)) input rest outputs status =
     Keeps input rest × IsInit files (string_bytes callers) outputs status
 IsAnswered files (Ok (line.Serve port cache connections store)) input rest outputs status =
     Keeps input rest × IsServeRun port outputs.output outputs.written outputs.errors outputs.told status
+IsAnswered files (Ok (line.Migrate store)) input rest outputs status =
+    Keeps input rest × IsMigrateRun (λ outcome. Unit {0}) outputs.output outputs.written outputs.errors outputs.told status
 IsAnswered files (Err (line_fault.Words text)) input rest outputs status =
     Keeps input rest × IsExplained (string_bytes text) outputs status
 IsAnswered files (Err line_fault.Memory) input rest outputs status = Keeps input rest × IsEndedBy Memory outputs status

@@ -6,7 +6,7 @@ use Rattle.faults.specs.declared.any.AnyFault.{AnyFault}
 use Rattle.faults.specs.declared.fault.Cause.TheVariants.{Machine}
 use Rattle.bureau_http.specs.Replay.{IsReplayed}
 use Rattle.bureau_store.specs.declared.fault.StoreFault.{StoreFault}
-use Rattle.bureau_main.specs.Desk.{IsInitFault, of_store}
+use Rattle.bureau_main.specs.Desk.{IsCallersFault, of_store}
 use Rattle.transfer.specs.Transfer.{AppendsFront}
 use Rattle.bureau_main.specs.Holds.{IsTold, run_status}
 use Rattle.bureau_main.specs.ProgramFault.{of_program}
@@ -34,7 +34,7 @@ IsNotServed fault =
 
 -- the same, or the callers file has a fault
 abbrev pub IsNotReplayed : List ℕ → AnyFault → Type 0
-IsNotReplayed callers fault = IsInitFault callers fault ⊎ IsNotServed fault
+IsNotReplayed callers fault = IsCallersFault callers fault ⊎ IsNotServed fault
 
 -- What standard output gets: the replies of connections that were served one after the other, each caller answered as
 -- if alone; a front part of them where a write failed; or nothing, where the callers file has a fault or memory ran out.

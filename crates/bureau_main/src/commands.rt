@@ -2,7 +2,7 @@
 ghost use Rattle.std.specs.Prelude.{◌≡◌, false, codes, IfOk};
 ghost use Rattle.clap.specs.Words.{app_of, rule_of};
 ghost use Rattle.clap.specs.declared.builder.command.Command.TheViews.{out-Command as fields_of};
-ghost use Rattle.bureau_main.specs.Line.{bureau_app, cache_rule, connections_rule, holds_app, init_app, port_rule, replay_app, required_rule, serve_app};
+ghost use Rattle.bureau_main.specs.Line.{bureau_app, cache_rule, connections_rule, holds_app, init_app, migrate_app, port_rule, replay_app, required_rule, serve_app};
 
 use crate::help::{STATUSES_AND_FAULTS, VERSION};
 use clap::{Arg, ArgAction, Command};
@@ -17,6 +17,7 @@ pub fn command<'a>(alloc: Global) -> Result<Command<'a>, NoMemory>
     let init = init_command(alloc)?;
     let serve = serve_command(alloc)?;
     let replay = replay_command(alloc)?;
+    let migrate = migrate_command(alloc)?;
     let bureau = Command::new(alloc, "bureau").bin_name("bureau")?;
     bureau
         .about("Exception SYSMODs and missing fixes of z/OS SMP/E zones")
@@ -27,7 +28,8 @@ pub fn command<'a>(alloc: Global) -> Result<Command<'a>, NoMemory>
         .subcommand(holds)?
         .subcommand(init)?
         .subcommand(serve)?
-        .subcommand(replay)
+        .subcommand(replay)?
+        .subcommand(migrate)
 }
 
 // `holds FILE`
@@ -91,6 +93,17 @@ fn replay_command<'a>(alloc: Global) -> Result<Command<'a>, NoMemory>
         .arg(cache_option(alloc))?
         .arg(callers)?
         .arg(files)
+}
+
+// `migrate STORE`
+fn migrate_command<'a>(alloc: Global) -> Result<Command<'a>, NoMemory>
+    ensures app { IfOk result (λ command. app_of command ≡ migrate_app) }
+    ensures local { IfOk result (λ command. (fields_of command).has_globals ≡ false) }
+{
+    let store = store_argument(alloc);
+    Command::new(alloc, "migrate")
+        .about("Makes STORE, a file of version 1, one of version 2")
+        .arg(store)
 }
 
 // `--cache N`

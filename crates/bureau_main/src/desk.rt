@@ -3,7 +3,7 @@ ghost use Rattle.std.specs.Prelude.{◌≡◌, ◌<◌, ◌⊎◌, ◌++◌, cod
 ghost use Rattle.std.specs.Io.KnownBytes.{Appends};
 ghost use Rattle.bureau.specs.Answering.{bureau_view};
 ghost use Rattle.bureau_http.specs.Service.{IsSound};
-ghost use Rattle.bureau_main.specs.Desk.{IsInitFault, IsInitLeft, IsInitOutput, IsInitRun, IsOpenRefused, IsServeFault, IsServeOutput, IsServeRun, init_text, listening_text, of_store};
+ghost use Rattle.bureau_main.specs.Desk.{InitSurvives, IsCallersFault, IsInitLeft, IsInitOutput, IsInitRun, IsOpenRefused, IsServeFault, IsServeOutput, IsServeRun, init_text, listening_text, of_store};
 ghost use Rattle.bureau_main.specs.Holds.{IsTold, fault_in, run_status};
 ghost use Rattle.bureau_main.specs.ProgramFault.{of_program};
 ghost use Rattle.bureau_sql.specs.SqlView.{IsOurStore, shown};
@@ -14,7 +14,8 @@ ghost use Rattle.chain_cache.specs.Cache.{IsRightFor};
 ghost use Rattle.sql_state.specs.Ours.{IsOurs};
 ghost use Rattle.sql_state.specs.Reading.{OnlyReads};
 ghost use Rattle.sqlite.specs.Held.{state};
-ghost use Rattle.sqlite.specs.State.{HasCleanDisk, KeepsCommit};
+ghost use Rattle.sqlite.specs.State.{HasCleanDisk, KeepsCommit, Survives};
+ghost use Rattle.bureau_sql.specs.Founded.{AreFounded, IsNotMade};
 ghost use Rattle.sql_writes.specs.Making.{IsOpened};
 ghost use Rattle.transfer.specs.Transfer.{AppendsFront};
 
@@ -59,6 +60,7 @@ pub fn run_init<S: Alter + Drop, W: Write, E: Write>(
     ensures run { IsInitRun (λ outcome. IsInitLeft outcome callers.now (state S.Store conn) (state S.Store result.1))
         callers.now (W.contents writer.old) (W.contents writer.new)
         (E.contents errors.old) (E.contents errors.new) result.0 }
+    ensures stopped { InitSurvives callers.now (state S.Store conn) (state S.Store result.1) }
     ensures rest { result.1.in_transaction ≡ false }
 {
     let (made, conn) = make_and_print(alloc, conn, callers, writer);
@@ -66,7 +68,7 @@ pub fn run_init<S: Alter + Drop, W: Write, E: Write>(
 }
 
 // Makes the tables, and prints how many callers they have.
-#[tactic(auto, using(crate::proofs::DeskFacts::nothing_committed, crate::proofs::DeskFacts::tables_left, crate::proofs::DeskFacts::none_left))]
+#[tactic(auto, using(crate::proofs::DeskFacts::nothing_committed, crate::proofs::DeskFacts::tables_left, crate::proofs::DeskFacts::none_left, crate::proofs::DeskFacts::none_made, crate::proofs::DeskFacts::stays_alive, crate::proofs::DeskFacts::founded))]
 fn make_and_print<S: Alter + Drop, W: Write>(
     alloc: Global,
     conn: Connection<S>,
@@ -76,6 +78,7 @@ fn make_and_print<S: Alter + Drop, W: Write>(
     requires rest { conn.in_transaction ≡ false }
     ensures output { IsInitOutput (fault_in result.0) source.now (W.contents writer.old) (W.contents writer.new) }
     ensures left { IsInitLeft (fault_in result.0) source.now (state S.Store conn) (state S.Store result.1) }
+    ensures stopped { InitSurvives source.now (state S.Store conn) (state S.Store result.1) }
     ensures rest { result.1.in_transaction ≡ false }
 {
     let (rows, line) = match callers_and_line(alloc, source) {
@@ -97,6 +100,9 @@ fn make<S: Alter + Drop>(
     requires rest { conn.in_transaction ≡ false }
     ensures made { IfOk result (λ made. HasCleanDisk (state S.Store made) → IsOpened rows.now (state S.Store made).committed) }
     ensures made_rest { IfOk result (λ made. made.in_transaction ≡ false) }
+    ensures survives { IfOk result (λ made. Survives (state S.Store conn) (state S.Store made) (AreFounded (state S.Store conn) rows.now)) }
+    ensures stopped { IfErr result (λ refused. Survives (state S.Store conn) (state S.Store refused.1) (AreFounded (state S.Store conn) rows.now)) }
+    ensures cause { IfErr result (λ refused. IsNotMade (state S.Store conn) refused.0) }
     ensures kept { IfErr result (λ refused. HasCleanDisk (state S.Store refused.1) → KeepsCommit (state S.Store conn) (state S.Store refused.1)) }
     ensures rest { IfErr result (λ refused. refused.1.in_transaction ≡ false) }
 {
@@ -110,7 +116,7 @@ fn make<S: Alter + Drop>(
 fn callers_and_line(alloc: Global, source: &[u8]) -> Result<(Vec<CallerRow>, Vec<u8>), AnyFault>
     ensures rows { IfOk result (λ both. callers_of source.now ≡ Ok both.0.items) }
     ensures line { IfOk result (λ both. both.1.items ≡ init_text both.0.items) }
-    ensures fault { IfErr result (IsInitFault source.now) }
+    ensures fault { IfErr result (IsCallersFault source.now) }
 {
     let rows = callers_in(alloc, source)?;
     let line = numbered_line(alloc, b"CALLERS ", rows.len() as u64)?;
@@ -124,7 +130,7 @@ fn callers_and_line(alloc: Global, source: &[u8]) -> Result<(Vec<CallerRow>, Vec
 /// The fault of the callers file, or memory ran out.
 pub fn callers_in(alloc: Global, source: &[u8]) -> Result<Vec<CallerRow>, AnyFault>
     ensures rows { IfOk result (λ rows. callers_of source.now ≡ Ok rows.items) }
-    ensures fault { IfErr result (IsInitFault source.now) }
+    ensures fault { IfErr result (IsCallersFault source.now) }
 {
     Ok(callers(alloc, source)?)
 }
@@ -141,8 +147,8 @@ fn numbered_line(alloc: Global, text: &[u8], number: u64) -> Result<Vec<u8>, Pro
     Ok(line)
 }
 
-// Prints a whole line.
-fn printed<W: Write>(writer: &mut W, line: &[u8]) -> Result<(), AnyFault>
+/// Prints a whole line.
+pub fn printed<W: Write>(writer: &mut W, line: &[u8]) -> Result<(), AnyFault>
     ensures ok { OnOk result (Appends (W.contents writer.old) (W.contents writer.new) line.now) }
     ensures fault { IfErr result (λ fault. fault ≡ of_program ProgramFault.NotWritten) }
     ensures err { OnErr result (AppendsFront (W.contents writer.old) (W.contents writer.new) line.now) }
@@ -157,8 +163,8 @@ pub fn of_store(fault: StoreFault) -> AnyFault
     AnyFault::from(fault)
 }
 
-// Tells how a run ended, where that is with a fault, and gives the exit status.
-fn told<E: Write>(errors: &mut E, outcome: Result<(), AnyFault>) -> u8
+/// Tells how a run ended, where that is with a fault, and gives the exit status.
+pub fn told<E: Write>(errors: &mut E, outcome: Result<(), AnyFault>) -> u8
     ensures told { IsTold (fault_in outcome) (E.contents errors.old) (E.contents errors.new) }
     ensures status { result ≡ run_status (fault_in outcome) }
 {

@@ -23,7 +23,7 @@ there is one, the line on which the statement begins, or the record of the calle
 42 the store cannot be opened, or its device failed
 43 there is no room for the store on its device
 44 the file is no store; or, for init, it is one already
-45 the store is of another version
+45 the store is of another version: see migrate
 46 the callers file does not begin with NAME,TOKEN
 47 a record is no caller: an id and a token of 8 to 64 of A-Z a-z 0-9 - . _ ~, neither of which came before
 48 no caller is named PUBLISH

@@ -39,6 +39,10 @@ pub enum Line {
         callers: String,
         files: Vec<String>,
     },
+    /// `migrate STORE`: a store of version 1 in a file becomes one of version 2.
+    Migrate {
+        store: String,
+    },
 }
 
 /// Why words are no line.
@@ -96,6 +100,7 @@ fn line_with(alloc: Global, name: &str, matches: &ArgMatches) -> Result<Option<L
         "init" => init_with(alloc, matches),
         "serve" => serve_with(alloc, matches),
         "replay" => replay_with(alloc, matches),
+        "migrate" => migrate_with(alloc, matches),
         _ => Ok(None),
     }
 }
@@ -167,6 +172,16 @@ fn replay_with(alloc: Global, matches: &ArgMatches) -> Result<Option<Line>, NoMe
         callers,
         files,
     }))
+}
+
+fn migrate_with(alloc: Global, matches: &ArgMatches) -> Result<Option<Line>, NoMemory>
+    ensures { IfOk result (IsFound (IsLineWith (codes "migrate") (rows_of (found_of matches.now)))) }
+{
+    let Some(store) = matches.get_str("store") else {
+        return Ok(None);
+    };
+    let store = String::from_str(alloc, store)?;
+    Ok(Some(Line::Migrate { store }))
 }
 
 // The port. clap lets no other number through.

@@ -22,9 +22,10 @@ fn text_in(line: Result<Line, LineFault>) -> Option<String> {
 #[test]
 fn lines(rt: HostRuntime) -> Result<(), Fail> {
     let alloc = rt.alloc();
-    let taken: [(&[&str], &str); 8] = [
+    let taken: [(&[&str], &str); 9] = [
         (&["holds", "-"], "Holds { file: \"-\" }"),
         (&["init", "s", "c"], "Init { store: \"s\", callers: \"c\" }"),
+        (&["migrate", "s"], "Migrate { store: \"s\" }"),
         (
             &["serve", "s"],
             "Serve { port: 8080, cache: 1024, connections: 1000000, store: \"s\" }",
@@ -64,9 +65,11 @@ fn lines(rt: HostRuntime) -> Result<(), Fail> {
         let text = format!(in alloc; "{line:?}")?;
         assert_eq!(rt; text.as_str(), shown);
     }
-    let refused: [(&[&str], &str); 18] = [
+    let refused: [(&[&str], &str); 20] = [
         (&["init", "s"], "Usage: bureau init <STORE> <CALLERS>"),
         (&["serve"], "Usage: bureau serve <STORE>"),
+        (&["migrate"], "Usage: bureau migrate <STORE>"),
+        (&["migrate", "s", "t"], "unexpected argument 't'"),
         (&["serve", "--port", "0", "s"], "0 is not in 1..=65535"),
         (
             &["serve", "--port", "65536", "s"],

@@ -12,6 +12,7 @@ mod holds;
 mod line;
 #[cfg(test)]
 mod line_tests;
+mod migrating;
 mod program;
 #[cfg(test)]
 mod program_tests;

@@ -11,6 +11,7 @@ use crate::desk::{Service, callers_in, close, of_store, run_init, run_serve};
 use crate::fault::{ProgramFault, exit_status, report, tell};
 use crate::holds::run_holds;
 use crate::line::{Line, LineFault, line_of};
+use crate::migrating::migrate_file;
 use crate::replay::run_replay;
 use crate::surroundings::{StoreFile, Surroundings};
 use faults::AnyFault;
@@ -100,6 +101,9 @@ fn answer<S: Surroundings + Clock, I: Read, O: Write, E: Write>(
                 connections,
             };
             run_serve(surroundings, alloc, service, store.as_str(), output, errors)
+        }
+        Ok(Line::Migrate { store }) => {
+            migrate_file(surroundings, alloc, store.as_str(), output, errors)
         }
         Err(LineFault::Words(text)) => explain(errors, text.as_str()),
         Err(LineFault::Memory) => refuse(errors, ProgramFault::Memory),

@@ -5,6 +5,7 @@ ghost use Rattle.sqlite_disk.specs.Memory.{memory_is_usable};
 use crate::desk::{Service, open_and_serve, run_init, run_open};
 use crate::desk_tests::CALLERS;
 use crate::line::LineFault;
+use crate::migrating::run_migrate;
 use crate::surroundings::{StoreFile, Surroundings};
 use bureau_store::StoreFault;
 use sqlite::{Connection, FileStore, Files, Options};
@@ -81,6 +82,51 @@ fn a_fault_of_the_callers_leaves_no_tables(rt: HostRuntime) -> Result<(), Fail> 
         let (told, _) = init(alloc, conn, CALLERS)?;
         assert_eq!(rt; told.as_str(), "0 CALLERS 3\n");
     }
+    Ok(())
+}
+
+// The status, standard output and standard error of `migrate`, and the connection.
+fn migrate(alloc: Global, conn: Connection<Disk>) -> Result<(String, Connection<Disk>), Fail>
+    requires { conn.in_transaction ≡ false }
+    ensures { IfOk result (λ both. both.1.in_transaction ≡ false) }
+{
+    let (mut output, mut errors) = (Vec::new(alloc), Vec::new(alloc));
+    let (status, conn) = run_migrate(alloc, conn, &mut output, &mut errors);
+    let output = str::from_utf8(output.as_slice()).ok().ok_or("a text")?;
+    let errors = str::from_utf8(errors.as_slice()).ok().ok_or("a text")?;
+    Ok((format!(in alloc; "{status} {output}{errors}")?, conn))
+}
+
+// A store that has what version 1 had.
+fn earlier(alloc: Global) -> Result<Connection<Disk>, Fail>
+    ensures { IfOk result (λ conn. conn.in_transaction ≡ false) }
+{
+    let (_, mut conn) = init(alloc, connected(alloc, Memory::new(alloc))?, CALLERS)?;
+    for text in [
+        "DROP TABLE sysmod_cond",
+        "UPDATE bureau_version SET version = 1",
+    ] {
+        conn.execute(text, &[])?;
+    }
+    if !conn.is_autocommit() {
+        return Err("a connection at rest".into());
+    }
+    Ok(conn)
+}
+
+#[test]
+fn a_store_of_version_1_is_migrated_once(rt: HostRuntime) -> Result<(), Fail> {
+    let alloc = rt.alloc();
+    let (told, conn) = refused(alloc, earlier(alloc)?)?;
+    assert_eq!(rt; told.as_str(), "1 FAULT 45\n");
+    let (told, conn) = migrate(alloc, conn)?;
+    assert_eq!(rt; told.as_str(), "0 MIGRATED VERSION 2\n");
+    let (told, conn) = migrate(alloc, conn)?;
+    assert_eq!(rt; told.as_str(), "1 FAULT 45\n");
+    let mut errors = Vec::new(alloc);
+    assert!(rt; run_open(alloc, conn, &mut errors).is_ok());
+    let (told, _) = migrate(alloc, connected(alloc, Memory::new(alloc))?)?;
+    assert_eq!(rt; told.as_str(), "1 FAULT 44\n");
     Ok(())
 }
 

@@ -3,6 +3,7 @@ pub mod ToldFacts
 pub mod RecentFacts
 pub mod CommitFacts
 pub mod MadeFacts
+pub mod MigratedFacts
 pub mod FitFacts
 pub mod OpenFacts
 pub mod FoundedFacts

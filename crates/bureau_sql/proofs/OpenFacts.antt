@@ -1,25 +1,27 @@
 -- What is looked at before a connection is taken for a store leaves it as it was, and says why it isn't.
-use Rattle.std.proofs.Common.{◌≡◌, ◌≢◌, ◌∙◌, ℕ, List, [], Err, IsTrue, Ok, ap, inl, inr, refl, subst, sym}
+use Rattle.std.proofs.Common.{◌≡◌, ◌≢◌, ◌∙◌, ℕ, List, [], Err, IfErr, IsTrue, Ok, OnOk, Result, Some, ap, arith, inl, inr, refl, subst, sym}
+use Rattle.std.specs.List.{AllByRecursion}
+use Rattle.std.specs.Prelude.{Option, unwrap_or}
 use Rattle.bureau_store.specs.Store.{IsOfRead}
 use Rattle.bureau_store.specs.declared.fault.StoreFault.{StoreFault}
 use Rattle.bureau_store.specs.declared.fault.StoreFault.TheVariants.{Device, Memory, Shape, Size, Version}
 use Rattle.sqlite.specs.Effect.{Database}
 use Rattle.sqlite.specs.Held.{Held, state}
 use Rattle.sqlite.specs.Listing.{understood}
-use Rattle.sqlite.specs.State.{HasCleanDisk, IsNoStatement, IsNotRun, State, store_error}
+use Rattle.sqlite.specs.Schema.{Schema}
+use Rattle.sqlite.specs.State.{HasCleanDisk, IsNoStatement, IsNotRun, KeepsCommit, State, store_error}
 use Rattle.sqlite.specs.declared.error.Error.{Error}
 use Rattle.sqlite.specs.declared.error.Error.TheVariants.{SqlInputError}
 use Rattle.sqlite_resolve.specs.declared.error.CompileError.{CompileError}
 use Rattle.sqlite_trees.specs.declared.error.StoreError.{StoreError}
 use Rattle.sqlite_trees.specs.declared.error.StoreError.TheVariants.{OutOfMemory, Io, Corrupt, Full, Broken, Unstorable}
 use Rattle.sqlite_trees.specs.declared.store.Store.{Ghosts}
-use Rattle.sql_reads.specs.Version.{HasVersion}
 use Rattle.sql_state.specs.Ours.{AreOurs, IsOurs, held_by}
 use Rattle.sql_state.specs.Reading.{OnlyReads}
 use Rattle.sql_tables.specs.Stored.{tables_of}
-use Rattle.sql_texts.specs.Schema.{bureau}
+use Rattle.sql_texts.specs.Schema.{bureau, bureau_1}
 use Rattle.bureau_sql.specs.Laws.{clean_before, no_read, read_on}
-use Rattle.bureau_sql.specs.Opening.{IsNoStore, IsUnderstood}
+use Rattle.bureau_sql.specs.Opening.{IsNoStore, IsNone, IsNotEarlier, IsOfBureau, IsOther, IsSeen, IsUnderstood, LacksTables, TellsVersion}
 use Rattle.bureau_sql.specs.SqlState.{SqlState}
 use Rattle.bureau_sql.specs.SqlView.{IsAtRest, IsOurStore, shown, sql_view}
 
@@ -48,13 +50,13 @@ no_store_error fault Full is = cc
 no_store_error fault Broken is = cc
 no_store_error fault Unstorable is = cc
 
--- a text that the bureau's tables give a meaning is not understood
-other_tables : (at : State) (text : List ℕ) (fault : CompileError) → IsUnderstood text → at.now.schema ≡ bureau → IsNoStatement at text [] (SqlInputError fault) → ⊥
-other_tables at text fault means is (inl it) =
-    let one : understood bureau text ≡ Err it.0 = ap (λ schema. understood schema text) (sym is) ∙ it.1 in
+-- a text that tables give a meaning is not understood
+other_tables : (at : State) (text : List ℕ) (fault : CompileError) (schema : Schema) → IsUnderstood schema text → at.now.schema ≡ schema → IsNoStatement at text [] (SqlInputError fault) → ⊥
+other_tables at text fault schema means is (inl it) =
+    let one : understood schema text ≡ Err it.0 = ap (λ s. understood s text) (sym is) ∙ it.1 in
     let two : Ok means.0 ≡ Err it.0 = sym means.1 ∙ one in
     cc
-other_tables at text fault means is (inr it) = elim it.2 [
+other_tables at text fault schema means is (inr it) = elim it.2 [
   | inl more ↦ let is_it = more.1 in cc
   | inr rest ↦ elim rest [
     | inl given ↦ let is_it = given.1 in cc
@@ -62,44 +64,102 @@ other_tables at text fault means is (inr it) = elim it.2 [
   ]
 ]
 
-not_understood : (old new : State) (text : List ℕ) (fault : CompileError) → (IsTrue old.is_open → old.now ≡ old.committed) → IsUnderstood text
-    → IsNotRun old new text [] (SqlInputError fault) → IsNoStore old Shape
+not_understood : (old new : State) (text : List ℕ) (fault : CompileError) → (IsTrue old.is_open → old.now ≡ old.committed)
+    → IsNotRun old new text [] (SqlInputError fault) → IsTrue old.is_open × IsNone (λ schema. IsUnderstood schema text) old.committed
 unfolding IsNotRun
-not_understood old new text fault settled means (inl it) =
+not_understood old new text fault settled (inl it) =
     let was = it.1.0.was_open in
-    (was, λ is. other_tables old text fault means (ap (λ database. database.schema) (settled was) ∙ is) it.0)
-not_understood old new text fault settled means (inr failed) = absurd (no_store_error fault failed.0 failed.1)
+    (was, λ schema means is. other_tables old text fault schema means (ap (λ database. database.schema) (settled was) ∙ is) it.0)
+not_understood old new text fault settled (inr failed) = absurd (no_store_error fault failed.0 failed.1)
 
-pub unread : (old new : State) (text : List ℕ) (e : Error) (fault : StoreFault) → (IsTrue old.is_open → old.now ≡ old.committed) → IsUnderstood text
-    → IsNotRun old new text [] e → (fault ≡ Shape → (why : CompileError) × (e ≡ SqlInputError why)) → (fault ≢ Shape → IsOfRead fault) → IsNoStore old fault
-unread old new text e Memory settled means not_run shape other = tt
-unread old new text e Device settled means not_run shape other = tt
-unread old new text e Size settled means not_run shape other = other (λ is. cc)
-unread old new text e Version settled means not_run shape other = absurd (other (λ is. cc))
-unread old new text e Shape settled means not_run shape other =
+pub unread : (old new : State) (text : List ℕ) (e : Error) (fault : StoreFault) → (IsTrue old.is_open → old.now ≡ old.committed)
+    → IsNotRun old new text [] e → (fault ≡ Shape → (why : CompileError) × (e ≡ SqlInputError why)) → (fault ≢ Shape → IsOfRead fault)
+    → IsSeen (IsNone (λ schema. IsUnderstood schema text)) (λ database. ⊥) old fault
+unread old new text e Memory settled not_run shape other = tt
+unread old new text e Device settled not_run shape other = tt
+unread old new text e Size settled not_run shape other = other (λ is. cc)
+unread old new text e Version settled not_run shape other = absurd (other (λ is. cc))
+unread old new text e Shape settled not_run shape other =
     let why = shape refl in
-    not_understood old new text why.0 settled means (subst (IsNotRun old new text []) why.1 not_run)
+    not_understood old new text why.0 settled (subst (IsNotRun old new text []) why.1 not_run)
 
--- what was found of it after a read was so before
-pub no_store_before : (old mid : State) (fault : StoreFault) → OnlyReads old mid → HasCleanDisk mid → IsNoStore mid fault → IsNoStore old fault
-no_store_before old mid Memory reads clean it = tt
-no_store_before old mid Device reads clean it = tt
-no_store_before old mid Size reads clean it = it
-no_store_before old mid Shape reads clean it =
-    let kept = reads.keeps clean in
-    (kept.was_open it.0, λ is. it.1 (ap (λ database. database.schema) (kept.committed it.0) ∙ is))
-no_store_before old mid Version reads clean it =
-    let kept = reads.keeps clean in
-    let same = kept.committed it.0 in
-    (kept.was_open it.0, λ ours. it.1 (subst IsOurs (sym same) ours), it.2, it.3, subst (HasVersion it.2) same it.4)
+-- ---- the version
 
--- the same after two reads and before a third
-pub no_store_between : (old first second last : State) (fault : StoreFault) → OnlyReads old first → OnlyReads first second → OnlyReads second last
-    → (HasCleanDisk last → IsNoStore second fault) → HasCleanDisk last → IsNoStore old fault
-no_store_between old first second last fault one two three it clean =
-    let at_second = clean_before (λ trees. ⊥) second last three.survives clean in
-    let at_first = clean_before (λ trees. ⊥) first second two.survives at_second in
-    no_store_before old first fault one at_first (no_store_before first second fault two at_second (it clean))
+pub same_version : {A : Type 0} (version : Option ℕ) (wanted : ℕ) (new : State) (database : Database) (result : Result A StoreFault) → OnOk result (version ≡ Some wanted)
+    → (HasCleanDisk new → TellsVersion version database) → OnOk result (HasCleanDisk new → TellsVersion (Some wanted) database)
+same_version version wanted new database (Ok a) same tells = λ clean. subst (λ v. TellsVersion v database) same (tells clean)
+same_version version wanted new database (Err e) same tells = tt
+
+pub other_version : {A : Type 0} (version : Option ℕ) (wanted : ℕ) (old new : State) (result : Result A StoreFault) → IfErr result (λ fault. (fault ≡ Version) × (version ≢ Some wanted))
+    → (HasCleanDisk new → IsTrue old.is_open) → (HasCleanDisk new → TellsVersion version old.committed)
+    → IfErr result (λ fault. HasCleanDisk new → IsSeen (λ database. ⊥) (IsOther wanted) old fault)
+other_version version wanted old new (Ok a) other is_open tells = tt
+other_version version wanted old new (Err fault) other is_open tells = λ clean.
+    subst (IsSeen (λ database. ⊥) (IsOther wanted) old) (sym other.0) (is_open clean, (version, other.1, tells clean))
+
+-- ---- what was seen
+
+-- what was seen after a read was so before, and may say more there
+pub seen_before : (Shaped Versioned Shape_there Version_there : Database → Type 0) (old mid last : State) (fault : StoreFault) → OnlyReads old mid → OnlyReads mid last
+    → (HasCleanDisk last → Shaped old.committed → Shape_there old.committed) → (HasCleanDisk last → Versioned old.committed → Version_there old.committed)
+    → (HasCleanDisk last → IsSeen Shaped Versioned mid fault) → HasCleanDisk last → IsSeen Shape_there Version_there old fault
+seen_before Shaped Versioned Shape_there Version_there old mid last fault sooner later shape version seen clean = by fault (seen clean)
+  where
+    kept : KeepsCommit old mid
+    kept = sooner.keeps (clean_before (λ trees. ⊥) mid last later.survives clean)
+
+    by : (fault : StoreFault) → IsSeen Shaped Versioned mid fault → IsSeen Shape_there Version_there old fault
+    by Memory it = tt
+    by Device it = tt
+    by Size it = it
+    by Shape it = (kept.was_open it.0, shape clean (subst Shaped (kept.committed it.0) it.1))
+    by Version it = (kept.was_open it.0, version clean (subst Versioned (kept.committed it.0) it.1))
+
+-- the same at once
+pub seen_so : (Shaped Versioned Shape_there Version_there : Database → Type 0) (at : State) (fault : StoreFault) → ((database : Database) → Shaped database → Shape_there database)
+    → ((database : Database) → Versioned database → Version_there database) → IsSeen Shaped Versioned at fault → IsSeen Shape_there Version_there at fault
+seen_so Shaped Versioned Shape_there Version_there at Memory shape version it = tt
+seen_so Shaped Versioned Shape_there Version_there at Device shape version it = tt
+seen_so Shaped Versioned Shape_there Version_there at Size shape version it = it
+seen_so Shaped Versioned Shape_there Version_there at Shape shape version it = (it.0, shape at.committed it.1)
+seen_so Shaped Versioned Shape_there Version_there at Version shape version it = (it.0, version at.committed it.1)
+
+-- texts that mean something with the bureau's tables were not all understood
+pub seen_texts : {A X : Type 0} (text_of : X → List ℕ) (texts : List X) (old new : State) (result : Result A StoreFault)
+    → IfErr result (λ fault. HasCleanDisk new → IsSeen (IsNone (λ schema. AllByRecursion (λ text. IsUnderstood schema (text_of text)) texts)) (λ database. ⊥) old fault)
+    → AllByRecursion (λ text. IsUnderstood bureau (text_of text)) texts → AllByRecursion (λ text. IsUnderstood bureau_1 (text_of text)) texts
+    → IfErr result (λ fault. HasCleanDisk new → IsSeen (IsNone IsOfBureau) (λ database. ⊥) old fault)
+seen_texts text_of texts old new (Ok a) seen here before = tt
+seen_texts text_of texts old new (Err fault) seen here before = λ clean.
+    seen_so (IsNone (λ schema. AllByRecursion (λ text. IsUnderstood schema (text_of text)) texts)) (λ database. ⊥) (IsNone IsOfBureau) (λ database. ⊥) old fault
+    (λ database none schema of is. elim of [
+      | inl it ↦ none bureau here (is ∙ it)
+      | inr it ↦ none bureau_1 before (is ∙ it)
+    ]) (λ database none. none) (seen clean)
+
+-- what is none of the bureau's databases lacks tables
+pub other_than_ours : (text : List ℕ) (database : Database) (wanted : ℕ) → IsNone IsOfBureau database → LacksTables wanted text database
+other_than_ours text database wanted none = (
+  λ schema means. none schema means.0,
+  λ ours. absurd (none bureau (inl refl) ours.schema),
+  λ earlier. absurd (none bureau_1 (inr refl) earlier.schema),
+)
+
+-- ---- what is looked for by a store, and by what makes a file of version 1 one of version 2
+
+pub no_store : (text : List ℕ) (at : State) (fault : StoreFault) → IsUnderstood bureau text → IsSeen (LacksTables 2 text) (IsOther 2) at fault → IsNoStore at fault
+no_store text at Memory means it = tt
+no_store text at Device means it = tt
+no_store text at Size means it = it
+no_store text at Shape means it = (it.0, it.1.0 bureau (inl refl, means), λ earlier. omega (arith, ap (λ (o : Option ℕ). unwrap_or o 0) (it.1.2 earlier)))
+no_store text at Version means it = (it.0, λ ours. it.1.1 (it.1.2.ours ours), it.1.0, it.1.1, it.1.2.has)
+
+pub not_earlier : (text : List ℕ) (at : State) (fault : StoreFault) → IsUnderstood bureau_1 text → IsSeen (LacksTables 1 text) (IsOther 1) at fault → IsNotEarlier at fault
+not_earlier text at Memory means it = tt
+not_earlier text at Device means it = tt
+not_earlier text at Size means it = tt
+not_earlier text at Shape means it = (it.0, it.1.0 bureau_1 (inr refl, means), λ ours. omega (arith, ap (λ (o : Option ℕ). unwrap_or o 0) (it.1.1 ours)))
+not_earlier text at Version means it = (it.0, λ earlier. it.1.1 (it.1.2.earlier earlier), it.1.0, it.1.1, it.1.2.has)
 
 -- ---- what is taken for a store
 

@@ -1,6 +1,7 @@
 pub mod Committed
 pub mod Founded
 pub mod Laws
+pub mod Migrated
 pub mod Opening
 pub mod Recent
 pub mod Outgrown

@@ -8,10 +8,10 @@ ghost use Rattle.zone_lists.specs.ZoneList.{RowsAscend};
 ghost use Rattle.bureau_store.specs.Caller.{IsProper};
 ghost use Rattle.bureau_store.specs.Effect.{publication, zone_put, zone_dropped, received_put, patterns_put};
 ghost use Rattle.bureau_store.specs.declared.caller.Caller.TheVariants.{Client, Publisher};
-ghost use Rattle.sql_tables.specs.Fit.{CanBeWritten, IsFitChange, IsHold, IsRecord};
+ghost use Rattle.sql_tables.specs.Fit.{CanBeWritten, IsCond, IsFitChange, IsHold, IsRecord};
 
 use bureau_store::CallerRow;
-use catalogue::{Change, Sysmod};
+use catalogue::{Change, CondNeed, Sysmod};
 use holddata::{Hold, HoldChange};
 use mcs_reader::Id;
 use zone_lists::{Pattern, ZoneRow};
@@ -48,6 +48,16 @@ pub(crate) fn callers(callers: &[CallerRow])
 {
     for caller in callers {
         id(&caller.name);
+    }
+}
+
+#[tactic(auto, using(crate::proofs::FitFacts::all_so_far, crate::proofs::FitFacts::all_seen))]
+fn conds(conds: &[CondNeed])
+    ensures { AllByRecursion IsCond conds.now }
+{
+    for cond in conds {
+        id(&cond.fmid);
+        id(&cond.need);
     }
 }
 
@@ -117,6 +127,7 @@ fn record(sysmod: &Sysmod)
     ids(sysmod.fmids.as_slice());
     ids(sysmod.pre.as_slice());
     ids(sysmod.req.as_slice());
+    conds(sysmod.conds.as_slice());
     ids(sysmod.sup.as_slice());
 }
 

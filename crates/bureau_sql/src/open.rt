@@ -2,7 +2,7 @@
 ghost use Rattle.std.specs.Prelude.{◌≡◌, ◌≢◌, ℕ, IfErr, IfOk, IsTrue, OnOk, Some, false};
 ghost use Rattle.std.specs.List.{AllByRecursion};
 ghost use Rattle.bureau_store.specs.Store.{IsOfRead};
-ghost use Rattle.bureau_store.specs.declared.fault.StoreFault.TheVariants.{Shape};
+ghost use Rattle.bureau_store.specs.declared.fault.StoreFault.TheVariants.{Shape, Version};
 ghost use Rattle.sqlite.specs.Held.{state};
 ghost use Rattle.sqlite.specs.State.{HasCleanDisk};
 ghost use Rattle.sqlite.specs.declared.error.Error.TheVariants.{SqlInputError};
@@ -11,7 +11,7 @@ ghost use Rattle.sql_state.specs.Ours.{IsOurs, held_by};
 ghost use Rattle.sql_state.specs.Reading.{OnlyReads};
 ghost use Rattle.sql_reads.specs.Version.{HasVersion};
 ghost use Rattle.sql_tables.specs.Stored.{tables_of};
-ghost use Rattle.bureau_sql.specs.Opening.{IsNoStore, IsUnderstood};
+ghost use Rattle.bureau_sql.specs.Opening.{IsNoStore, IsNone, IsOfBureau, IsOther, IsSeen, IsUnderstood, LacksTables, TellsVersion};
 ghost use Rattle.bureau_sql.specs.SqlView.{IsAtRest, IsOurStore, shown, sql_view};
 
 use crate::SqlStore;
@@ -23,14 +23,13 @@ use sqlite::{Connection, Error, ErrorCode};
 use sqlite_trees::store::Alter;
 use std::alloc::Global;
 
-// Whether the connection has the tables and the columns that a text reads.
+// Whether a text means something with the tables that the connection has. It isn't run.
 fn can_read<S: Alter>(conn: &mut Connection<S>, text: &str) -> Result<(), StoreFault>
     requires rest { conn.old.in_transaction ≡ false }
-    requires text { IsUnderstood text.now }
     ensures reads { OnlyReads (state S.Store conn.old) (state S.Store conn.new) }
     ensures mode { conn.new.in_transaction ≡ false }
     ensures cause { IfErr result (λ fault. HasCleanDisk (state S.Store conn.new)
-        → IsNoStore (state S.Store conn.old) fault) }
+        → IsSeen (IsNone (λ schema. IsUnderstood schema text.now)) (λ database. ⊥) (state S.Store conn.old) fault) }
 {
     let _settled = conn.is_autocommit();
     match conn.prepare(text) {
@@ -51,34 +50,44 @@ fn fault_of(error: Error) -> StoreFault
     }
 }
 
-// Whether the tables are of version 1.
-fn is_version_1<S: Alter>(conn: &mut Connection<S>) -> Result<(), StoreFault>
+// Whether a version is the wanted one.
+fn same(version: Option<u64>, wanted: u64) -> Result<(), StoreFault>
+    ensures ok { OnOk result (version ≡ Some wanted) }
+    ensures fault { IfErr result (λ fault. (fault ≡ Version) × (version ≢ Some wanted)) }
+{
+    match version {
+        Some(number) if number == wanted => Ok(()),
+        _ => Err(StoreFault::Version),
+    }
+}
+
+// Whether the tables are of a version.
+fn is_version<S: Alter>(conn: &mut Connection<S>, wanted: u64) -> Result<(), StoreFault>
     requires { conn.old.in_transaction ≡ false }
     ensures reads { OnlyReads (state S.Store conn.old) (state S.Store conn.new) }
     ensures mode { conn.new.in_transaction ≡ false }
     ensures is_open { OnOk result (HasCleanDisk (state S.Store conn.new) → IsTrue (state S.Store conn.new).is_open) }
     ensures version { OnOk result (HasCleanDisk (state S.Store conn.new)
-        → HasVersion (Some 1) (state S.Store conn.old).committed) }
+        → TellsVersion (Some wanted) (state S.Store conn.old).committed) }
     ensures cause { IfErr result (λ fault. HasCleanDisk (state S.Store conn.new)
-        → IsNoStore (state S.Store conn.old) fault) }
+        → IsSeen (λ database. ⊥) (IsOther wanted) (state S.Store conn.old) fault) }
 {
     match version(conn) {
-        Ok(Some(1)) => Ok(()),
-        Ok(_) => Err(StoreFault::Version),
+        Ok(version) => same(version, wanted),
         Err(ReadFault::Memory) => Err(StoreFault::Memory),
         Err(ReadFault::Device) => Err(StoreFault::Device),
     }
 }
 
-// Whether each of these texts can be read.
+// Whether each of these texts means something with the tables that the connection has.
 #[tactic(auto, using(crate::proofs::OpenFacts::reads_after, crate::proofs::OpenFacts::no_read_yet))]
 fn can_read_all<S: Alter>(conn: &mut Connection<S>, texts: &[&str]) -> Result<(), StoreFault>
     requires rest { conn.old.in_transaction ≡ false }
-    requires texts { AllByRecursion (λ text. IsUnderstood text.now) texts.now }
     ensures reads { OnlyReads (state S.Store conn.old) (state S.Store conn.new) }
     ensures mode { conn.new.in_transaction ≡ false }
     ensures cause { IfErr result (λ fault. HasCleanDisk (state S.Store conn.new)
-        → IsNoStore (state S.Store conn.old) fault) }
+        → IsSeen (IsNone (λ schema. AllByRecursion (λ text. IsUnderstood schema text.now) texts.now)) (λ database. ⊥)
+        (state S.Store conn.old) fault) }
 {
     for text in texts {
         can_read(conn, text)?;
@@ -86,13 +95,13 @@ fn can_read_all<S: Alter>(conn: &mut Connection<S>, texts: &[&str]) -> Result<()
     Ok(())
 }
 
-// Whether the connection has the tables and the columns that a store reads.
+// Whether the connection has the tables and the columns that a store of version 1 reads.
 fn has_tables<S: Alter>(conn: &mut Connection<S>) -> Result<(), StoreFault>
     requires rest { conn.old.in_transaction ≡ false }
     ensures reads { OnlyReads (state S.Store conn.old) (state S.Store conn.new) }
     ensures mode { conn.new.in_transaction ≡ false }
     ensures cause { IfErr result (λ fault. HasCleanDisk (state S.Store conn.new)
-        → IsNoStore (state S.Store conn.old) fault) }
+        → IsSeen (IsNone IsOfBureau) (λ database. ⊥) (state S.Store conn.old) fault) }
 {
     can_read_all(
         conn,
@@ -109,23 +118,39 @@ fn has_tables<S: Alter>(conn: &mut Connection<S>) -> Result<(), StoreFault>
     )
 }
 
-// Whether a connection holds a store of version 1 and is open.
-#[tactic(auto, using(crate::proofs::OpenFacts::reads_after, crate::proofs::OpenFacts::found_before, crate::proofs::OpenFacts::no_store_before))]
-fn holds_a_store<S: Alter>(conn: &mut Connection<S>) -> Result<(), StoreFault>
+// Whether the table of the version is there, with this one.
+fn has_version<S: Alter>(conn: &mut Connection<S>, wanted: u64) -> Result<(), StoreFault>
+    requires { conn.old.in_transaction ≡ false }
+    ensures reads { OnlyReads (state S.Store conn.old) (state S.Store conn.new) }
+    ensures mode { conn.new.in_transaction ≡ false }
+    ensures version { OnOk result (HasCleanDisk (state S.Store conn.new)
+        → TellsVersion (Some wanted) (state S.Store conn.old).committed) }
+    ensures cause { IfErr result (λ fault. HasCleanDisk (state S.Store conn.new)
+        → IsSeen (IsNone IsOfBureau) (IsOther wanted) (state S.Store conn.old) fault) }
+{
+    can_read(conn, read::version())?;
+    is_version(conn, wanted)
+}
+
+/// Whether a connection holds tables of a version, with which this text too means something, and is open.
+pub(crate) fn holds<S: Alter>(
+    conn: &mut Connection<S>,
+    wanted: u64,
+    text: &str,
+) -> Result<(), StoreFault>
     requires { conn.old.in_transaction ≡ false }
     ensures reads { OnlyReads (state S.Store conn.old) (state S.Store conn.new) }
     ensures mode { conn.new.in_transaction ≡ false }
     ensures is_open { OnOk result (HasCleanDisk (state S.Store conn.new) → IsTrue (state S.Store conn.new).is_open) }
     ensures version { OnOk result (HasCleanDisk (state S.Store conn.new)
-        → HasVersion (Some 1) (state S.Store conn.old).committed) }
+        → TellsVersion (Some wanted) (state S.Store conn.old).committed) }
     ensures cause { IfErr result (λ fault. HasCleanDisk (state S.Store conn.new)
-        → IsNoStore (state S.Store conn.old) fault) }
+        → IsSeen (LacksTables wanted text.now) (IsOther wanted) (state S.Store conn.old) fault) }
 {
-    can_read(conn, read::version())?;
-    is_version_1(conn)?;
+    has_version(conn, wanted)?;
     has_tables(conn)?;
-    look(conn)?;
-    Ok(())
+    can_read(conn, text)?;
+    look(conn)
 }
 
 impl<S: Alter> SqlStore<S> {
@@ -134,7 +159,7 @@ impl<S: Alter> SqlStore<S> {
     /// # Errors
     ///
     /// [`StoreFault::Shape`] where a table of a store or one of its columns is missing, [`StoreFault::Version`] where the
-    /// tables are of another version than 1; `Memory` where memory ran out, and `Device` where the device failed. Each hands
+    /// tables are of another version than 2; `Memory` where memory ran out, and `Device` where the device failed. Each hands
     /// the connection back, with its tables as they were. The store of a database that the bureau made is refused for want of
     /// memory or the device alone.
     #[tactic(auto, using(crate::proofs::OpenFacts::ours_opened, crate::proofs::OpenFacts::tables_opened))]
@@ -147,7 +172,7 @@ impl<S: Alter> SqlStore<S> {
         ensures reads { IfOk result (λ store. OnlyReads (state S.Store conn) (shown S.Store store)) }
         ensures is_open { IfOk result (λ store. HasCleanDisk (shown S.Store store) → IsTrue (shown S.Store store).is_open) }
         ensures version { IfOk result (λ store. HasCleanDisk (shown S.Store store)
-            → HasVersion (Some 1) (state S.Store conn).committed) }
+            → HasVersion (Some 2) (state S.Store conn).committed) }
         ensures ours { IfOk result (λ store. HasCleanDisk (shown S.Store store)
             → IsOurs (state S.Store conn).committed → IsOurStore S.Store store) }
         ensures tables { IfOk result (λ store. HasCleanDisk (shown S.Store store)
@@ -158,7 +183,7 @@ impl<S: Alter> SqlStore<S> {
         ensures cause { IfErr result (λ refused. HasCleanDisk (state S.Store refused.1)
             → IsNoStore (state S.Store conn) refused.0) }
     {
-        match holds_a_store(&mut conn) {
+        match holds(&mut conn, 2, read::conditional()) {
             Ok(()) => Ok(SqlStore::over(alloc, conn)),
             Err(fault) => Err((fault, conn)),
         }

@@ -14,6 +14,8 @@ use Rattle.holddata.specs.Operands.{named_values, values_of}
 use Rattle.faults.specs.Refusal.{IsRefusal}
 use Rattle.catalogue.specs.declared.fault.CatFault.{CatFault}
 use Rattle.catalogue.specs.declared.fault.CatFault.TheVariants.{BadId, Memory}
+use Rattle.catalogue.specs.Conditional.{cond_cmp, put_conds, required_under}
+use Rattle.catalogue.specs.declared.conditional.CondNeed.{CondNeed}
 use Rattle.catalogue.specs.Ids.{id_cmp, put_among}
 use Rattle.catalogue.specs.Reading.{gives_no_id, has_bad_id, ids_given, is_no_id}
 
@@ -121,3 +123,30 @@ pub refused : (name : List ℕ) (operands : List Operand) (ver : Statement) (i :
 refused name operands ver i operand keys all_keys fault are below at puts counts (inl memory) = inl memory
 refused name operands ver i operand keys all_keys fault are below at puts counts (inr bad) =
     inr (bad.0, counts (gives_bad name operands ver i operand keys all_keys are below at puts bad.1))
+
+-- ---- an `++IF` statement
+
+-- all values of some operands are ids, and they were put
+pub named_whole : (name : List ℕ) (operands : List Operand) (i : ℕ) (keys all_keys : List (List ℕ)) → length operands ≤ i → PutsFrom name operands i keys all_keys
+    → (keys ≡ put_among all_keys (filter_map id_of (values_of name (operand_texts operands)))) × (list_any is_no_id (values_of name (operand_texts operands)) ≡ false)
+named_whole name operands i keys all_keys passed puts = (ended.ids, sym ended.bad)
+  where
+    ended : Puts keys [] all_keys (values_of name (operand_texts operands))
+    ended = subst (λ rest. Puts keys (values_of name (operand_texts rest)) all_keys (values_of name (operand_texts operands))) (drop_of_length-le operands passed) puts
+
+-- one of them has a value that is no id
+pub named_refused : (name : List ℕ) (operands : List Operand) (line i : ℕ) (operand : Operand) (keys all_keys : List (List ℕ)) (fault : CatFault)
+    → i < length operands → operand ≡ get_or operands i operand → PutsFrom name operands i keys all_keys
+    → IsRefusal Memory (λ f. (f ≡ BadId line) × (list_any is_no_id (named_values name (operand_text operand)) ≡ true)) fault
+    → IsRefusal Memory (λ f. (f ≡ BadId line) × (list_any is_no_id (values_of name (operand_texts operands)) ≡ true)) fault
+named_refused name operands line i operand keys all_keys fault below at puts (inl memory) = inl memory
+named_refused name operands line i operand keys all_keys fault below at puts (inr bad) =
+    inr (bad.0, bad_operand name operands i operand keys all_keys below at puts bad.1)
+
+-- one more requisite under a condition is put
+pub put_one : (fmid : List ℕ) (needs : List (List ℕ)) (i : ℕ) (need : List ℕ) (conds new : List CondNeed) → i < length needs → need ≡ get_or needs i need
+    → new ≡ insert_key cond_cmp conds (record { fmid = fmid; need = need })
+    → put_conds new (required_under fmid (drop (i + 1) needs)) ≡ put_conds conds (required_under fmid (drop i needs))
+put_one fmid needs i need conds new below at now =
+    ap (λ c. put_conds c (required_under fmid (drop (i + 1) needs))) now
+    ∙ sym (ap (λ l. put_conds conds (required_under fmid l)) (rest_at needs i need below at))

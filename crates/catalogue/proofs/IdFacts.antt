@@ -16,6 +16,9 @@ use Rattle.std.proofs.lemmas.Map.Text.{is_eq-slice_cmp}
 use Rattle.std.proofs.lemmas.Map.Views.{Contains-from_any, list_any-from_Contains}
 use Rattle.std.proofs.lemmas.Slice.Eq.{bytes_eq-Decides}
 use Rattle.holddata.proofs.InsertFacts as keys
+use Rattle.std.proofs.lemmas.Cmp.{on_total, then_total}
+use Rattle.catalogue.specs.Conditional.{cond_cmp}
+use Rattle.catalogue.specs.declared.conditional.CondNeed.{CondNeed}
 use Rattle.catalogue.specs.Ids.{id_cmp, same_id, Ascend, in_order}
 
 pub ids_total : IsTotalOrder id_cmp
@@ -106,10 +109,19 @@ not_lower Less h e = let f : false ≡ true = h in cc
 not_lower Equal h e = cc
 not_lower Greater h e = cc
 
--- ids ascend just if each is below the next
-pub ascend_by_neighbours : (ids : List (List ℕ)) (answer : Bool) → IsAllAdjacentAnswer (λ a b is. is ≡ is_lt (id_cmp a b)) ids answer → IsTrue answer ↔ Ascend ids
-ascend_by_neighbours ids true said = (λ _. sorted_from_all_adjacent ids_total ids [] (λ k within. lower (id_cmp (get_or ids k []) (get_or ids (k + 1) [])) (said k [] within)), λ _. refl)
-ascend_by_neighbours ids false said = (
+-- keys ascend just if each is below the next
+pub keys_by_neighbours : {K : Type 0} {cmp : K → K → Ordering} → IsTotalOrder cmp → (d : K) (keys : List K) (answer : Bool)
+    → IsAllAdjacentAnswer (λ a b is. is ≡ is_lt (cmp a b)) keys answer → IsTrue answer ↔ IsStrictlySortedBy cmp keys
+keys_by_neighbours {K} {cmp} total d keys true said = (λ _. sorted_from_all_adjacent total keys d (λ k within. lower (cmp (get_or keys k d) (get_or keys (k + 1) d)) (said k d within)), λ _. refl)
+keys_by_neighbours {K} {cmp} total d keys false said = (
   λ h. let f : false ≡ true = h in cc,
-  λ h. absurd (not_lower (id_cmp (get_or ids said.0 []) (get_or ids (said.0 + 1) [])) (said.2 []) (Less-from_sorted id_cmp ids said.0 (said.0 + 1) [] h (omega arith) said.1)),
+  λ h. absurd (not_lower (cmp (get_or keys said.0 d) (get_or keys (said.0 + 1) d)) (said.2 d) (Less-from_sorted cmp keys said.0 (said.0 + 1) d h (omega arith) said.1)),
 )
+
+-- and so do ids
+pub ascend_by_neighbours : (ids : List (List ℕ)) (answer : Bool) → IsAllAdjacentAnswer (λ a b is. is ≡ is_lt (id_cmp a b)) ids answer → IsTrue answer ↔ Ascend ids
+ascend_by_neighbours = keys_by_neighbours ids_total []
+
+-- requisites under conditions have a total order
+pub conds_total : IsTotalOrder cond_cmp
+conds_total = then_total (on_total (λ (c : CondNeed). c.fmid) ids_total) (on_total (λ (c : CondNeed). c.need) ids_total)

@@ -14,8 +14,10 @@ use Rattle.catalogue.specs.declared.fault.CatFault.{CatFault}
 use Rattle.catalogue.specs.declared.fault.CatFault.TheVariants.{BadId}
 use Rattle.catalogue.specs.declared.sysmod.Sysmod.{Sysmod}
 use Rattle.catalogue.specs.declared.sysmod.SysmodKind.{SysmodKind}
+use Rattle.catalogue.specs.declared.conditional.CondNeed.{CondNeed}
+use Rattle.catalogue.specs.Conditional.{cond_cmp, put_conds}
 use Rattle.catalogue.specs.Ids.{id_cmp, put_among}
-use Rattle.catalogue.specs.Reading.{HeadersOpen, Part, Header, More, OnHold, part_of, ids_given, vers_in, vers_in_front, record_by, changes_by, changes_of, fault_if, faults_by, faults_of, first_fault, is_header, Begun, nothing_begun, changes_in, with_ver, with_part, with_statement}
+use Rattle.catalogue.specs.Reading.{HeadersOpen, Part, Header, More, OnCondition, OnHold, part_of, ids_given, vers_in, vers_in_front, ifs_in, ifs_in_front, conds_given, record_by, changes_by, changes_of, fault_if, faults_by, faults_of, first_fault, is_header, Begun, nothing_begun, changes_in, with_ver, with_if, with_part, with_statement}
 
 -- a record with what `++VER` statements say
 abbrev pub with_vers : Sysmod → List Statement → Sysmod
@@ -30,11 +32,12 @@ lists_with sysmod vers = record {
   fmids = put_among sysmod.fmids (flat_map (ids_given (codes "FMID")) vers);
   pre = put_among sysmod.pre (flat_map (ids_given (codes "PRE")) vers);
   req = put_among sysmod.req (flat_map (ids_given (codes "REQ")) vers);
+  conds = sysmod.conds;
   sup = put_among sysmod.sup (flat_map (ids_given (codes "SUP")) vers);
 }
 
 abbrev record_with : Sysmod → List (List ℕ) → List (List ℕ) → List (List ℕ) → List (List ℕ) → Sysmod
-record_with sysmod fmids pre req sup = record { id = sysmod.id; kind = sysmod.kind; fmids = fmids; pre = pre; req = req; sup = sup }
+record_with sysmod fmids pre req sup = record { id = sysmod.id; kind = sysmod.kind; fmids = fmids; pre = pre; req = req; conds = sysmod.conds; sup = sup }
 
 -- one more statement's ids
 put_more : (name : List ℕ) (ids : List (List ℕ)) (ver : Statement) (vers : List Statement) → put_among (put_among ids (ids_given name ver)) (flat_map (ids_given name) vers) ≡ put_among ids (flat_map (ids_given name) (ver ∷ vers))
@@ -49,55 +52,82 @@ with_vers_is sysmod (ver ∷ vers) =
     ∙ ap (λ q. record_with sysmod (lists_with sysmod (ver ∷ vers)).fmids (lists_with sysmod (ver ∷ vers)).pre q (put_among (with_ver ver sysmod).sup (flat_map (ids_given (codes "SUP")) vers))) (put_more (codes "REQ") sysmod.req ver vers)
     ∙ ap (λ s. record_with sysmod (lists_with sysmod (ver ∷ vers)).fmids (lists_with sysmod (ver ∷ vers)).pre (lists_with sysmod (ver ∷ vers)).req s) (put_more (codes "SUP") sysmod.sup ver vers)
 
-record_joined : (kind : SysmodKind) (id : List ℕ) (vers : List Statement) → with_vers (record_by kind id []) vers ≡ record_by kind id vers
-record_joined kind id vers = with_vers_is (record_by kind id []) vers
+-- a record with what `++IF` statements say
+abbrev pub with_ifs : Sysmod → List Statement → Sysmod
+with_ifs sysmod [] = sysmod
+with_ifs sysmod (condition ∷ ifs) = with_ifs (with_if condition sysmod) ifs
+
+-- the same, at once
+abbrev conds_with : Sysmod → List CondNeed → Sysmod
+conds_with sysmod conds = record { id = sysmod.id; kind = sysmod.kind; fmids = sysmod.fmids; pre = sysmod.pre; req = sysmod.req; conds = conds; sup = sysmod.sup }
+
+with_ifs_is : (sysmod : Sysmod) (ifs : List Statement) → with_ifs sysmod ifs ≡ conds_with sysmod (put_conds sysmod.conds (flat_map conds_given ifs))
+with_ifs_is sysmod [] = refl
+with_ifs_is sysmod (condition ∷ ifs) =
+    with_ifs_is (with_if condition sysmod) ifs
+    ∙ ap (conds_with sysmod) (sym (fold-append (insert_key cond_cmp) sysmod.conds (conds_given condition) (flat_map conds_given ifs)))
+
+-- an `++IF` may stand before a `++VER` or after it
+if_first : (sysmod : Sysmod) (condition : Statement) (vers : List Statement) → with_vers (with_if condition sysmod) vers ≡ with_if condition (with_vers sysmod vers)
+if_first sysmod condition [] = refl
+if_first sysmod condition (ver ∷ vers) = if_first (with_ver ver sysmod) condition vers
+
+record_joined : (kind : SysmodKind) (id : List ℕ) (vers ifs : List Statement) → with_ifs (with_vers (record_by kind id [] []) vers) ifs ≡ record_by kind id vers ifs
+record_joined kind id vers ifs =
+    ap (λ sysmod. with_ifs sysmod ifs) (with_vers_is (record_by kind id [] []) vers) ∙ with_ifs_is (record_by kind id vers []) ifs
 
 -- ---- all statements
 
 -- an open record with the statements that belong to it
-abbrev opened : Option Sysmod → List Statement → List Change
-opened record_open vers = option_to_list (option_map Whole (option_map (λ sysmod. with_vers sysmod vers) record_open))
+abbrev opened : Option Sysmod → List Statement → List Statement → List Change
+opened record_open vers ifs = option_to_list (option_map Whole (option_map (λ sysmod. with_ifs (with_vers sysmod vers) ifs) record_open))
 
 -- what was read so far, and what statements make of it
 abbrev continued : Begun → List Statement → List Change
-continued begun statements = begun.before ++ (opened begun.open_record (vers_in_front statements) ++ (begun.after ++ changes_of statements))
+continued begun statements = begun.before ++ (opened begun.open_record (vers_in_front statements) (ifs_in_front statements) ++ (begun.after ++ changes_of statements))
 
 regroup : (a o b x c : List Change) → (a ++ (o ++ b)) ++ (x ++ c) ≡ a ++ (o ++ (b ++ (x ++ c)))
 regroup a o b x c = append_assoc a (o ++ b) (x ++ c) ∙ ap (λ l. a ++ l) (append_assoc o b (x ++ c))
 
-plain : (o : Option Sysmod) → option_to_list (option_map Whole o) ≡ opened o []
+plain : (o : Option Sysmod) → option_to_list (option_map Whole o) ≡ opened o [] []
 plain None = refl
 plain (Some sysmod) = refl
 
-begun_header : (kind : SysmodKind) (subject : Option (List ℕ)) (vers : List Statement)
-    → opened (option_map (λ id. record_by kind id []) subject) vers ≡ option_to_list (option_map (λ id. Whole (record_by kind id vers)) subject)
-begun_header kind None vers = refl
-begun_header kind (Some id) vers = ap (λ sysmod. Whole sysmod ∷ []) (record_joined kind id vers)
+begun_header : (kind : SysmodKind) (subject : Option (List ℕ)) (vers ifs : List Statement)
+    → opened (option_map (λ id. record_by kind id [] []) subject) vers ifs ≡ option_to_list (option_map (λ id. Whole (record_by kind id vers ifs)) subject)
+begun_header kind None vers ifs = refl
+begun_header kind (Some id) vers ifs = ap (λ sysmod. Whole sysmod ∷ []) (record_joined kind id vers ifs)
 
-one_ver : (o : Option Sysmod) (ver : Statement) (vers : List Statement) → opened (option_map (with_ver ver) o) vers ≡ opened o (ver ∷ vers)
-one_ver None ver vers = refl
-one_ver (Some sysmod) ver vers = refl
+one_ver : (o : Option Sysmod) (ver : Statement) (vers ifs : List Statement) → opened (option_map (with_ver ver) o) vers ifs ≡ opened o (ver ∷ vers) ifs
+one_ver None ver vers ifs = refl
+one_ver (Some sysmod) ver vers ifs = refl
 
-one_part : (part : Part) (statement : Statement) (begun : Begun) (vers : List Statement) (rest : List Change)
-    → (with_part part statement begun).before ++ (opened (with_part part statement begun).open_record vers ++ ((with_part part statement begun).after ++ rest))
-    ≡ begun.before ++ (opened begun.open_record (vers_in part statement vers) ++ (begun.after ++ (changes_by part statement vers ++ rest)))
-one_part (Header kind) statement begun vers rest =
-    ap (λ l. changes_in begun ++ (l ++ rest)) (begun_header kind statement.subject vers)
-    ∙ regroup begun.before (option_to_list (option_map Whole begun.open_record)) begun.after (changes_by (Header kind) statement vers) rest
-    ∙ ap (λ l. begun.before ++ (l ++ (begun.after ++ (changes_by (Header kind) statement vers ++ rest)))) (plain begun.open_record)
-one_part More statement begun vers rest =
-    ap (λ l. begun.before ++ (l ++ (begun.after ++ rest))) (one_ver begun.open_record statement vers)
-one_part OnHold statement begun vers rest =
-    ap (λ l. begun.before ++ (opened begun.open_record vers ++ l)) (append_assoc begun.after (option_to_list (option_map OfHold (holddata.change_of statement))) rest)
+one_if : (o : Option Sysmod) (condition : Statement) (vers ifs : List Statement) → opened (option_map (with_if condition) o) vers ifs ≡ opened o vers (condition ∷ ifs)
+one_if None condition vers ifs = refl
+one_if (Some sysmod) condition vers ifs = ap (λ x. Whole (with_ifs x ifs) ∷ []) (if_first sysmod condition vers)
+
+one_part : (part : Part) (statement : Statement) (begun : Begun) (vers ifs : List Statement) (rest : List Change)
+    → (with_part part statement begun).before ++ (opened (with_part part statement begun).open_record vers ifs ++ ((with_part part statement begun).after ++ rest))
+    ≡ begun.before ++ (opened begun.open_record (vers_in part statement vers) (ifs_in part statement ifs) ++ (begun.after ++ (changes_by part statement vers ifs ++ rest)))
+one_part (Header kind) statement begun vers ifs rest =
+    ap (λ l. changes_in begun ++ (l ++ rest)) (begun_header kind statement.subject vers ifs)
+    ∙ regroup begun.before (option_to_list (option_map Whole begun.open_record)) begun.after (changes_by (Header kind) statement vers ifs) rest
+    ∙ ap (λ l. begun.before ++ (l ++ (begun.after ++ (changes_by (Header kind) statement vers ifs ++ rest)))) (plain begun.open_record)
+one_part More statement begun vers ifs rest =
+    ap (λ l. begun.before ++ (l ++ (begun.after ++ rest))) (one_ver begun.open_record statement vers ifs)
+one_part OnCondition statement begun vers ifs rest =
+    ap (λ l. begun.before ++ (l ++ (begun.after ++ rest))) (one_if begun.open_record statement vers ifs)
+one_part OnHold statement begun vers ifs rest =
+    ap (λ l. begun.before ++ (opened begun.open_record vers ifs ++ l)) (append_assoc begun.after (option_to_list (option_map OfHold (holddata.change_of statement))) rest)
 
 -- what was read so far with more statements, one at a time
 pub read_on : (begun : Begun) (statements : List Statement) → changes_in (fold with_statement begun statements) ≡ continued begun statements
 read_on begun [] =
     ap (λ l. begun.before ++ (l ++ begun.after)) (plain begun.open_record)
-    ∙ ap (λ l. begun.before ++ (opened begun.open_record [] ++ l)) (sym (append-nil begun.after))
+    ∙ ap (λ l. begun.before ++ (opened begun.open_record [] [] ++ l)) (sym (append-nil begun.after))
 read_on begun (statement ∷ statements) =
     read_on (with_statement begun statement) statements
-    ∙ one_part (part_of statement) statement begun (vers_in_front statements) (changes_of statements)
+    ∙ one_part (part_of statement) statement begun (vers_in_front statements) (ifs_in_front statements) (changes_of statements)
 
 -- statements one at a time give what they publish
 pub read_all : (statements : List Statement) → changes_in (fold with_statement nothing_begun statements) ≡ changes_of statements
@@ -114,7 +144,7 @@ begins (Header kind) statement begun none = by statement.subject none ∙ or_tru
     or_true true = refl
     or_true false = refl
 
-    by : (subject : Option (List ℕ)) → fault_if (is_none subject) (BadId statement.line) ≡ [] → is_some (option_map (λ id. record_by kind id []) subject) ≡ true
+    by : (subject : Option (List ℕ)) → fault_if (is_none subject) (BadId statement.line) ≡ [] → is_some (option_map (λ id. record_by kind id [] []) subject) ≡ true
     by None h = cc
     by (Some id) h = refl
 begins More statement begun none = by begun.open_record ∙ or_false (is_some begun.open_record)
@@ -124,6 +154,15 @@ begins More statement begun none = by begun.open_record ∙ or_false (is_some be
     or_false false = refl
 
     by : (o : Option Sysmod) → is_some (option_map (with_ver statement) o) ≡ is_some o
+    by None = refl
+    by (Some sysmod) = refl
+begins OnCondition statement begun none = by begun.open_record ∙ or_false (is_some begun.open_record)
+  where
+    or_false : (b : Bool) → b ≡ (b || false)
+    or_false true = refl
+    or_false false = refl
+
+    by : (o : Option Sysmod) → is_some (option_map (with_if statement) o) ≡ is_some o
     by None = refl
     by (Some sysmod) = refl
 begins OnHold statement begun none = or_false (is_some begun.open_record)

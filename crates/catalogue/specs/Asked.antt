@@ -1,5 +1,5 @@
--- Which operands of a statement say something of what it publishes (IBM z/OS SMP/E Reference, `++VER`, and `++HOLD`
--- and `++RELEASE` as HOLDDATA is read).
+-- Which operands of a statement say something of what it publishes (IBM z/OS SMP/E Reference, `++VER`, `++IF`,
+-- and `++HOLD` and `++RELEASE` as HOLDDATA is read).
 use Rattle.std.specs.Prelude.{ℕ, ◌++◌, List, [], ◌∷◌, codes}
 use Rattle.holddata.specs.Asked.{hold_operands}
 

@@ -7,12 +7,14 @@ use Rattle.faults.specs.declared.fault.Cause.TheVariants.{Input, Machine}
 use Rattle.holddata.specs.declared.fault.HoldFault.{HoldFault}
 use Rattle.holddata.specs.declared.fault.HoldFault.TheVariants as hold
 use Rattle.catalogue.specs.declared.fault.CatFault.{CatFault}
-use Rattle.catalogue.specs.declared.fault.CatFault.TheVariants.{VerOutside, BadId, Held, Memory}
+use Rattle.catalogue.specs.declared.fault.CatFault.TheVariants.{VerOutside, IfOutside, IfFmid, BadId, Held, Memory}
 
 -- the number that is printed: a hold's fault has its own
 abbrev pub cat_fault_number : CatFault → ℕ
 cat_fault_number (VerOutside line) = 21
 cat_fault_number (BadId line) = 22
+cat_fault_number (IfOutside line) = 27
+cat_fault_number (IfFmid line) = 28
 cat_fault_number (Held fault) = fault_number fault
 cat_fault_number Memory = 24
 
@@ -20,6 +22,8 @@ cat_fault_number Memory = 24
 abbrev pub cat_fault_line : CatFault → Option ℕ
 cat_fault_line (VerOutside line) = Some line
 cat_fault_line (BadId line) = Some line
+cat_fault_line (IfOutside line) = Some line
+cat_fault_line (IfFmid line) = Some line
 cat_fault_line (Held fault) = fault_line fault
 cat_fault_line Memory = None
 
@@ -37,6 +41,8 @@ cat_fault_of (hold.BadCategory line) = Held (hold.BadCategory line)
 abbrev pub cat_fault_cause : CatFault → Cause
 cat_fault_cause (VerOutside line) = Input
 cat_fault_cause (BadId line) = Input
+cat_fault_cause (IfOutside line) = Input
+cat_fault_cause (IfFmid line) = Input
 cat_fault_cause (Held fault) = fault_cause fault
 cat_fault_cause Memory = Machine
 

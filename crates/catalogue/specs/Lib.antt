@@ -1,4 +1,5 @@
 pub mod Ids
+pub mod Conditional
 pub mod Content
 pub mod Changes
 pub mod Publication

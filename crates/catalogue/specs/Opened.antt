@@ -1,4 +1,4 @@
--- No part of what is promised: private contracts cite it. How the record of a header is kept until its last `++VER` is read.
+-- No part of what is promised: private contracts cite it. How the record of a header is kept until the last of its `++VER` and `++IF` is read.
 use Rattle.std.specs.Prelude.{Option, option_map}
 use Rattle.catalogue.specs.declared.header.Open.{Open}
 use Rattle.catalogue.specs.declared.sysmod.Sysmod.{Sysmod}
@@ -10,6 +10,7 @@ sysmod_opened open_header = record {
   fmids = open_header.fmids.keys;
   pre = open_header.pre.keys;
   req = open_header.req.keys;
+  conds = open_header.conds.keys;
   sup = open_header.sup.keys;
 }
 

@@ -20,6 +20,12 @@ pub enum CatFault {
     /// A value of FMID, PRE, REQ or SUP is no id.
     #[error("line {0}: a name is not an id")]
     BadId(u32),
+    /// An `++IF` stands before every header.
+    #[error("line {0}: no header stands before the IF")]
+    IfOutside(u32),
+    /// An `++IF` has no FMID, or not just one value of it.
+    #[error("line {0}: the IF does not name one function")]
+    IfFmid(u32),
     /// A hold or a release has this fault, which is never want of memory.
     #[error("{0}")]
     Held(HoldFault),
@@ -29,13 +35,15 @@ pub enum CatFault {
 }
 
 impl CatFault {
-    /// The fault's number in print: 21, 22, 24, and of a hold or a release its own.
+    /// The fault's number in print: 21, 22, 24, 27, 28, and of a hold or a release its own.
     pub fn number(self) -> u8
         ensures { result ≡ cat_fault_number self }
     {
         match self {
             CatFault::VerOutside(_) => 21,
             CatFault::BadId(_) => 22,
+            CatFault::IfOutside(_) => 27,
+            CatFault::IfFmid(_) => 28,
             CatFault::Held(fault) => fault.number(),
             CatFault::Memory => 24,
         }
@@ -46,7 +54,10 @@ impl CatFault {
         ensures { result ≡ cat_fault_line self }
     {
         match self {
-            CatFault::VerOutside(line) | CatFault::BadId(line) => Some(line),
+            CatFault::VerOutside(line)
+            | CatFault::BadId(line)
+            | CatFault::IfOutside(line)
+            | CatFault::IfFmid(line) => Some(line),
             CatFault::Held(fault) => fault.line(),
             CatFault::Memory => None,
         }
@@ -56,7 +67,7 @@ impl CatFault {
 impl Fault for CatFault {
     ghost use Rattle.std.proofs.Common.{rules};
     ghost use Rattle.catalogue.specs.CatFault.{cat_fault_cause, cat_fault_line, cat_fault_number, numbers_of_holds};
-    ghost use Rattle.catalogue.specs.declared.fault.CatFault.TheVariants.{VerOutside, BadId, Held, Memory};
+    ghost use Rattle.catalogue.specs.declared.fault.CatFault.TheVariants.{VerOutside, IfOutside, IfFmid, BadId, Held, Memory};
 
     ghost number = { cat_fault_number };
 
@@ -64,7 +75,7 @@ impl Fault for CatFault {
 
     ghost cause = { cat_fault_cause };
 
-    ghost numbers = { elim [ VerOutside _ ↦ Prim.search rules | BadId _ ↦ Prim.search rules | Held fault ↦ numbers_of_holds fault | Memory ↦ Prim.search rules ] };
+    ghost numbers = { elim [ VerOutside _ ↦ Prim.search rules | BadId _ ↦ Prim.search rules | IfOutside _ ↦ Prim.search rules | IfFmid _ ↦ Prim.search rules | Held fault ↦ numbers_of_holds fault | Memory ↦ Prim.search rules ] };
 
     fn number(self) -> u8 {
         self.number()
@@ -76,7 +87,10 @@ impl Fault for CatFault {
 
     fn cause(self) -> Cause {
         match self {
-            CatFault::VerOutside(_) | CatFault::BadId(_) => Cause::Input,
+            CatFault::VerOutside(_)
+            | CatFault::BadId(_)
+            | CatFault::IfOutside(_)
+            | CatFault::IfFmid(_) => Cause::Input,
             CatFault::Held(fault) => fault.cause(),
             CatFault::Memory => Cause::Machine,
         }

@@ -3,20 +3,25 @@ ghost use Rattle.std.specs.Prelude.{◌≡◌, ◌++◌, [], true, false, IfOk, 
 ghost use Rattle.faults.specs.Refusal.{IsRefusal};
 ghost use Rattle.mcs_reader.specs.Bytes.{bytes_of_each};
 ghost use Rattle.mcs_reader.specs.Id.{id_of};
-ghost use Rattle.mcs_reader.specs.Operand.{operand_text};
+ghost use Rattle.mcs_reader.specs.Operand.{operand_text, operand_texts};
 ghost use Rattle.std.specs.List.{filter_map, list_any};
-ghost use Rattle.holddata.specs.Operands.{named_values};
+ghost use Rattle.holddata.specs.Operands.{named_values, values_of};
+ghost use Rattle.holddata.specs.Statements.{first_of};
 ghost use Rattle.catalogue.specs.declared.fault.CatFault.TheVariants.{BadId, Memory};
-ghost use Rattle.catalogue.specs.Ids.{put_among};
+ghost use Rattle.catalogue.specs.Conditional as spec;
+ghost use Rattle.catalogue.specs.Conditional.{required_under};
+ghost use Rattle.catalogue.specs.Ids.{in_order, put_among};
 ghost use Rattle.catalogue.specs.Opened.{sysmod_opened};
-ghost use Rattle.catalogue.specs.Reading.{has_bad_id, is_no_id, record_by, with_ver};
+ghost use Rattle.catalogue.specs.Reading.{has_bad_id, if_faults, is_no_id, record_by, with_if, with_ver};
 
-use crate::{CatFault, Ids, NoMemory, Sysmod, SysmodKind};
+use crate::ids::listed;
+use crate::{CatFault, CondNeed, CondNeeds, Ids, NoMemory, Sysmod, SysmodKind};
+use holddata::sole_value;
 use mcs_reader::{Id, Operand, Statement};
 use std::alloc::Global;
 use std::collections::BTreeSet;
 
-/// The record of a header as far as its `++VER` statements were read.
+/// The record of a header as far as its `++VER` and `++IF` statements were read.
 #[derive(Drop)]
 pub(crate) struct Open {
     pub(crate) id: Id,
@@ -24,13 +29,14 @@ pub(crate) struct Open {
     pub(crate) fmids: BTreeSet<Id>,
     pub(crate) pre: BTreeSet<Id>,
     pub(crate) req: BTreeSet<Id>,
+    pub(crate) conds: BTreeSet<CondNeed>,
     pub(crate) sup: BTreeSet<Id>,
 }
 
 impl Open {
     /// The record of the header alone.
     pub(crate) fn new(alloc: Global, id: Id, kind: SysmodKind) -> Self
-        ensures { sysmod_opened result ≡ record_by kind id [] }
+        ensures { sysmod_opened result ≡ record_by kind id [] [] }
     {
         Open {
             id,
@@ -38,6 +44,7 @@ impl Open {
             fmids: BTreeSet::new(alloc),
             pre: BTreeSet::new(alloc),
             req: BTreeSet::new(alloc),
+            conds: BTreeSet::new(alloc),
             sup: BTreeSet::new(alloc),
         }
     }
@@ -55,6 +62,7 @@ impl Open {
             mut fmids,
             mut pre,
             mut req,
+            conds,
             mut sup,
         } = self;
         let operands = ver.operands.as_slice();
@@ -70,8 +78,25 @@ impl Open {
             fmids,
             pre,
             req,
+            conds,
             sup,
         })
+    }
+
+    /// The record with what an `++IF` says.
+    pub(crate) fn under(self, alloc: Global, condition: &Statement) -> Result<Self, CatFault>
+        ensures read { IfOk result (λ now. sysmod_opened now ≡ with_if condition.now (sysmod_opened self)) }
+        ensures no_fault { OnOk result (if_faults condition.now ≡ []) }
+        ensures fault { IfErr result (IsRefusal Memory (λ fault. first_of (if_faults condition.now) ≡ Some fault)) }
+    {
+        let line = condition.line;
+        let operands = condition.operands.as_slice();
+        let fmid = sole_value(operands, b"FMID").ok_or(CatFault::IfFmid(line))?;
+        let fmid = Id::new(fmid).ok_or(CatFault::BadId(line))?;
+        let needs = ids_named(alloc, line, operands, b"REQ")?;
+        let mut open = self;
+        put_conds(&mut open.conds, fmid, needs.as_slice())?;
+        Ok(open)
     }
 
     /// The record as it is published.
@@ -84,6 +109,7 @@ impl Open {
             fmids,
             pre,
             req,
+            conds,
             sup,
         } = self;
         Ok(Sysmod {
@@ -92,9 +118,39 @@ impl Open {
             fmids: Ids::from_set(alloc, fmids)?,
             pre: Ids::from_set(alloc, pre)?,
             req: Ids::from_set(alloc, req)?,
+            conds: CondNeeds::from_set(alloc, conds)?,
             sup: Ids::from_set(alloc, sup)?,
         })
     }
+}
+
+// The ids that operands of this name give, in order.
+fn ids_named(
+    alloc: Global,
+    line: u32,
+    operands: &[Operand],
+    name: &[u8],
+) -> Result<Vec<Id>, CatFault>
+    ensures ids { IfOk result (λ ids. ids.items ≡ in_order (filter_map id_of (values_of name.now (operand_texts operands.now)))) }
+    ensures no_fault { OnOk result (list_any is_no_id (values_of name.now (operand_texts operands.now)) ≡ false) }
+    ensures fault { IfErr result (IsRefusal Memory (λ fault. (fault ≡ BadId line)
+        × (list_any is_no_id (values_of name.now (operand_texts operands.now)) ≡ true))) }
+{
+    let mut ids = BTreeSet::new(alloc);
+    for operand in operands {
+        put_operand(&mut ids, line, operand, name)?;
+    }
+    Ok(listed(alloc, ids)?)
+}
+
+// Puts what is required where a function is installed among the others.
+fn put_conds(conds: &mut BTreeSet<CondNeed>, fmid: Id, needs: &[Id]) -> Result<(), NoMemory>
+    ensures { OnOk result (conds.new.keys ≡ spec.put_conds conds.old.keys (required_under fmid needs.now)) }
+{
+    for need in needs {
+        conds.insert(CondNeed { fmid, need: *need })?;
+    }
+    Ok(())
 }
 
 // Puts the ids of an operand among the others if it has the name.

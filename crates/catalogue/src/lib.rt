@@ -3,7 +3,7 @@
 //! - [`Published`]: what every layer above reads the published content by, whether it is kept in lists or in a file;
 //!   [`SourceFault`]: why it tells nothing
 //! - [`ListPublished`]: the content in lists
-//! - [`Sysmod`], [`SysmodKind`], [`Ids`]: a record of the catalogue and its parts
+//! - [`Sysmod`], [`SysmodKind`], [`Ids`], [`CondNeeds`]: a record of the catalogue and its parts
 //! - [`Change`]: a record that is put or a change to the holds; a list of them is a publication
 //! - [`read_changes`]: the changes that statements make, or their [`CatFault`]; [`ChangeReader`]: one statement at a time
 //! - [`publication_operands`]: the operands that are read, for those who ask for these alone
@@ -15,6 +15,7 @@
 
 mod asked;
 mod change;
+mod conditional;
 mod fault;
 mod header;
 mod ids;
@@ -27,6 +28,7 @@ mod touching;
 
 pub use asked::publication_operands;
 pub use change::Change;
+pub use conditional::{CondNeed, CondNeeds};
 pub use fault::{CatFault, SourceFault};
 pub use ids::Ids;
 pub use list_published::ListPublished;

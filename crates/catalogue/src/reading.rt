@@ -6,7 +6,7 @@ ghost use Rattle.holddata.specs.Statements.{first_of};
 ghost use Rattle.mcs_reader.specs.declared.statement.Statement.{Statement};
 ghost use Rattle.catalogue.specs.declared.fault.CatFault.TheVariants.{Memory};
 ghost use Rattle.catalogue.specs.Opened.{record_opened};
-ghost use Rattle.catalogue.specs.Reading.{HeadersOpen, changes_of, first_fault, faults_of, faults_by, Header, More, OnHold, changes_in, nothing_begun, with_part, with_statement};
+ghost use Rattle.catalogue.specs.Reading.{HeadersOpen, changes_of, first_fault, faults_of, faults_by, Header, More, OnCondition, OnHold, changes_in, nothing_begun, with_part, with_statement};
 
 use crate::header::Open;
 use crate::{CatFault, Change, NoMemory, SysmodKind};
@@ -15,14 +15,15 @@ use std::alloc::Global;
 use std::marker::Model;
 
 /// What statements publish, in order (IBM z/OS SMP/E Reference, `++FUNCTION`, `++PTF`, `++APAR`, `++USERMOD`,
-/// `++VER`): a header gives one record at its place, with the lists of all `++VER` statements up to the next
-/// header joined; holds and releases stand where they stand.
+/// `++VER`, `++IF`): a header gives one record at its place, with the lists of all `++VER` and `++IF` statements up to
+/// the next header joined; holds and releases stand where they stand.
 ///
 /// # Errors
 ///
-/// The first statement with a fault decides, in it the fault with the lowest number: `VerOutside` where no
-/// header stands before a `++VER`, `BadId` where FMID, PRE, REQ or SUP has a value that is no id, `Held` for
-/// a fault of a hold or a release. `Memory` may come in place of any answer.
+/// The first statement with a fault decides, and in it the fault that stands first here: `VerOutside` where no
+/// header stands before a `++VER`, `IfOutside` where none stands before an `++IF`, `IfFmid` where an `++IF` has not
+/// just one value of FMID, `BadId` where FMID, PRE, REQ or SUP has a value that is no id, `Held` for a fault of a hold
+/// or a release. `Memory` may come in place of any answer.
 pub fn read_changes(alloc: Global, statements: &[Statement]) -> Result<Vec<Change>, CatFault>
     ensures changes { IfOk result (λ changes. changes.items ≡ changes_of statements.now) }
     ensures no_fault { OnOk result (first_fault false statements.now ≡ None) }
@@ -83,6 +84,7 @@ impl ChangeReader {
             Verb::Apar => self.begin(SysmodKind::Apar, statement),
             Verb::Usermod => self.begin(SysmodKind::Usermod, statement),
             Verb::Ver => self.join(statement),
+            Verb::Cond => self.require(statement),
             Verb::Hold | Verb::Release => self.hold(statement),
         }
     }
@@ -140,6 +142,29 @@ impl ChangeReader {
             alloc,
             before,
             header: Some(header.with(ver)?),
+            after,
+        })
+    }
+
+    // An IF belongs to the last header.
+    fn require(self, condition: &Statement) -> Result<Self, CatFault>
+        ensures read { IfOk result (λ now. now ≡ with_part OnCondition condition.now self) }
+        ensures no_fault { OnOk result (faults_by OnCondition (is_some self.open_record) condition.now ≡ []) }
+        ensures fault { IfErr result (IsRefusal Memory (λ fault. first_of (faults_by OnCondition (is_some self.open_record) condition.now) ≡ Some fault)) }
+    {
+        let ChangeReader {
+            alloc,
+            before,
+            header,
+            after,
+        } = self;
+        let Some(header) = header else {
+            return Err(CatFault::IfOutside(condition.line));
+        };
+        Ok(ChangeReader {
+            alloc,
+            before,
+            header: Some(header.under(alloc, condition)?),
             after,
         })
     }

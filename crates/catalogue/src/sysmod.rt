@@ -1,7 +1,7 @@
 //! The record of a SYSMOD.
 ghost use Rattle.std.specs.Prelude.{◌≡◌, IfOk};
 
-use crate::{Ids, NoMemory};
+use crate::{CondNeeds, Ids, NoMemory};
 use mcs_reader::Id;
 
 /// What a SYSMOD is: the verb of its header (IBM z/OS SMP/E Reference, `++FUNCTION`, `++PTF`, `++APAR`,
@@ -18,7 +18,7 @@ pub enum SysmodKind {
     Usermod,
 }
 
-/// What is published of a SYSMOD: what its header and all its `++VER` statements say together.
+/// What is published of a SYSMOD: what its header and all its `++VER` and `++IF` statements say together.
 ///
 /// The lists ascend, each id once, by their type.
 #[derive(Debug, Drop)]
@@ -33,6 +33,8 @@ pub struct Sysmod {
     pub pre: Ids,
     /// What has to be installed with it (operand REQ).
     pub req: Ids,
+    /// What else has to be installed with it, where a function is (its `++IF` statements).
+    pub conds: CondNeeds,
     /// What it supersedes: the SYSMODs that it stands for, APARs among them (operand SUP).
     pub sup: Ids,
 }
@@ -48,6 +50,7 @@ impl Sysmod {
             fmids: self.fmids.copy()?,
             pre: self.pre.copy()?,
             req: self.req.copy()?,
+            conds: self.conds.copy()?,
             sup: self.sup.copy()?,
         })
     }

@@ -1,13 +1,15 @@
 -- Worked examples of the definitions: verdicts on the SYSMODs of small contents.
-use Rattle.std.proofs.Common.{◌≡◌, ℕ, List, [], ◌∷◌, ◌++◌, codes, Some, None, refl}
+use Rattle.std.proofs.Common.{◌≡◌, ℕ, true, List, [], ◌∷◌, ◌++◌, codes, Some, None, refl}
 use Rattle.mcs_reader.specs.Id.{padded}
 use Rattle.holddata.specs.declared.hold.Hold.{Hold}
 use Rattle.holddata.specs.declared.key.Kind.TheVariants.{ErrorHold}
 use Rattle.zone_lists.specs.declared.zones.ZoneRow.{ZoneRow}
-use Rattle.zone_lists.specs.declared.zones.ZoneState.TheVariants.{Applied}
+use Rattle.zone_lists.specs.declared.zones.ZoneState.{ZoneState}
+use Rattle.zone_lists.specs.declared.zones.ZoneState.TheVariants.{Accepted, Applied, Superseded}
 use Rattle.catalogue.specs.Content.{Content}
 use Rattle.catalogue.specs.declared.sysmod.Sysmod.{Sysmod}
 use Rattle.catalogue.specs.declared.sysmod.SysmodKind.TheVariants.{Ptf}
+use Rattle.chains.specs.Frames.{node_of}
 use Rattle.chains.specs.Verdicts.{good, held, lack, verdict_of}
 
 abbrev function : List ℕ
@@ -30,7 +32,7 @@ later_apar = padded (codes "AA30003")
 
 -- a PTF for the function
 abbrev ptf : List ℕ → List (List ℕ) → List (List ℕ) → List (List ℕ) → Sysmod
-ptf id pre req sup = record { id = id; kind = Ptf; fmids = function ∷ []; pre = pre; req = req; sup = sup }
+ptf id pre req sup = record { id = id; kind = Ptf; fmids = function ∷ []; pre = pre; req = req; conds = []; sup = sup }
 
 abbrev error : List ℕ → List ℕ → Hold
 error id reason = record { key = record { sysmod = id; kind = ErrorHold; reason = reason }; fmid = Some function; class = None; resolver = None; dated = None; categories = [] }
@@ -84,3 +86,62 @@ not_catalogued = refl
 
 another_function : verdict_of published [] first ≡ lack
 another_function = refl
+
+-- ---- a requisite where another function is installed
+
+abbrev other_function : List ℕ
+other_function = padded (codes "HXX0001")
+
+abbrev conditional : List ℕ
+conditional = padded (codes "UA10020")
+
+abbrev required : List ℕ
+required = padded (codes "UA10021")
+
+-- a PTF that needs another one where the other function is installed
+abbrev with_condition : Sysmod
+with_condition = record { id = conditional; kind = Ptf; fmids = function ∷ []; pre = []; req = []; conds = record { fmid = other_function; need = required } ∷ []; sup = [] }
+
+abbrev both_published : Content
+both_published = record { sysmods = with_condition ∷ ptf required [] [] [] ∷ []; holds = [] }
+
+abbrev one_published : Content
+one_published = record { sysmods = with_condition ∷ []; holds = [] }
+
+-- a zone with both functions, the other one in a state
+abbrev with_other : ZoneState → List ZoneRow
+with_other state = record { sysmod = function; state = Applied } ∷ record { sysmod = other_function; state = state } ∷ []
+
+without_the_function_alone : verdict_of both_published bare_zone conditional ≡ good (conditional ∷ [])
+without_the_function_alone = refl
+
+where_it_is_applied_both : verdict_of both_published (with_other Applied) conditional ≡ good (conditional ∷ required ∷ [])
+where_it_is_applied_both = refl
+
+where_it_is_accepted_both : verdict_of both_published (with_other Accepted) conditional ≡ good (conditional ∷ required ∷ [])
+where_it_is_accepted_both = refl
+
+where_it_is_superseded_alone : verdict_of both_published (with_other Superseded) conditional ≡ good (conditional ∷ [])
+where_it_is_superseded_alone = refl
+
+not_published_it_blocks : verdict_of one_published (with_other Applied) conditional ≡ held required
+not_published_it_blocks = refl
+
+but_not_without_the_function : verdict_of one_published bare_zone conditional ≡ good (conditional ∷ [])
+but_not_without_the_function = refl
+
+nor_where_it_is_superseded : verdict_of one_published (with_other Superseded) conditional ≡ good (conditional ∷ [])
+nor_where_it_is_superseded = refl
+
+-- ---- frames
+
+-- a node has its requisites under a condition beside its needs
+its_node : node_of both_published conditional ≡ record {
+  id = conditional;
+  catalogued = true;
+  fmids = function ∷ [];
+  needs = [];
+  conds = record { fmid = other_function; need = required } ∷ [];
+  givers = conditional ∷ [];
+}
+its_node = refl

@@ -12,7 +12,7 @@ use Rattle.catalogue.proofs.IdFacts.{itself}
 use Rattle.catalogue.proofs.SupersedeFacts.{superseder_catalogued, superseder_is}
 use Rattle.requisites.specs.Leads.{Leads}
 use Rattle.requisites.proofs.LeadsFacts.{leads_closed, leads_itself, leads_more}
-use Rattle.supersede.specs.Giving.{fmids_of, gives, givers_of, may_need, requisites_of}
+use Rattle.supersede.specs.Giving.{always_needs, conds_of, each_need, fmids_of, gives, givers_of, may_need, requisites_of}
 use Rattle.supersede.specs.Leading.{Gives, IsWay}
 use Rattle.supersede.proofs.LeadingFacts.{gives_is}
 use Rattle.chains.specs.Cuts.{id_at}
@@ -63,7 +63,8 @@ map_same {X} {Y} f g (x ∷ xs) same =
 -- ---- where contents agree
 
 node_with : List ℕ → Option Sysmod → List (List ℕ) → List (List ℕ) → FrameNode
-node_with id found needs givers = record { id = id; catalogued = is_some found; fmids = fmids_of found; needs = in_order needs; givers = givers }
+node_with id found needs givers =
+    record { id = id; catalogued = is_some found; fmids = fmids_of found; needs = in_order needs; conds = conds_of found; givers = givers }
 
 module _ (ids : List (List ℕ)) (old new : Content) (start : List ℕ) (frame : FrameLists) (ordered_old : IsInOrder old) (ordered_new : IsInOrder new)
     (agree : AgreeOutside ids old new) (apart : AreApart (frames.ids_in frame.nodes) ids) (is : IsFrame old start frame) where
@@ -73,10 +74,15 @@ module _ (ids : List (List ℕ)) (old new : Content) (start : List ℕ) (frame :
   same_record : (id : List ℕ) → Contains members id → record_of new id ≡ record_of old id
   same_record id inside = agree.records id (λ touched. apart id inside touched)
 
-  same_needs : (id : List ℕ) → Contains members id → may_need new id ≡ may_need old id
-  same_needs id inside =
+  always_same : (id : List ℕ) → Contains members id → always_needs new id ≡ always_needs old id
+  always_same id inside =
       ap (λ found. requisites_of found ++ error_reasons new id) (same_record id inside)
       ∙ ap (λ reasons. requisites_of (record_of old id) ++ reasons) (agree.reasons id (λ touched. apart id inside touched))
+
+  same_needs : (id : List ℕ) → Contains members id → may_need new id ≡ may_need old id
+  same_needs id inside =
+      ap (λ needs. needs ++ each_need (conds_of (record_of new id))) (always_same id inside)
+      ∙ ap (λ found. always_needs old id ++ each_need (conds_of found)) (same_record id inside)
 
   step_back : (y x : List ℕ) → Contains members x → Supersedes new y x → Supersedes old y x
   step_back y x inside step =
@@ -155,9 +161,9 @@ module _ (ids : List (List ℕ)) (old new : Content) (start : List ℕ) (frame :
   same_node : (id : List ℕ) → Contains members id → node_of old id ≡ node_of new id
   unfolding node_with
   same_node id inside =
-      ap (λ found. node_with id found (may_need old id) (givers_of old id)) (sym (same_record id inside))
-      ∙ ap (λ needs. node_with id (record_of new id) needs (givers_of old id)) (sym (same_needs id inside))
-      ∙ ap (λ givers. node_with id (record_of new id) (may_need new id) givers) (same_givers id inside)
+      ap (λ found. node_with id found (always_needs old id) (givers_of old id)) (sym (same_record id inside))
+      ∙ ap (λ needs. node_with id (record_of new id) needs (givers_of old id)) (sym (always_same id inside))
+      ∙ ap (λ givers. node_with id (record_of new id) (always_needs new id) givers) (same_givers id inside)
 
   pub frame_stays : IsFrame new start frame
   frame_stays = record {

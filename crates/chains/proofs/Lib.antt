@@ -6,6 +6,7 @@ pub mod OrderFacts
 pub mod PathFacts
 pub mod VerdictFacts
 pub mod SightFacts
+pub mod ConditionalFacts
 pub mod PlaceFacts
 pub mod MadeCutFacts
 pub mod PlaceVerdictFacts

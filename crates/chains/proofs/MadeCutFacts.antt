@@ -10,7 +10,7 @@ use Rattle.catalogue.specs.Content.{Content, Supersedes, ids_in, ids_of, is_of, 
 use Rattle.catalogue.specs.Ids.{Ascend, same_id}
 use Rattle.catalogue.specs.declared.sysmod.Sysmod.{Sysmod}
 use Rattle.catalogue.proofs.IdFacts.{itself, one_id}
-use Rattle.supersede.specs.Giving.{fmids_of, is_candidate, needs_in, sup_of}
+use Rattle.supersede.specs.Giving.{always_needs, conds_of, fmids_of, is_candidate, needs_in, sup_of}
 use Rattle.supersede.specs.Leading.{Gives, InstalledGiver, IsThere, IsWay}
 use Rattle.requisites.specs.Leads.{IsPath, Leads}
 use Rattle.requisites.specs.Nodes.{IsMarked, Links, mark_of, row, world}
@@ -18,8 +18,9 @@ use Rattle.requisites.specs.declared.nodes.Nodes.{Nodes}
 use Rattle.requisites.proofs.SourceFacts.{marked_inside}
 use Rattle.chains.specs.Cuts.{IsCut, NeedPlace, PlaceOf, id_at}
 use Rattle.chains.specs.Places.{AreSeen, AreThere, InstalledAt}
-use Rattle.chains.specs.Sights.{Sight, sight_of}
+use Rattle.chains.specs.Sights.{Sight, all_needs, needs_seen, sight_of}
 use Rattle.chains.specs.Worlds.{world_of}
+use Rattle.chains.proofs.ConditionalFacts.{may_be_needed}
 use Rattle.chains.proofs.PlaceFacts.{inside_at, need_inside, one_place, order_down, order_up}
 use Rattle.chains.proofs.SearchFacts.{any_at, any_from, first_inside, first_true, none_inside, rest_inside}
 
@@ -41,7 +42,7 @@ candidate_catalogued content rows id h = listed_record content.sysmods id (known
 module _ (content : Content) (rows : List ZoneRow) (members : List (List ℕ)) (nodes : Nodes)
     (ascend : Ascend members)
     (ids_inside : (id : List ℕ) → Contains (ids_of content) id → Contains members id)
-    (needs_inside : (id : List ℕ) → Contains (flat_map (λ s. s.needs) (map (sight_of content) (ids_of content))) id → Contains members id)
+    (needs_inside : (id : List ℕ) → Contains (flat_map all_needs (map (sight_of content) (ids_of content))) id → Contains members id)
     (seen : AreSeen rows (sight_of content) (ids_of content) members (length members) nodes.candidates.items nodes.needs nodes.supersedes)
     (there : AreThere rows members nodes.supersedes nodes.there.items) where
   as_many : length nodes.candidates.items ≡ length members
@@ -91,7 +92,7 @@ module _ (content : Content) (rows : List ZoneRow) (members : List (List ℕ)) (
   need_up p q marked needs =
       let below = candidate_within p marked in
       let view = seen.needs_are.each p below in
-      let P : Sight → Type 0 = λ s. Contains s.needs (id_at members q) in
+      let P : Sight → Type 0 = λ s. Contains (needs_seen rows s) (id_at members q) in
       subst P (view.seen.listed (candidate_listed (id_at members p) (candidate_up p below marked))) (view.so.listed q needs)
 
   need_down : (p : ℕ) (need : List ℕ) → IsMarked nodes.candidates.items p → Contains (needs_in content rows (id_at members p)) need → NeedPlace members (world nodes) p need
@@ -99,8 +100,9 @@ module _ (content : Content) (rows : List ZoneRow) (members : List (List ℕ)) (
       let below = candidate_within p marked in
       let listed = candidate_listed (id_at members p) (candidate_up p below marked) in
       let view = seen.needs_are.each p below in
-      let at = inside_at members need (needs_inside need (need_inside (sight_of content) (ids_of content) (id_at members p) need listed needs)) in
-      let P : Sight → Type 0 = λ s. Contains s.needs (id_at members at.place) in
+      let named = may_be_needed rows (always_needs content (id_at members p)) (conds_of (record_of content (id_at members p))) need needs in
+      let at = inside_at members need (needs_inside need (need_inside (sight_of content) (ids_of content) (id_at members p) need listed named)) in
+      let P : Sight → Type 0 = λ s. Contains (needs_seen rows s) (id_at members at.place) in
       let Q : List ℕ → Type 0 = λ x. Contains (needs_in content rows (id_at members p)) x in
       record {
         at = at;
@@ -225,13 +227,13 @@ module _ (content : Content) (rows : List ZoneRow) (members : List (List ℕ)) (
 pub cut_of : (content : Content) (rows : List ZoneRow) (ids : List (List ℕ)) (sights : List Sight) (members seen_members : List (List ℕ)) (nodes : Nodes)
     → ids ≡ ids_of content → sights ≡ map (sight_of content) ids → seen_members ≡ members → Ascend members
     → ((id : List ℕ) → Contains ids id → Contains members id)
-    → ((id : List ℕ) → Contains (flat_map (λ s. s.needs) sights) id → Contains members id)
+    → ((id : List ℕ) → Contains (flat_map all_needs sights) id → Contains members id)
     → AreSeen rows (sight_of content) ids seen_members (length seen_members) nodes.candidates.items nodes.needs nodes.supersedes
     → AreThere rows seen_members nodes.supersedes nodes.there.items
     → IsCut (world_of content rows) members (world nodes)
 cut_of content rows ids sights members seen_members nodes ids_are sights_are same ascend ids_inside needs_inside seen there =
     let P : List (List ℕ) → Type 0 = λ l. (id : List ℕ) → Contains l id → Contains members id in
-    let Q : List Sight → Type 0 = λ l. (id : List ℕ) → Contains (flat_map (λ s. s.needs) l) id → Contains members id in
+    let Q : List Sight → Type 0 = λ l. (id : List ℕ) → Contains (flat_map all_needs l) id → Contains members id in
     let R : List (List ℕ) → Type 0 = λ l. AreSeen rows (sight_of content) l members (length members) nodes.candidates.items nodes.needs nodes.supersedes in
     let S : List (List ℕ) → Type 0 = λ l. AreSeen rows (sight_of content) ids l (length l) nodes.candidates.items nodes.needs nodes.supersedes in
     let T : List (List ℕ) → Type 0 = λ l. AreThere rows l nodes.supersedes nodes.there.items in

@@ -1,23 +1,24 @@
 -- The nodes that are made of what was gathered are those of the frame.
 use Rattle.std.proofs.Common.{◌≡◌, ◌∙◌, ◌<◌, ◌++◌, ◌+◌, ℕ, suc, Bool, List, [], ◌∷◌, length, map, take, get_or, is_some, Option, Some, None, refl, sym, ap, subst, inl, inr, arith}
 use Rattle.std.specs.Prelude.{◌↔◌}
-use Rattle.std.specs.List.{Contains}
+use Rattle.std.specs.List.{Contains, list_any}
 use Rattle.std.specs.Map.{keys_of, values_of}
 use Rattle.std.specs.Option.{IsSomeAnd}
 use Rattle.std.proofs.lemmas.List.{length-map, map-append, take_all, take_more}
 use Rattle.std.proofs.lemmas.List.Elements.{Contains-append_cases, Contains-append_left, Contains-append_right}
 use Rattle.catalogue.specs.Content.{Content, IsInOrder, Supersedes, ids_of, record_of, superseders}
 use Rattle.catalogue.specs.Ids.{Ascend, in_order}
+use Rattle.catalogue.specs.declared.conditional.CondNeed.{CondNeed}
 use Rattle.catalogue.specs.declared.sysmod.Sysmod.{Sysmod}
 use Rattle.catalogue.proofs.IdFacts.{in_order_has}
 use Rattle.catalogue.proofs.SupersedeFacts.{superseder_is}
-use Rattle.supersede.specs.Giving.{fmids_of, givers_of, may_need, sup_of}
+use Rattle.supersede.specs.Giving.{always_needs, conds_of, each_need, fmids_of, givers_of, may_need, sup_of}
 use Rattle.supersede.specs.Leading.{Gives, IsWay}
 use Rattle.requisites.specs.Leads.{Leads}
 use Rattle.requisites.specs.Nodes.{row}
 use Rattle.requisites.proofs.LeadsFacts.{leads_closed, leads_itself, leads_more}
 use Rattle.chains.specs.Cuts.{PlaceOf, id_at}
-use Rattle.chains.specs.FramePlaces.{AreNodesOf, ArePlaced, IsAbove, IsFramed, IsGiverAt, IsNodeAt, list_at}
+use Rattle.chains.specs.FramePlaces.{AreNodesOf, ArePlaced, IsAbove, IsFramed, IsGiverAt, IsNodeAt, has_conds, list_at}
 use Rattle.chains.specs.Frames.{FrameLists, IsClosed, IsFrame, StepsTo, ids_in, node_of}
 use Rattle.chains.specs.Gathered.{AreNamed, IsGathered, Names, gathered_of}
 use Rattle.chains.specs.Places.{ArePlacesOf}
@@ -33,18 +34,31 @@ use Rattle.chains.proofs.SearchFacts.{inside_cases, map_from, map_inside, none_i
 -- ---- one step by what is named, and by what is needed and gives
 
 module _ (content : Content) (ordered : IsInOrder content) where
+  -- the needs of requisites under a condition
+  under : List ℕ → List (List ℕ)
+  under x = each_need (conds_of (record_of content x))
+
   -- each need is named
   need_named : (x z : List ℕ) → Contains (may_need content x) z → Names content x z
-  need_named x z needs = Contains-append_left (in_order (may_need content x)) (superseders content x) z ((in_order_has (may_need content x) z).1 needs)
+  unfolding under
+  need_named x z needs = Contains-append_left (in_order (always_needs content x) ++ under x) (superseders content x) z (elim (Contains-append_cases (always_needs content x) (under x) z needs) [
+    | inl always ↦ Contains-append_left (in_order (always_needs content x)) (under x) z ((in_order_has (always_needs content x) z).1 always)
+    | inr named ↦ Contains-append_right (in_order (always_needs content x)) (under x) z named
+  ])
 
   -- so is what supersedes directly
   above_named : (x z : List ℕ) → Supersedes content z x → Names content x z
-  above_named x z step = Contains-append_right (in_order (may_need content x)) (superseders content x) z ((superseder_is content x z ordered).1 step)
+  unfolding under
+  above_named x z step = Contains-append_right (in_order (always_needs content x) ++ under x) (superseders content x) z ((superseder_is content x z ordered).1 step)
 
   -- what is named is a need, or gives
   named_steps : (x z : List ℕ) → Names content x z → StepsTo content x z
-  named_steps x z named = elim (Contains-append_cases (in_order (may_need content x)) (superseders content x) z named) [
-    | inl needs ↦ inl ((in_order_has (may_need content x) z).0 needs)
+  unfolding under
+  named_steps x z named = elim (Contains-append_cases (in_order (always_needs content x) ++ under x) (superseders content x) z named) [
+    | inl needs ↦ inl (elim (Contains-append_cases (in_order (always_needs content x)) (under x) z needs) [
+      | inl always ↦ Contains-append_left (always_needs content x) (under x) z ((in_order_has (always_needs content x) z).0 always)
+      | inr below ↦ Contains-append_right (always_needs content x) (under x) z below
+    ])
     | inr above ↦ inr (direct_gives content z x ordered ((superseder_is content x z ordered).0 above))
   ]
 
@@ -65,8 +79,8 @@ module _ (content : Content) (ordered : IsInOrder content) where
 
 -- ---- a node
 
-node_by : List ℕ → Bool → List (List ℕ) → List (List ℕ) → List (List ℕ) → FrameNode
-node_by id catalogued fmids needs givers = record { id = id; catalogued = catalogued; fmids = fmids; needs = needs; givers = givers }
+node_by : List ℕ → Bool → List (List ℕ) → List (List ℕ) → List CondNeed → List (List ℕ) → FrameNode
+node_by id catalogued fmids needs conds givers = record { id = id; catalogued = catalogued; fmids = fmids; needs = needs; conds = conds; givers = givers }
 
 module _ (content : Content) (start : List ℕ) (ids : List (List ℕ)) (all : List Gathered) (above : List (List ℕ)) (ordered : IsInOrder content) (is : IsGathered content start ids all)
     (placed : ArePlaced ids (map (λ g. g.above) all) above) where
@@ -152,11 +166,13 @@ module _ (content : Content) (start : List ℕ) (ids : List (List ℕ)) (all : L
       ascending_same node.givers (givers_of content id) at.ascend (givers_ascend content id ordered.sysmods)
       (λ y inside. (giver_is content id y).1 (gives_at place below y ((at.givers y).0 inside)))
       (λ y inside. (at.givers y).1 (at_gives place below y ((giver_is content id y).0 inside))) in
-      ap (λ i. node_by i node.catalogued node.fmids node.needs node.givers) at.id
-      ∙ ap (λ b. node_by id b node.fmids node.needs node.givers) (at.catalogued ∙ ap (λ (g : Gathered). g.catalogued) read)
-      ∙ ap (λ l. node_by id (is_some (record_of content id)) l node.needs node.givers) (at.fmids ∙ ap (λ (g : Gathered). g.fmids) read)
-      ∙ ap (λ l. node_by id (is_some (record_of content id)) (fmids_of (record_of content id)) l node.givers) (at.needs ∙ ap (λ (g : Gathered). g.needs) read)
-      ∙ ap (λ l. node_by id (is_some (record_of content id)) (fmids_of (record_of content id)) (in_order (may_need content id)) l) givers
+      let found = record_of content id in
+      ap (λ i. node_by i node.catalogued node.fmids node.needs node.conds node.givers) at.id
+      ∙ ap (λ b. node_by id b node.fmids node.needs node.conds node.givers) (at.catalogued ∙ ap (λ (g : Gathered). g.catalogued) read)
+      ∙ ap (λ l. node_by id (is_some found) l node.needs node.conds node.givers) (at.fmids ∙ ap (λ (g : Gathered). g.fmids) read)
+      ∙ ap (λ l. node_by id (is_some found) (fmids_of found) l node.conds node.givers) (at.needs ∙ ap (λ (g : Gathered). g.needs) read)
+      ∙ ap (λ (l : List CondNeed). node_by id (is_some found) (fmids_of found) (in_order (always_needs content id)) l node.givers) (at.conds ∙ ap (λ (g : Gathered). g.conds) read)
+      ∙ ap (λ l. node_by id (is_some found) (fmids_of found) (in_order (always_needs content id)) (conds_of found) l) givers
 
 -- ---- one node more
 
@@ -167,6 +183,7 @@ pub nodes_begin : (ids : List (List ℕ)) (all : List Gathered) → AreNodesOf i
 nodes_begin ids all = record {
   are = refl;
   needs = refl;
+  conds = refl;
   givers = λ node id inside given. absurd (none_inside node inside);
   say = λ content start ordered is. refl;
 }
@@ -181,6 +198,10 @@ nodes_more ids all above place node old new below as_many placed at are now =
       needs = map-append (λ (n : FrameNode). n.needs) old (node ∷ []) ∙ ap (λ l. l ++ node.needs ∷ []) are.needs ∙ ap (λ l. map (λ (g : Gathered). g.needs) (take place all) ++ l ∷ []) at.needs
           ∙ sym (map-append (λ (g : Gathered). g.needs) (take place all) (at.gathered ∷ []))
           ∙ ap (map (λ (g : Gathered). g.needs)) (sym (take_next all place at.gathered (omega (arith, below, as_many)) at.at));
+      conds = map-append (λ (n : FrameNode). n.conds) old (node ∷ []) ∙ ap (λ (l : List (List CondNeed)). l ++ node.conds ∷ []) are.conds
+          ∙ ap (λ (l : List CondNeed). map (λ (g : Gathered). g.conds) (take place all) ++ l ∷ []) at.conds
+          ∙ sym (map-append (λ (g : Gathered). g.conds) (take place all) (at.gathered ∷ []))
+          ∙ ap (map (λ (g : Gathered). g.conds)) (sym (take_next all place at.gathered (omega (arith, below, as_many)) at.at));
       givers = λ n id inside given. elim (Contains-append_cases old (node ∷ []) n inside) [
         | inl before ↦ are.givers n id before given
         | inr last ↦ elim (inside_cases node n [] last) [
@@ -208,22 +229,36 @@ module _ (ids : List (List ℕ)) (all : List Gathered) (nodes : List FrameNode) 
   needs_are : map (λ (g : Gathered). g.needs) all ≡ map (λ (n : FrameNode). n.needs) nodes
   needs_are = sym (are.needs ∙ ap (map (λ (g : Gathered). g.needs)) (take_all (length ids) all (omega (arith, as_many))))
 
+  conds_are : map (λ (g : Gathered). g.conds) all ≡ map (λ (n : FrameNode). n.conds) nodes
+  conds_are = sym (are.conds ∙ ap (map (λ (g : Gathered). g.conds)) (take_all (length ids) all (omega (arith, as_many))))
+
   closed : IsClosed nodes
   closed = record {
     needs = λ node id inside needs.
         let L : List (List (List ℕ)) → Type 0 = λ l. Contains l node.needs in
         let image = map_from (λ (g : Gathered). g.needs) all node.needs (subst L (sym needs_are) (map_inside (λ (n : FrameNode). n.needs) nodes node inside)) in
         let N : List (List ℕ) → Type 0 = λ l. Contains l id in
-        subst N ids_are (named.named image.from id image.member (Contains-append_left image.from.needs image.from.above id (subst N (sym image.is) needs)));
+        subst N ids_are (named.named image.from id image.member
+        (Contains-append_left (image.from.needs ++ each_need image.from.conds) image.from.above id
+        (Contains-append_left image.from.needs (each_need image.from.conds) id (subst N (sym image.is) needs))));
+    conds = λ node id inside needs.
+        let L : List (List CondNeed) → Type 0 = λ l. Contains l node.conds in
+        let image = map_from (λ (g : Gathered). g.conds) all node.conds (subst L (sym conds_are) (map_inside (λ (n : FrameNode). n.conds) nodes node inside)) in
+        let M : List CondNeed → Type 0 = λ l. Contains (each_need l) id in
+        let N : List (List ℕ) → Type 0 = λ l. Contains l id in
+        subst N ids_are (named.named image.from id image.member
+        (Contains-append_left (image.from.needs ++ each_need image.from.conds) image.from.above id
+        (Contains-append_right image.from.needs (each_need image.from.conds) id (subst M (sym image.is) needs))));
     givers = λ node id inside given. let N : List (List ℕ) → Type 0 = λ l. Contains l id in subst N ids_are (are.givers node id inside given);
   }
 
-  pub framed : (needs : List (List ℕ)) → ArePlaced ids (map (λ g. g.needs) all) needs → IsFramed nodes ids needs
-  framed needs placed = record {
+  pub framed : (needs : List (List ℕ)) (conditional : Bool) → ArePlaced ids (map (λ g. g.needs) all) needs → conditional ≡ list_any has_conds nodes → IsFramed nodes ids needs conditional
+  framed needs conditional placed is = record {
     are = ids_are;
     ascend = ascend;
     closed = closed;
     placed = (let P : List (List (List ℕ)) → Type 0 = λ l. ArePlaced ids l needs in subst P needs_are placed);
+    known = is;
   }
 
   pub frame_made : (supersedes : List (List ℕ)) → ArePlaced ids (map (λ g. g.superseded) all) supersedes → (frame : FrameLists) → frame.nodes ≡ nodes → frame.supersedes ≡ supersedes
@@ -300,8 +335,8 @@ module _ (es : List (List ℕ × Gathered)) (ids seen_ids node_ids : List (List 
       let Q : List (List ℕ) → Type 0 = λ l. ArePlaced l (map f seen_all) rows in
       subst P seen_all_is (subst Q seen_ids_is placed)
 
-  pub framed_found : (needs : List (List ℕ)) → ArePlaced seen_ids (map (λ g. g.needs) seen_all) needs → IsFramed nodes ids needs
-  framed_found needs placed = framed ids all nodes ascend as_many named_here nodes_here needs (placed_of (λ g. g.needs) needs placed)
+  pub framed_found : (needs : List (List ℕ)) (conditional : Bool) → ArePlaced seen_ids (map (λ g. g.needs) seen_all) needs → conditional ≡ list_any has_conds nodes → IsFramed nodes ids needs conditional
+  framed_found needs conditional placed is = framed ids all nodes ascend as_many named_here nodes_here needs conditional (placed_of (λ g. g.needs) needs placed) is
 
   pub frame_found : (supersedes : List (List ℕ)) → ArePlaced seen_ids (map (λ g. g.superseded) seen_all) supersedes → (frame : FrameLists) → frame.nodes ≡ nodes → frame.supersedes ≡ supersedes
       → (content : Content) (start : List ℕ) → IsInOrder content → IsGathered content start (keys_of es) (values_of es) → IsFrame content start frame

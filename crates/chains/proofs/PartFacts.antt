@@ -5,13 +5,14 @@ use Rattle.std.specs.List.{Contains, list_any}
 use Rattle.std.specs.Option.{IsSomeAnd}
 use Rattle.std.specs.Str.{bytes_eq}
 use Rattle.std.proofs.lemmas.List.{length-map}
+use Rattle.std.proofs.lemmas.List.Elements.{Contains-append_cases, Contains-append_left, Contains-append_right}
 use Rattle.zone_lists.specs.Installed.{is_installed, is_installed_state, is_listed}
 use Rattle.zone_lists.specs.declared.zones.ZoneRow.{ZoneRow}
 use Rattle.catalogue.specs.Content.{Content, Supersedes, ids_of, record_of}
 use Rattle.catalogue.specs.Ids.{Ascend, in_order}
 use Rattle.catalogue.specs.declared.sysmod.Sysmod.{Sysmod}
 use Rattle.catalogue.proofs.IdFacts.{in_order_has}
-use Rattle.supersede.specs.Giving.{is_candidate, may_need}
+use Rattle.supersede.specs.Giving.{always_needs, conds_of, is_candidate, may_need, needs_in, needs_where}
 use Rattle.supersede.specs.Leading.{Gives, InstalledGiver, IsThere, IsWay}
 use Rattle.requisites.specs.Leads.{IsPath, Leads}
 use Rattle.requisites.specs.Nodes.{IsMarked, Links, mark_of, row, world}
@@ -19,11 +20,12 @@ use Rattle.requisites.specs.declared.nodes.Nodes.{Nodes}
 use Rattle.requisites.proofs.LeadsFacts.{leads_more}
 use Rattle.requisites.proofs.SourceFacts.{marked_inside}
 use Rattle.chains.specs.Cuts.{IsCut, NeedPlace, PlaceOf, id_at}
-use Rattle.chains.specs.FramePlaces.{ArePlaced}
+use Rattle.chains.specs.FramePlaces.{ArePlaced, node_needs}
 use Rattle.chains.specs.Frames.{FrameLists, IsFrame, ids_in, node_of}
 use Rattle.chains.specs.Places.{ArePlacesOf, AreThere, InstalledAt}
 use Rattle.chains.specs.Worlds.{world_of}
 use Rattle.chains.specs.declared.frames.FrameNode.{FrameNode}
+use Rattle.chains.proofs.ConditionalFacts.{may_be_needed}
 use Rattle.chains.proofs.MadeCutFacts.{candidate_catalogued, listed_record}
 use Rattle.chains.proofs.PlaceFacts.{at_inside, inside_at, one_place, order_down, order_up}
 use Rattle.chains.proofs.SearchFacts.{any_at, any_from, first_true}
@@ -43,7 +45,7 @@ superseder_listed content id next step = listed_record content.sysmods id (known
 
 module _ (content : Content) (rows : List ZoneRow) (start : List ℕ) (frame : FrameLists) (nodes : Nodes) (ascend : Ascend (ids_in frame.nodes)) (is : IsFrame content start frame)
     (candidates : nodes.candidates.items ≡ map (λ node. list_any (λ fmid. is_installed rows fmid) node.fmids) frame.nodes)
-    (placed : ArePlaced (ids_in frame.nodes) (map (λ node. node.needs) frame.nodes) nodes.needs)
+    (placed : ArePlaced (ids_in frame.nodes) (map (node_needs rows) frame.nodes) nodes.needs)
     (supersedes : nodes.supersedes ≡ frame.supersedes)
     (there : AreThere rows (ids_in frame.nodes) nodes.supersedes nodes.there.items) where
   abbrev members : List (List ℕ)
@@ -82,21 +84,40 @@ module _ (content : Content) (rows : List ZoneRow) (start : List ℕ) (frame : F
 
   -- ---- needs
 
-  needs_are : (p : ℕ) → p < length members → ArePlacesOf members (in_order (may_need content (id_at members p))) (row nodes.needs p)
+  needs_are : (p : ℕ) → p < length members → ArePlacesOf members (node_needs rows (node_of content (id_at members p))) (row nodes.needs p)
   needs_are p below =
       let P : List (List ℕ) → Type 0 = λ l. ArePlacesOf members l (row nodes.needs p) in
-      subst P (said (λ node. node.needs) p [] below) (placed.each p below)
+      subst P (said (node_needs rows) p [] below) (placed.each p below)
 
-  need_up : (p q : ℕ) → p < length members → Contains (row nodes.needs p) q → Contains (may_need content (id_at members p)) (id_at members q)
-  need_up p q below needs = (in_order_has (may_need content (id_at members p)) (id_at members q)).0 ((needs_are p below).listed q needs)
+  -- a node has what its id needs in the zone
+  node_has : (id need : List ℕ) → Contains (node_needs rows (node_of content id)) need ↔ Contains (needs_in content rows id) need
+  node_has id need = (
+    λ inside. elim (Contains-append_cases (in_order always) under need inside) [
+      | inl own ↦ Contains-append_left always under need ((in_order_has always need).0 own)
+      | inr named ↦ Contains-append_right always under need named
+    ],
+    λ inside. elim (Contains-append_cases always under need inside) [
+      | inl own ↦ Contains-append_left (in_order always) under need ((in_order_has always need).1 own)
+      | inr named ↦ Contains-append_right (in_order always) under need named
+    ],
+  ) where
+    always : List (List ℕ)
+    always = always_needs content id
 
-  need_down : (p : ℕ) (need : List ℕ) → p < length members → Contains (may_need content (id_at members p)) need → NeedPlace members (world nodes) p need
+    under : List (List ℕ)
+    under = needs_where rows (conds_of (record_of content id))
+
+  need_up : (p q : ℕ) → p < length members → Contains (row nodes.needs p) q → Contains (needs_in content rows (id_at members p)) (id_at members q)
+  need_up p q below needs = (node_has (id_at members p) (id_at members q)).0 ((needs_are p below).listed q needs)
+
+  need_down : (p : ℕ) (need : List ℕ) → p < length members → Contains (needs_in content rows (id_at members p)) need → NeedPlace members (world nodes) p need
   need_down p need below needs =
-      let at = inside_at members need (need_reached p need below needs) in
-      let P : List ℕ → Type 0 = λ x. Contains (in_order (may_need content (id_at members p))) x in
+      let named = may_be_needed rows (always_needs content (id_at members p)) (conds_of (record_of content (id_at members p))) need needs in
+      let at = inside_at members need (need_reached p need below named) in
+      let P : List ℕ → Type 0 = λ x. Contains (node_needs rows (node_of content (id_at members p))) x in
       record {
         at = at;
-        needs = (needs_are p below).whole at.place at.within (subst P (sym at.is) ((in_order_has (may_need content (id_at members p)) need).1 needs));
+        needs = (needs_are p below).whole at.place at.within (subst P (sym at.is) ((node_has (id_at members p) need).1 needs));
       }
 
   -- ---- superseding

@@ -20,7 +20,7 @@ use Rattle.requisites.specs.Nodes.{Links, mark_of, row}
 use Rattle.requisites.specs.Sources.{AreLeastSources, HasSource, source_of}
 use Rattle.requisites.proofs.SourceFacts.{marked_inside}
 use Rattle.chains.specs.Places.{AreSeen, ArePlacesOf, AreThere, InstalledAt, IsAt, IsThereAt, MarksAre, RowsAre, SeenAs}
-use Rattle.chains.specs.Sights.{IsSeen, Sight}
+use Rattle.chains.specs.Sights.{IsSeen, Sight, all_needs, needs_seen}
 use Rattle.chains.proofs.OrderFacts.{not_above_itself, not_below_itself}
 use Rattle.chains.proofs.SearchFacts.{any_at, inside_cases, none_inside}
 
@@ -136,22 +136,22 @@ places_on members ids i id places below at are =
 -- ---- the ids and all that they need
 
 pub needs_on : (sights : List Sight) (i : ℕ) (sight : Sight) (start old new : List (List ℕ)) → i < length sights → sight ≡ get_or sights i sight
-    → old ≡ start ++ flat_map (λ s. s.needs) (take i sights) → new ≡ old ++ sight.needs
-    → new ≡ start ++ flat_map (λ s. s.needs) (take (i + 1) sights)
+    → old ≡ start ++ flat_map all_needs (take i sights) → new ≡ old ++ all_needs sight
+    → new ≡ start ++ flat_map all_needs (take (i + 1) sights)
 needs_on sights i sight start old new below at was now =
     now
-    ∙ ap (λ l. l ++ sight.needs) was
-    ∙ append_assoc start (flat_map (λ s. s.needs) (take i sights)) sight.needs
-    ∙ ap (λ l. start ++ (flat_map (λ s. s.needs) (take i sights) ++ l)) (sym (append-nil sight.needs))
-    ∙ ap (λ l. start ++ l) (sym (flat_map-append (λ (s : Sight). s.needs) (take i sights) (sight ∷ [])))
-    ∙ ap (λ ss. start ++ flat_map (λ s. s.needs) ss) (sym (take_more sights i sight below ∙ ap (λ s. take i sights ++ s ∷ []) (sym at)))
+    ∙ ap (λ l. l ++ all_needs sight) was
+    ∙ append_assoc start (flat_map all_needs (take i sights)) (all_needs sight)
+    ∙ ap (λ l. start ++ (flat_map all_needs (take i sights) ++ l)) (sym (append-nil (all_needs sight)))
+    ∙ ap (λ l. start ++ l) (sym (flat_map-append all_needs (take i sights) (sight ∷ [])))
+    ∙ ap (λ ss. start ++ flat_map all_needs ss) (sym (take_more sights i sight below ∙ ap (λ s. take i sights ++ s ∷ []) (sym at)))
 
 -- what one of the ids needs is among what all need
-pub need_inside : (f : List ℕ → Sight) (ids : List (List ℕ)) (id need : List ℕ) → Contains ids id → Contains (f id).needs need → Contains (flat_map (λ s. s.needs) (map f ids)) need
+pub need_inside : (f : List ℕ → Sight) (ids : List (List ℕ)) (id need : List ℕ) → Contains ids id → Contains (all_needs (f id)) need → Contains (flat_map all_needs (map f ids)) need
 need_inside f [] id need inside needs = absurd (none_inside id inside)
 need_inside f (x ∷ xs) id need inside needs = elim (inside_cases x id xs inside) [
-  | inl same ↦ (let P : List ℕ → Type 0 = λ y. Contains (f y).needs need in Contains-append_left (f x).needs (flat_map (λ s. s.needs) (map f xs)) need (subst P (sym same) needs))
-  | inr later ↦ Contains-append_right (f x).needs (flat_map (λ s. s.needs) (map f xs)) need (need_inside f xs id need later needs)
+  | inl same ↦ (let P : List ℕ → Type 0 = λ y. Contains (all_needs (f y)) need in Contains-append_left (all_needs (f x)) (flat_map all_needs (map f xs)) need (subst P (sym same) needs))
+  | inr later ↦ Contains-append_right (all_needs (f x)) (flat_map all_needs (map f xs)) need (need_inside f xs id need later needs)
 ]
 
 -- ---- what is seen of an id
@@ -220,15 +220,15 @@ seen_here f ids members i member sight Q below at seen so = record {
 
 pub seen_more : (rows : List ZoneRow) (f : List ℕ → Sight) (ids members : List (List ℕ)) (i : ℕ) (member : List ℕ) (sight : Sight) (old_marks new_marks : List Bool) (old_needs new_needs old_supersedes new_supersedes : List (List ℕ)) (mark : Bool) (needs supersedes : List ℕ)
     → i < length members → member ≡ get_or members i member → IsSeen f ids member sight
-    → mark ≡ list_any (λ fmid. is_installed rows fmid) sight.fmids → ArePlacesOf members sight.needs needs → ArePlacesOf members sight.superseded supersedes
+    → mark ≡ list_any (λ fmid. is_installed rows fmid) sight.fmids → ArePlacesOf members (needs_seen rows sight) needs → ArePlacesOf members sight.superseded supersedes
     → AreSeen rows f ids members i old_marks old_needs old_supersedes
     → new_marks ≡ old_marks ++ mark ∷ [] → new_needs ≡ old_needs ++ needs ∷ [] → new_supersedes ≡ old_supersedes ++ supersedes ∷ []
     → AreSeen rows f ids members (i + 1) new_marks new_needs new_supersedes
 seen_more rows f ids members i member sight old_marks new_marks old_needs new_needs old_supersedes new_supersedes mark needs supersedes below at seen mark_is needs_are supersedes_are are marks_now needs_now supersedes_now = record {
   candidates_are = marks_more (λ p m. SeenAs f ids (id_at members p) (λ s. m ≡ list_any (λ fmid. is_installed rows fmid) s.fmids)) i old_marks new_marks mark are.candidates_are
       (seen_here f ids members i member sight (λ s. mark ≡ list_any (λ fmid. is_installed rows fmid) s.fmids) below at seen mark_is) marks_now;
-  needs_are = rows_more (λ p places. SeenAs f ids (id_at members p) (λ s. ArePlacesOf members s.needs places)) i old_needs new_needs needs are.needs_are
-      (seen_here f ids members i member sight (λ s. ArePlacesOf members s.needs needs) below at seen needs_are) needs_now;
+  needs_are = rows_more (λ p places. SeenAs f ids (id_at members p) (λ s. ArePlacesOf members (needs_seen rows s) places)) i old_needs new_needs needs are.needs_are
+      (seen_here f ids members i member sight (λ s. ArePlacesOf members (needs_seen rows s) needs) below at seen needs_are) needs_now;
   supersedes_are = rows_more (λ p places. SeenAs f ids (id_at members p) (λ s. ArePlacesOf members s.superseded places)) i old_supersedes new_supersedes supersedes are.supersedes_are
       (seen_here f ids members i member sight (λ s. ArePlacesOf members s.superseded supersedes) below at seen supersedes_are) supersedes_now;
 }

@@ -1,33 +1,36 @@
 -- What is found over the nodes of a frame is so over the whole content.
-use Rattle.std.proofs.Common.{◌≡◌, ◌∙◌, ◌<◌, ℕ, ◌+◌, Bool, true, false, cond, List, [], ◌∷◌, ◌++◌, length, map, take, get_or, Option, refl, sym, ap}
+use Rattle.std.proofs.Common.{◌≡◌, ◌∙◌, ◌<◌, ◌==◌, ◌||◌, ℕ, ◌+◌, Bool, true, false, cond, not, List, [], ◌∷◌, ◌++◌, length, map, take, get_or, Option, refl, sym, ap, subst, arith}
 use Rattle.std.specs.Cmp.{both_ways}
 use Rattle.std.specs.List.{filter, list_any}
-use Rattle.std.proofs.lemmas.List.{length-map, take_more}
+use Rattle.std.proofs.lemmas.Bool.Decides.{Decides-eqb}
+use Rattle.std.proofs.lemmas.List.{append-nil, length-map, nil_from_length, take_more}
 use Rattle.zone_lists.specs.Installed.{is_installed}
 use Rattle.zone_lists.specs.declared.zones.ZoneRow.{ZoneRow}
 use Rattle.catalogue.specs.Content.{Content}
 use Rattle.catalogue.specs.Ids.{Ascend}
+use Rattle.catalogue.specs.declared.conditional.CondNeed.{CondNeed}
+use Rattle.supersede.specs.Giving.{needs_where}
 use Rattle.requisites.specs.Good.{AreGood}
-use Rattle.requisites.specs.Nodes.{mark_of, world}
+use Rattle.requisites.specs.Nodes.{mark_of, row, world}
 use Rattle.requisites.specs.Verdict as place
 use Rattle.requisites.specs.declared.nodes.Nodes.{Nodes}
 use Rattle.requisites.specs.declared.verdict.Verdict as declared
 use Rattle.chains.specs.Cuts.{id_at}
-use Rattle.chains.specs.FramePlaces.{ArePlaced}
+use Rattle.chains.specs.FramePlaces.{ArePlaced, has_conds, list_at, node_needs}
 use Rattle.chains.specs.Frames.{FrameLists, IsFrame, ids_in}
-use Rattle.chains.specs.Places.{AreNodesWithin, AreThere, IsAt, verdict_at}
+use Rattle.chains.specs.Places.{AreNodesWithin, ArePlacesOf, AreThere, IsAt, RowsAre, verdict_at}
 use Rattle.chains.specs.Verdicts.{Judged, is_good, verdict_of}
 use Rattle.chains.specs.Worlds.{world_of}
 use Rattle.chains.specs.declared.frames.FrameNode.{FrameNode}
 use Rattle.chains.proofs.CutFacts.{good_down, good_up}
 use Rattle.chains.proofs.GoodFacts.{good_both_ways}
-use Rattle.chains.proofs.PartFacts.{frame_cut}
-use Rattle.chains.proofs.PlaceFacts.{get_any}
+use Rattle.chains.proofs.PartFacts.{at_map, frame_cut}
+use Rattle.chains.proofs.PlaceFacts.{get_any, rows_more}
 use Rattle.chains.proofs.PlaceVerdictFacts.{verdict_here, verdict_within}
 
 -- the nodes of a frame name no places but theirs
 pub part_within : (rows : List ZoneRow) (list : List FrameNode) (nodes : Nodes) → nodes.candidates.items ≡ map (λ node. list_any (λ fmid. is_installed rows fmid) node.fmids) list
-    → ArePlaced (ids_in list) (map (λ node. node.needs) list) nodes.needs → AreNodesWithin (ids_in list) nodes
+    → ArePlaced (ids_in list) (map (node_needs rows) list) nodes.needs → AreNodesWithin (ids_in list) nodes
 part_within rows list nodes candidates placed = record {
   len = ap length candidates ∙ length-map list (λ node. list_any (λ fmid. is_installed rows fmid) node.fmids) ∙ sym (length-map list (λ node. node.id));
   needs = record { len = placed.len; each = λ p below. (placed.each p below).within };
@@ -35,7 +38,7 @@ part_within rows list nodes candidates placed = record {
 
 module _ (rows : List ZoneRow) (frame : FrameLists) (nodes : Nodes) (ascend : Ascend (ids_in frame.nodes))
     (candidates : nodes.candidates.items ≡ map (λ node. list_any (λ fmid. is_installed rows fmid) node.fmids) frame.nodes)
-    (placed : ArePlaced (ids_in frame.nodes) (map (λ node. node.needs) frame.nodes) nodes.needs)
+    (placed : ArePlaced (ids_in frame.nodes) (map (node_needs rows) frame.nodes) nodes.needs)
     (supersedes : nodes.supersedes ≡ frame.supersedes)
     (there : AreThere rows (ids_in frame.nodes) nodes.supersedes nodes.there.items) where
   -- the verdict on a node
@@ -54,6 +57,53 @@ module _ (rows : List ZoneRow) (frame : FrameLists) (nodes : Nodes) (ascend : As
       both_ways _ _
       (λ on. both.1 (good_up (world_of content rows) (ids_in frame.nodes) (world nodes) cut p (are.marked p (record { is = on }))))
       (λ on. (are.unmarked p (good_down (world_of content rows) (ids_in frame.nodes) (world nodes) cut p below (both.0 on))).is)
+
+-- ---- what nodes need in a zone
+
+-- where none has requisites under a condition, each needs what it needs in every zone
+pub unconditional : (rows : List ZoneRow) (list : List FrameNode) → list_any has_conds list ≡ false → map (λ node. node.needs) list ≡ map (node_needs rows) list
+unconditional rows [] none = refl
+unconditional rows (node ∷ nodes) none =
+    let both = neither (has_conds node) (list_any has_conds nodes) none in
+    ap (λ (l : List (List ℕ)). l ∷ map (λ (n : FrameNode). n.needs) nodes) (alone node.needs node.conds both.0)
+    ∙ ap (λ (l : List (List (List ℕ))). node_needs rows node ∷ l) (unconditional rows nodes both.1)
+  where
+    neither : (a b : Bool) → (a || b) ≡ false → (a ≡ false) × (b ≡ false)
+    neither true b h = absurd (cc)
+    neither false b h = (refl, h)
+
+    on : (b : Bool) → not b ≡ false → b ≡ true
+    on true h = refl
+    on false h = cc
+
+    alone : (needs : List (List ℕ)) (conds : List CondNeed) → not (length conds == 0) ≡ false → needs ≡ needs ++ needs_where rows conds
+    alone needs conds h =
+        let none : conds ≡ [] = nil_from_length conds ((Decides-eqb (length conds) 0).0 (on (length conds == 0) h)) in
+        let P : List CondNeed → Type 0 = λ cs. needs ≡ needs ++ needs_where rows cs in
+        subst P (sym none) (sym (append-nil needs))
+
+pub unconditional_placed : (rows : List ZoneRow) (list : List FrameNode) (needs : List (List ℕ)) → list_any has_conds list ≡ false → ArePlaced (ids_in list) (map (λ node. node.needs) list) needs
+    → ArePlaced (ids_in list) (map (node_needs rows) list) needs
+unconditional_placed rows list needs none placed = let P : List (List (List ℕ)) → Type 0 = λ l. ArePlaced (ids_in list) l needs in subst P (unconditional rows list none) placed
+
+-- the needs of one node more
+pub needs_more : (rows : List ZoneRow) (list : List FrameNode) (ids : List (List ℕ)) (i : ℕ) (node : FrameNode) (always places : List ℕ) (given old new : List (List ℕ)) → i < length list → node ≡ get_or list i node
+    → ids ≡ ids_in list → ArePlaced (ids_in list) (map (λ n. n.needs) list) given → always ≡ row given i
+    → (ArePlacesOf ids node.needs always → ArePlacesOf ids (node_needs rows node) places)
+    → RowsAre (λ p ps. ArePlacesOf (ids_in list) (list_at (map (node_needs rows) list) p) ps) i old → new ≡ old ++ places ∷ []
+    → RowsAre (λ p ps. ArePlacesOf (ids_in list) (list_at (map (node_needs rows) list) p) ps) (i + 1) new
+needs_more rows list ids i node always places given old new below at ids_are placed always_is put are now =
+    let as_many : length (ids_in list) ≡ length list = length-map list (λ n. n.id) in
+    let needs : list_at (map (λ n. n.needs) list) i ≡ node.needs = at_map (λ n. n.needs) list i node [] below ∙ ap (λ (n : FrameNode). n.needs) (sym at) in
+    let all : node_needs rows node ≡ list_at (map (node_needs rows) list) i = ap (node_needs rows) at ∙ sym (at_map (node_needs rows) list i node [] below) in
+    let A : List ℕ → Type 0 = λ l. ArePlacesOf ids node.needs l in
+    let I : List (List ℕ) → Type 0 = λ l. ArePlacesOf l node.needs (row given i) in
+    let N : List (List ℕ) → Type 0 = λ l. ArePlacesOf (ids_in list) l (row given i) in
+    let J : List (List ℕ) → Type 0 = λ l. ArePlacesOf l (node_needs rows node) places in
+    let M : List (List ℕ) → Type 0 = λ l. ArePlacesOf (ids_in list) l places in
+    rows_more (λ p ps. ArePlacesOf (ids_in list) (list_at (map (node_needs rows) list) p) ps) i old new places are
+    (subst M all (subst J ids_are (put (subst A (sym always_is) (subst I (sym ids_are) (subst N needs (placed.each i (omega (arith, below, as_many)))))))))
+    now
 
 -- ---- what is marked
 

@@ -1,7 +1,10 @@
 -- No part of what is promised: private contracts cite it. What a frame keeps by the places of its nodes.
-use Rattle.std.specs.Prelude.{◌≡◌, ◌<◌, ◌↔◌, ℕ, Bool, true, false, List, [], Contains, length, map, slice_index_or, take}
+use Rattle.std.specs.Prelude.{◌≡◌, ◌<◌, ◌↔◌, ◌++◌, ◌==◌, ℕ, Bool, true, false, List, [], Contains, length, map, not, slice_index_or, take}
+use Rattle.std.specs.List.{list_any}
+use Rattle.zone_lists.specs.declared.zones.ZoneRow.{ZoneRow}
 use Rattle.catalogue.specs.Content.{Content, IsInOrder}
 use Rattle.catalogue.specs.Ids.{Ascend}
+use Rattle.supersede.specs.Giving.{needs_where}
 use Rattle.requisites.specs.Leads.{Leads}
 use Rattle.requisites.specs.Nodes.{row}
 use Rattle.chains.specs.Cuts.{id_at}
@@ -19,12 +22,22 @@ list_at lists p = slice_index_or lists p []
 abbrev pub ArePlaced : List (List ℕ) → List (List (List ℕ)) → List (List ℕ) → Type 0
 ArePlaced ids lists rows = RowsAre (λ p places. ArePlacesOf ids (list_at lists p) places) (length ids) rows
 
--- what a frame keeps: its nodes ascend and name no others; their ids; and by places what each may need
-pub record IsFramed (nodes : List FrameNode) (ids : List (List ℕ)) (needs : List (List ℕ)) : Type 0 where
+-- whether a node has requisites under a condition
+abbrev pub has_conds : FrameNode → Bool
+has_conds node = not (length node.conds == 0)
+
+-- what a node needs in a zone
+abbrev pub node_needs : List ZoneRow → FrameNode → List (List ℕ)
+node_needs rows node = node.needs ++ needs_where rows node.conds
+
+-- what a frame keeps: its nodes ascend and name no others; their ids; by places what each needs in every zone; and whether one
+-- of them has requisites under a condition
+pub record IsFramed (nodes : List FrameNode) (ids : List (List ℕ)) (needs : List (List ℕ)) (conditional : Bool) : Type 0 where
   pub are : ids ≡ ids_in nodes
   pub ascend : Ascend ids
   pub closed : IsClosed nodes
   pub placed : ArePlaced ids (map (λ node. node.needs) nodes) needs
+  pub known : conditional ≡ list_any has_conds nodes
 
 -- q is listed for p as one that supersedes it directly
 abbrev pub IsAbove : List (List ℕ) → ℕ → ℕ → Type 0
@@ -51,6 +64,7 @@ pub record IsNodeAt (ids : List (List ℕ)) (all : List Gathered) (above : List 
   pub catalogued : node.catalogued ≡ gathered.catalogued
   pub fmids : node.fmids ≡ gathered.fmids
   pub needs : node.needs ≡ gathered.needs
+  pub conds : node.conds ≡ gathered.conds
   pub ascend : Ascend node.givers
   pub givers : (giver : List ℕ) → Contains node.givers giver ↔ IsGiverAt ids all above place giver
 
@@ -58,5 +72,6 @@ pub record IsNodeAt (ids : List (List ℕ)) (all : List Gathered) (above : List 
 pub record AreNodesOf (ids : List (List ℕ)) (all : List Gathered) (place : ℕ) (nodes : List FrameNode) : Type 0 where
   pub are : map (λ node. node.id) nodes ≡ take place ids
   pub needs : map (λ node. node.needs) nodes ≡ map (λ g. g.needs) (take place all)
+  pub conds : map (λ node. node.conds) nodes ≡ map (λ g. g.conds) (take place all)
   pub givers : (node : FrameNode) (id : List ℕ) → Contains nodes node → Contains node.givers id → Contains ids id
   pub say : (content : Content) (start : List ℕ) → IsInOrder content → IsGathered content start ids all → nodes ≡ map (node_of content) (take place ids)

@@ -4,7 +4,7 @@ use Rattle.std.specs.List.{list_any}
 use Rattle.catalogue.specs.Content.{Content, IsInOrder, Supersedes, record_of}
 use Rattle.catalogue.specs.Ids.{in_order, same_id}
 use Rattle.catalogue.specs.Touched.{AgreeOutside}
-use Rattle.supersede.specs.Giving.{fmids_of, givers_of, may_need}
+use Rattle.supersede.specs.Giving.{always_needs, conds_of, each_need, fmids_of, givers_of, may_need}
 use Rattle.supersede.specs.Leading.{Gives}
 use Rattle.requisites.specs.Leads.{Leads}
 use Rattle.requisites.specs.Nodes.{row}
@@ -21,7 +21,8 @@ node_of content id = record {
   id = id;
   catalogued = is_some (record_of content id);
   fmids = fmids_of (record_of content id);
-  needs = in_order (may_need content id);
+  needs = in_order (always_needs content id);
+  conds = conds_of (record_of content id);
   givers = givers_of content id;
 }
 
@@ -40,9 +41,10 @@ pub record IsFrame (content : Content) (start : List ℕ) (frame : FrameLists) :
   pub supersedes : (p q : ℕ) → p < length (ids_in frame.nodes) → q < length (ids_in frame.nodes)
       → Contains (row frame.supersedes p) q ↔ Supersedes content (id_at (ids_in frame.nodes) p) (id_at (ids_in frame.nodes) q)
 
--- each need and each giver of a node is a node
+-- each need of a node, the need of each of its requisites under a condition, and each giver of it is a node
 pub record IsClosed (nodes : List FrameNode) : Type 0 where
   pub needs : (node : FrameNode) (id : List ℕ) → Contains nodes node → Contains node.needs id → Contains (ids_in nodes) id
+  pub conds : (node : FrameNode) (id : List ℕ) → Contains nodes node → Contains (each_need node.conds) id → Contains (ids_in nodes) id
   pub givers : (node : FrameNode) (id : List ℕ) → Contains nodes node → Contains node.givers id → Contains (ids_in nodes) id
 
 -- whether a frame has one of some ids

@@ -5,7 +5,7 @@ use Rattle.holddata.specs.declared.hold.Hold.{Hold}
 use Rattle.catalogue.specs.Content.{Content, holds_on, record_of, superseders}
 use Rattle.catalogue.specs.Ids.{in_order}
 use Rattle.catalogue.specs.declared.sysmod.Sysmod.{Sysmod}
-use Rattle.supersede.specs.Giving.{fmids_of, requisites_of, sup_of}
+use Rattle.supersede.specs.Giving.{conds_of, each_need, fmids_of, requisites_of, sup_of}
 use Rattle.requisites.specs.Leads.{Leads}
 use Rattle.chains.specs.Sights.{reasons_in}
 use Rattle.chains.specs.declared.gathered.Gathered.{Gathered}
@@ -16,6 +16,7 @@ gathered_from found holds above = record {
   catalogued = is_some found;
   fmids = fmids_of found;
   needs = in_order (requisites_of found ++ reasons_in holds);
+  conds = conds_of found;
   superseded = sup_of found;
   above = above;
 }
@@ -24,9 +25,9 @@ gathered_from found holds above = record {
 abbrev pub gathered_of : Content → List ℕ → Gathered
 gathered_of content id = gathered_from (record_of content id) (holds_on content id) (superseders content id)
 
--- the ids to which one step leads: what is needed, and what supersedes directly
+-- the ids to which one step leads: what is needed, what is needed where a function is, and what supersedes directly
 abbrev pub named_by : Gathered → List (List ℕ)
-named_by gathered = gathered.needs ++ gathered.above
+named_by gathered = gathered.needs ++ each_need gathered.conds ++ gathered.above
 
 abbrev pub Names : Content → List ℕ → List ℕ → Type 0
 Names content from to = Contains (named_by (gathered_of content from)) to

@@ -10,7 +10,7 @@ use Rattle.requisites.specs.declared.nodes.Nodes.{Nodes}
 use Rattle.requisites.specs.declared.verdict.Verdict.{Verdict}
 use Rattle.requisites.specs.declared.verdict.Verdict.TheVariants.{Good, Held, Lack}
 use Rattle.chains.specs.Cuts.{id_at}
-use Rattle.chains.specs.Sights.{IsSeen, Sight}
+use Rattle.chains.specs.Sights.{IsSeen, Sight, needs_seen}
 use Rattle.chains.specs.Verdicts.{Judged, good, held, lack}
 
 -- an id stands at a place
@@ -40,10 +40,11 @@ pub record MarksAre (P : ℕ → Bool → Type 0) (n : ℕ) (marks : List Bool) 
   pub len : length marks ≡ n
   pub each : (p : ℕ) → p < n → P p (mark_of marks p)
 
--- the marks and the rows of the first n members, by what is seen of each: it may be installed in a zone that has a function of it
+-- the marks and the rows of the first n members, by what is seen of each: it may be installed in a zone that has a function of it,
+-- and needs what it needs in that zone
 pub record AreSeen (rows : List ZoneRow) (f : List ℕ → Sight) (ids members : List (List ℕ)) (n : ℕ) (candidates : List Bool) (needs supersedes : List (List ℕ)) : Type 0 where
   pub candidates_are : MarksAre (λ p mark. SeenAs f ids (id_at members p) (λ sight. mark ≡ list_any (λ fmid. is_installed rows fmid) sight.fmids)) n candidates
-  pub needs_are : RowsAre (λ p places. SeenAs f ids (id_at members p) (λ sight. ArePlacesOf members sight.needs places)) n needs
+  pub needs_are : RowsAre (λ p places. SeenAs f ids (id_at members p) (λ sight. ArePlacesOf members (needs_seen rows sight) places)) n needs
   pub supersedes_are : RowsAre (λ p places. SeenAs f ids (id_at members p) (λ sight. ArePlacesOf members sight.superseded places)) n supersedes
 
 -- a member is there: it is listed, or something gives it

@@ -1,22 +1,25 @@
--- What is read of a SYSMOD, whatever the zone: the functions that it is for, what it needs and what it supersedes; and of all that is
--- catalogued.
+-- What is read of a SYSMOD, whatever the zone: the functions that it is for, what it needs in every zone, its requisites under a
+-- condition, and what it supersedes; and of all that is catalogued.
 use Rattle.std.specs.Prelude.{◌≡◌, ◌++◌, ◌==◌, ℕ, List, [], Option, filter, map}
 use Rattle.std.specs.List.{Contains}
 use Rattle.holddata.specs.HoldKey.{kind_place}
 use Rattle.holddata.specs.declared.hold.Hold.{Hold}
 use Rattle.holddata.specs.declared.key.Kind.TheVariants.{ErrorHold}
+use Rattle.zone_lists.specs.declared.zones.ZoneRow.{ZoneRow}
 use Rattle.catalogue.specs.Content.{Content, holds_on, ids_of, record_of}
+use Rattle.catalogue.specs.declared.conditional.CondNeed.{CondNeed}
 use Rattle.catalogue.specs.declared.sysmod.Sysmod.{Sysmod}
-use Rattle.supersede.specs.Giving.{fmids_of, requisites_of, sup_of}
+use Rattle.supersede.specs.Giving.{conds_of, each_need, fmids_of, needs_where, requisites_of, sup_of}
 
 pub record Sight : Type 0 where
   pub fmids : List (List ℕ)
   pub needs : List (List ℕ)
+  pub conds : List CondNeed
   pub superseded : List (List ℕ)
 
 -- of what isn't catalogued nothing is looked at
 abbrev pub unseen : Sight
-unseen = record { fmids = []; needs = []; superseded = [] }
+unseen = record { fmids = []; needs = []; conds = []; superseded = [] }
 
 -- the reasons of the ERROR holds among some
 abbrev pub reasons_in : List Hold → List (List ℕ)
@@ -24,11 +27,24 @@ reasons_in holds = map (λ hold. hold.key.reason) (filter (λ hold. kind_place h
 
 -- by a record and the holds
 abbrev pub sight_from : Option Sysmod → List Hold → Sight
-sight_from found holds = record { fmids = fmids_of found; needs = requisites_of found ++ reasons_in holds; superseded = sup_of found }
+sight_from found holds = record {
+  fmids = fmids_of found;
+  needs = requisites_of found ++ reasons_in holds;
+  conds = conds_of found;
+  superseded = sup_of found;
+}
 
 -- what a content says of an id
 abbrev pub sight_of : Content → List ℕ → Sight
 sight_of content id = sight_from (record_of content id) (holds_on content id)
+
+-- all that is named as a need, whatever the zone
+abbrev pub all_needs : Sight → List (List ℕ)
+all_needs sight = sight.needs ++ each_need sight.conds
+
+-- what is needed in a zone
+abbrev pub needs_seen : List ZoneRow → Sight → List (List ℕ)
+needs_seen rows sight = sight.needs ++ needs_where rows sight.conds
 
 -- some ids, with what is read of each
 pub record ListingLists : Type 0 where

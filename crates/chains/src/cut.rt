@@ -12,6 +12,7 @@ ghost use Rattle.chains.specs.Sights as Sights;
 ghost use Rattle.chains.specs.Sights.{IsSeen, Sight, sight_of};
 ghost use Rattle.chains.specs.Worlds.{world_of};
 
+use crate::conditional::push_places_where;
 use crate::listing::Entry;
 use crate::places::{members_of, place_near, put_places};
 use mcs_reader::{Id, NoMemory};
@@ -27,7 +28,8 @@ pub(crate) struct Cut {
 }
 
 impl Cut {
-    /// All that is catalogued, and all that it needs. `entries` are those of the ids, in their order.
+    /// All that is catalogued, and all that it needs, whatever the zone. `entries` are those of the ids, in their
+    /// order.
     pub(crate) fn of(
         alloc: Global,
         zone: &Zone,
@@ -76,6 +78,7 @@ fn nodes_of(
         }
         candidates.push(entry.is_candidate(zone))?;
         put_places(&mut places, members, place + 1, entry.needs())?;
+        push_places_where(&mut places, members, zone, entry.conds())?;
         needs.push_row(&places)?;
         put_places(&mut places, members, place + 1, entry.superseded())?;
         supersedes.push_row(&places)?;

@@ -1,16 +1,17 @@
 //! Frames.
 ghost use Rattle.std.specs.Prelude.{◌≡◌, ◌++◌, ℕ, List, IfOk, map};
 ghost use Rattle.std.specs.BTreeMap.{keys, values};
+ghost use Rattle.std.specs.List.{list_any};
 ghost use Rattle.catalogue.specs.Content.{Content, IsInOrder};
 ghost use Rattle.catalogue.specs.Ids.{Ascend};
-ghost use Rattle.chains.specs.FramePlaces.{ArePlaced};
+ghost use Rattle.chains.specs.FramePlaces.{ArePlaced, has_conds};
 ghost use Rattle.chains.specs.Frames.{IsClosed, IsFrame, ids_in};
 ghost use Rattle.chains.specs.Gathered.{AreNamed, IsGathered};
 
 use crate::gathered::Gathered;
 use crate::links::Links;
 use crate::nodes::nodes_of;
-use catalogue::Ids;
+use catalogue::{CondNeeds, Ids};
 use mcs_reader::{Id, NoMemory};
 use requisites::Rows;
 use std::alloc::Global;
@@ -26,8 +27,10 @@ pub struct FrameNode {
     pub catalogued: bool,
     /// The functions that it applies to. A SYSMOD that isn't catalogued has none.
     pub fmids: Ids,
-    /// What it may need: its PRE, its REQ and the reasons of the ERROR holds on it.
+    /// What it needs in every zone: its PRE, its REQ and the reasons of the ERROR holds on it.
     pub needs: Ids,
+    /// What it needs where a function is installed: its requisites under a condition.
+    pub conds: CondNeeds,
     /// The catalogued SYSMODs that give it: itself, and those that supersede it, themselves or through others.
     pub givers: Ids,
 }
@@ -35,15 +38,18 @@ pub struct FrameNode {
 /// All that one SYSMOD reaches in a catalogue, by what each may need and by what gives it, itself among them. It
 /// speaks of no zone.
 ///
-/// The nodes ascend by id, and each need and each giver of a node is a node.
+/// The nodes ascend by id. Each need and each giver of a node is a node, and so is what it needs only where a
+/// function is installed.
 #[derive(Debug, Drop)]
 pub struct Frame {
     nodes: Vec<FrameNode>,
-    // The ids of the nodes, and by their places what each may need and what it supersedes directly. A plan
+    // The ids of the nodes, and by their places what each always needs and what it supersedes directly. A plan
     // doesn't ask for the givers, which are many where superseding is long.
     ids: Vec<Id>,
     needs: Rows,
     supersedes: Rows,
+    // Whether a node has requisites under a condition.
+    conditional: bool,
 }
 
 impl Model for Frame {
@@ -54,7 +60,8 @@ impl Model for Frame {
 
     ghost view = { λ frame. record { nodes = frame.nodes.items; supersedes = frame.supersedes } };
 
-    ghost invariant = { λ frame. IsFramed frame.nodes.items frame.ids.items frame.needs };
+    ghost invariant = { λ frame.
+        IsFramed frame.nodes.items frame.ids.items frame.needs frame.conditional };
 }
 
 impl Frame {
@@ -73,11 +80,13 @@ impl Frame {
             above,
         } = Links::of(alloc, &ids, &all)?;
         let nodes = nodes_of(alloc, &ids, &all, &above)?;
+        let conditional = is_any_conditional(&nodes);
         Ok(Frame {
             nodes,
             ids,
             needs,
             supersedes,
+            conditional,
         })
     }
 
@@ -98,7 +107,7 @@ impl Frame {
         self.ids.as_slice()
     }
 
-    /// By places, what each may need.
+    /// By places, what each needs in every zone.
     pub(crate) fn needs(&self) -> &Rows
         ensures { ArePlaced (ids_in self.now.nodes) (map (λ node. node.needs) self.now.nodes) result.now }
     {
@@ -111,6 +120,20 @@ impl Frame {
     {
         &self.supersedes
     }
+
+    /// Whether a node has requisites under a condition.
+    pub(crate) fn is_conditional(&self) -> bool
+        ensures { result ≡ list_any has_conds self.now.nodes }
+    {
+        self.conditional
+    }
+}
+
+// Whether one of some nodes has requisites under a condition.
+fn is_any_conditional(nodes: &[FrameNode]) -> bool
+    ensures { result ≡ list_any has_conds nodes.now }
+{
+    nodes.iter().any(|node| !node.conds.as_slice().is_empty())
 }
 
 // The ids of which something was read, ascending.

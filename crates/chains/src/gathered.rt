@@ -8,9 +8,10 @@ ghost use Rattle.chains.specs.Gathered as spec;
 ghost use Rattle.chains.specs.Gathered.{AreNamed, IsGathered, named_by};
 ghost use Rattle.chains.specs.Sights.{reasons_in};
 
+use crate::conditional::push_each_need;
 use crate::listing::{joined, push_reasons};
 use crate::places::sort_each_once;
-use catalogue::{Ids, Published, SourceFault, Sysmod};
+use catalogue::{CondNeeds, Ids, Published, SourceFault, Sysmod};
 use holddata::Hold;
 use mcs_reader::{Id, NoMemory};
 use std::alloc::Global;
@@ -22,6 +23,7 @@ pub(crate) struct Gathered {
     pub(crate) catalogued: bool,
     pub(crate) fmids: Ids,
     pub(crate) needs: Ids,
+    pub(crate) conds: CondNeeds,
     pub(crate) superseded: Ids,
     // The SYSMODs that supersede it directly.
     pub(crate) above: Ids,
@@ -84,6 +86,7 @@ fn add(
     ensures order { OnOk result (order.new.items ≡ order.old.items ++ named_by gathered) }
 {
     order.extend_from_slice(gathered.needs.as_slice())?;
+    push_each_need(order, gathered.conds.as_slice())?;
     order.extend_from_slice(gathered.above.as_slice())?;
     found.insert(id, gathered)?;
     Ok(())
@@ -120,6 +123,7 @@ fn gathered_from(
             catalogued: false,
             fmids: Ids::new(alloc),
             needs: with_reasons(Vec::new(alloc), holds)?,
+            conds: CondNeeds::new(alloc),
             superseded: Ids::new(alloc),
             above,
         });
@@ -129,6 +133,7 @@ fn gathered_from(
         catalogued: true,
         fmids: sysmod.fmids,
         needs: with_reasons(needs, holds)?,
+        conds: sysmod.conds,
         superseded: sysmod.sup,
         above,
     })

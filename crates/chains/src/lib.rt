@@ -16,6 +16,7 @@
 
 mod candidates;
 mod climbing;
+mod conditional;
 mod cut;
 mod frames;
 mod framing;

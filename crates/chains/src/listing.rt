@@ -7,7 +7,7 @@ ghost use Rattle.catalogue.specs.View.{MayAsk, Tells};
 ghost use Rattle.catalogue.specs.declared.fault.SourceFault.TheVariants.{Device};
 ghost use Rattle.chains.specs.Sights.{IsListing, reasons_in, sight_from, sight_of, unseen};
 
-use catalogue::{Ids, Published, SourceFault, Sysmod};
+use catalogue::{CondNeed, CondNeeds, Ids, Published, SourceFault, Sysmod};
 use holddata::{Hold, Kind};
 use mcs_reader::{Id, NoMemory};
 use std::alloc::Global;
@@ -19,6 +19,7 @@ use supersede::Zone;
 pub(crate) struct Entry {
     fmids: Ids,
     needs: Vec<Id>,
+    conds: CondNeeds,
     superseded: Vec<Id>,
 }
 
@@ -27,7 +28,12 @@ impl Model for Entry {
 
     ghost Value = { Sight };
 
-    ghost view = { λ entry. record { fmids = entry.fmids; needs = entry.needs.items; superseded = entry.superseded.items } };
+    ghost view = { λ entry. record {
+      fmids = entry.fmids;
+      needs = entry.needs.items;
+      conds = entry.conds;
+      superseded = entry.superseded.items;
+    } };
 }
 
 impl Entry {
@@ -38,6 +44,7 @@ impl Entry {
         Entry {
             fmids: Ids::new(alloc),
             needs: Vec::new(alloc),
+            conds: CondNeeds::new(alloc),
             superseded: Vec::new(alloc),
         }
     }
@@ -49,10 +56,18 @@ impl Entry {
         is_any_installed(zone, &self.fmids)
     }
 
+    /// What it needs in every zone.
     pub(crate) fn needs(&self) -> &[Id]
         ensures { result.now ≡ self.now.needs }
     {
         self.needs.as_slice()
+    }
+
+    /// What it needs where a function is installed.
+    pub(crate) fn conds(&self) -> &[CondNeed]
+        ensures { result.now ≡ self.now.conds }
+    {
+        self.conds.as_slice()
     }
 
     pub(crate) fn superseded(&self) -> &[Id]
@@ -151,6 +166,7 @@ fn entry_from(alloc: Global, sysmod: Option<Sysmod>, holds: &[Hold]) -> Result<E
         return Ok(Entry {
             fmids: Ids::new(alloc),
             needs,
+            conds: CondNeeds::new(alloc),
             superseded: Vec::new(alloc),
         });
     };
@@ -159,6 +175,7 @@ fn entry_from(alloc: Global, sysmod: Option<Sysmod>, holds: &[Hold]) -> Result<E
     Ok(Entry {
         fmids: sysmod.fmids,
         needs,
+        conds: sysmod.conds,
         superseded: sysmod.sup.into_vec(),
     })
 }

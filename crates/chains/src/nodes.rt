@@ -49,6 +49,7 @@ fn node_at(
         catalogued: gathered.catalogued,
         fmids: gathered.fmids.copy()?,
         needs: gathered.needs.copy()?,
+        conds: gathered.conds.copy()?,
         givers,
     })
 }

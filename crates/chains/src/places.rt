@@ -5,19 +5,21 @@ ghost use Rattle.catalogue.specs.Ids.{Ascend, in_order};
 ghost use Rattle.chains.specs.Cuts as cuts;
 ghost use Rattle.chains.specs.Judge as judge;
 ghost use Rattle.chains.specs.Places.{ArePlacesOf, IsAt, IsWithin, verdict_at};
+ghost use Rattle.chains.specs.Sights.{all_needs};
 
 use crate::Verdict;
+use crate::conditional::push_each_need;
 use crate::listing::Entry;
 use mcs_reader::{Id, NoMemory};
 use std::alloc::Global;
 use supersede::place_among;
 
-/// The catalogued ids and all that they need, ascending, each once.
+/// The catalogued ids and all that they need, whatever the zone, ascending, each once.
 pub(crate) fn members_of(alloc: Global, ids: &[Id], entries: &[Entry]) -> Result<Vec<Id>, NoMemory>
     ensures ascend { IfOk result (λ members. Ascend members.items) }
     ensures ids { IfOk result (λ members. (id : List ℕ) → Contains ids.now id → Contains members.items id) }
     ensures needs { IfOk result (λ members. (id : List ℕ) →
-        Contains (flat_map (λ entry. entry.needs) entries.now) id → Contains members.items id) }
+        Contains (flat_map all_needs entries.now) id → Contains members.items id) }
 {
     let mut members = listed_with_needs(alloc, ids, entries)?;
     sort_each_once(&mut members)?;
@@ -25,11 +27,12 @@ pub(crate) fn members_of(alloc: Global, ids: &[Id], entries: &[Entry]) -> Result
 }
 
 fn listed_with_needs(alloc: Global, ids: &[Id], entries: &[Entry]) -> Result<Vec<Id>, NoMemory>
-    ensures { IfOk result (λ all. all.items ≡ ids.now ++ flat_map (λ entry. entry.needs) entries.now) }
+    ensures { IfOk result (λ all. all.items ≡ ids.now ++ flat_map all_needs entries.now) }
 {
     let mut all = Vec::from_slice(alloc, ids)?;
     for entry in entries {
         all.extend_from_slice(entry.needs())?;
+        push_each_need(&mut all, entry.conds())?;
     }
     Ok(all)
 }

@@ -1,24 +1,26 @@
 //! Verdicts from a frame alone.
-ghost use Rattle.std.specs.Prelude.{◌≡◌, ◌<◌, ℕ, Bool, List, Contains, IfOk, filter, length, map};
+ghost use Rattle.std.specs.Prelude.{◌≡◌, ◌<◌, ℕ, Bool, List, Contains, IfOk, OnOk, filter, length, map};
 ghost use Rattle.std.specs.List.{list_any};
 ghost use Rattle.zone_lists.specs.Installed.{is_installed};
 ghost use Rattle.catalogue.specs.Content.{Content};
+ghost use Rattle.catalogue.specs.Ids.{Ascend};
 ghost use Rattle.requisites.specs.Nodes.{mark_of};
 ghost use Rattle.chains.specs.Cuts.{id_at};
-ghost use Rattle.chains.specs.FramePlaces.{ArePlaced};
+ghost use Rattle.chains.specs.FramePlaces.{ArePlaced, node_needs};
 ghost use Rattle.chains.specs.Frames.{IsFrame, ids_in};
 ghost use Rattle.chains.specs.Judge as judge;
-ghost use Rattle.chains.specs.Places.{AreThere};
+ghost use Rattle.chains.specs.Places.{ArePlacesOf, AreThere};
 ghost use Rattle.chains.specs.Verdicts.{is_good, verdict_of};
 
 use crate::Verdict;
+use crate::conditional::push_places_where;
 use crate::cut::there_marks;
 use crate::frames::{Frame, FrameNode};
 use crate::listing::is_any_installed;
 use crate::places::{by_ids, place_of};
 use crate::surveying::is_marked;
 use mcs_reader::{Id, NoMemory};
-use requisites::{Nodes, resolve, verdict_of_place};
+use requisites::{Nodes, Rows, resolve, verdict_of_place};
 use std::alloc::Global;
 use supersede::Zone;
 
@@ -43,7 +45,8 @@ pub fn plan(alloc: Global, frame: &Frame, zone: &Zone, id: &Id) -> Result<Verdic
 // The nodes of a frame by their places, as a zone sees them.
 fn seen_from(alloc: Global, frame: &Frame, zone: &Zone) -> Result<Nodes, NoMemory>
     ensures candidates { IfOk result (λ nodes. nodes.candidates.items ≡ map (λ node. list_any (λ fmid. is_installed zone.now fmid) node.fmids) frame.now.nodes) }
-    ensures needs { IfOk result (λ nodes. ArePlaced (ids_in frame.now.nodes) (map (λ node. node.needs) frame.now.nodes) nodes.needs) }
+    ensures needs { IfOk result (λ nodes.
+        ArePlaced (ids_in frame.now.nodes) (map (node_needs zone.now) frame.now.nodes) nodes.needs) }
     ensures supersedes { IfOk result (λ nodes. nodes.supersedes ≡ frame.now.supersedes) }
     ensures there { IfOk result (λ nodes. AreThere zone.now (ids_in frame.now.nodes) nodes.supersedes nodes.there.items) }
 {
@@ -52,9 +55,49 @@ fn seen_from(alloc: Global, frame: &Frame, zone: &Zone) -> Result<Nodes, NoMemor
     Ok(Nodes {
         candidates,
         there,
-        needs: frame.needs().copy()?,
+        needs: zone_needs(alloc, frame, zone)?,
         supersedes: frame.supersedes().copy()?,
     })
+}
+
+// By places, what each node needs in the zone.
+fn zone_needs(alloc: Global, frame: &Frame, zone: &Zone) -> Result<Rows, NoMemory>
+    ensures { IfOk result (λ rows.
+        ArePlaced (ids_in frame.now.nodes) (map (node_needs zone.now) frame.now.nodes) rows) }
+{
+    if !frame.is_conditional() {
+        return frame.needs().copy();
+    }
+    let mut needs = Rows::new(alloc);
+    let mut places = Vec::new(alloc);
+    for (place, node) in frame.nodes().iter().enumerate() {
+        put_needs(
+            &mut places,
+            frame.needs().row(place),
+            frame.ids(),
+            zone,
+            node,
+        )?;
+        needs.push_row(&places)?;
+    }
+    Ok(needs)
+}
+
+// Makes a list that of the places of what a node needs in the zone, given those of what it always needs.
+fn put_needs(
+    places: &mut Vec<usize>,
+    always: &[usize],
+    ids: &[Id],
+    zone: &Zone,
+    node: &FrameNode,
+) -> Result<(), NoMemory>
+    requires { Ascend ids.now }
+    ensures { OnOk result (ArePlacesOf ids.now node.now.needs always.now
+        → ArePlacesOf ids.now (node_needs zone.now node.now) places.new.items) }
+{
+    places.clear();
+    places.extend_from_slice(always)?;
+    push_places_where(places, ids, zone, node.conds.as_slice())
 }
 
 // Which nodes may be installed.

@@ -152,6 +152,7 @@ change_said verb.Ptf subject said = None
 change_said verb.Apar subject said = None
 change_said verb.Usermod subject said = None
 change_said verb.Ver subject said = None
+change_said verb.Cond subject said = None
 
 change_is : (v : Verb) (statement : Statement) → change_by v statement ≡ change_said v statement.subject (said_by statement.operands)
 change_is verb.Hold statement = refl
@@ -161,6 +162,7 @@ change_is verb.Ptf statement = refl
 change_is verb.Apar statement = refl
 change_is verb.Usermod statement = refl
 change_is verb.Ver statement = refl
+change_is verb.Cond statement = refl
 
 abbrev key_faults_said : ℕ → Option (List ℕ) → Said → List HoldFault
 key_faults_said line subject said =
@@ -183,6 +185,7 @@ faults_said verb.Ptf line subject said = []
 faults_said verb.Apar line subject said = []
 faults_said verb.Usermod line subject said = []
 faults_said verb.Ver line subject said = []
+faults_said verb.Cond line subject said = []
 
 faults_are : (v : Verb) (statement : Statement) → faults_by v statement ≡ faults_said v statement.line statement.subject (said_by statement.operands)
 faults_are verb.Hold statement = refl
@@ -192,6 +195,7 @@ faults_are verb.Ptf statement = refl
 faults_are verb.Apar statement = refl
 faults_are verb.Usermod statement = refl
 faults_are verb.Ver statement = refl
+faults_are verb.Cond statement = refl
 
 pub change_asked : (names : List (List ℕ)) → are_among hold_operands names ≡ true → (statement : Statement) → change_of (asking names statement) ≡ change_of statement
 change_asked names all statement =

@@ -10,7 +10,9 @@ use Rattle.mcs_reader.specs.Operand.{operand_text, operand_texts}
 use Rattle.mcs_reader.specs.OperandText.{OperandText}
 use Rattle.holddata.specs.declared.key.Kind.{Kind}
 use Rattle.holddata.specs.declared.operands.Gathered.{Gathered}
-use Rattle.holddata.specs.Given.{IsGathered}
+use Rattle.std.specs.Borrow.{Bor}
+use Rattle.holddata.specs.declared.operands.Given.{Given}
+use Rattle.holddata.specs.Given.{IsGathered, Shows}
 use Rattle.holddata.specs.Operands.{kind_named, kinds_of, named_values, values_of}
 
 one_kind : (operand : OperandText) → filter_map (λ (o : OperandText). kind_named o.name) (operand ∷ []) ≡ option_to_list (kind_named operand.name)
@@ -33,3 +35,11 @@ values_then name seen operand =
 pub gathered_more : (given : Gathered) (operands : List Operand) (i : ℕ) (d : Operand) → i < length operands
     → IsGathered given (operand_texts (take i operands) ++ operand_text (get_or operands i d) ∷ []) → IsGathered given (operand_texts (take (i + 1) operands))
 gathered_more given operands i d h = subst (IsGathered given) (sym (map_more operand_text operands i d h))
+
+-- the values of one name that the operands up to the next give
+pub shown_more : (name : List ℕ) (given : Given (Bor (List ℕ))) (operands : List Operand) (i : ℕ) (d : Operand) → i < length operands
+    → Shows given (values_of name (operand_texts (take i operands)) ++ named_values name (operand_text (get_or operands i d)))
+    → Shows given (values_of name (operand_texts (take (i + 1) operands)))
+shown_more name given operands i d h =
+    subst (Shows given) (values_then name (operand_texts (take i operands)) (operand_text (get_or operands i d))
+    ∙ ap (values_of name) (sym (map_more operand_text operands i d h)))

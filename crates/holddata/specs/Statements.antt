@@ -52,6 +52,7 @@ change_by verb.Ptf statement = None
 change_by verb.Apar statement = None
 change_by verb.Usermod statement = None
 change_by verb.Ver statement = None
+change_by verb.Cond statement = None
 
 abbrev pub change_of : Statement → Option HoldChange
 change_of statement = change_by statement.verb statement
@@ -95,6 +96,7 @@ faults_by verb.Ptf statement = []
 faults_by verb.Apar statement = []
 faults_by verb.Usermod statement = []
 faults_by verb.Ver statement = []
+faults_by verb.Cond statement = []
 
 abbrev pub faults_of : Statement → List HoldFault
 faults_of statement = faults_by statement.verb statement

@@ -3,7 +3,8 @@
 //!
 //! - [`change`]: the [`HoldChange`] that a statement makes, if it makes one, or its [`HoldFault`]; [`changes`]: those of a
 //!   list of statements
-//! - [`hold_operands`]: the operands that are read, for those who ask for these alone
+//! - [`hold_operands`]: the operands that are read, for those who ask for these alone; [`sole_value`]: the one value that
+//!   operands of one name give
 //! - [`HoldBook`]: takes changes one by one or many at a time, and gives its holds by key, by SYSMOD, in key order, and as
 //!   text; [`BookPlace`]: its order
 //! - [`book_left`]: the book that a list of changes leaves; [`book_text_left`]: its text
@@ -37,5 +38,6 @@ pub use faults::NoMemory;
 pub use hold::{Hold, HoldChange};
 pub use key::{HoldKey, Kind};
 pub use last::book_text_left;
+pub use operands::sole_value;
 pub use place::BookPlace;
 pub use reading::{change, changes};

@@ -1,11 +1,12 @@
 //! What the operands of a statement say of a hold.
-ghost use Rattle.std.specs.Prelude.{◌≡◌, ◌++◌, ◌∷◌, [], ℕ, List};
+ghost use Rattle.std.specs.Prelude.{◌≡◌, ◌++◌, ◌∷◌, [], ℕ, List, option_map};
 ghost use Rattle.std.specs.Option.{option_to_list};
 ghost use Rattle.std.specs.Str.{str_eq_ignore_ascii_case};
 ghost use Rattle.mcs_reader.specs.Bytes.{bytes_of_each};
 ghost use Rattle.mcs_reader.specs.Operand.{operand_text, operand_texts};
 ghost use Rattle.mcs_reader.specs.OperandText.{OperandText};
-ghost use Rattle.holddata.specs.Operands.{kind_named, is_either, named_values};
+ghost use Rattle.mcs_reader.specs.StatementText.{sole};
+ghost use Rattle.holddata.specs.Operands.{kind_named, is_either, named_values, values_of};
 ghost use Rattle.holddata.specs.Given.{IsGathered, Shows, ShowsKinds};
 ghost use Rattle.holddata.specs.declared.key.Kind.{Kind};
 
@@ -50,6 +51,22 @@ pub(crate) fn given_by_operands<'a>(operands: &[Operand<'a>]) -> Gathered<'a>
         gather(&mut given, operand);
     }
     given
+}
+
+/// The one value that the operands of this name give together, or `None` where they give none or several. It takes no
+/// memory.
+#[tactic(auto, using(crate::proofs::OperandFacts::shown_more))]
+pub fn sole_value<'a>(operands: &[Operand<'a>], name: &[u8]) -> Option<&'a [u8]>
+    ensures { option_map (λ value. value.now) result ≡ sole (values_of name.now (operand_texts operands.now)) }
+{
+    let mut given = Given::Nothing;
+    for operand in operands {
+        given = with_named(given, operand, name);
+    }
+    match given {
+        Given::One(value) => Some(value),
+        Given::Nothing | Given::Several => None,
+    }
 }
 
 // Puts what one more operand gives after what was given.

@@ -59,7 +59,7 @@ pub fn change(alloc: Global, statement: &Statement) -> Result<Option<HoldChange>
     match statement.verb {
         Verb::Hold => Ok(Some(HoldChange::Put(hold_by(alloc, statement)?))),
         Verb::Release => Ok(Some(HoldChange::Release(released_by(statement)?))),
-        Verb::Func | Verb::Ptf | Verb::Apar | Verb::Usermod | Verb::Ver => Ok(None),
+        Verb::Func | Verb::Ptf | Verb::Apar | Verb::Usermod | Verb::Ver | Verb::Cond => Ok(None),
     }
 }
 

@@ -114,13 +114,14 @@ fn comments_are_passed_over(rt: HostRuntime) -> Result<(), Fail> {
 #[test]
 fn each_verb_is_read(rt: HostRuntime) -> Result<(), Fail> {
     let source: &[u8] =
-        b"++FUNCTION(A).\n++Ptf(A).\n++APAR(A).\n++usermod(A).\n++VER(Z038 Z\xFF).\n++HOLD(A).\n++RELEASE(A) ERROR.";
+        b"++FUNCTION(A).\n++Ptf(A).\n++APAR(A).\n++usermod(A).\n++VER(Z038 Z\xFF).\n++if FMID(A).\n++HOLD(A).\n++RELEASE(A) ERROR.";
     let verbs = [
         Verb::Func,
         Verb::Ptf,
         Verb::Apar,
         Verb::Usermod,
         Verb::Ver,
+        Verb::Cond,
         Verb::Hold,
         Verb::Release,
     ];
@@ -128,14 +129,15 @@ fn each_verb_is_read(rt: HostRuntime) -> Result<(), Fail> {
     assert_eq!(rt; statements.len(), verbs.len());
     for (statement, verb) in statements.iter().zip(verbs) {
         assert_eq!(rt; statement.verb, verb);
-        assert_eq!(rt; statement.subject.is_none(), verb == Verb::Ver, "{verb:?}");
+        let is_without = matches!(verb, Verb::Ver | Verb::Cond);
+        assert_eq!(rt; statement.subject.is_none(), is_without, "{verb:?}");
     }
     Ok(())
 }
 
 #[test]
 fn the_first_fault_is_told(rt: HostRuntime) -> Result<(), Fail> {
-    let table: [(&[u8], McsFault); 25] = [
+    let table: [(&[u8], McsFault); 27] = [
         (
             b"++HOLD(UA10001) ERROR REASON(AA20002)",
             McsFault::NoPeriod(1),
@@ -146,6 +148,8 @@ fn the_first_fault_is_told(rt: HostRuntime) -> Result<(), Fail> {
             McsFault::BadVerbSubject(1),
         ),
         (b"++HOLD.", McsFault::BadVerbSubject(1)),
+        (b"++IF(A) REQ(B).", McsFault::BadVerbSubject(1)),
+        (b"++IF FMID(A)", McsFault::NoPeriod(1)),
         (b"++HOLD().", McsFault::BadVerbSubject(1)),
         (b"++HOLD(A,B).", McsFault::BadVerbSubject(1)),
         (b"++HOLD(a).", McsFault::BadVerbSubject(1)),

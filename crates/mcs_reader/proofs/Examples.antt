@@ -15,7 +15,7 @@ use Rattle.mcs_reader.specs.declared.fault.McsFault.{McsFault}
 use Rattle.mcs_reader.specs.declared.fault.McsFault.TheVariants.{NoPeriod, BadVerbSubject, Unbalanced, BadByte}
 use Rattle.mcs_reader.specs.declared.statement.Statement.{Statement}
 use Rattle.mcs_reader.specs.declared.statement.Verb.{Verb}
-use Rattle.mcs_reader.specs.declared.statement.Verb.TheVariants.{Hold, Release, Ver}
+use Rattle.mcs_reader.specs.declared.statement.Verb.TheVariants.{Cond, Hold, Release, Ver}
 use Rattle.mcs_reader.proofs.OutcomeFacts.{IsReading-from_read, IsStoppedSource-from_read}
 
 abbrev hold : ℕ → List ℕ → List OperandText → Statement
@@ -194,3 +194,18 @@ other_verbs = reads (codes "++RELEASE(A) ERROR.\n++VER(Z038 1).") _ (omega arith
 pub ver_without_list : IsFirstFault (codes "++VER.") (BadVerbSubject 1)
 unfolding text_of read_lines pass verb_at verb_named role_of is_comment_name
 ver_without_list = fails (codes "++VER.") (BadVerbSubject 1) (omega arith) refl
+
+-- an IF has no list, and operands right after its verb
+pub condition : IsReading (codes "++IF FMID(A) THEN REQ(B,C).") (statement Cond 1 None (operand (codes "FMID") (codes "A" ∷ []) ∷ operand (codes "THEN") [] ∷ operand (codes "REQ") (codes "B" ∷ codes "C" ∷ []) ∷ []) ∷ [])
+unfolding text_of read_lines pass verb_at verb_named role_of is_comment_name
+condition = reads (codes "++IF FMID(A) THEN REQ(B,C).") _ (omega arith) refl
+
+-- with a list after the verb it is refused, also where a gap stands between
+pub condition_with_list : IsFirstFault (codes "++IF (A) REQ(B).") (BadVerbSubject 1)
+unfolding text_of read_lines pass verb_at verb_named role_of is_comment_name
+condition_with_list = fails (codes "++IF (A) REQ(B).") (BadVerbSubject 1) (omega arith) refl
+
+-- and it has a period
+pub condition_without_period : IsFirstFault (codes "++IF FMID(A)") (NoPeriod 1)
+unfolding text_of read_lines pass verb_at verb_named role_of is_comment_name
+condition_without_period = fails (codes "++IF FMID(A)") (NoPeriod 1) (omega arith) refl

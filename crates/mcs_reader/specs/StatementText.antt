@@ -4,7 +4,7 @@ use Rattle.mcs_reader.specs.Verb.{Head, spell_head, IsHead, verb_named}
 use Rattle.mcs_reader.specs.Pieces.{Pieces, a_name, spell, IsOutside, take_list}
 use Rattle.mcs_reader.specs.Id.{id_of}
 use Rattle.mcs_reader.specs.declared.statement.Verb.{Verb}
-use Rattle.mcs_reader.specs.declared.statement.Verb.TheVariants.{Hold, Release, Func, Ptf, Apar, Usermod, Ver}
+use Rattle.mcs_reader.specs.declared.statement.Verb.TheVariants.{Hold, Release, Func, Ptf, Apar, Usermod, Ver, Cond}
 
 pub record StatementText : Type 0 where
   pub head : Head
@@ -32,7 +32,7 @@ abbrev pub the_id : List (List ℕ) → Option (Option (List ℕ))
 the_id values = option_map Some (option_and_then id_of (sole values))
 
 -- The subject that the values of a verb's list give, where they are as the verb wants them: just one, an
--- id. VER takes any, and none of them is its subject.
+-- id. VER takes any, and none of them is its subject. IF wants no list.
 abbrev pub subject_by : Verb → List (List ℕ) → Option (Option (List ℕ))
 subject_by Hold values = the_id values
 subject_by Release values = the_id values
@@ -41,10 +41,23 @@ subject_by Ptf values = the_id values
 subject_by Apar values = the_id values
 subject_by Usermod values = the_id values
 subject_by Ver values = Some None
+subject_by Cond values = None
 
--- each verb wants a list
+-- the subject of a statement without a list: IF alone may be one, and has none
+abbrev pub subject_alone : Verb → Option (Option (List ℕ))
+subject_alone Hold = None
+subject_alone Release = None
+subject_alone Func = None
+subject_alone Ptf = None
+subject_alone Apar = None
+subject_alone Usermod = None
+subject_alone Ver = None
+subject_alone Cond = Some None
+
+-- the subject that a verb has by the list after it, if it has one
 abbrev pub subject_of : Verb → Option (List (List ℕ)) → Option (Option (List ℕ))
-subject_of verb list = option_and_then (subject_by verb) list
+subject_of verb None = subject_alone verb
+subject_of verb (Some values) = subject_by verb values
 
 abbrev pub subject_in : StatementText → Option (Option (List ℕ))
 subject_in text = subject_of text.verb (take_list text.pieces)

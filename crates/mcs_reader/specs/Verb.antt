@@ -4,7 +4,7 @@ use Rattle.std.specs.List.{list_all}
 use Rattle.std.specs.Str.{str_eq_ignore_ascii_case}
 use Rattle.mcs_reader.specs.Byte.{is_blank, is_name_byte}
 use Rattle.mcs_reader.specs.declared.statement.Verb.{Verb}
-use Rattle.mcs_reader.specs.declared.statement.Verb.TheVariants.{Hold, Release, Func, Ptf, Apar, Usermod, Ver}
+use Rattle.mcs_reader.specs.declared.statement.Verb.TheVariants.{Hold, Release, Func, Ptf, Apar, Usermod, Ver, Cond}
 
 -- The verb of this name, without regard to ASCII case. A statement with any other name is skipped.
 unfoldable pub verb_named : List ℕ → Option Verb
@@ -16,6 +16,7 @@ verb_named name =
     else if str_eq_ignore_ascii_case name (codes "APAR") then Some Apar
     else if str_eq_ignore_ascii_case name (codes "USERMOD") then Some Usermod
     else if str_eq_ignore_ascii_case name (codes "VER") then Some Ver
+    else if str_eq_ignore_ascii_case name (codes "IF") then Some Cond
     else None
 
 -- whether a text begins with such a byte

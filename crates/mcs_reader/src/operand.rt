@@ -7,7 +7,7 @@ ghost use Rattle.mcs_reader.specs.Operand.{operand_texts};
 ghost use Rattle.mcs_reader.specs.Pieces.{Before, a_name, named_before, is_comment_name, no_name};
 ghost use Rattle.mcs_reader.specs.Place.{IsAfter, role_at};
 ghost use Rattle.mcs_reader.specs.Scan.{on_found, scan, with_list_after, with_name, with_operands};
-ghost use Rattle.mcs_reader.specs.StatementText.{sole, subject_by as subject_by_list};
+ghost use Rattle.mcs_reader.specs.StatementText.{sole, subject_alone as subject_alone_of, subject_by as subject_by_list};
 ghost use Rattle.mcs_reader.specs.declared.byte.ByteRole.TheVariants.{Gap, Comment, Name};
 ghost use Rattle.mcs_reader.specs.declared.fault.McsFault.TheVariants.{Memory};
 
@@ -95,7 +95,23 @@ pub(crate) fn pass_subject(
             let value = take_sole_value(cursor, line)?;
             Ok(subject_by(verb, value))
         }
-        _ => Ok(None),
+        _ => Ok(subject_alone(verb)),
+    }
+}
+
+/// The subject of a statement without a list.
+fn subject_alone(verb: Verb) -> Option<Option<Id>>
+    ensures { result ≡ subject_alone_of verb }
+{
+    match verb {
+        Verb::Hold
+        | Verb::Release
+        | Verb::Func
+        | Verb::Ptf
+        | Verb::Apar
+        | Verb::Usermod
+        | Verb::Ver => None,
+        Verb::Cond => Some(None),
     }
 }
 
@@ -108,6 +124,7 @@ fn subject_by(verb: Verb, value: Option<&[u8]>) -> Option<Option<Id>>
             Some(Some(Id::new(value?)?))
         }
         Verb::Ver => Some(None),
+        Verb::Cond => None,
     }
 }
 

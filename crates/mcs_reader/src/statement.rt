@@ -23,6 +23,8 @@ pub enum Verb {
     Usermod,
     /// `++VER` says of the SYSMOD before it where it applies and what it needs.
     Ver,
+    /// `++IF` says of the SYSMOD before it what it needs where a function is installed.
+    Cond,
 }
 
 impl Verb {
@@ -47,6 +49,8 @@ impl Verb {
             Some(Verb::Usermod)
         } else if name.eq_ignore_ascii_case(b"VER") {
             Some(Verb::Ver)
+        } else if name.eq_ignore_ascii_case(b"IF") {
+            Some(Verb::Cond)
         } else {
             None
         }
@@ -165,7 +169,7 @@ impl<'a> Operands<'a> {
 pub struct Statement<'a> {
     /// What the statement does.
     pub verb: Verb,
-    /// The one value of the list after the verb; none for `++VER`, whose list isn't used.
+    /// The one value of the list after the verb; none for `++VER`, whose list isn't used, and for `++IF`, which has none.
     pub subject: Option<Id>,
     /// What stands after the verb's list, up to the period.
     pub operands: Operands<'a>,

@@ -50,10 +50,10 @@ hold sysmod kind reason resolver categories = record {
 }
 
 abbrev ptf : List ℕ → List ℕ → List (List ℕ) → List (List ℕ) → Sysmod
-ptf id fmid pre sup = record { id = id; kind = Ptf; fmids = fmid ∷ []; pre = pre; req = []; sup = sup }
+ptf id fmid pre sup = record { id = id; kind = Ptf; fmids = fmid ∷ []; pre = pre; req = []; conds = []; sup = sup }
 
 abbrev base : List Sysmod
-base = record { id = function; kind = Func; fmids = []; pre = []; req = []; sup = [] } ∷ ptf first function [] [] ∷ ptf second function (first ∷ []) (apar ∷ []) ∷ []
+base = record { id = function; kind = Func; fmids = []; pre = []; req = []; conds = []; sup = [] } ∷ ptf first function [] [] ∷ ptf second function (first ∷ []) (apar ∷ []) ∷ []
 
 abbrev error : Hold
 error = hold first ErrorHold apar None []
@@ -67,7 +67,7 @@ row reason resolver status = record { fmid = Some function; sysmod = first; reas
 
 -- what fixes the error is superseded by a third PTF
 abbrev superseded : Content
-superseded = record { sysmods = record { id = function; kind = Func; fmids = []; pre = []; req = []; sup = [] } ∷ ptf first function [] [] ∷ ptf second function (first ∷ []) (apar ∷ []) ∷ ptf third function [] (second ∷ []) ∷ []; holds = error ∷ [] }
+superseded = record { sysmods = record { id = function; kind = Func; fmids = []; pre = []; req = []; conds = []; sup = [] } ∷ ptf first function [] [] ∷ ptf second function (first ∷ []) (apar ∷ []) ∷ ptf third function [] (second ∷ []) ∷ []; holds = error ∷ [] }
 
 each_candidate_that_gives_the_reason : err_rows_of superseded zone [] (error ∷ []) ≡ row apar (Some second) (Some Good) ∷ row apar (Some third) (Some Good) ∷ []
 each_candidate_that_gives_the_reason = refl

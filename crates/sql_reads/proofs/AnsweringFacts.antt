@@ -7,13 +7,13 @@ use Rattle.sqlite.proofs.Callers.{IsPlain, command_of, reads_as}
 use Rattle.sqlite.specs.declared.error.Error.{Error}
 use Rattle.sqlite.specs.Program.{overlay}
 use Rattle.sqlite.specs.Query.{IsAnswer, Query}
+use Rattle.sqlite.specs.Schema.{Schema}
 use Rattle.sqlite.specs.State.{CommitsShowing, FailsToQuery, FailsToShow, HasCleanDisk, IsNotRun, KeepsCommit, Shown, ShowsRows, State, Survives}
 use Rattle.sqlite.specs.Tree.{Trees}
 use Rattle.sqlite_schema.specs.declared.command.Returning.{Returning}
 use Rattle.sqlite_value.specs.Order.{Row}
 use Rattle.sqlite_value.specs.declared.value.Value.TheVariants.{Null}
 use Rattle.sql_texts.specs.Meaning.{Reads, selection}
-use Rattle.sql_texts.specs.Schema.{bureau}
 use Rattle.sql_reads.specs.Answering.{Answers, IsRead}
 use Rattle.sql_reads.proofs.QuietFacts.{quiet}
 
@@ -61,12 +61,12 @@ module _ (text : List ℕ) (params : Row) (old new : State) (read : IsRead text)
       record { was_open = λ here. same.was_open; committed = λ here. same.committed_is }
 
 -- what is shown is an answer over what is committed
-pub answered : (text : List ℕ) (params : Row) (old new : State) (rows : List Row) → old.now ≡ old.committed → old.committed.schema ≡ bureau → Shown text params old new rows
-    → (query : Query) (names : List (List ℕ)) (parameters : ℕ) → Reads bureau text query names parameters → IsAnswer query old.committed.trees params rows
-answered text params old new rows settled ours shown query names parameters reads =
-    let schema : old.now.schema ≡ bureau = ap (λ d. d.schema) settled ∙ ours in
+pub answered : (text : List ℕ) (params : Row) (old new : State) (rows : List Row) → old.now ≡ old.committed → Shown text params old new rows → (schema : Schema) → old.committed.schema ≡ schema
+    → (query : Query) (names : List (List ℕ)) (parameters : ℕ) → Reads schema text query names parameters → IsAnswer query old.committed.trees params rows
+answered text params old new rows settled shown schema has query names parameters reads =
+    let seen : old.now.schema ≡ schema = ap (λ d. d.schema) settled ∙ has in
     subst (λ (trees : Trees). IsAnswer query trees params rows) (overlay_none old.now.trees ∙ ap (λ d. d.trees) settled)
-    ((reads_as text params old new bureau schema (selection query names) (ap command_of reads.statement) (subst IsPlain (sym reads.statement) (refl, refl)) reads.unlisted rows shown).answer Null)
+    ((reads_as text params old new schema seen (selection query names) (ap command_of reads.statement) (subst IsPlain (sym reads.statement) (refl, refl)) reads.unlisted rows shown).answer Null)
 
 module _ {Fault : Type 0} (text : List ℕ) (params : Row) (old new : State) (read : IsRead text) (kept : Survives old new (CommitsShowing text params old)) where
   pub answers_rows : (rows : Vec Row Global) → (IsTrue old.is_open → old.now ≡ old.committed) → (HasCleanDisk new → Shown text params old new rows.items)
@@ -74,8 +74,8 @@ module _ {Fault : Type 0} (text : List ℕ) (params : Row) (old new : State) (re
   answers_rows rows settled shown = record {
     reads = record { keeps = λ clean. (shown_plain text params old new read rows.items (shown clean)).0; survives = survives text params old new read kept };
     is_open = λ clean. (shown_plain text params old new read rows.items (shown clean)).2;
-    told = λ clean ours query names parameters reads.
-        answered text params old new rows.items (settled (shown_plain text params old new read rows.items (shown clean)).1) ours (shown clean) query names parameters reads;
+    told = λ clean schema has query names parameters reads.
+        answered text params old new rows.items (settled (shown_plain text params old new read rows.items (shown clean)).1) (shown clean) schema has query names parameters reads;
   }
 
   pub answers_fault : (e : Error) (fault : Fault) → (HasCleanDisk new → FailsToQuery text params old new e) → Answers {Fault = Fault} text params old new (Err fault)

@@ -24,8 +24,8 @@ use Rattle.sqlite_value.specs.Order.{Row, column}
 use Rattle.sqlite_value.specs.declared.value.Value.{Value}
 use Rattle.sqlite_value.specs.declared.value.Value.TheVariants.{Text}
 use Rattle.sql_tables.specs.InTrees.{columns_of, stored_in}
-use Rattle.sql_tables.specs.Rows.{sysmod_found, with}
-use Rattle.sql_tables.specs.Stored.{is_named, is_of, sup_of, sysmod_with, sysmods_of, tables_of}
+use Rattle.sql_tables.specs.Rows.{Beside, sysmod_found, with}
+use Rattle.sql_tables.specs.Stored.{beside_of, is_named, is_of, sup_of, sysmod_with, sysmods_of, tables_of}
 use Rattle.sql_tables.specs.Values.{id_in, ids_in, sysmod_kind_in}
 use Rattle.sql_tables.specs.Whole.{IsMember, IsWhole, Member, member_row}
 use Rattle.sql_tables.proofs.ContentFacts.{content_in_order, sysmod_own}
@@ -65,28 +65,28 @@ catalogue_from xs x inside =
     Contains-permutation (reverse xs) xs x (IsPermutation-sym xs (reverse xs) (IsPermutation-reverse xs)) (found_in (content.is_of it.0) (reverse xs) x it.2).0
 
 -- a record that is read supersedes what the rows of its id say
-sup_own : (sup : List (List ℕ)) (row : Row) (x : Sysmod) → sysmod_found sup row ≡ Some x → x.sup ≡ sup
-sup_own sup row x h = by (id_in (column row 0)) (sysmod_kind_in (column row 1)) (ids_in (column row 2)) (ids_in (column row 3)) (ids_in (column row 4)) h
+sup_own : (beside : Beside) (row : Row) (x : Sysmod) → sysmod_found beside row ≡ Some x → x.sup ≡ beside.sup
+sup_own beside row x h = by (id_in (column row 0)) (sysmod_kind_in (column row 1)) (ids_in (column row 2)) (ids_in (column row 3)) (ids_in (column row 4)) h
   where
     by : (id : Option (List ℕ)) (kind : Option SysmodKind) (fmids pre req : Option (List (List ℕ)))
-        → with id (λ i. with kind (λ k. with fmids (λ f. with pre (λ p. option_map (λ r. record { id = i; kind = k; fmids = f; pre = p; req = r; sup = sup }) req)))) ≡ Some x
-        → x.sup ≡ sup
+        → with id (λ i. with kind (λ k. with fmids (λ f. with pre (λ p. option_map (λ r. record { id = i; kind = k; fmids = f; pre = p; req = r; conds = beside.conds; sup = beside.sup }) req)))) ≡ Some x
+        → x.sup ≡ beside.sup
     by None kind fmids pre req e = cc
     by (Some i) None fmids pre req e = cc
     by (Some i) (Some k) None pre req e = cc
     by (Some i) (Some k) (Some f) None req e = cc
     by (Some i) (Some k) (Some f) (Some p) None e = cc
-    by (Some i) (Some k) (Some f) (Some p) (Some r) e = sym (ap (λ (o : Option Sysmod). unwrap_or (option_map (λ (s : Sysmod). s.sup) o) sup) e)
+    by (Some i) (Some k) (Some f) (Some p) (Some r) e = sym (ap (λ (o : Option Sysmod). unwrap_or (option_map (λ (s : Sysmod). s.sup) o) beside.sup) e)
 
-sysmod_sup : (sups : List Row) (row : Row) (x : Sysmod) → sysmod_with sups row ≡ Some x → x.sup ≡ sup_of sups x.id
-sysmod_sup sups row x h = by (id_in (column row 0)) refl h
+sysmod_sup : (beside : List ℕ → Beside) (row : Row) (x : Sysmod) → sysmod_with beside row ≡ Some x → x.sup ≡ (beside x.id).sup
+sysmod_sup beside row x h = by (id_in (column row 0)) refl h
   where
-    by : (o : Option (List ℕ)) → id_in (column row 0) ≡ o → option_and_then (λ id. sysmod_found (sup_of sups id) row) o ≡ Some x → x.sup ≡ sup_of sups x.id
+    by : (o : Option (List ℕ)) → id_in (column row 0) ≡ o → option_and_then (λ id. sysmod_found (beside id) row) o ≡ Some x → x.sup ≡ (beside x.id).sup
     by None at e = cc
     by (Some id) at e =
-        let own : Some x.id ≡ Some id = sym (sysmod_own (sup_of sups id) row x e) ∙ at in
+        let own : Some x.id ≡ Some id = sym (sysmod_own (beside id) row x e) ∙ at in
         let same : x.id ≡ id = cc in
-        sup_own (sup_of sups id) row x e ∙ ap (sup_of sups) (sym same)
+        sup_own (beside id) row x e ∙ ap (λ k. (beside k).sup) (sym same)
 
 module _ (trees : Trees) (id : List ℕ) (is : IsId id) (whole : IsWhole (stored_in trees)) where
   abbrev sups : List Row
@@ -123,23 +123,26 @@ module _ (trees : Trees) (id : List ℕ) (is : IsId id) (whole : IsWhole (stored
   is_named_so : (name : List ℕ) (value : Value) → id_in value ≡ Some name → is_named name value ≡ true
   is_named_so name value h = ap (λ o. unwrap_or (option_map (λ found. same_id found name) o) false) h ∙ itself name
 
+  abbrev beside : List ℕ → Beside
+  beside = beside_of (stored_in trees)
+
   abbrev all : List Sysmod
-  all = sysmods_of (columns_of (trees 8)) (columns_of (trees 6))
+  all = sysmods_of (beside_of (stored_in trees)) (columns_of (trees 6))
 
   -- a catalogued record, by its row
   record_row : (c : Sysmod) → Contains (catalogue_of all) c → (s : Row) × Contains sysmods s × (id_in (column s 0) ≡ Some c.id) × (c.sup ≡ sup_of sups c.id)
   record_row c inside =
-      let it = read_from (sysmod_with sups) sysmods c (catalogue_from all c inside) in
-      (it.0, it.1, by it.0 (id_in (column it.0 0)) refl it.2, sysmod_sup sups it.0 c it.2)
+      let it = read_from (sysmod_with beside) sysmods c (catalogue_from all c inside) in
+      (it.0, it.1, by it.0 (id_in (column it.0 0)) refl it.2, sysmod_sup beside it.0 c it.2)
     where
-      by : (row : Row) (o : Option (List ℕ)) → id_in (column row 0) ≡ o → option_and_then (λ i. sysmod_found (sup_of sups i) row) o ≡ Some c → id_in (column row 0) ≡ Some c.id
+      by : (row : Row) (o : Option (List ℕ)) → id_in (column row 0) ≡ o → option_and_then (λ i. sysmod_found (beside i) row) o ≡ Some c → id_in (column row 0) ≡ Some c.id
       by row None at e = cc
-      by row (Some i) at e = sysmod_own (sup_of sups i) row c e
+      by row (Some i) at e = sysmod_own (beside i) row c e
 
   -- the record of an id that a row has
   row_record : (s : Row) (x : List ℕ) → Contains sysmods s → id_in (column s 0) ≡ Some x → (c : Sysmod) × Contains (catalogue_of all) c × (c.id ≡ x)
   row_record s x inside at =
-      let listed : Contains (content.ids_in all) x = subst (λ ids. Contains ids x) (sym (sysmods_ids sups sysmods whole.sysmods)) (read_to (λ row. id_in (column row 0)) sysmods s x inside at) in
+      let listed : Contains (content.ids_in all) x = subst (λ ids. Contains ids x) (sym (sysmods_ids beside sysmods whole.sysmods)) (read_to (λ row. id_in (column row 0)) sysmods s x inside at) in
       made_from (λ (c : Sysmod). c.id) (catalogue_of all) x (subst (λ ids. Contains ids x) (sym (catalogue_ids all)) ((in_order_has (content.ids_in all) x).1 listed))
 
   names_any : (name : List ℕ) → list_any (same_id id) (sup_of sups name) ≡ list_any (same_id id) (filter_map (λ row. id_in (column row 1)) (filter (is_of name) sups))

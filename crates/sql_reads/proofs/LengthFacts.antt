@@ -26,7 +26,7 @@ use Rattle.zone_lists.specs.declared.zones.ZoneRow.{ZoneRow}
 use Rattle.sqlite_value.specs.Order.{Row, column}
 use Rattle.sql_tables.specs.Fit.{IsHold, IsRecord}
 use Rattle.sql_tables.specs.Rows.{hold_found, hold_row, sysmod_row, zone_row, zone_row_found}
-use Rattle.sql_tables.specs.Stored.{Stored, is_named, is_of, is_of_both, names_of, rows_in_order, shown, sysmods_of, tables_of, zone_rows_of}
+use Rattle.sql_tables.specs.Stored.{beside_of, Stored, is_named, is_of, is_of_both, names_of, rows_in_order, shown, sysmods_of, tables_of, zone_rows_of}
 use Rattle.sql_tables.specs.Values.{hold_kind_value, id_in, id_value, state_value, texts_value}
 use Rattle.sql_tables.specs.Whole.{AreRowsOf, HaveOwnKeys, Head, IsHead, IsPlace, IsWhole, Place, row_of_head, row_of_place}
 use Rattle.sql_tables.proofs.ContentFacts.{key_itself, last_under, left_put}
@@ -166,9 +166,9 @@ module _ (stored : Stored) (whole : IsWhole stored) where
   -- as many records as rows
   pub sysmods_length : length (tables_of stored).content.sysmods ≡ length stored.sysmods
   sysmods_length =
-      let all = sysmods_of stored.sups stored.sysmods in
+      let all = sysmods_of (beside_of stored) stored.sysmods in
       let read = filter_map (λ row. id_in (column row 0)) stored.sysmods in
-      let same : content.ids_in all ≡ read = sysmods_ids stored.sups stored.sysmods whole.sysmods in
+      let same : content.ids_in all ≡ read = sysmods_ids (beside_of stored) stored.sysmods whole.sysmods in
       sym (length-map (catalogue_of all) (λ (x : Sysmod). x.id))
       ∙ ap length (catalogue_ids all ∙ ap in_order same)
       ∙ in_order_length read (read_apart 1 (λ row. id_in (column row 0)) IsRecordRow record_id record_alike stored.sysmods whole.sysmods whole.sysmod_keys)

@@ -9,9 +9,11 @@ use Rattle.holddata.specs.HoldBook.{IsInKeyOrder}
 use Rattle.holddata.specs.declared.hold.Hold.{Hold}
 use Rattle.holddata.specs.declared.key.HoldKey.{HoldKey}
 use Rattle.holddata.specs.declared.key.Kind.{Kind}
+use Rattle.catalogue.specs.Conditional.{CondsAscend}
 use Rattle.catalogue.specs.Content as content
 use Rattle.catalogue.specs.Content.{holds_on, ids_of, record_of}
 use Rattle.catalogue.specs.Ids.{Ascend, same_id}
+use Rattle.catalogue.specs.declared.conditional.CondNeed.{CondNeed}
 use Rattle.catalogue.specs.declared.sysmod.Sysmod.{Sysmod}
 use Rattle.catalogue.proofs.IdFacts.{same_back}
 use Rattle.sqlite.specs.Query.{IsAnswer}
@@ -20,14 +22,14 @@ use Rattle.sqlite_value.specs.Order.{Row, column}
 use Rattle.sqlite_value.specs.declared.value.Value.TheVariants.{Text}
 use Rattle.sql_tables.specs.Fit.{IsRecord}
 use Rattle.sql_tables.specs.InTrees.{columns_of, stored_in}
-use Rattle.sql_tables.specs.Rows.{hold_found, sysmod_found, sysmod_row, with}
-use Rattle.sql_tables.specs.Stored.{is_of, sup_of, sysmods_of, tables_of}
+use Rattle.sql_tables.specs.Rows.{Beside, cond_found, hold_found, sysmod_found, sysmod_row, with}
+use Rattle.sql_tables.specs.Stored.{beside_of, conds_of, is_of, sup_of, sysmods_of, tables_of}
 use Rattle.sql_tables.specs.Values.{hold_kind_in, id_in}
 use Rattle.sql_tables.specs.Whole.{AreRowsOf, IsWhole}
 use Rattle.sql_tables.proofs.ContentFacts.{hold_own}
 use Rattle.sql_tables.proofs.ListValueFacts.{ids_again}
 use Rattle.sql_tables.proofs.ReadFacts.{holds_read}
-use Rattle.sql_tables.proofs.RecordFacts.{all_ids_read, no_record, one_record, superseded_read}
+use Rattle.sql_tables.proofs.RecordFacts.{all_ids_read, conditional_read, no_record, one_record, superseded_read}
 use Rattle.sql_tables.proofs.ValueFacts.{id_again, sysmod_kind_again}
 use Rattle.sql_texts.specs.Found.{shown}
 use Rattle.sql_texts.specs.Reads as read
@@ -44,21 +46,21 @@ filter_true (row ∷ rows) = ap (λ others. row ∷ others) (filter_true rows)
 -- ---- records
 
 -- a row that the bureau wrote says its record, with what is said of it beside
-pub sysmod_read : (sup : List (List ℕ)) (x : Sysmod) → IsRecord x → sysmod_found sup (sysmod_row x) ≡ Some (record x { sup = sup })
-sysmod_read sup x is = rw (id_again x.id is.id, sysmod_kind_again x.kind, ids_again x.fmids is.fmids, ids_again x.pre is.pre, ids_again x.req is.req) refl
+pub sysmod_read : (beside : Beside) (x : Sysmod) → IsRecord x → sysmod_found beside (sysmod_row x) ≡ Some (record x { conds = beside.conds; sup = beside.sup })
+sysmod_read beside x is = rw (id_again x.id is.id, sysmod_kind_again x.kind, ids_again x.fmids is.fmids, ids_again x.pre is.pre, ids_again x.req is.req) refl
 
-pub sysmods_ids : (sups rows : List Row) → AreRowsOf sysmod_row IsRecord rows → content.ids_in (sysmods_of sups rows) ≡ filter_map (λ row. id_in (column row 0)) rows
-sysmods_ids sups [] all = refl
-sysmods_ids sups (row ∷ rows) all =
-    ap (λ o. content.ids_in (cons_option o (sysmods_of sups rows))) (said all.0)
-    ∙ ap (λ others. all.0.0.id ∷ others) (sysmods_ids sups rows all.1)
+pub sysmods_ids : (beside : List ℕ → Beside) (rows : List Row) → AreRowsOf sysmod_row IsRecord rows → content.ids_in (sysmods_of beside rows) ≡ filter_map (λ row. id_in (column row 0)) rows
+sysmods_ids beside [] all = refl
+sysmods_ids beside (row ∷ rows) all =
+    ap (λ o. content.ids_in (cons_option o (sysmods_of beside rows))) (said all.0)
+    ∙ ap (λ others. all.0.0.id ∷ others) (sysmods_ids beside rows all.1)
     ∙ sym (ap (λ o. cons_option o (filter_map (λ r. id_in (column r 0)) rows)) (ap (λ r. id_in (column r 0)) all.0.2 ∙ id_again all.0.0.id all.0.1.id))
   where
-    said : (it : (x : Sysmod) × IsRecord x × (row ≡ sysmod_row x)) → option_and_then (λ id. sysmod_found (sup_of sups id) row) (id_in (column row 0)) ≡ Some (record it.0 { sup = sup_of sups it.0.id })
+    said : (it : (x : Sysmod) × IsRecord x × (row ≡ sysmod_row x)) → option_and_then (λ id. sysmod_found (beside id) row) (id_in (column row 0)) ≡ Some (record it.0 { conds = (beside it.0.id).conds; sup = (beside it.0.id).sup })
     said it =
-        ap (λ r. option_and_then (λ id. sysmod_found (sup_of sups id) r) (id_in (column r 0))) it.2
-        ∙ ap (option_and_then (λ id. sysmod_found (sup_of sups id) (sysmod_row it.0))) (id_again it.0.id it.1.id)
-        ∙ sysmod_read (sup_of sups it.0.id) it.0 it.1
+        ap (λ r. option_and_then (λ id. sysmod_found (beside id) r) (id_in (column r 0))) it.2
+        ∙ ap (option_and_then (λ id. sysmod_found (beside id) (sysmod_row it.0))) (id_again it.0.id it.1.id)
+        ∙ sysmod_read (beside it.0.id) it.0 it.1
 
 module _ (trees : Trees) where
   pub ids_told : (rows : List Row) (found : List (List ℕ)) → IsWhole (stored_in trees) → Ascend found → IsAnswer read.sysmod_ids trees [] rows
@@ -69,7 +71,7 @@ module _ (trees : Trees) where
       let permuted : IsPermutation read_ids found =
       subst (λ kept. IsPermutation (filter_map (λ row. id_in (column row 0)) kept) found) (filter_true sysmods)
       (table_said (λ row. id_in (column row 0)) (shown (0 ∷ [])) (filter (λ row. true) sysmods) rows found (table_found 6 [] (0 ∷ []) (1 ∷ []) [] trees rows (λ row. true) (λ row. refl) answer) said) in
-      let same = sysmods_ids (columns_of (trees 8)) sysmods whole.sysmods in
+      let same = sysmods_ids (beside_of (stored_in trees)) sysmods whole.sysmods in
       all_ids_read (stored_in trees) found ascend
       (λ id inside. Contains-permutation read_ids found id permuted (subst (λ ids. Contains ids id) same inside))
       (λ id inside. subst (λ ids. Contains ids id) (sym same) (Contains-permutation found read_ids id (IsPermutation-sym read_ids found permuted) inside))
@@ -82,15 +84,21 @@ module _ (trees : Trees) where
         (table_said (λ row. id_in (column row 0)) (shown (1 ∷ [])) (filter (is_of id) (columns_of (trees 8))) rows sup
         (table_found 8 (read.is_given 1 0 ∷ []) (1 ∷ []) (2 ∷ []) (Text (text_of id) ∷ []) trees rows (is_of id) (of_given id is) answer) said)
 
-    pub sysmod_told : (sup : List (List ℕ)) (found : Option Sysmod) → IsAnswer read.sysmod trees (Text (text_of id) ∷ []) rows
-        → one_of (sysmod_found sup) rows ≡ Some found → sup ≡ sup_of (columns_of (trees 8)) id → found ≡ record_of (tables_of (stored_in trees)).content id
-    sysmod_told sup found answer said same =
+    pub conditional_told : (conds : List CondNeed) → CondsAscend conds → IsAnswer read.conditional trees (Text (text_of id) ∷ []) rows
+        → map Some conds ≡ map cond_found rows → conds ≡ conds_of (columns_of (trees 19)) id
+    conditional_told conds ascend answer said =
+        conditional_read (columns_of (trees 19)) id conds ascend
+        (table_said cond_found (shown (1 ∷ 2 ∷ [])) (filter (is_of id) (columns_of (trees 19))) rows conds
+        (table_found 19 (read.is_given 1 0 ∷ []) (1 ∷ 2 ∷ []) (2 ∷ 3 ∷ []) (Text (text_of id) ∷ []) trees rows (is_of id) (of_given id is) answer) said)
+
+    pub sysmod_told : IsAnswer read.sysmod trees (Text (text_of id) ∷ []) rows → (found : Option Sysmod)
+        → one_of (sysmod_found (beside_of (stored_in trees) id)) rows ≡ Some found → found ≡ record_of (tables_of (stored_in trees)).content id
+    sysmod_told answer found said =
         let sysmods = columns_of (trees 6) in
-        elim (one_case (sysmod_found sup) (shown (0 ∷ 1 ∷ 2 ∷ 3 ∷ 4 ∷ [])) (filter (is_of id) sysmods) rows found
+        elim (one_case (sysmod_found (beside_of (stored_in trees) id)) (shown (0 ∷ 1 ∷ 2 ∷ 3 ∷ 4 ∷ [])) (filter (is_of id) sysmods) rows found
         (table_found 6 (read.is_given 1 0 ∷ []) (0 ∷ 1 ∷ 2 ∷ 3 ∷ 4 ∷ []) (1 ∷ []) (Text (text_of id) ∷ []) trees rows (is_of id) (of_given id is) answer) said) [
           | inl none ↦ none.1 ∙ sym (no_record (stored_in trees) id none.0)
-          | inr its ↦ its.4 ∙ sym (one_record (stored_in trees) id its.0 its.2 its.1 (one_passes (is_of id) sysmods its.0 its.1)
-              (ap (λ s. sysmod_found s its.0) (sym same) ∙ its.3))
+          | inr its ↦ its.4 ∙ sym (one_record (stored_in trees) id its.0 its.2 its.1 (one_passes (is_of id) sysmods its.0 its.1) its.3)
         ]
 
 -- ---- holds

@@ -1,6 +1,6 @@
 -- What a text shows of one table, as rows without their rowids; and the one row that it shows.
 use Rattle.std.proofs.Common.{◌≡◌, ◌⊎◌, ℕ, suc, Bool, true, false, cond, length, drop, List, [], ◌∷◌, refl, sym, ◌∙◌, ap, subst, arith, inl, inr, ◌≤◌, Ok, Err, Result, Some, None}
-use Rattle.std.specs.Prelude.{filter, map, Option, option_map, Vec, IfOk}
+use Rattle.std.specs.Prelude.{filter, is_some, map, Option, option_map, Vec, IfOk}
 use Rattle.std.specs.declared.alloc.Global.{Global}
 use Rattle.std.specs.List.{AllByRecursion, Contains}
 use Rattle.std.specs.List.Sorted.{IsPermutation}
@@ -14,7 +14,7 @@ use Rattle.sqlite_value.specs.Order.{Row}
 use Rattle.sql_state.specs.Ours.{IsOurs, held_by}
 use Rattle.sql_state.specs.Reading.{Finds, OnlyReads}
 use Rattle.sql_tables.specs.InTrees.{columns_of}
-use Rattle.sql_tables.specs.Stored.{Stored}
+use Rattle.sql_tables.specs.Stored.{Stored, first}
 use Rattle.sql_tables.specs.Whole.{IsWhole}
 use Rattle.sql_tables.proofs.MemberFacts.{cases_in, first_in, none_in}
 use Rattle.sql_tables.proofs.TreeFacts.{filter_after, shown_after}
@@ -40,9 +40,20 @@ module _ {A Fault : Type 0} (text : List ℕ) (params asked : Row) (same_params 
     reads = answers.reads;
     is_open = answers.is_open;
     told = λ clean ours.
-        law ours (subst (λ p. IsAnswer query old.committed.trees p seen) same_params (subst (IsAnswer query old.committed.trees params) (sym same) (answers.told clean ours.schema query names parameters reads))) a said;
+        law ours (subst (λ p. IsAnswer query old.committed.trees p seen) same_params (subst (IsAnswer query old.committed.trees params) (sym same) (answers.told clean bureau ours.schema query names parameters reads))) a said;
   }
   finds rows seen same answers (Err e) Said said Fact law = record { reads = answers.reads; is_open = tt; told = tt }
+
+-- the rows of an answer are what is found
+pub finds_rows : {Fault : Type 0} (text : List ℕ) (params asked : Row) → params ≡ asked → (old new : State) (query : Query) (names : List (List ℕ)) (parameters : ℕ) → Reads bureau text query names parameters
+    → (result : Result (Vec Row Global) Fault) → Answers {Fault = Fault} text params old new result → (Fact : Stored → Vec Row Global → Type 0)
+    → (IsOurs old.committed → (rows : Vec Row Global) → IsAnswer query old.committed.trees asked rows.items → Fact (held_by old.committed) rows) → Finds old new result Fact
+finds_rows text params asked same_params old new query names parameters reads (Ok rows) answers Fact law = record {
+  reads = answers.reads;
+  is_open = answers.is_open;
+  told = λ clean ours. law ours rows (subst (λ p. IsAnswer query old.committed.trees p rows.items) same_params (answers.told clean bureau ours.schema query names parameters reads));
+}
+finds_rows text params asked same_params old new query names parameters reads (Err e) answers Fact law = record { reads = answers.reads; is_open = tt; told = tt }
 
 -- ---- one read after another
 
@@ -94,6 +105,13 @@ module _ (old mid new : State) where
         (subst (λ d. Second (held_by d) b) same (second.told clean (subst IsOurs (sym same) ours)));
   }
 
+  -- what two reads find, and what is made of both
+  pub finds_both : {A B C Fault : Type 0} (a : A) (b : B) (result : Result C Fault) (First : Stored → A → Type 0) (Second : Stored → B → Type 0) (Fact : Stored → C → Type 0)
+      → Finds old mid {Answer = A} {Fault = Fault} (Ok a) First → Finds mid new {Answer = B} {Fault = Fault} (Ok b) Second → (Said : C → Type 0) → IfOk result Said
+      → ((stored : Stored) (c : C) → First stored a → Second stored b → Said c → Fact stored c) → Finds old new {Answer = C} {Fault = Fault} result Fact
+  finds_both a b (Ok c) First Second Fact first second Said said step = finds_on a b c First Second Fact first second (λ stored whole one two. step stored c one two said)
+  finds_both a b (Err e) First Second Fact first second Said said step = record { reads = reads_on first.reads second.reads; is_open = tt; told = tt }
+
   -- the same, where the second may be refused
   pub then_finds : {A B Fault : Type 0} (a : A) (result : Result B Fault) (First : Stored → A → Type 0) (Second Fact : Stored → B → Type 0)
       → Finds old mid {Answer = A} {Fault = Fault} (Ok a) First → Finds mid new {Answer = B} {Fault = Fault} result Second
@@ -136,6 +154,11 @@ kept_alike p q [] all = refl
 kept_alike p q (row ∷ rows) all = ap (λ b. cond b (row ∷ filter p rows) (filter p rows)) (all row) ∙ ap (λ others. cond (q row) (row ∷ others) others) (kept_alike p q rows all)
 
 -- ---- one row
+
+-- where there is no first row, there is none
+pub none_first : (rows : List Row) → is_some (first rows) ≡ false → rows ≡ []
+none_first [] h = refl
+none_first (row ∷ rows) h = cc
 
 -- the one row that a filter keeps passes its test
 pub one_passes : (test : Row → Bool) (rows : List Row) (x : Row) → filter test rows ≡ x ∷ [] → test x ≡ true

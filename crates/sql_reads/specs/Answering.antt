@@ -2,6 +2,7 @@
 use Rattle.std.specs.Prelude.{◌≡◌, ℕ, List, [], ◌∷◌, IsTrue, Option, Some, None, option_map, Result, IfOk, Vec}
 use Rattle.std.specs.declared.alloc.Global.{Global}
 use Rattle.sqlite.specs.Query.{IsAnswer, Query}
+use Rattle.sqlite.specs.Schema.{Schema}
 use Rattle.sqlite.specs.State.{HasCleanDisk, State}
 use Rattle.sqlite_value.specs.Order.{Row}
 use Rattle.sqlite_value.specs.declared.value.Value.{Value}
@@ -21,8 +22,8 @@ IsRead text = (query : Query) × (names : List (List ℕ)) × (parameters : ℕ)
 pub record Answers {Fault : Type 0} (text : List ℕ) (params : Row) (old new : State) (result : Result (Vec Row Global) Fault) : Type 0 where
   pub reads : OnlyReads old new
   pub is_open : IfOk result (λ rows. HasCleanDisk new → IsTrue new.is_open)
-  pub told : IfOk result (λ rows. HasCleanDisk new → old.committed.schema ≡ bureau
-      → (query : Query) (names : List (List ℕ)) (parameters : ℕ) → Reads bureau text query names parameters
+  pub told : IfOk result (λ rows. HasCleanDisk new → (schema : Schema) → old.committed.schema ≡ schema
+      → (query : Query) (names : List (List ℕ)) (parameters : ℕ) → Reads schema text query names parameters
       → IsAnswer query old.committed.trees params rows.items)
 
 -- what one row says, or nothing where there is no row; no answer where the row says nothing, or where there are more

@@ -8,20 +8,22 @@ ghost use Rattle.bureau_store.specs.Caller.{IsProper, caller_named, is_publisher
 ghost use Rattle.bureau_store.specs.Tables.{no_change};
 ghost use Rattle.holddata.specs.HoldBook.{IsInKeyOrder};
 ghost use Rattle.holddata.specs.HoldKey.{key_cmp, kind_place};
+ghost use Rattle.catalogue.specs.Conditional.{CondsAscend};
 ghost use Rattle.catalogue.specs.Ids.{Ascend};
 ghost use Rattle.zone_lists.specs.ZoneList.{RowsAscend};
 ghost use Rattle.sql_reads.specs.Answering.{one_of};
-ghost use Rattle.sql_tables.specs.Rows.{change_found, hold_found, sysmod_found, zone_row_found};
+ghost use Rattle.sql_tables.specs.Rows.{change_found, cond_found, hold_found, sysmod_found, zone_row_found};
 ghost use Rattle.sql_tables.specs.Stored.{first};
 ghost use Rattle.sql_tables.specs.Values as value;
 
 use crate::ReadFault;
 use bureau_store::Caller;
-use catalogue::{Ids, Sysmod};
+use catalogue::{CondNeed, CondNeeds, Ids, Sysmod};
 use holddata::{Hold, HoldKey, Kind};
 use mcs_reader::Id;
 use sql_tables::{
-    change_in, count_in, hold_in, id_row_in, ids_row_in, patterns_row_in, sysmod_in, zone_row_in,
+    change_in, cond_in, count_in, hold_in, id_row_in, ids_row_in, patterns_row_in, sysmod_in,
+    zone_row_in,
 };
 use sqlite::Row;
 use std::alloc::Global;
@@ -226,14 +228,39 @@ fn each_id(alloc: Global, rows: &[Row]) -> Result<Vec<Id>, ReadFault>
     Ok(ids)
 }
 
-/// The record in the one row, of a SYSMOD that supersedes these.
-pub(crate) fn sysmod(alloc: Global, rows: &[Row], sup: Ids) -> Result<Option<Sysmod>, ReadFault>
-    ensures { IfOk result (λ found. one_of (sysmod_found sup) rows.now ≡ Some found) }
+/// The requisites under a condition of all rows, in ascending order.
+pub(crate) fn conds(alloc: Global, rows: &[Row]) -> Result<CondNeeds, ReadFault>
+    ensures conds { IfOk result (λ conds. map Some conds ≡ map cond_found rows.now) }
+    ensures ascend { IfOk result (λ conds. CondsAscend conds) }
+{
+    let conds = each_cond(alloc, rows)?;
+    CondNeeds::from_ascending(conds).ok_or(ReadFault::Device)
+}
+
+fn each_cond(alloc: Global, rows: &[Row]) -> Result<Vec<CondNeed>, ReadFault>
+    ensures { IfOk result (λ conds. map Some conds.items ≡ map cond_found rows.now) }
+{
+    let mut conds = Vec::with_capacity(alloc, rows.len())?;
+    for row in rows {
+        conds.push(cond_in(row).ok_or(ReadFault::Device)?)?;
+    }
+    Ok(conds)
+}
+
+/// The record in the one row, of a SYSMOD that requires these under a condition, and supersedes these.
+pub(crate) fn sysmod(
+    alloc: Global,
+    rows: &[Row],
+    conds: CondNeeds,
+    sup: Ids,
+) -> Result<Option<Sysmod>, ReadFault>
+    ensures { IfOk result (λ found.
+        one_of (sysmod_found (record { conds = conds; sup = sup })) rows.now ≡ Some found) }
 {
     let Some(row) = only(rows)? else {
         return Ok(None);
     };
-    let sysmod = sysmod_in(alloc, row, sup)?.ok_or(ReadFault::Device)?;
+    let sysmod = sysmod_in(alloc, row, conds, sup)?.ok_or(ReadFault::Device)?;
     Ok(Some(sysmod))
 }
 

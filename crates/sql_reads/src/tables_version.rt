@@ -3,6 +3,7 @@ ghost use Rattle.std.specs.Prelude.{◌≡◌, IfOk, IsTrue, Some, false};
 ghost use Rattle.sqlite.specs.Held.{state};
 ghost use Rattle.sqlite.specs.State.{HasCleanDisk};
 ghost use Rattle.sql_reads.specs.Version.{HasVersion, version_in};
+ghost use Rattle.sql_state.specs.Earlier.{IsOfVersion1};
 ghost use Rattle.sql_state.specs.Ours.{IsOurs};
 ghost use Rattle.sql_state.specs.Reading.{OnlyReads};
 
@@ -12,7 +13,8 @@ use sql_tables::count_in;
 use sql_texts::read;
 use sqlite::{Alter, Connection, Row};
 
-/// The version of the tables, or `None` where not one row tells it. Tables of the bureau's own are of version 1.
+/// The version of the tables, or `None` where not one row tells it. Tables of the bureau's own are of version 2; those of
+/// version 1 lack one table.
 ///
 /// # Errors
 ///
@@ -25,7 +27,9 @@ pub fn version<S: Alter>(conn: &mut Connection<S>) -> Result<Option<u64>, ReadFa
     ensures version { IfOk result (λ version. HasCleanDisk (state S.Store conn.new)
         → HasVersion version (state S.Store conn.old).committed) }
     ensures ours { IfOk result (λ version. HasCleanDisk (state S.Store conn.new)
-        → IsOurs (state S.Store conn.old).committed → version ≡ Some 1) }
+        → IsOurs (state S.Store conn.old).committed → version ≡ Some 2) }
+    ensures earlier { IfOk result (λ version. HasCleanDisk (state S.Store conn.new)
+        → IsOfVersion1 (state S.Store conn.old).committed → version ≡ Some 1) }
 {
     let rows = rows_of(conn, read::version(), &[])?;
     Ok(told(rows.as_slice()))

@@ -1,3 +1,4 @@
+pub mod Earlier
 pub mod Numbered
 pub mod Ours
 pub mod Reading

@@ -1,5 +1,5 @@
 -- The databases that are the bureau's own.
-use Rattle.std.specs.Prelude.{◌≡◌, List, [], ◌∷◌, pos}
+use Rattle.std.specs.Prelude.{◌≡◌, ℕ, List, [], ◌∷◌, pos}
 use Rattle.sqlite.specs.Effect.{Database}
 use Rattle.sqlite.specs.Order.{Row}
 use Rattle.sqlite.specs.Tree.{Trees}
@@ -14,17 +14,17 @@ use Rattle.sql_state.specs.Numbered.{AreNumbered}
 abbrev pub held_by : Database → Stored
 held_by database = stored_in database.trees
 
--- the row of version 1, after its rowid, which its first column is
-abbrev pub version_rows : List Row
-version_rows = (Int (pos 1) ∷ Null ∷ Int (pos 1) ∷ []) ∷ []
+-- the row of a version, after its rowid, which its first column is
+abbrev pub version_rows : ℕ → List Row
+version_rows version = (Int (pos 1) ∷ Null ∷ Int (pos version) ∷ []) ∷ []
 
--- In the trees of the tables stand rows that the bureau wrote, under numbers that rise, and the row of version 1.
+-- In the trees of the tables stand rows that the bureau wrote, under numbers that rise, and the row of version 2.
 pub record AreOurs (trees : Trees) : Type 0 where
   pub numbered : AreNumbered trees
-  pub version : trees 0 ≡ version_rows
+  pub version : trees 0 ≡ version_rows 2
   pub whole : IsWhole (stored_in trees)
 
--- It has the tables of version 1, and in them rows that the bureau wrote.
+-- It has the tables of version 2, and in them rows that the bureau wrote.
 pub record IsOurs (database : Database) : Type 0 where
   pub schema : database.schema ≡ bureau
   pub rows : AreOurs database.trees

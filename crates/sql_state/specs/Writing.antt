@@ -7,7 +7,7 @@ use Rattle.sql_texts.specs.Schema.{bureau}
 use Rattle.sql_state.specs.Numbered.{AreNumbered}
 use Rattle.sql_state.specs.Ours.{held_by}
 
--- the tables of version 1 with rows that obey it and are numbered, as the transaction sees them
+-- the tables of version 2 with rows that obey it and are numbered, as the transaction sees them
 pub record IsKnown (database : Database) : Type 0 where
   pub schema : database.schema ≡ bureau
   pub sound : IsDatabase database

@@ -1,10 +1,15 @@
 -- What the rows say of the published content, by id and by key, and what a publication makes of it.
 use Rattle.std.proofs.Common.{◌≡◌, ℕ, Bool, true, false, cond, ◌&&◌, ◌||◌, List, [], ◌∷◌, refl, sym, ◌∙◌, ap, if◌then◌else◌}
 use Rattle.std.specs.Prelude.{filter, find, map, reverse, fold, Option, Some, None, option_map, option_and_then, unwrap_or}
+use Rattle.std.specs.BTreeSet.{insert_key}
+use Rattle.std.specs.Cmp.{IsTotalOrder}
 use Rattle.std.specs.List.{AllByRecursion, filter_map, cons_option, list_any}
+use Rattle.std.specs.List.Sorted.{IsStrictlySortedBy}
+use Rattle.std.specs.declared.cmp.Ordering.{Ordering}
 use Rattle.std.specs.Option.{option_or}
 use Rattle.std.proofs.lemmas.List.{reverse-append}
 use Rattle.std.proofs.lemmas.List.Folds.{find-append}
+use Rattle.std.proofs.lemmas.Map.Lookups.{CmpEqualImpliesEq}
 use Rattle.mcs_reader.specs.Id.{IsId}
 use Rattle.holddata.specs.HoldBook.{book_of, hold_under}
 use Rattle.holddata.specs.HoldChange.{hold_left, hold_put, names}
@@ -17,6 +22,7 @@ use Rattle.holddata.specs.declared.key.Kind.{Kind}
 use Rattle.holddata.specs.declared.key.Kind.TheVariants.{ErrorHold, SystemHold, UserHold, FixcatHold}
 use Rattle.holddata.proofs.BookFacts.{book_of_is_left}
 use Rattle.holddata.proofs.KeyFacts.{same_key, turned_same}
+use Rattle.catalogue.specs.Conditional.{put_conds}
 use Rattle.catalogue.specs.Content.{IsInOrder, record_of}
 use Rattle.catalogue.specs.Ids.{same_id, in_order}
 use Rattle.catalogue.specs.Publication.{after, last_of}
@@ -24,29 +30,29 @@ use Rattle.catalogue.specs.declared.change.Change.{Change}
 use Rattle.catalogue.specs.declared.change.Change.TheVariants.{Whole, OfHold}
 use Rattle.catalogue.specs.declared.sysmod.Sysmod.{Sysmod}
 use Rattle.catalogue.specs.declared.sysmod.SysmodKind.{SysmodKind}
-use Rattle.catalogue.proofs.IdFacts.{itself, one_id, same_back}
+use Rattle.catalogue.proofs.IdFacts.{conds_total, exact_ids, ids_total, itself, one_id, same_back}
 use Rattle.catalogue.proofs.PublicationFacts.{after_more, after_none, after_only}
 use Rattle.catalogue.proofs.RecordFacts.{catalogue_is, last_append}
 use Rattle.sqlite_value.specs.Order.{Row, column}
 use Rattle.sql_tables.specs.Changes.{holds_changed, is_under, published, replaced}
-use Rattle.sql_tables.specs.Fit.{IsFitChange, IsHold, IsRecord}
-use Rattle.sql_tables.specs.Rows.{hold_found, hold_row, hold_with, key_found, sup_row, sysmod_found, sysmod_row, with}
-use Rattle.sql_tables.specs.Stored.{Stored, content_of, is_of, sup_of, sysmods_of}
+use Rattle.sql_tables.specs.Fit.{IsCond, IsFitChange, IsHold, IsRecord}
+use Rattle.sql_tables.specs.Rows.{Beside, cond_found, cond_row, hold_found, hold_row, hold_with, key_found, sup_row, sysmod_found, sysmod_row, with}
+use Rattle.sql_tables.specs.Stored.{Stored, beside_of, content_of, is_of, shown, sysmods_of}
 use Rattle.sql_tables.specs.Values.{categories_in, date_in, hold_kind_in, id_in, ids_in, optional_id_in, sysmod_kind_in}
 use Rattle.sql_tables.proofs.ClientFacts.{of_apart}
 use Rattle.sql_tables.proofs.ListFacts.{filter_all, filter_none, filter_other, filter_same}
-use Rattle.sql_tables.proofs.OrderFacts.{in_order_same}
-use Rattle.sql_tables.proofs.RowFacts.{hold_again, sysmod_again}
+use Rattle.sql_tables.proofs.RowFacts.{cond_again, hold_again, sysmod_again}
+use Rattle.sql_tables.proofs.SetFacts.{exact_conds, set_same}
 use Rattle.sql_tables.proofs.ValueFacts.{id_again, named_itself, named_value}
 
 -- ---- records
 
 -- a record that is read has the id of its row
-pub sysmod_own : (sup : List (List ℕ)) (row : Row) (sysmod : Sysmod) → sysmod_found sup row ≡ Some sysmod → id_in (column row 0) ≡ Some sysmod.id
-sysmod_own sup row sysmod h = by (id_in (column row 0)) (sysmod_kind_in (column row 1)) (ids_in (column row 2)) (ids_in (column row 3)) (ids_in (column row 4)) h
+pub sysmod_own : (beside : Beside) (row : Row) (sysmod : Sysmod) → sysmod_found beside row ≡ Some sysmod → id_in (column row 0) ≡ Some sysmod.id
+sysmod_own beside row sysmod h = by (id_in (column row 0)) (sysmod_kind_in (column row 1)) (ids_in (column row 2)) (ids_in (column row 3)) (ids_in (column row 4)) h
   where
     by : (id : Option (List ℕ)) (kind : Option SysmodKind) (fmids pre req : Option (List (List ℕ)))
-        → with id (λ i. with kind (λ k. with fmids (λ f. with pre (λ p. option_map (λ r. record { id = i; kind = k; fmids = f; pre = p; req = r; sup = sup }) req)))) ≡ Some sysmod
+        → with id (λ i. with kind (λ k. with fmids (λ f. with pre (λ p. option_map (λ r. record { id = i; kind = k; fmids = f; pre = p; req = r; conds = beside.conds; sup = beside.sup }) req)))) ≡ Some sysmod
         → id ≡ Some sysmod.id
     by None kind fmids pre req h = cc
     by (Some i) None fmids pre req h = cc
@@ -55,7 +61,7 @@ sysmod_own sup row sysmod h = by (id_in (column row 0)) (sysmod_kind_in (column 
     by (Some i) (Some k) (Some f) (Some p) None h = cc
     by (Some i) (Some k) (Some f) (Some p) (Some r) h = ap Some (some_id h)
       where
-        some_id : ◌≡◌ {A = Option Sysmod} (Some (record { id = i; kind = k; fmids = f; pre = p; req = r; sup = sup })) (Some sysmod) → i ≡ sysmod.id
+        some_id : ◌≡◌ {A = Option Sysmod} (Some (record { id = i; kind = k; fmids = f; pre = p; req = r; conds = beside.conds; sup = beside.sup })) (Some sysmod) → i ≡ sysmod.id
         some_id e = ap (λ (o : Option Sysmod). unwrap_or (option_map (λ (s : Sysmod). s.id) o) i) e
 
 -- one record before others, as the last of an id sees it
@@ -80,82 +86,107 @@ more_other id i None own apart xs = refl
 more_other id i (Some x) own apart xs = ap (λ b. option_or (last_of xs id) (cond b (Some x) None)) (ap (λ k. same_id k id) (own x refl) ∙ apart) ∙ or_none (last_of xs id)
 
 -- the records of an id's rows
-abbrev pub records_by : List Row → List ℕ → List Row → List Sysmod
-records_by sups id rows = filter_map (sysmod_found (sup_of sups id)) rows
+abbrev pub records_by : (List ℕ → Beside) → List ℕ → List Row → List Sysmod
+records_by beside id rows = filter_map (sysmod_found (beside id)) rows
 
 -- the last record of an id is read from the rows of that id alone
-last_by : (sups rows : List Row) (id : List ℕ) → last_of (sysmods_of sups rows) id ≡ last_of (records_by sups id (filter (is_of id) rows)) id
-last_by sups [] id = refl
-last_by sups (row ∷ rows) id = by (id_in (column row 0)) refl (last_by sups rows id)
+last_by : (beside : List ℕ → Beside) (rows : List Row) (id : List ℕ) → last_of (sysmods_of beside rows) id ≡ last_of (records_by beside id (filter (is_of id) rows)) id
+last_by beside [] id = refl
+last_by beside (row ∷ rows) id = by (id_in (column row 0)) refl (last_by beside rows id)
   where
-    by : (o : Option (List ℕ)) → id_in (column row 0) ≡ o → last_of (sysmods_of sups rows) id ≡ last_of (records_by sups id (filter (is_of id) rows)) id
-        → last_of (cons_option (option_and_then (λ i. sysmod_found (sup_of sups i) row) (id_in (column row 0))) (sysmods_of sups rows)) id
-        ≡ last_of (records_by sups id (cond (unwrap_or (option_map (λ found. same_id found id) (id_in (column row 0))) false) (row ∷ filter (is_of id) rows) (filter (is_of id) rows))) id
+    by : (o : Option (List ℕ)) → id_in (column row 0) ≡ o → last_of (sysmods_of beside rows) id ≡ last_of (records_by beside id (filter (is_of id) rows)) id
+        → last_of (cons_option (option_and_then (λ i. sysmod_found (beside i) row) (id_in (column row 0))) (sysmods_of beside rows)) id
+        ≡ last_of (records_by beside id (cond (unwrap_or (option_map (λ found. same_id found id) (id_in (column row 0))) false) (row ∷ filter (is_of id) rows) (filter (is_of id) rows))) id
     by None is later =
-        ap (λ o. last_of (cons_option (option_and_then (λ i. sysmod_found (sup_of sups i) row) o) (sysmods_of sups rows)) id) is
+        ap (λ o. last_of (cons_option (option_and_then (λ i. sysmod_found (beside i) row) o) (sysmods_of beside rows)) id) is
         ∙ later
-        ∙ sym (ap (λ o. last_of (records_by sups id (cond (unwrap_or (option_map (λ found. same_id found id) o) false) (row ∷ filter (is_of id) rows) (filter (is_of id) rows))) id) is)
+        ∙ sym (ap (λ o. last_of (records_by beside id (cond (unwrap_or (option_map (λ found. same_id found id) o) false) (row ∷ filter (is_of id) rows) (filter (is_of id) rows))) id) is)
     by (Some i) is later =
-        ap (λ o. last_of (cons_option (option_and_then (λ i. sysmod_found (sup_of sups i) row) o) (sysmods_of sups rows)) id) is
-        ∙ last_cons id (sysmod_found (sup_of sups i) row) (sysmods_of sups rows)
+        ap (λ o. last_of (cons_option (option_and_then (λ i. sysmod_found (beside i) row) o) (sysmods_of beside rows)) id) is
+        ∙ last_cons id (sysmod_found (beside i) row) (sysmods_of beside rows)
         ∙ here (same_id i id) refl
-        ∙ sym (ap (λ o. last_of (records_by sups id (cond (unwrap_or (option_map (λ found. same_id found id) o) false) (row ∷ filter (is_of id) rows) (filter (is_of id) rows))) id) is)
+        ∙ sym (ap (λ o. last_of (records_by beside id (cond (unwrap_or (option_map (λ found. same_id found id) o) false) (row ∷ filter (is_of id) rows) (filter (is_of id) rows))) id) is)
       where
-        own : (x : Sysmod) → sysmod_found (sup_of sups i) row ≡ Some x → x.id ≡ i
-        own x h = let e : Some x.id ≡ Some i = sym (sysmod_own (sup_of sups i) row x h) ∙ is in cc
+        own : (x : Sysmod) → sysmod_found (beside i) row ≡ Some x → x.id ≡ i
+        own x h = let e : Some x.id ≡ Some i = sym (sysmod_own (beside i) row x h) ∙ is in cc
 
-        here : (b : Bool) → same_id i id ≡ b → more id (sysmod_found (sup_of sups i) row) (sysmods_of sups rows)
-            ≡ last_of (records_by sups id (cond (same_id i id) (row ∷ filter (is_of id) rows) (filter (is_of id) rows))) id
+        here : (b : Bool) → same_id i id ≡ b → more id (sysmod_found (beside i) row) (sysmods_of beside rows)
+            ≡ last_of (records_by beside id (cond (same_id i id) (row ∷ filter (is_of id) rows) (filter (is_of id) rows))) id
         here true at =
-            more_same id (sysmod_found (sup_of sups i) row) (sysmods_of sups rows) (records_by sups id (filter (is_of id) rows)) later
-            ∙ ap (λ k. more id (sysmod_found (sup_of sups k) row) (records_by sups id (filter (is_of id) rows))) (one_id i id at)
-            ∙ sym (last_cons id (sysmod_found (sup_of sups id) row) (records_by sups id (filter (is_of id) rows)))
-            ∙ sym (ap (λ b. last_of (records_by sups id (cond b (row ∷ filter (is_of id) rows) (filter (is_of id) rows))) id) at)
+            more_same id (sysmod_found (beside i) row) (sysmods_of beside rows) (records_by beside id (filter (is_of id) rows)) later
+            ∙ ap (λ k. more id (sysmod_found (beside k) row) (records_by beside id (filter (is_of id) rows))) (one_id i id at)
+            ∙ sym (last_cons id (sysmod_found (beside id) row) (records_by beside id (filter (is_of id) rows)))
+            ∙ sym (ap (λ b. last_of (records_by beside id (cond b (row ∷ filter (is_of id) rows) (filter (is_of id) rows))) id) at)
         here false at =
-            more_other id i (sysmod_found (sup_of sups i) row) own at (sysmods_of sups rows)
+            more_other id i (sysmod_found (beside i) row) own at (sysmods_of beside rows)
             ∙ later
-            ∙ sym (ap (λ b. last_of (records_by sups id (cond b (row ∷ filter (is_of id) rows) (filter (is_of id) rows))) id) at)
+            ∙ sym (ap (λ b. last_of (records_by beside id (cond b (row ∷ filter (is_of id) rows) (filter (is_of id) rows))) id) at)
 
--- so it is read from the rows of that id in both tables
+-- so it is read from the rows of that id in all its tables
 pub record_by : (stored : Stored) (id : List ℕ)
-    → record_of (content_of stored) id ≡ last_of (records_by stored.sups id (filter (is_of id) stored.sysmods)) id
-record_by stored id = (catalogue_is (sysmods_of stored.sups stored.sysmods)).finds id ∙ last_by stored.sups stored.sysmods id
+    → record_of (content_of stored) id ≡ last_of (records_by (beside_of stored) id (filter (is_of id) stored.sysmods)) id
+record_by stored id = (catalogue_is (sysmods_of (beside_of stored) stored.sysmods)).finds id ∙ last_by (beside_of stored) stored.sysmods id
 
--- what a record supersedes is read again
-sups_read : (id : List ℕ) (sup : List (List ℕ)) → AllByRecursion IsId sup → filter_map (λ row. id_in (column row 1)) (map (sup_row id) sup) ≡ sup
-sups_read id [] h = refl
-sups_read id (member ∷ sup) h =
-    ap (λ o. cons_option o (filter_map (λ row. id_in (column row 1)) (map (sup_row id) sup))) (id_again member h.0) ∙ ap (λ rest. member ∷ rest) (sups_read id sup h.1)
+-- ---- lists in order that stand beside a record, in rows of its id
 
+-- the rows of a list are read again
+listed_again : {X : Type 0} (P : X → Type 0) (make : X → Row) (read : Row → Option X) → ((x : X) → P x → read (make x) ≡ Some x) → (xs : List X) → AllByRecursion P xs
+    → filter_map read (map make xs) ≡ xs
+listed_again P make read again [] h = refl
+listed_again P make read again (x ∷ xs) h =
+    ap (λ o. cons_option o (filter_map read (map make xs))) (again x h.0) ∙ ap (λ rest. x ∷ rest) (listed_again P make read again xs h.1)
+
+-- the rows of a list come in place of those of its id
+module _ {X : Type 0} (make : X → Row) (id : List ℕ) (own : (x : X) → is_of id (make x) ≡ true) (xs : List X) (rows : List Row) where
+  listed_own : {cmp : X → X → Ordering} → IsTotalOrder cmp → CmpEqualImpliesEq cmp → (P : X → Type 0) (read : Row → Option X) → ((x : X) → P x → read (make x) ≡ Some x)
+      → AllByRecursion P xs → IsStrictlySortedBy cmp xs → fold (insert_key cmp) [] (filter_map read (filter (is_of id) (replaced (is_of id) (map make xs) rows))) ≡ xs
+  listed_own {cmp} total exact P read again all ascend =
+      ap (λ found. fold (insert_key cmp) [] (filter_map read found)) (filter_same (is_of id) (map make xs) rows ∙ filter_all (is_of id) make own xs)
+      ∙ ap (fold (insert_key cmp) []) (listed_again P make read again xs all)
+      ∙ set_same total exact xs ascend
+
+  listed_other : (other : List ℕ) → same_id id other ≡ false → filter (is_of other) (replaced (is_of id) (map make xs) rows) ≡ filter (is_of other) rows
+  listed_other other apart =
+      filter_other (is_of other) (is_of id) (map make xs) rows (of_apart other id (same_back other id ∙ apart))
+      (filter_none (is_of other) make (λ x. of_apart id other apart (make x) (own x)) xs)
+
+-- a record is published
 module _ (stored : Stored) (x : Sysmod) (is : IsRecord x) where
   abbrev new : Stored
   new = published stored (Whole x)
 
-  sup_own : sup_of new.sups x.id ≡ x.sup
-  sup_own =
-      ap (λ rows. in_order (filter_map (λ row. id_in (column row 1)) rows))
-      (filter_same (is_of x.id) (map (sup_row x.id) x.sup) stored.sups ∙ filter_all (is_of x.id) (sup_row x.id) (λ member. named_itself x.id is.id) x.sup)
-      ∙ ap in_order (sups_read x.id x.sup is.sup)
-      ∙ in_order_same x.sup is.ascend
+  beside_own : beside_of new x.id ≡ record { conds = x.conds; sup = x.sup }
+  beside_own =
+      let conds = listed_own (cond_row x.id) x.id (λ cond. named_itself x.id is.id) x.conds stored.conds conds_total exact_conds IsCond
+      (λ row. cond_found (shown (1 ∷ 2 ∷ []) row)) (cond_again x.id) is.conds is.conds_ascend in
+      let sup = listed_own (sup_row x.id) x.id (λ member. named_itself x.id is.id) x.sup stored.sups ids_total exact_ids IsId (λ row. id_in (column row 1)) id_again is.sup is.ascend in
+      λ i. record { conds = conds i; sup = sup i }
+
+  beside_other : (id : List ℕ) → same_id x.id id ≡ false → beside_of new id ≡ beside_of stored id
+  beside_other id apart =
+      let conds = listed_other (cond_row x.id) x.id (λ cond. named_itself x.id is.id) x.conds stored.conds id apart in
+      let sups = listed_other (sup_row x.id) x.id (λ member. named_itself x.id is.id) x.sup stored.sups id apart in
+      λ i. record {
+        conds = put_conds [] (filter_map (λ row. cond_found (shown (1 ∷ 2 ∷ []) row)) (conds i));
+        sup = in_order (filter_map (λ row. id_in (column row 1)) (sups i));
+      }
 
   record_own : record_of (content_of new) x.id ≡ Some x
   record_own =
       record_by new x.id
-      ∙ ap (λ rows. last_of (records_by new.sups x.id rows) x.id)
+      ∙ ap (λ rows. last_of (records_by (beside_of new) x.id rows) x.id)
       (filter_same (is_of x.id) (sysmod_row x ∷ []) stored.sysmods ∙ ap (λ b. cond b (sysmod_row x ∷ []) []) (named_itself x.id is.id))
-      ∙ ap (λ sup. last_of (cons_option (sysmod_found sup (sysmod_row x)) []) x.id) sup_own
+      ∙ ap (λ beside. last_of (cons_option (sysmod_found beside (sysmod_row x)) []) x.id) beside_own
       ∙ ap (λ o. last_of (cons_option o []) x.id) (sysmod_again x is)
       ∙ ap (λ b. cond b (Some x) None) (itself x.id)
 
   record_other : (id : List ℕ) → same_id x.id id ≡ false → record_of (content_of new) id ≡ record_of (content_of stored) id
   record_other id apart =
-      let back : same_id id x.id ≡ false = same_back id x.id ∙ apart in
       record_by new id
-      ∙ ap (λ rows. last_of (filter_map (sysmod_found (in_order (filter_map (λ row. id_in (column row 1)) rows))) (filter (is_of id) new.sysmods)) id)
-      (filter_other (is_of id) (is_of x.id) (map (sup_row x.id) x.sup) stored.sups (of_apart id x.id back)
-      (filter_none (is_of id) (sup_row x.id) (λ member. named_value x.id id is.id ∙ apart) x.sup))
-      ∙ ap (λ rows. last_of (records_by stored.sups id rows) id)
-      (filter_other (is_of id) (is_of x.id) (sysmod_row x ∷ []) stored.sysmods (of_apart id x.id back) (ap (λ b. cond b (sysmod_row x ∷ []) []) (named_value x.id id is.id ∙ apart)))
+      ∙ ap (λ beside. last_of (filter_map (sysmod_found beside) (filter (is_of id) new.sysmods)) id) (beside_other id apart)
+      ∙ ap (λ rows. last_of (records_by (beside_of stored) id rows) id)
+      (filter_other (is_of id) (is_of x.id) (sysmod_row x ∷ []) stored.sysmods (of_apart id x.id (same_back id x.id ∙ apart))
+      (ap (λ b. cond b (sysmod_row x ∷ []) []) (named_value x.id id is.id ∙ apart)))
       ∙ sym (record_by stored id)
 
   pub record_after : (id : List ℕ) → record_of (content_of new) id ≡ option_or (cond (same_id x.id id) (Some x) None) (record_of (content_of stored) id)
@@ -329,7 +360,7 @@ holds_after (Release gone) rows key is = by (is_same_key gone key) refl
 
 pub content_in_order : (stored : Stored) → IsInOrder (content_of stored)
 content_in_order stored = record {
-  sysmods = (catalogue_is (sysmods_of stored.sups stored.sysmods)).ascend;
+  sysmods = (catalogue_is (sysmods_of (beside_of stored) stored.sysmods)).ascend;
   holds = (book_of_is_left (map Put (filter_map hold_found stored.holds))).in_key_order;
 }
 

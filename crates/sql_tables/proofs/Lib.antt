@@ -10,6 +10,7 @@ pub mod OrderFacts
 pub mod ReadFacts
 pub mod RecordFacts
 pub mod RowFacts
+pub mod SetFacts
 pub mod TreeFacts
 pub mod ValueFacts
 pub mod ZoneFacts

@@ -6,36 +6,38 @@ use Rattle.std.specs.List.Sorted.{IsPermutation}
 use Rattle.std.specs.Option.{option_or}
 use Rattle.std.proofs.lemmas.List.{reverse-append}
 use Rattle.std.proofs.lemmas.List.Folds.{find-append}
-use Rattle.std.proofs.lemmas.List.Sorted.{Contains-permutation, IsPermutation-sym}
+use Rattle.catalogue.specs.Conditional.{CondsAscend}
 use Rattle.catalogue.specs.Content as content
 use Rattle.catalogue.specs.Content.{ids_of, record_of}
 use Rattle.catalogue.specs.Ids.{Ascend, in_order, same_id}
 use Rattle.catalogue.specs.Publication.{catalogue_of, last_of}
+use Rattle.catalogue.specs.declared.conditional.CondNeed.{CondNeed}
 use Rattle.catalogue.specs.declared.sysmod.Sysmod.{Sysmod}
-use Rattle.catalogue.proofs.IdFacts.{in_order_any, in_order_ascends}
+use Rattle.catalogue.proofs.IdFacts.{conds_total, exact_ids, ids_total, in_order_any, in_order_ascends}
 use Rattle.catalogue.proofs.RecordFacts.{catalogue_is}
 use Rattle.sqlite_value.specs.Order.{Row, column}
-use Rattle.sql_tables.specs.Rows.{sysmod_found}
-use Rattle.sql_tables.specs.Stored.{Stored, content_of, is_of, sup_of, sysmods_of}
+use Rattle.sql_tables.specs.Rows.{cond_found, sysmod_found}
+use Rattle.sql_tables.specs.Stored.{Stored, beside_of, conds_of, content_of, is_of, shown, sup_of, sysmods_of}
 use Rattle.sql_tables.specs.Values.{id_in}
 use Rattle.sql_tables.proofs.ContentFacts.{record_by, records_by, sysmod_own}
 use Rattle.sql_tables.proofs.MemberFacts.{same_members}
 use Rattle.sql_tables.proofs.OrderFacts.{ids_found, map_same, same_by_key}
+use Rattle.sql_tables.proofs.SetFacts.{exact_conds, set_read}
 
 -- ---- a record
 
 -- no row of an id, no record
 pub no_record : (stored : Stored) (id : List ℕ) → filter (is_of id) stored.sysmods ≡ [] → record_of (content_of stored) id ≡ None
-no_record stored id none = record_by stored id ∙ ap (λ rows. last_of (records_by stored.sups id rows) id) none
+no_record stored id none = record_by stored id ∙ ap (λ rows. last_of (records_by (beside_of stored) id rows) id) none
 
 -- the one row of an id is its record
 pub one_record : (stored : Stored) (id : List ℕ) (row : Row) (sysmod : Sysmod) → filter (is_of id) stored.sysmods ≡ row ∷ [] → is_of id row ≡ true
-    → sysmod_found (sup_of stored.sups id) row ≡ Some sysmod → record_of (content_of stored) id ≡ Some sysmod
+    → sysmod_found (beside_of stored id) row ≡ Some sysmod → record_of (content_of stored) id ≡ Some sysmod
 one_record stored id row sysmod one is read =
     record_by stored id
-    ∙ ap (λ rows. last_of (records_by stored.sups id rows) id) one
+    ∙ ap (λ rows. last_of (records_by (beside_of stored) id rows) id) one
     ∙ ap (λ o. last_of (cons_option o []) id) read
-    ∙ ap (λ b. cond b (Some sysmod) None) (sym (ap (λ o. unwrap_or (option_map (λ found. same_id found id) o) false) (sysmod_own (sup_of stored.sups id) row sysmod read)) ∙ is)
+    ∙ ap (λ b. cond b (Some sysmod) None) (sym (ap (λ o. unwrap_or (option_map (λ found. same_id found id) o) false) (sysmod_own (beside_of stored id) row sysmod read)) ∙ is)
 
 -- ---- lists of ids
 
@@ -50,9 +52,12 @@ ids_read ids found ascend there back =
 -- what an id supersedes
 pub superseded_read : (sups : List Row) (id : List ℕ) (found : List (List ℕ)) → Ascend found
     → IsPermutation (filter_map (λ row. id_in (column row 1)) (filter (is_of id) sups)) found → found ≡ sup_of sups id
-superseded_read sups id found ascend permuted =
-    let read = filter_map (λ row. id_in (column row 1)) (filter (is_of id) sups) in
-    ids_read read found ascend (λ k. Contains-permutation read found k permuted) (λ k. Contains-permutation found read k (IsPermutation-sym read found permuted))
+superseded_read sups id found = set_read ids_total exact_ids (filter_map (λ row. id_in (column row 1)) (filter (is_of id) sups)) found
+
+-- what an id requires under a condition
+pub conditional_read : (conds : List Row) (id : List ℕ) (found : List CondNeed) → CondsAscend found
+    → IsPermutation (filter_map (λ row. cond_found (shown (1 ∷ 2 ∷ []) row)) (filter (is_of id) conds)) found → found ≡ conds_of conds id
+conditional_read conds id found = set_read conds_total exact_conds (filter_map (λ row. cond_found (shown (1 ∷ 2 ∷ []) row)) (filter (is_of id) conds)) found
 
 any_named : (xs : List Sysmod) (id : List ℕ) → list_any (λ k. same_id k id) (content.ids_in xs) ≡ list_any (content.is_of id) xs
 any_named [] id = refl
@@ -93,8 +98,8 @@ catalogue_ids xs =
 
 -- the ids that are catalogued
 pub all_ids_read : (stored : Stored) (found : List (List ℕ)) → Ascend found
-    → ((id : List ℕ) → Contains (content.ids_in (sysmods_of stored.sups stored.sysmods)) id → Contains found id)
-    → ((id : List ℕ) → Contains found id → Contains (content.ids_in (sysmods_of stored.sups stored.sysmods)) id)
+    → ((id : List ℕ) → Contains (content.ids_in (sysmods_of (beside_of stored) stored.sysmods)) id → Contains found id)
+    → ((id : List ℕ) → Contains found id → Contains (content.ids_in (sysmods_of (beside_of stored) stored.sysmods)) id)
     → found ≡ ids_of (content_of stored)
 all_ids_read stored found ascend there back =
-    ids_read (content.ids_in (sysmods_of stored.sups stored.sysmods)) found ascend there back ∙ sym (catalogue_ids (sysmods_of stored.sups stored.sysmods))
+    ids_read (content.ids_in (sysmods_of (beside_of stored) stored.sysmods)) found ascend there back ∙ sym (catalogue_ids (sysmods_of (beside_of stored) stored.sysmods))

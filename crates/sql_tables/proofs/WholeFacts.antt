@@ -21,11 +21,11 @@ use Rattle.bureau_store.specs.declared.caller.Caller.TheVariants.{Publisher, Cli
 use Rattle.bureau_store.specs.declared.caller.CallerRow.{CallerRow}
 use Rattle.sqlite_value.specs.Order.{Row, column}
 use Rattle.sql_tables.specs.Changes.{heads_after, is_kind, is_under, published, replaced, rows_after, stored_after}
-use Rattle.sql_tables.specs.Fit.{CanBeWritten, IsFit, IsFitChange, IsHold, IsRecord}
-use Rattle.sql_tables.specs.Rows.{caller_row, head_row, hold_row, sup_row, sysmod_row, zone_row}
+use Rattle.sql_tables.specs.Fit.{CanBeWritten, IsCond, IsFit, IsFitChange, IsHold, IsRecord}
+use Rattle.sql_tables.specs.Rows.{caller_row, cond_row, head_row, hold_row, sup_row, sysmod_row, zone_row}
 use Rattle.sql_tables.specs.Stored.{Stored, is_named, is_of, is_of_both, opened}
 use Rattle.sql_tables.specs.Values.{id_in, id_value, state_value, texts_value}
-use Rattle.sql_tables.specs.Whole.{AreRowsOf, HaveOwnKeys, Head, IsHead, IsMember, IsPlace, IsWhole, member_row, row_of_head, row_of_place}
+use Rattle.sql_tables.specs.Whole.{AreRowsOf, HaveOwnKeys, Head, IsCondition, IsHead, IsMember, IsPlace, IsWhole, condition_row, member_row, row_of_head, row_of_place}
 use Rattle.sql_tables.proofs.ClientFacts.{made_here}
 use Rattle.sql_tables.proofs.ContentFacts.{key_itself, row_under}
 use Rattle.sql_tables.proofs.ValueFacts.{id_again, named_itself}
@@ -160,7 +160,10 @@ one_whole (Whole x) stored fit whole = record {
   callers = whole.callers;
   sysmods = written_again sysmod_row IsRecord (is_of x.id) (sysmod_row x ∷ []) stored.sysmods whole.sysmods ((x, fit, refl), tt);
   sysmod_keys = own_replaced 1 (is_of x.id) (by_id x.id) (sysmod_row x ∷ []) stored.sysmods (named_itself x.id fit.id, tt) (tt, tt) whole.sysmod_keys;
-  sups = written_again member_row IsMember (is_of x.id) (map (sup_row x.id) x.sup) stored.sups whole.sups (members x.sup fit.sup);
+  sups = written_again member_row IsMember (is_of x.id) (map (sup_row x.id) x.sup) stored.sups whole.sups
+      (listed member_row IsMember IsId (λ member. record { id = x.id; member = member }) (λ member is. (fit.id, is)) x.sup fit.sup);
+  conds = written_again condition_row IsCondition (is_of x.id) (map (cond_row x.id) x.conds) stored.conds whole.conds
+      (listed condition_row IsCondition IsCond (λ cond. record { id = x.id; cond = cond }) (λ cond is. (fit.id, is)) x.conds fit.conds);
   holds = whole.holds;
   hold_keys = whole.hold_keys;
   heads = whole.heads;
@@ -169,14 +172,16 @@ one_whole (Whole x) stored fit whole = record {
   row_keys = whole.row_keys;
 }
   where
-    members : (sup : List (List ℕ)) → AllByRecursion IsId sup → AreRowsOf member_row IsMember (map (sup_row x.id) sup)
-    members [] all = tt
-    members (id ∷ sup) all = ((record { id = x.id; member = id }, (fit.id, all.0), refl), members sup all.1)
+    listed : {X Y : Type 0} (row_of : Y → Row) (Fits : Y → Type 0) (Is : X → Type 0) (make : X → Y) → ((x : X) → Is x → Fits (make x)) → (xs : List X) → AllByRecursion Is xs
+        → AreRowsOf row_of Fits (map (λ x. row_of (make x)) xs)
+    listed row_of Fits Is make fits [] all = tt
+    listed row_of Fits Is make fits (x ∷ xs) all = ((make x, fits x all.0, refl), listed row_of Fits Is make fits xs all.1)
 one_whole (OfHold (Put hold)) stored fit whole = record {
   callers = whole.callers;
   sysmods = whole.sysmods;
   sysmod_keys = whole.sysmod_keys;
   sups = whole.sups;
+  conds = whole.conds;
   holds = written_again hold_row IsHold (is_under hold.key) (hold_row hold ∷ []) stored.holds whole.holds ((hold, fit, refl), tt);
   hold_keys = own_replaced 3 (is_under hold.key) (by_hold hold.key) (hold_row hold ∷ []) stored.holds (row_under hold fit hold.key ∙ key_itself hold.key, tt) (tt, tt) whole.hold_keys;
   heads = whole.heads;
@@ -189,6 +194,7 @@ one_whole (OfHold (Release key)) stored fit whole = record {
   sysmods = whole.sysmods;
   sysmod_keys = whole.sysmod_keys;
   sups = whole.sups;
+  conds = whole.conds;
   holds = written_again hold_row IsHold (is_under key) [] stored.holds whole.holds tt;
   hold_keys = own_replaced 3 (is_under key) (by_hold key) [] stored.holds tt tt whole.hold_keys;
   heads = whole.heads;
@@ -299,6 +305,7 @@ whole_after Publisher (publication changes) last stored can whole =
       sysmods = left.sysmods;
       sysmod_keys = left.sysmod_keys;
       sups = left.sups;
+      conds = left.conds;
       holds = left.holds;
       hold_keys = left.hold_keys;
       heads = left.heads;
@@ -315,6 +322,7 @@ whole_after (Client client) e last stored can whole = record {
   sysmods = whole.sysmods;
   sysmod_keys = whole.sysmod_keys;
   sups = whole.sups;
+  conds = whole.conds;
   holds = whole.holds;
   hold_keys = whole.hold_keys;
   heads = heads_written client can.named.0 e stored.heads can.fit whole.heads;
@@ -330,6 +338,7 @@ whole_opened rows all = record {
   sysmods = tt;
   sysmod_keys = tt;
   sups = tt;
+  conds = tt;
   holds = tt;
   hold_keys = tt;
   heads = tt;

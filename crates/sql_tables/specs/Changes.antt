@@ -14,7 +14,7 @@ use Rattle.bureau_store.specs.declared.caller.Caller.{Caller}
 use Rattle.bureau_store.specs.declared.caller.Caller.TheVariants.{Publisher, Client}
 use Rattle.sqlite_value.specs.Order.{Row, column}
 use Rattle.sqlite_value.specs.declared.value.Value.{Value}
-use Rattle.sql_tables.specs.Rows.{change_row, head_row, hold_row, received_row, sup_row, sysmod_row, zone_row}
+use Rattle.sql_tables.specs.Rows.{change_row, cond_row, head_row, hold_row, received_row, sup_row, sysmod_row, zone_row}
 use Rattle.sql_tables.specs.Stored.{Stored, is_named, is_of, is_of_both, name_of}
 use Rattle.sql_tables.specs.Values.{hold_kind_in}
 
@@ -76,6 +76,7 @@ abbrev pub published : Stored → Change → Stored
 published stored (Whole sysmod) = record stored {
   sysmods = replaced (is_of sysmod.id) (sysmod_row sysmod ∷ []) stored.sysmods;
   sups = replaced (is_of sysmod.id) (map (sup_row sysmod.id) sysmod.sup) stored.sups;
+  conds = replaced (is_of sysmod.id) (map (cond_row sysmod.id) sysmod.conds) stored.conds;
 }
 published stored (OfHold change) = record stored { holds = holds_changed change stored.holds }
 

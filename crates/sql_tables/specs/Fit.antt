@@ -6,9 +6,11 @@ use Rattle.holddata.specs.Date.{is_date}
 use Rattle.holddata.specs.declared.hold.Hold.{Hold}
 use Rattle.holddata.specs.declared.hold.HoldChange.TheVariants.{Put, Release}
 use Rattle.mcs_reader.specs.Id.{IsId}
+use Rattle.catalogue.specs.Conditional.{CondsAscend}
 use Rattle.catalogue.specs.Ids.{Ascend}
 use Rattle.catalogue.specs.declared.change.Change.{Change}
 use Rattle.catalogue.specs.declared.change.Change.TheVariants.{Whole, OfHold}
+use Rattle.catalogue.specs.declared.conditional.CondNeed.{CondNeed}
 use Rattle.catalogue.specs.declared.sysmod.Sysmod.{Sysmod}
 use Rattle.zone_lists.specs.Pattern.{is_pattern}
 use Rattle.zone_lists.specs.ZoneList.{RowsAscend}
@@ -27,12 +29,17 @@ pub record AreZoneRows (rows : List ZoneRow) : Type 0 where
 abbrev pub AreIds : List (List ℕ) → Type 0
 AreIds ids = AllByRecursion IsId ids
 
+abbrev pub IsCond : CondNeed → Type 0
+IsCond cond = IsId cond.fmid × IsId cond.need
+
 -- a record of the catalogue
 pub record IsRecord (sysmod : Sysmod) : Type 0 where
   pub id : IsId sysmod.id
   pub fmids : AreIds sysmod.fmids
   pub pre : AreIds sysmod.pre
   pub req : AreIds sysmod.req
+  pub conds : AllByRecursion IsCond sysmod.conds
+  pub conds_ascend : CondsAscend sysmod.conds
   pub sup : AreIds sysmod.sup
   pub ascend : Ascend sysmod.sup
 

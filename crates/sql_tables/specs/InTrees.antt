@@ -15,6 +15,7 @@ stored_in trees = record {
   changes = columns_of (trees 4);
   sysmods = columns_of (trees 6);
   sups = columns_of (trees 8);
+  conds = columns_of (trees 19);
   holds = columns_of (trees 11);
   heads = columns_of (trees 13);
   rows = columns_of (trees 15);

@@ -3,6 +3,7 @@
 use Rattle.std.specs.Prelude.{ℕ, pos, List, [], ◌∷◌, Option, option_map, option_and_then}
 use Rattle.holddata.specs.declared.hold.Hold.{Hold}
 use Rattle.holddata.specs.declared.key.HoldKey.{HoldKey}
+use Rattle.catalogue.specs.declared.conditional.CondNeed.{CondNeed}
 use Rattle.catalogue.specs.declared.sysmod.Sysmod.{Sysmod}
 use Rattle.zone_lists.specs.declared.zones.ZoneRow.{ZoneRow}
 use Rattle.bureau_store.specs.Tables.{LastChange}
@@ -34,7 +35,7 @@ abbrev pub change_found : Row → Option LastChange
 change_found shown = with (number_in (column shown 0)) (λ number.
     option_map (λ reply. record { number = number; reply = reply }) (bytes_in (column shown 1)))
 
--- ---- sysmod: id, kind, fmids, pre, req; and sysmod_sup: id, member
+-- ---- sysmod: id, kind, fmids, pre, req; sysmod_sup: id, member; and sysmod_cond: id, fmid, member
 
 abbrev pub sysmod_row : Sysmod → Row
 sysmod_row sysmod =
@@ -44,15 +45,37 @@ sysmod_row sysmod =
 abbrev pub sup_row : List ℕ → List ℕ → Row
 sup_row id member = id_value id ∷ id_value member ∷ []
 
--- the record of a row, with what it supersedes
-abbrev pub sysmod_found : List (List ℕ) → Row → Option Sysmod
-sysmod_found sup row =
+abbrev pub cond_row : List ℕ → CondNeed → Row
+cond_row id cond = id_value id ∷ id_value cond.fmid ∷ id_value cond.need ∷ []
+
+-- a function and what is required where it is installed, of the two columns that a read shows
+abbrev pub cond_found : Row → Option CondNeed
+cond_found shown = with (id_in (column shown 0)) (λ fmid.
+    option_map (λ need. record { fmid = fmid; need = need }) (id_in (column shown 1)))
+
+-- what stands of a record beside its row, in rows of other tables
+pub record Beside : Type 0 where
+  -- what it requires under a condition
+  pub conds : List CondNeed
+  -- what it supersedes
+  pub sup : List (List ℕ)
+
+-- the record of a row, with what stands beside
+abbrev pub sysmod_found : Beside → Row → Option Sysmod
+sysmod_found beside row =
     with (id_in (column row 0)) (λ id.
     with (sysmod_kind_in (column row 1)) (λ kind.
     with (ids_in (column row 2)) (λ fmids.
     with (ids_in (column row 3)) (λ pre.
-    option_map (λ req. record { id = id; kind = kind; fmids = fmids; pre = pre; req = req; sup = sup })
-    (ids_in (column row 4))))))
+    option_map (λ req. record {
+      id = id;
+      kind = kind;
+      fmids = fmids;
+      pre = pre;
+      req = req;
+      conds = beside.conds;
+      sup = beside.sup;
+    }) (ids_in (column row 4))))))
 
 -- ---- hold_row: sysmod, kind, reason, fmid, class, dated, resolver, categories
 

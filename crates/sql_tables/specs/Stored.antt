@@ -7,9 +7,11 @@ use Rattle.std.specs.Str.{bytes_eq}
 use Rattle.holddata.specs.HoldBook.{book_of}
 use Rattle.holddata.specs.declared.hold.HoldChange.TheVariants.{Put}
 use Rattle.zone_lists.specs.declared.zones.ZoneRow.{ZoneRow}
+use Rattle.catalogue.specs.Conditional.{put_conds}
 use Rattle.catalogue.specs.Content.{Content}
 use Rattle.catalogue.specs.Ids.{in_order}
 use Rattle.catalogue.specs.Publication.{catalogue_of}
+use Rattle.catalogue.specs.declared.conditional.CondNeed.{CondNeed}
 use Rattle.catalogue.specs.declared.sysmod.Sysmod.{Sysmod}
 use Rattle.bureau_store.specs.Caller.{is_publisher, publisher_name}
 use Rattle.bureau_store.specs.Tables.{LastChange, Tables, ZoneTable, Zones, no_change}
@@ -17,7 +19,7 @@ use Rattle.bureau_store.specs.declared.caller.Caller.{Caller}
 use Rattle.bureau_store.specs.declared.caller.Caller.TheVariants.{Publisher, Client}
 use Rattle.sqlite_value.specs.Order.{Row, column}
 use Rattle.sqlite_value.specs.declared.value.Value.{Value}
-use Rattle.sql_tables.specs.Rows.{caller_found, change_found, hold_found, sysmod_found, zone_row_found}
+use Rattle.sql_tables.specs.Rows.{Beside, caller_found, change_found, cond_found, hold_found, sysmod_found, zone_row_found}
 use Rattle.sql_tables.specs.Values.{id_in, ids_in, patterns_in, text_in}
 
 -- the rows of each table but that of the version
@@ -26,6 +28,7 @@ pub record Stored : Type 0 where
   pub changes : List Row
   pub sysmods : List Row
   pub sups : List Row
+  pub conds : List Row
   pub holds : List Row
   pub heads : List Row
   pub rows : List Row
@@ -38,6 +41,7 @@ opened callers = record {
   changes = [];
   sysmods = [];
   sups = [];
+  conds = [];
   holds = [];
   heads = [];
   rows = [];
@@ -88,16 +92,24 @@ last_of rows caller = unwrap_or (option_and_then (change_of rows) (name_of calle
 abbrev pub sup_of : List Row → List ℕ → List (List ℕ)
 sup_of sups id = in_order (filter_map (λ row. id_in (column row 1)) (filter (is_of id) sups))
 
--- the record of a row
-abbrev pub sysmod_with : List Row → Row → Option Sysmod
-sysmod_with sups row = option_and_then (λ id. sysmod_found (sup_of sups id) row) (id_in (column row 0))
+-- what an id requires under a condition, in order
+abbrev pub conds_of : List Row → List ℕ → List CondNeed
+conds_of conds id = put_conds [] (filter_map (λ row. cond_found (shown (1 ∷ 2 ∷ []) row)) (filter (is_of id) conds))
 
-abbrev pub sysmods_of : List Row → List Row → List Sysmod
-sysmods_of sups sysmods = filter_map (sysmod_with sups) sysmods
+-- what stands of an id beside the row of its record
+abbrev pub beside_of : Stored → List ℕ → Beside
+beside_of stored id = record { conds = conds_of stored.conds id; sup = sup_of stored.sups id }
+
+-- the record of a row, where this stands of each id beside
+abbrev pub sysmod_with : (List ℕ → Beside) → Row → Option Sysmod
+sysmod_with beside row = option_and_then (λ id. sysmod_found (beside id) row) (id_in (column row 0))
+
+abbrev pub sysmods_of : (List ℕ → Beside) → List Row → List Sysmod
+sysmods_of beside sysmods = filter_map (sysmod_with beside) sysmods
 
 abbrev pub content_of : Stored → Content
 content_of stored = record {
-  sysmods = catalogue_of (sysmods_of stored.sups stored.sysmods);
+  sysmods = catalogue_of (sysmods_of (beside_of stored) stored.sysmods);
   holds = book_of (map Put (filter_map hold_found stored.holds));
 }
 

@@ -5,10 +5,11 @@ use Rattle.std.specs.List.{AllByRecursion, list_all}
 use Rattle.mcs_reader.specs.Id.{IsId}
 use Rattle.zone_lists.specs.Pattern.{is_pattern}
 use Rattle.zone_lists.specs.declared.zones.ZoneRow.{ZoneRow}
+use Rattle.catalogue.specs.declared.conditional.CondNeed.{CondNeed}
 use Rattle.bureau_store.specs.declared.caller.CallerRow.{CallerRow}
 use Rattle.sqlite_value.specs.Order.{Row}
-use Rattle.sql_tables.specs.Fit.{IsHold, IsRecord}
-use Rattle.sql_tables.specs.Rows.{caller_row, head_row, hold_row, sup_row, sysmod_row, zone_row}
+use Rattle.sql_tables.specs.Fit.{IsCond, IsHold, IsRecord}
+use Rattle.sql_tables.specs.Rows.{caller_row, cond_row, head_row, hold_row, sup_row, sysmod_row, zone_row}
 use Rattle.sql_tables.specs.Stored.{Stored}
 
 -- each row is the row of something fit
@@ -31,6 +32,17 @@ member_row member = sup_row member.id member.member
 
 abbrev pub IsMember : Member → Type 0
 IsMember member = IsId member.id × IsId member.member
+
+-- what a record requires under a condition: its id with the function and the other's
+pub record Condition : Type 0 where
+  pub id : List ℕ
+  pub cond : CondNeed
+
+abbrev pub condition_row : Condition → Row
+condition_row condition = cond_row condition.id condition.cond
+
+abbrev pub IsCondition : Condition → Type 0
+IsCondition condition = IsId condition.id × IsCond condition.cond
 
 -- a zone of a client, with the patterns that are asked for
 pub record Head : Type 0 where
@@ -61,6 +73,7 @@ pub record IsWhole (stored : Stored) : Type 0 where
   pub sysmods : AreRowsOf sysmod_row IsRecord stored.sysmods
   pub sysmod_keys : HaveOwnKeys 1 stored.sysmods
   pub sups : AreRowsOf member_row IsMember stored.sups
+  pub conds : AreRowsOf condition_row IsCondition stored.conds
   pub holds : AreRowsOf hold_row IsHold stored.holds
   pub hold_keys : HaveOwnKeys 3 stored.holds
   pub heads : AreRowsOf row_of_head IsHead stored.heads

@@ -4,7 +4,7 @@
 //!   of the rows is what the tables say
 //! - [`id_value`], [`date_value`] and so on: what stands in a column; [`id_in`] and so on: what it says
 //! - [`joined_ids`], [`joined_patterns`], [`categories_value`]: lists, of which each stands in one column
-//! - [`zone_row_in`], [`hold_in`], [`sysmod_in`], [`change_in`] and so on: what a row says
+//! - [`zone_row_in`], [`hold_in`], [`cond_in`], [`sysmod_in`], [`change_in`] and so on: what a row says
 //! - [`NoMemory`]: memory ran out
 //!
 //! `specs/` has what stands in a column (`Values`) and in a row (`Rows`), the tables that all rows stand for
@@ -21,7 +21,8 @@ pub use lists::{
     categories_in, categories_value, ids_in, joined_ids, joined_patterns, patterns_in,
 };
 pub use rows::{
-    change_in, count_in, hold_in, id_row_in, ids_row_in, patterns_row_in, sysmod_in, zone_row_in,
+    change_in, cond_in, count_in, hold_in, id_row_in, ids_row_in, patterns_row_in, sysmod_in,
+    zone_row_in,
 };
 pub use values::{
     date_in, date_value, hold_kind_in, hold_kind_value, id_in, id_value, optional_id_in,

@@ -12,7 +12,7 @@ use crate::lists::{categories_in, ids_in, patterns_in};
 use crate::values::{
     bytes_in, date_in, hold_kind_in, id_in, number_in, optional_id_in, state_in, sysmod_kind_in,
 };
-use catalogue::{Ids, Sysmod};
+use catalogue::{CondNeed, CondNeeds, Ids, Sysmod};
 use holddata::{Hold, HoldKey};
 use mcs_reader::Id;
 use sqlite::Row;
@@ -162,16 +162,31 @@ fn ascending_in(alloc: Global, list: ValueRef<'_>) -> Result<Option<Ids>, NoMemo
     Ok(Ids::from_ascending(ids))
 }
 
-/// A record of the catalogue, of all columns of its table and with what it supersedes.
+/// A function and what is required where it is installed, of the columns `fmid` and `member`.
+pub fn cond_in(row: &Row) -> Option<CondNeed>
+    ensures { result ≡ spec.cond_found row.now }
+{
+    let fmid = id_in(column(row, 0))?;
+    let need = id_in(column(row, 1))?;
+    Some(CondNeed { fmid, need })
+}
+
+/// A record of the catalogue, of all columns of its table, with what it requires under a condition and what it
+/// supersedes.
 ///
 /// # Errors
 ///
 /// Memory ran out.
-pub fn sysmod_in(alloc: Global, row: &Row, sup: Ids) -> Result<Option<Sysmod>, NoMemory>
-    ensures record { IfOk result (λ found.
-        IfSome found (λ sysmod. spec.sysmod_found sup row.now ≡ Some sysmod)) }
-    ensures none { IfOk result (λ found. found ≡ None
-        → (sysmod : SomeSysmod) → spec.sysmod_found sup row.now ≡ Some sysmod
+pub fn sysmod_in(
+    alloc: Global,
+    row: &Row,
+    conds: CondNeeds,
+    sup: Ids,
+) -> Result<Option<Sysmod>, NoMemory>
+    ensures record { IfOk result (λ found. IfSome found (λ sysmod.
+        spec.sysmod_found (record { conds = conds; sup = sup }) row.now ≡ Some sysmod)) }
+    ensures none { IfOk result (λ found. found ≡ None → (sysmod : SomeSysmod)
+        → spec.sysmod_found (record { conds = conds; sup = sup }) row.now ≡ Some sysmod
         → Ascend sysmod.fmids → Ascend sysmod.pre → Ascend sysmod.req → ⊥) }
 {
     let Some(id) = id_in(column(row, 0)) else {
@@ -195,6 +210,7 @@ pub fn sysmod_in(alloc: Global, row: &Row, sup: Ids) -> Result<Option<Sysmod>, N
         fmids,
         pre,
         req,
+        conds,
         sup,
     }))
 }

@@ -60,13 +60,17 @@ last_change = from_table 4 (is_given 1 0 ∷ []) (2 ∷ 3 ∷ []) (1 ∷ [])
 abbrev pub sysmod_ids : Query
 sysmod_ids = from_table 6 [] (1 ∷ []) (1 ∷ [])
 
--- the record of an id, without what it supersedes
+-- the record of an id, without what it supersedes and what it requires under a condition
 abbrev pub sysmod : Query
 sysmod = from_table 6 (is_given 1 0 ∷ []) (1 ∷ 2 ∷ 3 ∷ 4 ∷ 5 ∷ []) (1 ∷ [])
 
 -- what an id supersedes
 abbrev pub superseded : Query
 superseded = from_table 8 (is_given 1 0 ∷ []) (2 ∷ []) (2 ∷ [])
+
+-- what an id requires under a condition: the function, and what is required where it is installed
+abbrev pub conditional : Query
+conditional = from_table 19 (is_given 1 0 ∷ []) (2 ∷ 3 ∷ []) (2 ∷ 3 ∷ [])
 
 -- the catalogued ids that supersede an id: slot 2 is their record
 abbrev pub superseders : Query

@@ -1,4 +1,4 @@
--- The bureau's tables, version 1, as the database keeps them. A row is its rowid and then its columns, so
+-- The bureau's tables, version 2, as the database keeps them; those of version 1 are all but the last. A row is its rowid and then its columns, so
 -- that a table's first column has place 1.
 use Rattle.std.specs.Prelude.{ℕ, List, [], ◌∷◌, codes, map, take, Some, None, true, false, pos}
 use Rattle.sqlite.specs.Collation.TheVariants.{Binary}
@@ -74,7 +74,7 @@ last_change = table_of (codes "last_change") 4
     (1 ∷ [])
     (op2 (Compare Gt Binary) (col 1 2) (lit (Int (pos 0))) ∷ [])
 
--- the records of the catalogue, without what they supersede
+-- the records of the catalogue, without what they supersede and what they require under a condition
 abbrev pub sysmod : Table
 sysmod = table_of (codes "sysmod") 6
     (text_column (codes "id") ∷ number_column (codes "kind") ∷ text_column (codes "fmids")
@@ -112,6 +112,12 @@ abbrev pub received_list : Table
 received_list = table_of (codes "received_list") 17
     (text_column (codes "client") ∷ text_column (codes "ids") ∷ []) (1 ∷ []) []
 
+-- what each record requires where a function is installed
+abbrev pub sysmod_cond : Table
+sysmod_cond = table_of (codes "sysmod_cond") 19
+    (text_column (codes "id") ∷ text_column (codes "fmid") ∷ text_column (codes "member") ∷ [])
+    (1 ∷ 2 ∷ 3 ∷ []) []
+
 abbrev pub index_of : List ℕ → ℕ → ℕ → List ℕ → Index
 index_of name tree table columns = record {
   name = name;
@@ -148,17 +154,22 @@ indexes =
     ∷ index_of (codes "sqlite_autoindex_zone_head_1") 14 13 (1 ∷ 2 ∷ [])
     ∷ index_of (codes "sqlite_autoindex_zone_row_1") 16 15 (1 ∷ 2 ∷ 3 ∷ [])
     ∷ index_of (codes "sqlite_autoindex_received_list_1") 18 17 (1 ∷ [])
+    ∷ index_of (codes "sqlite_autoindex_sysmod_cond_1") 20 19 (1 ∷ 2 ∷ 3 ∷ [])
     ∷ []
 
 abbrev pub tables : List Table
 tables =
     bureau_version ∷ caller ∷ last_change ∷ sysmod ∷ sysmod_sup ∷ hold_row ∷ zone_head ∷ zone_row
-    ∷ received_list ∷ []
+    ∷ received_list ∷ sysmod_cond ∷ []
 
 -- the schema while the tables are made: so many of the tables and of the indexes
 abbrev pub made : ℕ → ℕ → Schema
 made so_many so_many_indexes =
     record { tables = take so_many tables; indexes = take so_many_indexes indexes; views = [] }
+
+-- the schema of version 1, before there were requisites under a condition
+abbrev pub bureau_1 : Schema
+bureau_1 = made 9 10
 
 -- the whole schema
 abbrev pub bureau : Schema

@@ -8,9 +8,9 @@ use Rattle.sqlite.specs.Term.{Term, lit, col}
 use Rattle.sqlite.specs.declared.types.Value.TheVariants.{Int, Null}
 use Rattle.sql_texts.specs.Reads.{from_table}
 
--- version 1 goes into the one row of its table, whose first column is the rowid
-abbrev pub first_version : Command
-first_version = Insert 0 (Values (lit (Int (pos 1)) ∷ lit Null ∷ lit (Int (pos 1)) ∷ []) 3)
+-- version 2 goes into the one row of its table, whose first column is the rowid
+abbrev pub this_version : Command
+this_version = Insert 0 (Values (lit (Int (pos 1)) ∷ lit Null ∷ lit (Int (pos 2)) ∷ []) 3)
 
 -- one row of all parameters, which are so many, goes into the table at a place; its rowid is chosen
 abbrev pub insert_given : ℕ → ℕ → Command

@@ -1,9 +1,9 @@
-//! The texts that make the tables of version 1, each over what those before it made.
+//! The texts that make the tables of version 2, each over what those before it made.
 #![tactic(auto, unfolding(sqlite::specs::Listing::understood, sqlite_tied::specs::Compute::everything))]
 
 ghost use Rattle.sql_texts.specs.Meaning.{MakesIndex, MakesTable};
 ghost use Rattle.sql_texts.specs.Schema as schema;
-ghost use Rattle.sql_texts.specs.Schema.{bureau, made};
+ghost use Rattle.sql_texts.specs.Schema.{bureau, bureau_1, made};
 
 /// The version of the tables, in one row.
 pub fn bureau_version() -> &'static str
@@ -28,7 +28,7 @@ pub fn last_change() -> &'static str
      CHECK (number > 0), body BLOB NOT NULL) STRICT"
 }
 
-/// The records of the catalogue, without what they supersede.
+/// The records of the catalogue, without what they supersede and what they require under a condition.
 pub fn sysmod() -> &'static str
     ensures { MakesTable (made 3 3) result.now schema.sysmod (made 4 4) }
 {
@@ -80,7 +80,15 @@ pub fn zone_row() -> &'static str
 
 /// What each client has received.
 pub fn received_list() -> &'static str
-    ensures { MakesTable (made 8 9) result.now schema.received_list bureau }
+    ensures { MakesTable (made 8 9) result.now schema.received_list bureau_1 }
 {
     "CREATE TABLE received_list (client TEXT NOT NULL PRIMARY KEY, ids TEXT NOT NULL) STRICT"
+}
+
+/// What each record requires where a function is installed. A file of version 1 has all tables but this.
+pub fn sysmod_cond() -> &'static str
+    ensures { MakesTable bureau_1 result.now schema.sysmod_cond bureau }
+{
+    "CREATE TABLE sysmod_cond (id TEXT NOT NULL, fmid TEXT NOT NULL, member TEXT NOT NULL, \
+     PRIMARY KEY (id, fmid, member)) STRICT"
 }

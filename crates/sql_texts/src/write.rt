@@ -7,13 +7,13 @@ ghost use Rattle.sqlite.specs.Schema.{Schema};
 ghost use Rattle.sql_texts.specs.Meaning.{Means};
 ghost use Rattle.sql_texts.specs.Reads.{is_given};
 ghost use Rattle.sql_texts.specs.Schema.{bureau};
-ghost use Rattle.sql_texts.specs.Writes.{delete_of, first_version, insert_given};
+ghost use Rattle.sql_texts.specs.Writes.{delete_of, insert_given, this_version};
 
-/// The version of these tables, 1.
+/// The version of these tables, 2.
 pub fn insert_version() -> &'static str
-    ensures { Means bureau result.now first_version 0 }
+    ensures { Means bureau result.now this_version 0 }
 {
-    "INSERT INTO bureau_version (one, version) VALUES (1, 1)"
+    "INSERT INTO bureau_version (one, version) VALUES (1, 2)"
 }
 
 /// A caller with its token, with the columns ?1 to ?2 in the order of the table.
@@ -30,7 +30,7 @@ pub fn insert_last_change() -> &'static str
     "INSERT INTO last_change (caller, number, body) VALUES (?1, ?2, ?3)"
 }
 
-/// A record, without what it supersedes, with the columns ?1 to ?5 in the order of the table.
+/// A record, without what it supersedes and what it requires under a condition, with the columns ?1 to ?5 in the order of the table.
 pub fn insert_sysmod() -> &'static str
     ensures { Means bureau result.now (insert_given 3 5) 5 }
 {
@@ -42,6 +42,14 @@ pub fn insert_sysmod_sup() -> &'static str
     ensures { Means bureau result.now (insert_given 4 2) 2 }
 {
     "INSERT INTO sysmod_sup (id, member) VALUES (?1, ?2)"
+}
+
+/// One SYSMOD that a record requires where a function is installed, with the columns ?1 to ?3 in the
+/// order of the table.
+pub fn insert_sysmod_cond() -> &'static str
+    ensures { Means bureau result.now (insert_given 9 3) 3 }
+{
+    "INSERT INTO sysmod_cond (id, fmid, member) VALUES (?1, ?2, ?3)"
 }
 
 /// A hold, with the columns ?1 to ?8 in the order of the table.
@@ -73,6 +81,13 @@ pub fn insert_received_list() -> &'static str
     "INSERT INTO received_list (client, ids) VALUES (?1, ?2)"
 }
 
+/// The version of the tables goes.
+pub fn delete_version() -> &'static str
+    ensures { Means bureau result.now (delete_of 0 0 []) 0 }
+{
+    "DELETE FROM bureau_version"
+}
+
 /// The last change of the caller ?1 goes.
 pub fn delete_last_change() -> &'static str
     ensures { Means bureau result.now (delete_of 2 4 (is_given 1 0 ∷ [])) 1 }
@@ -92,6 +107,13 @@ pub fn delete_superseded() -> &'static str
     ensures { Means bureau result.now (delete_of 4 8 (is_given 1 0 ∷ [])) 1 }
 {
     "DELETE FROM sysmod_sup WHERE id = ?1"
+}
+
+/// What the SYSMOD ?1 requires under a condition goes.
+pub fn delete_conditional() -> &'static str
+    ensures { Means bureau result.now (delete_of 9 19 (is_given 1 0 ∷ [])) 1 }
+{
+    "DELETE FROM sysmod_cond WHERE id = ?1"
 }
 
 /// The hold with the SYSMOD ?1, the kind ?2 and the reason ?3 goes.

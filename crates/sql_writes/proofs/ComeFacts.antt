@@ -2,6 +2,7 @@
 use Rattle.std.proofs.Common.{◌≡◌, ℕ, pos, List, [], ◌∷◌, Option, Some, None, Result, refl, ◌∙◌, ap, subst, arith}
 use Rattle.holddata.specs.HoldKey.{kind_place}
 use Rattle.holddata.specs.declared.hold.Hold.{Hold}
+use Rattle.catalogue.specs.declared.conditional.CondNeed.{CondNeed}
 use Rattle.catalogue.specs.declared.sysmod.Sysmod.{Sysmod}
 use Rattle.zone_lists.specs.declared.zones.ZoneRow.{ZoneRow}
 use Rattle.bureau_store.specs.Tables.{LastChange}
@@ -18,15 +19,15 @@ use Rattle.sql_texts.specs.Meaning.{Means}
 use Rattle.sql_texts.specs.Schema as schema
 use Rattle.sql_texts.specs.Schema.{bureau}
 use Rattle.sql_texts.specs.Writes.{insert_given}
-use Rattle.sql_tables.specs.Rows.{caller_row, change_row, head_row, hold_row, received_row, sup_row, sysmod_row, zone_row}
+use Rattle.sql_tables.specs.Rows.{caller_row, change_row, cond_row, head_row, hold_row, received_row, sup_row, sysmod_row, zone_row}
 use Rattle.sql_tables.specs.Values.{date_value, hold_kind_value, id_value, ids_value, optional_id_value, state_place, state_value, sysmod_kind_place, sysmod_kind_value, texts_value}
 use Rattle.sql_state.specs.Ours.{held_by}
 use Rattle.sql_state.specs.Writing.{Changes}
-use Rattle.sql_writes.specs.Parts.{with_callers, with_head, with_hold, with_last, with_received, with_rows, with_sups, with_sysmod}
+use Rattle.sql_writes.specs.Parts.{with_callers, with_conds, with_head, with_hold, with_last, with_received, with_rows, with_sups, with_sysmod}
 use Rattle.sql_writes.specs.Running.{Ran}
 use Rattle.sql_writes.proofs.ChangeFacts.{changed_by}
 use Rattle.sql_writes.proofs.StatementFacts.{cast_int, cast_null, inserts}
-use Rattle.sql_writes.proofs.StoredFacts.{callers_set, changes_set, come, heads_set, holds_set, known_after, received_set, rows_set, sups_set, sysmods_set}
+use Rattle.sql_writes.proofs.StoredFacts.{come, held_set, known_after}
 
 -- ---- a value is of its column's type already
 
@@ -57,7 +58,7 @@ module _ {A F : Type 0} (old new : State) (text : List ℕ) (result : Result A F
       changed_by old new text values result (with_callers (row ∷ [])) (subst (λ row. Ran text row old new result) (λ i. bound_value (at_a i) ∷ bound_value (at_b i) ∷ []) ran) (λ clean count known executes.
       let set = inserts text 1 schema.caller 2 values values old new count (means clean) refl refl refl (λ i. cast_null i ∷ caller_row row) known.schema known.numbered.1.0 executes in (
         known_after 1 _ old.now new.now known.numbered set,
-        callers_set _ old.now new.now set ∙ ap (λ all. record (held_by old.now) { callers = all }) (come rows (Int (next_rowid rows) ∷ values)),
+        held_set 1 _ old.now new.now set ∙ ap (λ all. record (held_by old.now) { callers = all }) (come rows (Int (next_rowid rows) ∷ values)),
         set.others.0 (λ e. omega (arith, e)),
       ))
 
@@ -69,7 +70,7 @@ module _ {A F : Type 0} (old new : State) (text : List ℕ) (result : Result A F
       changed_by old new text values result (with_last name last) (subst (λ row. Ran text row old new result) (λ i. bound_value (at_a i) ∷ bound_value (at_b i) ∷ bound_value (at_c i) ∷ []) ran) (λ clean count known executes.
       let set = inserts text 2 schema.last_change 3 values values old new count (means clean) refl refl refl (λ i. cast_null i ∷ id_value name ∷ cast_int (pos last.number) i ∷ Blob last.reply ∷ []) known.schema known.numbered.1.1.0 executes in (
         known_after 4 _ old.now new.now known.numbered set,
-        changes_set _ old.now new.now set ∙ ap (λ all. record (held_by old.now) { changes = all }) (come rows (Int (next_rowid rows) ∷ values)),
+        held_set 4 _ old.now new.now set ∙ ap (λ all. record (held_by old.now) { changes = all }) (come rows (Int (next_rowid rows) ∷ values)),
         set.others.0 (λ e. omega (arith, e)),
       ))
 
@@ -81,7 +82,7 @@ module _ {A F : Type 0} (old new : State) (text : List ℕ) (result : Result A F
       changed_by old new text values result (with_sysmod sysmod) (subst (λ row. Ran text row old new result) (λ i. bound_value (at_a i) ∷ bound_value (at_b i) ∷ bound_value (at_c i) ∷ bound_value (at_d i) ∷ bound_value (at_e i) ∷ []) ran) (λ clean count known executes.
       let set = inserts text 3 schema.sysmod 5 values values old new count (means clean) refl refl refl (λ i. cast_null i ∷ id_value sysmod.id ∷ cast_int (pos (sysmod_kind_place sysmod.kind)) i ∷ ids_value sysmod.fmids ∷ ids_value sysmod.pre ∷ ids_value sysmod.req ∷ []) known.schema known.numbered.1.1.1.0 executes in (
         known_after 6 _ old.now new.now known.numbered set,
-        sysmods_set _ old.now new.now set ∙ ap (λ all. record (held_by old.now) { sysmods = all }) (come rows (Int (next_rowid rows) ∷ values)),
+        held_set 6 _ old.now new.now set ∙ ap (λ all. record (held_by old.now) { sysmods = all }) (come rows (Int (next_rowid rows) ∷ values)),
         set.others.0 (λ e. omega (arith, e)),
       ))
 
@@ -93,7 +94,19 @@ module _ {A F : Type 0} (old new : State) (text : List ℕ) (result : Result A F
       changed_by old new text values result (with_sups id (member ∷ [])) (subst (λ row. Ran text row old new result) (λ i. bound_value (at_a i) ∷ bound_value (at_b i) ∷ []) ran) (λ clean count known executes.
       let set = inserts text 4 schema.sysmod_sup 2 values values old new count (means clean) refl refl refl (λ i. cast_null i ∷ sup_row id member) known.schema known.numbered.1.1.1.1.0 executes in (
         known_after 8 _ old.now new.now known.numbered set,
-        sups_set _ old.now new.now set ∙ ap (λ all. record (held_by old.now) { sups = all }) (come rows (Int (next_rowid rows) ∷ values)),
+        held_set 8 _ old.now new.now set ∙ ap (λ all. record (held_by old.now) { sups = all }) (come rows (Int (next_rowid rows) ∷ values)),
+        set.others.0 (λ e. omega (arith, e)),
+      ))
+
+  pub conds_come : (id : List ℕ) (cond : CondNeed) (a b c : ValueRef) → owned a ≡ id_value id → owned b ≡ id_value cond.fmid → owned c ≡ id_value cond.need
+      → (HasCleanDisk old → Means bureau text (insert_given 9 3) 3) → Ran text (bound (a ∷ b ∷ c ∷ [])) old new result → Changes old new result (with_conds id (cond ∷ []))
+  conds_come id cond a b c at_a at_b at_c means ran =
+      let rows = old.now.trees 19 in
+      let values = cond_row id cond in
+      changed_by old new text values result (with_conds id (cond ∷ [])) (subst (λ row. Ran text row old new result) (λ i. bound_value (at_a i) ∷ bound_value (at_b i) ∷ bound_value (at_c i) ∷ []) ran) (λ clean count known executes.
+      let set = inserts text 9 schema.sysmod_cond 3 values values old new count (means clean) refl refl refl (λ i. cast_null i ∷ cond_row id cond) known.schema known.numbered.1.1.1.1.1.1.1.1.1.0 executes in (
+        known_after 19 _ old.now new.now known.numbered set,
+        held_set 19 _ old.now new.now set ∙ ap (λ all. record (held_by old.now) { conds = all }) (come rows (Int (next_rowid rows) ∷ values)),
         set.others.0 (λ e. omega (arith, e)),
       ))
 
@@ -105,7 +118,7 @@ module _ {A F : Type 0} (old new : State) (text : List ℕ) (result : Result A F
       changed_by old new text values result (with_hold hold) (subst (λ row. Ran text row old new result) (λ i. bound_value (at_a i) ∷ bound_value (at_b i) ∷ bound_value (at_c i) ∷ (ap bound_value at_d ∙ bound_optional hold.fmid) i ∷ (ap bound_value at_e ∙ bound_optional hold.class) i ∷ (ap bound_value at_f ∙ bound_date hold.dated) i ∷ (ap bound_value at_h ∙ bound_optional hold.resolver) i ∷ bound_value (at_k i) ∷ []) ran) (λ clean count known executes.
       let set = inserts text 5 schema.hold_row 8 values values old new count (means clean) refl refl refl (λ i. cast_null i ∷ id_value hold.key.sysmod ∷ cast_int (pos (kind_place hold.key.kind)) i ∷ id_value hold.key.reason ∷ cast_optional hold.fmid i ∷ cast_optional hold.class i ∷ cast_date hold.dated i ∷ cast_optional hold.resolver i ∷ texts_value hold.categories ∷ []) known.schema known.numbered.1.1.1.1.1.0 executes in (
         known_after 11 _ old.now new.now known.numbered set,
-        holds_set _ old.now new.now set ∙ ap (λ all. record (held_by old.now) { holds = all }) (come rows (Int (next_rowid rows) ∷ values)),
+        held_set 11 _ old.now new.now set ∙ ap (λ all. record (held_by old.now) { holds = all }) (come rows (Int (next_rowid rows) ∷ values)),
         set.others.0 (λ e. omega (arith, e)),
       ))
 
@@ -117,7 +130,7 @@ module _ {A F : Type 0} (old new : State) (text : List ℕ) (result : Result A F
       changed_by old new text values result (with_head client zone patterns) (subst (λ row. Ran text row old new result) (λ i. bound_value (at_a i) ∷ bound_value (at_b i) ∷ bound_value (at_c i) ∷ []) ran) (λ clean count known executes.
       let set = inserts text 6 schema.zone_head 3 values values old new count (means clean) refl refl refl (λ i. cast_null i ∷ head_row client zone patterns) known.schema known.numbered.1.1.1.1.1.1.0 executes in (
         known_after 13 _ old.now new.now known.numbered set,
-        heads_set _ old.now new.now set ∙ ap (λ all. record (held_by old.now) { heads = all }) (come rows (Int (next_rowid rows) ∷ values)),
+        held_set 13 _ old.now new.now set ∙ ap (λ all. record (held_by old.now) { heads = all }) (come rows (Int (next_rowid rows) ∷ values)),
         set.others.0 (λ e. omega (arith, e)),
       ))
 
@@ -129,7 +142,7 @@ module _ {A F : Type 0} (old new : State) (text : List ℕ) (result : Result A F
       changed_by old new text values result (with_rows client zone (row ∷ [])) (subst (λ row. Ran text row old new result) (λ i. bound_value (at_a i) ∷ bound_value (at_b i) ∷ bound_value (at_c i) ∷ bound_value (at_d i) ∷ []) ran) (λ clean count known executes.
       let set = inserts text 7 schema.zone_row 4 values values old new count (means clean) refl refl refl (λ i. cast_null i ∷ id_value client ∷ id_value zone ∷ id_value row.sysmod ∷ cast_int (pos (state_place row.state)) i ∷ []) known.schema known.numbered.1.1.1.1.1.1.1.0 executes in (
         known_after 15 _ old.now new.now known.numbered set,
-        rows_set _ old.now new.now set ∙ ap (λ all. record (held_by old.now) { rows = all }) (come rows (Int (next_rowid rows) ∷ values)),
+        held_set 15 _ old.now new.now set ∙ ap (λ all. record (held_by old.now) { rows = all }) (come rows (Int (next_rowid rows) ∷ values)),
         set.others.0 (λ e. omega (arith, e)),
       ))
 
@@ -141,6 +154,6 @@ module _ {A F : Type 0} (old new : State) (text : List ℕ) (result : Result A F
       changed_by old new text values result (with_received client ids) (subst (λ row. Ran text row old new result) (λ i. bound_value (at_a i) ∷ bound_value (at_b i) ∷ []) ran) (λ clean count known executes.
       let set = inserts text 8 schema.received_list 2 values values old new count (means clean) refl refl refl (λ i. cast_null i ∷ received_row client ids) known.schema known.numbered.1.1.1.1.1.1.1.1.0 executes in (
         known_after 17 _ old.now new.now known.numbered set,
-        received_set _ old.now new.now set ∙ ap (λ all. record (held_by old.now) { received = all }) (come rows (Int (next_rowid rows) ∷ values)),
+        held_set 17 _ old.now new.now set ∙ ap (λ all. record (held_by old.now) { received = all }) (come rows (Int (next_rowid rows) ∷ values)),
         set.others.0 (λ e. omega (arith, e)),
       ))

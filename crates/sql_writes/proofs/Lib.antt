@@ -6,6 +6,7 @@ pub mod KindFacts
 pub mod LastFacts
 pub mod LoadFacts
 pub mod MakeFacts
+pub mod MigrateFacts
 pub mod RowidFacts
 pub mod StatementFacts
 pub mod StoredFacts

@@ -5,11 +5,11 @@ use Rattle.std.proofs.lemmas.List.Sums.{fold_push}
 use Rattle.std.proofs.lemmas.List.{append-nil, map-append, take_all, take_more}
 use Rattle.sqlite.specs.Order.{Row}
 use Rattle.sqlite.specs.State.{State}
-use Rattle.sql_tables.specs.Rows.{caller_row, sup_row, zone_row}
+use Rattle.sql_tables.specs.Rows.{caller_row, cond_row, sup_row, zone_row}
 use Rattle.sql_tables.specs.Changes.{published, replaced}
 use Rattle.sql_tables.specs.Stored.{Stored, is_of}
 use Rattle.sql_state.specs.Writing.{Changes}
-use Rattle.sql_writes.specs.Parts.{with_callers, with_rows, with_sups, without_sups}
+use Rattle.sql_writes.specs.Parts.{with_callers, with_conds, with_rows, with_sups, without_conds, without_sups}
 use Rattle.sql_writes.proofs.ChangeFacts.{alike, changes_then}
 
 -- the same success, told otherwise
@@ -51,6 +51,12 @@ pub sups_turn : (id : List ℕ) → ComesInTurn (without_sups id) (λ member. wi
 sups_turn id = record {
   none = λ stored. ap (λ rows. record stored { sups = rows }) (sym (append-nil (replaced (is_of id) [] stored.sups)));
   more = λ xs x stored. ap (λ rows. record stored { sups = rows }) (in_turn (sup_row id) (replaced (is_of id) [] stored.sups) xs x);
+}
+
+pub conds_turn : (id : List ℕ) → ComesInTurn (without_conds id) (λ cond. with_conds id (cond ∷ [])) (λ conds stored. with_conds id conds (without_conds id stored))
+conds_turn id = record {
+  none = λ stored. ap (λ rows. record stored { conds = rows }) (sym (append-nil (replaced (is_of id) [] stored.conds)));
+  more = λ xs x stored. ap (λ rows. record stored { conds = rows }) (in_turn (cond_row id) (replaced (is_of id) [] stored.conds) xs x);
 }
 
 pub callers_turn : ComesInTurn (λ stored. stored) (λ row. with_callers (row ∷ [])) with_callers

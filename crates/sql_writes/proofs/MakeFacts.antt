@@ -11,6 +11,7 @@ use Rattle.sqlite.specs.Change.{KeepsRows, created, indexed, next_tree}
 use Rattle.sqlite.specs.Command.TheVariants.{CreateIndex, CreateTable}
 use Rattle.sqlite.specs.Does.{Defines, MakesIndex as IndexMade, Tally, lacks_sequence}
 use Rattle.sqlite.specs.Effect.{Database, IsDatabase}
+use Rattle.sqlite.specs.Order.{Row}
 use Rattle.sqlite.specs.State.{Executes, HasCleanDisk, State, Writes, mode_of}
 use Rattle.sqlite.specs.Table.{Table}
 use Rattle.sqlite.specs.Tree.{Trees}
@@ -19,7 +20,7 @@ use Rattle.sqlite.specs.Schema.{Schema}
 use Rattle.bureau_store.specs.declared.caller.CallerRow.{CallerRow}
 use Rattle.sql_texts.specs.Meaning.{MakesIndex, MakesTable, Means}
 use Rattle.sql_texts.specs.Schema.{bureau, made, tables}
-use Rattle.sql_texts.specs.Writes.{first_version}
+use Rattle.sql_texts.specs.Writes.{this_version}
 use Rattle.sql_tables.specs.InTrees.{columns_of}
 use Rattle.sql_state.specs.Numbered.{IsNumbered}
 use Rattle.sql_state.specs.Ours.{held_by, version_rows}
@@ -35,13 +36,13 @@ whole_text : (text : List ℕ) → slice_range text 0 (length text) ≡ text
 whole_text text = take_all (length text - 0) text (omega arith)
 
 -- what CREATE TABLE leaves
-record HasTable (table : Table) (before after : Schema) (old new : Database) : Type 0 where
+pub record HasTable (table : Table) (before after : Schema) (old new : Database) : Type 0 where
   pub schema : new.schema ≡ after
   pub sound : IsDatabase new
   pub empty : new.trees table.tree ≡ []
   pub others : KeepsRows before.tables old.trees new.trees
 
-makes_table : (before after : Schema) (text : List ℕ) (table : Table) (old new : State) (count : ℕ) → MakesTable before text table after → lacks_sequence after ≡ false
+pub makes_table : (before after : Schema) (text : List ℕ) (table : Table) (old new : State) (count : ℕ) → MakesTable before text table after → lacks_sequence after ≡ false
     → next_tree before ≡ table.tree → old.now.schema ≡ before → Executes text [] old new (Ok count) → HasTable table before after old.now new.now
 makes_table before after text table old new count makes unlacking next has h =
     let plain = subst IsPlain (sym makes.statement) (refl, refl) in
@@ -91,52 +92,47 @@ emptied : (old new : Trees) (all : List Table) → AllByRecursion (λ table. old
 emptied old new [] empty kept = tt
 emptied old new (table ∷ all) empty kept = (kept.0 ∙ empty.0, emptied old new all empty.1 kept.1)
 
-one_more : (P : Table → Type 0) (all : List Table) (table : Table) → AllByRecursion P all → P table → AllByRecursion P (all ++ table ∷ [])
+pub one_more : (P : Table → Type 0) (all : List Table) (table : Table) → AllByRecursion P all → P table → AllByRecursion P (all ++ table ∷ [])
 one_more P [] table all here = (here, tt)
 one_more P (t ∷ ts) table all here = (all.0, one_more P ts table all.1 here)
 
 -- ---- one statement after the other
+
+-- one statement leads where its running leads
+pub leads_by : {A F : Type 0} (text : List ℕ) (params : Row) (old new : State) (result : Result A F) (From To : Database → Type 0) → Ran text params old new result
+    → ((count : ℕ) → Executes text params old new (Ok count) → From old.now → To new.now) → Leads old new result From To
+leads_by {A} {F} text params old new result From To ran led = record { keeps = ran.keeps; survives = ran.survives; done = by result ran.done }
+  where
+    by : (r : Result A F)
+        → OnOk r (HasCleanDisk new → IsTrue old.in_transaction → IsTrue new.is_open × IsTrue new.in_transaction × ((count : ℕ) × Executes text params old new (Ok count)))
+        → OnOk r (HasCleanDisk new → IsTrue old.in_transaction → IsTrue new.is_open × IsTrue new.in_transaction × (From old.now → To new.now))
+    by (Ok a) done = λ clean inside. let it = done clean inside in (it.0, it.1, led it.2.0 it.2.1)
+    by (Err e) done = tt
 
 -- the next table, where so many are there
 pub table_comes : {A F : Type 0} (From : Database → Type 0) (n m n′ m′ : ℕ) (text : List ℕ) (table : Table) (old new : State) (result : Result A F)
     → ((db : Database) → From db → (db.schema ≡ made n m) × AllByRecursion (λ t. db.trees t.tree ≡ []) (take n tables))
     → MakesTable (made n m) text table (made n′ m′) → lacks_sequence (made n′ m′) ≡ false → next_tree (made n m) ≡ table.tree → take n′ tables ≡ take n tables ++ table ∷ []
     → Ran text [] old new result → Leads old new result From (IsMade n′ m′)
-table_comes {A} {F} From n m n′ m′ text table old new result begins makes unlacking next more ran = record { keeps = ran.keeps; survives = ran.survives; done = by result ran.done }
-  where
-    led : (count : ℕ) → Executes text [] old new (Ok count) → From old.now → IsMade n′ m′ new.now
-    led count executes from =
-        let begun = begins old.now from in
-        let has = makes_table (made n m) (made n′ m′) text table old new count makes unlacking next begun.0 executes in
-        record {
-          schema = has.schema;
-          sound = has.sound;
-          empty = subst (AllByRecursion (λ t. new.now.trees t.tree ≡ [])) (sym more)
-              (one_more (λ t. new.now.trees t.tree ≡ []) (take n tables) table (emptied old.now.trees new.now.trees (take n tables) begun.1 has.others) has.empty);
-        }
-
-    by : (r : Result A F)
-        → OnOk r (HasCleanDisk new → IsTrue old.in_transaction → IsTrue new.is_open × IsTrue new.in_transaction × ((count : ℕ) × Executes text [] old new (Ok count)))
-        → OnOk r (HasCleanDisk new → IsTrue old.in_transaction → IsTrue new.is_open × IsTrue new.in_transaction × (From old.now → IsMade n′ m′ new.now))
-    by (Ok a) done = λ clean inside. let it = done clean inside in (it.0, it.1, led it.2.0 it.2.1)
-    by (Err e) done = tt
+table_comes From n m n′ m′ text table old new result begins makes unlacking next more ran =
+    leads_by text [] old new result From (IsMade n′ m′) ran (λ count executes from.
+    let begun = begins old.now from in
+    let has = makes_table (made n m) (made n′ m′) text table old new count makes unlacking next begun.0 executes in
+    record {
+      schema = has.schema;
+      sound = has.sound;
+      empty = subst (AllByRecursion (λ t. new.now.trees t.tree ≡ [])) (sym more)
+          (one_more (λ t. new.now.trees t.tree ≡ []) (take n tables) table (emptied old.now.trees new.now.trees (take n tables) begun.1 has.others) has.empty);
+    })
 
 -- the index, where so many tables are there
 pub index_comes : {A F : Type 0} (n m m′ place : ℕ) (text : List ℕ) (table : Table) (index : Index) (old new : State) (result : Result A F)
     → MakesIndex (made n m) text place table index (made n m′) → slice_get (made n m).tables place ≡ Some table
     → Ran text [] old new result → Leads old new result (IsMade n m) (IsMade n m′)
-index_comes {A} {F} n m m′ place text table index old new result makes at ran = record { keeps = ran.keeps; survives = ran.survives; done = by result ran.done }
-  where
-    led : (count : ℕ) → Executes text [] old new (Ok count) → IsMade n m old.now → IsMade n m′ new.now
-    led count executes so_far =
-        let has = makes_index (made n m) (made n m′) place text table index old new count makes at so_far.schema executes in
-        record { schema = has.schema; sound = has.sound; empty = emptied old.now.trees new.now.trees (take n tables) so_far.empty has.others }
-
-    by : (r : Result A F)
-        → OnOk r (HasCleanDisk new → IsTrue old.in_transaction → IsTrue new.is_open × IsTrue new.in_transaction × ((count : ℕ) × Executes text [] old new (Ok count)))
-        → OnOk r (HasCleanDisk new → IsTrue old.in_transaction → IsTrue new.is_open × IsTrue new.in_transaction × (IsMade n m old.now → IsMade n m′ new.now))
-    by (Ok a) done = λ clean inside. let it = done clean inside in (it.0, it.1, led it.2.0 it.2.1)
-    by (Err e) done = tt
+index_comes n m m′ place text table index old new result makes at ran =
+    leads_by text [] old new result (IsMade n m) (IsMade n m′) ran (λ count executes so_far.
+    let has = makes_index (made n m) (made n m′) place text table index old new count makes at so_far.schema executes in
+    record { schema = has.schema; sound = has.sound; empty = emptied old.now.trees new.now.trees (take n tables) so_far.empty has.others })
 
 pub leads_then : {A B E F : Type 0} (old mid new : State) (a : A) (result : Result B F) (One Two Three : Database → Type 0) → Leads {Fault = E} old mid (Ok a) One Two → Leads mid new result Two Three
     → Leads old new result One Three
@@ -168,19 +164,20 @@ all_numbered : (trees : Trees) (all : List Table) → AllByRecursion (λ table. 
 all_numbered trees [] empty = tt
 all_numbered trees (table ∷ all) empty = (subst IsNumbered (sym empty.0) (tt, tt), all_numbered trees all empty.1)
 
-opened_by : (text : List ℕ) (old new : State) (count : ℕ) → Means bureau text first_version 0 → Executes text [] old new (Ok count) → IsMade 9 10 old.now → IsOpened [] new.now
+opened_by : (text : List ℕ) (old new : State) (count : ℕ) → Means bureau text this_version 0 → Executes text [] old new (Ok count) → IsMade 10 11 old.now → IsOpened [] new.now
 opened_by text old new count means executes so_far =
     let set = inserts_version text old new count means so_far.schema so_far.empty.0 executes in
     let o = set.others in
     let e = so_far.empty in
     record {
-      known = known_after 0 version_rows old.now new.now (all_numbered old.now.trees tables e) set;
+      known = known_after 0 (version_rows 2) old.now new.now (all_numbered old.now.trees tables e) set;
       version = set.rows_are;
       held = λ i. record {
         callers = columns_of ((o.1.0 (λ x. omega (arith, x)) ∙ e.1.0) i);
         changes = columns_of ((o.1.1.0 (λ x. omega (arith, x)) ∙ e.1.1.0) i);
         sysmods = columns_of ((o.1.1.1.0 (λ x. omega (arith, x)) ∙ e.1.1.1.0) i);
         sups = columns_of ((o.1.1.1.1.0 (λ x. omega (arith, x)) ∙ e.1.1.1.1.0) i);
+        conds = columns_of ((o.1.1.1.1.1.1.1.1.1.0 (λ x. omega (arith, x)) ∙ e.1.1.1.1.1.1.1.1.1.0) i);
         holds = columns_of ((o.1.1.1.1.1.0 (λ x. omega (arith, x)) ∙ e.1.1.1.1.1.0) i);
         heads = columns_of ((o.1.1.1.1.1.1.0 (λ x. omega (arith, x)) ∙ e.1.1.1.1.1.1.0) i);
         rows = columns_of ((o.1.1.1.1.1.1.1.0 (λ x. omega (arith, x)) ∙ e.1.1.1.1.1.1.1.0) i);
@@ -188,14 +185,9 @@ opened_by text old new count means executes so_far =
       };
     }
 
-pub version_comes : {A F : Type 0} (text : List ℕ) (old new : State) (result : Result A F) → Means bureau text first_version 0 → Ran text [] old new result → Leads old new result (IsMade 9 10) (IsOpened [])
-version_comes {A} {F} text old new result means ran = record { keeps = ran.keeps; survives = ran.survives; done = by result ran.done }
-  where
-    by : (r : Result A F)
-        → OnOk r (HasCleanDisk new → IsTrue old.in_transaction → IsTrue new.is_open × IsTrue new.in_transaction × ((count : ℕ) × Executes text [] old new (Ok count)))
-        → OnOk r (HasCleanDisk new → IsTrue old.in_transaction → IsTrue new.is_open × IsTrue new.in_transaction × (IsMade 9 10 old.now → IsOpened [] new.now))
-    by (Ok a) done = λ clean inside. let it = done clean inside in (it.0, it.1, opened_by text old new it.2.0 means it.2.1)
-    by (Err e) done = tt
+pub version_comes : {A F : Type 0} (text : List ℕ) (old new : State) (result : Result A F) → Means bureau text this_version 0 → Ran text [] old new result → Leads old new result (IsMade 10 11) (IsOpened [])
+version_comes text old new result means ran =
+    leads_by text [] old new result (IsMade 10 11) (IsOpened []) ran (λ count executes. opened_by text old new count means executes)
 
 pub callers_come_in : {A F : Type 0} (callers : List CallerRow) (old new : State) (result : Result A F) → Changes old new result (with_callers callers) → Leads old new result (IsOpened []) (IsOpened callers)
 callers_come_in {A} {F} callers old new result h = record { keeps = h.keeps; survives = h.survives; done = by result h.done }

@@ -31,7 +31,7 @@ use Rattle.sql_texts.specs.Found.{passes, shown}
 use Rattle.sql_texts.specs.Meaning.{Means}
 use Rattle.sql_texts.specs.Reads.{from_table}
 use Rattle.sql_texts.specs.Schema.{bureau, bureau_version, tables}
-use Rattle.sql_texts.specs.Writes.{delete_of, first_version, insert_given}
+use Rattle.sql_texts.specs.Writes.{delete_of, this_version, insert_given}
 use Rattle.sql_state.specs.Numbered.{IsNumbered}
 use Rattle.sql_state.specs.Ours.{version_rows}
 use Rattle.sql_writes.proofs.RowidFacts.{left_by_test, put_next}
@@ -167,17 +167,17 @@ inserts text place table columns values params old new count means at uncounted 
 
 -- ---- the row of the version
 
-cast_version : cast_row bureau_version (Int (pos 1) ∷ Null ∷ Int (pos 1) ∷ []) ≡ Int (pos 1) ∷ Null ∷ Int (pos 1) ∷ []
-cast_version = λ i. cast_int (pos 1) i ∷ cast_null i ∷ cast_int (pos 1) i ∷ []
+cast_version : cast_row bureau_version (Int (pos 1) ∷ Null ∷ Int (pos 2) ∷ []) ≡ Int (pos 1) ∷ Null ∷ Int (pos 2) ∷ []
+cast_version = λ i. cast_int (pos 1) i ∷ cast_null i ∷ cast_int (pos 2) i ∷ []
 
-pub inserts_version : (text : List ℕ) (old new : State) (count : ℕ) → Means bureau text first_version 0 → old.now.schema ≡ bureau → old.now.trees 0 ≡ []
-    → Executes text [] old new (Ok count) → IsSet 0 version_rows old.now new.now
+pub inserts_version : (text : List ℕ) (old new : State) (count : ℕ) → Means bureau text this_version 0 → old.now.schema ≡ bureau → old.now.trees 0 ≡ []
+    → Executes text [] old new (Ok count) → IsSet 0 (version_rows 2) old.now new.now
 inserts_version text old new count means ours none h =
     let db = old.now.trees in
     let table = bureau_version in
     let plain = subst IsPlain (sym means.statement) (refl, refl) in
-    let w = runs_as text [] old new bureau ours first_version (ap command_of means.statement) plain count h in
-    let ran = subst (λ s. Does old.step_limit (mode_of old) [] (record old.now { schema = s }) (statement_of text (understood bureau text)) None first_version (Ok (w.tally, new.now))) ours w.changed in
+    let w = runs_as text [] old new bureau ours this_version (ap command_of means.statement) plain count h in
+    let ran = subst (λ s. Does old.step_limit (mode_of old) [] (record old.now { schema = s }) (statement_of text (understood bureau text)) None this_version (Ok (w.tally, new.now))) ours w.changed in
     let done = went ran in
     let now = ap (λ (p : Tally × Database). p.1) (same_value (went (went done.2).2).2) in
     let given = went done.1 in
@@ -186,10 +186,10 @@ inserts_version text old new count means ours none h =
     let counts = went edits.2 in
     let trees : done.0.trees ≡ edits.0 = ap (λ (it : Written). it.trees) (same_value counts.2) ∙ same_value counts.1 in
     let applied = one_step bureau _ db edits.0 (edit_of db table [] Chosen 0 given.0) refl edits.1 in
-    let put : edited db (edit_of db table [] Chosen 0 given.0) ≡ version_rows =
+    let put : edited db (edit_of db table [] Chosen 0 given.0) ≡ version_rows 2 =
     ap (λ all. edited db (edit_of db table [] Chosen 0 all)) given.1.1
     ∙ ap (λ row. put_all (db 0) (with_numbers Chosen (db 0) (row ∷ []))) cast_version
-    ∙ ap (λ rows. put_all rows (with_numbers Chosen rows ((Int (pos 1) ∷ Null ∷ Int (pos 1) ∷ []) ∷ []))) none in
+    ∙ ap (λ rows. put_all rows (with_numbers Chosen rows ((Int (pos 1) ∷ Null ∷ Int (pos 2) ∷ []) ∷ []))) none in
     let same = λ (t : ℕ). ap (λ (d : Database). d.trees t) now ∙ ap (λ (all : Trees). all t) trees in
     record {
       schema = ap (λ (d : Database). d.schema) now;

@@ -1,6 +1,6 @@
 -- What the trees hold as rows of the tables, after one table got other rows.
-use Rattle.std.proofs.Common.{◌≡◌, ◌≢◌, ℕ, Bool, true, false, List, [], ◌∷◌, ◌==◌, refl, sym, ◌∙◌, ap, subst, arith}
-use Rattle.std.specs.Prelude.{◌++◌, drop, filter, not}
+use Rattle.std.proofs.Common.{◌≡◌, ◌≢◌, ℕ, Bool, true, false, List, [], ◌∷◌, ◌==◌, refl, sym, ◌∙◌, ap, subst}
+use Rattle.std.specs.Prelude.{◌++◌, cond, drop, filter, not}
 use Rattle.std.specs.List.{AllByRecursion}
 use Rattle.std.proofs.lemmas.Bool.{eqb-true, eqb-false}
 use Rattle.std.proofs.lemmas.List.{append-nil, map-append}
@@ -9,7 +9,7 @@ use Rattle.sqlite.specs.Order.{Row}
 use Rattle.sqlite.specs.Table.{Table}
 use Rattle.sqlite.specs.Tree.{Trees}
 use Rattle.sql_texts.specs.Schema.{tables}
-use Rattle.sql_tables.specs.InTrees.{columns_of}
+use Rattle.sql_tables.specs.InTrees.{columns_of, stored_in}
 use Rattle.sql_tables.proofs.TreeFacts.{filter_after}
 use Rattle.sql_tables.specs.Changes.{replaced}
 use Rattle.sql_state.specs.Numbered.{AreNumbered, IsNumbered}
@@ -37,118 +37,28 @@ known_after tree rows old new before set = record {
 
 -- ---- what is held
 
-module _ (rows : List Row) (old new : Database) where
-  pub callers_set : IsSet 1 rows old new → held_by new ≡ record (held_by old) { callers = columns_of rows }
-  callers_set set =
-      let o = set.others in
-      λ i. record {
-        callers = columns_of (set.rows_are i);
-        changes = columns_of (o.1.1.0 (λ e. omega (arith, e)) i);
-        sysmods = columns_of (o.1.1.1.0 (λ e. omega (arith, e)) i);
-        sups = columns_of (o.1.1.1.1.0 (λ e. omega (arith, e)) i);
-        holds = columns_of (o.1.1.1.1.1.0 (λ e. omega (arith, e)) i);
-        heads = columns_of (o.1.1.1.1.1.1.0 (λ e. omega (arith, e)) i);
-        rows = columns_of (o.1.1.1.1.1.1.1.0 (λ e. omega (arith, e)) i);
-        received = columns_of (o.1.1.1.1.1.1.1.1.0 (λ e. omega (arith, e)) i);
-      }
-
-  pub changes_set : IsSet 4 rows old new → held_by new ≡ record (held_by old) { changes = columns_of rows }
-  changes_set set =
-      let o = set.others in
-      λ i. record {
-        callers = columns_of (o.1.0 (λ e. omega (arith, e)) i);
-        changes = columns_of (set.rows_are i);
-        sysmods = columns_of (o.1.1.1.0 (λ e. omega (arith, e)) i);
-        sups = columns_of (o.1.1.1.1.0 (λ e. omega (arith, e)) i);
-        holds = columns_of (o.1.1.1.1.1.0 (λ e. omega (arith, e)) i);
-        heads = columns_of (o.1.1.1.1.1.1.0 (λ e. omega (arith, e)) i);
-        rows = columns_of (o.1.1.1.1.1.1.1.0 (λ e. omega (arith, e)) i);
-        received = columns_of (o.1.1.1.1.1.1.1.1.0 (λ e. omega (arith, e)) i);
-      }
-
-  pub sysmods_set : IsSet 6 rows old new → held_by new ≡ record (held_by old) { sysmods = columns_of rows }
-  sysmods_set set =
-      let o = set.others in
-      λ i. record {
-        callers = columns_of (o.1.0 (λ e. omega (arith, e)) i);
-        changes = columns_of (o.1.1.0 (λ e. omega (arith, e)) i);
-        sysmods = columns_of (set.rows_are i);
-        sups = columns_of (o.1.1.1.1.0 (λ e. omega (arith, e)) i);
-        holds = columns_of (o.1.1.1.1.1.0 (λ e. omega (arith, e)) i);
-        heads = columns_of (o.1.1.1.1.1.1.0 (λ e. omega (arith, e)) i);
-        rows = columns_of (o.1.1.1.1.1.1.1.0 (λ e. omega (arith, e)) i);
-        received = columns_of (o.1.1.1.1.1.1.1.1.0 (λ e. omega (arith, e)) i);
-      }
-
-  pub sups_set : IsSet 8 rows old new → held_by new ≡ record (held_by old) { sups = columns_of rows }
-  sups_set set =
-      let o = set.others in
-      λ i. record {
-        callers = columns_of (o.1.0 (λ e. omega (arith, e)) i);
-        changes = columns_of (o.1.1.0 (λ e. omega (arith, e)) i);
-        sysmods = columns_of (o.1.1.1.0 (λ e. omega (arith, e)) i);
-        sups = columns_of (set.rows_are i);
-        holds = columns_of (o.1.1.1.1.1.0 (λ e. omega (arith, e)) i);
-        heads = columns_of (o.1.1.1.1.1.1.0 (λ e. omega (arith, e)) i);
-        rows = columns_of (o.1.1.1.1.1.1.1.0 (λ e. omega (arith, e)) i);
-        received = columns_of (o.1.1.1.1.1.1.1.1.0 (λ e. omega (arith, e)) i);
-      }
-
-  pub holds_set : IsSet 11 rows old new → held_by new ≡ record (held_by old) { holds = columns_of rows }
-  holds_set set =
-      let o = set.others in
-      λ i. record {
-        callers = columns_of (o.1.0 (λ e. omega (arith, e)) i);
-        changes = columns_of (o.1.1.0 (λ e. omega (arith, e)) i);
-        sysmods = columns_of (o.1.1.1.0 (λ e. omega (arith, e)) i);
-        sups = columns_of (o.1.1.1.1.0 (λ e. omega (arith, e)) i);
-        holds = columns_of (set.rows_are i);
-        heads = columns_of (o.1.1.1.1.1.1.0 (λ e. omega (arith, e)) i);
-        rows = columns_of (o.1.1.1.1.1.1.1.0 (λ e. omega (arith, e)) i);
-        received = columns_of (o.1.1.1.1.1.1.1.1.0 (λ e. omega (arith, e)) i);
-      }
-
-  pub heads_set : IsSet 13 rows old new → held_by new ≡ record (held_by old) { heads = columns_of rows }
-  heads_set set =
-      let o = set.others in
-      λ i. record {
-        callers = columns_of (o.1.0 (λ e. omega (arith, e)) i);
-        changes = columns_of (o.1.1.0 (λ e. omega (arith, e)) i);
-        sysmods = columns_of (o.1.1.1.0 (λ e. omega (arith, e)) i);
-        sups = columns_of (o.1.1.1.1.0 (λ e. omega (arith, e)) i);
-        holds = columns_of (o.1.1.1.1.1.0 (λ e. omega (arith, e)) i);
-        heads = columns_of (set.rows_are i);
-        rows = columns_of (o.1.1.1.1.1.1.1.0 (λ e. omega (arith, e)) i);
-        received = columns_of (o.1.1.1.1.1.1.1.1.0 (λ e. omega (arith, e)) i);
-      }
-
-  pub rows_set : IsSet 15 rows old new → held_by new ≡ record (held_by old) { rows = columns_of rows }
-  rows_set set =
-      let o = set.others in
-      λ i. record {
-        callers = columns_of (o.1.0 (λ e. omega (arith, e)) i);
-        changes = columns_of (o.1.1.0 (λ e. omega (arith, e)) i);
-        sysmods = columns_of (o.1.1.1.0 (λ e. omega (arith, e)) i);
-        sups = columns_of (o.1.1.1.1.0 (λ e. omega (arith, e)) i);
-        holds = columns_of (o.1.1.1.1.1.0 (λ e. omega (arith, e)) i);
-        heads = columns_of (o.1.1.1.1.1.1.0 (λ e. omega (arith, e)) i);
-        rows = columns_of (set.rows_are i);
-        received = columns_of (o.1.1.1.1.1.1.1.1.0 (λ e. omega (arith, e)) i);
-      }
-
-  pub received_set : IsSet 17 rows old new → held_by new ≡ record (held_by old) { received = columns_of rows }
-  received_set set =
-      let o = set.others in
-      λ i. record {
-        callers = columns_of (o.1.0 (λ e. omega (arith, e)) i);
-        changes = columns_of (o.1.1.0 (λ e. omega (arith, e)) i);
-        sysmods = columns_of (o.1.1.1.0 (λ e. omega (arith, e)) i);
-        sups = columns_of (o.1.1.1.1.0 (λ e. omega (arith, e)) i);
-        holds = columns_of (o.1.1.1.1.1.0 (λ e. omega (arith, e)) i);
-        heads = columns_of (o.1.1.1.1.1.1.0 (λ e. omega (arith, e)) i);
-        rows = columns_of (o.1.1.1.1.1.1.1.0 (λ e. omega (arith, e)) i);
-        received = columns_of (set.rows_are i);
-      }
+-- one table has these rows, and the others what they had
+pub held_set : (tree : ℕ) (rows : List Row) (old new : Database) → IsSet tree rows old new → held_by new ≡ stored_in (λ t. cond (t == tree) rows (old.trees t))
+held_set tree rows old new set =
+    let o = set.others in
+    λ i. record {
+      callers = columns_of (at 1 o.1.0 i);
+      changes = columns_of (at 4 o.1.1.0 i);
+      sysmods = columns_of (at 6 o.1.1.1.0 i);
+      sups = columns_of (at 8 o.1.1.1.1.0 i);
+      conds = columns_of (at 19 o.1.1.1.1.1.1.1.1.1.0 i);
+      holds = columns_of (at 11 o.1.1.1.1.1.0 i);
+      heads = columns_of (at 13 o.1.1.1.1.1.1.0 i);
+      rows = columns_of (at 15 o.1.1.1.1.1.1.1.0 i);
+      received = columns_of (at 17 o.1.1.1.1.1.1.1.1.0 i);
+    }
+  where
+    at : (t : ℕ) → (t ≢ tree → new.trees t ≡ old.trees t) → new.trees t ≡ cond (t == tree) rows (old.trees t)
+    at t other = by (t == tree) refl
+      where
+        by : (b : Bool) → (t == tree) ≡ b → new.trees t ≡ cond b rows (old.trees t)
+        by true same = ap new.trees (eqb-true t tree same) ∙ set.rows_are
+        by false apart = other (eqb-false t tree apart)
 
 -- ---- rows that go and rows that come
 

@@ -1,3 +1,4 @@
 pub mod Making
+pub mod Migrating
 pub mod Parts
 pub mod Running

@@ -1,4 +1,4 @@
--- How the tables of version 1 come to be in an empty database.
+-- How the tables of version 2 come to be in an empty database.
 use Rattle.std.specs.Prelude.{◌≡◌, ℕ, IsTrue, List, [], map, take, OnOk, Result}
 use Rattle.std.specs.List.{AllByRecursion}
 use Rattle.bureau_store.specs.declared.caller.CallerRow.{CallerRow}
@@ -23,7 +23,7 @@ pub record IsMade (so_many so_many_indexes : ℕ) (database : Database) : Type 0
 -- all tables, with the version and these callers and no other row
 pub record IsOpened (callers : List CallerRow) (database : Database) : Type 0 where
   pub known : IsKnown database
-  pub version : database.trees 0 ≡ version_rows
+  pub version : database.trees 0 ≡ version_rows 2
   pub held : held_by database ≡ opened (map caller_row callers)
 
 -- Statements of a transaction: nothing is committed, and done, they lead from such a database to such a one, as the

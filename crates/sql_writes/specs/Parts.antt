@@ -2,12 +2,13 @@
 use Rattle.std.specs.Prelude.{ℕ, ◌++◌, List, [], ◌∷◌, map}
 use Rattle.holddata.specs.declared.hold.Hold.{Hold}
 use Rattle.holddata.specs.declared.key.HoldKey.{HoldKey}
+use Rattle.catalogue.specs.declared.conditional.CondNeed.{CondNeed}
 use Rattle.catalogue.specs.declared.sysmod.Sysmod.{Sysmod}
 use Rattle.zone_lists.specs.declared.zones.ZoneRow.{ZoneRow}
 use Rattle.bureau_store.specs.Tables.{LastChange}
 use Rattle.bureau_store.specs.declared.caller.CallerRow.{CallerRow}
 use Rattle.sql_tables.specs.Changes.{is_under, replaced}
-use Rattle.sql_tables.specs.Rows.{caller_row, change_row, head_row, hold_row, received_row, sup_row, sysmod_row, zone_row}
+use Rattle.sql_tables.specs.Rows.{caller_row, change_row, cond_row, head_row, hold_row, received_row, sup_row, sysmod_row, zone_row}
 use Rattle.sql_tables.specs.Stored.{Stored, is_of, is_of_both}
 
 -- ---- what goes
@@ -20,6 +21,9 @@ without_sysmod id stored = record stored { sysmods = replaced (is_of id) [] stor
 
 abbrev pub without_sups : List ℕ → Stored → Stored
 without_sups id stored = record stored { sups = replaced (is_of id) [] stored.sups }
+
+abbrev pub without_conds : List ℕ → Stored → Stored
+without_conds id stored = record stored { conds = replaced (is_of id) [] stored.conds }
 
 abbrev pub without_hold : HoldKey → Stored → Stored
 without_hold key stored = record stored { holds = replaced (is_under key) [] stored.holds }
@@ -46,6 +50,9 @@ with_sysmod sysmod stored = record stored { sysmods = stored.sysmods ++ sysmod_r
 
 abbrev pub with_sups : List ℕ → List (List ℕ) → Stored → Stored
 with_sups id members stored = record stored { sups = stored.sups ++ map (sup_row id) members }
+
+abbrev pub with_conds : List ℕ → List CondNeed → Stored → Stored
+with_conds id conds stored = record stored { conds = stored.conds ++ map (cond_row id) conds }
 
 abbrev pub with_hold : Hold → Stored → Stored
 with_hold hold stored = record stored { holds = stored.holds ++ hold_row hold ∷ [] }

@@ -2,7 +2,7 @@
 ghost use Rattle.std.specs.Prelude.{◌≡◌};
 ghost use Rattle.sqlite.specs.Held.{state};
 ghost use Rattle.sql_state.specs.Writing.{Changes};
-ghost use Rattle.sql_writes.specs.Parts.{without_head, without_hold, without_last, without_received, without_rows, without_sups, without_sysmod};
+ghost use Rattle.sql_writes.specs.Parts.{without_conds, without_head, without_hold, without_last, without_received, without_rows, without_sups, without_sysmod};
 
 use crate::run::run;
 use crate::values::id_of;
@@ -20,7 +20,7 @@ pub(crate) fn last_change<S: Alter>(tx: &mut Transaction<'_, S>, name: &Id) -> R
     run(tx, write::delete_last_change(), &[id_of(name)])
 }
 
-/// The record of a SYSMOD, without what it supersedes.
+/// The row of a SYSMOD's record.
 pub(crate) fn sysmod<S: Alter>(tx: &mut Transaction<'_, S>, id: &Id) -> Result<(), Error>
     ensures same { tx.new.conn.ghost_name ≡ tx.old.conn.ghost_name }
     ensures changes { Changes (state S.Store tx.old.conn.now) (state S.Store tx.new.conn.now) result (without_sysmod id.now) }
@@ -34,6 +34,14 @@ pub(crate) fn superseded<S: Alter>(tx: &mut Transaction<'_, S>, id: &Id) -> Resu
     ensures changes { Changes (state S.Store tx.old.conn.now) (state S.Store tx.new.conn.now) result (without_sups id.now) }
 {
     run(tx, write::delete_superseded(), &[id_of(id)])
+}
+
+/// What a SYSMOD requires under a condition.
+pub(crate) fn conditional<S: Alter>(tx: &mut Transaction<'_, S>, id: &Id) -> Result<(), Error>
+    ensures same { tx.new.conn.ghost_name ≡ tx.old.conn.ghost_name }
+    ensures changes { Changes (state S.Store tx.old.conn.now) (state S.Store tx.new.conn.now) result (without_conds id.now) }
+{
+    run(tx, write::delete_conditional(), &[id_of(id)])
 }
 
 /// The hold with this key.

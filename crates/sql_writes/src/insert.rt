@@ -7,12 +7,12 @@ ghost use Rattle.sql_texts.specs.Meaning.{Means};
 ghost use Rattle.sql_texts.specs.Schema.{bureau};
 ghost use Rattle.sql_texts.specs.Writes.{insert_given};
 ghost use Rattle.sql_state.specs.Writing.{Changes};
-ghost use Rattle.sql_writes.specs.Parts.{with_callers, with_head, with_hold, with_last, with_received, with_rows, with_sups, with_sysmod};
+ghost use Rattle.sql_writes.specs.Parts.{with_callers, with_conds, with_head, with_hold, with_last, with_received, with_rows, with_sups, with_sysmod};
 
 use crate::run::{run, run_prepared};
 use crate::values::{id_of, number_of};
 use bureau_store::CallerRow;
-use catalogue::Sysmod;
+use catalogue::{CondNeed, Sysmod};
 use holddata::Hold;
 use mcs_reader::Id;
 use sql_tables::{
@@ -54,7 +54,7 @@ pub(crate) fn last_change<S: Alter>(
     run(tx, write::insert_last_change(), &params)
 }
 
-/// A record of the catalogue, without what it supersedes.
+/// The row of a record of the catalogue.
 pub(crate) fn sysmod<S: Alter>(
     alloc: Global,
     tx: &mut Transaction<'_, S>,
@@ -88,6 +88,21 @@ pub(crate) fn sup_row<S: Alter>(
     ensures changes { Changes (state S.Store tx.old.conn.now) (state S.Store tx.new.conn.now) result (with_sups id.now (member.now ∷ [])) }
 {
     run_prepared(tx, statement, &[id_of(id), id_of(member)])
+}
+
+/// What a record requires where a function is installed, by the statement of `write::insert_sysmod_cond`.
+pub(crate) fn cond_row<S: Alter>(
+    tx: &mut Transaction<'_, S>,
+    statement: &Statement,
+    id: &Id,
+    cond: &CondNeed,
+) -> Result<(), Error>
+    requires means { HasCleanDisk (state S.Store tx.old.conn.now) → Means bureau statement.now.text (insert_given 9 3) 3 }
+    ensures same { tx.new.conn.ghost_name ≡ tx.old.conn.ghost_name }
+    ensures changes { Changes (state S.Store tx.old.conn.now) (state S.Store tx.new.conn.now) result (with_conds id.now (cond.now ∷ [])) }
+{
+    let params = [id_of(id), id_of(&cond.fmid), id_of(&cond.need)];
+    run_prepared(tx, statement, &params)
 }
 
 /// A hold.

@@ -1,16 +1,18 @@
 //! What the bureau's changes write into a store's file, each in a transaction that is lent. Nothing is committed here.
 //!
 //! - [`put_zone`], [`drop_zone`], [`put_received`], [`put_patterns`]: a client's changes; [`publish`]: the publisher's
-//! - [`create`]: the tables of version 1 with the callers, in an empty database
+//! - [`create`]: the tables of version 2 with the callers, in an empty database
+//! - [`migrate`]: the tables of version 1 become those of version 2, with the rows that they hold
 //!
 //! A contract says what a change makes of the rows that the transaction sees (`Changes` of `sql_state`), in the words of
-//! `sql_tables`. `specs/Making` says what `create` leads to.
+//! `sql_tables`. `specs/Making` says what `create` leads to, and `specs/Migrating` what `migrate` does.
 #![tactic(auto)]
 
 mod change;
 mod delete;
 mod insert;
 mod load;
+mod migration;
 mod publication;
 mod run;
 mod tables;
@@ -18,4 +20,5 @@ mod values;
 mod zone;
 
 pub use change::{drop_zone, publish, put_patterns, put_received, put_zone};
+pub use migration::migrate;
 pub use tables::create;

@@ -6,11 +6,12 @@ ghost use Rattle.sql_texts.specs.Meaning.{Means};
 ghost use Rattle.sql_texts.specs.Schema.{bureau};
 ghost use Rattle.sql_texts.specs.Writes.{insert_given};
 ghost use Rattle.sql_state.specs.Writing.{Changes};
-ghost use Rattle.sql_writes.specs.Parts.{with_callers, with_rows, with_sups, without_sups};
+ghost use Rattle.sql_writes.specs.Parts.{with_callers, with_conds, with_rows, with_sups, without_conds, without_sups};
 
 use crate::run::prepare;
 use crate::{delete, insert};
 use bureau_store::CallerRow;
+use catalogue::CondNeed;
 use mcs_reader::Id;
 use sql_texts::write;
 use sqlite::{Alter, Error, Statement, Transaction};
@@ -47,6 +48,25 @@ pub(crate) fn superseded<S: Alter>(
     delete::superseded(tx, id)?;
     for member in members {
         insert::sup_row(tx, statement, id, member)?;
+    }
+    Ok(())
+}
+
+/// What a record requires under a condition, in place of what stands there, by the statement of
+/// `write::insert_sysmod_cond`.
+pub(crate) fn conditional<S: Alter>(
+    tx: &mut Transaction<'_, S>,
+    statement: &Statement,
+    id: &Id,
+    conds: &[CondNeed],
+) -> Result<(), Error>
+    requires means { HasCleanDisk (state S.Store tx.old.conn.now) → Means bureau statement.now.text (insert_given 9 3) 3 }
+    ensures same { tx.new.conn.ghost_name ≡ tx.old.conn.ghost_name }
+    ensures changes { Changes (state S.Store tx.old.conn.now) (state S.Store tx.new.conn.now) result (λ stored. with_conds id.now conds.now (without_conds id.now stored)) }
+{
+    delete::conditional(tx, id)?;
+    for cond in conds {
+        insert::cond_row(tx, statement, id, cond)?;
     }
     Ok(())
 }

@@ -41,34 +41,54 @@ fn put_row<S: Alter>(
     insert::sysmod(alloc, tx, sysmod)
 }
 
-/// The record comes in place of that of its SYSMOD, with what it supersedes.
+/// The row of the record and what it supersedes come in place of those of its SYSMOD.
+fn put_row_and_sups<S: Alter>(
+    alloc: Global,
+    tx: &mut Transaction<'_, S>,
+    sups: &Statement,
+    sysmod: &Sysmod,
+) -> Result<(), Error>
+    requires means { HasCleanDisk (state S.Store tx.old.conn.now) → Means bureau sups.now.text (insert_given 4 2) 2 }
+    ensures same { tx.new.conn.ghost_name ≡ tx.old.conn.ghost_name }
+    ensures changes { Changes (state S.Store tx.old.conn.now) (state S.Store tx.new.conn.now) result
+        (λ stored. record (published stored (Whole sysmod.now)) { conds = stored.conds }) }
+{
+    put_row(alloc, tx, sysmod)?;
+    load::superseded(tx, sups, &sysmod.id, sysmod.sup.as_slice())
+}
+
+/// The record comes in place of that of its SYSMOD, with what it supersedes and what it requires under a condition.
 fn put_record<S: Alter>(
     alloc: Global,
     tx: &mut Transaction<'_, S>,
-    statement: &Statement,
+    sups: &Statement,
+    conds: &Statement,
     sysmod: &Sysmod,
 ) -> Result<(), Error>
-    requires means { HasCleanDisk (state S.Store tx.old.conn.now) → Means bureau statement.now.text (insert_given 4 2) 2 }
+    requires sups { HasCleanDisk (state S.Store tx.old.conn.now) → Means bureau sups.now.text (insert_given 4 2) 2 }
+    requires conds { HasCleanDisk (state S.Store tx.old.conn.now) → Means bureau conds.now.text (insert_given 9 3) 3 }
     ensures same { tx.new.conn.ghost_name ≡ tx.old.conn.ghost_name }
     ensures changes { Changes (state S.Store tx.old.conn.now) (state S.Store tx.new.conn.now) result (λ stored. published stored (Whole sysmod.now)) }
 {
-    put_row(alloc, tx, sysmod)?;
-    load::superseded(tx, statement, &sysmod.id, sysmod.sup.as_slice())
+    put_row_and_sups(alloc, tx, sups, sysmod)?;
+    load::conditional(tx, conds, &sysmod.id, sysmod.conds.as_slice())
 }
 
 /// One change.
 fn put_change<S: Alter>(
     alloc: Global,
     tx: &mut Transaction<'_, S>,
-    statement: &Statement,
+    sups: &Statement,
+    conds: &Statement,
     change: &Change,
 ) -> Result<(), Error>
-    requires means { HasCleanDisk (state S.Store tx.old.conn.now) → Means bureau statement.now.text (insert_given 4 2) 2 }
+    requires sups { HasCleanDisk (state S.Store tx.old.conn.now) → Means bureau sups.now.text (insert_given 4 2) 2 }
+    requires conds { HasCleanDisk (state S.Store tx.old.conn.now) → Means bureau conds.now.text (insert_given 9 3) 3 }
     ensures same { tx.new.conn.ghost_name ≡ tx.old.conn.ghost_name }
     ensures changes { Changes (state S.Store tx.old.conn.now) (state S.Store tx.new.conn.now) result (λ stored. published stored change.now) }
 {
     match change {
-        Change::Whole(sysmod) => put_record(alloc, tx, statement, sysmod),
+        Change::Whole(sysmod) => put_record(alloc, tx, sups, conds, sysmod),
         Change::OfHold(HoldChange::Put(hold)) => put_hold(tx, hold),
         Change::OfHold(HoldChange::Release(key)) => delete::hold(tx, key),
     }
@@ -83,9 +103,10 @@ pub(crate) fn put_changes<S: Alter>(
     ensures same { tx.new.conn.ghost_name ≡ tx.old.conn.ghost_name }
     ensures changes { Changes (state S.Store tx.old.conn.now) (state S.Store tx.new.conn.now) result (λ stored. fold published stored changes.now) }
 {
-    let statement = prepare(tx, write::insert_sysmod_sup())?;
+    let sups = prepare(tx, write::insert_sysmod_sup())?;
+    let conds = prepare(tx, write::insert_sysmod_cond())?;
     for change in changes {
-        put_change(alloc, tx, &statement, change)?;
+        put_change(alloc, tx, &sups, &conds, change)?;
     }
     Ok(())
 }

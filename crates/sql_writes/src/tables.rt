@@ -1,4 +1,4 @@
-//! The tables of version 1, made one after the other in an empty database.
+//! The tables of version 2, made one after the other in an empty database.
 ghost use Rattle.std.specs.Prelude.{◌≡◌, []};
 ghost use Rattle.sqlite.specs.Held.{state};
 ghost use Rattle.sql_writes.specs.Making.{IsEmpty, IsMade, IsOpened, Leads};
@@ -88,15 +88,23 @@ fn up_to_received_list<S: Alter>(tx: &mut Transaction<'_, S>) -> Result<(), Erro
     run(tx, texts::received_list(), &[])
 }
 
+fn up_to_sysmod_cond<S: Alter>(tx: &mut Transaction<'_, S>) -> Result<(), Error>
+    ensures same { tx.new.conn.ghost_name ≡ tx.old.conn.ghost_name }
+    ensures made { Leads (state S.Store tx.old.conn.now) (state S.Store tx.new.conn.now) result IsEmpty (IsMade 10 11) }
+{
+    up_to_received_list(tx)?;
+    run(tx, texts::sysmod_cond(), &[])
+}
+
 fn with_version<S: Alter>(tx: &mut Transaction<'_, S>) -> Result<(), Error>
     ensures same { tx.new.conn.ghost_name ≡ tx.old.conn.ghost_name }
     ensures made { Leads (state S.Store tx.old.conn.now) (state S.Store tx.new.conn.now) result IsEmpty (IsOpened []) }
 {
-    up_to_received_list(tx)?;
+    up_to_sysmod_cond(tx)?;
     run(tx, write::insert_version(), &[])
 }
 
-/// Makes the tables and the index of version 1 in an empty database, with their version and with these callers.
+/// Makes the tables and the index of version 2 in an empty database, with their version and with these callers.
 pub fn create<S: Alter>(tx: &mut Transaction<'_, S>, callers: &[CallerRow]) -> Result<(), Error>
     ensures same { tx.new.conn.ghost_name ≡ tx.old.conn.ghost_name }
     ensures made { Leads (state S.Store tx.old.conn.now) (state S.Store tx.new.conn.now) result IsEmpty (IsOpened callers.now) }

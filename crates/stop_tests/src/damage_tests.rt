@@ -62,7 +62,7 @@ fn behind_damage_nothing_is_acknowledged(rt: HostRuntime) -> Result<(), Fail> {
             &script,
             damaged_files(rt.alloc(), at),
         )?;
-        is_shut_alone |= 0 < answered && answered < 14 && would_commit;
+        is_shut_alone |= 0 < answered && answered < 15 && would_commit;
     }
     assert!(rt; is_shut_alone);
     Ok(())

@@ -112,7 +112,7 @@ fn stops(alloc: Global, keys: RandomState, is_log: bool) -> Result<Vec<Option<us
         let log = if is_log { calls } else { u64::MAX };
         let db = if is_log { u64::MAX } else { calls };
         match stopped(alloc, keys, &script, (log, db)) {
-            Ok(Some(14)) => return Ok(stops),
+            Ok(Some(15)) => return Ok(stops),
             Ok(answered) => stops.push(answered)?,
             Err(why) => return Err(Fail::new(format_args!("{why}, after {calls} calls"))),
         }
@@ -121,7 +121,7 @@ fn stops(alloc: Global, keys: RandomState, is_log: bool) -> Result<Vec<Option<us
 }
 
 // The changes of the script.
-const CHANGES: [usize; 8] = [0, 1, 2, 6, 7, 10, 11, 12];
+const CHANGES: [usize; 9] = [0, 1, 2, 3, 7, 8, 11, 12, 13];
 
 #[test]
 fn nothing_acknowledged_is_lost_where_the_log_fails(rt: HostRuntime) -> Result<(), Fail> {
@@ -140,8 +140,8 @@ fn nothing_acknowledged_is_lost_where_the_database_fails(rt: HostRuntime) -> Res
     Ok(())
 }
 
-// How much is published, and ALPHA's report, before the first request of the script and after each up to the tenth.
-const SEEN: [(&str, &str); 11] = [
+// How much is published, and ALPHA's report, before the first request of the script and after each up to the eleventh.
+const SEEN: [(&str, &str); 12] = [
     ("PUBLISHED SYSMODS 0 HOLDS 0\n", "NOT FOUND\n"),
     ("PUBLISHED SYSMODS 3 HOLDS 1\n", "NOT FOUND\n"),
     ("PUBLISHED SYSMODS 3 HOLDS 1\n", ONE_RESOLVER),
@@ -149,10 +149,11 @@ const SEEN: [(&str, &str); 11] = [
     ("PUBLISHED SYSMODS 3 HOLDS 1\n", ONE_RESOLVER),
     ("PUBLISHED SYSMODS 3 HOLDS 1\n", ONE_RESOLVER),
     ("PUBLISHED SYSMODS 3 HOLDS 1\n", ONE_RESOLVER),
-    ("PUBLISHED SYSMODS 4 HOLDS 1\n", TWO_RESOLVERS),
-    ("PUBLISHED SYSMODS 4 HOLDS 1\n", TWO_RESOLVERS),
-    ("PUBLISHED SYSMODS 4 HOLDS 1\n", TWO_RESOLVERS),
-    ("PUBLISHED SYSMODS 4 HOLDS 1\n", TWO_RESOLVERS),
+    ("PUBLISHED SYSMODS 3 HOLDS 1\n", ONE_RESOLVER),
+    ("PUBLISHED SYSMODS 6 HOLDS 1\n", TWO_RESOLVERS),
+    ("PUBLISHED SYSMODS 6 HOLDS 1\n", TWO_RESOLVERS),
+    ("PUBLISHED SYSMODS 6 HOLDS 1\n", TWO_RESOLVERS),
+    ("PUBLISHED SYSMODS 6 HOLDS 1\n", TWO_RESOLVERS),
 ];
 
 fn is_seen(replies: &[Reply], counts: &str, report: &str) -> bool {
@@ -166,7 +167,7 @@ fn is_seen(replies: &[Reply], counts: &str, report: &str) -> bool {
 #[test]
 fn what_is_right_is_what_was_worked_out(rt: HostRuntime) -> Result<(), Fail> {
     let script = worked(rt.alloc())?;
-    assert_eq!(rt; script.after.len(), 15);
+    assert_eq!(rt; script.after.len(), 16);
     for (replies, (counts, report)) in script.after.iter().zip(&SEEN) {
         assert!(rt; is_seen(replies.as_slice(), counts, report), "{counts}");
     }

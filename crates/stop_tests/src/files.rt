@@ -64,6 +64,15 @@ fn opened<S: Alter>(
     SqlStore::open(alloc, conn)
 }
 
+fn brought<S: Alter>(
+    alloc: Global,
+    conn: Connection<S>,
+) -> Result<SqlStore<S>, (StoreFault, Connection<S>)>
+    requires { conn.in_transaction ≡ false }
+{
+    SqlStore::migrate(alloc, conn)
+}
+
 // Either the store, or the files with what was wrong.
 fn with_files<D: Disk + Drop>(
     either: Result<InFiles<D>, (StoreFault, Connection<FileStore<D>>)>,
@@ -94,6 +103,17 @@ pub(crate) fn reopened<D: Disk + Drop>(
 ) -> Result<InFiles<D>, (StoreFault, Files<D>)> {
     match connected(alloc, files, SHORT_LOG) {
         Ok(conn) => with_files(opened(alloc, conn)),
+        Err(files) => Err((StoreFault::Device, files)),
+    }
+}
+
+/// The store of version 1 that is in these files, made one of version 2; or the files with what was wrong.
+pub(crate) fn migrated<D: Disk + Drop>(
+    alloc: Global,
+    files: Files<D>,
+) -> Result<InFiles<D>, (StoreFault, Files<D>)> {
+    match connected(alloc, files, SHORT_LOG) {
+        Ok(conn) => with_files(brought(alloc, conn)),
         Err(files) => Err((StoreFault::Device, files)),
     }
 }
@@ -144,15 +164,28 @@ pub(crate) fn after_power_loss(mut files: Files<Device>) -> Files<Device> {
 
 /// What the files have after the program ended: all that was written.
 pub(crate) fn after_kill(alloc: Global, files: &Files<Device>) -> Checked<Files<Device>> {
-    let log = written(alloc, &files.log)?;
-    let db = written(alloc, &files.db)?;
+    copied(alloc, files, u64::MAX, u64::MAX)
+}
+
+/// Files with the same bytes, of which the log answers so many calls, and the database so many.
+pub(crate) fn copied(
+    alloc: Global,
+    files: &Files<Device>,
+    log: u64,
+    db: u64,
+) -> Checked<Files<Device>> {
+    let log = written(alloc, &files.log, log)?;
+    let db = written(alloc, &files.db, db)?;
     Ok(Files { log, db })
 }
 
-fn written(alloc: Global, file: &Device) -> Checked<Device> {
+fn written(alloc: Global, file: &Device, calls: u64) -> Checked<Device> {
     let mut disk = Memory::new(alloc);
     if !disk.may_be_used() || disk.write_at(0, file.inner().bytes()).is_err() {
         return Err("memory");
     }
-    Ok(Fuse::new(disk, u64::MAX))
+    if disk.sync().is_err() {
+        return Err("the bytes are not synced");
+    }
+    Ok(Fuse::new(disk, calls))
 }

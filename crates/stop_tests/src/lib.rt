@@ -12,4 +12,6 @@ mod device_tests;
 #[cfg(test)]
 mod files;
 #[cfg(test)]
+mod migrate_tests;
+#[cfg(test)]
 mod script;

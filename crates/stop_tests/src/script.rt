@@ -32,11 +32,21 @@ const BASE: &[u8] = b"++FUNCTION(HBB7790).
  REASON(AA20002) CLASS(PE) DATE(12045).
 ";
 
-const SUPERSEDING: &[u8] = b"++PTF(UA10005).\n++VER(Z038) FMID(HBB7790) SUP(UA10002).\n";
+// One that supersedes, one with a conditional requisite, and that requisite.
+const SUPERSEDING: &[u8] = b"++PTF(UA10005).
+++VER(Z038) FMID(HBB7790) SUP(UA10002).
+++PTF(UA10020).
+++VER(Z038) FMID(HBB7790).
+++IF FMID(HXX0001) THEN REQ(UA10021).
+++PTF(UA10021).
+++VER(Z038) FMID(HBB7790).
+";
 
 const BOTH: &[u8] = b"SYSMOD,STATE\nHBB7790,APPLIED\nUA10001,APPLIED\n";
 
 const FUNCTION: &[u8] = b"SYSMOD,STATE\nHBB7790,APPLIED\n";
+
+const FUNCTIONS: &[u8] = b"SYSMOD,STATE\nHBB7790,APPLIED\nHXX0001,APPLIED\n";
 
 const RECEIVED: &[u8] = b"SYSMOD\nUA10002\n";
 
@@ -72,12 +82,19 @@ const LONG_PLAN: &str = "{\"plan\":[{\"id\":\"UA10001\",\"system\":[],\"user\":[
 \"status\":\"GOOD\",\"sysmod\":\"UA10002\",\"zone\":\"TGT1\"}";
 
 /// Before this one the store's files are closed and opened again.
-pub(crate) const OPENED_AGAIN: usize = 6;
+pub(crate) const OPENED_AGAIN: usize = 7;
 
 /// A zone and a SYSMOD that is published.
 pub(crate) fn named() -> Checked<(Id, Id)> {
     let zone = Id::new(b"TGT1").ok_or("an id")?;
     let sysmod = Id::new(b"UA10002").ok_or("an id")?;
+    Ok((zone, sysmod))
+}
+
+// A zone in which what is required under a condition is required, and the SYSMOD that requires it.
+fn conditional() -> Checked<(Id, Id)> {
+    let zone = Id::new(b"TGT2").ok_or("an id")?;
+    let sysmod = Id::new(b"UA10020").ok_or("an id")?;
     Ok((zone, sysmod))
 }
 
@@ -120,6 +137,7 @@ fn missing(zone: Id) -> Call<'static> {
 
 /// Two publications, a zone of the same name of each of two clients, the other kinds of changes, and what they ask.
 pub(crate) fn script(alloc: Global, zone: Id, sysmod: Id) -> Checked<Vec<Told>> {
+    let (other, _) = conditional()?;
     let rows = [
         (
             (PUBLISHER, publish(1, BASE)),
@@ -127,19 +145,20 @@ pub(crate) fn script(alloc: Global, zone: Id, sysmod: Id) -> Checked<Vec<Told>> 
         ),
         ((ALPHA, put(1, zone, BOTH)), "ZONE TGT1 ROWS 2\n"),
         ((BETA, put(1, zone, FUNCTION)), "ZONE TGT1 ROWS 1\n"),
+        ((ALPHA, put(2, other, FUNCTIONS)), "ZONE TGT2 ROWS 2\n"),
         ((ALPHA, chain(zone, sysmod)), SHORT_PLAN),
         ((BETA, chain(zone, sysmod)), LONG_PLAN),
         ((ALPHA, report(zone)), ONE_RESOLVER),
         (
             (PUBLISHER, publish(2, SUPERSEDING)),
-            "ACCEPTED SYSMODS 1 HOLDS 0 RELEASES 0\n",
+            "ACCEPTED SYSMODS 3 HOLDS 0 RELEASES 0\n",
         ),
         ((BETA, put(2, zone, BOTH)), "ZONE TGT1 ROWS 2\n"),
         ((ALPHA, report(zone)), TWO_RESOLVERS),
         ((ALPHA, chain(zone, sysmod)), SHORT_PLAN),
-        ((ALPHA, received(2, RECEIVED)), "RECEIVED ROWS 1\n"),
+        ((ALPHA, received(3, RECEIVED)), "RECEIVED ROWS 1\n"),
         (
-            (ALPHA, patterns(3, zone, PATTERNS)),
+            (ALPHA, patterns(4, zone, PATTERNS)),
             "ZONE TGT1 PATTERNS 1\n",
         ),
         ((BETA, dropped(3, zone)), "ZONE TGT1 DROPPED\n"),
@@ -150,11 +169,13 @@ pub(crate) fn script(alloc: Global, zone: Id, sysmod: Id) -> Checked<Vec<Told>> 
 
 /// All that each caller may ask of what is kept: how much is published and ALPHA's report come first.
 pub(crate) fn questions(alloc: Global, zone: Id, sysmod: Id) -> Checked<Vec<Asked>> {
+    let (other, requiring) = conditional()?;
     let rows = [
         (ALPHA, Call::Counts),
         (ALPHA, report(zone)),
         (ALPHA, Call::ListZones),
         (ALPHA, chain(zone, sysmod)),
+        (ALPHA, chain(other, requiring)),
         (ALPHA, missing(zone)),
         (BETA, Call::ListZones),
         (BETA, report(zone)),

@@ -2,6 +2,7 @@
 ghost use Rattle.std.specs.Prelude.{◌≡◌, false, IfOk};
 
 use bureau_store::Caller;
+use catalogue::{CondNeed, CondNeeds};
 use holddata::Kind;
 use mcs_reader::Id;
 use sql_reads::{
@@ -23,6 +24,8 @@ const BASE: ValueRef<'static> = ValueRef::Text(b"HBB7790");
 const FIX: ValueRef<'static> = ValueRef::Text(b"UA10002");
 
 const FIXED: ValueRef<'static> = ValueRef::Text(b"AA20002");
+
+const OTHER: ValueRef<'static> = ValueRef::Text(b"UA10003");
 
 const NOTHING: ValueRef<'static> = ValueRef::Text(b"");
 
@@ -46,6 +49,7 @@ fn made(alloc: Global) -> Result<Connection<MemStore>, Error> {
         create::zone_head(),
         create::zone_row(),
         create::received_list(),
+        create::sysmod_cond(),
     ];
     for text in texts {
         conn.execute(text, &[])?;
@@ -62,11 +66,13 @@ fn put(
     Ok(())
 }
 
-// A PTF that supersedes an APAR, with an ERROR and a FIXCAT hold.
+// A PTF that supersedes an APAR and requires two under a condition, with an ERROR and a FIXCAT hold.
 fn publish(conn: &mut Connection<MemStore>) -> Result<(), Error> {
     let record = [FIX, ONE, BASE, NOTHING, NOTHING];
     put(conn, write::insert_sysmod(), &record)?;
     put(conn, write::insert_sysmod_sup(), &[FIX, FIXED])?;
+    put(conn, write::insert_sysmod_cond(), &[FIX, BASE, OTHER])?;
+    put(conn, write::insert_sysmod_cond(), &[FIX, BASE, FIXED])?;
     for kind in [0, 3] {
         let kind = ValueRef::Int(kind);
         let hold = [FIX, kind, FIXED, BASE, NOTHING, NO_DATE, NOTHING, NOTHING];
@@ -178,6 +184,15 @@ fn superseded_by(
     Ok(sysmod(alloc, at_rest(conn)?, name)?.map(|record| record.sup.as_slice().len()))
 }
 
+// What a SYSMOD requires under a condition, each with its function.
+fn conditional(
+    alloc: Global,
+    conn: &mut Connection<MemStore>,
+    name: &Id,
+) -> Result<Option<CondNeeds>, ReadFault> {
+    Ok(sysmod(alloc, at_rest(conn)?, name)?.map(|record| record.conds))
+}
+
 fn above(alloc: Global, conn: &mut Connection<MemStore>, name: &Id) -> Result<usize, ReadFault> {
     Ok(superseders(alloc, at_rest(conn)?, name)?.len())
 }
@@ -277,11 +292,36 @@ fn what_is_published_is_found(rt: HostRuntime) -> Result<(), Fail> {
 }
 
 #[test]
+fn requisites_under_a_condition_are_found_in_order(rt: HostRuntime) -> Result<(), Fail> {
+    let alloc = rt.alloc();
+    let mut conn = made(alloc)?;
+    publish(&mut conn)?;
+    let found = conditional(alloc, &mut conn, &id(b"UA10002")?)?.ok_or("a record")?;
+    let fmid = id(b"HBB7790")?;
+    let pairs = [
+        CondNeed {
+            fmid,
+            need: id(b"AA20002")?,
+        },
+        CondNeed {
+            fmid,
+            need: id(b"UA10003")?,
+        },
+    ];
+    assert!(rt; found.as_slice() == pairs.as_slice());
+    assert!(rt; conditional(alloc, &mut conn, &id(b"UA10003")?)?.is_none());
+    let small = ValueRef::Text(b"hbb7790");
+    put(&mut conn, write::insert_sysmod_cond(), &[FIX, small, FIXED])?;
+    assert!(rt; is_device(conditional(alloc, &mut conn, &id(b"UA10002")?)));
+    Ok(())
+}
+
+#[test]
 fn the_version_is_found(rt: HostRuntime) -> Result<(), Fail> {
     let mut conn = made(rt.alloc())?;
     assert_eq!(rt; tables_version(&mut conn)?, None);
     put(&mut conn, write::insert_version(), &[])?;
-    assert_eq!(rt; tables_version(&mut conn)?, Some(1));
+    assert_eq!(rt; tables_version(&mut conn)?, Some(2));
     Ok(())
 }
 

@@ -1,8 +1,8 @@
 //! Lists and rows are read where there is memory, and what was never written is none.
-use catalogue::Ids;
+use catalogue::{CondNeed, CondNeeds, Ids};
 use mcs_reader::Id;
 use sql_tables::{
-    NoMemory, change_in, count_in, hold_in, id_row_in, ids_in, ids_row_in, joined_ids,
+    NoMemory, change_in, cond_in, count_in, hold_in, id_row_in, ids_in, ids_row_in, joined_ids,
     joined_patterns, patterns_in, patterns_row_in, sysmod_in, zone_row_in,
 };
 use sqlite::types::ValueRef;
@@ -20,7 +20,8 @@ fn is_hold(alloc: Global, row: &Row) -> Result<bool, NoMemory> {
 }
 
 fn is_sysmod(alloc: Global, row: &Row) -> Result<bool, NoMemory> {
-    Ok(sysmod_in(alloc, row, Ids::new(alloc))?.is_some())
+    let (conds, sup) = (CondNeeds::new(alloc), Ids::new(alloc));
+    Ok(sysmod_in(alloc, row, conds, sup)?.is_some())
 }
 
 #[test]
@@ -89,6 +90,24 @@ fn records_are_read_and_nothing_else(rt: HostRuntime) -> Result<(), Fail> {
     for (select, is) in rows {
         let row = row_of(&mut conn, select)?;
         assert_eq!(rt; is_sysmod(alloc, &row)?, is, "{select}");
+    }
+    Ok(())
+}
+
+#[test]
+fn requisites_under_a_condition_are_read(rt: HostRuntime) -> Result<(), Fail> {
+    let mut conn = Connection::open_in_memory(rt.alloc())?;
+    let fmid = Id::new(b"HXX0001").ok_or("a function")?;
+    let need = Id::new(b"UA2").ok_or("a SYSMOD")?;
+    let rows = [
+        ("SELECT 'HXX0001', 'UA2'", Some(CondNeed { fmid, need })),
+        ("SELECT 'HXX0001', ''", None),
+        ("SELECT 'hxx0001', 'UA2'", None),
+        ("SELECT 'HXX0001'", None),
+    ];
+    for (select, found) in rows {
+        let row = row_of(&mut conn, select)?;
+        assert_eq!(rt; cond_in(&row), found, "{select}");
     }
     Ok(())
 }

@@ -36,6 +36,7 @@ fn made(alloc: Global) -> Result<Connection<MemStore>, Error> {
         create::zone_head(),
         create::zone_row(),
         create::received_list(),
+        create::sysmod_cond(),
     ];
     for text in texts {
         conn.execute(text, &[])?;
@@ -86,6 +87,7 @@ fn fill(conn: &mut Connection<MemStore>) -> Result<(), Fail> {
         &[FIX, ONE, BASE, NOTHING, NOTHING],
     )?;
     write_each(conn, &[write::insert_sysmod_sup()], &[FIX, FIXED])?;
+    write_each(conn, &[write::insert_sysmod_cond()], &[FIX, BASE, FIXED])?;
     let hold = [
         FIX,
         ZERO,
@@ -113,7 +115,12 @@ fn look(conn: &mut Connection<MemStore>) -> Result<(), Fail> {
     read_each(conn, &[read::caller_with_token()], &[TOKEN])?;
     read_each(
         conn,
-        &[read::sysmod(), read::superseded(), read::holds_on()],
+        &[
+            read::sysmod(),
+            read::superseded(),
+            read::conditional(),
+            read::holds_on(),
+        ],
         &[FIX],
     )?;
     read_each(conn, &[read::superseders()], &[FIXED])?;
@@ -129,9 +136,14 @@ fn look(conn: &mut Connection<MemStore>) -> Result<(), Fail> {
 }
 
 fn clear(conn: &mut Connection<MemStore>) -> Result<(), Fail> {
+    write_each(conn, &[write::delete_version()], &[])?;
     write_each(
         conn,
-        &[write::delete_sysmod(), write::delete_superseded()],
+        &[
+            write::delete_sysmod(),
+            write::delete_superseded(),
+            write::delete_conditional(),
+        ],
         &[FIX],
     )?;
     write_each(conn, &[write::delete_hold()], &[FIX, ZERO, FIXED])?;

@@ -6,7 +6,8 @@ ghost use Rattle.bureau_store.specs.declared.caller.Caller.TheVariants.{Client};
 use bureau_store::callers;
 use catalogue::read_changes;
 use mcs_reader::{Id, read};
-use sql_writes::{create, drop_zone, publish, put_patterns, put_received, put_zone};
+use sql_texts::create as texts;
+use sql_writes::{create, drop_zone, migrate, publish, put_patterns, put_received, put_zone};
 use sqlite::{Connection, MemStore, Transaction};
 use std::alloc::Global;
 use std::process::Abort;
@@ -16,7 +17,7 @@ use zone_lists::{patterns, received_rows, zone_rows};
 const CALLERS: &[u8] = b"NAME,TOKEN\nALPHA,alpha-token\nBETA,beta-token\nPUBLISH,publish-token\n";
 
 const PUBLISHED: &[u8] = b"++PTF(UA10001).\n++VER(Z038) FMID(HBB7790) SUP(AA20001,AA20002).\n\
- ++HOLD(UA10001) ERROR FMID(HBB7790) REASON(AA30003) DATE(12045).\n";
+ ++IF FMID(HXX0001) REQ(UA10003,UA10002).\n++HOLD(UA10001) ERROR FMID(HBB7790) REASON(AA30003) DATE(12045).\n";
 
 const AGAIN: &[u8] = b"++PTF(UA10001).\n++VER(Z038) FMID(HBB7790) SUP(AA20003).\n\
  ++RELEASE(UA10001) ERROR FMID(HBB7790) REASON(AA30003).\n";
@@ -218,7 +219,8 @@ fn a_change_of_a_client_leaves_its_rows(rt: HostRuntime) -> Result<(), Fail> {
 fn a_publication_leaves_its_rows(rt: HostRuntime) -> Result<(), Fail> {
     let holds = "SELECT 1 FROM hold_row";
     let member = "SELECT 1 FROM sysmod_sup WHERE member = 'AA20003'";
-    let version = "SELECT 1 FROM caller, bureau_version WHERE version = 1";
+    let version = "SELECT 1 FROM caller, bureau_version WHERE version = 2";
+    let pairs = "SELECT 1 FROM sysmod_cond WHERE id = 'UA10001' AND fmid = 'HXX0001'";
     let puts = [
         (
             1,
@@ -237,6 +239,44 @@ fn a_publication_leaves_its_rows(rt: HostRuntime) -> Result<(), Fail> {
         (5, Put::Publication(AGAIN), holds, 0),
         (6, Put::Publication(b""), "SELECT 1 FROM last_change", 1),
         (7, Put::Publication(b""), version, 3),
+        (8, Put::Publication(b""), pairs, 0),
+        (9, Put::Publication(PUBLISHED), pairs, 2),
+        (10, Put::Publication(AGAIN), "SELECT 1 FROM sysmod_cond", 0),
     ];
     assert_each(&rt, rt.alloc(), &puts)
+}
+
+// A database of version 1, with no row but that of the version.
+fn of_version_1(alloc: Global) -> Result<Connection<MemStore>, Fail> {
+    let mut conn = Connection::open_in_memory(alloc)?;
+    let tables = [
+        texts::bureau_version(),
+        texts::caller(),
+        texts::last_change(),
+        texts::sysmod(),
+        texts::sysmod_sup(),
+        texts::by_member(),
+        texts::hold_row(),
+        texts::zone_head(),
+        texts::zone_row(),
+        texts::received_list(),
+        "INSERT INTO bureau_version (one, version) VALUES (1, 1)",
+    ];
+    for text in tables {
+        conn.execute(text, &[])?;
+    }
+    Ok(conn)
+}
+
+#[test]
+fn tables_of_version_1_become_those_of_version_2(rt: HostRuntime) -> Result<(), Fail> {
+    let mut conn = of_version_1(rt.alloc())?;
+    assert!(rt; conn.is_autocommit());
+    let mut tx = conn.transaction();
+    migrate(&mut tx)?;
+    tx.commit()?;
+    let version = count(&mut conn, "SELECT 1 FROM bureau_version WHERE version = 2")?;
+    assert_eq!(rt; version, 1);
+    assert_eq!(rt; count(&mut conn, "SELECT 1 FROM sysmod_cond")?, 0);
+    Ok(())
 }

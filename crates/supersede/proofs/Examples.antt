@@ -4,11 +4,12 @@ use Rattle.mcs_reader.specs.Id.{padded}
 use Rattle.holddata.specs.declared.key.Kind.TheVariants.{ErrorHold}
 use Rattle.zone_lists.specs.Installed.{is_installed}
 use Rattle.zone_lists.specs.declared.zones.ZoneRow.{ZoneRow}
-use Rattle.zone_lists.specs.declared.zones.ZoneState.TheVariants.{Applied, Superseded}
+use Rattle.zone_lists.specs.declared.zones.ZoneState.{ZoneState}
+use Rattle.zone_lists.specs.declared.zones.ZoneState.TheVariants.{Accepted, Applied, Superseded}
 use Rattle.catalogue.specs.Content.{Content}
 use Rattle.catalogue.specs.declared.sysmod.Sysmod.{Sysmod}
 use Rattle.catalogue.specs.declared.sysmod.SysmodKind.TheVariants.{Func, Ptf}
-use Rattle.supersede.specs.Giving.{gives, givers_of, is_candidate, is_there, may_need}
+use Rattle.supersede.specs.Giving.{always_needs, gives, givers_of, is_candidate, is_there, may_need, needs_in}
 
 abbrev function : List ℕ
 function = padded (codes "HBB7790")
@@ -27,12 +28,12 @@ apar = padded (codes "AA20002")
 
 -- a PTF for the function, which needs some and supersedes some
 abbrev ptf : List ℕ → List (List ℕ) → List (List ℕ) → Sysmod
-ptf id pre sup = record { id = id; kind = Ptf; fmids = function ∷ []; pre = pre; req = []; sup = sup }
+ptf id pre sup = record { id = id; kind = Ptf; fmids = function ∷ []; pre = pre; req = []; conds = []; sup = sup }
 
 -- an error of the first PTF, which the second fixes; the third supersedes the second
 abbrev published : Content
 published = record {
-  sysmods = record { id = function; kind = Func; fmids = []; pre = []; req = []; sup = [] } ∷ ptf first [] [] ∷ ptf second (first ∷ []) (apar ∷ []) ∷ ptf third [] (second ∷ []) ∷ [];
+  sysmods = record { id = function; kind = Func; fmids = []; pre = []; req = []; conds = []; sup = [] } ∷ ptf first [] [] ∷ ptf second (first ∷ []) (apar ∷ []) ∷ ptf third [] (second ∷ []) ∷ [];
   holds = record { key = record { sysmod = first; kind = ErrorHold; reason = apar }; fmid = Some function; class = None; resolver = None; dated = None; categories = [] } ∷ [];
 }
 
@@ -78,6 +79,50 @@ an_error_is_a_need = refl
 
 a_requisite_is_a_need : may_need published second ≡ first ∷ []
 a_requisite_is_a_need = refl
+
+-- ---- a requisite where another function is installed
+
+abbrev other_function : List ℕ
+other_function = padded (codes "HXX0001")
+
+abbrev conditional : List ℕ
+conditional = padded (codes "UA10020")
+
+abbrev required : List ℕ
+required = padded (codes "UA10021")
+
+-- a PTF that needs the first, and another one where the other function is installed
+abbrev with_condition : Content
+with_condition = record {
+  sysmods =
+      record { id = conditional; kind = Ptf; fmids = function ∷ []; pre = first ∷ []; req = []; conds = record { fmid = other_function; need = required } ∷ []; sup = [] }
+      ∷ ptf required [] [] ∷ [];
+  holds = [];
+}
+
+-- a zone with both functions, the other one in a state
+abbrev with_other : ZoneState → List ZoneRow
+with_other state = record { sysmod = function; state = Applied } ∷ record { sysmod = other_function; state = state } ∷ []
+
+whatever_the_zone_it_needs_its_pre : always_needs with_condition conditional ≡ first ∷ []
+whatever_the_zone_it_needs_its_pre = refl
+
+where_the_function_is_not_installed : needs_in with_condition zone conditional ≡ first ∷ []
+where_the_function_is_not_installed = refl
+
+where_it_is_applied : needs_in with_condition (with_other Applied) conditional ≡ first ∷ required ∷ []
+where_it_is_applied = refl
+
+where_it_is_accepted : needs_in with_condition (with_other Accepted) conditional ≡ first ∷ required ∷ []
+where_it_is_accepted = refl
+
+where_it_is_superseded : needs_in with_condition (with_other Superseded) conditional ≡ first ∷ []
+where_it_is_superseded = refl
+
+a_frame_follows_it_anyway : may_need with_condition conditional ≡ first ∷ required ∷ []
+a_frame_follows_it_anyway = refl
+
+-- ---- a ring
 
 -- two that supersede each other give each other, and the search ends
 abbrev ring : Content

@@ -1,15 +1,16 @@
--- Which SYSMODs stand for others: what gives what, what is there in a zone, and what may be installed there
--- (IBM z/OS SMP/E Reference, `++VER`, operands SUP, FMID, PRE, REQ, and `++HOLD`, operand REASON).
-use Rattle.std.specs.Prelude.{ℕ, zero, suc, ◌&&◌, ◌||◌, ◌++◌, Bool, List, [], Option, Some, None, filter, is_some, length}
+-- Which SYSMODs stand for others: what gives what, what is there in a zone, what may be installed there and what it needs
+-- (IBM z/OS SMP/E Reference, `++VER`, operands SUP, FMID, PRE, REQ, `++IF`, operands FMID, REQ, and `++HOLD`, operand REASON).
+use Rattle.std.specs.Prelude.{ℕ, zero, suc, ◌&&◌, ◌||◌, ◌++◌, Bool, List, [], Option, Some, None, filter, is_some, length, map}
 use Rattle.std.specs.List.{list_any}
 use Rattle.zone_lists.specs.Installed.{is_installed, is_installed_state, is_listed}
 use Rattle.zone_lists.specs.declared.zones.ZoneRow.{ZoneRow}
 use Rattle.catalogue.specs.Content.{Content, error_reasons, ids_of, record_of}
 use Rattle.catalogue.specs.Ids.{same_id}
+use Rattle.catalogue.specs.declared.conditional.CondNeed.{CondNeed}
 use Rattle.catalogue.specs.declared.sysmod.Sysmod.{Sysmod}
 
--- the ids that a record supersedes, needs before it and with it, and the functions that it applies to; none
--- where there is no record
+-- the ids that a record supersedes, needs before it and with it, the functions that it applies to, and its requisites
+-- under a condition; none where there is no record
 abbrev pub sup_of : Option Sysmod → List (List ℕ)
 sup_of None = []
 sup_of (Some sysmod) = sysmod.sup
@@ -21,6 +22,10 @@ requisites_of (Some sysmod) = sysmod.pre ++ sysmod.req
 abbrev pub fmids_of : Option Sysmod → List (List ℕ)
 fmids_of None = []
 fmids_of (Some sysmod) = sysmod.fmids
+
+abbrev pub conds_of : Option Sysmod → List CondNeed
+conds_of None = []
+conds_of (Some sysmod) = sysmod.conds
 
 -- whether superseding leads from one id to another in at most so many steps, each of which a record's SUP names
 abbrev pub supersedes_within : Content → ℕ → List ℕ → List ℕ → Bool
@@ -47,10 +52,24 @@ is_there content rows id =
 abbrev pub is_candidate : Content → List ZoneRow → List ℕ → Bool
 is_candidate content rows id = list_any (λ fmid. is_installed rows fmid) (fmids_of (record_of content id))
 
--- what an id may need, in whatever zone: its PRE, its REQ, and the reasons of the ERROR holds on it
-abbrev pub may_need : Content → List ℕ → List (List ℕ)
-may_need content id = requisites_of (record_of content id) ++ error_reasons content id
+-- ---- needs
 
--- what an id needs in a zone: all that it may need
+-- what requisites under a condition name: whatever the zone, the need of each
+abbrev pub each_need : List CondNeed → List (List ℕ)
+each_need conds = map (λ cond. cond.need) conds
+
+-- and in a zone the needs of those whose function is installed there
+abbrev pub needs_where : List ZoneRow → List CondNeed → List (List ℕ)
+needs_where rows conds = each_need (filter (λ cond. is_installed rows cond.fmid) conds)
+
+-- what an id needs in every zone: its PRE, its REQ, and the reasons of the ERROR holds on it
+abbrev pub always_needs : Content → List ℕ → List (List ℕ)
+always_needs content id = requisites_of (record_of content id) ++ error_reasons content id
+
+-- what an id may need, in whatever zone: that, and the need of each of its requisites under a condition
+abbrev pub may_need : Content → List ℕ → List (List ℕ)
+may_need content id = always_needs content id ++ each_need (conds_of (record_of content id))
+
+-- what an id needs in a zone: what it always needs, and what it needs where a function is, if that is installed
 abbrev pub needs_in : Content → List ZoneRow → List ℕ → List (List ℕ)
-needs_in content rows id = may_need content id
+needs_in content rows id = always_needs content id ++ needs_where rows (conds_of (record_of content id))

@@ -1,7 +1,8 @@
 //! What statements publish, what a publication leaves and touches, and that each call succeeds where there is
 //! memory.
 use catalogue::{
-    Change, ChangeReader, Ids, ListPublished, Published, Sysmod, SysmodKind, read_changes, touched,
+    Change, ChangeReader, CondNeed, CondNeeds, Ids, ListPublished, Published, Sysmod, SysmodKind,
+    read_changes, touched,
 };
 use holddata::{HoldChange, HoldKey};
 use mcs_reader::{Id, read};
@@ -68,7 +69,16 @@ fn put_sysmod(text: &mut String, sysmod: &Sysmod) -> Result<(), Fail> {
     put_ids(text, " pre", sysmod.pre.as_slice())?;
     put_ids(text, " req", sysmod.req.as_slice())?;
     put_ids(text, " sup", sysmod.sup.as_slice())?;
+    put_conds(text, sysmod.conds.as_slice())?;
     Ok(text.push_str("; ")?)
+}
+
+// Of each function what is required where it is installed.
+fn put_conds(text: &mut String, conds: &[CondNeed]) -> Result<(), Fail> {
+    for cond in conds {
+        put_ids(text, " if", &[cond.fmid, cond.need])?;
+    }
+    Ok(())
 }
 
 fn put_hold(text: &mut String, verb: &str, key: &HoldKey) -> Result<(), Fail> {
@@ -122,8 +132,16 @@ fn touched_text(alloc: Global, sources: &[&[u8]], source: &[u8]) -> Result<Strin
 #[test]
 fn statements_publish_sysmods_and_holds(rt: HostRuntime) -> Result<(), Fail> {
     let alloc = rt.alloc();
-    let rows: [(&[u8], &str); 6] = [
+    let rows: [(&[u8], &str); 8] = [
         (BASE, BASE_TEXT),
+        (
+            b"++PTF(UA1).\n++IF FMID(F2) THEN REQ(B,A) REQ(C,A).\n++VER(Z038) FMID(F1).\n++if fmid(F1) req(B).\n++IF FMID(F2) REQ(A).\n",
+            "UA1 Ptf fmids F1 pre req sup if F1 B if F2 A if F2 B if F2 C; ",
+        ),
+        (
+            b"++PTF(UA1).\n++HOLD(UA1) ERROR REASON(AA1).\n++IF FMID(F1) REQ(UA2).\n++PTF(UA2).\n++IF FMID(F1).\n",
+            "UA1 Ptf fmids pre req sup if F1 UA2; put UA1 AA1; UA2 Ptf fmids pre req sup; ",
+        ),
         (
             b"++PTF(UA10030).\n++VER(Z038) FMID(HBB7790) REQ(UA2).\n++VER(Z037) FMID(HBB7780) REQ(UA1,UA2).\n",
             "UA10030 Ptf fmids HBB7780 HBB7790 pre req UA1 UA2 sup; ",
@@ -153,8 +171,14 @@ fn statements_publish_sysmods_and_holds(rt: HostRuntime) -> Result<(), Fail> {
 #[test]
 fn the_first_statement_with_a_fault_is_told(rt: HostRuntime) -> Result<(), Fail> {
     let alloc = rt.alloc();
-    let rows: [(&[u8], u8, u32); 6] = [
+    let rows: [(&[u8], u8, u32); 12] = [
         (b"++VER(Z038).\n", 21, 1),
+        (b"\n++IF REQ(b).\n", 27, 2),
+        (b"++PTF(UA1).\n++IF REQ(b).\n", 28, 2),
+        (b"++PTF(UA1).\n++IF FMID() REQ(UA2).\n", 28, 2),
+        (b"++PTF(UA1).\n++IF FMID(F1) FMID(F1) REQ(UA2).\n", 28, 2),
+        (b"++PTF(UA1).\n++IF FMID(f1).\n", 22, 2),
+        (b"++PTF(UA1).\n++IF FMID(F1) REQ(UA2) REQ(UA3,b).\n", 22, 2),
         (b"++PTF(UA10030).\n++VER(Z038) PRE(UA1000123).\n", 22, 2),
         (b"++VER(Z038) FMID(UA1000123).\n++PTF(UA1).\n", 21, 1),
         (
@@ -265,11 +289,36 @@ fn ids_are_made_of_lists_that_ascend(rt: HostRuntime) -> Result<(), Fail> {
     Ok(())
 }
 
+#[test]
+fn conditional_requisites_are_made_of_lists_that_ascend(rt: HostRuntime) -> Result<(), Fail> {
+    let alloc = rt.alloc();
+    let (a, b) = (Id::new(b"A").ok_or("an id")?, Id::new(b"B").ok_or("an id")?);
+    let [aa, ab, ba] = [(a, a), (a, b), (b, a)].map(|(fmid, need)| CondNeed { fmid, need });
+    let rows: [(&[CondNeed], bool); 6] = [
+        (&[], true),
+        (&[ba], true),
+        (&[aa, ab, ba], true),
+        (&[ba, ab], false),
+        (&[ab, aa], false),
+        (&[ab, ab], false),
+    ];
+    for (list, ascends) in rows {
+        let conds = CondNeeds::from_ascending(Vec::from_slice(alloc, list)?);
+        assert_eq!(rt; conds.is_some(), ascends);
+        if let Some(conds) = conds {
+            assert_eq!(rt; conds.copy()?.as_slice(), list);
+        }
+    }
+    assert!(rt; CondNeeds::new(alloc).as_slice().is_empty());
+    Ok(())
+}
+
 // Each is read and published in time that grows with its length alone.
 #[test]
 fn long_publications_are_read_and_published(rt: HostRuntime) -> Result<(), Fail> {
     let alloc = rt.alloc();
     assert_eq!(rt; vers_after_one_header(alloc, 20_000)?, 20_000);
+    assert_eq!(rt; ifs_after_one_header(alloc, 20_000)?, 20_000);
     assert_eq!(rt; superseders_of_one(alloc, 20_000)?, (20_000, 20_001));
     assert_eq!(rt; one_again(alloc, 20_000)?.as_str(), " S0");
     Ok(())
@@ -286,6 +335,19 @@ fn vers_after_one_header(alloc: Global, rows: u32) -> Result<usize, Fail> {
         return Err(Fail::from("a record"));
     };
     Ok(sysmod.pre.as_slice().len())
+}
+
+fn ifs_after_one_header(alloc: Global, rows: u32) -> Result<usize, Fail> {
+    let mut reader = taken(ChangeReader::new(alloc), alloc, b"++PTF(UA1).\n")?;
+    for i in 0..rows {
+        let condition = format!(in alloc; "++IF FMID(F{}) REQ(P{i}).\n", i % 7)?;
+        reader = taken(reader, alloc, condition.as_bytes())?;
+    }
+    let changes = reader.finish()?;
+    let Some(Change::Whole(sysmod)) = changes.first() else {
+        return Err(Fail::from("a record"));
+    };
+    Ok(sysmod.conds.as_slice().len())
 }
 
 fn one_again(alloc: Global, rows: u32) -> Result<String, Fail> {
@@ -328,6 +390,7 @@ fn ptf(alloc: Global, number: u32, superseded: u32) -> Result<Change, Fail> {
         fmids: Ids::new(alloc),
         pre: Ids::new(alloc),
         req: Ids::new(alloc),
+        conds: CondNeeds::new(alloc),
         sup: Ids::from_ascending(Vec::from_slice(
             alloc,
             &[numbered(alloc, 'S', superseded)?],

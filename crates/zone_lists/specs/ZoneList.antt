@@ -54,11 +54,11 @@ same_state Superseded Accepted = false
 abbrev pub other_state : ZoneRow → ZoneRow → Bool
 other_state a b = bytes_eq a.sysmod b.sysmod && not (same_state a.state b.state)
 
--- a zone's list, of at most 20,000 records below the header SYSMOD,STATE
+-- a zone's list, of at most 40,000 records below the header SYSMOD,STATE
 abbrev pub zone_list : ListKind ZoneRow
 zone_list = record {
   is_header = λ fields. are_names (codes "SYSMOD") (codes "STATE") (two_fields fields);
-  limit = 20000;
+  limit = 40000;
   entry = λ fields. zone_fields (two_fields fields);
   order = row_order;
   contradicts = other_state;

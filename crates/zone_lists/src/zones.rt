@@ -24,7 +24,7 @@ use std::alloc::Global;
 use std::collections::BTreeMap;
 
 /// How many records a zone's list may have after its header.
-pub const ZONE_RECORDS: u32 = 20_000;
+pub const ZONE_RECORDS: u32 = 40_000;
 
 /// How a SYSMOD stands in a zone.
 #[derive(Clone, Copy, Debug, PartialEq, Eq, PartialOrd, Ord, Hash)]

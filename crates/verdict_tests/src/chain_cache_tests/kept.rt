@@ -290,3 +290,47 @@ fn a_publication_drops_the_frames_that_it_touches(rt: HostRuntime) -> Result<(),
     }
     Ok(())
 }
+
+const BARE: &[u8] = b"SYSMOD,STATE\nHBB7790,APPLIED\n";
+
+const WITH_OTHER: &[u8] = b"SYSMOD,STATE\nHBB7790,APPLIED\nHXX0001,APPLIED\n";
+
+const WITH_CONDITION: &[u8] = b"++PTF(UA10020).\n++VER(Z038) FMID(HBB7790).\n\
+++IF FMID(HXX0001) THEN REQ(UA10021).\n++PTF(UA10021).\n++VER(Z038) FMID(HBB7790).\n";
+
+const WITHOUT_CONDITION: &[u8] = b"++PTF(UA10020).\n++VER(Z038) FMID(HBB7790).\n";
+
+// The zone, and the verdict on UA10020 there: as it is published, and without the condition.
+const BY_ZONE: [(&[u8], &str, &str); 3] = [
+    (BARE, "GOOD UA10020", "GOOD UA10020"),
+    (WITH_OTHER, "GOOD UA10020 UA10021", "GOOD UA10020"),
+    (
+        b"SYSMOD,STATE\nHBB7790,APPLIED\nHXX0001,SUPERSEDED\n",
+        "GOOD UA10020",
+        "GOOD UA10020",
+    ),
+];
+
+// One frame serves zones with the function of a condition and without. It goes when the SYSMOD is published anew.
+#[test]
+fn a_frame_serves_each_zone(rt: HostRuntime) -> Result<(), Fail> {
+    let alloc = rt.alloc();
+    let id = id_of(b"UA10020")?;
+    let mut lists = ListPublished::new(alloc);
+    let mut cache = ChainCache::new(alloc, 16, RandomState::new(&rt)?)?;
+    publish(alloc, &mut lists, &mut cache, BASE)?;
+    publish(alloc, &mut lists, &mut cache, WITH_CONDITION)?;
+    for (zone, verdict, _) in BY_ZONE {
+        let given = cache.verdict(alloc, &mut lists, &zone_of(alloc, zone)?, &id)?;
+        assert_eq!(rt; verdict_text(alloc, &given)?.as_str(), verdict);
+        assert_eq!(rt; cache.built(), 1);
+    }
+    publish(alloc, &mut lists, &mut cache, WITHOUT_CONDITION)?;
+    assert_eq!(rt; kept_text(alloc, &cache)?.as_str(), "");
+    for (zone, _, verdict) in BY_ZONE {
+        let given = cache.verdict(alloc, &mut lists, &zone_of(alloc, zone)?, &id)?;
+        assert_eq!(rt; verdict_text(alloc, &given)?.as_str(), verdict);
+        assert_eq!(rt; cache.built(), 2);
+    }
+    Ok(())
+}

@@ -10,7 +10,7 @@ use std::hash::RandomState;
 use std::test::Fail;
 use supersede::Zone;
 
-const RUNS: u32 = 60;
+const RUNS: u32 = 20;
 
 const PUBLICATIONS: u32 = 12;
 
@@ -47,7 +47,19 @@ fn put_operand(text: &mut String, draws: &mut Draws, name: &str) -> Result<(), F
     Ok(())
 }
 
-// A publication: a SYSMOD or two, and some holds and releases.
+fn put_condition(text: &mut String, draws: &mut Draws, function: &str) -> Result<(), Fail> {
+    if draws.is() {
+        write!(
+            text,
+            "++IF FMID({function}) REQ(UA1000{},UA1000{}).\n",
+            draws.id(),
+            draws.id()
+        )?;
+    }
+    Ok(())
+}
+
+// A publication: a SYSMOD or two, with requisites under a condition, and some holds and releases.
 fn statements(alloc: Global, draws: &mut Draws) -> Result<String, Fail> {
     let mut text = String::new(alloc);
     for _ in 0..draws.next() & 3 {
@@ -60,6 +72,9 @@ fn statements(alloc: Global, draws: &mut Draws) -> Result<String, Fail> {
             put_operand(&mut text, draws, name)?;
         }
         text.push_str(" .\n")?;
+        for function in ["HXX0001", "HXX0002"] {
+            put_condition(&mut text, draws, function)?;
+        }
     }
     for verb in ["HOLD", "RELEASE"] {
         if draws.is() {
@@ -85,6 +100,7 @@ fn is_same_frame(frame: &Frame, other: &Frame) -> bool {
                 && node.catalogued == same.catalogued
                 && are_same(&node.fmids, &same.fmids)
                 && are_same(&node.needs, &same.needs)
+                && node.conds.as_slice() == same.conds.as_slice()
                 && are_same(&node.givers, &same.givers)
         })
 }
@@ -136,34 +152,50 @@ fn are_statuses(
     Ok(given.as_slice() == whole.as_slice())
 }
 
-// Whether frames, verdicts and statuses are as over the whole catalogue after one more publication.
+// Whether frames, verdicts and statuses are as over the whole catalogue, in each of some zones, after one more publication.
 fn is_as_whole_after(
     alloc: Global,
     draws: &mut Draws,
     lists: &mut ListPublished,
     cache: &mut ChainCache,
-    zone: &Zone,
+    zones: &[Zone],
 ) -> Result<bool, Fail> {
     let source = statements(alloc, draws)?;
     publish(alloc, lists, cache, source.as_bytes())?;
-    Ok(
-        are_as_built(alloc, lists, cache)?
+    for zone in zones {
+        let is_right = are_as_built(alloc, lists, cache)?
             && are_verdicts(alloc, draws, lists, cache, zone)?
-            && are_statuses(alloc, lists, cache, zone)?
-            && are_as_built(alloc, lists, cache)?,
-    )
+            && are_statuses(alloc, lists, cache, zone)?;
+        if !is_right {
+            return Ok(false);
+        }
+    }
+    are_as_built(alloc, lists, cache)
+}
+
+// One function of the conditions is installed in one of the zones, and listed in another.
+fn zones(alloc: Global) -> Result<Vec<Zone>, Fail> {
+    let mut zones = Vec::new(alloc);
+    for text in [
+        b"SYSMOD,STATE\nHBB7790,APPLIED\nUA10003,APPLIED\n".as_slice(),
+        b"SYSMOD,STATE\nHBB7790,APPLIED\nHXX0001,APPLIED\nUA10003,APPLIED\n",
+        b"SYSMOD,STATE\nHBB7790,APPLIED\nHXX0001,SUPERSEDED\nHXX0002,ACCEPTED\n",
+    ] {
+        zones.push(zone_of(alloc, text)?)?;
+    }
+    Ok(zones)
 }
 
 #[test]
 fn what_is_kept_is_what_would_be_built(rt: HostRuntime) -> Result<(), Fail> {
     let alloc = rt.alloc();
     let mut draws = Draws { state: 20_261_124 };
-    let zone = zone_of(alloc, b"SYSMOD,STATE\nHBB7790,APPLIED\nUA10003,APPLIED\n")?;
+    let zones = zones(alloc)?;
     for run in 0..RUNS {
         let mut lists = ListPublished::new(alloc);
         let mut cache = ChainCache::new(alloc, 1 + (run & 7), RandomState::new(&rt)?)?;
         for _ in 0..PUBLICATIONS {
-            let is_right = is_as_whole_after(alloc, &mut draws, &mut lists, &mut cache, &zone)?;
+            let is_right = is_as_whole_after(alloc, &mut draws, &mut lists, &mut cache, &zones)?;
             assert!(rt; is_right, "{run}");
         }
     }

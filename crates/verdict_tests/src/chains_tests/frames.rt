@@ -1,7 +1,7 @@
 //! Frames: worked ones, and verdicts from a frame beside those over the whole catalogue.
-use super::rows::BASE;
+use super::rows::{BASE, CONDITIONAL};
 use super::{id_of, is_as_whole, published, zone_of};
-use catalogue::{Ids, ListPublished};
+use catalogue::{CondNeed, Ids, ListPublished};
 use chains::{Frame, frame, touches};
 use mcs_reader::Id;
 use std::alloc::Global;
@@ -22,6 +22,17 @@ fn put_ids(text: &mut String, ids: &Ids) -> Result<(), Fail> {
     Ok(())
 }
 
+fn put_conds(text: &mut String, conds: &[CondNeed]) -> Result<(), Fail> {
+    text.push(' ')?;
+    if conds.is_empty() {
+        text.push('-')?;
+    }
+    for cond in conds {
+        write!(text, "{}:{},", cond.fmid, cond.need)?;
+    }
+    Ok(())
+}
+
 // A frame in print: a line for each node.
 fn frame_text(alloc: Global, frame: &Frame) -> Result<String, Fail> {
     let mut text = String::new(alloc);
@@ -30,6 +41,7 @@ fn frame_text(alloc: Global, frame: &Frame) -> Result<String, Fail> {
         write!(text, "{} {catalogued}", node.id)?;
         put_ids(&mut text, &node.fmids)?;
         put_ids(&mut text, &node.needs)?;
+        put_conds(&mut text, node.conds.as_slice())?;
         put_ids(&mut text, &node.givers)?;
         text.push('\n')?;
     }
@@ -41,24 +53,39 @@ fn frame_of(alloc: Global, lists: &mut ListPublished, id: &[u8]) -> Result<Frame
 }
 
 // What is published after the base, the id, and its frame.
-const FRAMES: [(&[u8], &[u8], &str); 4] = [
+const FRAMES: [(&[u8], &[u8], &str); 6] = [
     (
         b"",
         b"UA10002",
-        "AA20002 no - - UA10002,\n\
-UA10001 yes HBB7790, AA20002, UA10001,\n\
-UA10002 yes HBB7790, UA10001, UA10002,\n",
+        "AA20002 no - - - UA10002,\n\
+UA10001 yes HBB7790, AA20002, - UA10001,\n\
+UA10002 yes HBB7790, UA10001, - UA10002,\n",
     ),
     (
         b"++PTF(UA10005).\n++VER(Z038) FMID(HBB7790) SUP(UA10002).\n",
         b"UA10002",
-        "AA20002 no - - UA10002,UA10005,\n\
-UA10001 yes HBB7790, AA20002, UA10001,\n\
-UA10002 yes HBB7790, UA10001, UA10002,UA10005,\n\
-UA10005 yes HBB7790, - UA10005,\n",
+        "AA20002 no - - - UA10002,UA10005,\n\
+UA10001 yes HBB7790, AA20002, - UA10001,\n\
+UA10002 yes HBB7790, UA10001, - UA10002,UA10005,\n\
+UA10005 yes HBB7790, - - UA10005,\n",
     ),
-    (b"", b"HBB7790", "HBB7790 yes - - HBB7790,\n"),
-    (b"", b"UA99999", "UA99999 no - - -\n"),
+    (b"", b"HBB7790", "HBB7790 yes - - - HBB7790,\n"),
+    (b"", b"UA99999", "UA99999 no - - - -\n"),
+    (
+        CONDITIONAL,
+        b"UA10020",
+        "UA10020 yes HBB7790, - HXX0001:UA10021, UA10020,\n\
+UA10021 no - - - -\n",
+    ),
+    (
+        b"++PTF(UA10021).\n++VER(Z038) FMID(HBB7790) REQ(UA10020).\n++IF FMID(HXX0002) REQ(UA10020).\n\
+++IF FMID(HXX0001) REQ(UA10022,UA10003).\n++PTF(UA10022).\n++VER(Z038) FMID(HXX0001) SUP(UA10003).\n",
+        b"UA10021",
+        "UA10003 no - - - UA10022,\n\
+UA10020 no - - - -\n\
+UA10021 yes HBB7790, UA10020, HXX0001:UA10003,HXX0001:UA10022,HXX0002:UA10020, UA10021,\n\
+UA10022 yes HXX0001, - - UA10022,\n",
+    ),
 ];
 
 #[test]
@@ -115,6 +142,28 @@ fn row(alloc: Global, operand: &str, count: u32, last: u32) -> Result<String, Fa
         )?;
     }
     Ok(text)
+}
+
+// SYSMODs by number, each of which needs the next where a function is installed.
+fn conditional_row(alloc: Global, count: u32) -> Result<String, Fail> {
+    let mut text = String::new(alloc);
+    for n in 0..count {
+        let next = n.saturating_add(1);
+        write!(
+            text,
+            "++PTF(N{n:05}).\n++VER(Z038) FMID(HBB7790).\n++IF FMID(HXX0001) REQ(N{next:05}).\n"
+        )?;
+    }
+    Ok(text)
+}
+
+#[test]
+fn a_frame_goes_on_where_no_function_is_installed(rt: HostRuntime) -> Result<(), Fail> {
+    let alloc = rt.alloc();
+    let mut lists = published(alloc, conditional_row(alloc, 10_000)?.as_bytes())?;
+    let frame = frame_of(alloc, &mut lists, b"N00000")?;
+    assert_eq!(rt; frame.nodes().len(), 10_001);
+    Ok(())
 }
 
 #[test]

@@ -1,5 +1,5 @@
 //! Verdicts on small contents that are drawn at random, beside a plain slow body that tries every set of ids.
-use super::{are_statuses, id_of, judged, published, zone_of};
+use super::{are_statuses, id_of, is_as_whole, judged, published, zone_of};
 use mcs_reader::Id;
 use std::alloc::Global;
 use std::fmt::Write;
@@ -9,6 +9,9 @@ const IDS: u32 = 8;
 
 const CONTENTS: u32 = 300;
 
+// The functions of conditions. The zone has the first one, not the second, and the third as SUPERSEDED.
+const FUNCTIONS: [&str; 3] = ["HYY0001", "HYY0002", "HYY0003"];
+
 // Ids by number, and sets of them by bits.
 #[derive(Drop)]
 struct Drawn {
@@ -17,6 +20,8 @@ struct Drawn {
     listed: u32,
     installed: u32,
     needs: Vec<u32>,
+    // What each needs where the functions of conditions are installed, by function.
+    conds: Vec<[u32; 3]>,
     superseded: Vec<u32>,
 }
 
@@ -59,9 +64,11 @@ fn of(rows: &[u32], id: u32) -> u32 {
 impl Drawn {
     fn draw(alloc: Global, draws: &mut Draws) -> Result<Drawn, Fail> {
         let mut needs = Vec::new(alloc);
+        let mut conds = Vec::new(alloc);
         let mut superseded = Vec::new(alloc);
         for _ in 0..IDS {
             needs.push(draws.set(2))?;
+            conds.push([draws.set(3), draws.set(3), draws.set(3)])?;
             superseded.push(draws.set(3))?;
         }
         let listed = draws.set(2);
@@ -71,6 +78,7 @@ impl Drawn {
             listed,
             installed: listed & draws.set(1),
             needs,
+            conds,
             superseded,
         })
     }
@@ -110,9 +118,14 @@ impl Drawn {
         self.listed | self.given(self.installed)
     }
 
-    // The needs of an id that aren't there.
+    // What an id needs where each of the functions is installed.
+    fn conds_of(&self, id: u32) -> [u32; 3] {
+        self.conds.get(id as usize).copied().unwrap_or([0, 0, 0])
+    }
+
+    // The needs of an id that aren't there. Of the functions of conditions the first one is installed.
     fn open_needs(&self, id: u32) -> u32 {
-        of(&self.needs, id) & !self.there()
+        (of(&self.needs, id) | self.conds_of(id)[0]) & !self.there()
     }
 
     fn is_plan(&self, ids: u32) -> bool {
@@ -192,6 +205,9 @@ impl Drawn {
                 put_list(&mut text, "REQ", needs & 0x18)?;
                 put_list(&mut text, "SUP", of(&self.superseded, id))?;
                 text.push_str(" .\n")?;
+                for (function, required) in FUNCTIONS.iter().zip(self.conds_of(id)) {
+                    put_condition(&mut text, function, required)?;
+                }
             }
             for need in 0..IDS {
                 if has(needs & held(has(self.catalogued, id)), need) {
@@ -207,7 +223,7 @@ impl Drawn {
 
     fn zone(&self, alloc: Global) -> Result<String, Fail> {
         let mut text = String::new(alloc);
-        text.push_str("SYSMOD,STATE\nHBB7790,APPLIED\n")?;
+        text.push_str("SYSMOD,STATE\nHBB7790,APPLIED\nHYY0001,ACCEPTED\nHYY0003,SUPERSEDED\n")?;
         for id in 0..IDS {
             if has(self.installed, id) {
                 write!(text, "UA1000{id},ACCEPTED\n")?;
@@ -237,6 +253,15 @@ fn put_list(text: &mut String, name: &str, ids: u32) -> Result<(), Fail> {
     Ok(())
 }
 
+fn put_condition(text: &mut String, function: &str, ids: u32) -> Result<(), Fail> {
+    if ids != 0 {
+        write!(text, "++IF FMID({function})\n")?;
+        put_list(text, "REQ", ids)?;
+        text.push_str(" .\n")?;
+    }
+    Ok(())
+}
+
 #[test]
 fn verdicts_are_those_of_a_plain_slow_body(rt: HostRuntime) -> Result<(), Fail> {
     let alloc = rt.alloc();
@@ -259,6 +284,8 @@ fn verdicts_are_those_of_a_plain_slow_body(rt: HostRuntime) -> Result<(), Fail> 
             ids.push(sysmod)?;
         }
         assert!(rt; are_statuses(alloc, &mut lists, &zone, &ids)?, "{content}");
+        let one = ids.get((content & 7) as usize).copied().ok_or("an id")?;
+        assert!(rt; is_as_whole(alloc, &mut lists, &zone, &one)?, "{content}");
     }
     Ok(())
 }

@@ -1,5 +1,5 @@
 //! Worked verdicts.
-use super::{are_statuses, id_of, judged, published, zone_of};
+use super::{are_statuses, id_of, is_as_whole, judged, published, zone_of};
 use std::test::Fail;
 
 const ALPHA: &[u8] = b"SYSMOD,STATE\nHBB7790,APPLIED\nUA10001,APPLIED\n";
@@ -42,8 +42,31 @@ const RING: &[u8] = b"++PTF(UA10016).\n++VER(Z038) FMID(HBB7790) SUP(UA10017).\n
 ++PTF(UA10017).\n++VER(Z038) FMID(HBB7790) SUP(UA10016).\n\
 ++PTF(UA10018).\n++VER(Z038) FMID(HBB7790) PRE(UA10017).\n";
 
+// A PTF that needs another one where the function HXX0001 is installed.
+pub(super) const CONDITIONAL: &[u8] = b"++PTF(UA10020).\n++VER(Z038) FMID(HBB7790).\n\
+++IF FMID(HXX0001) THEN REQ(UA10021).\n";
+
+const BOTH: &[u8] = b"++PTF(UA10020).\n++VER(Z038) FMID(HBB7790).\n\
+++IF FMID(HXX0001) THEN REQ(UA10021).\n\
+++PTF(UA10021).\n++VER(Z038) FMID(HBB7790).\n";
+
+// A PTF with two conditions: one asks for a PTF and for an APAR that this one supersedes, the other for what isn't
+// published. A third PTF needs it.
+const BY_A_GIVER: &[u8] = b"++PTF(UA10020).\n++VER(Z038) FMID(HBB7790).\n\
+++IF FMID(HXX0001) REQ(UA10021,AA20009).\n++IF FMID(HXX0002) REQ(UA77777).\n\
+++PTF(UA10021).\n++VER(Z038) FMID(HBB7790) SUP(AA20009).\n\
+++PTF(UA10022).\n++VER(Z038) FMID(HBB7790) PRE(UA10020).\n";
+
+const APPLIED: &[u8] = b"SYSMOD,STATE\nHBB7790,APPLIED\nHXX0001,APPLIED\n";
+
+const ACCEPTED: &[u8] = b"SYSMOD,STATE\nHBB7790,APPLIED\nHXX0001,ACCEPTED\n";
+
+const LISTED: &[u8] = b"SYSMOD,STATE\nHBB7790,APPLIED\nHXX0001,SUPERSEDED\n";
+
+const BOTH_FUNCTIONS: &[u8] = b"SYSMOD,STATE\nHBB7790,APPLIED\nHXX0001,APPLIED\nHXX0002,APPLIED\n";
+
 // What is published after the base, the zone, the id, and its verdict.
-const ROWS: [(&[u8], &[u8], &[u8], &str); 22] = [
+const ROWS: [(&[u8], &[u8], &[u8], &str); 34] = [
     (b"", ALPHA, b"UA10002", "GOOD UA10002"),
     (b"", BETA, b"UA10002", "GOOD UA10001 UA10002"),
     (b"", BETA, b"UA10001", "GOOD UA10001 UA10002"),
@@ -71,6 +94,23 @@ const ROWS: [(&[u8], &[u8], &[u8], &str); 22] = [
         b"UA10018",
         "GOOD UA10018",
     ),
+    (BOTH, BETA, b"UA10020", "GOOD UA10020"),
+    (BOTH, APPLIED, b"UA10020", "GOOD UA10020 UA10021"),
+    (BOTH, ACCEPTED, b"UA10020", "GOOD UA10020 UA10021"),
+    (BOTH, LISTED, b"UA10020", "GOOD UA10020"),
+    (CONDITIONAL, BETA, b"UA10020", "GOOD UA10020"),
+    (CONDITIONAL, LISTED, b"UA10020", "GOOD UA10020"),
+    (CONDITIONAL, APPLIED, b"UA10020", "HELD UA10021"),
+    (CONDITIONAL, ACCEPTED, b"UA10020", "HELD UA10021"),
+    (BY_A_GIVER, BETA, b"UA10022", "GOOD UA10020 UA10022"),
+    (
+        BY_A_GIVER,
+        APPLIED,
+        b"UA10022",
+        "GOOD UA10020 UA10021 UA10022",
+    ),
+    (BY_A_GIVER, BOTH_FUNCTIONS, b"UA10020", "HELD UA77777"),
+    (BY_A_GIVER, BOTH_FUNCTIONS, b"UA10022", "HELD UA10020"),
 ];
 
 #[test]
@@ -88,6 +128,7 @@ fn worked_verdicts(rt: HostRuntime) -> Result<(), Fail> {
             "{id}"
         );
         assert!(rt; are_statuses(alloc, &mut lists, &zone, &[id])?, "{id}");
+        assert!(rt; is_as_whole(alloc, &mut lists, &zone, &id)?, "{id}");
     }
     Ok(())
 }

@@ -10,6 +10,8 @@ const LAST: u32 = 19_999;
 
 const ZONE: &[u8] = b"SYSMOD,STATE\nHBB7790,APPLIED\n";
 
+const WITH_OTHER: &[u8] = b"SYSMOD,STATE\nHBB7790,APPLIED\nHXX0001,APPLIED\n";
+
 // A PTF for the function, with one more operand.
 fn put_ptf(text: &mut String, id: u32, operand: &str, to: u32) -> Result<(), Fail> {
     write!(
@@ -29,9 +31,13 @@ fn row(alloc: Global, operand: &str, last: u32) -> Result<String, Fail> {
     Ok(text)
 }
 
-fn verdict(alloc: Global, text: &str, id: &[u8]) -> Result<String, Fail> {
+fn verdict_in(alloc: Global, text: &str, zone: &[u8], id: &[u8]) -> Result<String, Fail> {
     let mut lists = published(alloc, text.as_bytes())?;
-    judged(alloc, &mut lists, &zone_of(alloc, ZONE)?, &id_of(id)?)
+    judged(alloc, &mut lists, &zone_of(alloc, zone)?, &id_of(id)?)
+}
+
+fn verdict(alloc: Global, text: &str, id: &[u8]) -> Result<String, Fail> {
+    verdict_in(alloc, text, ZONE, id)
 }
 
 // How many ids a good verdict names.
@@ -101,6 +107,48 @@ fn one_needs_all(rt: HostRuntime) -> Result<(), Fail> {
     }
     text.push_str(").\n")?;
     let verdict = verdict(alloc, &text, b"N19999")?;
+    assert!(rt; verdict.as_str().starts_with("GOOD N10000 N10001 "));
+    assert_eq!(rt; count(verdict.as_str()), 10_000);
+    Ok(())
+}
+
+#[test]
+fn conditions_in_a_row(rt: HostRuntime) -> Result<(), Fail> {
+    let alloc = rt.alloc();
+    let mut text = String::new(alloc);
+    for id in FIRST..LAST {
+        let next = id.saturating_add(1);
+        write!(
+            text,
+            "++PTF(N{id}).\n++VER(Z038) FMID(HBB7790).\n++IF FMID(HXX0001) REQ(N{next}).\n"
+        )?;
+    }
+    assert_eq!(rt; verdict(alloc, &text, b"N10000")?.as_str(), "GOOD N10000");
+    assert_eq!(rt;
+        verdict_in(alloc, &text, WITH_OTHER, b"N10000")?.as_str(),
+        "HELD N10001"
+    );
+    text.push_str("++PTF(N19999).\n++VER(Z038) FMID(HBB7790).\n")?;
+    let verdict = verdict_in(alloc, &text, WITH_OTHER, b"N10000")?;
+    assert!(rt; verdict.as_str().starts_with("GOOD N10000 N10001 "));
+    assert_eq!(rt; count(verdict.as_str()), 10_000);
+    Ok(())
+}
+
+#[test]
+fn one_needs_all_where_a_function_is_installed(rt: HostRuntime) -> Result<(), Fail> {
+    let alloc = rt.alloc();
+    let mut text = String::new(alloc);
+    for id in FIRST..LAST {
+        write!(text, "++PTF(N{id}).\n++VER(Z038) FMID(HBB7790).\n")?;
+    }
+    text.push_str("++PTF(N19999).\n++VER(Z038) FMID(HBB7790).\n++IF FMID(HXX0001)\nREQ(\n")?;
+    for id in FIRST..LAST {
+        write!(text, "N{id}\n")?;
+    }
+    text.push_str(").\n")?;
+    assert_eq!(rt; verdict(alloc, &text, b"N19999")?.as_str(), "GOOD N19999");
+    let verdict = verdict_in(alloc, &text, WITH_OTHER, b"N19999")?;
     assert!(rt; verdict.as_str().starts_with("GOOD N10000 N10001 "));
     assert_eq!(rt; count(verdict.as_str()), 10_000);
     Ok(())

@@ -101,7 +101,21 @@ fn chain(alloc: Global, more: &str, sysmod: &Id) -> Result<Vec<u8>, Fail> {
 
 #[test]
 fn exception_sysmods_from_statements(rt: HostRuntime) -> Result<(), Fail> {
-    let cases: [(&str, &str, &[u8], &str); 7] = [
+    let cases: [(&str, &str, &[u8], &str); 9] = [
+        (
+            "a requisite where a function is that isn't installed",
+            "++PTF(UA10002).\n++VER(Z038) FMID(HBB7790) PRE(UA10001) SUP(AA20002).\n\
+             ++IF FMID(HXX0001) REQ(UA10021).\n",
+            b"SYSMOD\n",
+            "HBB7790  UA10001  AA20002  UA10002  GOOD   NO       PE\nROWS 1\n",
+        ),
+        (
+            "a requisite where a function is that is installed",
+            "++PTF(UA10002).\n++VER(Z038) FMID(HBB7790) PRE(UA10001) SUP(AA20002).\n\
+             ++IF FMID(HBB7790) REQ(UA10021).\n",
+            b"SYSMOD\n",
+            "HBB7790  UA10001  AA20002  UA10002  HELD   NO       PE\nROWS 1\n",
+        ),
         (
             "each candidate that gives the reason",
             "++PTF(UA10005).\n++VER(Z038) FMID(HBB7790) SUP(UA10002).\n",

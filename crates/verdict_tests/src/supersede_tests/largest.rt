@@ -6,16 +6,16 @@ use supersede::Zone;
 use zone_lists::zone_rows;
 
 #[test]
-fn a_zone_has_up_to_20_000_rows(rt: HostRuntime) -> Result<(), Fail> {
+fn a_zone_has_up_to_40_000_rows(rt: HostRuntime) -> Result<(), Fail> {
     let mut text = String::new(rt.alloc());
     text.push_str("SYSMOD,STATE\n")?;
-    for n in 0u32..20_000 {
+    for n in 0u32..40_000 {
         write!(text, "U{n:06},APPLIED\n")?;
     }
     let rows = zone_rows(rt.alloc(), text.as_bytes())?;
     let zone = Zone::new(rt.alloc(), &rows)?;
-    assert_eq!(rt; zone.rows().len(), 20_000);
-    let last = Id::new(b"U019999").ok_or("an id")?;
+    assert_eq!(rt; zone.rows().len(), 40_000);
+    let last = Id::new(b"U039999").ok_or("an id")?;
     assert!(rt; zone.installed(&last));
     Ok(())
 }

@@ -19,6 +19,8 @@ returns c =
     ∙ ap₂ with_subcommand with_holds (ap (λ (app : App). app.top) c.in_ok-init.ensures.app) in
     let with_serve = c.in_ok-subcommand-3.ensures.shape c.in_ok-serve.ensures.local
     ∙ ap₂ with_subcommand with_init (ap (λ (app : App). app.top) c.in_ok-serve.ensures.app) in
-    IfOk-weaker c.subcommand-4.result _ _
-    (λ command adds. adds.shape c.in_ok-replay.ensures.local ∙ ap₂ with_subcommand with_serve (ap (λ (app : App). app.top) c.in_ok-replay.ensures.app))
-    c.subcommand-4.ensures
+    let with_replay = c.in_ok-subcommand-4.ensures.shape c.in_ok-replay.ensures.local
+    ∙ ap₂ with_subcommand with_serve (ap (λ (app : App). app.top) c.in_ok-replay.ensures.app) in
+    IfOk-weaker c.subcommand-5.result _ _
+    (λ command adds. adds.shape c.in_ok-migrate.ensures.local ∙ ap₂ with_subcommand with_replay (ap (λ (app : App). app.top) c.in_ok-migrate.ensures.app))
+    c.subcommand-5.ensures

@@ -3,7 +3,7 @@ use Rattle.clap.specs.Words.{Row, first_of, found_of, rows_of}
 use Rattle.clap.proofs.WalkLemmas.{first_value-rows}
 use Rattle.bureau_main.specs.Line.{IsLineWith}
 use Rattle.bureau_main.specs.declared.line.Line.{Line}
-use Rattle.bureau_main.specs.declared.line.Line.TheVariants.{Holds, Init, Replay, Serve}
+use Rattle.bureau_main.specs.declared.line.Line.TheVariants.{Holds, Init, Migrate, Replay, Serve}
 use Rattle.bureau_main.proofs.LineFacts.{letter, other_command}
 use Rattle.bureau_main.proofs.line.holds_with.Goals as goal
 
@@ -12,6 +12,7 @@ fileless rows (Holds file) none is = let no : None ≡ Some (string_bytes file) 
 fileless rows (Init store callers) none is = other_command 104 105 (omega arith) (ap letter is.0)
 fileless rows (Serve port cache connections store) none is = other_command 104 115 (omega arith) (ap letter is.0)
 fileless rows (Replay cache callers files) none is = other_command 104 114 (omega arith) (ap letter is.0)
+fileless rows (Migrate store) none is = other_command 104 109 (omega arith) (ap letter is.0)
 
 pub returns-in_default : goal.returns-in_default
 returns-in_default c line is =

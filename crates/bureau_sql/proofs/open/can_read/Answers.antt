@@ -1,7 +1,7 @@
 use Rattle.std.proofs.Common.{◌≡◌, [], IfErr, IsTrue, rules, subst, sym}
 use Rattle.sqlite.specs.Held.{state}
 use Rattle.sqlite.specs.State.{HasCleanDisk}
-use Rattle.bureau_sql.specs.Opening.{IsNoStore}
+use Rattle.bureau_sql.specs.Opening.{IsNone, IsSeen, IsUnderstood}
 use Rattle.bureau_sql.proofs.OpenFacts.{unread}
 use Rattle.bureau_sql.proofs.PlainFacts.{prepare_reads}
 use Rattle.bureau_sql.proofs.open.can_read.Goals as goal
@@ -21,6 +21,6 @@ returns-clause-cause g c =
     elim c.match-prepare.branch [
       | in-Ok w ↦ search (rules, w.result-is)
       | in-Err w ↦
-          subst (λ result. IfErr result (λ fault. HasCleanDisk new → IsNoStore old fault)) (sym w.result-is)
-          (λ clean. unread old new c.args.text.now _ w.fault_of.result settled c.requires.text (w.in-Err.ensures.err clean []) w.fault_of.ensures.shape w.fault_of.ensures.other)
+          subst (λ result. IfErr result (λ fault. HasCleanDisk new → IsSeen (IsNone (λ schema. IsUnderstood schema c.args.text.now)) (λ database. ⊥) old fault)) (sym w.result-is)
+          (λ clean. unread old new c.args.text.now _ w.fault_of.result settled (w.in-Err.ensures.err clean []) w.fault_of.ensures.shape w.fault_of.ensures.other)
     ]

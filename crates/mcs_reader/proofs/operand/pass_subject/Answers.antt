@@ -34,7 +34,7 @@ returns-in_default c = record {
     found =
         c.in_ok-skip_gap.ensures.ok a_name
         ∙ outside_no_list c.args.line a_name c.skip_gap.new.cursor.text c.in_ok-skip_gap.field-0 c.in_ok-skip_gap.ensures.role c.in_ok-skip_gap.ensures.no_gap c.in_ok-skip_gap.ensures.no_comment c.in_default.not-Open;
-    subject_is = refl;
+    subject_is = c.subject_alone.ensures;
   };
   fault = tt;
   after = c.in_ok-skip_gap.ensures.after;

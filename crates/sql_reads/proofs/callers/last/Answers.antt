@@ -19,7 +19,7 @@ returns-clause-finds g c =
     let old = state g.S.Store c.args.conn.now in
     let it = c.name.ensures in
     finds c.last_change.result.now (bound_value (owned c.name.result) ∷ []) (Text (text_of it.0) ∷ []) (ap (λ v. bound_value v ∷ []) it.3) old (state g.S.Store c.rows_of.new.conn)
-    read.last_change (codes "number" ∷ codes "body" ∷ []) 1 c.last_change.ensures
+    read.last_change (codes "number" ∷ codes "body" ∷ []) 1 c.last_change.ensures.reads
     c.in_ok-rows.rows c.as_slice.result.now c.as_slice.ensures.value c.in_ok-rows.ensures.answers c.last.result
     (λ last. option_map (λ found. unwrap_or found no_change) (one_of change_found c.as_slice.result.now) ≡ Some (record { number = last.0; reply = last.1.items })) c.last.ensures
     (λ stored last. record { number = last.0; reply = last.1.items } ≡ (tables_of stored).last c.args.caller.now)

@@ -17,7 +17,7 @@ returns-clause-finds g c =
     let old = state g.S.Store c.args.conn.now in
     finds c.patterns.result.now (bound_value (owned c.id_of.result) ∷ bound_value (owned c.id_of-2.result) ∷ []) (Text (text_of c.args.client.now) ∷ Text (text_of c.args.zone.now) ∷ [])
     (ap₂ (λ v w. bound_value v ∷ bound_value w ∷ []) c.id_of.ensures.value c.id_of-2.ensures.value) old (state g.S.Store c.rows_of.new.conn)
-    read.patterns (codes "patterns" ∷ []) 2 c.patterns.ensures
+    read.patterns (codes "patterns" ∷ []) 2 c.patterns.ensures.reads
     c.in_ok-rows.rows c.as_slice.result.now c.as_slice.ensures.value c.in_ok-rows.ensures.answers (Ok c.any.result)
     (λ found. found ≡ is_some (first c.as_slice.result.now)) c.any.ensures
     (λ stored found. found ≡ is_some (zone_named c.args.zone.now ((tables_of stored).zones c.args.client.now)))

@@ -18,7 +18,7 @@ pub returns-clause-finds : goal.returns-clause-finds
 returns-clause-finds g c =
     let old = state g.S.Store c.args.conn.now in
     finds c.received.result.now (bound_value (owned c.id_of.result) ∷ []) (Text (text_of c.args.client.now) ∷ []) (ap (λ v. bound_value v ∷ []) c.id_of.ensures.value) old (state g.S.Store c.rows_of.new.conn)
-    read.received (codes "ids" ∷ []) 1 c.received.ensures
+    read.received (codes "ids" ∷ []) 1 c.received.ensures.reads
     c.in_ok-rows.rows c.as_slice.result.now c.as_slice.ensures.value c.in_ok-rows.ensures.answers c.ascending_list.result
     (λ ids. option_map (λ found. unwrap_or found []) (one_of (λ row. ids_in (column row 0)) c.as_slice.result.now) ≡ Some ids.items) c.ascending_list.ensures.ids
     (λ stored ids. ids.items ≡ (tables_of stored).received c.args.client.now)

@@ -18,7 +18,7 @@ pub returns-clause-finds : goal.returns-clause-finds
 returns-clause-finds g c =
     let old = state g.S.Store c.args.conn.now in
     finds c.holds_on.result.now (bound_value (owned c.id_of.result) ∷ []) (Text (text_of c.args.id.now) ∷ []) (ap (λ v. bound_value v ∷ []) c.id_of.ensures.value) old (state g.S.Store c.rows_of.new.conn)
-    read.holds_on hold_columns 1 c.holds_on.ensures
+    read.holds_on hold_columns 1 c.holds_on.ensures.reads
     c.in_ok-rows.rows c.as_slice.result.now c.as_slice.ensures.value c.in_ok-rows.ensures.answers c.holds.result
     (λ holds. (map Some holds.items ≡ map hold_found c.as_slice.result.now) × IsInKeyOrder holds.items)
     (if_both (λ holds. map Some holds.items ≡ map hold_found c.as_slice.result.now) (λ holds. IsInKeyOrder holds.items) c.holds.result c.holds.ensures.holds c.holds.ensures.in_key_order)

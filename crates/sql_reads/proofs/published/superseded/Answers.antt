@@ -18,7 +18,7 @@ pub returns-clause-finds : goal.returns-clause-finds
 returns-clause-finds g c =
     let old = state g.S.Store c.args.conn.now in
     finds c.superseded.result.now (bound_value (owned c.id_of.result) ∷ []) (Text (text_of c.args.id.now) ∷ []) (ap (λ v. bound_value v ∷ []) c.id_of.ensures.value) old (state g.S.Store c.rows_of.new.conn)
-    read.superseded (codes "member" ∷ []) 1 c.superseded.ensures
+    read.superseded (codes "member" ∷ []) 1 c.superseded.ensures.reads
     c.in_ok-rows.rows c.as_slice.result.now c.as_slice.ensures.value c.in_ok-rows.ensures.answers c.ascending_ids.result
     (λ ids. (map Some ids ≡ map (λ row. id_in (column row 0)) c.as_slice.result.now) × Ascend ids)
     (if_both (λ ids. map Some ids ≡ map (λ row. id_in (column row 0)) c.as_slice.result.now) (λ ids. Ascend ids) c.ascending_ids.result c.ascending_ids.ensures.ids c.ascending_ids.ensures.ascend)

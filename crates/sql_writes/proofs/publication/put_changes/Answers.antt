@@ -1,23 +1,27 @@
-use Rattle.std.proofs.Common.{take, subst, sym, ◌∙◌, arith}
+use Rattle.std.proofs.Common.{Ok, take, subst, sym, ◌∙◌, arith}
 use Rattle.sql_texts.specs.Meaning.{Means}
 use Rattle.sql_texts.specs.Schema.{bureau}
 use Rattle.sql_texts.specs.Writes.{insert_given}
 use Rattle.std.specs.Prelude.{fold}
 use Rattle.sql_tables.specs.Changes.{published}
-use Rattle.sql_writes.proofs.ChangeFacts.{stopped, was_clean}
+use Rattle.sql_writes.proofs.ChangeFacts.{changes_then, stopped, was_clean}
 use Rattle.sql_writes.proofs.LoadFacts.{begun, ended, more, published_turn}
 use Rattle.sql_writes.proofs.publication.put_changes.Goals as goal
 
 pub loop-change-init : goal.loop-change-init
 loop-change-init g c = record {
-  same = c.prepare.ensures.same;
-  changes = begun _ _ (λ changes stored. fold published stored changes) (published_turn) c.args.changes.now _ _ _ tt c.in_ok-statement.ensures.changes;
+  same = c.prepare-2.ensures.same ∙ c.prepare.ensures.same;
+  changes = begun _ _ (λ changes stored. fold published stored changes) (published_turn) c.args.changes.now _ _ _ tt
+      (changes_then _ _ _ c.in_ok-sups.sups (Ok c.in_ok-conds.conds) (λ stored. stored) (λ stored. stored) c.in_ok-sups.ensures.changes c.in_ok-conds.ensures.changes);
   clean = λ clean. clean;
 }
 
 pub put_change-requires : goal.put_change-requires
 put_change-requires g c = record {
-  means = λ clean. subst (λ text. Means bureau text (insert_given 4 2) 2) (sym (c.in_ok-statement.ensures.text (c.loop-change.invariant.clean clean))) c.insert_sysmod_sup.ensures;
+  sups = λ clean.
+      let before = was_clean _ _ _ c.in_ok-conds.ensures.changes.survives (c.loop-change.invariant.clean clean) in
+      subst (λ text. Means bureau text (insert_given 4 2) 2) (sym (c.in_ok-sups.ensures.text before)) c.insert_sysmod_sup.ensures;
+  conds = λ clean. subst (λ text. Means bureau text (insert_given 9 3) 3) (sym (c.in_ok-conds.ensures.text (c.loop-change.invariant.clean clean))) c.insert_sysmod_cond.ensures;
 }
 
 pub returns-in_err-put_change-clause-same : goal.returns-in_err-put_change-clause-same

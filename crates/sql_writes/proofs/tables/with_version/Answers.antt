@@ -2,9 +2,9 @@ use Rattle.sql_writes.specs.Making.{IsEmpty, IsMade}
 use Rattle.sql_writes.proofs.MakeFacts.{version_comes, leads_nowhere, leads_then}
 use Rattle.sql_writes.proofs.tables.with_version.Goals as goal
 
-pub returns-in_err-up_to_received_list-clause-made : goal.returns-in_err-up_to_received_list-clause-made
-returns-in_err-up_to_received_list-clause-made g c = leads_nowhere _ _ _ _ IsEmpty (IsMade 9 10) _ c.from_residual.ensures.0 c.in_err-up_to_received_list.ensures.made
+pub returns-in_err-up_to_sysmod_cond-clause-made : goal.returns-in_err-up_to_sysmod_cond-clause-made
+returns-in_err-up_to_sysmod_cond-clause-made g c = leads_nowhere _ _ _ _ IsEmpty (IsMade 10 11) _ c.from_residual.ensures.0 c.in_err-up_to_sysmod_cond.ensures.made
 
 pub returns-clause-made : goal.returns-clause-made
 returns-clause-made g c =
-    leads_then _ _ _ tt _ IsEmpty (IsMade 9 10) _ c.in_ok-up_to_received_list.ensures.made (version_comes _ _ _ _ c.insert_version.ensures c.run.ensures.ran)
+    leads_then _ _ _ tt _ IsEmpty (IsMade 10 11) _ c.in_ok-up_to_sysmod_cond.ensures.made (version_comes _ _ _ _ c.insert_version.ensures c.run.ensures.ran)

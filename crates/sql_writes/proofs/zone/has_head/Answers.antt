@@ -10,16 +10,16 @@ use Rattle.sql_writes.proofs.zone.has_head.Goals as goal
 pub returns-in_err-rows-clause-changes : goal.returns-in_err-rows-clause-changes
 returns-in_err-rows-clause-changes g c =
     refused _ _ _ _ (λ stored. stored) _ c.from_residual.ensures.0
-    (asked {A = List Row} (λ rows. rows) _ _ _ _ _ _ 2 (Err c.in_err-rows.field-0.0) c.patterns.ensures (λ clean. tt) c.in_err-rows.ensures.err c.query_all.ensures.survives)
+    (asked {A = List Row} (λ rows. rows) _ _ _ _ _ _ 2 (Err c.in_err-rows.field-0.0) c.patterns.ensures.reads (λ clean. tt) c.in_err-rows.ensures.err c.query_all.ensures.survives)
 
 pub returns-clause-changes : goal.returns-clause-changes
 returns-clause-changes g c =
-    told _ _ _ _ _ (asked {A = List Row} (λ rows. rows) _ _ _ _ _ _ 2 (Ok c.in_ok-rows.rows.items) c.patterns.ensures c.in_ok-rows.ensures.ok (λ clean. tt) c.query_all.ensures.survives)
+    told _ _ _ _ _ (asked {A = List Row} (λ rows. rows) _ _ _ _ _ _ 2 (Ok c.in_ok-rows.rows.items) c.patterns.ensures.reads c.in_ok-rows.ensures.ok (λ clean. tt) c.query_all.ensures.survives)
 
 pub returns-clause-found : goal.returns-clause-found
 returns-clause-found g c clean known =
     sym (head_found _ _ c.args.client.now c.args.zone.now c.id_of.result c.id_of-2.result _ _ c.in_ok-rows.rows.items c.id_of.ensures.is_id c.id_of-2.ensures.is_id c.id_of.ensures.value c.id_of-2.ensures.value
-    c.patterns.ensures known (c.in_ok-rows.ensures.ok clean))
+    c.patterns.ensures.reads known (c.in_ok-rows.ensures.ok clean))
     ∙ ap is_some_of (ap length (sym c.as_slice-found.ensures.value))
     ∙ some_there _
     ∙ ap not (sym c.is_empty.ensures)

@@ -1,0 +1,137 @@
+-- What is left of a file of version 1 that was made one of version 2, or was not.
+use Rattle.std.proofs.Common.{◌≡◌, ◌∙◌, Err, IsTrue, Ok, OnErr, OnOk, Result, ap, inl, inr, refl, subst, sym}
+use Rattle.bureau_store.specs.Store.{IsOfCall}
+use Rattle.bureau_store.specs.declared.fault.StoreFault.{StoreFault}
+use Rattle.bureau_store.specs.declared.fault.StoreFault.TheVariants.{Device, Memory, Shape, Size, Version}
+use Rattle.sqlite.specs.Effect.{Database}
+use Rattle.sqlite.specs.Held.{Held, state}
+use Rattle.sqlite.specs.State.{HasCleanDisk, KeepsCommit, State, Survives}
+use Rattle.sqlite.proofs.StateLemmas.{survives_then}
+use Rattle.sqlite_trees.specs.declared.store.Store.{Ghosts}
+use Rattle.sql_state.specs.Earlier.{IsOfVersion1, held_by_version_1}
+use Rattle.sql_state.specs.Ours.{AreOurs, IsOurs, version_rows}
+use Rattle.sql_state.specs.Reading.{OnlyReads}
+use Rattle.sql_tables.specs.Stored.{tables_of}
+use Rattle.sql_tables.specs.Whole.{IsWhole}
+use Rattle.sql_writes.specs.Migrating.{HeldEarlier, HoldsAll}
+use Rattle.bureau_sql.specs.Laws.{clean_before}
+use Rattle.bureau_sql.specs.Migrated.{AreMigrated, IsMigrated, IsUntouched}
+use Rattle.bureau_sql.specs.Opening.{IsNotEarlier}
+use Rattle.bureau_sql.specs.SqlState.{SqlState}
+use Rattle.bureau_sql.specs.SqlView.{IsAtRest, IsOurStore, shown, sql_view}
+
+-- ---- a refusal before the transaction
+
+pub untouched_by : (old new : State) → OnlyReads old new → IsUntouched old new
+untouched_by old new reads = record {
+  keeps = reads.keeps;
+  left = λ clean trees may. elim (reads.survives.crash clean trees may) [
+    | inl was ↦ inl was
+    | inr none ↦ absurd none
+  ];
+}
+
+pub reads_survive : (old new : State) → OnlyReads old new → Survives old new (AreMigrated old)
+reads_survive old new reads = record {
+  clean = reads.survives.clean;
+  shield = reads.survives.shield;
+  counts = reads.survives.counts;
+  limit = reads.survives.limit;
+  closes = reads.survives.closes;
+  crash = λ clean trees may. elim (reads.survives.crash clean trees may) [
+    | inl was ↦ inl was
+    | inr none ↦ absurd none
+  ];
+}
+
+-- ---- the transaction, after the connection was looked at
+
+module _ (old mid new : State) (reads : OnlyReads old mid) (is_open : HasCleanDisk mid → IsTrue mid.is_open) {A F : Type 0} (result : Result A F) (led : IsMigrated mid new result) where
+  at_mid : HasCleanDisk new → HasCleanDisk mid
+  at_mid = clean_before (AreMigrated mid) mid new led.survives
+
+  same : HasCleanDisk mid → mid.committed ≡ old.committed
+  same clean = (reads.keeps clean).committed (is_open clean)
+
+  pub brought_survives : Survives old new (AreMigrated old)
+  brought_survives =
+      survives_then old mid new (λ trees. ⊥) (AreMigrated mid) (AreMigrated old) (λ clean trees none. absurd none)
+      (λ clean trees made was from.
+      let before = at_mid clean in
+      let is = same before in
+      subst (λ database. (after : Database) × HoldsAll (version_rows 2) (held_by_version_1 database) after × (after.trees ≡ trees)) is
+      (made (is_open before) (record { ours = subst IsOfVersion1 (sym is) from.ours; held = refl })))
+      reads.survives led.survives
+
+  pub brought_held : OnOk result (HasCleanDisk new → IsOfVersion1 old.committed → HoldsAll (version_rows 2) (held_by_version_1 old.committed) new.committed)
+  brought_held = by result led.done
+    where
+      by : (r : Result A F) → OnOk r (HasCleanDisk new → IsTrue mid.is_open × IsTrue new.is_open
+          × (HeldEarlier (held_by_version_1 mid.committed) mid.committed → HoldsAll (version_rows 2) (held_by_version_1 mid.committed) new.committed))
+          → OnOk r (HasCleanDisk new → IsOfVersion1 old.committed → HoldsAll (version_rows 2) (held_by_version_1 old.committed) new.committed)
+      by (Err e) done = tt
+      by (Ok a) done = λ clean was.
+          let is = same (at_mid clean) in
+          subst (λ database. HoldsAll (version_rows 2) (held_by_version_1 database) new.committed) is
+          ((done clean).2 (record { ours = subst IsOfVersion1 (sym is) was; held = refl }))
+
+  pub brought_keeps : OnErr result (HasCleanDisk new → KeepsCommit old new)
+  brought_keeps = by result led.refused
+    where
+      by : (r : Result A F) → OnErr r (HasCleanDisk new → KeepsCommit mid new) → OnErr r (HasCleanDisk new → KeepsCommit old new)
+      by (Ok a) refused = tt
+      by (Err e) refused = λ clean.
+          let before = reads.keeps (at_mid clean) in
+          let after = refused clean in
+          record { was_open = λ h. before.was_open (after.was_open h); committed = λ h. after.committed h ∙ before.committed (after.was_open h) }
+
+-- ---- a refusal of the transaction, after which the connection is looked at
+
+module _ (old mid new : State) (reads : OnlyReads mid new) where
+  clean_mid : HasCleanDisk new → HasCleanDisk mid
+  clean_mid = clean_before (λ trees. ⊥) mid new reads.survives
+
+  pub refused_survives : Survives old mid (AreMigrated old) → Survives old new (AreMigrated old)
+  refused_survives survives = survives_then old mid new (AreMigrated old) (λ trees. ⊥) (AreMigrated old) (λ clean trees made. made) (λ clean trees none. absurd none) survives reads.survives
+
+  pub refused_keeps : (HasCleanDisk mid → KeepsCommit old mid) → HasCleanDisk new → KeepsCommit old new
+  refused_keeps keeps clean =
+      let before = keeps (clean_mid clean) in
+      let after = reads.keeps clean in
+      record { was_open = λ h. before.was_open (after.was_open h); committed = λ h. after.committed h ∙ before.committed (after.was_open h) }
+
+  pub refused_untouched : (HasCleanDisk mid → KeepsCommit old mid) → (HasCleanDisk new → IsTrue new.is_open) → IsAtRest new → IsUntouched old new
+  refused_untouched keeps is_open rests = record {
+    keeps = refused_keeps keeps;
+    left = λ clean trees may.
+        let here = is_open clean in
+        let kept = refused_keeps keeps clean in
+        inr (kept.was_open here, rests trees here may ∙ ap (λ (database : Database). database.trees) (kept.committed here));
+  }
+
+-- it is refused for want of memory or room, or the device failed
+pub of_call : (old : State) (fault : StoreFault) → IsOfCall fault → IsNotEarlier old fault
+of_call old Memory of = tt
+of_call old Device of = tt
+of_call old Size of = tt
+of_call old Shape of = absurd of
+of_call old Version of = absurd of
+
+-- ---- a file that was made one of version 2 is ours
+
+after_is_ours : (before after : Database) → IsOfVersion1 before → HoldsAll (version_rows 2) (held_by_version_1 before) after → IsOurs after
+after_is_ours before after was is = record {
+  schema = is.known.schema;
+  rows = record { numbered = is.known.numbered; version = is.version; whole = subst IsWhole (sym is.held) was.rows.whole };
+}
+
+module _ {S : Type 0} (g : Ghosts S) (conn : Held S) (store : SqlState S) (is_open : HasCleanDisk (shown g store) → IsTrue (shown g store).is_open)
+    (held : HasCleanDisk (shown g store) → IsOfVersion1 (state g conn).committed → HoldsAll (version_rows 2) (held_by_version_1 (state g conn).committed) (shown g store).committed) where
+  pub ours_migrated : IsAtRest (shown g store) → HasCleanDisk (shown g store) → IsOfVersion1 (state g conn).committed → IsOurStore g store
+  ours_migrated rests clean was =
+      let here = is_open clean in
+      let ours = after_is_ours (state g conn).committed (shown g store).committed was (held clean was) in
+      (λ trees may. subst AreOurs (sym (rests trees here may)) ours.rows, λ standing. (here, ours))
+
+  pub tables_migrated : HasCleanDisk (shown g store) → IsOfVersion1 (state g conn).committed → (sql_view g).stands store (tables_of (held_by_version_1 (state g conn).committed))
+  tables_migrated clean was standing = ap tables_of (held clean was).held

@@ -1,0 +1,12 @@
+use Rattle.std.proofs.Common.{rules}
+use Rattle.sqlite.specs.Held.{state}
+use Rattle.sql_state.specs.Earlier.{held_by_version_1}
+use Rattle.bureau_sql.proofs.FoundedFacts.{transaction_led}
+use Rattle.bureau_sql.proofs.migrate.migrated.Goals as goal
+
+pub returns-clause-migrated : goal.returns-clause-migrated
+returns-clause-migrated g c =
+    let led = transaction_led g.S.Store c.args.conn.now c.begin-tx.result.conn.now c.migrate-written.new.tx.conn.now c.end.new.tx.0 _ _ c.begin-tx.ensures.begun
+    c.begin-tx.ensures.settled c.migrate-written.result c.end.result (c.migrate-written.ensures.made (held_by_version_1 (state g.S.Store c.args.conn.now).committed))
+    c.end.ensures.written c.end.ensures.refused c.end.ensures.survives in
+    search (rules, led)

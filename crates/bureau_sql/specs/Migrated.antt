@@ -1,0 +1,20 @@
+-- What is left of a file of version 1 by the transaction that makes it one of version 2.
+use Rattle.std.specs.Prelude.{◌≡◌, ◌⊎◌, IsTrue, Result}
+use Rattle.sqlite.specs.State.{HasCleanDisk, KeepsCommit, State}
+use Rattle.sqlite_trees.specs.Tree.{Trees}
+use Rattle.sql_state.specs.Earlier.{held_by_version_1}
+use Rattle.sql_state.specs.Ours.{version_rows}
+use Rattle.sql_writes.specs.Migrating.{HeldEarlier, HoldsAll}
+use Rattle.bureau_sql.specs.Founded.{AreLed, IsLed}
+
+-- the trees are those of version 2 with the rows that were committed in a database of version 1, where it is ours
+abbrev pub AreMigrated : State → Trees → Type 0
+AreMigrated old = AreLed old (HeldEarlier (held_by_version_1 old.committed)) (HoldsAll (version_rows 2) (held_by_version_1 old.committed))
+
+abbrev pub IsMigrated : {Answer Fault : Type 0} → State → State → Result Answer Fault → Type 0
+IsMigrated old new result = IsLed old new result (HeldEarlier (held_by_version_1 old.committed)) (HoldsAll (version_rows 2) (held_by_version_1 old.committed))
+
+-- Nothing is committed, and a stop leaves what it would have left before, or what was committed then.
+pub record IsUntouched (old new : State) : Type 0 where
+  pub keeps : HasCleanDisk new → KeepsCommit old new
+  pub left : HasCleanDisk new → (trees : Trees) → new.may_leave trees → old.may_leave trees ⊎ (IsTrue old.is_open × (trees ≡ old.committed.trees))

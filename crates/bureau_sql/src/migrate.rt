@@ -1,0 +1,124 @@
+//! A file of version 1 becomes one of version 2.
+ghost use Rattle.std.specs.Prelude.{◌≡◌, ◌≢◌, IfErr, IfOk, IsTrue, OnErr, OnOk, Some, false};
+ghost use Rattle.bureau_store.specs.Store.{IsOfCall};
+ghost use Rattle.bureau_store.specs.declared.fault.StoreFault.TheVariants.{Device};
+ghost use Rattle.sqlite.specs.Held.{state};
+ghost use Rattle.sqlite.specs.State.{HasCleanDisk, KeepsCommit, Survives};
+ghost use Rattle.sql_reads.specs.Version.{HasVersion};
+ghost use Rattle.sql_state.specs.Earlier.{IsOfVersion1, held_by_version_1};
+ghost use Rattle.sql_state.specs.Ours.{version_rows};
+ghost use Rattle.sql_state.specs.Reading.{OnlyReads};
+ghost use Rattle.sql_tables.specs.Stored.{tables_of};
+ghost use Rattle.sql_writes.specs.Migrating.{HoldsAll};
+ghost use Rattle.bureau_sql.specs.Migrated.{AreMigrated, IsMigrated, IsUntouched};
+ghost use Rattle.bureau_sql.specs.Opening.{IsNotEarlier};
+ghost use Rattle.bureau_sql.specs.SqlView.{IsAtRest, IsOurStore, shown, sql_view};
+
+use crate::SqlStore;
+use crate::commit::{begin, end};
+use crate::open::holds;
+use crate::probe::is_open;
+use crate::store::refusal_of;
+use bureau_store::StoreFault;
+use sql_texts::create;
+use sqlite::{Connection, Error};
+use sqlite_trees::store::Alter;
+use std::alloc::Global;
+
+// Makes the tables of version 1 those of version 2, in one transaction.
+fn migrated<S: Alter>(conn: &mut Connection<S>) -> Result<(), Error>
+    requires rest { conn.old.in_transaction ≡ false }
+    ensures mode { conn.new.in_transaction ≡ false }
+    ensures migrated { IsMigrated (state S.Store conn.old) (state S.Store conn.new) result }
+{
+    let mut tx = begin(conn);
+    let written = sql_writes::migrate(&mut tx);
+    end(tx, written)
+}
+
+// Why the transaction was refused. Only an open connection is told to be out of memory or of room.
+fn refusal<S: Alter>(conn: &mut Connection<S>, error: Error) -> StoreFault
+    requires rest { conn.old.in_transaction ≡ false }
+    ensures reads { OnlyReads (state S.Store conn.old) (state S.Store conn.new) }
+    ensures mode { conn.new.in_transaction ≡ false }
+    ensures call { IsOfCall result }
+    ensures is_open { result ≢ Device → HasCleanDisk (state S.Store conn.new) → IsTrue (state S.Store conn.new).is_open }
+    ensures rests { IsAtRest (state S.Store conn.new) }
+{
+    let fault = refusal_of(error);
+    if !matches!(fault, StoreFault::Device) && is_open(conn) {
+        let _settled = conn.is_autocommit();
+        return fault;
+    }
+    let _settled = conn.is_autocommit();
+    StoreFault::Device
+}
+
+// Makes the tables of version 1 those of version 2, where the connection has them.
+fn bring<S: Alter>(conn: &mut Connection<S>) -> Result<(), StoreFault>
+    requires rest { conn.old.in_transaction ≡ false }
+    ensures mode { conn.new.in_transaction ≡ false }
+    ensures is_open { OnOk result (HasCleanDisk (state S.Store conn.new) → IsTrue (state S.Store conn.new).is_open) }
+    ensures version { OnOk result (HasCleanDisk (state S.Store conn.new)
+        → HasVersion (Some 1) (state S.Store conn.old).committed) }
+    ensures held { OnOk result (HasCleanDisk (state S.Store conn.new) → IsOfVersion1 (state S.Store conn.old).committed
+        → HoldsAll (version_rows 2) (held_by_version_1 (state S.Store conn.old).committed) (state S.Store conn.new).committed) }
+    ensures survives { Survives (state S.Store conn.old) (state S.Store conn.new) (AreMigrated (state S.Store conn.old)) }
+    ensures refused { OnErr result (HasCleanDisk (state S.Store conn.new)
+        → KeepsCommit (state S.Store conn.old) (state S.Store conn.new)) }
+    ensures cause { IfErr result (λ fault. HasCleanDisk (state S.Store conn.new)
+        → IsNotEarlier (state S.Store conn.old) fault) }
+    ensures untouched { IfErr result (λ fault. fault ≢ Device
+        → IsUntouched (state S.Store conn.old) (state S.Store conn.new)) }
+{
+    holds(conn, 1, create::sysmod_cond())?;
+    match migrated(conn) {
+        Ok(()) => Ok(()),
+        Err(error) => Err(refusal(conn, error)),
+    }
+}
+
+impl<S: Alter> SqlStore<S> {
+    /// A store over a file of version 1, which becomes one of version 2 in one transaction: a stop leaves the file as it was, or
+    /// that of version 2 with the same tables. All rows stay, and no record has requisites under a condition until it is
+    /// published again. The connection isn't in a transaction.
+    ///
+    /// # Errors
+    ///
+    /// [`StoreFault::Version`] where the tables are of another version than 1, [`StoreFault::Shape`] where one of them or of
+    /// their columns is missing, or where there is a table of requisites under a condition already; `Memory` or `Size` where
+    /// memory or room ran out. Each of these hands the connection back with the file as it was. `Device` where the device failed:
+    /// then a stop may have left either.
+    #[tactic(auto, using(crate::proofs::MigratedFacts::ours_migrated, crate::proofs::MigratedFacts::tables_migrated))]
+    pub fn migrate(
+        alloc: Global,
+        mut conn: Connection<S>,
+    ) -> Result<SqlStore<S>, (StoreFault, Connection<S>)>
+        requires rest { conn.in_transaction ≡ false }
+        ensures migrated { IfOk result (λ store. store.failures ≡ 0) }
+        ensures is_open { IfOk result (λ store. HasCleanDisk (shown S.Store store) → IsTrue (shown S.Store store).is_open) }
+        ensures version { IfOk result (λ store. HasCleanDisk (shown S.Store store)
+            → HasVersion (Some 1) (state S.Store conn).committed) }
+        ensures ours { IfOk result (λ store. HasCleanDisk (shown S.Store store)
+            → IsOfVersion1 (state S.Store conn).committed → IsOurStore S.Store store) }
+        ensures tables { IfOk result (λ store. HasCleanDisk (shown S.Store store) → IsOfVersion1 (state S.Store conn).committed
+            → (sql_view S.Store).stands store (tables_of (held_by_version_1 (state S.Store conn).committed))) }
+        ensures rests { IfOk result (λ store. IsAtRest (shown S.Store store)) }
+        ensures survives { IfOk result (λ store. Survives (state S.Store conn) (shown S.Store store)
+            (AreMigrated (state S.Store conn))) }
+        ensures refused { IfErr result (λ refused. HasCleanDisk (state S.Store refused.1)
+            → KeepsCommit (state S.Store conn) (state S.Store refused.1)) }
+        ensures untouched { IfErr result (λ refused. refused.0 ≢ Device
+            → IsUntouched (state S.Store conn) (state S.Store refused.1)) }
+        ensures cause { IfErr result (λ refused. HasCleanDisk (state S.Store refused.1)
+            → IsNotEarlier (state S.Store conn) refused.0) }
+        ensures rest { IfErr result (λ refused. refused.1.in_transaction ≡ false) }
+        ensures stopped { IfErr result (λ refused. Survives (state S.Store conn) (state S.Store refused.1)
+            (AreMigrated (state S.Store conn))) }
+    {
+        match bring(&mut conn) {
+            Ok(()) => Ok(SqlStore::over(alloc, conn)),
+            Err(fault) => Err((fault, conn)),
+        }
+    }
+}

@@ -1,0 +1,56 @@
+//! What requisites under a condition name, and what of it is needed in a zone.
+ghost use Rattle.std.specs.Prelude.{◌≡◌, ◌++◌, ◌∷◌, [], ℕ, List, OnOk};
+ghost use Rattle.catalogue.specs.Ids.{Ascend};
+ghost use Rattle.supersede.specs.Giving.{each_need, needs_where};
+ghost use Rattle.chains.specs.Places.{ArePlacesOf};
+
+use crate::places::place_of;
+use catalogue::CondNeed;
+use mcs_reader::{Id, NoMemory};
+use supersede::Zone;
+
+/// Adds the need of each, whatever the zone.
+pub(crate) fn push_each_need(ids: &mut Vec<Id>, conds: &[CondNeed]) -> Result<(), NoMemory>
+    ensures { OnOk result (ids.new.items ≡ ids.old.items ++ each_need conds.now) }
+{
+    for cond in conds {
+        ids.push(cond.need)?;
+    }
+    Ok(())
+}
+
+/// Adds the places of the needs of those whose function is installed in a zone.
+pub(crate) fn push_places_where(
+    places: &mut Vec<usize>,
+    members: &[Id],
+    zone: &Zone,
+    conds: &[CondNeed],
+) -> Result<(), NoMemory>
+    requires { Ascend members.now }
+    ensures { OnOk result ((ids : List (List ℕ)) → ArePlacesOf members.now ids places.old.items
+        → ArePlacesOf members.now (ids ++ needs_where zone.now conds.now) places.new.items) }
+{
+    for cond in conds {
+        push_place_where(places, members, zone, cond)?;
+    }
+    Ok(())
+}
+
+fn push_place_where(
+    places: &mut Vec<usize>,
+    members: &[Id],
+    zone: &Zone,
+    cond: &CondNeed,
+) -> Result<(), NoMemory>
+    requires { Ascend members.now }
+    ensures { OnOk result ((ids : List (List ℕ)) → ArePlacesOf members.now ids places.old.items
+        → ArePlacesOf members.now (ids ++ needs_where zone.now (cond.now ∷ [])) places.new.items) }
+{
+    if !zone.installed(&cond.fmid) {
+        return Ok(());
+    }
+    if let Some(place) = place_of(members, &cond.need) {
+        places.push(place)?;
+    }
+    Ok(())
+}

@@ -1,0 +1,82 @@
+//! A run of three callers, and what comes after it.
+use crate::asked::{
+    ALPHA, BASE, BASE_ACCEPTED, BETA, BOTH, Checked, FUNCTION, PUBLISHER, Row, chain, id, publish,
+    put_patterns, put_received, put_zone, report,
+};
+use bureau::Call;
+use std::alloc::Global;
+
+pub(crate) const SUPERSEDING: &[u8] = b"++PTF(UA10005).\n++VER(Z038) FMID(HBB7790) SUP(UA10002).\n";
+
+pub(crate) const ONE_ACCEPTED: &str = "ACCEPTED SYSMODS 1 HOLDS 0 RELEASES 0\n";
+
+pub(crate) const ONE_GIVER: &str = "EXCEPTION SYSMOD REPORT FOR ZONE TGT1
+FMID     SYSMOD   REASON   RESOLVER STATUS RECEIVED CLASS
+HBB7790  UA10001  AA20002  UA10002  GOOD   NO       PE
+ROWS 1
+";
+
+pub(crate) const TWO_GIVERS: &str = "EXCEPTION SYSMOD REPORT FOR ZONE TGT1
+FMID     SYSMOD   REASON   RESOLVER STATUS RECEIVED CLASS
+HBB7790  UA10001  AA20002  UA10002  GOOD   NO       PE
+HBB7790  UA10001  AA20002  UA10005  GOOD   NO       PE
+ROWS 2
+";
+
+const ONE_RECEIVED: &str = "EXCEPTION SYSMOD REPORT FOR ZONE TGT1
+FMID     SYSMOD   REASON   RESOLVER STATUS RECEIVED CLASS
+HBB7790  UA10001  AA20002  UA10002  GOOD   YES      PE
+HBB7790  UA10001  AA20002  UA10005  GOOD   NO       PE
+ROWS 2
+";
+
+pub(crate) const SHORT_PLAN: &str = "{\"plan\":[{\"id\":\"UA10002\",\"system\":[],\"user\":[]}],\
+\"status\":\"GOOD\",\"sysmod\":\"UA10002\",\"zone\":\"TGT1\"}";
+
+pub(crate) const LONG_PLAN: &str = "{\"plan\":[{\"id\":\"UA10001\",\"system\":[],\"user\":[]},\
+{\"id\":\"UA10002\",\"system\":[],\"user\":[]}],\
+\"status\":\"GOOD\",\"sysmod\":\"UA10002\",\"zone\":\"TGT1\"}";
+
+/// Two publications, a zone of the same name of each of two clients, and what they ask.
+pub(crate) fn run_of_three(alloc: Global) -> Checked<Vec<Row>> {
+    let (zone, sysmod) = (id(b"TGT1")?, id(b"UA10002")?);
+    let rows: [Row; 10] = [
+        (PUBLISHER, publish(1, BASE), 200, BASE_ACCEPTED),
+        (ALPHA, put_zone(1, zone, BOTH), 200, "ZONE TGT1 ROWS 2\n"),
+        (BETA, put_zone(1, zone, FUNCTION), 200, "ZONE TGT1 ROWS 1\n"),
+        (ALPHA, chain(zone, sysmod), 200, SHORT_PLAN),
+        (BETA, chain(zone, sysmod), 200, LONG_PLAN),
+        (ALPHA, report(zone), 200, ONE_GIVER),
+        (PUBLISHER, publish(2, SUPERSEDING), 200, ONE_ACCEPTED),
+        (BETA, put_zone(2, zone, BOTH), 200, "ZONE TGT1 ROWS 2\n"),
+        (ALPHA, report(zone), 200, TWO_GIVERS),
+        (ALPHA, chain(zone, sysmod), 200, SHORT_PLAN),
+    ];
+    Vec::from_slice(alloc, rows.as_slice()).ok().ok_or("memory")
+}
+
+/// What comes after it: what is received is its client's alone.
+pub(crate) fn received(alloc: Global) -> Checked<Vec<Row>> {
+    let zone = id(b"TGT1")?;
+    let patterns = b"CATEGORY\nibm.device.*\n";
+    let rows: [Row; 5] = [
+        (
+            ALPHA,
+            put_received(2, b"SYSMOD\nUA10002\n"),
+            200,
+            "RECEIVED ROWS 1\n",
+        ),
+        (ALPHA, report(zone), 200, ONE_RECEIVED),
+        (BETA, report(zone), 200, TWO_GIVERS),
+        (
+            ALPHA,
+            put_patterns(3, zone, patterns),
+            200,
+            "ZONE TGT1 PATTERNS 1\n",
+        ),
+        (BETA, Call::Counts, 200, "PUBLISHED SYSMODS 4 HOLDS 1\n"),
+    ];
+    let mut all = run_of_three(alloc)?;
+    all.extend_from_slice(rows.as_slice()).ok().ok_or("memory")?;
+    Ok(all)
+}

@@ -1,0 +1,74 @@
+-- What the statements that make a database of version 1 one of version 2 leave of it.
+use Rattle.std.proofs.Common.{◌∙◌, ℕ, List, [], ◌∷◌, Result, ap, refl, subst, sym}
+use Rattle.std.specs.Prelude.{filter, not, take}
+use Rattle.std.specs.List.{AllByRecursion}
+use Rattle.sqlite.specs.Change.{KeepsRows}
+use Rattle.sqlite.specs.State.{State}
+use Rattle.sqlite.specs.Table.{Table}
+use Rattle.sqlite.specs.Tree.{Trees}
+use Rattle.sql_texts.specs.Found.{passes}
+use Rattle.sql_texts.specs.Meaning.{MakesTable, Means}
+use Rattle.sql_texts.specs.Schema.{bureau, bureau_1, bureau_version, sysmod_cond, tables}
+use Rattle.sql_texts.specs.Writes.{delete_of, this_version}
+use Rattle.sql_tables.specs.InTrees.{columns_of}
+use Rattle.sql_tables.specs.Stored.{Stored}
+use Rattle.sql_state.specs.Numbered.{IsNumbered}
+use Rattle.sql_state.specs.Ours.{version_rows}
+use Rattle.sql_writes.specs.Making.{Leads}
+use Rattle.sql_writes.specs.Migrating.{HeldEarlier, HoldsAll}
+use Rattle.sql_writes.specs.Running.{Ran}
+use Rattle.sql_writes.proofs.MakeFacts.{leads_by, makes_table, one_more}
+use Rattle.sql_writes.proofs.StatementFacts.{deletes, inserts_version}
+use Rattle.sql_writes.proofs.StoredFacts.{held_set, known_after}
+
+numbered_still : (old new : Trees) (all : List Table) → AllByRecursion (λ table. IsNumbered (old table.tree)) all → KeepsRows all old new
+    → AllByRecursion (λ table. IsNumbered (new table.tree)) all
+numbered_still old new [] numbered kept = tt
+numbered_still old new (table ∷ all) numbered kept = (subst IsNumbered (sym kept.0) numbered.0, numbered_still old new all numbered.1 kept.1)
+
+module _ {A F : Type 0} (text : List ℕ) (old new : State) (result : Result A F) where
+  -- the table comes, without a row
+  pub table_added : MakesTable bureau_1 text sysmod_cond bureau → Ran text [] old new result → (stored : Stored) → Leads old new result (HeldEarlier stored) (HoldsAll (version_rows 1) stored)
+  table_added makes ran stored = leads_by text [] old new result (HeldEarlier stored) (HoldsAll (version_rows 1) stored) ran (λ count executes from.
+      let has = makes_table bureau_1 bureau text sysmod_cond old new count makes refl refl from.ours.schema executes in
+      let k = has.others in
+      record {
+        known = record {
+          schema = has.schema;
+          sound = has.sound;
+          numbered = one_more (λ table. IsNumbered (new.now.trees table.tree)) (take 9 tables) sysmod_cond
+              (numbered_still old.now.trees new.now.trees (take 9 tables) from.ours.rows.numbered k) (subst IsNumbered (sym has.empty) (tt, tt));
+        };
+        version = k.0 ∙ from.ours.rows.version;
+        held = (λ i. record {
+          callers = columns_of (k.1.0 i);
+          changes = columns_of (k.1.1.0 i);
+          sysmods = columns_of (k.1.1.1.0 i);
+          sups = columns_of (k.1.1.1.1.0 i);
+          conds = columns_of (has.empty i);
+          holds = columns_of (k.1.1.1.1.1.0 i);
+          heads = columns_of (k.1.1.1.1.1.1.0 i);
+          rows = columns_of (k.1.1.1.1.1.1.1.0 i);
+          received = columns_of (k.1.1.1.1.1.1.1.1.0 i);
+        }) ∙ from.held;
+      })
+
+  -- the version goes
+  pub version_goes : Means bureau text (delete_of 0 0 []) 0 → Ran text [] old new result → (stored : Stored) → Leads old new result (HoldsAll (version_rows 1) stored) (HoldsAll [] stored)
+  version_goes means ran stored = leads_by text [] old new result (HoldsAll (version_rows 1) stored) (HoldsAll [] stored) ran (λ count executes from.
+      let set = deletes text 0 bureau_version [] 0 [] old new count means refl from.known.schema from.known.numbered.0 executes in
+      record {
+        known = known_after 0 _ old.now new.now from.known.numbered set;
+        version = set.rows_are ∙ ap (filter (λ row. not (passes [] [] row))) from.version;
+        held = held_set 0 _ old.now new.now set ∙ from.held;
+      })
+
+  -- and comes anew
+  pub version_comes_anew : Means bureau text this_version 0 → Ran text [] old new result → (stored : Stored) → Leads old new result (HoldsAll [] stored) (HoldsAll (version_rows 2) stored)
+  version_comes_anew means ran stored = leads_by text [] old new result (HoldsAll [] stored) (HoldsAll (version_rows 2) stored) ran (λ count executes from.
+      let set = inserts_version text old new count means from.known.schema from.version executes in
+      record {
+        known = known_after 0 (version_rows 2) old.now new.now from.known.numbered set;
+        version = set.rows_are;
+        held = held_set 0 (version_rows 2) old.now new.now set ∙ from.held;
+      })

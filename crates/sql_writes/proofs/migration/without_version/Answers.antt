@@ -1,0 +1,15 @@
+use Rattle.std.proofs.Common.{[]}
+use Rattle.sql_state.specs.Ours.{version_rows}
+use Rattle.sql_writes.specs.Migrating.{HeldEarlier, HoldsAll}
+use Rattle.sql_writes.proofs.MakeFacts.{leads_nowhere, leads_then}
+use Rattle.sql_writes.proofs.MigrateFacts.{version_goes}
+use Rattle.sql_writes.proofs.migration.without_version.Goals as goal
+
+pub returns-in_err-with_sysmod_cond-clause-made : goal.returns-in_err-with_sysmod_cond-clause-made
+returns-in_err-with_sysmod_cond-clause-made g c stored =
+    leads_nowhere _ _ _ _ (HeldEarlier stored) (HoldsAll (version_rows 1) stored) _ c.from_residual.ensures.0 (c.in_err-with_sysmod_cond.ensures.made stored)
+
+pub returns-clause-made : goal.returns-clause-made
+returns-clause-made g c stored =
+    leads_then _ _ _ tt _ (HeldEarlier stored) (HoldsAll (version_rows 1) stored) (HoldsAll [] stored) (c.in_ok-with_sysmod_cond.ensures.made stored)
+    (version_goes _ _ _ _ c.delete_version.ensures c.run.ensures.ran stored)
