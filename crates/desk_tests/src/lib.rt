@@ -9,6 +9,7 @@ mod alone_tests;
 mod asked;
 #[cfg(test)]
 mod cached_tests;
+#[cfg(test)]
 mod conditional;
 #[cfg(test)]
 mod desks;
