@@ -8,7 +8,7 @@ use Rattle.bureau_store.specs.Effect.{zone_dropped}
 use Rattle.bureau_store.specs.Tables.{ZoneTable, Zones}
 use Rattle.bureau_store.specs.declared.caller.Caller.TheVariants.{Publisher, Client}
 use Rattle.bureau.specs.Call.{Call, publish, drop_zone, list_zones, err_sysmods, counts}
-use Rattle.bureau.specs.Outcome.{Answer, accepted, answered, has_room, outcome, plain}
+use Rattle.bureau.specs.Outcome.{Answer, Outcome, accepted, answered, has_room, in_turn, outcome, plain}
 use Rattle.bureau.specs.Own.{Asked, Opening, own_answer}
 use Rattle.bureau.specs.Texts.{counts_text}
 use Rattle.bureau.specs.View.{View}
@@ -50,6 +50,10 @@ number_zero = refl
 
 pub number_too_great : outcome alpha (drop_zone (Some 9223372036854775808) (codes "TGT1   ")) ≡ answered (plain 400 (codes "BAD NUMBER\n"))
 number_too_great = refl
+
+-- the greatest number that a change may have
+pub greatest_number : (come : Outcome) → in_turn (record { number = 9223372036854775806; reply = [] }) (Some 9223372036854775807) come ≡ come
+greatest_number come = refl
 
 -- the last number again, with whatever call, gets the kept reply
 pub number_again : outcome alpha (drop_zone (Some 2) (codes "TGT9   ")) ≡ answered (plain 200 (codes "ZONE TGT1 ROWS 1\n"))

@@ -21,8 +21,6 @@ mod law;
 mod publication;
 mod questions;
 mod reply;
-#[cfg(test)]
-mod tests;
 mod texts;
 mod turn;
 
