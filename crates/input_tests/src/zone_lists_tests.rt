@@ -163,8 +163,9 @@ fn numbered(alloc: Global, number: u32) -> Result<String, NoMemory> {
 }
 
 // A header and so many records, each id once, out of order.
-fn shuffled(alloc: Global, header: &str, rest: &str, records: u32) -> Result<Vec<u8>, NoMemory> {
+fn shuffled(alloc: Global, header: &str, rest: &str, records: u16) -> Result<Vec<u8>, NoMemory> {
     let mut text = Vec::from_slice(alloc, header.as_bytes())?;
+    let records = u32::from(records);
     for n in 0..records {
         text.extend_from_slice(numbered(alloc, n * 7_919 % records)?.as_str().as_bytes())?;
         text.extend_from_slice(rest.as_bytes())?;
