@@ -9,6 +9,7 @@
                the desk is started again
     open       `serve` is refused before it listens
     init       `init` is refused
+    migrate    `migrate` is refused
     holds      `holds` is refused
 
 For N = 1, 2, .. the Nth growth alone is refused, up to the first run that meets no refusal. What is told otherwise than by 503 is
@@ -220,6 +221,23 @@ def opening(refusing, place):
     return told, met
 
 
+def migrating(refusing, place):
+    """A refused `migrate` leaves the store as it was, so it is made after it."""
+    store = os.path.join(refusing.room, "migrated")
+    shutil.copy(refusing.earlier, store)
+    ended, output = refusing.refused_run(place, "migrate", store)
+    see(ended or output == b"MIGRATED VERSION 2\n", output)
+    met = refusing.met()
+    refusing.refuse(0)
+    again = refusing.run("migrate", store)
+    see(again == ((0, b"MIGRATED VERSION 2\n", b"") if ended else (1, b"", b"FAULT 45\n")), "again", again)
+    desk = Desk(refusing, store)
+    see(desk.exchange(SCRIPT + QUESTIONS) == second(SCRIPT + QUESTIONS)[0], "the store that was migrated")
+    desk.end()
+    remove(store)
+    return "refused" if ended else "migrated", met
+
+
 class Desk:
     """A desk over a store."""
 
@@ -303,9 +321,22 @@ def see_tables(store, plain):
     conn.close()
 
 
+def of_version_1(store):
+    """A copy of a store without conditional requisites, as a store of version 1."""
+    earlier = store + "-1"
+    shutil.copy(store, earlier)
+    conn = sqlite3.connect(earlier)
+    conn.execute("DROP TABLE sysmod_cond")
+    conn.execute("UPDATE bureau_version SET version = 1")
+    conn.commit()
+    conn.close()
+    return earlier
+
+
 WAYS = {
     "holds": [holds],
     "init": [init],
+    "migrate": [migrating],
     "open": [opening],
     "replay": [replay(("replay", "--cache", capacity), is_cut) for capacity in ("1", "16") for is_cut in (False, True)],
     "large": [replay(("replay", "--cache", "1"), False, least=1 << 14)],
@@ -344,6 +375,7 @@ def main():
         refusing.made = os.path.join(room, "store")
         refusing.refuse(0)
         see(refusing.run("init", refusing.made, refusing.callers)[1] == b"CALLERS 3\n", "init")
+        refusing.earlier = of_version_1(refusing.made)
         for name in ways:
             for turn, way in enumerate(WAYS[name]):
                 every = 1 if name == "large" else words.every

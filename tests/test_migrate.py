@@ -173,13 +173,27 @@ before = sorted(os.listdir(room))
 same("a store that is not there", run("migrate", "missing"), refused(44, 1))
 same("a name that is no file's", run("migrate", ":memory:")[0] in (1, 2, 3), True)
 same("is not made", sorted(os.listdir(room)), before)
-for name, statements, fault in (
-    ("taken", ["CREATE TABLE sysmod_cond (id TEXT)"], 44),
-    ("lacking", ["DROP TABLE received_list"], 44),
-    ("column", ["ALTER TABLE zone_row RENAME COLUMN state TO other"], 44),
-    ("later", ["UPDATE bureau_version SET version = 3"], 45),
+with_all = of_version_1("all")
+conn = sqlite3.connect(with_all)
+tables = [name for (name,) in conn.execute("SELECT name FROM sqlite_schema WHERE type = 'table'")]
+columns = [(table, row[1]) for table in tables for row in conn.execute("PRAGMA table_info(%s)" % table)]
+conn.close()
+check("version 1 has nine tables", len(tables) == 9, tables)
+for name, statement, fault in (
+    ("taken", "CREATE TABLE sysmod_cond (id TEXT)", 44),
+    ("later", "UPDATE bureau_version SET version = 3", 45),
+    *(("without " + table, "DROP TABLE " + table, 44) for table in tables),
+    *(
+        ("without %s of %s" % (column, table), "ALTER TABLE %s RENAME COLUMN %s TO other" % (table, column), 44)
+        for table, column in columns
+    ),
 ):
-    odd = of_version_1(name, *statements)
+    odd = os.path.join(room, name)
+    shutil.copy(with_all, odd)
+    conn = sqlite3.connect(odd)
+    conn.execute(statement)
+    conn.commit()
+    conn.close()
     kept = read(odd)
     same("a store that is %s" % name, run("migrate", odd), refused(fault, 1))
     same("is left as it is: %s" % name, read(odd), kept)

@@ -160,12 +160,17 @@ same(
     run("serve", altered("later", "UPDATE bureau_version SET version = 3")),
     refused(45, 1),
 )
-same("a store without a table", run("serve", altered("less", "DROP TABLE received_list")), refused(44, 1))
-same(
-    "a store without a column",
-    run("serve", altered("column", "ALTER TABLE zone_row RENAME COLUMN state TO other")),
-    refused(44, 1),
-)
+with sqlite3.connect(store) as conn:
+    tables = [name for (name,) in conn.execute("SELECT name FROM sqlite_schema WHERE type = 'table'")]
+    columns = [(table, row[1]) for table in tables for row in conn.execute("PRAGMA table_info(%s)" % table)]
+conn.close()
+check("the store has ten tables", len(tables) == 10, tables)
+for table in tables:
+    less = altered("less " + table, "DROP TABLE " + table)
+    same("a store without %s" % table, run("serve", less), refused(44, 1))
+for table, column in columns:
+    less = altered("less %s %s" % (table, column), "ALTER TABLE %s RENAME COLUMN %s TO other" % (table, column))
+    same("a store without %s of %s" % (column, table), run("serve", less), refused(44, 1))
 before = there()
 for name in (":memory:", "file:odd", "file:odd?mode=memory", ""):
     for words in (("init", name, callers), ("serve", name)):

@@ -1,12 +1,15 @@
 -- What `migrate` leaves of a database, and what it tells.
-use Rattle.std.proofs.Common.{◌≡◌, ◌∙◌, ℕ, List, Option, Some, Ok, Err, Result, IfErr, ap, inl, inr, refl, subst, sym}
+use Rattle.std.proofs.Common.{◌≡◌, ◌≢◌, ◌∙◌, ℕ, List, Option, Some, Ok, Err, Result, IfErr, ap, inl, inr, refl, subst, sym}
 use Rattle.std.proofs.KnownBytes.{Keeps-refl}
 use Rattle.faults.specs.declared.any.AnyFault.{AnyFault}
 use Rattle.sqlite.specs.State.{HasCleanDisk, KeepsCommit, State}
 use Rattle.sqlite_trees.specs.declared.store.Store.{Ghosts}
 use Rattle.sql_state.specs.Earlier.{IsOfVersion1, held_by_version_1}
 use Rattle.sql_tables.specs.Stored.{tables_of}
+use Rattle.bureau_store.specs.declared.fault.StoreFault.TheVariants.{Device}
+use Rattle.bureau_sql.specs.Migrated.{IsUntouched}
 use Rattle.bureau_sql.specs.Opening.{IsNotEarlier}
+use Rattle.sql_reads.specs.Version.{HasVersion}
 use Rattle.bureau_sql.specs.SqlState.{SqlState}
 use Rattle.bureau_sql.specs.SqlView.{IsOurStore, shown, sql_view}
 use Rattle.bureau_store.specs.declared.fault.StoreFault.{StoreFault}
@@ -18,10 +21,12 @@ use Rattle.bureau_main.specs.declared.fault.ProgramFault.TheVariants.{NotWritten
 
 -- the store that was opened has the tables of the database that was there
 pub has_migrated : {S : Type 0} (g : Ghosts S) (before : State) (store : SqlState S) → store.failures ≡ 0
+    → (HasCleanDisk (shown g store) → HasVersion (Some 1) before.committed)
     → (HasCleanDisk (shown g store) → IsOfVersion1 before.committed → IsOurStore g store)
     → (HasCleanDisk (shown g store) → IsOfVersion1 before.committed → (sql_view g).stands store (tables_of (held_by_version_1 before.committed)))
     → HasMigrated before (shown g store)
-has_migrated g before store open_still ours tables = λ clean earlier. (((ours clean earlier).1 open_still).1, tables clean earlier open_still)
+has_migrated g before store open_still version ours tables =
+    λ clean. (version clean, λ earlier. (((ours clean earlier).1 open_still).1, tables clean earlier open_still))
 
 -- it is migrated, whether or not the line could be written
 pub migrated : {T : Type 0} (outcome : Result T AnyFault) (before after : State) → HasMigrated before after
@@ -30,8 +35,9 @@ migrated (Ok done) before after has told = has
 migrated (Err why) before after has told = inl (told, has)
 
 pub not_migrated : (refused : StoreFault) (fault : AnyFault) (before after : State) → fault ≡ of_store refused
-    → (HasCleanDisk after → IsNotEarlier before refused) → (HasCleanDisk after → KeepsCommit before after) → IsMigrateLeft (Some fault) before after
-not_migrated refused fault before after is why kept = inr ((refused, is, why), kept)
+    → (HasCleanDisk after → IsNotEarlier before refused) → (HasCleanDisk after → KeepsCommit before after)
+    → (refused ≢ Device → IsUntouched before after) → IsMigrateLeft (Some fault) before after
+not_migrated refused fault before after is why kept untouched = inr (refused, is, why, kept, untouched)
 
 -- a file that can't be opened is left alone
 pub not_connected : (output : Option (List ℕ)) (fault : StoreFault) (any : AnyFault) (old new : Option (List ℕ)) (status : ℕ) → any ≡ of_store fault

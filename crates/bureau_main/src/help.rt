@@ -10,7 +10,7 @@ Exit status: 0 done; 1 the input is refused; 2 the words are not understood, or 
 there is one, the line on which the statement begins, or the record of the callers file (47).
 
  1 no period ends the statement, up to column 72 of its lines, or ++ begins a line before it
- 2 the list after the verb is missing, or is not one id
+ 2 the list after the verb is missing, or is not one id, or follows ++IF
  3 parentheses do not match, up to column 72 of each line, or a comment does not end
  4 a character stands where it cannot
  5 the source has over 67,108,864 bytes

@@ -1,8 +1,9 @@
 //! `migrate`: a store of version 1 in a file becomes one of version 2.
-ghost use Rattle.std.specs.Prelude.{◌≡◌, false, IfErr, IfOk};
+ghost use Rattle.std.specs.Prelude.{◌≡◌, ◌≢◌, false, IfErr, IfOk};
 ghost use Rattle.bureau_main.specs.Holds.{fault_in};
 ghost use Rattle.bureau_main.specs.Migrating.{HasMigrated, IsMigrateLeft, IsMigrateOutput, IsMigrateRun};
-ghost use Rattle.bureau_sql.specs.Migrated.{AreMigrated};
+ghost use Rattle.bureau_sql.specs.Migrated.{AreMigrated, IsUntouched};
+ghost use Rattle.bureau_store.specs.declared.fault.StoreFault.TheVariants.{Device};
 ghost use Rattle.bureau_sql.specs.Opening.{IsNotEarlier};
 ghost use Rattle.sqlite.specs.Held.{state};
 ghost use Rattle.sqlite.specs.State.{HasCleanDisk, KeepsCommit, Survives};
@@ -68,6 +69,8 @@ fn migrate<S: Alter + Drop>(
     ensures stopped { IfErr result (λ refused. Survives (state S.Store conn) (state S.Store refused.1) (AreMigrated (state S.Store conn))) }
     ensures cause { IfErr result (λ refused. HasCleanDisk (state S.Store refused.1) → IsNotEarlier (state S.Store conn) refused.0) }
     ensures kept { IfErr result (λ refused. HasCleanDisk (state S.Store refused.1) → KeepsCommit (state S.Store conn) (state S.Store refused.1)) }
+    ensures untouched { IfErr result (λ refused. refused.0 ≢ Device
+        → IsUntouched (state S.Store conn) (state S.Store refused.1)) }
     ensures rest { IfErr result (λ refused. refused.1.in_transaction ≡ false) }
 {
     match SqlStore::migrate(alloc, conn) {

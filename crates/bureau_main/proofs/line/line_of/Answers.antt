@@ -1,4 +1,4 @@
-use Rattle.std.proofs.Common.{◌≡◌, ◌≢◌, [], ◌∷◌, List, Option, inl, inr, refl, true, ap, ◌∙◌, sym, Result, Ok, Err, IfErr, OnOk, map, string_bytes, subst}
+use Rattle.std.proofs.Common.{◌≡◌, ◌≢◌, [], ◌∷◌, List, Option, inl, inr, refl, true, ap, ◌∙◌, sym, Result, Ok, Err, IfErr, IfOk, OnOk, map, string_bytes, subst}
 use Rattle.clap.specs.Words.{App, HasKind, HasMatchesOf, Kinds, Row, Text, fault_of, is_simple, kind_of, subcommand_of, subcommand_rows_of}
 use Rattle.clap.specs.declared.error.Error.{Error}
 use Rattle.clap.specs.declared.error.kind.ErrorKind.TheVariants as kind
@@ -24,6 +24,19 @@ is_clear = refl
 on_any : {T E P : Type 0} (outcome : Result T E) → P → OnOk outcome P
 on_any (Ok _) fact = fact
 on_any (Err _) fact = tt
+
+-- the line that the matches have is that of the words
+line_found : (result : Result Line LineFault) (met asked : Option (Text × List Row)) → met ≡ asked
+    → IfOk result (λ line. IsLineIn met line) → IfOk result (λ line. IsLineIn asked line)
+line_found (Ok found) met asked same is = subst (λ rows. IsLineIn rows found) same is
+line_found (Err fault) met asked same is = tt
+
+pub returns-in-Ok-clause-line : goal.returns-in-Ok-clause-line
+returns-in-Ok-clause-line c =
+    let words = map string_bytes c.args.words.now in
+    let app = c.in_ok-command.ensures in
+    let found = subst (λ (app : App). HasMatchesOf app words c.in-Ok.matches) app c.in-Ok.ensures.matches in
+    line_found c.line_in.result (subcommand_rows_of c.in-Ok.matches) (subcommand_of bureau_app words) (found is_clear).1 c.line_in.ensures.line
 
 pub returns-in-Ok-clause-understood : goal.returns-in-Ok-clause-understood
 returns-in-Ok-clause-understood c =
