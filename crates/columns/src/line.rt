@@ -37,7 +37,8 @@ pub(crate) fn push_row(
     columns: &[Column],
     fields: &[&[u8]],
 ) -> Result<(), NoMemory>
-    ensures ok { OnOk result (text.new.items ≡ text.old.items ++ row_of (columns_of columns.now) (texts_of fields.now)) }
+    ensures ok { OnOk result
+        (text.new.items ≡ text.old.items ++ row_of (columns_of columns.now) (texts_of fields.now)) }
     ensures kept { take (length text.old.items) text.new.items ≡ text.old.items }
 {
     text.reserve(row_len(columns, fields))?;
@@ -89,7 +90,8 @@ fn after_first(columns: &[Column]) -> &[Column]
 
 fn push_field(text: &mut Vec<u8>, width: u16, field: &[u8]) -> Result<(), NoMemory>
     ensures ok { OnOk result (text.new.items ≡ text.old.items ++ in_width width field.now) }
-    ensures kept { (before : List ℕ) → take (length before) text.old.items ≡ before → take (length before) text.new.items ≡ before }
+    ensures kept { (before : List ℕ) →
+        take (length before) text.old.items ≡ before → take (length before) text.new.items ≡ before }
 {
     text.extend_from_slice(field)?;
     let blanks = usize::from(width).saturating_sub(field.len());

@@ -37,7 +37,8 @@ impl<'a> Table<'a> {
     ///
     /// Memory ran out.
     pub fn new(alloc: Global, columns: &'a [Column], title: Option<&[u8]>) -> Result<Self, NoMemory>
-        ensures { IfOk result (λ table. table ≡ table_with (columns_of columns.now) (option_copied title.entry) []) }
+        ensures { IfOk result (λ table.
+            table ≡ table_with (columns_of columns.now) (option_copied title.entry) []) }
     {
         let mut text = Vec::new(alloc);
         push_title(&mut text, title)?;
@@ -58,8 +59,8 @@ impl<'a> Table<'a> {
     /// Memory ran out. The table is as it was.
     pub fn push(&mut self, fields: &[&[u8]]) -> Result<(), NoMemory>
         ensures row { OnOk result (self.new ≡ add_row self.old (texts_of fields.now)) }
-        ensures rows { (columns : List (ℕ × List ℕ)) (title : Option (List ℕ)) (rows : List (List (List ℕ))) →
-            self.old ≡ table_with columns title rows →
+        ensures rows { (columns : List (ℕ × List ℕ)) (title : Option (List ℕ))
+            (rows : List (List (List ℕ))) → self.old ≡ table_with columns title rows →
             OnOk result (self.new ≡ table_with columns title (rows ++ texts_of fields.now ∷ [])) }
         ensures err { OnErr result (self.new ≡ self.old) }
     {
@@ -80,8 +81,9 @@ impl<'a> Table<'a> {
     /// Memory ran out.
     pub fn finish(self) -> Result<Vec<u8>, NoMemory>
         ensures text { IfOk result (λ text. text.items ≡ finished self.entry) }
-        ensures whole { (columns : List (ℕ × List ℕ)) (title : Option (List ℕ)) (rows : List (List (List ℕ))) →
-            self.entry ≡ table_with columns title rows → IfOk result (λ text. text.items ≡ text_of columns title rows) }
+        ensures whole { (columns : List (ℕ × List ℕ)) (title : Option (List ℕ))
+            (rows : List (List (List ℕ))) → self.entry ≡ table_with columns title rows →
+            IfOk result (λ text. text.items ≡ text_of columns title rows) }
     {
         let mut text = self.text;
         push_count(&mut text, self.rows)?;

@@ -18,7 +18,8 @@ pub struct AnyFault {
 }
 
 impl<F: Fault> From<F> for AnyFault {
-    ghost from_gives = { λ fault any. any ≡ record { number = F.number fault; place = F.place fault; cause = F.cause fault } };
+    ghost from_gives = { λ fault any.
+        any ≡ record { number = F.number fault; place = F.place fault; cause = F.cause fault } };
 
     fn from(fault: F) -> AnyFault {
         AnyFault {

@@ -14,7 +14,8 @@ pub(crate) enum Asked<'a> {
 impl<'a> Asked<'a> {
     /// Whether an operand of this name is gathered. Names are compared without regard to ASCII case.
     pub(crate) fn asks_for(self, name: &[u8]) -> bool
-        ensures { (values : List (List ℕ)) → result ≡ is_wanted self.entry (record { name = name.now; values = values }) }
+        ensures { (values : List (List ℕ)) →
+            result ≡ is_wanted self.entry (record { name = name.now; values = values }) }
     {
         match self {
             Asked::All => true,

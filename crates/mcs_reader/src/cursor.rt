@@ -152,7 +152,8 @@ impl<'a> Cursor<'a> {
     /// Goes past the `*/` that ends a comment, if the line has one. Else nothing moves.
     pub(crate) fn end_comment(&mut self) -> bool
         ensures text { OnTrue result (after_comment self.old.text ≡ Some self.new.text) }
-        ensures none { OnFalse result (after_comment self.old.text ≡ after_comment (after_line self.old.text)) }
+        ensures none { OnFalse result
+            (after_comment self.old.text ≡ after_comment (after_line self.old.text)) }
         ensures unmoved { OnFalse result (self.new ≡ self.old) }
         ensures after { IsAfter self.new self.old }
     {
@@ -170,9 +171,11 @@ impl<'a> Cursor<'a> {
     pub(crate) fn end_raw_list(&mut self, depth: &mut usize) -> bool
         requires depth_headroom { depth.old + length self.old.text < 2 ^ 64 }
         ensures text { OnTrue result (after_raw depth.old self.old.text ≡ Ok self.new.text) }
-        ensures none { OnFalse result (after_raw depth.old self.old.text ≡ after_raw depth.new (after_line self.old.text)) }
+        ensures none { OnFalse result
+            (after_raw depth.old self.old.text ≡ after_raw depth.new (after_line self.old.text)) }
         ensures unmoved { OnFalse result (self.new ≡ self.old) }
-        ensures no_deeper { OnFalse result (depth.new + length (after_line self.old.text) ≤ depth.old + length self.old.text) }
+        ensures no_deeper { OnFalse result
+            (depth.new + length (after_line self.old.text) ≤ depth.old + length self.old.text) }
         ensures after { IsAfter self.new self.old }
     {
         match after_raw_in(self.columns, *depth) {
@@ -198,7 +201,9 @@ impl<'a> Cursor<'a> {
     /// Passes `++`, blanks and a verb that is known, at a line's beginning.
     #[inline]
     pub(crate) fn take_verb(&mut self) -> Option<Verb>
-        ensures verb { MatchOption result (verb_at self.old.text ≡ None) (λ verb. verb_at self.old.text ≡ Some (verb, self.new.text)) }
+        ensures verb { MatchOption result
+            (verb_at self.old.text ≡ None)
+            (λ verb. verb_at self.old.text ≡ Some (verb, self.new.text)) }
         ensures unmoved { MatchOption result (self.new ≡ self.old) (λ _. self.new.line ≡ self.old.line) }
         ensures after { IsAfter self.new self.old }
     {
@@ -216,7 +221,9 @@ impl<'a> Cursor<'a> {
 #[inline]
 #[tactic(auto, unfolding(crate::specs::Place::verb_at))]
 fn split_verb(columns: &[u8]) -> Option<(Verb, &[u8])>
-    ensures { MatchOption result (verb_at columns.now ≡ None) (λ found. verb_at columns.now ≡ Some (found.0, found.1.now)) }
+    ensures { MatchOption result
+        (verb_at columns.now ≡ None)
+        (λ found. verb_at columns.now ≡ Some (found.0, found.1.now)) }
 {
     if !has_pluses(columns) {
         return None;
@@ -284,7 +291,9 @@ fn begins_with(columns: &[u8], b: u8) -> bool
 
 /// What stands after the first `*/`.
 fn after_comment_in(columns: &[u8]) -> Option<&[u8]>
-    ensures { MatchOption result (after_comment columns.now ≡ None) (λ rest. after_comment columns.now ≡ Some rest.now) }
+    ensures { MatchOption result
+        (after_comment columns.now ≡ None)
+        (λ rest. after_comment columns.now ≡ Some rest.now) }
 {
     let mut left = columns;
     'bytes: while let Some((first, rest)) = left.split_first() {
@@ -301,7 +310,9 @@ fn after_comment_in(columns: &[u8]) -> Option<&[u8]>
 /// how many are open at the line's end.
 fn after_raw_in(columns: &[u8], depth: usize) -> Result<&[u8], usize>
     requires { depth + length columns.now < 2 ^ 64 }
-    ensures after { MatchResult result (λ rest. after_raw depth columns.now ≡ Ok rest.now) (λ unclosed. after_raw depth columns.now ≡ Err unclosed) }
+    ensures after { MatchResult result
+        (λ rest. after_raw depth columns.now ≡ Ok rest.now)
+        (λ unclosed. after_raw depth columns.now ≡ Err unclosed) }
     ensures no_deeper { IfErr result (λ unclosed. unclosed ≤ depth + length columns.now) }
 {
     let mut left = columns;

@@ -76,7 +76,14 @@ impl Fault for McsFault {
 
     ghost cause = { fault_cause };
 
-    ghost numbers = { elim [ NoPeriod _ ↦ Prim.search rules | BadVerbSubject _ ↦ Prim.search rules | Unbalanced _ ↦ Prim.search rules | BadByte _ ↦ Prim.search rules | TooLong ↦ Prim.search rules | Memory ↦ Prim.search rules ] };
+    ghost numbers = { elim [
+      | NoPeriod _ ↦ Prim.search rules
+      | BadVerbSubject _ ↦ Prim.search rules
+      | Unbalanced _ ↦ Prim.search rules
+      | BadByte _ ↦ Prim.search rules
+      | TooLong ↦ Prim.search rules
+      | Memory ↦ Prim.search rules
+    ] };
 
     fn number(self) -> u8 {
         self.number()

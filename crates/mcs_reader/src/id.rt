@@ -155,35 +155,3 @@ fn ascii_str(bytes: &[u8]) -> &str
         Err(_) => unreachable!(),
     }
 }
-
-#[cfg(test)]
-mod tests {
-    use super::*;
-    use std::test::Fail;
-
-    #[test]
-    fn ids_have_one_to_seven_allowed_characters(rt: HostRuntime) {
-        for text in ["A", "UA10001", "HBB7790", "@#$", "0", "Z9"] {
-            assert!(rt; Id::new(text.as_bytes()).is_some(), "{text}");
-        }
-        for text in ["", "UA100012", "ua10001", "UA 1", "UA1 ", "A.B", "*", "Ä"] {
-            assert!(rt; Id::new(text.as_bytes()).is_none(), "{text}");
-        }
-    }
-
-    #[test]
-    fn an_id_keeps_its_text_and_its_order(rt: HostRuntime) -> Result<(), Fail> {
-        let short = Id::new(b"UA1").ok_or("an id")?;
-        let long = Id::new(b"UA10001").ok_or("an id")?;
-        assert_eq!(rt; short.text(), "UA1");
-        assert_eq!(rt; long.text(), "UA10001");
-        assert!(rt; short < long);
-        assert!(rt; long == Id::new(b"UA10001").ok_or("an id")?);
-        let mut ids = vec![in rt.alloc(); long, short]?;
-        ids.sort()?;
-        assert!(rt; ids.as_slice() == [short, long].as_slice());
-        let line = format!(in rt.alloc(); "{short:<8}|{long}")?;
-        assert_eq!(rt; line.as_str(), "UA1     |UA10001");
-        Ok(())
-    }
-}

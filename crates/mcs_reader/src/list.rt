@@ -24,7 +24,8 @@ pub(crate) fn next_value<'a>(
     requires depth_headroom { depth.old + length cursor.old.text < 2 ^ 64 }
 
     ensures ok { IfOk result (λ next. MatchOption next
-        (scan line depth.old no_name false cursor.old.text ≡ on_found (with_list []) (scan line 0 no_name false cursor.new.text))
+        (scan line depth.old no_name false cursor.old.text
+        ≡ on_found (with_list []) (scan line 0 no_name false cursor.new.text))
         (λ value. GivesValue line depth.old cursor.old.text value.now depth.new cursor.new.text)) }
     ensures fault { IfErr result (λ fault. scan line depth.old no_name false cursor.old.text ≡ Err fault) }
     ensures after { IsAfter cursor.new cursor.old }
@@ -66,8 +67,10 @@ pub(crate) fn gather_values<'a>(
 ) -> Result<ListValues<'a>, McsFault>
     requires depth_headroom { length cursor.old.text < 2 ^ 63 }
 
-    ensures ok { IfOk result (λ values. scan line 1 no_name false cursor.old.text ≡ on_found (with_list values) (scan line 0 no_name false cursor.new.text)) }
-    ensures fault { IfErr result (IsRefusal Memory (λ fault. scan line 1 no_name false cursor.old.text ≡ Err fault)) }
+    ensures ok { IfOk result (λ values. scan line 1 no_name false cursor.old.text
+        ≡ on_found (with_list values) (scan line 0 no_name false cursor.new.text)) }
+    ensures fault { IfErr result (IsRefusal Memory
+        (λ fault. scan line 1 no_name false cursor.old.text ≡ Err fault)) }
     ensures after { IsAfter cursor.new cursor.old }
 {
     scratch.clear();
@@ -85,7 +88,8 @@ pub(crate) fn take_sole_value<'a>(
 ) -> Result<Option<&'a [u8]>, McsFault>
     requires depth_headroom { length cursor.old.text < 2 ^ 63 }
 
-    ensures ok { IfOk result (λ value. HasSoleValue line cursor.old.text (option_map (λ v. v.now) value) cursor.new.text) }
+    ensures ok { IfOk result (λ value.
+        HasSoleValue line cursor.old.text (option_map (λ v. v.now) value) cursor.new.text) }
     ensures fault { IfErr result (λ fault. scan line 1 no_name false cursor.old.text ≡ Err fault) }
     ensures after { IsAfter cursor.new cursor.old }
 {

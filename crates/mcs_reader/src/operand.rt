@@ -24,8 +24,10 @@ fn skip_gap(cursor: &mut Cursor<'_>, line: u32) -> Result<ByteRole, McsFault>
     ensures role { IfOk result (λ role. role_at cursor.new.text ≡ Some role) }
     ensures no_gap { IfOk result (λ role. role ≢ Gap) }
     ensures no_comment { IfOk result (λ role. role ≢ Comment) }
-    ensures ok { OnOk result ((before : Before) → scan line 0 before false cursor.old.text ≡ scan line 0 before false cursor.new.text) }
-    ensures fault { IfErr result (λ fault. (before : Before) → scan line 0 before false cursor.old.text ≡ Err fault) }
+    ensures ok { OnOk result ((before : Before) →
+        scan line 0 before false cursor.old.text ≡ scan line 0 before false cursor.new.text) }
+    ensures fault { IfErr result (λ fault. (before : Before) →
+        scan line 0 before false cursor.old.text ≡ Err fault) }
     ensures after { IsAfter cursor.new cursor.old }
 {
     'gap: loop {
@@ -53,8 +55,10 @@ fn take_list<'a>(
     name: &[u8],
     line: u32,
 ) -> Result<Option<ListValues<'a>>, McsFault>
-    ensures ok { IfOk result (λ list. scan line 0 (named_before name.now) false cursor.old.text ≡ with_list_after list (scan line 0 no_name false cursor.new.text)) }
-    ensures fault { IfErr result (IsRefusal Memory (λ fault. scan line 0 (named_before name.now) false cursor.old.text ≡ Err fault)) }
+    ensures ok { IfOk result (λ list. scan line 0 (named_before name.now) false cursor.old.text
+        ≡ with_list_after list (scan line 0 no_name false cursor.new.text)) }
+    ensures fault { IfErr result (IsRefusal Memory
+        (λ fault. scan line 0 (named_before name.now) false cursor.old.text ≡ Err fault)) }
     ensures after { IsAfter cursor.new cursor.old }
 {
     match skip_gap(cursor, line)? {
@@ -117,7 +121,8 @@ fn subject_alone(verb: Verb) -> Option<Option<Id>>
 
 /// The subject by a list that has this value alone, or none or several.
 fn subject_by(verb: Verb, value: Option<&[u8]>) -> Option<Option<Id>>
-    ensures { (values : List (List ℕ)) → option_map (λ v. v.now) value.entry ≡ sole values → result ≡ subject_by_list verb values }
+    ensures { (values : List (List ℕ)) →
+        option_map (λ v. v.now) value.entry ≡ sole values → result ≡ subject_by_list verb values }
 {
     match verb {
         Verb::Hold | Verb::Release | Verb::Func | Verb::Ptf | Verb::Apar | Verb::Usermod => {
@@ -135,9 +140,12 @@ fn take_values<'a>(
     name: &[u8],
     line: u32,
 ) -> Result<ListValues<'a>, McsFault>
-    ensures ok { IfOk result (λ values. on_found (with_name name.now) (scan line 0 (named_before name.now) false cursor.old.text)
-        ≡ on_found (with_operands (record { name = name.now; values = values } ∷ [])) (scan line 0 no_name false cursor.new.text)) }
-    ensures fault { IfErr result (IsRefusal Memory (λ fault. scan line 0 (named_before name.now) false cursor.old.text ≡ Err fault)) }
+    ensures ok { IfOk result (λ values.
+        on_found (with_name name.now) (scan line 0 (named_before name.now) false cursor.old.text)
+        ≡ on_found (with_operands (record { name = name.now; values = values } ∷ []))
+        (scan line 0 no_name false cursor.new.text)) }
+    ensures fault { IfErr result (IsRefusal Memory
+        (λ fault. scan line 0 (named_before name.now) false cursor.old.text ≡ Err fault)) }
     ensures after { IsAfter cursor.new cursor.old }
 {
     Ok(match take_list(cursor, scratch, name, line)? {
@@ -149,7 +157,8 @@ fn take_values<'a>(
 /// Passes the list that follows a name, gaps and comments aside, if one does.
 fn pass_list(cursor: &mut Cursor<'_>, name: &[u8], line: u32) -> Result<(), McsFault>
     ensures ok { OnOk result (PassesList line name.now cursor.old.text cursor.new.text) }
-    ensures fault { IfErr result (λ fault. scan line 0 (named_before name.now) false cursor.old.text ≡ Err fault) }
+    ensures fault { IfErr result (λ fault.
+        scan line 0 (named_before name.now) false cursor.old.text ≡ Err fault) }
     ensures after { IsAfter cursor.new cursor.old }
 {
     match skip_gap(cursor, line)? {
@@ -178,7 +187,8 @@ fn gather_operand<'a>(
     ensures ok { OnOk result (GathersOperand asked.entry line cursor.old.text
         (operand_texts scratch.old.operands.items) (operand_texts scratch.new.operands.items) cursor.new.text) }
     ensures shorter { OnOk result (length cursor.new.text < length cursor.old.text) }
-    ensures fault { IfErr result (IsRefusal Memory (λ fault. scan line 0 no_name false cursor.old.text ≡ Err fault)) }
+    ensures fault { IfErr result (IsRefusal Memory
+        (λ fault. scan line 0 no_name false cursor.old.text ≡ Err fault)) }
     ensures after { IsAfter cursor.new cursor.old }
 {
     let name = cursor.take_name();
@@ -198,8 +208,10 @@ pub(crate) fn gather_operands<'a>(
     asked: Asked<'_>,
     line: u32,
 ) -> Result<Operands<'a>, McsFault>
-    ensures ok { IfOk result (λ operands. HasOperands asked.entry line cursor.old.text operands cursor.new.text) }
-    ensures fault { IfErr result (IsRefusal Memory (λ fault. scan line 0 no_name false cursor.old.text ≡ Err fault)) }
+    ensures ok { IfOk result (λ operands.
+        HasOperands asked.entry line cursor.old.text operands cursor.new.text) }
+    ensures fault { IfErr result (IsRefusal Memory
+        (λ fault. scan line 0 no_name false cursor.old.text ≡ Err fault)) }
     ensures after { IsAfter cursor.new cursor.old }
 {
     scratch.operands.clear();

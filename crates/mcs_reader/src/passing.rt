@@ -14,7 +14,8 @@ pub(crate) fn pass_comment(cursor: &mut Cursor<'_>, line: u32) -> Result<(), Mcs
 
     ensures ok { OnOk result (after_comment (drop 2 cursor.old.text) ≡ Some cursor.new.text) }
     ensures shorter { OnOk result (length cursor.new.text < length cursor.old.text) }
-    ensures fault { IfErr result (λ fault. (fault ≡ Unbalanced line) × (after_comment (drop 2 cursor.old.text) ≡ None)) }
+    ensures fault { IfErr result (λ fault.
+        (fault ≡ Unbalanced line) × (after_comment (drop 2 cursor.old.text) ≡ None)) }
     ensures after { IsAfter cursor.new cursor.old }
 {
     cursor.advance();

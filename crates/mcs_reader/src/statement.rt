@@ -169,7 +169,8 @@ impl<'a> Operands<'a> {
 pub struct Statement<'a> {
     /// What the statement does.
     pub verb: Verb,
-    /// The one value of the list after the verb; none for `++VER`, whose list isn't used, and for `++IF`, which has none.
+    /// The one value of the list after the verb; none for `++VER`, whose list isn't used, and for `++IF`, which
+    /// has none.
     pub subject: Option<Id>,
     /// What stands after the verb's list, up to the period.
     pub operands: Operands<'a>,

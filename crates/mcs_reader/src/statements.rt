@@ -72,7 +72,8 @@ impl<'a> Statements<'a> {
         ensures fault { IfErr result (λ fault. IsFirstFault source.now fault) }
         ensures one_outcome { HasOneOutcome source.now }
         ensures outcome { IsRead source.now (reading_of source.now) }
-        ensures ok { IfOk result (λ statements. statements.reading ≡ reading_asking (bytes_of_each names.now) (reading_of source.now)) }
+        ensures ok { IfOk result (λ statements.
+            statements.reading ≡ reading_asking (bytes_of_each names.now) (reading_of source.now)) }
         ensures refusal { IfErr result (λ fault. reading_of source.now ≡ Err fault) }
     {
         Statements::begin(alloc, source, Asked::Named(names))
@@ -82,7 +83,8 @@ impl<'a> Statements<'a> {
         ensures fault { IfErr result (λ fault. IsFirstFault source.now fault) }
         ensures one_outcome { HasOneOutcome source.now }
         ensures outcome { IsRead source.now (reading_of source.now) }
-        ensures ok { IfOk result (λ statements. statements.reading ≡ reading_for asked.entry (reading_of source.now)) }
+        ensures ok { IfOk result (λ statements.
+            statements.reading ≡ reading_for asked.entry (reading_of source.now)) }
         ensures refusal { IfErr result (λ fault. reading_of source.now ≡ Err fault) }
     {
         if source.len() > MOST_BYTES {
@@ -160,7 +162,9 @@ fn read_statement<'a>(
     verb: Verb,
 ) -> Result<Statement<'a>, McsFault>
     ensures ok { IfOk result (λ statement.
-        States asked.entry (stated verb cursor.old.line (scan cursor.old.line 0 a_name false cursor.old.text)) statement cursor.new.text) }
+        States asked.entry
+        (stated verb cursor.old.line (scan cursor.old.line 0 a_name false cursor.old.text))
+        statement cursor.new.text) }
     ensures fault { IfErr result (IsRefusal Memory (λ fault.
         stated verb cursor.old.line (scan cursor.old.line 0 a_name false cursor.old.text) ≡ Err fault)) }
     ensures after { IsAfter cursor.new cursor.old }

@@ -39,13 +39,16 @@ pub fn read_front<R: Read>(
     reader: &mut R,
     retries: &mut u32,
 ) -> Result<Front, TransferFault>
-    ensures front { IfOk result (λ front. IfSome (prepend_known intake.old (R.remaining reader.old)) (λ bytes. front ≡ front_of head_limit bytes)) }
+    ensures front { IfOk result (λ front. IfSome (prepend_known intake.old (R.remaining reader.old))
+        (λ bytes. front ≡ front_of head_limit bytes)) }
     ensures came { IfOk result (λ front. front ≡ front_of head_limit intake.new) }
     ensures none_came { IfErr result (λ fault. IsAtHand (front_of head_limit intake.new) → ⊥) }
     ensures within { IfOk result (λ front. EndsWithin front intake.new) }
-    ensures at_hand { IsAtHand (front_of head_limit intake.old) → (intake.new ≡ intake.old) × (reader.new ≡ reader.old) }
+    ensures at_hand { IsAtHand (front_of head_limit intake.old) →
+        (intake.new ≡ intake.old) × (reader.new ≡ reader.old) }
     ensures no_further { (limit : ℕ) → 16384 ≤ limit → length intake.old ≤ limit → length intake.new ≤ limit }
-    ensures kept { Keeps (prepend_known intake.old (R.remaining reader.old)) (prepend_known intake.new (R.remaining reader.new)) }
+    ensures kept { Keeps (prepend_known intake.old (R.remaining reader.old))
+        (prepend_known intake.new (R.remaining reader.new)) }
     ensures given_up { IfErr result (λ fault. IsGivenUp fault retries.new) }
     ensures counted { retries.new ≤ retries.old }
 {
@@ -122,12 +125,14 @@ pub fn read_whole<R: Read>(
 ) -> Result<bool, TransferFault>
     ensures whole { IfOk result (λ whole. whole ≡ true → count ≤ length intake.new) }
     ensures end { IfOk result (λ whole. whole ≡ false → IsAtEnd (R.remaining reader.new)) }
-    ensures short { IfOk result (λ whole. whole ≡ false → (length intake.new < count) × IsAtEnd (R.remaining reader.new)) }
+    ensures short { IfOk result (λ whole. whole ≡ false →
+        (length intake.new < count) × IsAtEnd (R.remaining reader.new)) }
     ensures missing { IfErr result (λ fault. length intake.new < count) }
     ensures at_hand { count ≤ length intake.old → (intake.new ≡ intake.old) × (reader.new ≡ reader.old) }
     ensures no_further { length intake.old ≤ count → length intake.new ≤ count }
     ensures grown { take (length intake.old) intake.new ≡ intake.old }
-    ensures kept { Keeps (prepend_known intake.old (R.remaining reader.old)) (prepend_known intake.new (R.remaining reader.new)) }
+    ensures kept { Keeps (prepend_known intake.old (R.remaining reader.old))
+        (prepend_known intake.new (R.remaining reader.new)) }
     ensures given_up { IfErr result (λ fault. IsGivenUp fault retries.new) }
     ensures counted { retries.new ≤ retries.old }
 {

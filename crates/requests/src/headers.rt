@@ -11,7 +11,8 @@ use httparse::spans::HeaderSpan;
 // The value of the field with this name, where just one field has it.
 pub(crate) fn sole<'a>(bytes: &'a [u8], fields: &[HeaderSpan], name: &[u8]) -> Option<&'a [u8]>
     requires { AreWithin bytes.now fields.now }
-    ensures { option_map (λ value. value.now) result ≡ Spec.sole (Spec.values name.now (pairs_at bytes.now fields.now)) }
+    ensures { option_map (λ value. value.now) result
+        ≡ Spec.sole (Spec.values name.now (pairs_at bytes.now fields.now)) }
 {
     let mut found = None;
     for field in fields {

@@ -7,8 +7,8 @@
 //! - [`read_front`], [`Front`]: what the bytes of a connection begin with
 //! - [`decide`]: a whole [`Head`] and the length of its body, or why it is [`Refused`]
 //! - [`read_turn`], [`Turn`], [`Request`]: all of this together; [`one_reading`]: it can be read in one way only
-//! - [`Head`]: the token, the number and the [`Action`] that a request asks for, by its [`Routes`]; [`Resource`]: what a
-//!   path names
+//! - [`Head`]: the token, the number and the [`Action`] that a request asks for, by its [`Routes`]
+//! - [`Resource`]: what a path names
 //! - [`read_whole`]: so many bytes, or all that there are
 //! - [`Refusal`]: why a request isn't given to the bureau, with its [`Status`] and its text
 //! - [`ReplyHead`], [`head_text`]: the head of a reply

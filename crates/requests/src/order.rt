@@ -21,8 +21,8 @@ pub struct Refused {
 ///
 /// # Errors
 ///
-/// In this order: over 64 lines between the first and the blank one; no head of HTTP's grammar; a target that is no path; a body in
-/// chunks, without a length, with one that doesn't read, or one over the limit.
+/// In this order: over 64 lines between the first and the blank one; no head of HTTP's grammar; a target that is no
+/// path; a body in chunks, without a length, with one that doesn't read, or one over the limit.
 pub fn decide(bytes: &[u8]) -> Result<(Head, u64), Refused>
     ensures decided { IsDecided bytes.now (decision_of bytes.now result) }
     ensures within { IfOk result (λ ready. LiesIn bytes.now ready.0) }

@@ -95,7 +95,8 @@ fn are_ascii(text: &[u8]) -> bool
 // The length of a body by `content-length`.
 fn content_length(bytes: &[u8], fields: &[HeaderSpan], method: &[u8]) -> Result<u64, Refusal>
     requires { AreWithin bytes.now fields.now }
-    ensures length { result ≡ Spec.length_by method.now (values (codes "content-length") (pairs_at bytes.now fields.now)) }
+    ensures length { result
+        ≡ Spec.length_by method.now (values (codes "content-length") (pairs_at bytes.now fields.now)) }
     ensures bound { IfOk result (λ n. n ≤ 67108864) }
 {
     match sole(bytes, fields, b"content-length") {

@@ -126,11 +126,14 @@ pub fn read_turn<R: Read>(
     reader: &mut R,
     retries: &mut u32,
 ) -> Result<Turn, TransferFault>
-    ensures turn { IfOk result (λ turn. IfSome (prepend_known intake.old (R.remaining reader.old)) (IsReadAs IsNext intake.new (R.remaining reader.new) turn)) }
+    ensures turn { IfOk result (λ turn. IfSome (prepend_known intake.old (R.remaining reader.old))
+        (IsReadAs IsNext intake.new (R.remaining reader.new) turn)) }
     ensures unfinished { IfErr result (λ fault. IsUnfinished intake.new) }
     ensures within { IfOk result (λ turn. TurnLies turn intake.new) }
-    ensures at_hand { IfOk result (λ turn. IsTurnAtHand turn intake.old → (intake.new ≡ intake.old) × (reader.new ≡ reader.old)) }
-    ensures kept { Keeps (prepend_known intake.old (R.remaining reader.old)) (prepend_known intake.new (R.remaining reader.new)) }
+    ensures at_hand { IfOk result (λ turn. IsTurnAtHand turn intake.old →
+        (intake.new ≡ intake.old) × (reader.new ≡ reader.old)) }
+    ensures kept { Keeps (prepend_known intake.old (R.remaining reader.old))
+        (prepend_known intake.new (R.remaining reader.new)) }
     ensures given_up { IfErr result (λ fault. IsGivenUp fault retries.new) }
     ensures counted { retries.new ≤ retries.old }
 {
@@ -154,12 +157,15 @@ fn read_request<R: Read>(
 ) -> Result<Turn, TransferFault>
     requires within { head_len ≤ length intake.old }
     requires short { head_len ≤ 16384 }
-    ensures turn { IfOk result (λ turn. IfSome (prepend_known intake.old (R.remaining reader.old)) (IsReadAs (IsNextBy (front.Head head_len)) intake.new (R.remaining reader.new) turn)) }
+    ensures turn { IfOk result (λ turn. IfSome (prepend_known intake.old (R.remaining reader.old))
+        (IsReadAs (IsNextBy (front.Head head_len)) intake.new (R.remaining reader.new) turn)) }
     ensures unfinished { IfErr result (λ fault. IsNextBy (front.Head head_len) intake.new end_inside) }
     ensures grown { take (length intake.old) intake.new ≡ intake.old }
     ensures within { IfOk result (λ turn. TurnLies turn intake.new) }
-    ensures at_hand { IfOk result (λ turn. IsBodyAtHand turn intake.old → (intake.new ≡ intake.old) × (reader.new ≡ reader.old)) }
-    ensures kept { Keeps (prepend_known intake.old (R.remaining reader.old)) (prepend_known intake.new (R.remaining reader.new)) }
+    ensures at_hand { IfOk result (λ turn. IsBodyAtHand turn intake.old →
+        (intake.new ≡ intake.old) × (reader.new ≡ reader.old)) }
+    ensures kept { Keeps (prepend_known intake.old (R.remaining reader.old))
+        (prepend_known intake.new (R.remaining reader.new)) }
     ensures given_up { IfErr result (λ fault. IsGivenUp fault retries.new) }
     ensures counted { retries.new ≤ retries.old }
 {
@@ -190,11 +196,14 @@ fn read_body<R: Read>(
     requires path { Spec.is_path (parts_in intake.old request).target ≡ true }
     ensures turn { IfOk result (λ turn. IfSome (prepend_known intake.old (R.remaining reader.old))
         (IsReadAs (HasBody (parts_in intake.old request) request) intake.new (R.remaining reader.new) turn)) }
-    ensures unfinished { IfErr result (λ fault. HasBody (parts_in intake.old request) request intake.new end_inside) }
+    ensures unfinished { IfErr result (λ fault.
+        HasBody (parts_in intake.old request) request intake.new end_inside) }
     ensures grown { take (length intake.old) intake.new ≡ intake.old }
     ensures within { IfOk result (λ turn. TurnLies turn intake.new) }
-    ensures at_hand { IfOk result (λ turn. IsBodyAtHand turn intake.old → (intake.new ≡ intake.old) × (reader.new ≡ reader.old)) }
-    ensures kept { Keeps (prepend_known intake.old (R.remaining reader.old)) (prepend_known intake.new (R.remaining reader.new)) }
+    ensures at_hand { IfOk result (λ turn. IsBodyAtHand turn intake.old →
+        (intake.new ≡ intake.old) × (reader.new ≡ reader.old)) }
+    ensures kept { Keeps (prepend_known intake.old (R.remaining reader.old))
+        (prepend_known intake.new (R.remaining reader.new)) }
     ensures given_up { IfErr result (λ fault. IsGivenUp fault retries.new) }
     ensures counted { retries.new ≤ retries.old }
 {

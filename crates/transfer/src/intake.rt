@@ -109,7 +109,8 @@ impl Intake {
     ) -> Result<usize, TransferFault>
         requires { 0 < most }
         ensures bound { IfOk result (λ n. n ≤ most) }
-        ensures bytes { IfOk result (TakesIn self.old self.new (R.remaining reader.old) (R.remaining reader.new)) }
+        ensures bytes { IfOk result
+            (TakesIn self.old self.new (R.remaining reader.old) (R.remaining reader.new)) }
         ensures end { IfOk result (λ n. n ≡ 0 → IsAtEnd (R.remaining reader.new)) }
         ensures err { OnErr result (self.new ≡ self.old) }
         ensures unread { OnErr result (Keeps (R.remaining reader.old) (R.remaining reader.new)) }
@@ -136,7 +137,8 @@ fn read_into_room<R: Read>(
     ensures room { end ≤ length room.new.items }
     ensures bound { IfOk result (λ n. n ≤ most) }
     ensures fits { IfOk result (λ n. end + n ≤ length room.new.items) }
-    ensures bytes { IfOk result (λ n. Consumes (R.remaining reader.old) (R.remaining reader.new) (take n (drop end room.new.items))) }
+    ensures bytes { IfOk result (λ n.
+        Consumes (R.remaining reader.old) (R.remaining reader.new) (take n (drop end room.new.items))) }
     ensures end { IfOk result (λ n. n ≡ 0 → IsAtEnd (R.remaining reader.new)) }
     ensures err { OnErr result (Keeps (R.remaining reader.old) (R.remaining reader.new)) }
     ensures given_up { IfErr result (λ fault. IsGivenUp fault retries.new) }
@@ -172,7 +174,8 @@ fn read_at<R: Read>(
     requires within { until ≤ length room.old }
     ensures front { take at room.new ≡ take at room.old }
     ensures fits { IfOk result (λ n. at + n ≤ until) }
-    ensures bytes { IfOk result (λ n. Consumes (R.remaining reader.old) (R.remaining reader.new) (take n (drop at room.new))) }
+    ensures bytes { IfOk result (λ n.
+        Consumes (R.remaining reader.old) (R.remaining reader.new) (take n (drop at room.new))) }
     ensures end { IfOk result (λ n. n ≡ 0 → IsAtEnd (R.remaining reader.new)) }
     ensures err { OnErr result (Keeps (R.remaining reader.old) (R.remaining reader.new)) }
     ensures given_up { IfErr result (λ error. error_kind error ≡ ErrorKind.Interrupted → retries.new ≡ 0) }

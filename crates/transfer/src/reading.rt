@@ -25,10 +25,12 @@ pub fn read_source<R: Read>(
     limit: usize,
     retries: &mut u32,
 ) -> Result<Vec<u8>, TransferFault>
-    ensures bytes { IfOk result (λ source. Consumes (R.remaining reader.old) (R.remaining reader.new) source.items) }
+    ensures bytes { IfOk result (λ source.
+        Consumes (R.remaining reader.old) (R.remaining reader.new) source.items) }
     ensures within { IfOk result (λ source. length source.items ≤ limit) }
     ensures whole { IfOk result (λ source. length source.items < limit → IsAtEnd (R.remaining reader.new)) }
-    ensures front { IfOk result (λ source. IfSome (R.remaining reader.old) (λ input. source.items ≡ take limit input)) }
+    ensures front { IfOk result (λ source.
+        IfSome (R.remaining reader.old) (λ input. source.items ≡ take limit input)) }
     ensures err { OnErr result (ConsumesUpTo limit (R.remaining reader.old) (R.remaining reader.new)) }
     ensures given_up { IfErr result (λ fault. IsGivenUp fault retries.new) }
     ensures counted { retries.new ≤ retries.old }
@@ -50,7 +52,8 @@ pub fn read_source<R: Read>(
 /// The reader's own, and an interruption when no retry is left. Nothing was read then.
 pub fn read_some<R: Read>(reader: &mut R, buf: &mut [u8], retries: &mut u32) -> io::Result<usize>
     ensures bound { ReadsAtMost result buf.new }
-    ensures bytes { IfOk result (λ n. Consumes (R.remaining reader.old) (R.remaining reader.new) (take n buf.new)) }
+    ensures bytes { IfOk result (λ n.
+        Consumes (R.remaining reader.old) (R.remaining reader.new) (take n buf.new)) }
     ensures end { IfOk result (λ n. n ≡ 0 → 0 < length buf.old → IsAtEnd (R.remaining reader.new)) }
     ensures err { OnErr result (Keeps (R.remaining reader.old) (R.remaining reader.new)) }
     ensures given_up { IfErr result (λ error. error_kind error ≡ ErrorKind.Interrupted → retries.new ≡ 0) }

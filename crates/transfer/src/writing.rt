@@ -34,7 +34,8 @@ pub fn write_whole<W: Write>(writer: &mut W, text: &[u8], retries: &mut u32) -> 
 // One write that isn't interrupted. It fails where one fails in another way, or no retry is left.
 fn write_some<W: Write>(writer: &mut W, text: &[u8], retries: &mut u32) -> io::Result<usize>
     ensures bound { WritesAtMost result text.now }
-    ensures bytes { IfOk result (λ n. Appends (W.contents writer.old) (W.contents writer.new) (take n text.now)) }
+    ensures bytes { IfOk result (λ n.
+        Appends (W.contents writer.old) (W.contents writer.new) (take n text.now)) }
     ensures err { OnErr result (Keeps (W.contents writer.old) (W.contents writer.new)) }
     ensures given_up { IfErr result (λ error. error_kind error ≡ ErrorKind.Interrupted → retries.new ≡ 0) }
     ensures counted { retries.new ≤ retries.old }
