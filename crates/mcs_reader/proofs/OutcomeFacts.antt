@@ -1,5 +1,5 @@
 -- What the machine makes of a source is its one reading or its first fault.
-use Rattle.std.proofs.Common.{◌≡◌, ℕ, ◌+◌, ◌≤◌, ◌<◌, Bool, true, false, cond, nat_le, inl, inr, List, [], ◌∷◌, ◌++◌, length, Ok, Err, refl, sym, ◌∙◌, ap, subst, arith, append_assoc, append-nil}
+use Rattle.std.proofs.Common.{◌≡◌, ℕ, ◌+◌, ◌≤◌, ◌<◌, Bool, true, false, cond, nat_le, ◌⊎◌, inl, inr, List, [], ◌∷◌, ◌++◌, length, Ok, Err, refl, sym, ◌∙◌, ap, subst, arith, append_assoc, append-nil}
 use Rattle.std.proofs.lemmas.Bool.Decides.{nat_tests}
 use Rattle.mcs_reader.specs.Byte.{line_end}
 use Rattle.mcs_reader.specs.Line.{lines, text_of, text_of_lines, columns_1_to_72, line_ends}
@@ -69,50 +69,50 @@ pub read_text-stopped : (source : List ℕ) (fault : McsFault) → IsStoppedSour
 read_text-stopped source fault is =
     read-row_stopped is.row is.statement is.stop (text_of source) is.segments is.stopped is.whole ∙ ap (λ f. Err f) is.fault_is
 
--- and back
+-- and back: where a text ends in nothing it is read, and where a statement is stopped it is refused
 
-is_read : (source : List ℕ) (statements : List Statement) → length source ≤ most_bytes → (cut : Cut (text_of source)) → (ending : Ending) → cut.ending ≡ ending
-    → read_text (text_of source) ≡ Ok statements → IsReading source statements
-is_read source statements fits cut at_end e result =
+abbrev Decided : List ℕ → Type 0
+Decided source = ((statements : List Statement) × IsReading source statements) ⊎ ((fault : McsFault) × IsStoppedSource source fault)
+
+by_ending : (source : List ℕ) → length source ≤ most_bytes → (cut : Cut (text_of source)) → (ending : Ending) → cut.ending ≡ ending → Decided source
+by_ending source fits cut at_end e =
     let P : Ending → Type 0 = λ k. IsRow cut.row (spell_ending k) in
     let segments : IsRow cut.row [] = subst P e cut.segments in
     let whole : spell_row cut.row ≡ text_of source = sym (cut.whole ∙ ap (λ k. spell_row cut.row ++ spell_ending k) e ∙ append-nil (spell_row cut.row)) in
-    let same : ok_of (statements_of 1 cut.row) ≡ ok_of statements = sym (read-row_alone cut.row (text_of source) segments whole) ∙ result in
-    record { fits = fits; row = cut.row; segments = segments; whole = whole; read = cc }
-is_read source statements fits cut (stopped statement stop) e result =
-    let P : Ending → Type 0 = λ k. IsRow cut.row (spell_ending k) in
-    let Q : Ending → Type 0 = λ k. IsEnding k in
-    let whole : spell_row cut.row ++ (spell_statement statement ++ spell_stop stop) ≡ text_of source = sym (cut.whole ∙ ap (λ k. spell_row cut.row ++ spell_ending k) e) in
-    let no : err_of (fault_of stop (1 + line_ends (spell_row cut.row))) ≡ ok_of statements =
-    sym (read-row_stopped cut.row statement stop (text_of source) (subst P e cut.segments) (subst Q e cut.ends) whole) ∙ result in
-    absurd (cc)
-
-pub IsReading-from_read : (source : List ℕ) (statements : List Statement) → length source ≤ most_bytes → read_text (text_of source) ≡ Ok statements → IsReading source statements
-IsReading-from_read source statements fits result =
-    let cut = cut_all (length (text_of source)) (text_of source) (omega arith) (IsLines-text_of source) in
-    is_read source statements fits cut cut.ending refl result
-
-is_stopped : (source : List ℕ) (fault : McsFault) → length source ≤ most_bytes → (cut : Cut (text_of source)) → (ending : Ending) → cut.ending ≡ ending
-    → read_text (text_of source) ≡ Err fault → IsStoppedSource source fault
-is_stopped source fault fits cut at_end e result =
-    let P : Ending → Type 0 = λ k. IsRow cut.row (spell_ending k) in
-    let segments : IsRow cut.row [] = subst P e cut.segments in
-    let whole : spell_row cut.row ≡ text_of source = sym (cut.whole ∙ ap (λ k. spell_row cut.row ++ spell_ending k) e ∙ append-nil (spell_row cut.row)) in
-    let no : ok_of (statements_of 1 cut.row) ≡ err_of fault = sym (read-row_alone cut.row (text_of source) segments whole) ∙ result in
-    absurd (cc)
-is_stopped source fault fits cut (stopped statement stop) e result =
+    inl (statements_of 1 cut.row, record { fits = fits; row = cut.row; segments = segments; whole = whole; read = refl })
+by_ending source fits cut (stopped statement stop) e =
     let P : Ending → Type 0 = λ k. IsRow cut.row (spell_ending k) in
     let Q : Ending → Type 0 = λ k. IsEnding k in
     let segments : IsRow cut.row (spell_statement statement ++ spell_stop stop) = subst P e cut.segments in
     let stops : IsStopped statement stop = subst Q e cut.ends in
     let whole : spell_row cut.row ++ (spell_statement statement ++ spell_stop stop) ≡ text_of source = sym (cut.whole ∙ ap (λ k. spell_row cut.row ++ spell_ending k) e) in
-    let same : err_of (fault_of stop (1 + line_ends (spell_row cut.row))) ≡ err_of fault = sym (read-row_stopped cut.row statement stop (text_of source) segments stops whole) ∙ result in
-    record { fits = fits; row = cut.row; statement = statement; stop = stop; segments = segments; stopped = stops; whole = whole; fault_is = cc }
+    inr (fault_of stop (1 + line_ends (spell_row cut.row)),
+    record { fits = fits; row = cut.row; statement = statement; stop = stop; segments = segments; stopped = stops; whole = whole; fault_is = refl })
+
+decided : (source : List ℕ) → length source ≤ most_bytes → Decided source
+decided source fits =
+    let cut = cut_all (length (text_of source)) (text_of source) (omega arith) (IsLines-text_of source) in
+    by_ending source fits cut cut.ending refl
+
+pub IsReading-from_read : (source : List ℕ) (statements : List Statement) → length source ≤ most_bytes → read_text (text_of source) ≡ Ok statements → IsReading source statements
+IsReading-from_read source statements fits result = from (decided source fits) where
+  from : Decided source → IsReading source statements
+  from (inl found) =
+      let same : ok_of found.0 ≡ ok_of statements = sym (read_text-reading source found.0 found.1) ∙ result in
+      subst (IsReading source) (cc) found.1
+  from (inr found) =
+      let no : err_of found.0 ≡ ok_of statements = sym (read_text-stopped source found.0 found.1) ∙ result in
+      absurd (cc)
 
 pub IsStoppedSource-from_read : (source : List ℕ) (fault : McsFault) → length source ≤ most_bytes → read_text (text_of source) ≡ Err fault → IsStoppedSource source fault
-IsStoppedSource-from_read source fault fits result =
-    let cut = cut_all (length (text_of source)) (text_of source) (omega arith) (IsLines-text_of source) in
-    is_stopped source fault fits cut cut.ending refl result
+IsStoppedSource-from_read source fault fits result = from (decided source fits) where
+  from : Decided source → IsStoppedSource source fault
+  from (inl found) =
+      let no : ok_of found.0 ≡ err_of fault = sym (read_text-reading source found.0 found.1) ∙ result in
+      absurd (cc)
+  from (inr found) =
+      let same : err_of found.0 ≡ err_of fault = sym (read_text-stopped source found.0 found.1) ∙ result in
+      subst (IsStoppedSource source) (cc) found.1
 
 -- at most one outcome
 

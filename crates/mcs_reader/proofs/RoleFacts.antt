@@ -1,5 +1,5 @@
 -- What the role of a byte says of it.
-use Rattle.std.proofs.Common.{◌≡◌, ℕ, ◌==◌, ◌||◌, not, Bool, true, false, cond, List, [], ◌∷◌, refl, sym, ◌∙◌, arith}
+use Rattle.std.proofs.Common.{◌≡◌, ℕ, ◌==◌, ◌||◌, not, Bool, true, false, cond, List, [], ◌∷◌, refl, sym, ◌∙◌, subst, arith}
 use Rattle.std.proofs.lemmas.Bool.Decides.{nat_tests}
 use Rattle.mcs_reader.specs.Byte.{role_of, is_gap, is_name_byte, belongs_to_value}
 use Rattle.mcs_reader.specs.declared.byte.ByteRole.{ByteRole}
@@ -11,21 +11,30 @@ pub both : (x y : Bool) → cond x y false ≡ true → (x ≡ true) × (y ≡ t
 both true y h = (refl, h)
 both false y h = absurd (cc)
 
--- a choice between roles, seen from the role that it gave
-last_choice : (opens closes ends : Bool) → cond opens Open (cond closes Close (cond ends Period Other)) ≡ Name → ⊥
-last_choice true closes ends h = cc
-last_choice false true ends h = cc
-last_choice false false true h = cc
-last_choice false false false h = cc
+-- which test a byte of this role has passed, of those that are tried in turn
+abbrev Passed : (gap name opens closes ends : Bool) → ByteRole → Type 0
+Passed gap name opens closes ends Gap = gap ≡ true
+Passed gap name opens closes ends Comment = ⊥
+Passed gap name opens closes ends Name = name ≡ true
+Passed gap name opens closes ends Open = opens ≡ true
+Passed gap name opens closes ends Close = closes ≡ true
+Passed gap name opens closes ends Period = ends ≡ true
+Passed gap name opens closes ends Other = Unit {0}
 
-first_choices : (gap name opens closes ends : Bool) → cond gap Gap (cond name Name (cond opens Open (cond closes Close (cond ends Period Other)))) ≡ Name → name ≡ true
-first_choices true name opens closes ends h = absurd (cc)
-first_choices false true opens closes ends h = refl
-first_choices false false opens closes ends h = absurd (last_choice opens closes ends h)
+passed : (gap name opens closes ends : Bool) → Passed gap name opens closes ends (cond gap Gap (cond name Name (cond opens Open (cond closes Close (cond ends Period Other)))))
+passed true name opens closes ends = refl
+passed false true opens closes ends = refl
+passed false false true closes ends = refl
+passed false false false true ends = refl
+passed false false false false true = refl
+passed false false false false false = tt
+
+passed_by : (b : ℕ) (role : ByteRole) → role_of b ≡ role → Passed (is_gap b) (is_name_byte b) (b == 40) (b == 41) (b == 46) role
+unfolding role_of
+passed_by b role h = subst (Passed (is_gap b) (is_name_byte b) (b == 40) (b == 41) (b == 46)) h (passed (is_gap b) (is_name_byte b) (b == 40) (b == 41) (b == 46))
 
 pub role-is_name : (b : ℕ) → role_of b ≡ Name → is_name_byte b ≡ true
-unfolding role_of
-role-is_name b h = first_choices (is_gap b) (is_name_byte b) (b == 40) (b == 41) (b == 46) h
+role-is_name b h = passed_by b Name h
 
 pub name_is_no_gap : (b : ℕ) → is_name_byte b ≡ true → is_gap b ≡ false
 name_is_no_gap b h = grind (arith, nat_tests)
@@ -48,41 +57,14 @@ first_of_word test b (c ∷ w) h = (both (test b) (is_word test (c ∷ w)) h).0
 eqb_is : (b n : ℕ) → (b == n) ≡ true → b ≡ n
 eqb_is b n h = grind (arith, nat_tests)
 
-open_chosen : (gap name opens closes ends : Bool) → cond gap Gap (cond name Name (cond opens Open (cond closes Close (cond ends Period Other)))) ≡ Open → opens ≡ true
-open_chosen true name opens closes ends h = absurd (cc)
-open_chosen false true opens closes ends h = absurd (cc)
-open_chosen false false true closes ends h = refl
-open_chosen false false false true ends h = absurd (cc)
-open_chosen false false false false true h = absurd (cc)
-open_chosen false false false false false h = absurd (cc)
-
-close_chosen : (gap name opens closes ends : Bool) → cond gap Gap (cond name Name (cond opens Open (cond closes Close (cond ends Period Other)))) ≡ Close → closes ≡ true
-close_chosen true name opens closes ends h = absurd (cc)
-close_chosen false true opens closes ends h = absurd (cc)
-close_chosen false false true closes ends h = absurd (cc)
-close_chosen false false false true ends h = refl
-close_chosen false false false false true h = absurd (cc)
-close_chosen false false false false false h = absurd (cc)
-
-period_chosen : (gap name opens closes ends : Bool) → cond gap Gap (cond name Name (cond opens Open (cond closes Close (cond ends Period Other)))) ≡ Period → ends ≡ true
-period_chosen true name opens closes ends h = absurd (cc)
-period_chosen false true opens closes ends h = absurd (cc)
-period_chosen false false true closes ends h = absurd (cc)
-period_chosen false false false true ends h = absurd (cc)
-period_chosen false false false false true h = refl
-period_chosen false false false false false h = absurd (cc)
-
 pub role-is_open : (b : ℕ) → role_of b ≡ Open → b ≡ 40
-unfolding role_of
-role-is_open b h = eqb_is b 40 (open_chosen (is_gap b) (is_name_byte b) (b == 40) (b == 41) (b == 46) h)
+role-is_open b h = eqb_is b 40 (passed_by b Open h)
 
 pub role-is_close : (b : ℕ) → role_of b ≡ Close → b ≡ 41
-unfolding role_of
-role-is_close b h = eqb_is b 41 (close_chosen (is_gap b) (is_name_byte b) (b == 40) (b == 41) (b == 46) h)
+role-is_close b h = eqb_is b 41 (passed_by b Close h)
 
 pub role-is_period : (b : ℕ) → role_of b ≡ Period → b ≡ 46
-unfolding role_of
-role-is_period b h = eqb_is b 46 (period_chosen (is_gap b) (is_name_byte b) (b == 40) (b == 41) (b == 46) h)
+role-is_period b h = eqb_is b 46 (passed_by b Period h)
 
 pub role_of-41 : role_of 41 ≡ Close
 unfolding role_of
@@ -108,18 +90,9 @@ pub role_of-47 : role_of 47 ≡ Other
 unfolding role_of
 role_of-47 = refl
 
-no_comment_chosen : (gap name opens closes ends : Bool) → cond gap Gap (cond name Name (cond opens Open (cond closes Close (cond ends Period Other)))) ≡ Comment → ⊥
-no_comment_chosen true name opens closes ends h = cc
-no_comment_chosen false true opens closes ends h = cc
-no_comment_chosen false false true closes ends h = cc
-no_comment_chosen false false false true ends h = cc
-no_comment_chosen false false false false true h = cc
-no_comment_chosen false false false false false h = cc
-
 -- no byte alone begins a comment
 pub never_comment : (b : ℕ) → role_of b ≡ Comment → ⊥
-unfolding role_of
-never_comment b h = no_comment_chosen (is_gap b) (is_name_byte b) (b == 40) (b == 41) (b == 46) h
+never_comment b h = passed_by b Comment h
 
 belongs_by_tests : (gap name opens closes ends : Bool) → (name ≡ true → (opens ≡ false) × (closes ≡ false))
     → belongs_to_value (cond gap Gap (cond name Name (cond opens Open (cond closes Close (cond ends Period Other))))) ≡ not (gap || opens || closes)
