@@ -86,8 +86,10 @@ by_ending source fits cut (stopped statement stop) e =
     let segments : IsRow cut.row (spell_statement statement ++ spell_stop stop) = subst P e cut.segments in
     let stops : IsStopped statement stop = subst Q e cut.ends in
     let whole : spell_row cut.row ++ (spell_statement statement ++ spell_stop stop) ≡ text_of source = sym (cut.whole ∙ ap (λ k. spell_row cut.row ++ spell_ending k) e) in
-    inr (fault_of stop (1 + line_ends (spell_row cut.row)),
-    record { fits = fits; row = cut.row; statement = statement; stop = stop; segments = segments; stopped = stops; whole = whole; fault_is = refl })
+    inr (
+      fault_of stop (1 + line_ends (spell_row cut.row)),
+      record { fits = fits; row = cut.row; statement = statement; stop = stop; segments = segments; stopped = stops; whole = whole; fault_is = refl },
+    )
 
 decided : (source : List ℕ) → length source ≤ most_bytes → Decided source
 decided source fits =

@@ -5,6 +5,7 @@ use Rattle.mcs_reader.specs.Comment.{role_here}
 use Rattle.mcs_reader.specs.declared.byte.ByteRole.{ByteRole}
 use Rattle.mcs_reader.specs.declared.byte.ByteRole.TheVariants.{Gap, Comment, Name, Open, Close, Period, Other}
 use Rattle.mcs_reader.specs.declared.fault.McsFault.TheVariants.{NoPeriod, Unbalanced, BadByte}
+use Rattle.mcs_reader.specs.Lists.{OpensList, after_raw_list}
 use Rattle.mcs_reader.specs.Pieces.{Before, no_name, a_name, name_comment, named_before}
 use Rattle.mcs_reader.specs.Place.{role_at}
 use Rattle.mcs_reader.specs.Run.{run, after_run}
@@ -78,11 +79,10 @@ operand_found name list values r h is =
 
 -- places outside lists
 
-pub outside_open : (line : ℕ) (before : Before) (text : List ℕ) → before ≡ a_name → role_at text ≡ Some Open → scan line zero before false text ≡ scan line 1 no_name false (drop 1 text)
-outside_open line before text named h =
+values_opened : (line : ℕ) (text : List ℕ) → role_at text ≡ Some Open → scan line zero a_name false text ≡ scan line 1 no_name false (drop 1 text)
+values_opened line text h =
     let at = here text Open (sym h) in
-    ap (λ n. scan line zero n false text) named
-    ∙ ap (scan line zero a_name false) at.whole
+    ap (scan line zero a_name false) at.whole
     ∙ scan-open line a_name false at.byte at.rest at.role_is
     ∙ ap (λ t. scan line 1 no_name false (drop 1 t)) (sym at.whole)
 
@@ -91,39 +91,31 @@ outside_open line before text named h =
 open_byte : (b : ℕ) (text : List ℕ) → role_here b text ≡ Open → b ≡ 40
 open_byte b text is = role-is_open b (plain b text Open is (λ e. cc)).role_is
 
-pub outside_raw : (line : ℕ) (before : Before) (text rest : List ℕ) → before ≡ name_comment → role_at text ≡ Some Open → after_raw zero (drop 1 text) ≡ Ok rest
-    → scan line zero before false text ≡ on_found (with_list []) (scan line zero no_name false rest)
-outside_raw line before text rest named h after =
+raw_opened : (line : ℕ) (text : List ℕ) → role_at text ≡ Some Open → scan line zero name_comment false text ≡ after_raw_list line (after_raw zero (drop 1 text))
+raw_opened line text h =
     let at = here text Open (sym h) in
-    let after_is : after_raw zero at.rest ≡ Ok rest = ap (λ t. after_raw zero (drop 1 t)) (sym at.whole) ∙ after in
-    ap (λ n. scan line zero n false text) named
-    ∙ ap (scan line zero name_comment false) (at.whole ∙ ap (λ n. n ∷ at.rest) (open_byte at.byte at.rest at.role_is))
-    ∙ by_cut at.rest after_is (raw_cut 1 at.rest)
+    ap (scan line zero name_comment false) (at.whole ∙ ap (λ n. n ∷ at.rest) (open_byte at.byte at.rest at.role_is))
+    ∙ by_cut at.rest (raw_cut 1 at.rest)
+    ∙ ap (λ t. after_raw_list line (after_raw zero (drop 1 t))) (sym at.whole)
   where
-    by_cut : (more : List ℕ) → after_raw zero more ≡ Ok rest → RawAt 1 more → scan line zero name_comment false (40 ∷ more) ≡ on_found (with_list []) (scan line zero no_name false rest)
-    by_cut more is (inl c) =
-        let same : c.rest ≡ rest = let both = sym (after_raw-ends c.raw c.rest c.is) ∙ ap (after_raw zero) (sym c.whole) ∙ is in cc in
+    by_cut : (more : List ℕ) → RawAt 1 more → scan line zero name_comment false (40 ∷ more) ≡ after_raw_list line (after_raw zero more)
+    by_cut more (inl c) =
         ap (λ t. scan line zero name_comment false (40 ∷ t)) c.whole
         ∙ scan-raw_list line false c.raw c.rest c.is
-        ∙ ap (λ t. on_found (with_list []) (scan line zero no_name false t)) same
-    by_cut more is (inr u) = absurd (let never = sym (after_raw-open zero u.raw u.deeper u.is u.all).1 ∙ ap (after_raw zero) (sym u.whole) ∙ is in cc)
+        ∙ ap (after_raw_list line) (sym (ap (after_raw zero) c.whole ∙ after_raw-ends c.raw c.rest c.is))
+    by_cut more (inr u) =
+        ap (λ t. scan line zero name_comment false (40 ∷ t)) u.whole
+        ∙ scan-open_raw line false u.raw u.deeper u.is u.all
+        ∙ ap (after_raw_list line) (sym (ap (after_raw zero) u.whole ∙ (after_raw-open zero u.raw u.deeper u.is u.all).1))
 
-not_ok : (r : Result (List ℕ) ℕ) (rest : List ℕ) → IsErr r → r ≡ Ok rest → ⊥
-not_ok (Ok found) rest err e = cc
-not_ok (Err depth) rest err e = cc
+pub list_opened : (line : ℕ) (text at after : List ℕ) → ((before : Before) → scan line zero before false text ≡ scan line zero before false at) → role_at at ≡ Some Open → after ≡ drop 1 at
+    → OpensList line text after
+list_opened line text at after same h is =
+    subst (OpensList line text) (sym is) (record { of_name = same a_name ∙ values_opened line at h; of_comment = same name_comment ∙ raw_opened line at h })
 
-pub outside_open_raw : (line : ℕ) (before : Before) (text : List ℕ) → before ≡ name_comment → role_at text ≡ Some Open → IsErr (after_raw zero (drop 1 text))
-    → scan line zero before false text ≡ Err (Unbalanced line)
-outside_open_raw line before text named h never =
-    let at = here text Open (sym h) in
-    let P : List ℕ → Type 0 = λ t. IsErr (after_raw zero (drop 1 t)) in
-    ap (λ n. scan line zero n false text) named
-    ∙ ap (scan line zero name_comment false) (at.whole ∙ ap (λ n. n ∷ at.rest) (open_byte at.byte at.rest at.role_is))
-    ∙ by_cut at.rest (subst P at.whole never) (raw_cut 1 at.rest)
-  where
-    by_cut : (more : List ℕ) → IsErr (after_raw zero more) → RawAt 1 more → scan line zero name_comment false (40 ∷ more) ≡ Err (Unbalanced line)
-    by_cut more err (inl c) = absurd (not_ok (after_raw zero more) c.rest err (ap (after_raw zero) c.whole ∙ after_raw-ends c.raw c.rest c.is))
-    by_cut more err (inr u) = ap (λ t. scan line zero name_comment false (40 ∷ t)) u.whole ∙ scan-open_raw line false u.raw u.deeper u.is u.all
+pub raw_unclosed : (line : ℕ) (r : Result (List ℕ) ℕ) → IsErr r → after_raw_list line r ≡ Err (Unbalanced line)
+raw_unclosed line (Ok rest) err = absurd (cc)
+raw_unclosed line (Err depth) err = refl
 
 -- where no list follows a name, the name makes no difference
 

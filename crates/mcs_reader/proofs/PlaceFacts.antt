@@ -140,6 +140,11 @@ verb_at-line (b ∷ c ∷ line) text = by_test (begins_statement (b ∷ c ∷ li
       ∙ verb_with (verb_named (name_after line)) (text_after line) text
   by_test false = refl
 
+-- a verb that stands on the line of a place
+pub verb_at-place : (line : ℕ) (columns text : List ℕ) (place : Place) (found : Option (Verb × List ℕ)) → record { text = columns ++ line_end ∷ text; line = line } ≡ place → verb_at columns ≡ found
+    → verb_at place.text ≡ with_text_after text found
+verb_at-place line columns text place found at is = ap (λ (p : Place). verb_at p.text) (sym at) ∙ verb_at-line columns text ∙ ap (with_text_after text) is
+
 text_after-rest : (head : List ℕ) → (front : List ℕ) × (head ≡ front ++ text_after head)
 text_after-rest head =
     let more : List ℕ = after_run is_blank head in (

@@ -1,9 +1,20 @@
 -- No part of what is promised: private contracts cite it. How a list is read.
-use Rattle.std.specs.Prelude.{◌≡◌, ℕ, ◌+◌, ◌<◌, ◌≤◌, false, List, [], ◌∷◌, Option, length}
-use Rattle.mcs_reader.specs.Pieces.{no_name, a_name}
-use Rattle.mcs_reader.specs.Scan.{on_found, scan, with_list, with_list_after, with_values}
+use Rattle.std.specs.Prelude.{◌≡◌, ℕ, ◌+◌, ◌<◌, ◌≤◌, false, List, [], ◌∷◌, Option, Result, Ok, Err, length}
+use Rattle.mcs_reader.specs.Pieces.{no_name, a_name, name_comment}
+use Rattle.mcs_reader.specs.Scan.{Outcome, after_raw, on_found, scan, with_list, with_list_after, with_values}
 use Rattle.mcs_reader.specs.StatementText.{sole, subject_of}
+use Rattle.mcs_reader.specs.declared.fault.McsFault.TheVariants.{Unbalanced}
 use Rattle.mcs_reader.specs.declared.statement.Verb.{Verb}
+
+-- what is found after a list of COMMENT, if the list ends
+abbrev pub after_raw_list : ℕ → Result (List ℕ) ℕ → Outcome
+after_raw_list line (Ok rest) = on_found (with_list []) (scan line 0 no_name false rest)
+after_raw_list line (Err depth) = Err (Unbalanced line)
+
+-- `after` stands after the parenthesis that opens a list, be it a list of COMMENT or of another name
+pub record OpensList (line : ℕ) (text after : List ℕ) : Type 0 where
+  pub of_name : scan line 0 a_name false text ≡ scan line 1 no_name false after
+  pub of_comment : scan line 0 name_comment false text ≡ after_raw_list line (after_raw 0 after)
 
 -- the value stands in front of what is found after it, where at least one parenthesis is open
 pub record GivesValue (line depth : ℕ) (text value : List ℕ) (depth_after : ℕ) (after : List ℕ) : Type 0 where

@@ -230,7 +230,7 @@ fn split_verb(columns: &[u8]) -> Option<(Verb, &[u8])>
     }
     let (_, head) = columns.split_at(2);
     let (name, rest) = split_name(after_blanks(head));
-    match Verb::named(name) {
+    match Verb::by_name(name) {
         Some(verb) => Some((verb, rest)),
         None => None,
     }

@@ -1,7 +1,7 @@
 //! The operands of a statement: names, each with the list that may follow it.
-ghost use Rattle.std.specs.Prelude.{◌≡◌, ◌≢◌, ◌<◌, [], ◌∷◌, ℕ, List, false, Ok, Err, Some, None, IfOk, IfErr, OnOk, length, option_map};
+ghost use Rattle.std.specs.Prelude.{◌≡◌, ◌≢◌, ◌^◌, ◌<◌, [], ◌∷◌, ℕ, List, true, false, Ok, Err, Some, None, IfOk, IfErr, OnOk, length, option_map};
 ghost use Rattle.faults.specs.Refusal.{IsRefusal};
-ghost use Rattle.mcs_reader.specs.Lists.{HasSubject};
+ghost use Rattle.mcs_reader.specs.Lists.{HasSubject, OpensList};
 ghost use Rattle.mcs_reader.specs.Gathered.{GathersOperand, HasOperands, PassesList};
 ghost use Rattle.mcs_reader.specs.Operand.{operand_texts};
 ghost use Rattle.mcs_reader.specs.Pieces.{Before, a_name, named_before, is_comment_name, no_name};
@@ -48,6 +48,25 @@ fn skip_gap(cursor: &mut Cursor<'_>, line: u32) -> Result<ByteRole, McsFault>
     }
 }
 
+/// Passes the parenthesis that opens a list, gaps and comments aside, if one stands here.
+fn enter_list(cursor: &mut Cursor<'_>, line: u32) -> Result<bool, McsFault>
+    ensures list { IfOk result (λ opened. opened ≡ true → OpensList line cursor.old.text cursor.new.text) }
+    ensures none { IfOk result (λ opened. opened ≡ false → (before : Before) →
+        scan line 0 before false cursor.old.text ≡ scan line 0 no_name false cursor.new.text) }
+    ensures depth_headroom { IfOk result (λ opened. opened ≡ true → length cursor.new.text < 2 ^ 63) }
+    ensures fault { IfErr result (λ fault. (before : Before) →
+        scan line 0 before false cursor.old.text ≡ Err fault) }
+    ensures after { IsAfter cursor.new cursor.old }
+{
+    match skip_gap(cursor, line)? {
+        ByteRole::Open => {
+            cursor.advance();
+            Ok(true)
+        }
+        _ => Ok(false),
+    }
+}
+
 /// The list that follows a name, gaps and comments aside, if one does.
 fn take_list<'a>(
     cursor: &mut Cursor<'a>,
@@ -61,17 +80,14 @@ fn take_list<'a>(
         (λ fault. scan line 0 (named_before name.now) false cursor.old.text ≡ Err fault)) }
     ensures after { IsAfter cursor.new cursor.old }
 {
-    match skip_gap(cursor, line)? {
-        ByteRole::Open => {
-            cursor.advance();
-            if is_comment(name) {
-                pass_raw_list(cursor, line)?;
-                Ok(Some(ListValues::from_vec(Vec::new(*scratch.allocator()))))
-            } else {
-                Ok(Some(gather_values(cursor, scratch, line)?))
-            }
-        }
-        _ => Ok(None),
+    if !enter_list(cursor, line)? {
+        return Ok(None);
+    }
+    if is_comment(name) {
+        pass_raw_list(cursor, line)?;
+        Ok(Some(ListValues::from_vec(Vec::new(*scratch.allocator()))))
+    } else {
+        Ok(Some(gather_values(cursor, scratch, line)?))
     }
 }
 
@@ -93,13 +109,11 @@ pub(crate) fn pass_subject(
     ensures fault { IfErr result (λ fault. scan line 0 a_name false cursor.old.text ≡ Err fault) }
     ensures after { IsAfter cursor.new cursor.old }
 {
-    match skip_gap(cursor, line)? {
-        ByteRole::Open => {
-            cursor.advance();
-            let value = take_sole_value(cursor, line)?;
-            Ok(subject_by(verb, value))
-        }
-        _ => Ok(subject_alone(verb)),
+    if enter_list(cursor, line)? {
+        let value = take_sole_value(cursor, line)?;
+        Ok(subject_by(verb, value))
+    } else {
+        Ok(subject_alone(verb))
     }
 }
 
@@ -161,18 +175,15 @@ fn pass_list(cursor: &mut Cursor<'_>, name: &[u8], line: u32) -> Result<(), McsF
         scan line 0 (named_before name.now) false cursor.old.text ≡ Err fault) }
     ensures after { IsAfter cursor.new cursor.old }
 {
-    match skip_gap(cursor, line)? {
-        ByteRole::Open => {
-            cursor.advance();
-            if is_comment(name) {
-                pass_raw_list(cursor, line)?;
-            } else {
-                take_sole_value(cursor, line)?;
-            }
-            Ok(())
-        }
-        _ => Ok(()),
+    if !enter_list(cursor, line)? {
+        return Ok(());
     }
+    if is_comment(name) {
+        pass_raw_list(cursor, line)?;
+    } else {
+        take_sole_value(cursor, line)?;
+    }
+    Ok(())
 }
 
 /// The operand whose name begins here: it is gathered if it is asked for, and passed over if not.

@@ -32,7 +32,7 @@ impl Verb {
 
     /// The verb of this name, without regard to ASCII case.
     #[tactic(auto, unfolding(crate::specs::Verb::verb_named))]
-    pub(crate) fn named(name: &[u8]) -> Option<Verb>
+    pub(crate) fn by_name(name: &[u8]) -> Option<Verb>
         ensures { result ≡ verb_named name.now }
     {
         if name.eq_ignore_ascii_case(b"HOLD") {
