@@ -9,7 +9,7 @@ use Rattle.mcs_reader.specs.Lists.{OpensList, after_raw_list}
 use Rattle.mcs_reader.specs.Pieces.{Before, no_name, a_name, name_comment, named_before}
 use Rattle.mcs_reader.specs.Place.{role_at}
 use Rattle.mcs_reader.specs.Run.{run, after_run}
-use Rattle.mcs_reader.specs.Scan.{pass, scan, Found, Outcome, on_found, with_name, with_list, with_list_after, with_operands, stray, after_comment, after_raw, past}
+use Rattle.mcs_reader.specs.Scan.{pass, scan, Found, Outcome, on_found, with_name, with_list_after, with_operands, stray, after_comment, after_raw, past}
 use Rattle.mcs_reader.proofs.RoleFacts.{role-is_name, role-is_open}
 use Rattle.mcs_reader.proofs.CommentFacts.{plain}
 use Rattle.mcs_reader.proofs.RawFacts.{RawAt, raw_cut, after_raw-ends, after_raw-open}

@@ -4,7 +4,7 @@ pub mod Bytes
 pub mod Category
 pub mod Comment
 pub mod Gathered
-pub mod Held
+pub mod OneOrMany
 pub mod Id
 pub mod Line
 pub mod Lists

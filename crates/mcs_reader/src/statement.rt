@@ -61,23 +61,23 @@ impl Verb {
 /// takes no memory.
 #[derive(Debug, Drop)]
 pub struct ListValues<'a> {
-    held: Held<'a>,
+    items: OneOrMany<'a>,
 }
 
 // Most lists have one value.
 #[derive(Debug, Drop)]
-enum Held<'a> {
+enum OneOrMany<'a> {
     One(&'a [u8]),
-    Any(Vec<&'a [u8]>),
+    Many(Vec<&'a [u8]>),
 }
 
 impl<'a> Model for ListValues<'a> {
     ghost use Rattle.std.specs.Prelude.{ℕ, List};
-    ghost use Rattle.mcs_reader.specs.Held.{bytes_held};
+    ghost use Rattle.mcs_reader.specs.OneOrMany.{bytes_in};
 
     ghost Value = { List (List ℕ) };
 
-    ghost view = { λ v. bytes_held v.held };
+    ghost view = { λ v. bytes_in v.items };
 }
 
 impl<'a> ListValues<'a> {
@@ -86,7 +86,7 @@ impl<'a> ListValues<'a> {
         ensures { result ≡ bytes_of_each items.entry.items }
     {
         ListValues {
-            held: Held::Any(items),
+            items: OneOrMany::Many(items),
         }
     }
 
@@ -96,7 +96,7 @@ impl<'a> ListValues<'a> {
     {
         if let [value] = scratch.as_slice() {
             return Ok(ListValues {
-                held: Held::One(value),
+                items: OneOrMany::One(value),
             });
         }
         Ok(ListValues::from_vec(take_gathered(scratch)?))
@@ -106,9 +106,9 @@ impl<'a> ListValues<'a> {
     pub fn as_slice(&self) -> &[&'a [u8]]
         ensures { bytes_of_each result.now ≡ self.now }
     {
-        match &self.held {
-            Held::One(value) => slice::from_ref(value),
-            Held::Any(items) => items.as_slice(),
+        match &self.items {
+            OneOrMany::One(value) => slice::from_ref(value),
+            OneOrMany::Many(items) => items.as_slice(),
         }
     }
 }
