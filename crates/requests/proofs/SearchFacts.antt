@@ -79,3 +79,9 @@ pub resume : (bytes : List ℕ) (seen : ℕ) (start place : Place) → seen ≤ 
 resume bytes seen start place fits none =
     ap (search start) (sym (take-append-drop seen bytes)) ∙ search_append start (take seen bytes) (drop seen bytes)
     ∙ after_first _ _ place _ none ∙ ap (λ n. further n (search place (drop seen bytes))) (length-take-le seen bytes fits)
+
+-- what is found in the bytes after those that were seen is found in all
+pub resume_found : (bytes fresh : List ℕ) (seen : ℕ) (start place : Place) (found : Result ℕ Place) → seen ≤ length bytes → search start (take seen bytes) ≡ Err place
+    → fresh ≡ drop seen bytes → search place fresh ≡ found → further seen found ≡ search start bytes
+resume_found bytes fresh seen start place found fits none is e =
+    sym (resume bytes seen start place fits none ∙ ap (λ rest. further seen (search place rest)) (sym is) ∙ ap (further seen) e)

@@ -66,7 +66,7 @@ impl Head {
         ensures refused { IfErr result IsOfTarget }
     {
         let (path, _) = cut(self.target.of(bytes), b'?');
-        asked(routes, self.method.of(bytes), ascii_str(path))
+        action_by(routes, self.method.of(bytes), ascii_str(path))
     }
 }
 
@@ -146,7 +146,7 @@ fn change_number(text: &[u8]) -> Option<u64>
 }
 
 // What a method asks for at a path.
-fn asked(routes: &Routes, method: &[u8], path: &str) -> Result<Action, Refusal>
+fn action_by(routes: &Routes, method: &[u8], path: &str) -> Result<Action, Refusal>
     ensures action { result ≡ Spec.asked method.now path.now }
     ensures refused { IfErr result IsOfTarget }
 {

@@ -109,8 +109,8 @@ impl Request {
         requires { IsAt intake.old self.now }
         ensures { intake.new ≡ drop (request_len self.now) intake.old }
     {
-        let held = intake.len();
-        prove!(self.body_len <= held - self.head_len);
+        let len = intake.len();
+        prove!(self.body_len <= len - self.head_len);
         intake.take_off(self.head_len + self.body_len);
     }
 }
