@@ -14,7 +14,7 @@ ghost use Rattle.holddata.specs.declared.fault.HoldFault.TheVariants.{Memory};
 ghost use Rattle.mcs_reader.specs.declared.statement.Statement.{Statement};
 ghost use Rattle.faults.specs.Refusal.{IsRefusal};
 
-use crate::map::{HoldMap, copied, hold_at, holds_around, make_change};
+use crate::map::{HoldMap, copy_holds, hold_at, holds_around, make_change};
 use crate::place::place_of;
 use crate::print::{hold_table, push_hold};
 use crate::{BookPlace, Hold, HoldChange, HoldFault, HoldKey, NoMemory, change};
@@ -113,7 +113,7 @@ impl HoldBook {
     {
         Ok(HoldBook {
             alloc: self.alloc,
-            holds: copied(&self.holds)?,
+            holds: copy_holds(&self.holds)?,
         })
     }
 

@@ -18,7 +18,7 @@ use std::collections::btree_map::Range;
 pub(crate) type HoldMap = BTreeMap<BookPlace, Hold>;
 
 /// The same map once more.
-pub(crate) fn copied(holds: &HoldMap) -> Result<HoldMap, NoMemory>
+pub(crate) fn copy_holds(holds: &HoldMap) -> Result<HoldMap, NoMemory>
     ensures { IfOk result (λ copy. copy.entries ≡ holds.now.entries) }
 {
     holds.clone()

@@ -89,13 +89,13 @@ fn with_named<'a>(given: Given<&'a [u8]>, operand: &Operand<'a>, name: &[u8]) ->
         Shows result (seen ++ named_values name.now (operand_text operand.now)) }
 {
     if is_named(operand.name, name) {
-        joined(given, operand.values.as_slice())
+        with_values(given, operand.values.as_slice())
     } else {
         given
     }
 }
 
-fn joined<'a>(given: Given<&'a [u8]>, values: &[&'a [u8]]) -> Given<&'a [u8]>
+fn with_values<'a>(given: Given<&'a [u8]>, values: &[&'a [u8]]) -> Given<&'a [u8]>
     ensures { (seen : List (List ℕ)) → Shows given.entry seen →
         Shows result (seen ++ bytes_of_each values.now) }
 {

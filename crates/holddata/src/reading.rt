@@ -59,7 +59,7 @@ pub fn change(alloc: Global, statement: &Statement) -> Result<Option<HoldChange>
 {
     match statement.verb {
         Verb::Hold => Ok(Some(HoldChange::Put(hold_by(alloc, statement)?))),
-        Verb::Release => Ok(Some(HoldChange::Release(released_by(statement)?))),
+        Verb::Release => Ok(Some(HoldChange::Release(key_of_release(statement)?))),
         Verb::Func | Verb::Ptf | Verb::Apar | Verb::Usermod | Verb::Ver | Verb::Cond => Ok(None),
     }
 }
@@ -95,7 +95,7 @@ fn hold_by(alloc: Global, statement: &Statement) -> Result<Hold, HoldFault>
 // The key of the hold that a `++RELEASE` statement takes away. The FMID plays no role in that, but has to be
 // an id where it is given.
 #[tactic(auto, using(crate::proofs::StatementFacts::first_of_longer))]
-fn released_by(statement: &Statement) -> Result<HoldKey, HoldFault>
+fn key_of_release(statement: &Statement) -> Result<HoldKey, HoldFault>
     requires { statement.now.verb ≡ verb.Release }
     ensures key { IfOk result (λ key. key_named statement.now ≡ Some key) }
     ensures no_fault { OnOk result (faults_of statement.now ≡ []) }
