@@ -75,7 +75,14 @@ impl Fault for CatFault {
 
     ghost cause = { cat_fault_cause };
 
-    ghost numbers = { elim [ VerOutside _ ↦ Prim.search rules | BadId _ ↦ Prim.search rules | IfOutside _ ↦ Prim.search rules | IfFmid _ ↦ Prim.search rules | Held fault ↦ numbers_of_holds fault | Memory ↦ Prim.search rules ] };
+    ghost numbers = { elim [
+      | VerOutside _ ↦ Prim.search rules
+      | BadId _ ↦ Prim.search rules
+      | IfOutside _ ↦ Prim.search rules
+      | IfFmid _ ↦ Prim.search rules
+      | Held fault ↦ numbers_of_holds fault
+      | Memory ↦ Prim.search rules
+    ] };
 
     fn number(self) -> u8 {
         self.number()

@@ -53,7 +53,8 @@ impl Open {
     pub(crate) fn with(self, ver: &Statement) -> Result<Self, CatFault>
         ensures read { IfOk result (λ now. sysmod_opened now ≡ with_ver ver.now (sysmod_opened self)) }
         ensures no_fault { OnOk result (has_bad_id ver.now ≡ false) }
-        ensures fault { IfErr result (IsRefusal Memory (λ fault. (fault ≡ BadId ver.now.line) × (has_bad_id ver.now ≡ true))) }
+        ensures fault { IfErr result (IsRefusal Memory
+            (λ fault. (fault ≡ BadId ver.now.line) × (has_bad_id ver.now ≡ true))) }
     {
         let line = ver.line;
         let Open {
@@ -87,7 +88,8 @@ impl Open {
     pub(crate) fn under(self, alloc: Global, condition: &Statement) -> Result<Self, CatFault>
         ensures read { IfOk result (λ now. sysmod_opened now ≡ with_if condition.now (sysmod_opened self)) }
         ensures no_fault { OnOk result (if_faults condition.now ≡ []) }
-        ensures fault { IfErr result (IsRefusal Memory (λ fault. first_of (if_faults condition.now) ≡ Some fault)) }
+        ensures fault { IfErr result (IsRefusal Memory
+            (λ fault. first_of (if_faults condition.now) ≡ Some fault)) }
     {
         let line = condition.line;
         let operands = condition.operands.as_slice();
@@ -131,8 +133,10 @@ fn ids_named(
     operands: &[Operand],
     name: &[u8],
 ) -> Result<Vec<Id>, CatFault>
-    ensures ids { IfOk result (λ ids. ids.items ≡ in_order (filter_map id_of (values_of name.now (operand_texts operands.now)))) }
-    ensures no_fault { OnOk result (list_any is_no_id (values_of name.now (operand_texts operands.now)) ≡ false) }
+    ensures ids { IfOk result (λ ids. ids.items
+        ≡ in_order (filter_map id_of (values_of name.now (operand_texts operands.now)))) }
+    ensures no_fault { OnOk result
+        (list_any is_no_id (values_of name.now (operand_texts operands.now)) ≡ false) }
     ensures fault { IfErr result (IsRefusal Memory (λ fault. (fault ≡ BadId line)
         × (list_any is_no_id (values_of name.now (operand_texts operands.now)) ≡ true))) }
 {
@@ -160,8 +164,10 @@ fn put_operand(
     operand: &Operand,
     name: &[u8],
 ) -> Result<(), CatFault>
-    ensures ids { OnOk result (ids.new.keys ≡ put_among ids.old.keys (filter_map id_of (named_values name.now (operand_text operand.now)))) }
-    ensures no_fault { OnOk result (list_any is_no_id (named_values name.now (operand_text operand.now)) ≡ false) }
+    ensures ids { OnOk result (ids.new.keys
+        ≡ put_among ids.old.keys (filter_map id_of (named_values name.now (operand_text operand.now)))) }
+    ensures no_fault { OnOk result
+        (list_any is_no_id (named_values name.now (operand_text operand.now)) ≡ false) }
     ensures fault { IfErr result (IsRefusal Memory (λ fault. (fault ≡ BadId line)
         × (list_any is_no_id (named_values name.now (operand_text operand.now)) ≡ true))) }
 {
@@ -173,7 +179,8 @@ fn put_operand(
 
 // Puts the ids of values among the others.
 fn put_values(ids: &mut BTreeSet<Id>, line: u32, values: &[&[u8]]) -> Result<(), CatFault>
-    ensures ids { OnOk result (ids.new.keys ≡ put_among ids.old.keys (filter_map id_of (bytes_of_each values.now))) }
+    ensures ids { OnOk result (ids.new.keys
+        ≡ put_among ids.old.keys (filter_map id_of (bytes_of_each values.now))) }
     ensures no_fault { OnOk result (list_any is_no_id (bytes_of_each values.now) ≡ false) }
     ensures fault { IfErr result (IsRefusal Memory (λ fault. (fault ≡ BadId line)
         × (list_any is_no_id (bytes_of_each values.now) ≡ true))) }

@@ -5,7 +5,8 @@
 //! - [`ListPublished`]: the content in lists
 //! - [`Sysmod`], [`SysmodKind`], [`Ids`], [`CondNeeds`]: a record of the catalogue and its parts
 //! - [`Change`]: a record that is put or a change to the holds; a list of them is a publication
-//! - [`read_changes`]: the changes that statements make, or their [`CatFault`]; [`ChangeReader`]: one statement at a time
+//! - [`read_changes`]: the changes that statements make, or their [`CatFault`]; [`ChangeReader`]: one statement at a
+//!   time
 //! - [`publication_operands`]: the operands that are read, for those who ask for these alone
 //! - [`touched`]: the ids that a publication touches
 //! - [`NoMemory`]: memory ran out

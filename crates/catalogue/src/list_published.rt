@@ -198,7 +198,8 @@ fn catalogue_after(
 ) -> Result<BTreeMap<Id, Sysmod>, NoMemory>
     requires ordered { IsOrdered id_cmp old.now }
     requires keyed { IsKeyed old.now.entries }
-    ensures records { IfOk result (λ new. values new ≡ catalogue_of (values old.now ++ records_in changes.now)) }
+    ensures records { IfOk result (λ new. values new
+        ≡ catalogue_of (values old.now ++ records_in changes.now)) }
     ensures ordered { IfOk result (λ new. IsOrdered id_cmp new) }
     ensures keyed { IfOk result (λ new. IsKeyed new.entries) }
 {
@@ -221,7 +222,8 @@ fn copied(sysmods: &BTreeMap<Id, Sysmod>) -> Result<BTreeMap<Id, Sysmod>, NoMemo
 fn put(sysmods: &mut BTreeMap<Id, Sysmod>, sysmod: Sysmod) -> Result<(), NoMemory>
     requires { IsKeyed sysmods.old.entries }
     ensures found { OnOk result ((id : List ℕ) →
-        find (is_of id) (values sysmods.new) ≡ (if same_id sysmod.id id then Some sysmod else find (is_of id) (values sysmods.old))) }
+        find (is_of id) (values sysmods.new)
+        ≡ (if same_id sysmod.id id then Some sysmod else find (is_of id) (values sysmods.old))) }
     ensures ordered { IsOrdered id_cmp sysmods.new }
     ensures keyed { OnOk result (IsKeyed sysmods.new.entries) }
 {

@@ -23,7 +23,8 @@ pub trait Published {
     ///
     /// # Errors
     ///
-    /// `Memory` where memory ran out; `Device` where what lies below has failed, now or before, or tells rows out of order.
+    /// `Memory` where memory ran out; `Device` where what lies below has failed, now or before, or tells rows out of
+    /// order.
     fn ids(&mut self) -> Result<Vec<Id>, SourceFault>
         ensures asks { Asks content_view Device self.old self.new result }
         ensures ids { IfOk result (λ ids. Tells content_view self.old self.new
@@ -66,5 +67,6 @@ pub trait Published {
     ghost lawful: { IsLawful content_view };
 
     /// In a source that this product made, what is published is in order.
-    ghost in_order: { (source : Self) (content : Content) → content_view.is_ours source → IsOpen content_view source → content_view.stands source content → IsInOrder content };
+    ghost in_order: { (source : Self) (content : Content) → content_view.is_ours source →
+        IsOpen content_view source → content_view.stands source content → IsInOrder content };
 }

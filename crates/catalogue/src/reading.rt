@@ -52,7 +52,11 @@ impl Model for ChangeReader {
 
     ghost Value = { Begun };
 
-    ghost view = { λ reader. record { before = reader.before.items; open_record = record_opened reader.header; after = reader.after.items } };
+    ghost view = { λ reader. record {
+      before = reader.before.items;
+      open_record = record_opened reader.header;
+      after = reader.after.items;
+    } };
 }
 
 impl ChangeReader {
@@ -76,7 +80,8 @@ impl ChangeReader {
     pub fn take(self, statement: &Statement) -> Result<Self, CatFault>
         ensures read { IfOk result (λ now. now ≡ with_statement self statement.now) }
         ensures no_fault { OnOk result (faults_of (is_some self.open_record) statement.now ≡ []) }
-        ensures fault { IfErr result (IsRefusal Memory (λ fault. first_of (faults_of (is_some self.open_record) statement.now) ≡ Some fault)) }
+        ensures fault { IfErr result (IsRefusal Memory
+            (λ fault. first_of (faults_of (is_some self.open_record) statement.now) ≡ Some fault)) }
     {
         match statement.verb {
             Verb::Func => self.begin(SysmodKind::Func, statement),
@@ -108,8 +113,10 @@ impl ChangeReader {
     // A header ends what was read so far.
     fn begin(self, kind: SysmodKind, statement: &Statement) -> Result<Self, CatFault>
         ensures read { IfOk result (λ now. now ≡ with_part (Header kind) statement.now self) }
-        ensures no_fault { OnOk result (faults_by (Header kind) (is_some self.open_record) statement.now ≡ []) }
-        ensures fault { IfErr result (IsRefusal Memory (λ fault. first_of (faults_by (Header kind) (is_some self.open_record) statement.now) ≡ Some fault)) }
+        ensures no_fault { OnOk result
+            (faults_by (Header kind) (is_some self.open_record) statement.now ≡ []) }
+        ensures fault { IfErr result (IsRefusal Memory (λ fault.
+            first_of (faults_by (Header kind) (is_some self.open_record) statement.now) ≡ Some fault)) }
     {
         let Some(id) = statement.subject else {
             return Err(CatFault::BadId(statement.line));
@@ -127,7 +134,8 @@ impl ChangeReader {
     fn join(self, ver: &Statement) -> Result<Self, CatFault>
         ensures read { IfOk result (λ now. now ≡ with_part More ver.now self) }
         ensures no_fault { OnOk result (faults_by More (is_some self.open_record) ver.now ≡ []) }
-        ensures fault { IfErr result (IsRefusal Memory (λ fault. first_of (faults_by More (is_some self.open_record) ver.now) ≡ Some fault)) }
+        ensures fault { IfErr result (IsRefusal Memory
+            (λ fault. first_of (faults_by More (is_some self.open_record) ver.now) ≡ Some fault)) }
     {
         let ChangeReader {
             alloc,
@@ -150,7 +158,8 @@ impl ChangeReader {
     fn require(self, condition: &Statement) -> Result<Self, CatFault>
         ensures read { IfOk result (λ now. now ≡ with_part OnCondition condition.now self) }
         ensures no_fault { OnOk result (faults_by OnCondition (is_some self.open_record) condition.now ≡ []) }
-        ensures fault { IfErr result (IsRefusal Memory (λ fault. first_of (faults_by OnCondition (is_some self.open_record) condition.now) ≡ Some fault)) }
+        ensures fault { IfErr result (IsRefusal Memory (λ fault.
+            first_of (faults_by OnCondition (is_some self.open_record) condition.now) ≡ Some fault)) }
     {
         let ChangeReader {
             alloc,
@@ -173,7 +182,8 @@ impl ChangeReader {
     fn hold(self, statement: &Statement) -> Result<Self, CatFault>
         ensures read { IfOk result (λ now. now ≡ with_part OnHold statement.now self) }
         ensures no_fault { OnOk result (faults_by OnHold (is_some self.open_record) statement.now ≡ []) }
-        ensures fault { IfErr result (IsRefusal Memory (λ fault. first_of (faults_by OnHold (is_some self.open_record) statement.now) ≡ Some fault)) }
+        ensures fault { IfErr result (IsRefusal Memory
+            (λ fault. first_of (faults_by OnHold (is_some self.open_record) statement.now) ≡ Some fault)) }
     {
         let mut after = self.after;
         if let Some(change) = holddata::change(self.alloc, statement)? {

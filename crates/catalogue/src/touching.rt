@@ -102,7 +102,8 @@ fn touch_all(ids: &mut BTreeSet<Id>, more: &[Id]) -> Result<(), NoMemory>
 
 // Puts the SYSMOD of an ERROR hold among the ids.
 fn touch_held(ids: &mut BTreeSet<Id>, change: &HoldChange) -> Result<(), NoMemory>
-    ensures { OnOk result (ids.new.keys ≡ put_among ids.old.keys (touched_by_key (key_of change.now).kind (key_of change.now))) }
+    ensures { OnOk result (ids.new.keys
+        ≡ put_among ids.old.keys (touched_by_key (key_of change.now).kind (key_of change.now))) }
 {
     let key = match change {
         HoldChange::Put(hold) => hold.key,

@@ -1,9 +1,10 @@
 -- What statements do to the holds is the same where no other operands are read than those that are asked for.
-use Rattle.std.proofs.Common.{◌≡◌, ℕ, Bool, true, false, ◌||◌, ◌&&◌, ◌++◌, cond, List, [], ◌∷◌, map, codes, refl, sym, ◌∙◌, ap, Option, None, filter, option_and_then}
+use Rattle.std.proofs.Common.{◌≡◌, ℕ, Bool, true, false, ◌||◌, ◌++◌, cond, List, [], ◌∷◌, map, codes, refl, sym, ◌∙◌, ap, Option, None, filter, option_and_then}
 use Rattle.std.specs.Prelude.{not, is_none}
 use Rattle.std.specs.Option.{option_map}
 use Rattle.std.specs.List.{cons_option, flat_map, list_all, list_any}
 use Rattle.std.specs.Str.{bytes_eq, str_eq_ignore_ascii_case}
+use Rattle.std.proofs.lemmas.Bool.{and_parts, or_parts}
 use Rattle.std.proofs.lemmas.Slice.Eq.{bytes_eq-Decides}
 use Rattle.mcs_reader.specs.Asking.{asking, is_asked}
 use Rattle.mcs_reader.specs.Category.{is_category}
@@ -25,14 +26,6 @@ use Rattle.holddata.specs.Statements.{change_by, change_of, changes_of, fault_if
 
 -- ---- names
 
-neither : (a b : Bool) → (a || b) ≡ false → (a ≡ false) × (b ≡ false)
-neither true b h = absurd (cc h)
-neither false b h = (refl, h)
-
-both : (a b : Bool) → (a && b) ≡ true → (a ≡ true) × (b ≡ true)
-both true b h = (refl, h)
-both false b h = absurd (cc h)
-
 -- a text that is none of some names is not one of them
 not_named : (names : List (List ℕ)) (text name : List ℕ) → list_any (λ n. str_eq_ignore_ascii_case text n) names ≡ false
     → list_any (bytes_eq name) names ≡ true → str_eq_ignore_ascii_case text name ≡ false
@@ -40,7 +33,7 @@ not_named [] text name none among = absurd (cc among)
 not_named (n ∷ names) text name none among = by (bytes_eq name n) refl (not_named names text name apart.1)
   where
     apart : (str_eq_ignore_ascii_case text n ≡ false) × (list_any (λ m. str_eq_ignore_ascii_case text m) names ≡ false)
-    apart = neither (str_eq_ignore_ascii_case text n) (list_any (λ m. str_eq_ignore_ascii_case text m) names) none
+    apart = or_parts (str_eq_ignore_ascii_case text n) (list_any (λ m. str_eq_ignore_ascii_case text m) names) none
 
     by : (b : Bool) → bytes_eq name n ≡ b → (list_any (bytes_eq name) names ≡ true → str_eq_ignore_ascii_case text name ≡ false) → str_eq_ignore_ascii_case text name ≡ false
     by true is later = ap (str_eq_ignore_ascii_case text) ((bytes_eq-Decides name n).0 is) ∙ apart.0
@@ -52,7 +45,7 @@ asked_too [] names name all among = absurd (cc among)
 asked_too (w ∷ wanted) names name all among = by (bytes_eq name w) refl (asked_too wanted names name apart.1)
   where
     apart : (list_any (bytes_eq w) names ≡ true) × (are_among wanted names ≡ true)
-    apart = both (list_any (bytes_eq w) names) (are_among wanted names) all
+    apart = and_parts (list_any (bytes_eq w) names) (are_among wanted names) all
 
     by : (b : Bool) → bytes_eq name w ≡ b → (list_any (bytes_eq name) wanted ≡ true → list_any (bytes_eq name) names ≡ true) → list_any (bytes_eq name) names ≡ true
     by true is later = ap (λ n. list_any (bytes_eq n) names) ((bytes_eq-Decides name w).0 is) ∙ apart.0
@@ -144,26 +137,6 @@ hold_said subject said =
       categories = in_order said.category;
     }) (key_said subject said)
 
-abbrev change_said : Verb → Option (List ℕ) → Said → Option HoldChange
-change_said verb.Hold subject said = option_map Put (hold_said subject said)
-change_said verb.Release subject said = option_map Release (key_said subject said)
-change_said verb.Func subject said = None
-change_said verb.Ptf subject said = None
-change_said verb.Apar subject said = None
-change_said verb.Usermod subject said = None
-change_said verb.Ver subject said = None
-change_said verb.Cond subject said = None
-
-change_is : (v : Verb) (statement : Statement) → change_by v statement ≡ change_said v statement.subject (said_by statement.operands)
-change_is verb.Hold statement = refl
-change_is verb.Release statement = refl
-change_is verb.Func statement = refl
-change_is verb.Ptf statement = refl
-change_is verb.Apar statement = refl
-change_is verb.Usermod statement = refl
-change_is verb.Ver statement = refl
-change_is verb.Cond statement = refl
-
 abbrev key_faults_said : ℕ → Option (List ℕ) → Said → List HoldFault
 key_faults_said line subject said =
     kind_faults line said.kinds
@@ -171,43 +144,53 @@ key_faults_said line subject said =
     ++ fault_if (is_none subject) (BadId line)
     ++ fault_if (is_bad_id said.reason) (BadId line)
 
-abbrev faults_said : Verb → ℕ → Option (List ℕ) → Said → List HoldFault
-faults_said verb.Hold line subject said =
-    key_faults_said line subject said
-    ++ (fault_if (is_bad_id said.fmid) (BadId line)
-    ++ fault_if (is_bad_id said.class) (BadId line)
-    ++ fault_if (is_bad_id said.resolver) (BadId line)
-    ++ fault_if (is_bad_date said.date) (BadDate line)
-    ++ fault_if (not (list_all is_category said.category)) (BadCategory line))
-faults_said verb.Release line subject said = key_faults_said line subject said ++ fault_if (is_bad_id said.fmid) (BadId line)
-faults_said verb.Func line subject said = []
-faults_said verb.Ptf line subject said = []
-faults_said verb.Apar line subject said = []
-faults_said verb.Usermod line subject said = []
-faults_said verb.Ver line subject said = []
-faults_said verb.Cond line subject said = []
+-- what a statement does to the holds, and its faults, by what its operands say
+abbrev what_said : Verb → ℕ → Option (List ℕ) → Said → Option HoldChange × List HoldFault
+what_said verb.Hold line subject said = (
+  option_map Put (hold_said subject said),
+  key_faults_said line subject said
+      ++ (fault_if (is_bad_id said.fmid) (BadId line)
+      ++ fault_if (is_bad_id said.class) (BadId line)
+      ++ fault_if (is_bad_id said.resolver) (BadId line)
+      ++ fault_if (is_bad_date said.date) (BadDate line)
+      ++ fault_if (not (list_all is_category said.category)) (BadCategory line)),
+)
+what_said verb.Release line subject said = (option_map Release (key_said subject said), key_faults_said line subject said ++ fault_if (is_bad_id said.fmid) (BadId line))
+what_said verb.Func line subject said = (None, [])
+what_said verb.Ptf line subject said = (None, [])
+what_said verb.Apar line subject said = (None, [])
+what_said verb.Usermod line subject said = (None, [])
+what_said verb.Ver line subject said = (None, [])
+what_said verb.Cond line subject said = (None, [])
 
-faults_are : (v : Verb) (statement : Statement) → faults_by v statement ≡ faults_said v statement.line statement.subject (said_by statement.operands)
-faults_are verb.Hold statement = refl
-faults_are verb.Release statement = refl
-faults_are verb.Func statement = refl
-faults_are verb.Ptf statement = refl
-faults_are verb.Apar statement = refl
-faults_are verb.Usermod statement = refl
-faults_are verb.Ver statement = refl
-faults_are verb.Cond statement = refl
+abbrev said_of : Statement → Said → Option HoldChange × List HoldFault
+said_of statement said = what_said statement.verb statement.line statement.subject said
+
+abbrev what_is : Verb → Statement → Option HoldChange × List HoldFault
+what_is v statement = (change_by v statement, faults_by v statement)
+
+says : (v : Verb) (statement : Statement) → what_is v statement ≡ what_said v statement.line statement.subject (said_by statement.operands)
+says verb.Hold statement = refl
+says verb.Release statement = refl
+says verb.Func statement = refl
+says verb.Ptf statement = refl
+says verb.Apar statement = refl
+says verb.Usermod statement = refl
+says verb.Ver statement = refl
+says verb.Cond statement = refl
+
+both_asked : (names : List (List ℕ)) → are_among hold_operands names ≡ true → (statement : Statement)
+    → what_is statement.verb (asking names statement) ≡ what_is statement.verb statement
+both_asked names all statement =
+    says statement.verb (asking names statement)
+    ∙ ap (said_of statement) (said_asked names all statement.operands)
+    ∙ sym (says statement.verb statement)
 
 pub change_asked : (names : List (List ℕ)) → are_among hold_operands names ≡ true → (statement : Statement) → change_of (asking names statement) ≡ change_of statement
-change_asked names all statement =
-    change_is statement.verb (asking names statement)
-    ∙ ap (change_said statement.verb statement.subject) (said_asked names all statement.operands)
-    ∙ sym (change_is statement.verb statement)
+change_asked names all statement = ap (λ (said : Option HoldChange × List HoldFault). said.0) (both_asked names all statement)
 
 pub faults_asked : (names : List (List ℕ)) → are_among hold_operands names ≡ true → (statement : Statement) → faults_of (asking names statement) ≡ faults_of statement
-faults_asked names all statement =
-    faults_are statement.verb (asking names statement)
-    ∙ ap (faults_said statement.verb statement.line statement.subject) (said_asked names all statement.operands)
-    ∙ sym (faults_are statement.verb statement)
+faults_asked names all statement = ap (λ (said : Option HoldChange × List HoldFault). said.1) (both_asked names all statement)
 
 -- ---- lists of statements
 
@@ -217,12 +200,13 @@ changes_asked names all (statement ∷ statements) =
     ap (λ change. cons_option change (changes_of (map (asking names) statements))) (change_asked names all statement)
     ∙ ap (cons_option (change_of statement)) (changes_asked names all statements)
 
-all_faults_asked : (names : List (List ℕ)) → are_among hold_operands names ≡ true → (statements : List Statement)
-    → flat_map faults_of (map (asking names) statements) ≡ flat_map faults_of statements
-all_faults_asked names all [] = refl
-all_faults_asked names all (statement ∷ statements) =
-    ap (λ faults. faults ++ flat_map faults_of (map (asking names) statements)) (faults_asked names all statement)
-    ∙ ap (λ faults. faults_of statement ++ faults) (all_faults_asked names all statements)
+-- lists that each statement adds to
+pub each_asked : {X : Type 0} (names : List (List ℕ)) (f : Statement → List X) → ((statement : Statement) → f (asking names statement) ≡ f statement) → (statements : List Statement)
+    → flat_map f (map (asking names) statements) ≡ flat_map f statements
+each_asked names f same [] = refl
+each_asked names f same (statement ∷ statements) =
+    ap (λ xs. xs ++ flat_map f (map (asking names) statements)) (same statement)
+    ∙ ap (λ xs. f statement ++ xs) (each_asked names f same statements)
 
 pub first_fault_asked : (names : List (List ℕ)) → are_among hold_operands names ≡ true → (statements : List Statement) → first_fault (map (asking names) statements) ≡ first_fault statements
-first_fault_asked names all statements = ap first_of (all_faults_asked names all statements)
+first_fault_asked names all statements = ap first_of (each_asked names faults_of (faults_asked names all) statements)

@@ -1,19 +1,20 @@
 -- On texts in ascending order, each once.
-use Rattle.std.proofs.Common.{◌≡◌, ℕ, suc, ◌+◌, ◌<◌, Bool, true, false, ◌||◌, ◌&&◌, List, [], ◌∷◌, ◌++◌, length, drop, get_or, refl, sym, ◌∙◌, ap, add-one, drop-cons, append-nil, append_assoc}
+use Rattle.std.proofs.Common.{◌≡◌, ℕ, suc, ◌+◌, ◌<◌, true, ◌&&◌, List, [], ◌∷◌, ◌++◌, length, drop, get_or, refl, sym, ◌∙◌, ap, add-one, drop-cons, append-nil, append_assoc}
 use Rattle.std.specs.Borrow.{Bor}
 use Rattle.std.specs.declared.cmp.Ordering.{Ordering}
 use Rattle.std.specs.declared.cmp.Ordering.TheVariants.{Less, Equal, Greater}
 use Rattle.std.specs.Ordering.{match_ordering, nat_cmp, is_lt, ordering_reverse}
 use Rattle.std.specs.Cmp.Lexicographic.{slice_cmp, nat_list_cmp_total}
-use Rattle.std.specs.List.{list_all, list_any, AllByRecursion}
+use Rattle.std.specs.List.{list_all, AllByRecursion}
 use Rattle.std.specs.List.Sorted.{IsStrictlySortedBy}
 use Rattle.std.specs.Str.{bytes_eq}
 use Rattle.std.specs.BTreeSet.{insert_key}
+use Rattle.std.proofs.lemmas.Bool.{and_parts}
 use Rattle.std.proofs.lemmas.Map.Lookups.{exact_bytes}
 use Rattle.mcs_reader.specs.Bytes.{bytes_of_each}
 use Rattle.mcs_reader.specs.Category.{is_category}
 use Rattle.holddata.specs.Categories.{ascends, are_categories, with_each, in_order, IsInOrder}
-use Rattle.holddata.proofs.InsertFacts.{all_below, any_insert, every_insert, sorted_insert}
+use Rattle.holddata.proofs.InsertFacts.{all_below, any_puts, every_puts, sorted_puts}
 
 -- a slice put among others, and their bytes
 pub bytes_inserted : (keys : List (Bor (List ℕ))) (key : Bor (List ℕ)) → bytes_of_each (insert_key (λ x y. slice_cmp nat_cmp x.now y.now) keys key) ≡ insert_key (slice_cmp nat_cmp) (bytes_of_each keys) key.now
@@ -24,10 +25,6 @@ bytes_inserted (x ∷ xs) key = by (bytes_inserted xs key) (slice_cmp nat_cmp ke
     by rest Less = refl
     by rest Equal = refl
     by rest Greater = ap (λ ks. x.now ∷ ks) rest
-
-sorted_each : (kept texts : List (List ℕ)) → IsStrictlySortedBy (slice_cmp nat_cmp) kept → IsStrictlySortedBy (slice_cmp nat_cmp) (with_each kept texts)
-sorted_each kept [] h = h
-sorted_each kept (text ∷ texts) h = sorted_each (insert_key (slice_cmp nat_cmp) kept text) texts (sorted_insert (slice_cmp nat_cmp) nat_list_cmp_total kept text h)
 
 ascending : (texts : List (List ℕ)) → IsStrictlySortedBy (slice_cmp nat_cmp) texts → ascends texts ≡ true
 unfolding IsStrictlySortedBy
@@ -40,37 +37,7 @@ unfolding IsStrictlySortedBy
 none_sorted = tt
 
 in_order_ascends : (texts : List (List ℕ)) → ascends (in_order texts) ≡ true
-in_order_ascends texts = ascending (in_order texts) (sorted_each [] texts none_sorted)
-
-any_each : (test : List ℕ → Bool) (kept texts : List (List ℕ)) → list_any test (with_each kept texts) ≡ (list_any test kept || list_any test texts)
-any_each test kept [] = none (list_any test kept)
-  where
-    none : (a : Bool) → a ≡ (a || false)
-    none true = refl
-    none false = refl
-any_each test kept (text ∷ texts) =
-    any_each test (insert_key (slice_cmp nat_cmp) kept text) texts
-    ∙ ap (λ b. b || list_any test texts) (any_insert (slice_cmp nat_cmp) exact_bytes test kept text)
-    ∙ turn (test text) (list_any test kept) (list_any test texts)
-  where
-    turn : (a b c : Bool) → ((a || b) || c) ≡ (b || (a || c))
-    turn true true c = refl
-    turn true false c = refl
-    turn false true c = refl
-    turn false false c = refl
-
-every_each : (test : List ℕ → Bool) (kept texts : List (List ℕ)) → list_all test kept ≡ true → list_all test texts ≡ true → list_all test (with_each kept texts) ≡ true
-every_each test kept [] h g = h
-every_each test kept (text ∷ texts) h g =
-    every_each test (insert_key (slice_cmp nat_cmp) kept text) texts (every_insert (slice_cmp nat_cmp) test kept text h (first_of (test text) _ g)) (rest_of (test text) _ g)
-  where
-    first_of : (a b : Bool) → (a && b) ≡ true → a ≡ true
-    first_of true b h = refl
-    first_of false b h = cc
-
-    rest_of : (a b : Bool) → (a && b) ≡ true → b ≡ true
-    rest_of true b h = h
-    rest_of false b h = cc
+in_order_ascends texts = ascending (in_order texts) (sorted_puts (slice_cmp nat_cmp) nat_list_cmp_total [] texts none_sorted)
 
 -- one more value of an operand
 pub value_added : (keys more : List (Bor (List ℕ))) (values : List (Bor (List ℕ))) (i : ℕ) (d : Bor (List ℕ)) → i < length values → more ≡ insert_key (λ x y. slice_cmp nat_cmp x.now y.now) keys (get_or values i d)
@@ -83,21 +50,13 @@ value_added keys more values i d below is =
 
 -- texts in order are what they should be
 pub in_order_is : (texts : List (List ℕ)) → IsInOrder texts (in_order texts)
-in_order_is texts = record { ascending = in_order_ascends texts; same = λ text. any_each (bytes_eq text) [] texts }
+in_order_is texts = record { ascending = in_order_ascends texts; same = λ text. any_puts (slice_cmp nat_cmp) exact_bytes (bytes_eq text) [] texts }
 
 pub in_order_allowed : (texts : List (List ℕ)) → list_all is_category texts ≡ true → are_categories (in_order texts) ≡ true
 in_order_allowed texts h =
-    ap (λ b. b && ascends (in_order texts)) (every_each is_category [] texts refl h) ∙ in_order_ascends texts
+    ap (λ b. b && ascends (in_order texts)) (every_puts (slice_cmp nat_cmp) is_category [] texts refl h) ∙ in_order_ascends texts
 
 -- ---- texts that ascend are in order already
-
-both_first : (a b : Bool) → (a && b) ≡ true → a ≡ true
-both_first true b h = refl
-both_first false b h = cc
-
-both_last : (a b : Bool) → (a && b) ≡ true → b ≡ true
-both_last true b h = h
-both_last false b h = cc
 
 less_by : (o : Ordering) → is_lt o ≡ true → o ≡ Less
 less_by Less h = refl
@@ -106,13 +65,14 @@ less_by Greater h = cc
 
 tail_ascends : (x : List ℕ) (xs : List (List ℕ)) → ascends (x ∷ xs) ≡ true → ascends xs ≡ true
 tail_ascends x [] h = refl
-tail_ascends x (y ∷ xs) h = both_last (is_lt (slice_cmp nat_cmp x y)) (ascends (y ∷ xs)) h
+tail_ascends x (y ∷ xs) h = (and_parts (is_lt (slice_cmp nat_cmp x y)) (ascends (y ∷ xs)) h).1
 
 below_rest : (x : List ℕ) (xs : List (List ℕ)) → ascends (x ∷ xs) ≡ true → AllByRecursion (λ y. slice_cmp nat_cmp x y ≡ Less) xs
 below_rest x [] h = tt
 below_rest x (y ∷ xs) h =
-    let less = less_by (slice_cmp nat_cmp x y) (both_first (is_lt (slice_cmp nat_cmp x y)) (ascends (y ∷ xs)) h) in
-    (less, all_below nat_list_cmp_total x y xs less (below_rest y xs (both_last (is_lt (slice_cmp nat_cmp x y)) (ascends (y ∷ xs)) h)))
+    let parts = and_parts (is_lt (slice_cmp nat_cmp x y)) (ascends (y ∷ xs)) h in
+    let less = less_by (slice_cmp nat_cmp x y) parts.0 in
+    (less, all_below nat_list_cmp_total x y xs less (below_rest y xs parts.1))
 
 at_front : (P : List ℕ → Type 0) (xs : List (List ℕ)) (y : List ℕ) (ys : List (List ℕ)) → AllByRecursion P (xs ++ y ∷ ys) → P y
 at_front P [] y ys h = h.0
@@ -140,7 +100,7 @@ each_last kept (text ∷ texts) h =
     ∙ on
 
 pub in_order_already : (texts : List (List ℕ)) → are_categories texts ≡ true → in_order texts ≡ texts
-in_order_already texts h = each_last [] texts (both_last (list_all is_category texts) (ascends texts) h)
+in_order_already texts h = each_last [] texts ((and_parts (list_all is_category texts) (ascends texts) h).1)
 
 pub all_allowed : (texts : List (List ℕ)) → are_categories texts ≡ true → list_all is_category texts ≡ true
-all_allowed texts h = both_first (list_all is_category texts) (ascends texts) h
+all_allowed texts h = (and_parts (list_all is_category texts) (ascends texts) h).0

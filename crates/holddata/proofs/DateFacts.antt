@@ -1,18 +1,11 @@
 -- A date prints as it was written.
-use Rattle.std.proofs.Common.{◌≡◌, ℕ, ◌+◌, ◌-◌, ◌*◌, ◌/◌, ◌%◌, ◌<◌, ◌≤◌, ◌&&◌, Bool, true, false, List, [], ◌∷◌, length, refl, arith}
+use Rattle.std.proofs.Common.{◌≡◌, ℕ, ◌+◌, ◌-◌, ◌*◌, ◌/◌, ◌%◌, ◌<◌, ◌≤◌, true, List, [], ◌∷◌, length, arith}
 use Rattle.std.specs.Char.{is_ascii_digit, digit_value}
 use Rattle.std.specs.List.{list_all}
 use Rattle.std.specs.Str.Parse.{digits_value}
+use Rattle.std.proofs.lemmas.Bool.{and_parts}
 use Rattle.std.proofs.lemmas.Bool.Decides.{nat_tests}
 use Rattle.holddata.specs.Date.{date_digits}
-
-both_front : (a b : Bool) → (a && b) ≡ true → a ≡ true
-both_front true b h = refl
-both_front false b h = cc
-
-both_back : (a b : Bool) → (a && b) ≡ true → b ≡ true
-both_back true b h = h
-both_back false b h = cc
 
 record IsDigit (x : ℕ) : Type 0 where
   value : digit_value x ≡ x - 48
@@ -39,15 +32,16 @@ digits_again (a ∷ b ∷ c ∷ []) h g = cc
 digits_again (a ∷ b ∷ c ∷ d ∷ []) h g = cc
 digits_again (a ∷ b ∷ c ∷ d ∷ e ∷ f ∷ rest) h g = absurd (omega arith)
 digits_again (a ∷ b ∷ c ∷ d ∷ e ∷ []) h g =
-    let fa = digit a (both_front (is_ascii_digit a) (list_all is_ascii_digit (b ∷ c ∷ d ∷ e ∷ [])) g) in
-    let gb = both_back (is_ascii_digit a) (list_all is_ascii_digit (b ∷ c ∷ d ∷ e ∷ [])) g in
-    let fb = digit b (both_front (is_ascii_digit b) (list_all is_ascii_digit (c ∷ d ∷ e ∷ [])) gb) in
-    let gc = both_back (is_ascii_digit b) (list_all is_ascii_digit (c ∷ d ∷ e ∷ [])) gb in
-    let fc = digit c (both_front (is_ascii_digit c) (list_all is_ascii_digit (d ∷ e ∷ [])) gc) in
-    let gd = both_back (is_ascii_digit c) (list_all is_ascii_digit (d ∷ e ∷ [])) gc in
-    let fd = digit d (both_front (is_ascii_digit d) (list_all is_ascii_digit (e ∷ [])) gd) in
-    let ge = both_back (is_ascii_digit d) (list_all is_ascii_digit (e ∷ [])) gd in
-    let fe = digit e (both_front (is_ascii_digit e) true ge) in
+    let pa = and_parts (is_ascii_digit a) (list_all is_ascii_digit (b ∷ c ∷ d ∷ e ∷ [])) g in
+    let pb = and_parts (is_ascii_digit b) (list_all is_ascii_digit (c ∷ d ∷ e ∷ [])) pa.1 in
+    let pc = and_parts (is_ascii_digit c) (list_all is_ascii_digit (d ∷ e ∷ [])) pb.1 in
+    let pd = and_parts (is_ascii_digit d) (list_all is_ascii_digit (e ∷ [])) pc.1 in
+    let pe = and_parts (is_ascii_digit e) true pd.1 in
+    let fa = digit a pa.0 in
+    let fb = digit b pb.0 in
+    let fc = digit c pc.0 in
+    let fd = digit d pd.0 in
+    let fe = digit e pe.0 in
     let n : ℕ = digits_value 10 (a ∷ b ∷ c ∷ d ∷ e ∷ []) in
     let q = quotients n (a - 48) (b - 48) (c - 48) (d - 48) (e - 48)
     (omega (arith, fa.high)) (omega (arith, fb.high)) (omega (arith, fc.high)) (omega (arith, fd.high)) (omega (arith, fe.high))

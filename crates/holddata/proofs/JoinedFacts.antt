@@ -1,5 +1,6 @@
 -- Categories with commas between, and apart again.
-use Rattle.std.proofs.Common.{◌≡◌, ◌≢◌, ℕ, ◌&&◌, ◌==◌, Bool, true, false, List, [], ◌∷◌, ◌++◌, length, refl, sym, ◌∙◌, ap, subst, nat_le, IsTrue, arith, All}
+use Rattle.std.proofs.Common.{◌≡◌, ℕ, ◌&&◌, Bool, true, false, List, [], ◌∷◌, length, refl, sym, ◌∙◌, ap, nat_le, IsTrue, arith, All}
+use Rattle.std.proofs.lemmas.Bool.{and_parts}
 use Rattle.std.proofs.lemmas.Bool.Decides.{nat_tests}
 use Rattle.std.specs.List.{join_with_byte, list_all, slice_split}
 use Rattle.std.proofs.lemmas.List.Elements.{All-cons, All-nil}
@@ -7,14 +8,6 @@ use Rattle.std.proofs.lemmas.List.Splits.{join_with_byte-slice_split, slice_spli
 use Rattle.mcs_reader.specs.Category.{is_category, is_category_byte}
 use Rattle.holddata.specs.Categories.{are_categories, ascends}
 use Rattle.holddata.specs.Joined.{between_commas, is_comma}
-
-both_first : (a b : Bool) → (a && b) ≡ true → a ≡ true
-both_first true b h = refl
-both_first false b h = cc
-
-both_last : (a b : Bool) → (a && b) ≡ true → b ≡ true
-both_last true b h = h
-both_last false b h = cc
 
 -- ---- categories have no comma, and are not empty
 
@@ -30,11 +23,11 @@ no_comma b h = by (is_comma b) refl
 no_commas : (text : List ℕ) → list_all is_category_byte text ≡ true → All (λ b. is_comma b ≡ false) text
 no_commas [] h = All-nil _
 no_commas (b ∷ text) h =
-    All-cons (λ x. is_comma x ≡ false) b text (no_comma b (both_first (is_category_byte b) (list_all is_category_byte text) h))
-    (no_commas text (both_last (is_category_byte b) (list_all is_category_byte text) h))
+    All-cons (λ x. is_comma x ≡ false) b text (no_comma b ((and_parts (is_category_byte b) (list_all is_category_byte text) h).0))
+    (no_commas text ((and_parts (is_category_byte b) (list_all is_category_byte text) h).1))
 
 plain : (text : List ℕ) → is_category text ≡ true → All (λ b. is_comma b ≡ false) text
-plain text h = no_commas text (both_last (nat_le 1 (length text) && nat_le (length text) 64) (list_all is_category_byte text) h)
+plain text h = no_commas text ((and_parts (nat_le 1 (length text) && nat_le (length text) 64) (list_all is_category_byte text) h).1)
 
 -- ---- one category, and more
 
@@ -43,10 +36,10 @@ one_between [] h = cc
 one_between (b ∷ text) h = slice_split_none is_comma (b ∷ text) (plain (b ∷ text) h)
 
 parts : (text : List ℕ) (texts : List (List ℕ)) → list_all is_category (text ∷ texts) ≡ true → slice_split is_comma (join_with_byte 44 (text ∷ texts)) ≡ text ∷ texts
-parts text [] h = slice_split_none is_comma text (plain text (both_first (is_category text) true h))
+parts text [] h = slice_split_none is_comma text (plain text ((and_parts (is_category text) true h).0))
 parts text (next ∷ texts) h =
-    slice_split_at is_comma text 44 (join_with_byte 44 (next ∷ texts)) (plain text (both_first (is_category text) (list_all is_category (next ∷ texts)) h)) refl
-    ∙ ap (λ rest. text ∷ rest) (parts next texts (both_last (is_category text) (list_all is_category (next ∷ texts)) h))
+    slice_split_at is_comma text 44 (join_with_byte 44 (next ∷ texts)) (plain text ((and_parts (is_category text) (list_all is_category (next ∷ texts)) h).0)) refl
+    ∙ ap (λ rest. text ∷ rest) (parts next texts ((and_parts (is_category text) (list_all is_category (next ∷ texts)) h).1))
 
 filled : (text : List ℕ) (texts : List (List ℕ)) → is_category text ≡ true → between_commas (join_with_byte 44 (text ∷ texts)) ≡ slice_split is_comma (join_with_byte 44 (text ∷ texts))
 filled [] texts h = cc
@@ -56,8 +49,8 @@ filled (b ∷ text) (next ∷ texts) h = refl
 pub all_between : (texts : List (List ℕ)) → IsTrue (are_categories texts) → between_commas (join_with_byte 44 texts) ≡ texts
 all_between [] h = refl
 all_between (text ∷ texts) h =
-    let all = both_first (list_all is_category (text ∷ texts)) (ascends (text ∷ texts)) h in
-    filled text texts (both_first (is_category text) (list_all is_category texts) all) ∙ parts text texts all
+    let all = (and_parts (list_all is_category (text ∷ texts)) (ascends (text ∷ texts)) h).0 in
+    filled text texts ((and_parts (is_category text) (list_all is_category texts) all).0) ∙ parts text texts all
 
 pub joined_again : (bytes : List ℕ) → join_with_byte 44 (between_commas bytes) ≡ bytes
 joined_again [] = refl

@@ -6,13 +6,15 @@ use Rattle.std.specs.Cmp.{IsTotalOrder, nat_cmp_total, eq_by_cmp_equiv, unsigned
 use Rattle.std.specs.Cmp.Lexicographic.{slice_cmp, nat_list_cmp_total}
 use Rattle.std.specs.Str.{bytes_eq}
 use Rattle.std.specs.Ordering.{nat_cmp, ordering_then, is_eq}
-use Rattle.std.proofs.lemmas.Cmp.{on_total, then_total, tied_itself}
+use Rattle.std.proofs.lemmas.Cmp.{on_total, then_total}
 use Rattle.std.proofs.lemmas.Map.Text.{is_eq-slice_cmp}
 use Rattle.std.proofs.lemmas.Map.Lookups.{CmpEqualImpliesEq, exact_unsigned, exact_bytes, exact_pairs}
 use Rattle.holddata.specs.declared.key.Kind.{Kind}
 use Rattle.holddata.specs.declared.key.Kind.TheVariants.{ErrorHold, SystemHold, UserHold, FixcatHold}
 use Rattle.holddata.specs.declared.key.HoldKey.{HoldKey}
 use Rattle.holddata.specs.HoldKey.{kind_place, kind_cmp, key_cmp, is_same_kind, is_same_key}
+use Rattle.holddata.proofs.FoundFacts as found
+use Rattle.holddata.proofs.FoundFacts.{IsKeyOrder, one_key}
 
 -- the kind at a place
 kind_at : ℕ → Kind
@@ -61,16 +63,14 @@ same_is a b =
     ∙ ap (λ e. bytes_eq a.sysmod b.sysmod && (e && is_eq reasons)) (unsigned_tied (kind_place a.kind) (kind_place b.kind))
     ∙ ap (λ e. bytes_eq a.sysmod b.sysmod && (is_same_kind a.kind b.kind && e)) (is_eq-slice_cmp a.reason b.reason)
 
+pub key_order : IsKeyOrder key_cmp is_same_key
+key_order = record { total = keys_total; exact = exact_keys; decides = λ a b. sym (same_is a b) }
+
 pub same_key : (a b : HoldKey) → is_same_key a b ≡ true → a ≡ b
-same_key a b h = by (key_cmp a b) refl (same_is a b ∙ h)
-  where
-    by : (o : Ordering) → key_cmp a b ≡ o → is_eq o ≡ true → a ≡ b
-    by Less is h = cc
-    by Equal is h = exact_keys a b is
-    by Greater is h = cc
+same_key = one_key key_order
 
 pub itself : (a : HoldKey) → is_same_key a a ≡ true
-itself a = sym (same_is a a) ∙ ap is_eq (tied_itself keys_total a)
+itself = found.itself key_order
 
 pub turned_same : (a b : HoldKey) → is_same_key a b ≡ is_same_key b a
 turned_same a b = sym (same_is a b) ∙ (eq_by_cmp_equiv keys_total).symm a b ∙ same_is b a

@@ -18,7 +18,8 @@ use Rattle.holddata.specs.HoldBook.{keys_in, hold_under, book_of, IsInKeyOrder}
 use Rattle.holddata.specs.Last.{IsAtMost, BeginsNoLower, AscendByKey, is_renamed, put_last, holds_last}
 use Rattle.holddata.proofs.KeyFacts.{exact_keys, keys_total, same_is, same_key, itself, turned_same}
 use Rattle.holddata.proofs.PlaceFacts.{place_order}
-use Rattle.holddata.proofs.BookFacts.{book_of_only, none_found}
+use Rattle.holddata.proofs.BookFacts.{book_of_only}
+use Rattle.holddata.proofs.FoundFacts.{none_last}
 use Rattle.holddata.proofs.BatchFacts.{last_found, left_by}
 
 -- ---- a sort by the places of the keys puts them in order
@@ -163,7 +164,7 @@ left_named : (change : HoldChange) (changes : List HoldChange) (key : HoldKey) �
 left_named change changes key named others =
     ap (option_and_then hold_put)
     (last_found (names key) change changes
-    ∙ ap (λ o. option_or o (cond (names key change) (Some change) None)) (none_found (names key) changes others)
+    ∙ ap (λ o. option_or o (cond (names key change) (Some change) None)) (none_last (names key) changes others)
     ∙ ap (λ b. cond b (Some change) None) named)
 
 under_named : (change : HoldChange) (rest : List Hold) (key : HoldKey) → names key change ≡ true → hold_under rest key ≡ None → hold_under (cons_option (hold_put change) rest) key ≡ hold_put change
@@ -187,7 +188,7 @@ each_under (change ∷ changes) up key = by (each_under changes up.1 key) (names
         let k : key_of change ≡ key = same_key (key_of change) key named in
         let others : list_any (names key) changes ≡ false
         = not_named key changes (subst (λ x. AllByRecursion (λ y. key_cmp x y ≡ Less) (map key_of changes)) k (higher change changes up last)) in
-        under_named change (holds_last changes) key named (rest ∙ ap (option_and_then hold_put) (none_found (names key) changes others))
+        under_named change (holds_last changes) key named (rest ∙ ap (option_and_then hold_put) (none_last (names key) changes others))
         ∙ sym (left_named change changes key named others)
 
     by : hold_under (holds_last changes) key ≡ hold_left changes key → (b : Bool) → names key change ≡ b → hold_under (holds_last (change ∷ changes)) key ≡ hold_left (change ∷ changes) key

@@ -1,5 +1,6 @@
 mod Examples
 pub mod InsertFacts
+pub mod FoundFacts
 pub mod CategoryFacts
 pub mod OperandFacts
 pub mod AskedFacts

@@ -1,7 +1,7 @@
 -- Fix categories (IBM z/OS SMP/E Reference, `++HOLD`, operand CATEGORY).
 use Rattle.std.specs.Prelude.{◌≡◌, ℕ, ◌&&◌, Bool, true, IsTrue, List, [], ◌∷◌, bytes_eq}
 use Rattle.std.specs.BTreeSet.{insert_key}
-use Rattle.std.specs.List.{list_all, list_any}
+use Rattle.std.specs.List.{fold, list_all, list_any}
 use Rattle.std.specs.Ordering.{nat_cmp, is_lt}
 use Rattle.std.specs.Cmp.Lexicographic.{slice_cmp}
 use Rattle.mcs_reader.specs.Category.{is_category}
@@ -18,8 +18,7 @@ are_categories texts = list_all is_category texts && ascends texts
 
 -- texts in ascending order, with more put at their places, unless they are there
 abbrev pub with_each : List (List ℕ) → List (List ℕ) → List (List ℕ)
-with_each kept [] = kept
-with_each kept (text ∷ texts) = with_each (insert_key (slice_cmp nat_cmp) kept text) texts
+with_each kept texts = fold (insert_key (slice_cmp nat_cmp)) kept texts
 
 -- texts in ascending order, each once
 abbrev pub in_order : List (List ℕ) → List (List ℕ)

@@ -14,7 +14,7 @@ ghost use Rattle.holddata.specs.declared.fault.HoldFault.TheVariants.{Memory};
 ghost use Rattle.mcs_reader.specs.declared.statement.Statement.{Statement};
 ghost use Rattle.faults.specs.Refusal.{IsRefusal};
 
-use crate::map::{HoldMap, copied, hold_at, holds_around, make_change};
+use crate::map::{HoldMap, copy_holds, hold_at, holds_around, make_change};
 use crate::place::place_of;
 use crate::print::{hold_table, push_hold};
 use crate::{BookPlace, Hold, HoldChange, HoldFault, HoldKey, NoMemory, change};
@@ -113,7 +113,7 @@ impl HoldBook {
     {
         Ok(HoldBook {
             alloc: self.alloc,
-            holds: copied(&self.holds)?,
+            holds: copy_holds(&self.holds)?,
         })
     }
 
@@ -142,14 +142,17 @@ impl HoldBook {
     ///
     /// The statement's fault with the lowest number, or [`HoldFault::Memory`]. The book is as it was.
     pub fn apply_statement(&mut self, statement: &Statement) -> Result<(), HoldFault>
-        ensures changed { OnOk result ((change : HoldChange) → change_of statement.now ≡ Some change → IsChanged change self.old self.new) }
+        ensures changed { OnOk result ((change : HoldChange) → change_of statement.now ≡ Some change →
+            IsChanged change self.old self.new) }
         ensures same { change_of statement.now ≡ None → self.new ≡ self.old }
         ensures left { OnOk result ((statements : List Statement) →
             IsLeft (changes_of statements) self.old → IsLeft (changes_of (statements ++ statement.now ∷ [])) self.new) }
         ensures book { OnOk result ((statements : List Statement) →
-            self.old ≡ book_of (changes_of statements) → self.new ≡ book_of (changes_of (statements ++ statement.now ∷ []))) }
+            self.old ≡ book_of (changes_of statements) →
+            self.new ≡ book_of (changes_of (statements ++ statement.now ∷ []))) }
         ensures no_fault { OnOk result (faults_of statement.now ≡ []) }
-        ensures fault { IfErr result (IsRefusal Memory (λ fault. first_of (faults_of statement.now) ≡ Some fault)) }
+        ensures fault { IfErr result (IsRefusal Memory
+            (λ fault. first_of (faults_of statement.now) ≡ Some fault)) }
         ensures err { OnErr result (self.new ≡ self.old) }
     {
         if let Some(change) = change(self.alloc, statement)? {
@@ -165,8 +168,10 @@ impl HoldBook {
     ///
     /// Memory ran out, and the book is gone.
     pub fn with_changes(self, changes: Vec<HoldChange>) -> Result<Self, NoMemory>
-        ensures left { IfOk result (λ book. (before : List HoldChange) → IsLeft before self → IsLeft (before ++ changes.items) book) }
-        ensures book { IfOk result (λ book. (before : List HoldChange) → self ≡ book_of before → book ≡ book_of (before ++ changes.items)) }
+        ensures left { IfOk result (λ book. (before : List HoldChange) → IsLeft before self →
+            IsLeft (before ++ changes.items) book) }
+        ensures book { IfOk result (λ book. (before : List HoldChange) → self ≡ book_of before →
+            book ≡ book_of (before ++ changes.items)) }
     {
         let mut changes = changes;
         sort_by_key(&mut changes)?;

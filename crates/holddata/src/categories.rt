@@ -50,7 +50,8 @@ impl Categories {
     ///
     /// Memory ran out.
     pub fn from_ascending(alloc: Global, texts: &[&[u8]]) -> Result<Option<Self>, NoMemory>
-        ensures { IfOk result (λ categories. categories ≡ (if are_categories (bytes_of_each texts.now) then Some (bytes_of_each texts.now) else None)) }
+        ensures { IfOk result (λ categories. categories
+            ≡ (if are_categories (bytes_of_each texts.now) then Some (bytes_of_each texts.now) else None)) }
     {
         if !are_in_order(texts) {
             return Ok(None);

@@ -19,7 +19,8 @@ pub(crate) fn category_values<'a>(
     alloc: Global,
     operands: &[Operand<'a>],
 ) -> Result<Vec<&'a [u8]>, NoMemory>
-    ensures { IfOk result (λ values. bytes_of_each values.items ≡ values_of (codes "CATEGORY") (operand_texts operands.now)) }
+    ensures { IfOk result (λ values. bytes_of_each values.items
+        ≡ values_of (codes "CATEGORY") (operand_texts operands.now)) }
 {
     let mut values = Vec::new(alloc);
     for operand in operands {

@@ -77,7 +77,15 @@ impl Fault for HoldFault {
 
     ghost cause = { fault_cause };
 
-    ghost numbers = { elim [ NoKind _ ↦ Prim.search rules | TwoKinds _ ↦ Prim.search rules | NoReason _ ↦ Prim.search rules | BadId _ ↦ Prim.search rules | BadDate _ ↦ Prim.search rules | BadCategory _ ↦ Prim.search rules | Memory ↦ Prim.search rules ] };
+    ghost numbers = { elim [
+      | NoKind _ ↦ Prim.search rules
+      | TwoKinds _ ↦ Prim.search rules
+      | NoReason _ ↦ Prim.search rules
+      | BadId _ ↦ Prim.search rules
+      | BadDate _ ↦ Prim.search rules
+      | BadCategory _ ↦ Prim.search rules
+      | Memory ↦ Prim.search rules
+    ] };
 
     fn number(self) -> u8 {
         self.number()

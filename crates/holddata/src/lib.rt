@@ -1,12 +1,12 @@
 //! HOLDDATA: the holds that `++HOLD` statements put and `++RELEASE` statements take away, kept in a book by
 //! SYSMOD, kind and reason.
 //!
-//! - [`change`]: the [`HoldChange`] that a statement makes, if it makes one, or its [`HoldFault`]; [`changes`]: those of a
-//!   list of statements
-//! - [`hold_operands`]: the operands that are read, for those who ask for these alone; [`sole_value`]: the one value that
-//!   operands of one name give
-//! - [`HoldBook`]: takes changes one by one or many at a time, and gives its holds by key, by SYSMOD, in key order, and as
-//!   text; [`BookPlace`]: its order
+//! - [`change`]: the [`HoldChange`] that a statement makes, if it makes one, or its [`HoldFault`]; [`changes`]: those
+//!   of a list of statements
+//! - [`hold_operands`]: the operands that are read, for those who ask for these alone; [`sole_value`]: the one value
+//!   that operands of one name give
+//! - [`HoldBook`]: takes changes one by one or many at a time, and gives its holds by key, by SYSMOD, in key order,
+//!   and as text; [`BookPlace`]: its order
 //! - [`book_left`]: the book that a list of changes leaves; [`book_text_left`]: its text
 //! - [`Hold`], [`HoldKey`]: a hold, and what it is known by; [`Kind`], [`Date`], [`Categories`]: parts of it
 //! - [`NoMemory`]: memory ran out

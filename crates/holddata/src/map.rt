@@ -18,7 +18,7 @@ use std::collections::btree_map::Range;
 pub(crate) type HoldMap = BTreeMap<BookPlace, Hold>;
 
 /// The same map once more.
-pub(crate) fn copied(holds: &HoldMap) -> Result<HoldMap, NoMemory>
+pub(crate) fn copy_holds(holds: &HoldMap) -> Result<HoldMap, NoMemory>
     ensures { IfOk result (λ copy. copy.entries ≡ holds.now.entries) }
 {
     holds.clone()
@@ -44,7 +44,8 @@ pub(crate) fn holds_around<'a>(holds: &'a HoldMap, sysmod: &Id) -> Range<'a, Boo
 /// Makes one change.
 pub(crate) fn make_change(holds: &mut HoldMap, change: HoldChange) -> Result<(), NoMemory>
     requires { IsPlaced holds.old.entries }
-    ensures changed { OnOk result (IsChanged change (values_of holds.old.entries) (values_of holds.new.entries)) }
+    ensures changed { OnOk result
+        (IsChanged change (values_of holds.old.entries) (values_of holds.new.entries)) }
     ensures ordered { IsOrdered place_cmp holds.new }
     ensures placed { IsPlaced holds.new.entries }
     ensures err { OnErr result (holds.new.entries ≡ holds.old.entries) }

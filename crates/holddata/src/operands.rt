@@ -57,7 +57,8 @@ pub(crate) fn given_by_operands<'a>(operands: &[Operand<'a>]) -> Gathered<'a>
 /// memory.
 #[tactic(auto, using(crate::proofs::OperandFacts::shown_more))]
 pub fn sole_value<'a>(operands: &[Operand<'a>], name: &[u8]) -> Option<&'a [u8]>
-    ensures { option_map (λ value. value.now) result ≡ sole (values_of name.now (operand_texts operands.now)) }
+    ensures { option_map (λ value. value.now) result
+        ≡ sole (values_of name.now (operand_texts operands.now)) }
 {
     let mut given = Given::Nothing;
     for operand in operands {
@@ -71,7 +72,8 @@ pub fn sole_value<'a>(operands: &[Operand<'a>], name: &[u8]) -> Option<&'a [u8]>
 
 // Puts what one more operand gives after what was given.
 fn gather<'a>(given: &mut Gathered<'a>, operand: &Operand<'a>)
-    ensures { (seen : List OperandText) → IsGathered given.old seen → IsGathered given.new (seen ++ operand_text operand.now ∷ []) }
+    ensures { (seen : List OperandText) → IsGathered given.old seen →
+        IsGathered given.new (seen ++ operand_text operand.now ∷ []) }
 {
     given.kinds = with_kind(given.kinds, kind_named(operand.name));
     given.reason = with_named(given.reason, operand, b"REASON");
@@ -83,17 +85,19 @@ fn gather<'a>(given: &mut Gathered<'a>, operand: &Operand<'a>)
 }
 
 fn with_named<'a>(given: Given<&'a [u8]>, operand: &Operand<'a>, name: &[u8]) -> Given<&'a [u8]>
-    ensures { (seen : List (List ℕ)) → Shows given.entry seen → Shows result (seen ++ named_values name.now (operand_text operand.now)) }
+    ensures { (seen : List (List ℕ)) → Shows given.entry seen →
+        Shows result (seen ++ named_values name.now (operand_text operand.now)) }
 {
     if is_named(operand.name, name) {
-        joined(given, operand.values.as_slice())
+        with_values(given, operand.values.as_slice())
     } else {
         given
     }
 }
 
-fn joined<'a>(given: Given<&'a [u8]>, values: &[&'a [u8]]) -> Given<&'a [u8]>
-    ensures { (seen : List (List ℕ)) → Shows given.entry seen → Shows result (seen ++ bytes_of_each values.now) }
+fn with_values<'a>(given: Given<&'a [u8]>, values: &[&'a [u8]]) -> Given<&'a [u8]>
+    ensures { (seen : List (List ℕ)) → Shows given.entry seen →
+        Shows result (seen ++ bytes_of_each values.now) }
 {
     if values.is_empty() {
         return given;

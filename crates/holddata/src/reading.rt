@@ -54,11 +54,12 @@ pub fn changes(alloc: Global, statements: &[Statement]) -> Result<Vec<HoldChange
 pub fn change(alloc: Global, statement: &Statement) -> Result<Option<HoldChange>, HoldFault>
     ensures change { IfOk result (λ change. change ≡ change_of statement.now) }
     ensures no_fault { OnOk result (faults_of statement.now ≡ []) }
-    ensures fault { IfErr result (IsRefusal Memory (λ fault. first_of (faults_of statement.now) ≡ Some fault)) }
+    ensures fault { IfErr result (IsRefusal Memory
+        (λ fault. first_of (faults_of statement.now) ≡ Some fault)) }
 {
     match statement.verb {
         Verb::Hold => Ok(Some(HoldChange::Put(hold_by(alloc, statement)?))),
-        Verb::Release => Ok(Some(HoldChange::Release(released_by(statement)?))),
+        Verb::Release => Ok(Some(HoldChange::Release(key_of_release(statement)?))),
         Verb::Func | Verb::Ptf | Verb::Apar | Verb::Usermod | Verb::Ver | Verb::Cond => Ok(None),
     }
 }
@@ -69,7 +70,8 @@ fn hold_by(alloc: Global, statement: &Statement) -> Result<Hold, HoldFault>
     requires { statement.now.verb ≡ verb.Hold }
     ensures hold { IfOk result (λ hold. hold_of statement.now ≡ Some hold) }
     ensures no_fault { OnOk result (faults_of statement.now ≡ []) }
-    ensures fault { IfErr result (IsRefusal Memory (λ fault. first_of (faults_of statement.now) ≡ Some fault)) }
+    ensures fault { IfErr result (IsRefusal Memory
+        (λ fault. first_of (faults_of statement.now) ≡ Some fault)) }
 {
     let operands = statement.operands.as_slice();
     let given = given_by_operands(operands);
@@ -93,7 +95,7 @@ fn hold_by(alloc: Global, statement: &Statement) -> Result<Hold, HoldFault>
 // The key of the hold that a `++RELEASE` statement takes away. The FMID plays no role in that, but has to be
 // an id where it is given.
 #[tactic(auto, using(crate::proofs::StatementFacts::first_of_longer))]
-fn released_by(statement: &Statement) -> Result<HoldKey, HoldFault>
+fn key_of_release(statement: &Statement) -> Result<HoldKey, HoldFault>
     requires { statement.now.verb ≡ verb.Release }
     ensures key { IfOk result (λ key. key_named statement.now ≡ Some key) }
     ensures no_fault { OnOk result (faults_of statement.now ≡ []) }
@@ -113,10 +115,13 @@ fn categories_in(
     operands: &[Operand],
 ) -> Result<Categories, HoldFault>
     requires { Shows given (values_of (codes "CATEGORY") (operand_texts operands.now)) }
-    ensures categories { IfOk result (λ categories. categories ≡ in_order (values_of (codes "CATEGORY") (operand_texts operands.now))) }
-    ensures good { OnOk result (list_all is_category (values_of (codes "CATEGORY") (operand_texts operands.now)) ≡ true) }
+    ensures categories { IfOk result (λ categories. categories
+        ≡ in_order (values_of (codes "CATEGORY") (operand_texts operands.now))) }
+    ensures good { OnOk result
+        (list_all is_category (values_of (codes "CATEGORY") (operand_texts operands.now)) ≡ true) }
     ensures bad { IfErr result (IsRefusal Memory (λ fault.
-        (fault ≡ BadCategory line) × (list_all is_category (values_of (codes "CATEGORY") (operand_texts operands.now)) ≡ false))) }
+        (fault ≡ BadCategory line)
+        × (list_all is_category (values_of (codes "CATEGORY") (operand_texts operands.now)) ≡ false))) }
 {
     match given {
         Given::Nothing => Ok(Categories::new(alloc)),
@@ -128,7 +133,8 @@ fn categories_in(
 fn one_category(alloc: Global, line: u32, text: &[u8]) -> Result<Categories, HoldFault>
     ensures categories { IfOk result (λ categories. categories ≡ text.now ∷ []) }
     ensures good { OnOk result (is_category text.now ≡ true) }
-    ensures bad { IfErr result (IsRefusal Memory (λ fault. (fault ≡ BadCategory line) × (is_category text.now ≡ false))) }
+    ensures bad { IfErr result (IsRefusal Memory
+        (λ fault. (fault ≡ BadCategory line) × (is_category text.now ≡ false))) }
 {
     if !is_category(text) {
         return Err(HoldFault::BadCategory(line));
@@ -141,10 +147,13 @@ fn several_categories(
     line: u32,
     operands: &[Operand],
 ) -> Result<Categories, HoldFault>
-    ensures categories { IfOk result (λ categories. categories ≡ in_order (values_of (codes "CATEGORY") (operand_texts operands.now))) }
-    ensures good { OnOk result (list_all is_category (values_of (codes "CATEGORY") (operand_texts operands.now)) ≡ true) }
+    ensures categories { IfOk result (λ categories. categories
+        ≡ in_order (values_of (codes "CATEGORY") (operand_texts operands.now))) }
+    ensures good { OnOk result
+        (list_all is_category (values_of (codes "CATEGORY") (operand_texts operands.now)) ≡ true) }
     ensures bad { IfErr result (IsRefusal Memory (λ fault.
-        (fault ≡ BadCategory line) × (list_all is_category (values_of (codes "CATEGORY") (operand_texts operands.now)) ≡ false))) }
+        (fault ≡ BadCategory line)
+        × (list_all is_category (values_of (codes "CATEGORY") (operand_texts operands.now)) ≡ false))) }
 {
     let values = category_values(alloc, operands)?;
     put_in_order(alloc, line, values.as_slice())
@@ -188,9 +197,12 @@ fn key_by(statement: &Statement, given: &Gathered) -> Result<HoldKey, HoldFault>
 
 // The kind that is named.
 fn kind_in(line: u32, given: Given<Kind>) -> Result<Kind, HoldFault>
-    ensures kind { (kinds : List Kind) → ShowsKinds given kinds → IfOk result (λ kind. the_kind kinds ≡ Some kind) }
-    ensures no_fault { (kinds : List Kind) → ShowsKinds given kinds → OnOk result (kind_faults line kinds ≡ []) }
-    ensures fault { (kinds : List Kind) → ShowsKinds given kinds → IfErr result (λ fault. kind_faults line kinds ≡ fault ∷ []) }
+    ensures kind { (kinds : List Kind) → ShowsKinds given kinds →
+        IfOk result (λ kind. the_kind kinds ≡ Some kind) }
+    ensures no_fault { (kinds : List Kind) → ShowsKinds given kinds →
+        OnOk result (kind_faults line kinds ≡ []) }
+    ensures fault { (kinds : List Kind) → ShowsKinds given kinds →
+        IfErr result (λ fault. kind_faults line kinds ≡ fault ∷ []) }
 {
     match given {
         Given::Nothing => Err(HoldFault::NoKind(line)),
@@ -201,9 +213,12 @@ fn kind_in(line: u32, given: Given<Kind>) -> Result<Kind, HoldFault>
 
 // The one id that is given as the reason.
 fn reason_in(line: u32, given: Given<&[u8]>) -> Result<Id, HoldFault>
-    ensures reason { (values : List (List ℕ)) → Shows given.entry values → IfOk result (λ reason. the_id values ≡ Some reason) }
-    ensures missing { (values : List (List ℕ)) → Shows given.entry values → (result ≡ Err (NoReason line)) ↔ (values ≡ []) }
-    ensures bad { (values : List (List ℕ)) → Shows given.entry values → OnErr result (values ≢ [] → (result ≡ Err (BadId line)) × (is_bad_id values ≡ true)) }
+    ensures reason { (values : List (List ℕ)) → Shows given.entry values →
+        IfOk result (λ reason. the_id values ≡ Some reason) }
+    ensures missing { (values : List (List ℕ)) → Shows given.entry values →
+        (result ≡ Err (NoReason line)) ↔ (values ≡ []) }
+    ensures bad { (values : List (List ℕ)) → Shows given.entry values →
+        OnErr result (values ≢ [] → (result ≡ Err (BadId line)) × (is_bad_id values ≡ true)) }
 {
     let id = optional_id(line, given)?;
     id.ok_or(HoldFault::NoReason(line))
@@ -211,9 +226,12 @@ fn reason_in(line: u32, given: Given<&[u8]>) -> Result<Id, HoldFault>
 
 // The id that values give, if they give any.
 fn optional_id(line: u32, given: Given<&[u8]>) -> Result<Option<Id>, HoldFault>
-    ensures id { (values : List (List ℕ)) → Shows given.entry values → IfOk result (λ id. the_id values ≡ id) }
-    ensures good { (values : List (List ℕ)) → Shows given.entry values → OnOk result (is_bad_id values ≡ false) }
-    ensures bad { (values : List (List ℕ)) → Shows given.entry values → IfErr result (λ fault. (fault ≡ BadId line) × (is_bad_id values ≡ true)) }
+    ensures id { (values : List (List ℕ)) → Shows given.entry values →
+        IfOk result (λ id. the_id values ≡ id) }
+    ensures good { (values : List (List ℕ)) → Shows given.entry values →
+        OnOk result (is_bad_id values ≡ false) }
+    ensures bad { (values : List (List ℕ)) → Shows given.entry values →
+        IfErr result (λ fault. (fault ≡ BadId line) × (is_bad_id values ≡ true)) }
 {
     match given {
         Given::Nothing => Ok(None),
@@ -224,9 +242,12 @@ fn optional_id(line: u32, given: Given<&[u8]>) -> Result<Option<Id>, HoldFault>
 
 // The date that values give, if they give any.
 fn optional_date(line: u32, given: Given<&[u8]>) -> Result<Option<Date>, HoldFault>
-    ensures date { (values : List (List ℕ)) → Shows given.entry values → IfOk result (λ date. the_date values ≡ date) }
-    ensures good { (values : List (List ℕ)) → Shows given.entry values → OnOk result (is_bad_date values ≡ false) }
-    ensures bad { (values : List (List ℕ)) → Shows given.entry values → IfErr result (λ fault. (fault ≡ BadDate line) × (is_bad_date values ≡ true)) }
+    ensures date { (values : List (List ℕ)) → Shows given.entry values →
+        IfOk result (λ date. the_date values ≡ date) }
+    ensures good { (values : List (List ℕ)) → Shows given.entry values →
+        OnOk result (is_bad_date values ≡ false) }
+    ensures bad { (values : List (List ℕ)) → Shows given.entry values →
+        IfErr result (λ fault. (fault ≡ BadDate line) × (is_bad_date values ≡ true)) }
 {
     match given {
         Given::Nothing => Ok(None),

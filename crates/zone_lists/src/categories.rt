@@ -34,7 +34,8 @@ pub fn patterns(alloc: Global, text: &[u8]) -> Result<Vec<Pattern>, ListFault>
     ensures fault { IfErr result (IsRefusal ListFault.Memory (λ fault. patterns_of text.now ≡ Err fault)) }
     ensures ascending { IfOk result (λ patterns. IsStrictlySortedBy (slice_cmp nat_cmp) patterns.items) }
     ensures each { IfOk result (λ patterns. HasEach pattern_list text.now patterns.items) }
-    ensures first { IfErr result (IsRefusal ListFault.Memory (IsFirstFault pattern_list IsPatternFault (records_of text.now))) }
+    ensures first { IfErr result (IsRefusal ListFault.Memory
+        (IsFirstFault pattern_list IsPatternFault (records_of text.now))) }
 {
     let list: PatternSet = read_list(alloc, text)?;
     let rows = list.patterns.into_iter().collect(alloc)?;
@@ -83,8 +84,10 @@ impl Entries for PatternSet {
 
 // The pattern that a record stands for by itself.
 fn pattern_at(alloc: Global, row: &ByteRecord, n: u32) -> Result<Pattern, ListFault>
-    ensures made { IfOk result (λ pattern. at_number n (pattern_field (Spec.one_field (fields_of row.now))) ≡ Ok pattern) }
-    ensures fault { IfErr result (IsRefusal ListFault.Memory (λ fault. at_number n (pattern_field (Spec.one_field (fields_of row.now))) ≡ Err fault)) }
+    ensures made { IfOk result
+        (λ pattern. at_number n (pattern_field (Spec.one_field (fields_of row.now))) ≡ Ok pattern) }
+    ensures fault { IfErr result (IsRefusal ListFault.Memory
+        (λ fault. at_number n (pattern_field (Spec.one_field (fields_of row.now))) ≡ Err fault)) }
 {
     let Some(field) = one_field(row) else {
         return Err(ListFault::BadRecord(n));

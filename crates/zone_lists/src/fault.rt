@@ -43,7 +43,16 @@ impl Fault for ListFault {
 
     ghost cause = { fault_cause };
 
-    ghost numbers = { elim [ Header ↦ Prim.search rules | BadRecord _ ↦ Prim.search rules | BadId _ ↦ Prim.search rules | BadState _ ↦ Prim.search rules | BadPattern _ ↦ Prim.search rules | Repeated _ ↦ Prim.search rules | TooMany ↦ Prim.search rules | Memory ↦ Prim.search rules ] };
+    ghost numbers = { elim [
+      | Header ↦ Prim.search rules
+      | BadRecord _ ↦ Prim.search rules
+      | BadId _ ↦ Prim.search rules
+      | BadState _ ↦ Prim.search rules
+      | BadPattern _ ↦ Prim.search rules
+      | Repeated _ ↦ Prim.search rules
+      | TooMany ↦ Prim.search rules
+      | Memory ↦ Prim.search rules
+    ] };
 
     fn number(self) -> u8 {
         match self {

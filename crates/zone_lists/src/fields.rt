@@ -22,7 +22,8 @@ pub fn one_field(row: &ByteRecord) -> Option<&[u8]>
 
 /// The fields of a record of two fields, each without the blanks and tabs at both ends.
 pub fn two_fields(row: &ByteRecord) -> Option<(&[u8], &[u8])>
-    ensures { option_map (λ fields. (fields.0.now, fields.1.now)) result ≡ Spec.two_fields (fields_of row.now) }
+    ensures { option_map (λ fields. (fields.0.now, fields.1.now)) result
+        ≡ Spec.two_fields (fields_of row.now) }
 {
     if row.len() != 2 {
         return None;

@@ -40,8 +40,10 @@ pub trait Entries: Drop {
     /// contradicts an earlier one; `Memory`. After an error what was gathered is of no use.
     fn add(&mut self, row: &ByteRecord, n: u32) -> Result<(), ListFault>
         ensures added { OnOk result ((earlier : List Self.Entry) → Has self.old earlier
-            → (entry : Self.Entry) × Spec.StandsAfter kind earlier (fields_of row.now) entry × Has self.new (earlier ++ entry ∷ [])) }
-        ensures fault { IfErr result (IsRefusal ListFault.Memory (λ fault. (earlier : List Self.Entry) → Has self.old earlier
+            → (entry : Self.Entry) × Spec.StandsAfter kind earlier (fields_of row.now) entry
+            × Has self.new (earlier ++ entry ∷ [])) }
+        ensures fault { IfErr result (IsRefusal ListFault.Memory
+            (λ fault. (earlier : List Self.Entry) → Has self.old earlier
             → Spec.own_fault kind n earlier (kind.entry (fields_of row.now)) ≡ Some fault)) };
 }
 
@@ -52,8 +54,10 @@ pub trait Entries: Drop {
 /// The first fault of the list: `Header`; then by record, and in a record in this order, `TooMany`
 /// past the limit, what is wrong with it by itself, `Repeated`. `Memory` may come in place of any answer.
 pub fn read_list<E: Entries>(alloc: Global, text: &[u8]) -> Result<E, ListFault>
-    ensures entries { IfOk result (λ list. (all : List E.Entry) × E.Has list all × (Spec.answer E.kind (Spec.records_of text.now) ≡ Ok (Spec.in_order E.kind all))) }
-    ensures fault { IfErr result (IsRefusal ListFault.Memory (λ fault. Spec.answer E.kind (Spec.records_of text.now) ≡ Err fault)) }
+    ensures entries { IfOk result (λ list. (all : List E.Entry) × E.Has list all
+        × (Spec.answer E.kind (Spec.records_of text.now) ≡ Ok (Spec.in_order E.kind all))) }
+    ensures fault { IfErr result (IsRefusal ListFault.Memory
+        (λ fault. Spec.answer E.kind (Spec.records_of text.now) ≡ Err fault)) }
 {
     let mut records = Records::new(alloc, text);
     if !records.read_next()? || !E::is_header(records.row()) {

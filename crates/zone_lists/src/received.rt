@@ -31,10 +31,12 @@ pub const RECEIVED_RECORDS: u32 = 20_000;
 /// of all. `Memory` may come in place of any answer.
 pub fn received_rows(alloc: Global, text: &[u8]) -> Result<Vec<Id>, ListFault>
     ensures rows { IfOk result (λ ids. received_rows_of text.now ≡ Ok ids.items) }
-    ensures fault { IfErr result (IsRefusal ListFault.Memory (λ fault. received_rows_of text.now ≡ Err fault)) }
+    ensures fault { IfErr result (IsRefusal ListFault.Memory
+        (λ fault. received_rows_of text.now ≡ Err fault)) }
     ensures ascending { IfOk result (λ ids. IsStrictlySortedBy (slice_cmp nat_cmp) ids.items) }
     ensures each { IfOk result (λ ids. HasEach received_list text.now ids.items) }
-    ensures first { IfErr result (IsRefusal ListFault.Memory (IsFirstFault received_list IsReceivedFault (records_of text.now))) }
+    ensures first { IfErr result (IsRefusal ListFault.Memory
+        (IsFirstFault received_list IsReceivedFault (records_of text.now))) }
 {
     let list: ReceivedIds = read_list(alloc, text)?;
     let rows = list.ids.into_iter().collect(alloc)?;

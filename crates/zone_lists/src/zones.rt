@@ -59,7 +59,8 @@ pub fn zone_rows(alloc: Global, text: &[u8]) -> Result<Vec<ZoneRow>, ListFault>
     ensures fault { IfErr result (IsRefusal ListFault.Memory (λ fault. zone_rows_of text.now ≡ Err fault)) }
     ensures ascending { IfOk result (λ rows. RowsAscend rows.items) }
     ensures each { IfOk result (λ rows. HasEach zone_list text.now rows.items) }
-    ensures first { IfErr result (IsRefusal ListFault.Memory (IsFirstFault zone_list IsZoneFault (records_of text.now))) }
+    ensures first { IfErr result (IsRefusal ListFault.Memory
+        (IsFirstFault zone_list IsZoneFault (records_of text.now))) }
 {
     let list: ZoneStates = read_list(alloc, text)?;
     let rows = rows_of(alloc, list.states)?;
@@ -156,10 +157,14 @@ impl ZoneState {
 
 // Adds a row to those before it, unless its SYSMOD came before with another state.
 fn add_row(states: &mut BTreeMap<Id, ZoneState>, row: ZoneRow, n: u32) -> Result<(), ListFault>
-    ensures added { OnOk result (states.new.entries ≡ insert_entry (slice_cmp nat_cmp) states.old.entries row.sysmod row.state) }
-    ensures found { OnOk result (Updates (slice_cmp nat_cmp) states.old states.new row.sysmod (Some row.state)) }
-    ensures same { OnOk result (has_other_state row.state (get (slice_cmp nat_cmp) states.old row.sysmod) ≡ false) }
-    ensures repeated { IfErr result (IsRefusal ListFault.Memory (λ fault. (fault ≡ ListFault.Repeated n) × (has_other_state row.state (get (slice_cmp nat_cmp) states.old row.sysmod) ≡ true))) }
+    ensures added { OnOk result (states.new.entries
+        ≡ insert_entry (slice_cmp nat_cmp) states.old.entries row.sysmod row.state) }
+    ensures found { OnOk result
+        (Updates (slice_cmp nat_cmp) states.old states.new row.sysmod (Some row.state)) }
+    ensures same { OnOk result
+        (has_other_state row.state (get (slice_cmp nat_cmp) states.old row.sysmod) ≡ false) }
+    ensures repeated { IfErr result (IsRefusal ListFault.Memory (λ fault. (fault ≡ ListFault.Repeated n)
+        × (has_other_state row.state (get (slice_cmp nat_cmp) states.old row.sysmod) ≡ true))) }
 {
     let before = states.insert(row.sysmod, row.state)?;
     match before {
