@@ -12,6 +12,19 @@
 //! - [`NoMemory`]: memory ran out
 //!
 //! `specs/` says what the content is: begin with its `Content`, `Publication` and `Touched`.
+//!
+//! ```
+//! use catalogue::{ListPublished, Published, read_changes, touched};
+//! use mcs_reader::{Id, read};
+//! let mut lists = ListPublished::new(alloc);
+//! let source = b"++PTF(UJ90102).\n++VER(Z038) FMID(HBB77E0) PRE(UJ90101) SUP(AJ00001).\n";
+//! let changes = read_changes(alloc, &read(alloc, source)?)?;
+//! let ids = touched(alloc, &mut lists, &changes)?; // before the publication: a cache drops these
+//! assert_eq!(rt; ids.len(), 2);
+//! lists.publish(&changes)?;
+//! let givers = lists.superseders(&Id::new(b"AJ00001").ok_or("an id")?)?;
+//! assert!(rt; givers.len() == 1 && givers[0].text() == "UJ90102");
+//! ```
 #![tactic(auto)]
 
 mod asked;

@@ -8,6 +8,17 @@
 //!
 //! A contract says `IsRefusal memory IsFault fault` of `specs/Refusal.antt` where a call is refused: memory
 //! ran out, or the fault is the one that is told.
+//!
+//! ```
+//! use faults::{AnyFault, Cause, Fault, fault_text};
+//! use mcs_reader::read;
+//! // the statement that begins on line 2 has no period
+//! let source = b"++HOLD(UJ90101) ERROR REASON(AJ00001).\n++RELEASE(UJ90101) ERROR\n";
+//! let fault = read(alloc, source).err().ok_or("a fault")?;
+//! assert_eq!(rt; (fault.number(), fault.place(), fault.cause()), (1, Some(2), Cause::Input));
+//! assert_eq!(rt; fault_text(fault).as_str(), "FAULT 1 2\n");
+//! assert_eq!(rt; AnyFault::from(fault).text().as_str(), "FAULT 1 2\n");
+//! ```
 #![tactic(auto)]
 
 mod any;

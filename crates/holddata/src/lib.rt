@@ -12,6 +12,17 @@
 //! - [`NoMemory`]: memory ran out
 //!
 //! `specs/` says what each is: begin with its `HoldBook`.
+//!
+//! ```
+//! use holddata::{Kind, book_left, changes};
+//! use mcs_reader::{Id, read};
+//! let source = b"++HOLD(UJ90101) ERROR FMID(HBB77E0) REASON(AJ00001) CLASS(PE).\n\
+//! ++HOLD(UJ90101) SYSTEM FMID(HBB77E0) REASON(IPL).\n++RELEASE(UJ90101) ERROR REASON(AJ00001).\n";
+//! let book = book_left(alloc, changes(alloc, &read(alloc, source)?)?)?;
+//! let holds = book.holds_on(&Id::new(b"UJ90101").ok_or("an id")?)?;
+//! assert!(rt; holds.len() == 1 && holds.iter().all(|hold| hold.key.kind == Kind::SystemHold));
+//! assert!(rt; book.text()?.ends_with(b"ROWS 1\n"));
+//! ```
 #![tactic(auto)]
 
 mod asked;

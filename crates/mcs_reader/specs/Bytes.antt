@@ -1,3 +1,4 @@
+-- Slices of the source as the bytes that stand in them.
 use Rattle.std.specs.Prelude.{ℕ, List, map}
 use Rattle.std.specs.Borrow.{Bor}
 

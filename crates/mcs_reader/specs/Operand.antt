@@ -1,3 +1,4 @@
+-- An operand of the code, and the operand text that it stands for.
 use Rattle.std.specs.Prelude.{List, map}
 use Rattle.mcs_reader.specs.OperandText.{OperandText}
 use Rattle.mcs_reader.specs.declared.statement.Operand.{Operand}

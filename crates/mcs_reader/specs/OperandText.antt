@@ -1,3 +1,4 @@
+-- An operand of a statement as a value: its name and the values of its list.
 use Rattle.std.specs.Prelude.{ℕ, List}
 
 -- an operand as a reader of the source sees it: its name and the values of its list

@@ -13,6 +13,19 @@
 //! - [`is_category`]: whether a text is a fix category; [`is_category_byte`]: whether a byte may stand in one
 //!
 //! `specs/` says what a statement is, apart from any code: begin with its `Reading`.
+//!
+//! ```
+//! use mcs_reader::{Statements, Verb, read};
+//! let source = b"++HOLD(UJ90101) ERROR FMID(HBB77E0)\n REASON(AJ00001) CLASS(PE,HIPER).\n";
+//! for statement in &read(alloc, source)? {
+//!     assert_eq!(rt; (statement.verb, statement.line), (Verb::Hold, 1));
+//!     assert!(rt; statement.subject.is_some_and(|id| id.text() == "UJ90101"));
+//! }
+//! // one statement at a time, with these operands alone
+//! let mut statements = Statements::asking(alloc, source, &[b"FMID", b"REASON"])?;
+//! let statement = statements.next()?.ok_or("a statement")?;
+//! assert_eq!(rt; statement.operands.as_slice().len(), 2);
+//! ```
 #![tactic(auto)]
 
 mod asked;

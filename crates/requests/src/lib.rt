@@ -12,6 +12,19 @@
 //! - [`read_whole`]: so many bytes, or all that there are
 //! - [`Refusal`]: why a request isn't given to the bureau, with its [`Status`] and its text
 //! - [`ReplyHead`], [`head_text`]: the head of a reply
+//!
+//! ```
+//! use requests::{Action, Routes, Turn, read_turn};
+//! use transfer::{Intake, RETRIES};
+//! let (routes, mut intake) = (Routes::new(alloc)?, Intake::new(alloc));
+//! let mut reader: &[u8] = b"GET /zones HTTP/1.1\r\nbureau-token: alpha-token\r\n\r\n";
+//! let Turn::Whole(request) = read_turn(&mut intake, &mut reader, &mut { RETRIES })? else {
+//!     return Err("a whole request".into());
+//! };
+//! assert_eq!(rt; request.token(intake.bytes()), Some(b"alpha-token".as_slice()));
+//! assert_eq!(rt; request.action(intake.bytes(), &routes), Ok(Action::ListZones));
+//! request.take_off(&mut intake); // what comes after it is the next request
+//! ```
 #![tactic(auto)]
 
 mod action;

@@ -16,6 +16,18 @@
 //!
 //! - [`Entries`]: the entries of one kind of list, gathered from its records; [`read_list`] reads them
 //! - [`one_field`], [`two_fields`], [`is_name`], [`are_names`]: the fields of a record
+//!
+//! ```
+//! use zone_lists::{ZoneState, patterns, received_rows, zone_rows};
+//! let rows = zone_rows(alloc, b"SYSMOD,STATE\nUJ90101,APPLIED\nHBB77E0,APPLIED\n")?;
+//! let first = rows.first().ok_or("a row")?; // the rows ascend
+//! assert!(rt; first.sysmod.text() == "HBB77E0" && first.state == ZoneState::Applied);
+//! let received = received_rows(alloc, b"SYSMOD\nUJ90102\n")?;
+//! assert_eq!(rt; received.len(), 1);
+//! for pattern in &patterns(alloc, b"CATEGORY\nIBM.Device.*\n")? {
+//!     assert!(rt; pattern.matches(b"ibm.device.server"));
+//! }
+//! ```
 #![tactic(auto)]
 
 mod categories;
