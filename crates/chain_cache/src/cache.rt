@@ -1,5 +1,5 @@
 //! `ChainCache`.
-ghost use Rattle.std.specs.Prelude.{◌≡◌, ◌≤◌, ◌∷◌, [], ℕ, true, false, IfOk, IfSome, IsSome, OnOk, OnErr, Some, map, slice_get, take};
+ghost use Rattle.std.specs.Prelude.{◌≡◌, ◌≤◌, [], ℕ, true, false, IfOk, IfSome, IsSome, OnOk, OnErr, Some, map, slice_get, take};
 ghost use Rattle.std.specs.Borrow.{sem};
 ghost use Rattle.std.specs.Map.Iter.{ShowsInOrder, deref_pair};
 ghost use Rattle.catalogue.specs.Content.{Content, IsInOrder};
@@ -38,9 +38,9 @@ const NODES_EACH: usize = 8;
 /// Judges from frames, of which it keeps those that were used last. All callers share them: a frame names no
 /// zone and no client.
 ///
-/// A SYSMOD that reaches far has a large frame. So where a chain has more than 256 nodes, or a report many SYSMODs, the
-/// zone is looked over whole. What is catalogued is read once for that, whatever the zone; it and the surveys of up to 16
-/// zones are kept until the next publication.
+/// A SYSMOD that reaches far has a large frame. So where a chain has more than 256 nodes, or a report many
+/// SYSMODs, the zone is looked over whole. What is catalogued is read once for that, whatever the zone; it and
+/// the surveys of up to 16 zones are kept until the next publication.
 #[derive(Debug, Drop)]
 pub struct ChainCache {
     frames: Frames,
@@ -147,7 +147,8 @@ impl ChainCache {
         Ok(self.put(id, built)?)
     }
 
-    // The same, where the frame is kept or has at most so many nodes. Whether it stands first then; else all is as it was.
+    // The same, where the frame is kept or has at most so many nodes. Whether it stands first then; else all is as
+    // it was.
     fn fill_small<P: Published>(
         &mut self,
         alloc: Global,
@@ -156,7 +157,8 @@ impl ChainCache {
         most: usize,
     ) -> Result<bool, SourceFault>
         ensures asks { MayAsk P.content_view Device source.old source.new result }
-        ensures filled { IfOk result (λ is. is ≡ true → (frame : FrameLists) × IsFilled id.now frame self.old self.new) }
+        ensures filled { IfOk result
+            (λ is. is ≡ true → (frame : FrameLists) × IsFilled id.now frame self.old self.new) }
         ensures same { IfOk result (λ is. is ≡ false → self.new ≡ self.old) }
         ensures right { Tells P.content_view source.old source.new
             (λ content. IsRightFor self.old content → IsRightFor self.new content) }
@@ -189,7 +191,8 @@ impl ChainCache {
     fn put(&mut self, id: &Id, built: Frame) -> Result<(), NoMemory>
         requires { has self.now.entries id.now ≡ false }
         ensures filled { OnOk result (IsFilled id.now built self.old self.new) }
-        ensures right { OnOk result ((content : Content) → IsRightFor self.old content → IsFrame content id.now built → IsRightFor self.new content) }
+        ensures right { OnOk result ((content : Content) → IsRightFor self.old content
+            → IsFrame content id.now built → IsRightFor self.new content) }
         ensures err { OnErr result (self.new ≡ self.old) }
     {
         self.frames.put(*id, built)?;
@@ -209,7 +212,8 @@ impl ChainCache {
     fn first_verdict(&self, alloc: Global, zone: &Zone, id: &Id) -> Result<Verdict, NoMemory>
         requires { IsSome (slice_get self.now.entries 0) }
         ensures { IfOk result (λ verdict. (frame : FrameLists) (content : Content)
-            → slice_get self.now.entries 0 ≡ Some (id.now, frame) → IsFrame content id.now frame → judge.judged_by verdict ≡ verdict_of content zone.now id.now) }
+            → slice_get self.now.entries 0 ≡ Some (id.now, frame) → IsFrame content id.now frame
+            → judge.judged_by verdict ≡ verdict_of content zone.now id.now) }
     {
         let Some((_, frame)) = self.frames.peek_mru() else {
             unreachable!()
@@ -229,7 +233,8 @@ impl ChainCache {
     ) -> Result<Verdict, SourceFault>
         ensures asks { MayAsk P.content_view Device source.old source.new result }
         ensures verdict { IfOk result (λ verdict. Tells P.content_view source.old source.new
-            (λ content. IsRightFor self.old content → judge.judged_by verdict ≡ verdict_of content zone.now id.now)) }
+            (λ content. IsRightFor self.old content
+            → judge.judged_by verdict ≡ verdict_of content zone.now id.now)) }
         ensures right { Tells P.content_view source.old source.new
             (λ content. IsRightFor self.old content → IsRightFor self.new content) }
         ensures frames { KeepsFrames self.old self.new }
@@ -250,7 +255,8 @@ impl ChainCache {
     ) -> Result<Vec<Status>, SourceFault>
         ensures asks { MayAsk P.content_view Device source.old source.new result }
         ensures statuses { IfOk result (λ statuses. Tells P.content_view source.old source.new
-            (λ content. IsRightFor self.old content → statuses.items ≡ map (λ id. judge.status_of (verdict_of content zone.now id)) ids.now)) }
+            (λ content. IsRightFor self.old content
+            → statuses.items ≡ map (λ id. judge.status_of (verdict_of content zone.now id)) ids.now)) }
         ensures right { Tells P.content_view source.old source.new
             (λ content. IsRightFor self.old content → IsRightFor self.new content) }
         ensures frames { KeepsFrames self.old self.new }
@@ -270,7 +276,8 @@ impl ChainCache {
         ids: &[Id],
     ) -> Result<Option<Vec<Status>>, SourceFault>
         ensures asks { MayAsk P.content_view Device source.old source.new result }
-        ensures statuses { IfOk result (λ found. IfSome found (λ statuses. Tells P.content_view source.old source.new
+        ensures statuses { IfOk result (λ found. IfSome found
+            (λ statuses. Tells P.content_view source.old source.new
             (λ content. IsRightFor self.old content
             → statuses.items ≡ map (λ id. judge.status_of (verdict_of content zone.now id)) ids.now))) }
         ensures right { Tells P.content_view source.old source.new
@@ -342,7 +349,8 @@ impl<P: Published> Judge<P> for ChainCache {
             → statuses.items ≡ map (λ id. judge.status_of (verdict_of content zone.now id)) ids.now)) }
         ensures right { Tells P.content_view source.old source.new
             (λ content. IsRightFor self.old content → IsRightFor self.new content) }
-        ensures filled { (n : ℕ) × (between : CacheLists) × AreFilled (take n ids.now) self.old between × KeepsFrames between self.new }
+        ensures filled { (n : ℕ) × (between : CacheLists) × AreFilled (take n ids.now) self.old between
+            × KeepsFrames between self.new }
     {
         if let Some(survey) = self.surveys.of(zone) {
             return Ok(survey.statuses(alloc, ids)?);

@@ -73,7 +73,8 @@ impl Surveys {
 
     /// The survey of a zone with these rows, if it is kept.
     pub(crate) fn of(&self, zone: &Zone) -> Option<&Survey>
-        ensures { IfSome result (λ survey. Contains self.now.zones (record { rows = zone.now; survey = survey.now })) }
+        ensures { IfSome result
+            (λ survey. Contains self.now.zones (record { rows = zone.now; survey = survey.now })) }
     {
         for surveyed in &self.kept {
             if surveyed.is_of(zone) {

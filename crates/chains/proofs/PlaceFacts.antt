@@ -1,12 +1,12 @@
 -- Ids by their places in a list that ascends.
-use Rattle.std.proofs.Common.{◌≡◌, ◌⊎◌, ◌∙◌, ℕ, zero, suc, ◌+◌, ◌<◌, ◌≤◌, Bool, true, false, List, [], ◌∷◌, ◌++◌, length, map, take, get_or, Option, Some, None, Result, Ok, Err, refl, sym, ap, subst, inl, inr, append_assoc, arith}
+use Rattle.std.proofs.Common.{◌≡◌, ◌⊎◌, ◌∙◌, ℕ, zero, suc, ◌+◌, ◌<◌, ◌≤◌, Bool, true, false, List, [], ◌∷◌, ◌++◌, length, map, take, get_or, Option, Some, None, Result, Ok, Err, refl, sym, ap, subst, inl, inr, arith}
 use Rattle.std.specs.List.{AllByRecursion, Contains, flat_map, list_any, slice_get}
 use Rattle.std.specs.List.Sorted.{IsStrictlySortedBy}
 use Rattle.std.specs.Ordering.{ordering_reverse}
 use Rattle.std.specs.declared.cmp.Ordering.TheVariants.{Less, Greater}
 use Rattle.std.proofs.lemmas.Bool.{cases_lt}
-use Rattle.std.proofs.lemmas.Grind.{common_steps, flat_map-append}
-use Rattle.std.proofs.lemmas.List.{append-nil, get_or-map, get_or_append_left, get_or_push, map-append, take_more}
+use Rattle.std.proofs.lemmas.Grind.{common_steps}
+use Rattle.std.proofs.lemmas.List.{get_or-map, get_or_append_left, get_or_push, map-append, take_more}
 use Rattle.std.proofs.lemmas.List.Elements.{Contains-append_left, Contains-append_right, Contains-push, Contains-push_cases}
 use Rattle.catalogue.specs.Ids.{Ascend, id_cmp, same_id}
 use Rattle.catalogue.proofs.IdFacts.{ids_total, itself}
@@ -134,17 +134,6 @@ places_on members ids i id places below at are =
     subst P (sym (take_more ids i id below ∙ ap (λ x. take i ids ++ x ∷ []) (sym at))) are
 
 -- ---- the ids and all that they need
-
-pub needs_on : (sights : List Sight) (i : ℕ) (sight : Sight) (start old new : List (List ℕ)) → i < length sights → sight ≡ get_or sights i sight
-    → old ≡ start ++ flat_map all_needs (take i sights) → new ≡ old ++ all_needs sight
-    → new ≡ start ++ flat_map all_needs (take (i + 1) sights)
-needs_on sights i sight start old new below at was now =
-    now
-    ∙ ap (λ l. l ++ all_needs sight) was
-    ∙ append_assoc start (flat_map all_needs (take i sights)) (all_needs sight)
-    ∙ ap (λ l. start ++ (flat_map all_needs (take i sights) ++ l)) (sym (append-nil (all_needs sight)))
-    ∙ ap (λ l. start ++ l) (sym (flat_map-append all_needs (take i sights) (sight ∷ [])))
-    ∙ ap (λ ss. start ++ flat_map all_needs ss) (sym (take_more sights i sight below ∙ ap (λ s. take i sights ++ s ∷ []) (sym at)))
 
 -- what one of the ids needs is among what all need
 pub need_inside : (f : List ℕ → Sight) (ids : List (List ℕ)) (id need : List ℕ) → Contains ids id → Contains (all_needs (f id)) need → Contains (flat_map all_needs (map f ids)) need

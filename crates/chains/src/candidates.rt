@@ -90,7 +90,8 @@ fn wanted_candidates<P: Published>(
     ensures asks { MayAsk P.content_view Device source.old source.new result }
     ensures len { IfOk result (λ marks. length marks.items ≡ length ids.now) }
     ensures marks { IfOk result (λ marks. Tells P.content_view source.old source.new
-        (λ content. MarksAre (λ p mark. HasSource wanted.now p → mark ≡ is_candidate content zone.now (id_at ids.now p))
+        (λ content. MarksAre
+        (λ p mark. HasSource wanted.now p → mark ≡ is_candidate content zone.now (id_at ids.now p))
         (length ids.now) marks.items)) }
 {
     let mut marks = Vec::with_capacity(alloc, ids.len())?;

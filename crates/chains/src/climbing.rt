@@ -36,7 +36,8 @@ pub(crate) fn climb_from<P: Published>(
     ensures above { IfOk result (λ climb. Tells P.content_view source.old source.new
         (λ content. AreAbove content climb.ids.items climb.above)) }
     ensures ascend { IfOk result (λ climb. Ascend climb.ids.items) }
-    ensures starts { IfOk result (λ climb. (id : List ℕ) → Contains starts.now id → Contains climb.ids.items id) }
+    ensures starts { IfOk result
+        (λ climb. (id : List ℕ) → Contains starts.now id → Contains climb.ids.items id) }
     ensures rows { IfOk result (λ climb. length climb.above ≡ length climb.ids.items) }
     ensures turned { IfOk result (λ climb. AreReversed climb.above (length climb.ids.items) climb.below) }
     ensures standing { IfOk result (λ climb. (id : List ℕ) → Contains starts.now id
@@ -56,7 +57,8 @@ fn superseders_of<P: Published>(
     ensures above { IfOk result (λ found. Tells P.content_view source.old source.new
         (λ content. values found ≡ map (superseders content) (keys found))) }
     ensures listed { IfOk result (λ found. AreListed (values found) (keys found)) }
-    ensures starts { IfOk result (λ found. (id : List ℕ) → Contains starts.now id → Contains (keys found) id) }
+    ensures starts { IfOk result
+        (λ found. (id : List ℕ) → Contains starts.now id → Contains (keys found) id) }
     ensures standing { IfOk result (λ found. (id : List ℕ) → Contains (keys found) id
         → IsOpen P.content_view source.new) }
 {

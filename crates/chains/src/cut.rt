@@ -39,10 +39,12 @@ impl Cut {
         requires ascend { Ascend ids.now }
         requires entries { length entries.now ≡ length ids.now }
         ensures ascend { IfOk result (λ cut. Ascend cut.members.items) }
-        ensures cut { IfOk result (λ cut. (content : Content) → ids.now ≡ ids_of content → entries.now ≡ map (sight_of content) ids.now
+        ensures cut { IfOk result (λ cut. (content : Content) → ids.now ≡ ids_of content
+            → entries.now ≡ map (sight_of content) ids.now
             → IsCut (world_of content zone.now) cut.members.items (world cut.nodes)) }
         ensures within { IfOk result (λ cut. AreNodesWithin cut.members.items cut.nodes) }
-        ensures ids { IfOk result (λ cut. (id : List ℕ) → Contains ids.now id → Contains cut.members.items id) }
+        ensures ids { IfOk result
+            (λ cut. (id : List ℕ) → Contains ids.now id → Contains cut.members.items id) }
     {
         let members = members_of(alloc, ids, entries)?;
         let nodes = nodes_of(alloc, zone, &members, ids, entries)?;
@@ -61,7 +63,8 @@ fn nodes_of(
     requires ascend { Ascend ids.now }
     requires entries { length entries.now ≡ length ids.now }
     ensures seen { IfOk result (λ nodes. (f : List ℕ → Sight) → entries.now ≡ map f ids.now
-        → AreSeen zone.now f ids.now members.now (length members.now) nodes.candidates.items nodes.needs nodes.supersedes) }
+        → AreSeen zone.now f ids.now members.now (length members.now)
+        nodes.candidates.items nodes.needs nodes.supersedes) }
     ensures within { IfOk result (λ nodes. AreNodesWithin members.now nodes) }
     ensures there { IfOk result (λ nodes. AreThere zone.now members.now nodes.supersedes nodes.there.items) }
 {
@@ -127,7 +130,8 @@ pub(crate) fn there_marks(
 }
 
 fn installed_marks(alloc: Global, zone: &Zone, members: &[Id]) -> Result<Vec<bool>, NoMemory>
-    ensures { IfOk result (λ marks. MarksAre (λ p mark. mark ≡ is_installed zone.now (id_at members.now p)) (length members.now) marks.items) }
+    ensures { IfOk result (λ marks. MarksAre (λ p mark. mark ≡ is_installed zone.now (id_at members.now p))
+        (length members.now) marks.items) }
 {
     let mut marks = Vec::with_capacity(alloc, members.len())?;
     for member in members {
@@ -142,7 +146,8 @@ fn listed_or_given(
     members: &[Id],
     sources: &[Option<usize>],
 ) -> Result<Vec<bool>, NoMemory>
-    ensures { IfOk result (λ marks. MarksAre (IsThereAt zone.now members.now (HasSource sources.now)) (length members.now) marks.items) }
+    ensures { IfOk result (λ marks. MarksAre (IsThereAt zone.now members.now (HasSource sources.now))
+        (length members.now) marks.items) }
 {
     let mut marks = Vec::with_capacity(alloc, members.len())?;
     for (place, member) in members.iter().enumerate() {

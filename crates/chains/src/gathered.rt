@@ -1,5 +1,5 @@
 //! All that a SYSMOD reaches, read once.
-ghost use Rattle.std.specs.Prelude.{◌≡◌, ◌++◌, ◌≤◌, ◌<◌, true, false, Contains, IfNone, IfOk, IfSome, IsSome, OnOk, length};
+ghost use Rattle.std.specs.Prelude.{◌≡◌, ◌++◌, ◌≤◌, ◌<◌, true, false, IfNone, IfOk, IfSome, IsSome, OnOk, length};
 ghost use Rattle.std.specs.BTreeMap.{insert_entry, keys, values};
 ghost use Rattle.catalogue.specs.Ids.{Ascend, id_cmp, in_order};
 ghost use Rattle.catalogue.specs.View.{IsOpen, MayAsk, Tells};
@@ -43,7 +43,8 @@ pub(crate) fn gather<P: Published>(
     ensures named { IfOk result (λ found. IfSome found (λ found. AreNamed (values found) (keys found))) }
     ensures standing { IfOk result (λ found. IfSome found (λ found. IsOpen P.content_view source.new)) }
     ensures whole { IfOk result (λ found. IfNone found (IsSome most)) }
-    ensures few { IfOk result (λ found. IfSome found (λ found. IfSome most (λ most. length (keys found) ≤ most))) }
+    ensures few { IfOk result (λ found. IfSome found
+        (λ found. IfSome most (λ most. length (keys found) ≤ most))) }
 {
     let mut found = BTreeMap::new(alloc);
     let mut order = Vec::new(alloc);

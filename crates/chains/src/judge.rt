@@ -34,7 +34,8 @@ pub trait Judge<P: Published> {
     ) -> Result<Verdict, SourceFault>
         ensures asks { MayAsk P.content_view Device source.old source.new result }
         ensures verdict { IfOk result (λ verdict. Tells P.content_view source.old source.new
-            (λ content. is_right self.old content → judge.judged_by verdict ≡ verdict_of content zone.now id.now)) }
+            (λ content. is_right self.old content
+            → judge.judged_by verdict ≡ verdict_of content zone.now id.now)) }
         ensures right { Tells P.content_view source.old source.new
             (λ content. is_right self.old content → is_right self.new content) };
 
@@ -44,7 +45,8 @@ pub trait Judge<P: Published> {
     /// outside these ids, where both are in order: what is published before, and after.
     fn drop_touched(&mut self, ids: &[Id])
         ensures stays { (content : Content) → is_right self.old content → is_right self.new content }
-        ensures right { (old new : Content) → IsInOrder old → IsInOrder new → is_right self.old old → AgreeOutside ids.now old new → is_right self.new new };
+        ensures right { (old new : Content) → IsInOrder old → IsInOrder new → is_right self.old old
+            → AgreeOutside ids.now old new → is_right self.new new };
 
     /// For each SYSMOD which verdict it is, in the order of the list. A judge that can answer many at once
     /// does so; otherwise one is asked for after the other.
@@ -61,7 +63,8 @@ pub trait Judge<P: Published> {
     ) -> Result<Vec<Status>, SourceFault>
         ensures asks { MayAsk P.content_view Device source.old source.new result }
         ensures statuses { IfOk result (λ statuses. Tells P.content_view source.old source.new
-            (λ content. is_right self.old content → statuses.items ≡ map (λ id. judge.status_of (verdict_of content zone.now id)) ids.now)) }
+            (λ content. is_right self.old content
+            → statuses.items ≡ map (λ id. judge.status_of (verdict_of content zone.now id)) ids.now)) }
         ensures right { Tells P.content_view source.old source.new
             (λ content. is_right self.old content → is_right self.new content) }
     {

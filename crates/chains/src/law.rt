@@ -17,7 +17,8 @@ pub fn good_is_planned()
 /// isn't there and that no good SYSMOD gives. No other verdict says so.
 pub fn verdicts_are_right()
     ensures status { (content : Content) (rows : List ZoneRow) (id : List ℕ) → IsRightStatus content rows id }
-    ensures verdict { (content : Content) (rows : List ZoneRow) (id : List ℕ) → IsVerdict content rows id (verdict_of content rows id) }
+    ensures verdict { (content : Content) (rows : List ZoneRow) (id : List ℕ)
+        → IsVerdict content rows id (verdict_of content rows id) }
     ensures alone { (content : Content) (rows : List ZoneRow) (id : List ℕ) (judged : Judged) →
         IsVerdict content rows id judged → judged ≡ verdict_of content rows id }
 {}

@@ -1,5 +1,5 @@
 //! What was gathered, by places, and what gives what among it.
-ghost use Rattle.std.specs.Prelude.{◌≡◌, ◌<◌, ◌↔◌, ℕ, List, Contains, IfOk, OnOk, filter, length, map};
+ghost use Rattle.std.specs.Prelude.{◌≡◌, ◌<◌, ◌↔◌, ℕ, List, Contains, IfOk, filter, length, map};
 ghost use Rattle.std.specs.List.Sorted.{IsStrictlySortedBy};
 ghost use Rattle.std.specs.Ordering.{nat_cmp};
 ghost use Rattle.catalogue.specs.Ids.{Ascend};
@@ -29,7 +29,8 @@ impl Links {
         requires ascend { Ascend ids.now }
         requires len { length all.now ≡ length ids.now }
         ensures needs { IfOk result (λ links. ArePlaced ids.now (map (λ g. g.needs) all.now) links.needs) }
-        ensures supersedes { IfOk result (λ links. ArePlaced ids.now (map (λ g. g.superseded) all.now) links.supersedes) }
+        ensures supersedes { IfOk result
+            (λ links. ArePlaced ids.now (map (λ g. g.superseded) all.now) links.supersedes) }
         ensures above { IfOk result (λ links. ArePlaced ids.now (map (λ g. g.above) all.now) links.above) }
     {
         let mut needs = Rows::new(alloc);
@@ -64,7 +65,8 @@ pub(crate) fn givers_at(
     requires within { place < length ids.now }
     requires placed { ArePlaced ids.now (map (λ g. g.above) all.now) above.now }
     ensures ascend { IfOk result (λ givers. Ascend givers) }
-    ensures each { IfOk result (λ givers. (id : List ℕ) → Contains givers id ↔ IsGiverAt ids.now all.now above.now place id) }
+    ensures each { IfOk result (λ givers. (id : List ℕ)
+        → Contains givers id ↔ IsGiverAt ids.now all.now above.now place id) }
 {
     let places = places_above(alloc, above, place)?;
     let givers = those_catalogued(alloc, all, &places)?;
@@ -74,7 +76,8 @@ pub(crate) fn givers_at(
 // The places to which what is above leads from one, itself among them, ascending.
 fn places_above(alloc: Global, above: &Rows, place: usize) -> Result<Vec<usize>, NoMemory>
     ensures ascend { IfOk result (λ places. IsStrictlySortedBy nat_cmp places.items) }
-    ensures each { IfOk result (λ places. (q : ℕ) → Contains places.items q ↔ Leads (IsAbove above.now) place q) }
+    ensures each { IfOk result
+        (λ places. (q : ℕ) → Contains places.items q ↔ Leads (IsAbove above.now) place q) }
 {
     let mut found = BTreeSet::new(alloc);
     let mut order = Vec::new(alloc);

@@ -77,7 +77,8 @@ impl Entry {
     }
 }
 
-/// All that is catalogued: of each SYSMOD the functions that it is for, what it needs and what it supersedes. It names no zone.
+/// All that is catalogued: of each SYSMOD the functions that it is for, what it needs and what it supersedes. It
+/// names no zone.
 #[derive(Debug, Drop)]
 pub struct Listing {
     ids: Vec<Id>,
@@ -93,7 +94,8 @@ impl Model for Listing {
 
     ghost view = { λ listing. record { ids = listing.ids.items; sights = listing.entries.items } };
 
-    ghost invariant = { λ listing. Ascend listing.ids.items × (length listing.entries.items ≡ length listing.ids.items) };
+    ghost invariant = { λ listing. Ascend listing.ids.items
+        × (length listing.entries.items ≡ length listing.ids.items) };
 }
 
 impl Listing {

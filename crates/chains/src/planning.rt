@@ -30,7 +30,8 @@ use supersede::Zone;
 ///
 /// `NoMemory` where memory ran out.
 pub fn plan(alloc: Global, frame: &Frame, zone: &Zone, id: &Id) -> Result<Verdict, NoMemory>
-    ensures verdict { IfOk result (λ verdict. (content : Content) (start : List ℕ) → IsFrame content start frame.now
+    ensures verdict { IfOk result (λ verdict. (content : Content) (start : List ℕ)
+        → IsFrame content start frame.now
         → Contains (ids_in frame.now.nodes) id.now → judge.judged_by verdict ≡ verdict_of content zone.now id.now) }
 {
     let Some(place) = place_of(frame.ids(), id) else {
@@ -44,11 +45,13 @@ pub fn plan(alloc: Global, frame: &Frame, zone: &Zone, id: &Id) -> Result<Verdic
 
 // The nodes of a frame by their places, as a zone sees them.
 fn seen_from(alloc: Global, frame: &Frame, zone: &Zone) -> Result<Nodes, NoMemory>
-    ensures candidates { IfOk result (λ nodes. nodes.candidates.items ≡ map (λ node. list_any (λ fmid. is_installed zone.now fmid) node.fmids) frame.now.nodes) }
+    ensures candidates { IfOk result (λ nodes. nodes.candidates.items
+        ≡ map (λ node. list_any (λ fmid. is_installed zone.now fmid) node.fmids) frame.now.nodes) }
     ensures needs { IfOk result (λ nodes.
         ArePlaced (ids_in frame.now.nodes) (map (node_needs zone.now) frame.now.nodes) nodes.needs) }
     ensures supersedes { IfOk result (λ nodes. nodes.supersedes ≡ frame.now.supersedes) }
-    ensures there { IfOk result (λ nodes. AreThere zone.now (ids_in frame.now.nodes) nodes.supersedes nodes.there.items) }
+    ensures there { IfOk result
+        (λ nodes. AreThere zone.now (ids_in frame.now.nodes) nodes.supersedes nodes.there.items) }
 {
     let candidates = candidate_marks(alloc, frame.nodes(), zone)?;
     let there = there_marks(alloc, zone, frame.ids(), frame.supersedes())?;
@@ -102,7 +105,8 @@ fn put_needs(
 
 // Which nodes may be installed.
 fn candidate_marks(alloc: Global, nodes: &[FrameNode], zone: &Zone) -> Result<Vec<bool>, NoMemory>
-    ensures { IfOk result (λ marks. marks.items ≡ map (λ node. list_any (λ fmid. is_installed zone.now fmid) node.fmids) nodes.now) }
+    ensures { IfOk result (λ marks. marks.items
+        ≡ map (λ node. list_any (λ fmid. is_installed zone.now fmid) node.fmids) nodes.now) }
 {
     let mut marks = Vec::with_capacity(alloc, nodes.len())?;
     for node in nodes {
@@ -128,7 +132,8 @@ pub fn good(alloc: Global, frame: &Frame, zone: &Zone) -> Result<Vec<Id>, NoMemo
 
 // The ids at the places that are marked.
 fn marked_ids(alloc: Global, ids: &[Id], marks: &[bool]) -> Result<Vec<Id>, NoMemory>
-    ensures { IfOk result (λ those. (f : List ℕ → Bool) → ((p : ℕ) → p < length ids.now → mark_of marks.now p ≡ f (id_at ids.now p))
+    ensures { IfOk result (λ those. (f : List ℕ → Bool)
+        → ((p : ℕ) → p < length ids.now → mark_of marks.now p ≡ f (id_at ids.now p))
         → those.items ≡ filter f ids.now) }
 {
     let mut those = Vec::new(alloc);

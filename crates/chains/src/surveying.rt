@@ -36,7 +36,8 @@ impl Model for Survey {
 
     ghost view = { λ survey. record { members = survey.cut.members.items; nodes = survey.cut.nodes } };
 
-    ghost invariant = { λ survey. IsResolved survey.cut.members.items survey.cut.nodes survey.resolution.good.items survey.resolution.givers.items };
+    ghost invariant = { λ survey. IsResolved survey.cut.members.items survey.cut.nodes
+        survey.resolution.good.items survey.resolution.givers.items };
 }
 
 impl Survey {
@@ -60,7 +61,8 @@ impl Survey {
     ///
     /// `NoMemory` where memory ran out.
     pub fn verdict(&self, alloc: Global, id: &Id) -> Result<Verdict, NoMemory>
-        ensures { IfOk result (λ verdict. (content : Content) (rows : List ZoneRow) → IsSurvey content rows self.now
+        ensures { IfOk result (λ verdict. (content : Content) (rows : List ZoneRow)
+            → IsSurvey content rows self.now
             → judge.judged_by verdict ≡ verdict_of content rows id.now) }
     {
         let Some(place) = place_of(&self.cut.members, id) else {
@@ -76,7 +78,8 @@ impl Survey {
     ///
     /// `NoMemory` where memory ran out.
     pub fn statuses(&self, alloc: Global, ids: &[Id]) -> Result<Vec<Status>, NoMemory>
-        ensures { IfOk result (λ statuses. (content : Content) (rows : List ZoneRow) → IsSurvey content rows self.now
+        ensures { IfOk result (λ statuses. (content : Content) (rows : List ZoneRow)
+            → IsSurvey content rows self.now
             → statuses.items ≡ map (λ id. judge.status_of (verdict_of content rows id)) ids.now) }
     {
         let mut statuses = Vec::with_capacity(alloc, ids.len())?;

@@ -5,7 +5,7 @@ ghost use Rattle.chains.specs.Judge as judge;
 use mcs_reader::Id;
 
 /// Whether a SYSMOD can be installed in a zone (IBM z/OS SMP/E Reference, `++VER`, operands FMID, PRE
-/// and REQ, and `++HOLD`, operand ERROR).
+/// and REQ, `++IF`, and `++HOLD`, operand ERROR).
 #[derive(Debug, Drop)]
 pub enum Verdict {
     /// It can, with these: its chosen plan, ascending, itself in it.

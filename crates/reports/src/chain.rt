@@ -63,7 +63,8 @@ fn verdict_value<P: Published>(
 
 // The text of a value.
 fn compact(alloc: Global, value: &Value) -> Result<Vec<u8>, NoMemory>
-    ensures { IfOk result (λ text. has_float (view value.now) ≡ false → text.items ≡ compact_text (view value.now)) }
+    ensures { IfOk result
+        (λ text. has_float (view value.now) ≡ false → text.items ≡ compact_text (view value.now)) }
 {
     Ok(value.to_string(alloc)?.into_bytes())
 }

@@ -59,7 +59,8 @@ pub fn err_rows<P: Published, J: Judge<P>>(
     requires { Ascend received.now }
     ensures asks { MayAsk P.content_view Device source.old source.new result }
     ensures rows { IfOk result (λ rows. Tells P.content_view source.old source.new
-        (λ content. J.is_right judge.old content → rows.items ≡ err_rows_of content zone.now received.now holds.now)) }
+        (λ content. J.is_right judge.old content
+        → rows.items ≡ err_rows_of content zone.now received.now holds.now)) }
     ensures right { Tells P.content_view source.old source.new
         (λ content. J.is_right judge.old content → J.is_right judge.new content) }
 
@@ -145,7 +146,8 @@ fn put_found(
     held: &ErrorHeld,
     resolvers: &Option<Vec<Id>>,
 ) -> Result<(), NoMemory>
-    ensures { OnOk result (found.new.items ≡ found.old.items ++ errors_by held.now (option_map (λ ids. ids.items) resolvers.now)) }
+    ensures { OnOk result (found.new.items
+        ≡ found.old.items ++ errors_by held.now (option_map (λ ids. ids.items) resolvers.now)) }
 {
     match resolvers {
         Some(resolvers) => put_each_or_none(found, held, resolvers),
@@ -205,7 +207,8 @@ fn rows_told(
 ) -> Result<Vec<ErrRow>, NoMemory>
     requires asked { Ascend asked.now }
     requires received { Ascend received.now }
-    ensures { IfOk result (λ rows. (f : List ℕ → Status) → statuses.now ≡ map f asked.now → asked.now ≡ in_order (resolvers_in found.now)
+    ensures { IfOk result (λ rows. (f : List ℕ → Status) → statuses.now ≡ map f asked.now
+        → asked.now ≡ in_order (resolvers_in found.now)
         → rows.items ≡ map (error_row f received.now) found.now) }
 {
     let mut rows = Vec::with_capacity(alloc, found.len())?;
@@ -218,7 +221,8 @@ fn rows_told(
 fn row_told(found: &ErrorFound, asked: &[Id], statuses: &[Status], received: &[Id]) -> ErrRow
     requires asked { Ascend asked.now }
     requires received { Ascend received.now }
-    ensures { (f : List ℕ → Status) → statuses.now ≡ map f asked.now → IfSome found.now.resolver (λ resolver. has asked.now resolver ≡ true)
+    ensures { (f : List ℕ → Status) → statuses.now ≡ map f asked.now
+        → IfSome found.now.resolver (λ resolver. has asked.now resolver ≡ true)
         → result ≡ error_row f received.now found.now }
 {
     let mut row = ErrRow {

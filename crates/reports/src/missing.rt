@@ -57,7 +57,8 @@ pub fn missing_rows<P: Published, J: Judge<P>>(
     requires { Ascend received.now }
     ensures asks { MayAsk P.content_view Device source.old source.new result }
     ensures rows { IfOk result (λ rows. Tells P.content_view source.old source.new
-        (λ content. J.is_right judge.old content → rows.items ≡ missing_rows_of content zone.now received.now patterns.now holds.now)) }
+        (λ content. J.is_right judge.old content
+        → rows.items ≡ missing_rows_of content zone.now received.now patterns.now holds.now)) }
     ensures right { Tells P.content_view source.old source.new
         (λ content. J.is_right judge.old content → J.is_right judge.new content) }
 
@@ -111,7 +112,8 @@ fn is_asked(patterns: &[Pattern], category: &[u8]) -> bool
 }
 
 fn held_of(alloc: Global, category: &[u8], hold: &Hold) -> Result<MissingHeld, NoMemory>
-    ensures { IfOk result (λ held. held ≡ missing_held (record { category = category.now; hold = hold.now })) }
+    ensures { IfOk result
+        (λ held. held ≡ missing_held (record { category = category.now; hold = hold.now })) }
 {
     Ok(MissingHeld {
         category: MissingCategory::copied(alloc, category)?,
@@ -204,7 +206,8 @@ fn unless_resolver_there(
 
 // The candidates that give a resolver, and the resolver.
 fn with_itself(found: &Option<Vec<Id>>, resolver: &Id) -> Result<Option<Vec<Id>>, NoMemory>
-    ensures { IfOk result (λ all. option_map (λ ids. ids.items) all ≡ option_map (λ ids. ids.items ++ resolver.now ∷ []) found.now) }
+    ensures { IfOk result (λ all. option_map (λ ids. ids.items) all
+        ≡ option_map (λ ids. ids.items ++ resolver.now ∷ []) found.now) }
 {
     match found {
         Some(ids) => {
@@ -256,7 +259,8 @@ fn put_rows(
     held: &MissingHeld,
     resolvers: &Option<Vec<Id>>,
 ) -> Result<(), NoMemory>
-    ensures { OnOk result (rows.new.items ≡ rows.old.items ++ rows_by held.now (option_map (λ ids. ids.items) resolvers.now)) }
+    ensures { OnOk result (rows.new.items
+        ≡ rows.old.items ++ rows_by held.now (option_map (λ ids. ids.items) resolvers.now)) }
 {
     match resolvers {
         Some(resolvers) => put_each_or_none(alloc, rows, held, resolvers),
@@ -333,7 +337,8 @@ fn rows_told(
 ) -> Result<Vec<MissingRow>, NoMemory>
     requires asked { Ascend asked.now }
     requires received { Ascend received.now }
-    ensures { IfOk result (λ told. (f : List ℕ → Status) → statuses.now ≡ map f asked.now → asked.now ≡ in_order (resolvers_in rows.items)
+    ensures { IfOk result (λ told. (f : List ℕ → Status) → statuses.now ≡ map f asked.now
+        → asked.now ≡ in_order (resolvers_in rows.items)
         → told.items ≡ map (row_told f received.now) rows.items) }
 {
     let mut told = Vec::with_capacity(alloc, rows.len())?;
@@ -346,7 +351,8 @@ fn rows_told(
 fn row_told(row: MissingRow, asked: &[Id], statuses: &[Status], received: &[Id]) -> MissingRow
     requires asked { Ascend asked.now }
     requires received { Ascend received.now }
-    ensures { (f : List ℕ → Status) → statuses.now ≡ map f asked.now → IfSome row.resolver (λ resolver. has asked.now resolver ≡ true)
+    ensures { (f : List ℕ → Status) → statuses.now ≡ map f asked.now
+        → IfSome row.resolver (λ resolver. has asked.now resolver ≡ true)
         → result ≡ row_told f received.now row }
 {
     let mut row = row;

@@ -19,7 +19,8 @@ pub(crate) fn answer_among<'a>(
     id: &Id,
 ) -> &'a Option<Vec<Id>>
     requires { Ascend asked.now }
-    ensures { (f : List ℕ → Option (List (List ℕ))) → map (option_map (λ ids. ids.items)) answers.now ≡ map f asked.now
+    ensures { (f : List ℕ → Option (List (List ℕ)))
+        → map (option_map (λ ids. ids.items)) answers.now ≡ map f asked.now
         → has asked.now id.now ≡ true → option_map (λ ids. ids.items) result.now ≡ f id.now }
 {
     match place_among(asked, id) {
@@ -44,7 +45,8 @@ fn answer_at<'a>(
 // What was answered for one of the SYSMODs that were asked for.
 pub(crate) fn status_among(asked: &[Id], statuses: &[Status], id: &Id) -> Status
     requires { Ascend asked.now }
-    ensures { (f : List ℕ → Status) → statuses.now ≡ map f asked.now → list_any (same_id id.now) asked.now ≡ true → result ≡ f id.now }
+    ensures { (f : List ℕ → Status) → statuses.now ≡ map f asked.now
+        → list_any (same_id id.now) asked.now ≡ true → result ≡ f id.now }
 {
     match place_among(asked, id) {
         Some(at) => status_at(statuses, at),

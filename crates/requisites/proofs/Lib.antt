@@ -1,4 +1,5 @@
 pub mod LeadsFacts
+pub mod OrderFacts
 pub mod SpreadFacts
 pub mod SourceFacts
 pub mod TestFacts

@@ -4,7 +4,7 @@ use Rattle.std.specs.List.{Contains}
 use Rattle.std.specs.List.Sorted.{IsStrictlyIncreasing}
 use Rattle.std.proofs.lemmas.Bool.{cases_eq, cases_lt}
 use Rattle.std.proofs.lemmas.Grind.{common_steps}
-use Rattle.std.proofs.lemmas.List.{append-nil, append_assoc, get_or-replicate, get_or-set_other, get_or-set_same, get_or_append_left, get_or_past, get_or_push, length-append, length-set, take-append-le, take_all, take_more}
+use Rattle.std.proofs.lemmas.List.{append-nil, append_assoc, get_or-replicate, get_or-set_other, get_or-set_same, get_or_append_left, get_or_past, get_or_push, length-append, length-set, take_all, take_more}
 use Rattle.std.proofs.lemmas.List.Elements.{Contains-append_cases, Contains-append_left, Contains-append_right, Contains-get_or, Contains-push, Contains-push_cases}
 use Rattle.requisites.specs.Marking.{AreChosenMarks, AreMarked, IsPicking}
 use Rattle.requisites.specs.Nodes.{IsMarked, mark_of, world}
@@ -12,6 +12,7 @@ use Rattle.requisites.specs.Picks.{ArePicksFor}
 use Rattle.requisites.specs.World.{IsChosen, IsChosenPlan, IsGood, PicksFor}
 use Rattle.requisites.specs.declared.nodes.Nodes.{Nodes}
 use Rattle.requisites.proofs.LeadsFacts.{leads_closed, leads_itself, leads_more}
+use Rattle.requisites.proofs.OrderFacts.{order_front, order_grows, order_keeps}
 use Rattle.requisites.proofs.VerdictFacts.{good_inside, good_of_pick}
 
 none_inside : (x : ℕ) → Contains [] x → ⊥
@@ -148,7 +149,7 @@ module _ (nodes : Nodes) (x : ℕ) where
     marked = now.marked was.marked;
     followed = λ p z inside picks_for. (
         let P : List ℕ → Type 0 = λ l. Contains l p in
-        elim (Contains-push_cases (take at order) next p (subst P front inside)) [
+        elim (Contains-push_cases (take at order) next p (subst P (order_front order order' now.more now.goes_on at next below is) inside)) [
           | inl before ↦ kept z (was.followed p z before picks_for)
           | inr same ↦
               let R : ℕ → Type 0 = λ k. PicksFor (world nodes) k z in
@@ -161,25 +162,17 @@ module _ (nodes : Nodes) (x : ℕ) where
           | inl before ↦ was.chosen q before
           | inr later ↦ leads_more (was.chosen next here) (picks.picked q (now.drawn q later))
         ]);
-    within = (let longer = length_more in omega (arith, below, longer));
+    within = (let longer = order_grows order order' now.more now.goes_on in omega (arith, below, longer));
     len = now.len ∙ was.len;
   } where
     put : (q : ℕ) → IsMarked marks' q → Contains order' q
     put = now.put was.put
 
     kept : (q : ℕ) → Contains order q → Contains order' q
-    kept q inside = let L : List ℕ → Type 0 = λ l. Contains l q in subst L (sym now.goes_on) (Contains-append_left order now.more q inside)
+    kept = order_keeps order order' now.more now.goes_on
 
     here : Contains order next
     here = (at, below, sym is)
-
-    front : take (at + 1) order' ≡ take at order ++ next ∷ []
-    front =
-        ap (take (at + 1)) now.goes_on ∙ take-append-le (at + 1) order now.more (omega (arith, below)) ∙ take_more order at next below
-        ∙ ap (λ k. take at order ++ k ∷ []) (sym is)
-
-    length_more : length order ≤ length order'
-    length_more = omega (arith, ap length now.goes_on ∙ length-append order now.more)
 
   pub picking_ends : (marks : List Bool) (order : List ℕ) (at : ℕ) → length order ≤ at → IsPicking nodes x marks order at → AreChosenMarks nodes x marks
   picking_ends marks order at whole was = record {

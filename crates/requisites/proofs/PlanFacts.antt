@@ -142,3 +142,18 @@ good_given nodes marks given givers same a = let P : List (Option ℕ) → Type 
 
 pub good_marks : (nodes : Nodes) (marks lent : List Bool) (givers : List (Option ℕ)) → lent ≡ marks → AreGood nodes marks givers → AreGood nodes lent givers
 good_marks nodes marks lent givers same a = let P : List Bool → Type 0 = λ m. AreGood nodes m givers in subst P (sym same) a
+
+-- ---- one round, by the givers that it found
+
+-- where nothing falls, what is left is good
+pub round_good : (nodes : Nodes) (old new : List Bool) (given givers : List (Option ℕ)) (fell : Bool) → fell ≡ false → AreMarksLeft nodes old → given ≡ givers → AreLeastSources nodes.supersedes old givers
+    → AreSwept nodes given (length old) old new fell → AreGood nodes new givers
+round_good nodes old new given givers fell none left same sources swept =
+    good_given nodes new given givers same
+    (good_found nodes (length old) old new given fell none refl left (read_sources nodes nodes.supersedes old given givers refl same sources) swept)
+
+-- what is good keeps its mark
+pub round_left : (nodes : Nodes) (old new : List Bool) (given givers : List (Option ℕ)) (fell : Bool) → AreMarksLeft nodes old → given ≡ givers → AreLeastSources nodes.supersedes old givers
+    → AreSwept nodes given (length old) old new fell → AreMarksLeft nodes new
+round_left nodes old new given givers fell left same sources swept =
+    left_swept nodes (length old) old new given fell left (read_sources nodes nodes.supersedes old given givers refl same sources) swept

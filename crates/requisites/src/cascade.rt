@@ -23,7 +23,8 @@ pub(crate) struct Around {
 
 impl Around {
     pub(crate) fn of(alloc: Global, nodes: &Nodes) -> Result<Around, NoMemory>
-        ensures { IfOk result (λ around. AreReversed nodes.now.supersedes (length nodes.now.candidates.items) around.superseders) }
+        ensures { IfOk result (λ around.
+            AreReversed nodes.now.supersedes (length nodes.now.candidates.items) around.superseders) }
     {
         let len = nodes.candidates.len();
         let superseders = turned(alloc, &nodes.supersedes, len)?;
@@ -52,7 +53,8 @@ pub(crate) fn cascade(
     marks: &mut [bool],
 ) -> Result<(), NoMemory>
     requires left { AreMarksLeft nodes.now marks.old }
-    requires superseders { AreReversed nodes.now.supersedes (length nodes.now.candidates.items) around.now.superseders }
+    requires superseders { AreReversed nodes.now.supersedes
+        (length nodes.now.candidates.items) around.now.superseders }
     ensures left { OnOk result (AreMarksLeft nodes.now marks.new) }
     ensures fewer { OnOk result (marked_count marks.new ≤ marked_count marks.old) }
 {
@@ -120,11 +122,13 @@ fn look(
 ) -> Result<(), NoMemory>
     requires left { AreMarksLeft nodes.now marks.old }
     requires opens { AreOpen nodes.now opening.old.open.items }
-    requires superseders { AreReversed nodes.now.supersedes (length nodes.now.candidates.items) around.now.superseders }
+    requires superseders { AreReversed nodes.now.supersedes
+        (length nodes.now.candidates.items) around.now.superseders }
     ensures left { AreMarksLeft nodes.now marks.new }
     ensures opens { AreOpen nodes.now opening.new.open.items }
     ensures fewer { marked_count marks.new ≤ marked_count marks.old }
-    ensures nearer { OnOk result (ComesNearer opening.old.open.items opening.new.open.items (length opening.old.work.items) (length opening.new.work.items)) }
+    ensures nearer { OnOk result (ComesNearer opening.old.open.items opening.new.open.items
+        (length opening.old.work.items) (length opening.new.work.items)) }
 {
     fall(
         nodes,
@@ -288,7 +292,8 @@ fn wake(
     work: &mut Vec<usize>,
     place: usize,
 ) -> Result<(), NoMemory>
-    ensures needed { OnOk result (mark_of nodes.now.there.items place ≡ false → AreAmong (row around.now.needed_by place) work.new.items) }
+    ensures needed { OnOk result (mark_of nodes.now.there.items place ≡ false
+        → AreAmong (row around.now.needed_by place) work.new.items) }
 {
     let name = rings.name_of(place);
     for below in nodes.supersedes.row(place) {

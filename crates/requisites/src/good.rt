@@ -101,7 +101,8 @@ fn sweep(nodes: &Nodes, givers: &[Option<usize>], marks: &mut [bool]) -> bool
 // Whether a place is marked and has an open need.
 fn must_fall(nodes: &Nodes, givers: &[Option<usize>], marks: &[bool], place: usize) -> bool
     ensures yes { OnTrue result (IsMarked marks.now place × HasOpenNeed nodes.now givers.now place) }
-    ensures no { OnFalse result (IsMarked marks.now place → AreMet nodes.now givers.now (row nodes.now.needs place)) }
+    ensures no { OnFalse result (IsMarked marks.now place
+        → AreMet nodes.now givers.now (row nodes.now.needs place)) }
 {
     is_marked(marks, place) && least_open_need(nodes, givers, place).is_some()
 }

@@ -53,7 +53,8 @@ impl Marked {
 
     /// The places that are marked, ascending.
     pub(crate) fn ascending(&self, alloc: Global) -> Result<Vec<usize>, NoMemory>
-        ensures marked { IfOk result (λ places. (p : ℕ) → Contains places.items p ↔ IsMarked self.now.marks.items p) }
+        ensures marked { IfOk result
+            (λ places. (p : ℕ) → Contains places.items p ↔ IsMarked self.now.marks.items p) }
         ensures ascends { IfOk result (λ places. IsStrictlyIncreasing places.items) }
     {
         let mut places = Vec::with_capacity(alloc, self.order.len())?;

@@ -38,7 +38,8 @@ fn turn(lists: &Rows, chains: &mut Chains) -> Result<(), NoMemory>
     requires chained { AreChained chains.old }
     requires none { (q p : ℕ) → Contains (row (chains_of chains.old) q) p → ⊥ }
     ensures chained { OnOk result (AreChained chains.new) }
-    ensures turned { OnOk result (AreReversed lists.now (length chains.old.last.items) (chains_of chains.new)) }
+    ensures turned { OnOk result
+        (AreReversed lists.now (length chains.old.last.items) (chains_of chains.new)) }
 {
     for place in 0..lists.len() {
         add_row(chains, lists.row(place), place)?;

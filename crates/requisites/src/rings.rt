@@ -102,7 +102,8 @@ fn walk_from(walk: &mut Walk, lists: &Rows, start: usize) -> Result<(), NoMemory
 }
 
 fn take_step(walk: &mut Walk, lists: &Rows, step: Step) -> Result<(), NoMemory>
-    ensures { OnOk result (ComesNearer walk.old.unseen.items walk.new.unseen.items (length walk.old.work.items) (length walk.new.work.items)) }
+    ensures { OnOk result (ComesNearer walk.old.unseen.items walk.new.unseen.items
+        (length walk.old.work.items) (length walk.new.work.items)) }
 {
     match step {
         Step::Enter(place) => enter(walk, lists, place),
@@ -111,7 +112,8 @@ fn take_step(walk: &mut Walk, lists: &Rows, step: Step) -> Result<(), NoMemory>
 }
 
 fn enter(walk: &mut Walk, lists: &Rows, place: usize) -> Result<(), NoMemory>
-    ensures { OnOk result (ComesNearer walk.old.unseen.items walk.new.unseen.items (length walk.old.work.items) (length walk.new.work.items)) }
+    ensures { OnOk result (ComesNearer walk.old.unseen.items walk.new.unseen.items
+        (length walk.old.work.items) (length walk.new.work.items)) }
 {
     if is_marked(&walk.unseen, place) {
         walk.unseen[place] = false;

@@ -74,7 +74,8 @@ fn take_row(
     row: &[usize],
     source: usize,
 ) -> Result<(), NoMemory>
-    ensures { OnOk result (SourcesTaken row.now source sources.old sources.new work.old.items work.new.items) }
+    ensures { OnOk result
+        (SourcesTaken row.now source sources.old sources.new work.old.items work.new.items) }
 {
     for place in row {
         take_place(sources, work, *place, source)?;
@@ -88,7 +89,8 @@ fn take_place(
     place: usize,
     source: usize,
 ) -> Result<(), NoMemory>
-    ensures { OnOk result (SourcesTaken (place ∷ []) source sources.old sources.new work.old.items work.new.items) }
+    ensures { OnOk result
+        (SourcesTaken (place ∷ []) source sources.old sources.new work.old.items work.new.items) }
 {
     if place < sources.len() && source_at(sources, place).is_none() {
         sources[place] = Some(source);

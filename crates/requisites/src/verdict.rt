@@ -1,5 +1,5 @@
 //! The verdict on one place: its chosen plan, or why it has none.
-ghost use Rattle.std.specs.Prelude.{◌≡◌, IfNone, IfOk, IfSome, OnOk};
+ghost use Rattle.std.specs.Prelude.{IfNone, IfOk, IfSome, OnOk};
 ghost use Rattle.std.specs.List.Sorted.{IsStrictlyIncreasing};
 ghost use Rattle.requisites.specs.Good.{AreGood};
 ghost use Rattle.requisites.specs.Nodes.{IsMarked, world};
@@ -50,7 +50,8 @@ pub fn verdict_of_place(
     }
 }
 
-// The chosen plan of a good place, ascending: all to which a list of picks leads. The needs of no other place are looked at.
+// The chosen plan of a good place, ascending: all to which a list of picks leads. The needs of no other place
+// are looked at.
 fn chosen_plan(
     alloc: Global,
     nodes: &Nodes,

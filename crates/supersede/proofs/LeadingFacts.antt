@@ -1,5 +1,5 @@
 -- A bounded search finds every way: a way that comes to one SYSMOD twice can be cut short there.
-use Rattle.std.proofs.Common.{◌≡◌, ◌⊎◌, ◌↔◌, ℕ, zero, suc, ◌≤◌, ◌&&◌, ◌∙◌, Bool, true, false, List, [], ◌∷◌, length, is_some, Option, Some, None, inl, inr, refl, sym, arith}
+use Rattle.std.proofs.Common.{◌≡◌, ◌↔◌, ℕ, zero, suc, ◌≤◌, ◌&&◌, ◌∙◌, Bool, true, List, [], ◌∷◌, length, is_some, Option, Some, None, inl, inr, refl, sym, arith}
 use Rattle.std.specs.List.{Contains, find}
 use Rattle.std.specs.Option.{IsSomeAnd}
 use Rattle.std.specs.Str.{bytes_eq}
@@ -15,7 +15,7 @@ use Rattle.catalogue.specs.declared.sysmod.Sysmod.{Sysmod}
 use Rattle.supersede.specs.Giving.{gives, is_there, sup_of, supersedes_within}
 use Rattle.supersede.specs.Leading.{Gives, IsThere, IsWay}
 use Rattle.supersede.proofs.GivingFacts.{In, any_found, any_has, both, catalogued, same_self}
-use Rattle.supersede.proofs.WithoutFacts.{fewer, in_without, without}
+use Rattle.supersede.proofs.PathFacts.{AllSources, shorten}
 
 -- ---- lists
 
@@ -80,61 +80,11 @@ module _ (content : Content) where
       let any = any_has (λ z. supersedes_within content n z to) (sup_of (record_of content from)) next (step_in from next (record_of content from) way.0) rest in
       rw any (or-true (bytes_eq from to))
 
-  -- ---- cutting a way short
-
-  -- each id of a way that supersedes the next one
-  abbrev AllSources : (List ℕ → Type 0) → List ℕ → List (List ℕ) → Type 0
-  AllSources P from [] = Unit {0}
-  AllSources P from (next ∷ later) = P from × AllSources P next later
+  -- ---- where a way steps
 
   sources_in : (from : List ℕ) (list : List (List ℕ)) (to : List ℕ) → IsWay content from list to → AllSources (In (ids_of content)) from list
   sources_in from [] to way = tt
   sources_in from (next ∷ later) to way = (source_in from next way.0, sources_in next later to way.1)
-
-  sources_without : (x : List ℕ) (ids : List (List ℕ)) (from : List ℕ) (list : List (List ℕ)) → AllSources (In ids) from list → AllSources (λ s. bytes_eq s x ≡ false) from list → AllSources (In (without x ids)) from list
-  sources_without x ids from [] all apart = tt
-  sources_without x ids from (next ∷ later) all apart = (in_without x ids from all.0 apart.0, sources_without x ids next later all.1 apart.1)
-
-  -- what a way has after its last visit to an id
-  record Rest (x to : List ℕ) (ids : List (List ℕ)) : Type 0 where
-    next : List ℕ
-    later : List (List ℕ)
-    step : Supersedes content x next
-    way : IsWay content next later to
-    all : AllSources (In ids) next later
-    apart : AllSources (λ s. bytes_eq s x ≡ false) next later
-
-  last_visit : (x from : List ℕ) (list : List (List ℕ)) (to : List ℕ) (ids : List (List ℕ)) → IsWay content from list to → AllSources (In ids) from list
-      → AllSources (λ s. bytes_eq s x ≡ false) from list ⊎ Rest x to ids
-  last_visit x from [] to ids way all = inl tt
-  last_visit x from (next ∷ later) to ids way all =
-      elim (last_visit x next later to ids way.1 all.1) [
-        | inr rest ↦ inr rest
-        | inl apart ↦ elim (cases_Bool (bytes_eq from x)) [
-          | inr other ↦ inl (other, apart)
-          | inl this ↦
-              let is : from ≡ x = (bytes_eq-Decides from x).0 this in
-              inr (record { next = next; later = later; step = rw (← is) way.0; way = way.1; all = all.1; apart = apart })
-        ]
-      ]
-
-  record Short (from to : List ℕ) (n : ℕ) : Type 0 where
-    list : List (List ℕ)
-    way : IsWay content from list to
-    short : length list ≤ n
-
-  -- a way needs no more steps than there are ids that supersede on it
-  shorten : (n : ℕ) (ids : List (List ℕ)) → length ids ≤ n → (from : List ℕ) (list : List (List ℕ)) (to : List ℕ) → IsWay content from list to → AllSources (In ids) from list → Short from to (length ids)
-  shorten n ids few from [] to way all = record { list = []; way = way; short = omega arith }
-  shorten zero ids few from (next ∷ later) to way all = let some = fewer from ids all.0 in absurd (omega (arith, some, few))
-  shorten (suc n) ids few from (next ∷ later) to way all =
-      let some = fewer from ids all.0 in
-      elim (last_visit from from (next ∷ later) to ids way all) [
-        | inl apart ↦ absurd (let self = same_self from in cc (self, apart.0))
-        | inr rest ↦
-            let less = shorten n (without from ids) (omega (arith, some, few)) rest.next rest.later to rest.way (sources_without from ids rest.next rest.later rest.all rest.apart) in
-            record { list = rest.next ∷ less.list; way = (rest.step, less.way); short = let few_more = less.short in omega (arith, some, few_more) }
-      ]
 
   known : (sysmods : List Sysmod) (id : List ℕ) → In (ids_in sysmods) id → is_some (find (is_of id) sysmods) ≡ true
   known [] id none = absurd none
@@ -151,10 +101,12 @@ module _ (content : Content) where
         record { catalogued = contains_from_in (ids_of content) giver (catalogued content.sysmods giver parts.0); way = way.list; leads = way.leads },
     λ g.
         let here = known content.sysmods giver (in_from_contains (ids_of content) giver g.catalogued) in
-        let short = shorten (length (ids_of content)) (ids_of content) (omega arith) giver g.way id g.leads (sources_in giver g.way id g.leads) in
+        let short =
+        shorten (Supersedes content) (IsWay content) (λ from next later to way. way) (λ from next later to way. way) (length (ids_of content)) (ids_of content) (omega arith)
+        giver g.way id g.leads (sources_in giver g.way id g.leads) in
         let as_many : length (ids_of content) ≡ length content.sysmods = length-map content.sysmods (λ sysmod. sysmod.id) in
         let few = short.short in
-        let within = found_way (length content.sysmods) giver short.list id short.way (omega (arith, few, as_many)) in
+        let within = found_way (length content.sysmods) giver short.list id short.path (omega (arith, few, as_many)) in
         rw (here, within) refl,
   )
 

@@ -1,6 +1,7 @@
 mod Examples
 pub mod GivingFacts
 pub mod LeadingFacts
+pub mod PathFacts
 mod ReachFacts
 mod SearchFacts
 pub mod WithoutFacts

@@ -76,7 +76,8 @@ fn reach<P: Published>(alloc: Global, source: &mut P, id: &Id) -> Result<Vec<Id>
 fn add_new(found: &mut BTreeSet<Id>, order: &mut Vec<Id>, ids: &[Id]) -> Result<(), NoMemory>
     ensures found { OnOk result (found.new.keys ≡ put_among found.old.keys ids.now) }
     ensures continues { OnOk result (Continues order.old.items order.new.items) }
-    ensures alike { OnOk result (Alike found.old.keys order.old.items → Alike found.new.keys order.new.items) }
+    ensures alike { OnOk result
+        (Alike found.old.keys order.old.items → Alike found.new.keys order.new.items) }
 {
     for id in ids {
         if found.insert(*id)? {

@@ -13,9 +13,12 @@ use mcs_reader::Id;
 /// in it is the same or supersedes it, itself or through others. `givers` are the SYSMODs that give it so.
 /// It takes no memory.
 pub fn there(zone: &Zone, id: &Id, givers: &[Id]) -> bool
-    ensures value { result ≡ (is_listed zone.now id.now || list_any (λ giver. is_installed zone.now giver) givers.now) }
-    ensures there { (content : Content) → givers.now ≡ givers_of content id.now → result ≡ is_there content zone.now id.now }
-    ensures leads { (content : Content) → givers.now ≡ givers_of content id.now → (result ≡ true) ↔ IsThere content zone.now id.now }
+    ensures value { result
+        ≡ (is_listed zone.now id.now || list_any (λ giver. is_installed zone.now giver) givers.now) }
+    ensures there { (content : Content) → givers.now ≡ givers_of content id.now
+        → result ≡ is_there content zone.now id.now }
+    ensures leads { (content : Content) → givers.now ≡ givers_of content id.now
+        → (result ≡ true) ↔ IsThere content zone.now id.now }
 {
     zone.listed(id) || is_any_installed(zone, givers)
 }

@@ -1,27 +1,15 @@
-use Rattle.std.proofs.Common.{length, refl, arith}
-use Rattle.requisites.proofs.PlanFacts.{left_begins, left_swept, good_found, good_given, read_sources}
+use Rattle.std.proofs.Common.{arith}
+use Rattle.requisites.proofs.PlanFacts.{left_begins, round_good, round_left}
 use Rattle.requisites.proofs.good.fall.Goals as goal
 
 pub returns-then-not-sweep : goal.returns-then-not-sweep
-returns-then-not-sweep c =
-    let nodes = c.args.nodes.now in
-    let marks = c.args.marks.now in
-    let given = c.deref.result.now in
-    let givers = c.in_ok-givers.givers.items in
-    record {
-      good = good_given nodes c.sweep.new.marks given givers c.deref.ensures.value
-          (good_found nodes (length marks) marks c.sweep.new.marks given c.sweep.result c.if-not-sweep.true refl (left_begins nodes marks c.requires)
-          (read_sources nodes nodes.supersedes marks given givers refl c.deref.ensures.value c.in_ok-givers.ensures.sources)
-          c.sweep.ensures);
-      len = omega (arith, c.in_ok-givers.ensures.len);
-    }
+returns-then-not-sweep c = record {
+  good = round_good c.args.nodes.now c.args.marks.now c.sweep.new.marks c.deref.result.now c.in_ok-givers.givers.items c.sweep.result c.if-not-sweep.true
+      (left_begins c.args.nodes.now c.args.marks.now c.requires) c.deref.ensures.value c.in_ok-givers.ensures.sources c.sweep.ensures;
+  len = omega (arith, c.in_ok-givers.ensures.len);
+}
 
 pub fall_on-requires : goal.fall_on-requires
 fall_on-requires c =
-    let nodes = c.args.nodes.now in
-    let marks = c.args.marks.now in
-    let given = c.deref.result.now in
-    let givers = c.in_ok-givers.givers.items in
-    left_swept nodes (length marks) marks c.sweep.new.marks given c.sweep.result (left_begins nodes marks c.requires)
-    (read_sources nodes nodes.supersedes marks given givers refl c.deref.ensures.value c.in_ok-givers.ensures.sources)
-    c.sweep.ensures
+    round_left c.args.nodes.now c.args.marks.now c.sweep.new.marks c.deref.result.now c.in_ok-givers.givers.items c.sweep.result
+    (left_begins c.args.nodes.now c.args.marks.now c.requires) c.deref.ensures.value c.in_ok-givers.ensures.sources c.sweep.ensures
