@@ -37,7 +37,8 @@ impl FailingStore {
     fn fails(&mut self) -> bool
         ensures lists { self.new.lists ≡ self.old.lists }
         ensures rises { self.old.failures ≤ self.new.failures }
-        ensures fails { result ≡ true → (0 < self.new.failures) × ((self.old.failures < self.new.failures) ⊎ (self.new.failures ≡ most_failures)) }
+        ensures fails { result ≡ true → (0 < self.new.failures)
+            × ((self.old.failures < self.new.failures) ⊎ (self.new.failures ≡ most_failures)) }
         ensures stands { result ≡ false → (self.old.failures ≡ 0) × (self.new.failures ≡ 0) }
     {
         if self.left == 0 || self.failures > 0 {
@@ -99,7 +100,8 @@ impl Published for FailingStore {
           ours = λ ours clean. subst IsOurs (sym kept.0) ours;
           failures_rise = kept.1;
         };
-        stays = λ ours clean this stands standing. ap (λ lists. (tables_of lists).content) kept.0 ∙ stands (omega (arith, kept.1, standing));
+        stays = λ ours clean this stands standing.
+            ap (λ lists. (tables_of lists).content) kept.0 ∙ stands (omega (arith, kept.1, standing));
         leaves = λ ours clean this left. ap (λ lists. (tables_of lists).content) (sym kept.0) ∙ left;
       };
       itself = λ store. (refl, omega arith);
