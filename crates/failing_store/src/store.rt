@@ -117,15 +117,9 @@ impl Store for FailingStore {
     ghost use Rattle.std.proofs.Common.{◌∙◌, ap, arith, refl, subst, sym};
     ghost use Rattle.bureau_store.specs.Lists.{IsOurs, tables_of};
     ghost use Rattle.bureau_store.specs.Tables.{AreInOrder};
+    ghost use Rattle.failing_store.specs.Failing.{failing_view};
 
-    ghost tables_view = { record {
-      stands = λ store this. store.failures ≡ 0 → tables_of store.lists ≡ this;
-      is_clean = λ store. Unit {0};
-      is_ours = λ store. IsOurs store.lists;
-      failures = λ store. store.failures;
-      may_leave = λ store this. tables_of store.lists ≡ this;
-      keeps = λ old new. (new.lists ≡ old.lists) × (old.failures ≤ new.failures);
-    } };
+    ghost tables_view = { failing_view };
 
     ghost outgrown = { λ update old new. ⊥ };
 
