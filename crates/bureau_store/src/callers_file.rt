@@ -37,7 +37,8 @@ pub const CALLER_RECORDS: u32 = 10_000;
 /// [`CALLER_RECORDS`] + 1; `NoPublisher`. `Memory` may come in place of any answer.
 pub fn callers(alloc: Global, text: &[u8]) -> Result<Vec<CallerRow>, CallerFault>
     ensures rows { IfOk result (λ rows. Callers.callers_of text.now ≡ Ok rows.items) }
-    ensures fault { IfErr result (IsRefusal CallerFault.Memory (λ fault. Callers.callers_of text.now ≡ Err fault)) }
+    ensures fault { IfErr result (IsRefusal CallerFault.Memory
+        (λ fault. Callers.callers_of text.now ≡ Err fault)) }
     ensures ascending { IfOk result (λ rows.
         IsStrictlySortedBy (slice_cmp nat_cmp) (map (λ row. row.name) rows.items)) }
     ensures publisher { IfOk result (λ rows. Callers.has_publisher rows.items ≡ true) }
@@ -127,13 +128,15 @@ fn put_caller(
 ) -> Result<(), ListFault>
     ensures names { OnOk result (names.new.entries
         ≡ insert_entry (slice_cmp nat_cmp) names.old.entries caller.name caller.token) }
-    ensures named { OnOk result (Updates (slice_cmp nat_cmp) names.old names.new caller.name (Some caller.token)) }
+    ensures named { OnOk result
+        (Updates (slice_cmp nat_cmp) names.old names.new caller.name (Some caller.token)) }
     ensures tokens { OnOk result ((token : List ℕ) → has_token (λ text. text.items) tokens.new.keys token
         ≡ (bytes_eq token caller.token || has_token (λ text. text.items) tokens.old.keys token)) }
     ensures first { OnOk result ((is_some (get (slice_cmp nat_cmp) names.old caller.name)
         || has_token (λ text. text.items) tokens.old.keys caller.token) ≡ false) }
     ensures repeated { IfErr result (IsRefusal ListFault.Memory (λ fault. (fault ≡ ListFault.Repeated n)
-        × ((is_some (get (slice_cmp nat_cmp) names.old caller.name) || has_token (λ text. text.items) tokens.old.keys caller.token) ≡ true))) }
+        × ((is_some (get (slice_cmp nat_cmp) names.old caller.name)
+        || has_token (λ text. text.items) tokens.old.keys caller.token) ≡ true))) }
 {
     if came_before(names, tokens, &caller) {
         return Err(ListFault::Repeated(n));

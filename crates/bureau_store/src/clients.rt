@@ -30,7 +30,9 @@ pub(crate) fn make_for(
 ) -> Result<(), NoMemory>
     requires { IsFit put }
     ensures done { OnOk result ((name : List ℕ) → client_in clients.new.entries name
-        ≡ (if bytes_eq client.now name then client_after (effect_of put) last (client_in clients.old.entries name) else client_in clients.old.entries name)) }
+        ≡ (if bytes_eq client.now name
+        then client_after (effect_of put) last (client_in clients.old.entries name)
+        else client_in clients.old.entries name)) }
     ensures err { OnErr result ((name : List ℕ)
         → client_in clients.new.entries name ≡ client_in clients.old.entries name) }
     ensures ordered { (name : List ℕ)
@@ -53,7 +55,8 @@ pub(crate) fn counted_in_order(
 ) -> Result<Vec<(Id, u64)>, NoMemory>
     ensures zones { IfOk result (λ counts. counts.items
         ≡ map (λ zone. (zone.0, length zone.1.rows)) zones.now.entries) }
-    ensures ascend { IfOk result (λ counts. IsStrictlySortedBy name_order (map (λ zone. zone.0) counts.items)) }
+    ensures ascend { IfOk result
+        (λ counts. IsStrictlySortedBy name_order (map (λ zone. zone.0) counts.items)) }
 {
     let counts = counted(alloc, zones)?;
     Ok(counts)

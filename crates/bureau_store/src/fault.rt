@@ -36,7 +36,13 @@ impl Fault for StoreFault {
 
     ghost cause = { elim [ Memory ↦ Machine | Device ↦ Machine | Size ↦ Machine | Shape ↦ Input | Version ↦ Input ] };
 
-    ghost numbers = { elim [ Memory ↦ Prim.search rules | Device ↦ Prim.search rules | Size ↦ Prim.search rules | Shape ↦ Prim.search rules | Version ↦ Prim.search rules ] };
+    ghost numbers = { elim [
+      | Memory ↦ Prim.search rules
+      | Device ↦ Prim.search rules
+      | Size ↦ Prim.search rules
+      | Shape ↦ Prim.search rules
+      | Version ↦ Prim.search rules
+    ] };
 
     fn number(self) -> u8 {
         match self {
@@ -111,7 +117,12 @@ impl Fault for CallerFault {
 
     ghost cause = { elim [ CallerHeader ↦ Input | BadCaller _ ↦ Input | NoPublisher ↦ Input | Memory ↦ Machine ] };
 
-    ghost numbers = { elim [ CallerHeader ↦ Prim.search rules | BadCaller _ ↦ Prim.search rules | NoPublisher ↦ Prim.search rules | Memory ↦ Prim.search rules ] };
+    ghost numbers = { elim [
+      | CallerHeader ↦ Prim.search rules
+      | BadCaller _ ↦ Prim.search rules
+      | NoPublisher ↦ Prim.search rules
+      | Memory ↦ Prim.search rules
+    ] };
 
     fn number(self) -> u8 {
         match self {

@@ -24,7 +24,8 @@ pub(crate) fn held_among(
     kind: Kind,
 ) -> Result<Vec<Hold>, NoMemory>
     ensures holds { IfOk result (λ held. held.items
-        ≡ filter (λ hold. is_installed rows.now hold.key.sysmod && (kind_place hold.key.kind == kind_place kind)) book.now) }
+        ≡ filter (λ hold. is_installed rows.now hold.key.sysmod
+        && (kind_place hold.key.kind == kind_place kind)) book.now) }
     ensures in_key_order { IfOk result (λ held. IsInKeyOrder held.items) }
 {
     let installed = installed_in(alloc, rows)?;
@@ -51,7 +52,8 @@ fn installed_in(alloc: Global, rows: &[ZoneRow]) -> Result<BTreeSet<Id>, NoMemor
 
 fn put_installed(ids: &mut BTreeSet<Id>, row: &ZoneRow) -> Result<(), NoMemory>
     ensures { OnOk result ((id : List ℕ) → list_any (is_at (slice_cmp nat_cmp id)) ids.new.keys
-        ≡ (list_any (is_at (slice_cmp nat_cmp id)) ids.old.keys || (same_id row.now.sysmod id && is_installed_state row.now.state))) }
+        ≡ (list_any (is_at (slice_cmp nat_cmp id)) ids.old.keys
+        || (same_id row.now.sysmod id && is_installed_state row.now.state))) }
 {
     if is_installed(row.state) {
         ids.insert(row.sysmod)?;

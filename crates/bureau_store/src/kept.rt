@@ -239,7 +239,8 @@ impl Client {
 
     fn put_patterns(&mut self, zone: Id, patterns: Vec<Pattern>, last: Last) -> Result<(), NoMemory>
         requires { IsStrictlySortedBy (slice_cmp nat_cmp) patterns.items }
-        ensures done { OnOk result (self.new ≡ client_after (patterns_put zone patterns.items) last self.old) }
+        ensures done { OnOk result
+            (self.new ≡ client_after (patterns_put zone patterns.items) last self.old) }
         ensures err { OnErr result (self.new ≡ self.old) }
         ensures ascend { IsStrictlySortedBy name_order (keys_of self.new.zones) }
     {

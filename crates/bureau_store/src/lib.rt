@@ -4,8 +4,8 @@
 //! - [`ListStore`]: the store in lists
 //! - [`Caller`], [`CallerRow`], [`Token`]: who calls, and by which token a caller is known
 //! - [`callers`]: reads the file of them; [`CALLER_RECORDS`]: how many it may have
-//! - [`StoreFault`], [`CallerFault`]: why a store doesn't do what it is asked, and why no callers file is read; [`NoMemory`]:
-//!   memory ran out
+//! - [`StoreFault`], [`CallerFault`]: why a store doesn't do what it is asked, and why no callers file is read;
+//!   [`NoMemory`]: memory ran out
 #![tactic(auto)]
 
 mod by_token;

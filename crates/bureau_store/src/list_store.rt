@@ -96,7 +96,8 @@ impl ListStore {
     }
 
     fn last_of(&self, caller: &Caller) -> Result<(u64, Vec<u8>), NoMemory>
-        ensures { IfOk result (λ last. record { number = last.0; reply = last.1.items } ≡ last_in self.now caller.now) }
+        ensures { IfOk result (λ last. record { number = last.0; reply = last.1.items }
+            ≡ last_in self.now caller.now) }
     {
         match caller {
             Caller::Publisher => self.published_last.to_pair(),
@@ -110,7 +111,8 @@ impl ListStore {
     fn zones_of(&self, client: &Id) -> Result<Vec<(Id, u64)>, NoMemory>
         ensures zones { IfOk result (λ zones. zones.items
             ≡ map (λ zone. (zone.0, length zone.1.rows)) (client_in self.now.clients client.now).zones) }
-        ensures ascend { IfOk result (λ zones. IsStrictlySortedBy name_order (map (λ zone. zone.0) zones.items)) }
+        ensures ascend { IfOk result
+            (λ zones. IsStrictlySortedBy name_order (map (λ zone. zone.0) zones.items)) }
     {
         match client_of(&self.by_name, client) {
             Some(client) => counted_in_order(self.alloc, client.zones()),
@@ -196,7 +198,8 @@ impl ListStore {
 
 impl Store for ListStore {
     ghost use Rattle.bureau_store.specs.Lists.{NeverOutgrown, tables_of};
-    ghost use Rattle.bureau_store.specs.Lists.{lists_hold_tables, lists_in_order, lists_lawful, lists_show_content, lists_view};
+    ghost use Rattle.bureau_store.specs.Lists.{lists_hold_tables, lists_in_order};
+    ghost use Rattle.bureau_store.specs.Lists.{lists_lawful, lists_show_content, lists_view};
 
     ghost tables_view = { lists_view };
 
@@ -243,7 +246,8 @@ impl Store for ListStore {
         ensures same { self.new ≡ self.old }
         ensures zones { IfOk result (λ zones. zones.items
             ≡ map (λ zone. (zone.0, length zone.1.rows)) ((tables_of self.old).zones client.now)) }
-        ensures ascend { IfOk result (λ zones. IsStrictlySortedBy name_order (map (λ zone. zone.0) zones.items)) }
+        ensures ascend { IfOk result
+            (λ zones. IsStrictlySortedBy name_order (map (λ zone. zone.0) zones.items)) }
         ensures memory { IfErr result (λ fault. fault ≡ Memory) }
     {
         Ok(self.zones_of(client)?)
@@ -259,7 +263,8 @@ impl Store for ListStore {
 
     fn has_zone(&mut self, client: &Id, zone: &Id) -> Result<bool, StoreFault>
         ensures same { self.new ≡ self.old }
-        ensures found { IfOk result (λ found. found ≡ is_some (zone_named zone.now ((tables_of self.old).zones client.now))) }
+        ensures found { IfOk result (λ found. found
+            ≡ is_some (zone_named zone.now ((tables_of self.old).zones client.now))) }
         ensures memory { IfErr result (λ fault. fault ≡ Memory) }
     {
         Ok(self.zone_at(client, zone).is_some())

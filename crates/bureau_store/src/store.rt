@@ -34,7 +34,8 @@ pub trait Store: Published {
     /// Between these two, the change has outgrown the device: there was no room on it. In lists that never is.
     ghost outgrown: { Update → Self → Self → Type 0 };
 
-    /// Whether the device has failed since the store was made. From then on every call is refused so. It takes no memory.
+    /// Whether the device has failed since the store was made. From then on every call is refused so. It takes no
+    /// memory.
     fn device_failed(&self) -> bool
         ensures { result ≡ nat_lt 0 (tables_view.failures self.now) };
 
@@ -56,7 +57,8 @@ pub trait Store: Published {
     fn counts(&mut self) -> Result<(u64, u64), StoreFault>
         ensures reads { Reads tables_view self.old self.new result }
         ensures counts { IfOk result (λ counts. Tells tables_view self.old self.new
-            (λ tables. (counts.0 ≡ length tables.content.sysmods) × (counts.1 ≡ length tables.content.holds))) };
+            (λ tables. (counts.0 ≡ length tables.content.sysmods)
+            × (counts.1 ≡ length tables.content.holds))) };
 
     /// The zones of a client, ascending by name, each with how many SYSMODs its list has.
     fn zones(&mut self, client: &Id) -> Result<Vec<(Id, u64)>, StoreFault>
@@ -64,7 +66,8 @@ pub trait Store: Published {
         ensures reads { Reads tables_view self.old self.new result }
         ensures zones { IfOk result (λ zones. Tells tables_view self.old self.new
             (λ tables. zones.items ≡ map (λ zone. (zone.0, length zone.1.rows)) (tables.zones client.now))) }
-        ensures ascend { IfOk result (λ zones. IsStrictlySortedBy name_order (map (λ zone. zone.0) zones.items)) };
+        ensures ascend { IfOk result
+            (λ zones. IsStrictlySortedBy name_order (map (λ zone. zone.0) zones.items)) };
 
     /// How many zones a client has.
     fn zone_count(&mut self, client: &Id) -> Result<u64, StoreFault>
@@ -85,7 +88,8 @@ pub trait Store: Published {
         requires { IsProper (Client client.now) }
         ensures reads { Reads tables_view self.old self.new result }
         ensures zone { IfOk result (λ found. Tells tables_view self.old self.new
-            (λ tables. option_map (λ rows. rows.items) found ≡ option_map (λ table. table.rows) (zone_named zone.now (tables.zones client.now)))) }
+            (λ tables. option_map (λ rows. rows.items) found
+            ≡ option_map (λ table. table.rows) (zone_named zone.now (tables.zones client.now)))) }
         ensures ascend { IfOk result (λ found. IfSome found (λ rows. RowsAscend rows.items)) };
 
     /// The SYSMODs that a client has received, ascending.
@@ -109,13 +113,16 @@ pub trait Store: Published {
         requires { IsProper (Client client.now) }
         ensures reads { Reads tables_view self.old self.new result }
         ensures holds { IfOk result (λ holds. Tells tables_view self.old self.new
-            (λ tables. holds.items ≡ held_in tables.content (rows_of (zone_named zone.now (tables.zones client.now))) kind)) }
+            (λ tables. holds.items
+            ≡ held_in tables.content (rows_of (zone_named zone.now (tables.zones client.now))) kind)) }
         ensures in_key_order { IfOk result (λ holds. IsInKeyOrder holds.items) };
 
     /// Publishes these changes, as the publisher's change with this number and reply.
     fn publish(&mut self, number: u64, reply: &[u8], changes: &[Change]) -> Result<(), StoreFault>
         requires { number ≤ greatest_number }
-        ensures makes { Makes tables_view outgrown (update Publisher (publication changes.now) number reply.now) self.old self.new result };
+        ensures makes { Makes tables_view outgrown
+            (update Publisher (publication changes.now) number reply.now)
+            self.old self.new result };
 
     /// Puts a client's zone, which keeps its patterns where it was there before.
     fn put_zone(
@@ -129,7 +136,9 @@ pub trait Store: Published {
         requires client { IsProper (Client client.now) }
         requires number { number ≤ greatest_number }
         requires ascending { RowsAscend rows.now }
-        ensures makes { Makes tables_view outgrown (update (Client client.now) (zone_put zone.now rows.now) number reply.now) self.old self.new result };
+        ensures makes { Makes tables_view outgrown
+            (update (Client client.now) (zone_put zone.now rows.now) number reply.now)
+            self.old self.new result };
 
     /// Drops a client's zone with its patterns.
     fn drop_zone(
@@ -141,7 +150,9 @@ pub trait Store: Published {
     ) -> Result<(), StoreFault>
         requires client { IsProper (Client client.now) }
         requires number { number ≤ greatest_number }
-        ensures makes { Makes tables_view outgrown (update (Client client.now) (zone_dropped zone.now) number reply.now) self.old self.new result };
+        ensures makes { Makes tables_view outgrown
+            (update (Client client.now) (zone_dropped zone.now) number reply.now)
+            self.old self.new result };
 
     /// Puts the list of SYSMODs that a client has received.
     fn put_received(
@@ -154,7 +165,9 @@ pub trait Store: Published {
         requires client { IsProper (Client client.now) }
         requires number { number ≤ greatest_number }
         requires ascending { Ascend ids.now }
-        ensures makes { Makes tables_view outgrown (update (Client client.now) (received_put ids.now) number reply.now) self.old self.new result };
+        ensures makes { Makes tables_view outgrown
+            (update (Client client.now) (received_put ids.now) number reply.now)
+            self.old self.new result };
 
     /// Puts the patterns of the fix categories that a client asks for in a zone that is there.
     fn put_patterns(
@@ -168,7 +181,9 @@ pub trait Store: Published {
         requires client { IsProper (Client client.now) }
         requires number { number ≤ greatest_number }
         requires ascending { IsStrictlySortedBy (slice_cmp nat_cmp) patterns.now }
-        ensures makes { Makes tables_view outgrown (update (Client client.now) (patterns_put zone.now patterns.now) number reply.now) self.old self.new result };
+        ensures makes { Makes tables_view outgrown
+            (update (Client client.now) (patterns_put zone.now patterns.now) number reply.now)
+            self.old self.new result };
 
     /// What the view keeps to.
     ghost tables_lawful: { IsLawful tables_view };
@@ -177,8 +192,11 @@ pub trait Store: Published {
     ghost shows_content: { AreOfOneStore Self.Published.content_view tables_view };
 
     /// A store that this product made, and whose device never failed, holds some tables.
-    ghost holds_tables: { (store : Self) → tables_view.is_ours store → IsOpen tables_view store → (tables : Tables) × tables_view.stands store tables };
+    ghost holds_tables: { (store : Self) → tables_view.is_ours store → IsOpen tables_view store
+        → (tables : Tables) × tables_view.stands store tables };
 
     /// In a store that this product made, what is published and each client's zones are in order.
-    ghost tables_in_order: { (store : Self) (tables : Tables) → tables_view.is_ours store → IsOpen tables_view store → tables_view.stands store tables → AreInOrder tables };
+    ghost tables_in_order: { (store : Self) (tables : Tables)
+        → tables_view.is_ours store → IsOpen tables_view store → tables_view.stands store tables
+        → AreInOrder tables };
 }

@@ -37,7 +37,8 @@ impl FailingStore {
     fn fails(&mut self) -> bool
         ensures lists { self.new.lists ≡ self.old.lists }
         ensures rises { self.old.failures ≤ self.new.failures }
-        ensures fails { result ≡ true → (0 < self.new.failures) × ((self.old.failures < self.new.failures) ⊎ (self.new.failures ≡ most_failures)) }
+        ensures fails { result ≡ true → (0 < self.new.failures)
+            × ((self.old.failures < self.new.failures) ⊎ (self.new.failures ≡ most_failures)) }
         ensures stands { result ≡ false → (self.old.failures ≡ 0) × (self.new.failures ≡ 0) }
     {
         if self.left == 0 || self.failures > 0 {
@@ -99,7 +100,8 @@ impl Published for FailingStore {
           ours = λ ours clean. subst IsOurs (sym kept.0) ours;
           failures_rise = kept.1;
         };
-        stays = λ ours clean this stands standing. ap (λ lists. (tables_of lists).content) kept.0 ∙ stands (omega (arith, kept.1, standing));
+        stays = λ ours clean this stands standing.
+            ap (λ lists. (tables_of lists).content) kept.0 ∙ stands (omega (arith, kept.1, standing));
         leaves = λ ours clean this left. ap (λ lists. (tables_of lists).content) (sym kept.0) ∙ left;
       };
       itself = λ store. (refl, omega arith);
@@ -115,15 +117,9 @@ impl Store for FailingStore {
     ghost use Rattle.std.proofs.Common.{◌∙◌, ap, arith, refl, subst, sym};
     ghost use Rattle.bureau_store.specs.Lists.{IsOurs, tables_of};
     ghost use Rattle.bureau_store.specs.Tables.{AreInOrder};
+    ghost use Rattle.failing_store.specs.Failing.{failing_view};
 
-    ghost tables_view = { record {
-      stands = λ store this. store.failures ≡ 0 → tables_of store.lists ≡ this;
-      is_clean = λ store. Unit {0};
-      is_ours = λ store. IsOurs store.lists;
-      failures = λ store. store.failures;
-      may_leave = λ store this. tables_of store.lists ≡ this;
-      keeps = λ old new. (new.lists ≡ old.lists) × (old.failures ≤ new.failures);
-    } };
+    ghost tables_view = { failing_view };
 
     ghost outgrown = { λ update old new. ⊥ };
 

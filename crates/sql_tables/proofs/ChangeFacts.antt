@@ -171,33 +171,24 @@ publisher_made : (changes : List Change) (last : LastChange) (stored : Stored) �
     → tables_of (stored_after Publisher (publication changes) last stored) ≡ effect.tables_after Publisher (publication changes) last (tables_of stored)
 publisher_made changes last stored fit =
     same_tables (tables_of (stored_after Publisher (publication changes) last stored)) (effect.tables_after Publisher (publication changes) last (tables_of stored))
-    (ap (filter_map caller_found) (spared (λ (s : Stored). s.callers) callers changes stored))
+    (ap (λ (s : Stored). filter_map caller_found s.callers) rest)
     (all_published changes stored fit)
-    (λ other. ap (λ rows. last_of (with_last (Some publisher_name) last rows) other) (spared (λ (s : Stored). s.changes) numbers changes stored) ∙ last_after Publisher other last stored.changes tt)
+    (λ other. ap (λ (s : Stored). last_of (with_last (Some publisher_name) last s.changes) other) rest ∙ last_after Publisher other last stored.changes tt)
     (λ name. same_zones stored (fold published stored changes) name
-    (λ zone. ap (filter (is_of_both name zone)) (spared (λ (s : Stored). s.heads) heads changes stored))
-    (λ zone. ap (filter (is_of_both name zone)) (spared (λ (s : Stored). s.rows) rows changes stored)))
-    (λ name. ap (λ rows. received_of rows name) (spared (λ (s : Stored). s.received) received changes stored))
+    (λ zone. ap (λ (s : Stored). filter (is_of_both name zone) s.heads) rest)
+    (λ zone. ap (λ (s : Stored). filter (is_of_both name zone) s.rows) rest))
+    (λ name. ap (λ (s : Stored). received_of s.received name) rest)
   where
-    callers : (s : Stored) (change : Change) → (published s change).callers ≡ s.callers
-    callers s (Whole x) = refl
-    callers s (OfHold change) = refl
+    -- all rows but those of what is published
+    beside : Stored → Stored
+    beside s = record s { sysmods = []; sups = []; conds = []; holds = [] }
 
-    numbers : (s : Stored) (change : Change) → (published s change).changes ≡ s.changes
-    numbers s (Whole x) = refl
-    numbers s (OfHold change) = refl
+    same : (s : Stored) (change : Change) → beside (published s change) ≡ beside s
+    same s (Whole x) = refl
+    same s (OfHold change) = refl
 
-    heads : (s : Stored) (change : Change) → (published s change).heads ≡ s.heads
-    heads s (Whole x) = refl
-    heads s (OfHold change) = refl
-
-    rows : (s : Stored) (change : Change) → (published s change).rows ≡ s.rows
-    rows s (Whole x) = refl
-    rows s (OfHold change) = refl
-
-    received : (s : Stored) (change : Change) → (published s change).received ≡ s.received
-    received s (Whole x) = refl
-    received s (OfHold change) = refl
+    rest : beside (fold published stored changes) ≡ beside stored
+    rest = spared beside same changes stored
 
 -- each change
 pub change_made : (caller : Caller) (e : Effect) (last : LastChange) (stored : Stored) → CanBeMade caller e (tables_of stored)

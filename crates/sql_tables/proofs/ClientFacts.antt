@@ -2,6 +2,7 @@
 use Rattle.std.proofs.Common.{◌≡◌, ℕ, Bool, true, false, cond, ◌&&◌, ◌||◌, List, [], ◌∷◌, refl, sym, ◌∙◌, ap, if◌then◌else◌}
 use Rattle.std.specs.Prelude.{filter, map, Option, Some, None, option_map, unwrap_or}
 use Rattle.std.specs.List.{AllByRecursion, filter_map, cons_option, list_any}
+use Rattle.std.proofs.lemmas.Bool.{and_parts}
 use Rattle.mcs_reader.specs.Id.{IsId}
 use Rattle.zone_lists.specs.declared.zones.ZoneRow.{ZoneRow}
 use Rattle.catalogue.specs.Ids.{same_id}
@@ -19,14 +20,6 @@ use Rattle.sql_tables.proofs.ValueFacts.{id_again, named_apart, named_itself, st
 
 -- ---- which rows belong to whom
 
-both_first : (a b : Bool) → (a && b) ≡ true → a ≡ true
-both_first true b h = refl
-both_first false b h = cc
-
-both_last : (a b : Bool) → (a && b) ≡ true → b ≡ true
-both_last true b h = h
-both_last false b h = cc
-
 -- no row is of two clients
 pub of_apart : (client other : List ℕ) → same_id client other ≡ false → (row : Row) → is_of client row ≡ true → is_of other row ≡ false
 of_apart client other apart row at = named_apart client other (column row 0) apart at
@@ -34,12 +27,12 @@ of_apart client other apart row at = named_apart client other (column row 0) apa
 -- no row is of a zone of one and a zone of another
 pub zones_apart : (client other zone next : List ℕ) → same_id client other ≡ false → (row : Row) → is_of_both client zone row ≡ true → is_of_both other next row ≡ false
 zones_apart client other zone next apart row at =
-    ap (λ b. b && is_named next (column row 1)) (named_apart client other (column row 0) apart (both_first (is_of client row) (is_named zone (column row 1)) at))
+    ap (λ b. b && is_named next (column row 1)) (named_apart client other (column row 0) apart (and_parts (is_of client row) (is_named zone (column row 1)) at).0)
 
 -- nor of two zones of one
 pub names_apart : (client zone next : List ℕ) → same_id zone next ≡ false → (row : Row) → is_of_both client zone row ≡ true → is_of_both client next row ≡ false
 names_apart client zone next apart row at =
-    ap (λ b. is_of client row && b) (named_apart zone next (column row 1) apart (both_last (is_of client row) (is_named zone (column row 1)) at))
+    ap (λ b. is_of client row && b) (named_apart zone next (column row 1) apart (and_parts (is_of client row) (is_named zone (column row 1)) at).1)
     ∙ off (is_of client row)
   where
     off : (b : Bool) → (b && false) ≡ false

@@ -3,9 +3,7 @@ use Rattle.std.proofs.Common.{◌≡◌, ℕ, Bool, true, false, cond, ◌||◌,
 use Rattle.std.specs.Prelude.{filter, find, reverse, is_some, Option, Some, None, option_map, unwrap_or}
 use Rattle.std.specs.List.{Contains, cons_option, filter_map, list_any}
 use Rattle.std.specs.List.Sorted.{IsPermutation}
-use Rattle.std.specs.Option.{option_or}
-use Rattle.std.proofs.lemmas.List.{reverse-append}
-use Rattle.std.proofs.lemmas.List.Folds.{find-append}
+use Rattle.std.proofs.lemmas.List.Sorted.{IsPermutation-reverse, list_any-IsPermutation}
 use Rattle.catalogue.specs.Conditional.{CondsAscend}
 use Rattle.catalogue.specs.Content as content
 use Rattle.catalogue.specs.Content.{ids_of, record_of}
@@ -72,16 +70,7 @@ any_found test (x ∷ xs) = by (test x) (any_found test xs)
     by false rest = rest
 
 any_last : (test : Sysmod → Bool) (xs : List Sysmod) → list_any test xs ≡ is_some (find test (reverse xs))
-any_last test [] = refl
-any_last test (x ∷ xs) =
-    by (find test (reverse xs)) (test x) (any_last test xs)
-    ∙ sym (ap is_some (ap (find test) (reverse-append (x ∷ []) xs) ∙ find-append test (reverse xs) (x ∷ [])))
-  where
-    by : (o : Option Sysmod) (b : Bool) → list_any test xs ≡ is_some o → (b || list_any test xs) ≡ is_some (option_or o (cond b (Some x) None))
-    by None true h = refl
-    by None false h = h
-    by (Some y) true h = refl
-    by (Some y) false h = h
+any_last test xs = list_any-IsPermutation test xs (reverse xs) (IsPermutation-reverse xs) ∙ any_found test (reverse xs)
 
 -- the ids of a catalogue are those of its records, in order
 pub catalogue_ids : (xs : List Sysmod) → content.ids_in (catalogue_of xs) ≡ in_order (content.ids_in xs)

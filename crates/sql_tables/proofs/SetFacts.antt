@@ -8,6 +8,7 @@ use Rattle.std.specs.List.Sorted.{IsPermutation, IsStrictlySortedBy}
 use Rattle.std.specs.Ordering.{is_eq, ordering_reverse}
 use Rattle.std.specs.declared.cmp.Ordering.{Ordering}
 use Rattle.std.specs.declared.cmp.Ordering.TheVariants.{Less, Equal, Greater}
+use Rattle.std.proofs.Math.Bool.{and-true, or-false, or_assoc, or_comm}
 use Rattle.std.proofs.lemmas.Cmp.{eq_by_cmp_equiv}
 use Rattle.std.proofs.lemmas.List.Sorted.{list_any-IsPermutation}
 use Rattle.std.proofs.lemmas.Map.Lookups.{CmpEqualImpliesEq, exact_pairs}
@@ -22,21 +23,11 @@ module _ {K : Type 0} {cmp : K → K → Ordering} (total : IsTotalOrder cmp) (e
   fold_ascends ks (x ∷ xs) h = fold_ascends (insert_key cmp ks x) xs (sorted_insert cmp total ks x h)
 
   fold_any : (test : K → Bool) (ks xs : List K) → list_any test (fold (insert_key cmp) ks xs) ≡ (list_any test ks || list_any test xs)
-  fold_any test ks [] = plain (list_any test ks)
-    where
-      plain : (b : Bool) → b ≡ (b || false)
-      plain true = refl
-      plain false = refl
+  fold_any test ks [] = sym (or-false (list_any test ks))
   fold_any test ks (x ∷ xs) =
       fold_any test (insert_key cmp ks x) xs
-      ∙ ap (λ b. b || list_any test xs) (any_insert cmp exact test ks x)
-      ∙ swap (test x) (list_any test ks) (list_any test xs)
-    where
-      swap : (a b c : Bool) → ((a || b) || c) ≡ (b || (a || c))
-      swap true true c = refl
-      swap true false c = refl
-      swap false true c = refl
-      swap false false c = refl
+      ∙ ap (λ b. b || list_any test xs) (any_insert cmp exact test ks x ∙ or_comm (test x) (list_any test ks))
+      ∙ or_assoc (list_any test ks) (test x) (list_any test xs)
 
   alike : (x : K) → is_eq (cmp x x) ≡ true
   alike x = (eq_by_cmp_equiv total).refl x
@@ -51,11 +42,7 @@ module _ {K : Type 0} {cmp : K → K → Ordering} (total : IsTotalOrder cmp) (e
   all_others test x (k ∷ xs) h =
       ap (λ o. (test k && not (is_eq o)) || list_any (λ y. test y && not (is_eq (cmp x y))) xs) h.0
       ∙ ap (λ b. (test k && true) || b) (all_others test x xs h.1)
-      ∙ plain (test k)
-    where
-      plain : (b : Bool) → ((b && true) || list_any test xs) ≡ (b || list_any test xs)
-      plain true = refl
-      plain false = refl
+      ∙ ap (λ b. b || list_any test xs) (and-true (test k))
 
   -- the first of a list is not among the others
   others : (test : K → Bool) (x : K) (xs : List K) → AllByRecursion (λ k. cmp x k ≡ Less) xs → list_any (λ k. test k && not (is_eq (cmp x k))) (x ∷ xs) ≡ list_any test xs

@@ -1,5 +1,5 @@
 -- Each change leaves rows whole.
-use Rattle.std.proofs.Common.{◌≡◌, ◌≢◌, ℕ, Bool, true, false, cond, ◌&&◌, ◌||◌, List, [], ◌∷◌, ◌++◌, refl, sym, ◌∙◌, ap}
+use Rattle.std.proofs.Common.{◌≡◌, ◌≢◌, ◌<◌, ℕ, zero, suc, arith, Bool, true, false, cond, ◌&&◌, ◌||◌, List, [], ◌∷◌, ◌++◌, refl, sym, ◌∙◌, ap}
 use Rattle.std.specs.Prelude.{filter, fold, map, not, take, Some}
 use Rattle.std.specs.List.{AllByRecursion, list_any, list_all}
 use Rattle.std.specs.List.Sorted.{IsStrictlySortedBy}
@@ -103,55 +103,33 @@ own_replaced columns test alike news rows pass new own =
     off false h = refl
 
 -- which columns a key has
-first_of : (row : Row) → column (take 1 row) 0 ≡ column row 0
-first_of [] = refl
-first_of (a ∷ row) = refl
+in_key : (columns at : ℕ) → at < columns → (row : Row) → column (take columns row) at ≡ column row at
+in_key zero at low row = absurd (omega (arith, low))
+in_key (suc columns) at low [] = refl
+in_key (suc columns) zero low (a ∷ row) = refl
+in_key (suc columns) (suc at) low (a ∷ row) = in_key columns at (omega (arith, low)) row
 
-first_of_two : (row : Row) → column (take 2 row) 0 ≡ column row 0
-first_of_two [] = refl
-first_of_two (a ∷ row) = refl
-
-second_of_two : (row : Row) → column (take 2 row) 1 ≡ column row 1
-second_of_two [] = refl
-second_of_two (a ∷ []) = refl
-second_of_two (a ∷ b ∷ row) = refl
-
-first_of_three : (row : Row) → column (take 3 row) 0 ≡ column row 0
-first_of_three [] = refl
-first_of_three (a ∷ row) = refl
-
-second_of_three : (row : Row) → column (take 3 row) 1 ≡ column row 1
-second_of_three [] = refl
-second_of_three (a ∷ []) = refl
-second_of_three (a ∷ b ∷ row) = refl
-
-third_of_three : (row : Row) → column (take 3 row) 2 ≡ column row 2
-third_of_three [] = refl
-third_of_three (a ∷ []) = refl
-third_of_three (a ∷ b ∷ []) = refl
-third_of_three (a ∷ b ∷ c ∷ row) = refl
-
-same_column : (columns at : ℕ) → ((row : Row) → column (take columns row) at ≡ column row at) → (a b : Row) → take columns a ≡ take columns b → column a at ≡ column b at
-same_column columns at is a b same = sym (is a) ∙ ap (λ key. column key at) same ∙ is b
+same_column : (columns at : ℕ) → at < columns → (a b : Row) → take columns a ≡ take columns b → column a at ≡ column b at
+same_column columns at low a b same = sym (in_key columns at low a) ∙ ap (λ key. column key at) same ∙ in_key columns at low b
 
 by_id : (id : List ℕ) (a b : Row) → take 1 a ≡ take 1 b → is_of id a ≡ is_of id b
-by_id id a b same = ap (is_named id) (same_column 1 0 first_of a b same)
+by_id id a b same = ap (is_named id) (same_column 1 0 (omega arith) a b same)
 
 by_zone : (client zone : List ℕ) (a b : Row) → take 2 a ≡ take 2 b → is_of_both client zone a ≡ is_of_both client zone b
 by_zone client zone a b same =
-    ap (λ v. is_named client v && is_named zone (column a 1)) (same_column 2 0 first_of_two a b same)
-    ∙ ap (λ v. is_named client (column b 0) && is_named zone v) (same_column 2 1 second_of_two a b same)
+    ap (λ v. is_named client v && is_named zone (column a 1)) (same_column 2 0 (omega arith) a b same)
+    ∙ ap (λ v. is_named client (column b 0) && is_named zone v) (same_column 2 1 (omega arith) a b same)
 
 by_place : (client zone : List ℕ) (a b : Row) → take 3 a ≡ take 3 b → is_of_both client zone a ≡ is_of_both client zone b
 by_place client zone a b same =
-    ap (λ v. is_named client v && is_named zone (column a 1)) (same_column 3 0 first_of_three a b same)
-    ∙ ap (λ v. is_named client (column b 0) && is_named zone v) (same_column 3 1 second_of_three a b same)
+    ap (λ v. is_named client v && is_named zone (column a 1)) (same_column 3 0 (omega arith) a b same)
+    ∙ ap (λ v. is_named client (column b 0) && is_named zone v) (same_column 3 1 (omega arith) a b same)
 
 by_hold : (key : HoldKey) (a b : Row) → take 3 a ≡ take 3 b → is_under key a ≡ is_under key b
 by_hold key a b same =
-    ap (λ v. is_named key.sysmod v && (is_kind key.kind (column a 1) && is_named key.reason (column a 2))) (same_column 3 0 first_of_three a b same)
-    ∙ ap (λ v. is_named key.sysmod (column b 0) && (is_kind key.kind v && is_named key.reason (column a 2))) (same_column 3 1 second_of_three a b same)
-    ∙ ap (λ v. is_named key.sysmod (column b 0) && (is_kind key.kind (column b 1) && is_named key.reason v)) (same_column 3 2 third_of_three a b same)
+    ap (λ v. is_named key.sysmod v && (is_kind key.kind (column a 1) && is_named key.reason (column a 2))) (same_column 3 0 (omega arith) a b same)
+    ∙ ap (λ v. is_named key.sysmod (column b 0) && (is_kind key.kind v && is_named key.reason (column a 2))) (same_column 3 1 (omega arith) a b same)
+    ∙ ap (λ v. is_named key.sysmod (column b 0) && (is_kind key.kind (column b 1) && is_named key.reason v)) (same_column 3 2 (omega arith) a b same)
 
 -- ---- a publication
 

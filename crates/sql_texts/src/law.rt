@@ -17,7 +17,8 @@ ghost use Rattle.sql_texts.specs.Reads.{from_table, query_of};
 /// A query of one table answers, of just the rows that pass its tests, the columns that it names, each row as
 /// often as it stands there.
 pub fn table()
-    ensures { (tree : ℕ) (tests : List Term) (project order : List ℕ) (db : Trees) (params : Row) (rows : List Row)
+    ensures { (tree : ℕ) (tests : List Term) (project order : List ℕ)
+        (db : Trees) (params : Row) (rows : List Row)
         → IsAnswer (from_table tree tests project order) db params rows
         → IsPermutation (map (shown project) (filter (passes params tests) (db tree))) rows }
 {}

@@ -30,7 +30,8 @@ pub fn insert_last_change() -> &'static str
     "INSERT INTO last_change (caller, number, body) VALUES (?1, ?2, ?3)"
 }
 
-/// A record, without what it supersedes and what it requires under a condition, with the columns ?1 to ?5 in the order of the table.
+/// A record, without what it supersedes and what it requires under a condition, with the columns ?1 to ?5 in the
+/// order of the table.
 pub fn insert_sysmod() -> &'static str
     ensures { Means bureau result.now (insert_given 3 5) 5 }
 {

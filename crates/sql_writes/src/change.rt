@@ -27,8 +27,11 @@ fn put_last<S: Alter>(
 ) -> Result<(), Error>
     requires { number ≤ greatest_number }
     ensures same { tx.new.conn.ghost_name ≡ tx.old.conn.ghost_name }
-    ensures changes { Changes (state S.Store tx.old.conn.now) (state S.Store tx.new.conn.now) result (λ stored.
-        record stored { changes = replaced (is_of name.now) (change_row name.now (record { number = number; reply = reply.now }) ∷ []) stored.changes }) }
+    ensures changes { Changes (state S.Store tx.old.conn.now) (state S.Store tx.new.conn.now) result
+        (λ stored. record stored {
+          changes = replaced (is_of name.now)
+              (change_row name.now (record { number = number; reply = reply.now }) ∷ []) stored.changes;
+        }) }
 {
     delete::last_change(tx, name)?;
     insert::last_change(tx, name, number, reply)
@@ -74,7 +77,8 @@ pub fn put_zone<S: Alter>(
     requires number { number ≤ greatest_number }
     ensures same { tx.new.conn.ghost_name ≡ tx.old.conn.ghost_name }
     ensures changes { Changes (state S.Store tx.old.conn.now) (state S.Store tx.new.conn.now) result
-        (stored_after (Client client.now) (zone_put zone.now rows.now) (record { number = number; reply = reply.now })) }
+        (stored_after (Client client.now) (zone_put zone.now rows.now)
+        (record { number = number; reply = reply.now })) }
 {
     zones::put(alloc, tx, client, zone, rows)?;
     put_last(tx, client, number, reply)
@@ -131,7 +135,8 @@ pub fn put_patterns<S: Alter>(
     requires number { number ≤ greatest_number }
     ensures same { tx.new.conn.ghost_name ≡ tx.old.conn.ghost_name }
     ensures changes { Changes (state S.Store tx.old.conn.now) (state S.Store tx.new.conn.now) result
-        (stored_after (Client client.now) (patterns_put zone.now patterns.now) (record { number = number; reply = reply.now })) }
+        (stored_after (Client client.now) (patterns_put zone.now patterns.now)
+        (record { number = number; reply = reply.now })) }
 {
     zones::put_patterns(alloc, tx, client, zone, patterns)?;
     put_last(tx, client, number, reply)

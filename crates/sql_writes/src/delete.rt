@@ -15,7 +15,8 @@ use sqlite::{Alter, Error, Transaction};
 /// The last change of the caller of this name.
 pub(crate) fn last_change<S: Alter>(tx: &mut Transaction<'_, S>, name: &Id) -> Result<(), Error>
     ensures same { tx.new.conn.ghost_name ≡ tx.old.conn.ghost_name }
-    ensures changes { Changes (state S.Store tx.old.conn.now) (state S.Store tx.new.conn.now) result (without_last name.now) }
+    ensures changes { Changes (state S.Store tx.old.conn.now) (state S.Store tx.new.conn.now) result
+        (without_last name.now) }
 {
     run(tx, write::delete_last_change(), &[id_of(name)])
 }
@@ -23,7 +24,8 @@ pub(crate) fn last_change<S: Alter>(tx: &mut Transaction<'_, S>, name: &Id) -> R
 /// The row of a SYSMOD's record.
 pub(crate) fn sysmod<S: Alter>(tx: &mut Transaction<'_, S>, id: &Id) -> Result<(), Error>
     ensures same { tx.new.conn.ghost_name ≡ tx.old.conn.ghost_name }
-    ensures changes { Changes (state S.Store tx.old.conn.now) (state S.Store tx.new.conn.now) result (without_sysmod id.now) }
+    ensures changes { Changes (state S.Store tx.old.conn.now) (state S.Store tx.new.conn.now) result
+        (without_sysmod id.now) }
 {
     run(tx, write::delete_sysmod(), &[id_of(id)])
 }
@@ -31,7 +33,8 @@ pub(crate) fn sysmod<S: Alter>(tx: &mut Transaction<'_, S>, id: &Id) -> Result<(
 /// What a SYSMOD supersedes.
 pub(crate) fn superseded<S: Alter>(tx: &mut Transaction<'_, S>, id: &Id) -> Result<(), Error>
     ensures same { tx.new.conn.ghost_name ≡ tx.old.conn.ghost_name }
-    ensures changes { Changes (state S.Store tx.old.conn.now) (state S.Store tx.new.conn.now) result (without_sups id.now) }
+    ensures changes { Changes (state S.Store tx.old.conn.now) (state S.Store tx.new.conn.now) result
+        (without_sups id.now) }
 {
     run(tx, write::delete_superseded(), &[id_of(id)])
 }
@@ -39,7 +42,8 @@ pub(crate) fn superseded<S: Alter>(tx: &mut Transaction<'_, S>, id: &Id) -> Resu
 /// What a SYSMOD requires under a condition.
 pub(crate) fn conditional<S: Alter>(tx: &mut Transaction<'_, S>, id: &Id) -> Result<(), Error>
     ensures same { tx.new.conn.ghost_name ≡ tx.old.conn.ghost_name }
-    ensures changes { Changes (state S.Store tx.old.conn.now) (state S.Store tx.new.conn.now) result (without_conds id.now) }
+    ensures changes { Changes (state S.Store tx.old.conn.now) (state S.Store tx.new.conn.now) result
+        (without_conds id.now) }
 {
     run(tx, write::delete_conditional(), &[id_of(id)])
 }
@@ -47,7 +51,8 @@ pub(crate) fn conditional<S: Alter>(tx: &mut Transaction<'_, S>, id: &Id) -> Res
 /// The hold with this key.
 pub(crate) fn hold<S: Alter>(tx: &mut Transaction<'_, S>, key: &HoldKey) -> Result<(), Error>
     ensures same { tx.new.conn.ghost_name ≡ tx.old.conn.ghost_name }
-    ensures changes { Changes (state S.Store tx.old.conn.now) (state S.Store tx.new.conn.now) result (without_hold key.now) }
+    ensures changes { Changes (state S.Store tx.old.conn.now) (state S.Store tx.new.conn.now) result
+        (without_hold key.now) }
 {
     let params = [
         id_of(&key.sysmod),
@@ -64,7 +69,8 @@ pub(crate) fn head<S: Alter>(
     zone: &Id,
 ) -> Result<(), Error>
     ensures same { tx.new.conn.ghost_name ≡ tx.old.conn.ghost_name }
-    ensures changes { Changes (state S.Store tx.old.conn.now) (state S.Store tx.new.conn.now) result (without_head client.now zone.now) }
+    ensures changes { Changes (state S.Store tx.old.conn.now) (state S.Store tx.new.conn.now) result
+        (without_head client.now zone.now) }
 {
     run(tx, write::delete_zone_head(), &[id_of(client), id_of(zone)])
 }
@@ -76,7 +82,8 @@ pub(crate) fn zone_rows<S: Alter>(
     zone: &Id,
 ) -> Result<(), Error>
     ensures same { tx.new.conn.ghost_name ≡ tx.old.conn.ghost_name }
-    ensures changes { Changes (state S.Store tx.old.conn.now) (state S.Store tx.new.conn.now) result (without_rows client.now zone.now) }
+    ensures changes { Changes (state S.Store tx.old.conn.now) (state S.Store tx.new.conn.now) result
+        (without_rows client.now zone.now) }
 {
     run(tx, write::delete_zone_rows(), &[id_of(client), id_of(zone)])
 }
@@ -84,7 +91,8 @@ pub(crate) fn zone_rows<S: Alter>(
 /// What a client has received.
 pub(crate) fn received<S: Alter>(tx: &mut Transaction<'_, S>, client: &Id) -> Result<(), Error>
     ensures same { tx.new.conn.ghost_name ≡ tx.old.conn.ghost_name }
-    ensures changes { Changes (state S.Store tx.old.conn.now) (state S.Store tx.new.conn.now) result (without_received client.now) }
+    ensures changes { Changes (state S.Store tx.old.conn.now) (state S.Store tx.new.conn.now) result
+        (without_received client.now) }
 {
     run(tx, write::delete_received(), &[id_of(client)])
 }

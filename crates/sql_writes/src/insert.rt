@@ -31,9 +31,11 @@ pub(crate) fn caller<S: Alter>(
     statement: &Statement,
     row: &CallerRow,
 ) -> Result<(), Error>
-    requires means { HasCleanDisk (state S.Store tx.old.conn.now) → Means bureau statement.now.text (insert_given 1 2) 2 }
+    requires means { HasCleanDisk (state S.Store tx.old.conn.now)
+        → Means bureau statement.now.text (insert_given 1 2) 2 }
     ensures same { tx.new.conn.ghost_name ≡ tx.old.conn.ghost_name }
-    ensures changes { Changes (state S.Store tx.old.conn.now) (state S.Store tx.new.conn.now) result (with_callers (row.now ∷ [])) }
+    ensures changes { Changes (state S.Store tx.old.conn.now) (state S.Store tx.new.conn.now) result
+        (with_callers (row.now ∷ [])) }
 {
     let params = [id_of(&row.name), ValueRef::Text(row.token.as_bytes())];
     run_prepared(tx, statement, &params)
@@ -48,7 +50,8 @@ pub(crate) fn last_change<S: Alter>(
 ) -> Result<(), Error>
     requires { number ≤ greatest_number }
     ensures same { tx.new.conn.ghost_name ≡ tx.old.conn.ghost_name }
-    ensures changes { Changes (state S.Store tx.old.conn.now) (state S.Store tx.new.conn.now) result (with_last name.now (record { number = number; reply = reply.now })) }
+    ensures changes { Changes (state S.Store tx.old.conn.now) (state S.Store tx.new.conn.now) result
+        (with_last name.now (record { number = number; reply = reply.now })) }
 {
     let params = [id_of(name), number_of(number), ValueRef::Blob(reply)];
     run(tx, write::insert_last_change(), &params)
@@ -61,7 +64,8 @@ pub(crate) fn sysmod<S: Alter>(
     sysmod: &Sysmod,
 ) -> Result<(), Error>
     ensures same { tx.new.conn.ghost_name ≡ tx.old.conn.ghost_name }
-    ensures changes { Changes (state S.Store tx.old.conn.now) (state S.Store tx.new.conn.now) result (with_sysmod sysmod.now) }
+    ensures changes { Changes (state S.Store tx.old.conn.now) (state S.Store tx.new.conn.now) result
+        (with_sysmod sysmod.now) }
 {
     let fmids = joined_ids(alloc, sysmod.fmids.as_slice())?;
     let pre = joined_ids(alloc, sysmod.pre.as_slice())?;
@@ -83,9 +87,11 @@ pub(crate) fn sup_row<S: Alter>(
     id: &Id,
     member: &Id,
 ) -> Result<(), Error>
-    requires means { HasCleanDisk (state S.Store tx.old.conn.now) → Means bureau statement.now.text (insert_given 4 2) 2 }
+    requires means { HasCleanDisk (state S.Store tx.old.conn.now)
+        → Means bureau statement.now.text (insert_given 4 2) 2 }
     ensures same { tx.new.conn.ghost_name ≡ tx.old.conn.ghost_name }
-    ensures changes { Changes (state S.Store tx.old.conn.now) (state S.Store tx.new.conn.now) result (with_sups id.now (member.now ∷ [])) }
+    ensures changes { Changes (state S.Store tx.old.conn.now) (state S.Store tx.new.conn.now) result
+        (with_sups id.now (member.now ∷ [])) }
 {
     run_prepared(tx, statement, &[id_of(id), id_of(member)])
 }
@@ -97,9 +103,11 @@ pub(crate) fn cond_row<S: Alter>(
     id: &Id,
     cond: &CondNeed,
 ) -> Result<(), Error>
-    requires means { HasCleanDisk (state S.Store tx.old.conn.now) → Means bureau statement.now.text (insert_given 9 3) 3 }
+    requires means { HasCleanDisk (state S.Store tx.old.conn.now)
+        → Means bureau statement.now.text (insert_given 9 3) 3 }
     ensures same { tx.new.conn.ghost_name ≡ tx.old.conn.ghost_name }
-    ensures changes { Changes (state S.Store tx.old.conn.now) (state S.Store tx.new.conn.now) result (with_conds id.now (cond.now ∷ [])) }
+    ensures changes { Changes (state S.Store tx.old.conn.now) (state S.Store tx.new.conn.now) result
+        (with_conds id.now (cond.now ∷ [])) }
 {
     let params = [id_of(id), id_of(&cond.fmid), id_of(&cond.need)];
     run_prepared(tx, statement, &params)
@@ -108,7 +116,8 @@ pub(crate) fn cond_row<S: Alter>(
 /// A hold.
 pub(crate) fn hold<S: Alter>(tx: &mut Transaction<'_, S>, hold: &Hold) -> Result<(), Error>
     ensures same { tx.new.conn.ghost_name ≡ tx.old.conn.ghost_name }
-    ensures changes { Changes (state S.Store tx.old.conn.now) (state S.Store tx.new.conn.now) result (with_hold hold.now) }
+    ensures changes { Changes (state S.Store tx.old.conn.now) (state S.Store tx.new.conn.now) result
+        (with_hold hold.now) }
 {
     let params = [
         id_of(&hold.key.sysmod),
@@ -132,7 +141,8 @@ pub(crate) fn head<S: Alter>(
     patterns: &[Pattern],
 ) -> Result<(), Error>
     ensures same { tx.new.conn.ghost_name ≡ tx.old.conn.ghost_name }
-    ensures changes { Changes (state S.Store tx.old.conn.now) (state S.Store tx.new.conn.now) result (with_head client.now zone.now patterns.now) }
+    ensures changes { Changes (state S.Store tx.old.conn.now) (state S.Store tx.new.conn.now) result
+        (with_head client.now zone.now patterns.now) }
 {
     let joined = joined_patterns(alloc, patterns)?;
     let params = [
@@ -151,9 +161,11 @@ pub(crate) fn zone_row<S: Alter>(
     zone: &Id,
     row: &ZoneRow,
 ) -> Result<(), Error>
-    requires means { HasCleanDisk (state S.Store tx.old.conn.now) → Means bureau statement.now.text (insert_given 7 4) 4 }
+    requires means { HasCleanDisk (state S.Store tx.old.conn.now)
+        → Means bureau statement.now.text (insert_given 7 4) 4 }
     ensures same { tx.new.conn.ghost_name ≡ tx.old.conn.ghost_name }
-    ensures changes { Changes (state S.Store tx.old.conn.now) (state S.Store tx.new.conn.now) result (with_rows client.now zone.now (row.now ∷ [])) }
+    ensures changes { Changes (state S.Store tx.old.conn.now) (state S.Store tx.new.conn.now) result
+        (with_rows client.now zone.now (row.now ∷ [])) }
 {
     let params = [
         id_of(client),
@@ -172,7 +184,8 @@ pub(crate) fn received<S: Alter>(
     ids: &[Id],
 ) -> Result<(), Error>
     ensures same { tx.new.conn.ghost_name ≡ tx.old.conn.ghost_name }
-    ensures changes { Changes (state S.Store tx.old.conn.now) (state S.Store tx.new.conn.now) result (with_received client.now ids.now) }
+    ensures changes { Changes (state S.Store tx.old.conn.now) (state S.Store tx.new.conn.now) result
+        (with_received client.now ids.now) }
 {
     let joined = joined_ids(alloc, ids)?;
     run(

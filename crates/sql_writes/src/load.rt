@@ -25,7 +25,8 @@ pub(crate) fn zone_rows<S: Alter>(
     rows: &[ZoneRow],
 ) -> Result<(), Error>
     ensures same { tx.new.conn.ghost_name ≡ tx.old.conn.ghost_name }
-    ensures changes { Changes (state S.Store tx.old.conn.now) (state S.Store tx.new.conn.now) result (with_rows client.now zone.now rows.now) }
+    ensures changes { Changes (state S.Store tx.old.conn.now) (state S.Store tx.new.conn.now) result
+        (with_rows client.now zone.now rows.now) }
 {
     let statement = prepare(tx, write::insert_zone_row())?;
     for row in rows {
@@ -41,9 +42,11 @@ pub(crate) fn superseded<S: Alter>(
     id: &Id,
     members: &[Id],
 ) -> Result<(), Error>
-    requires means { HasCleanDisk (state S.Store tx.old.conn.now) → Means bureau statement.now.text (insert_given 4 2) 2 }
+    requires means { HasCleanDisk (state S.Store tx.old.conn.now)
+        → Means bureau statement.now.text (insert_given 4 2) 2 }
     ensures same { tx.new.conn.ghost_name ≡ tx.old.conn.ghost_name }
-    ensures changes { Changes (state S.Store tx.old.conn.now) (state S.Store tx.new.conn.now) result (λ stored. with_sups id.now members.now (without_sups id.now stored)) }
+    ensures changes { Changes (state S.Store tx.old.conn.now) (state S.Store tx.new.conn.now) result
+        (λ stored. with_sups id.now members.now (without_sups id.now stored)) }
 {
     delete::superseded(tx, id)?;
     for member in members {
@@ -60,9 +63,11 @@ pub(crate) fn conditional<S: Alter>(
     id: &Id,
     conds: &[CondNeed],
 ) -> Result<(), Error>
-    requires means { HasCleanDisk (state S.Store tx.old.conn.now) → Means bureau statement.now.text (insert_given 9 3) 3 }
+    requires means { HasCleanDisk (state S.Store tx.old.conn.now)
+        → Means bureau statement.now.text (insert_given 9 3) 3 }
     ensures same { tx.new.conn.ghost_name ≡ tx.old.conn.ghost_name }
-    ensures changes { Changes (state S.Store tx.old.conn.now) (state S.Store tx.new.conn.now) result (λ stored. with_conds id.now conds.now (without_conds id.now stored)) }
+    ensures changes { Changes (state S.Store tx.old.conn.now) (state S.Store tx.new.conn.now) result
+        (λ stored. with_conds id.now conds.now (without_conds id.now stored)) }
 {
     delete::conditional(tx, id)?;
     for cond in conds {
@@ -77,7 +82,8 @@ pub(crate) fn callers<S: Alter>(
     rows: &[CallerRow],
 ) -> Result<(), Error>
     ensures same { tx.new.conn.ghost_name ≡ tx.old.conn.ghost_name }
-    ensures changes { Changes (state S.Store tx.old.conn.now) (state S.Store tx.new.conn.now) result (with_callers rows.now) }
+    ensures changes { Changes (state S.Store tx.old.conn.now) (state S.Store tx.new.conn.now) result
+        (with_callers rows.now) }
 {
     let statement = prepare(tx, write::insert_caller())?;
     for row in rows {

@@ -12,7 +12,8 @@ use sqlite::{Alter, Error, Transaction};
 
 fn with_sysmod_cond<S: Alter>(tx: &mut Transaction<'_, S>) -> Result<(), Error>
     ensures same { tx.new.conn.ghost_name ≡ tx.old.conn.ghost_name }
-    ensures made { (stored : Stored) → Leads (state S.Store tx.old.conn.now) (state S.Store tx.new.conn.now) result
+    ensures made { (stored : Stored)
+        → Leads (state S.Store tx.old.conn.now) (state S.Store tx.new.conn.now) result
         (HeldEarlier stored) (HoldsAll (version_rows 1) stored) }
 {
     run(tx, create::sysmod_cond(), &[])
@@ -20,18 +21,20 @@ fn with_sysmod_cond<S: Alter>(tx: &mut Transaction<'_, S>) -> Result<(), Error>
 
 fn without_version<S: Alter>(tx: &mut Transaction<'_, S>) -> Result<(), Error>
     ensures same { tx.new.conn.ghost_name ≡ tx.old.conn.ghost_name }
-    ensures made { (stored : Stored) → Leads (state S.Store tx.old.conn.now) (state S.Store tx.new.conn.now) result
+    ensures made { (stored : Stored)
+        → Leads (state S.Store tx.old.conn.now) (state S.Store tx.new.conn.now) result
         (HeldEarlier stored) (HoldsAll [] stored) }
 {
     with_sysmod_cond(tx)?;
     run(tx, write::delete_version(), &[])
 }
 
-/// Makes the tables of version 1 those of version 2: the table of requisites under a condition comes, without a row, and the
-/// version is set. All rows stay.
+/// Makes the tables of version 1 those of version 2: the table of requisites under a condition comes, without a row,
+/// and the version is set. All rows stay.
 pub fn migrate<S: Alter>(tx: &mut Transaction<'_, S>) -> Result<(), Error>
     ensures same { tx.new.conn.ghost_name ≡ tx.old.conn.ghost_name }
-    ensures made { (stored : Stored) → Leads (state S.Store tx.old.conn.now) (state S.Store tx.new.conn.now) result
+    ensures made { (stored : Stored)
+        → Leads (state S.Store tx.old.conn.now) (state S.Store tx.new.conn.now) result
         (HeldEarlier stored) (HoldsAll (version_rows 2) stored) }
 {
     without_version(tx)?;

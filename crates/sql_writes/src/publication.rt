@@ -22,7 +22,8 @@ use std::alloc::Global;
 /// The hold comes in place of one with its key.
 fn put_hold<S: Alter>(tx: &mut Transaction<'_, S>, hold: &Hold) -> Result<(), Error>
     ensures same { tx.new.conn.ghost_name ≡ tx.old.conn.ghost_name }
-    ensures changes { Changes (state S.Store tx.old.conn.now) (state S.Store tx.new.conn.now) result (λ stored. record stored { holds = holds_changed (Put hold.now) stored.holds }) }
+    ensures changes { Changes (state S.Store tx.old.conn.now) (state S.Store tx.new.conn.now) result
+        (λ stored. record stored { holds = holds_changed (Put hold.now) stored.holds }) }
 {
     delete::hold(tx, &hold.key)?;
     insert::hold(tx, hold)
@@ -35,7 +36,8 @@ fn put_row<S: Alter>(
     sysmod: &Sysmod,
 ) -> Result<(), Error>
     ensures same { tx.new.conn.ghost_name ≡ tx.old.conn.ghost_name }
-    ensures changes { Changes (state S.Store tx.old.conn.now) (state S.Store tx.new.conn.now) result (λ stored. with_sysmod sysmod.now (without_sysmod sysmod.now.id stored)) }
+    ensures changes { Changes (state S.Store tx.old.conn.now) (state S.Store tx.new.conn.now) result
+        (λ stored. with_sysmod sysmod.now (without_sysmod sysmod.now.id stored)) }
 {
     delete::sysmod(tx, &sysmod.id)?;
     insert::sysmod(alloc, tx, sysmod)
@@ -48,7 +50,8 @@ fn put_row_and_sups<S: Alter>(
     sups: &Statement,
     sysmod: &Sysmod,
 ) -> Result<(), Error>
-    requires means { HasCleanDisk (state S.Store tx.old.conn.now) → Means bureau sups.now.text (insert_given 4 2) 2 }
+    requires means { HasCleanDisk (state S.Store tx.old.conn.now)
+        → Means bureau sups.now.text (insert_given 4 2) 2 }
     ensures same { tx.new.conn.ghost_name ≡ tx.old.conn.ghost_name }
     ensures changes { Changes (state S.Store tx.old.conn.now) (state S.Store tx.new.conn.now) result
         (λ stored. record (published stored (Whole sysmod.now)) { conds = stored.conds }) }
@@ -65,10 +68,13 @@ fn put_record<S: Alter>(
     conds: &Statement,
     sysmod: &Sysmod,
 ) -> Result<(), Error>
-    requires sups { HasCleanDisk (state S.Store tx.old.conn.now) → Means bureau sups.now.text (insert_given 4 2) 2 }
-    requires conds { HasCleanDisk (state S.Store tx.old.conn.now) → Means bureau conds.now.text (insert_given 9 3) 3 }
+    requires sups { HasCleanDisk (state S.Store tx.old.conn.now)
+        → Means bureau sups.now.text (insert_given 4 2) 2 }
+    requires conds { HasCleanDisk (state S.Store tx.old.conn.now)
+        → Means bureau conds.now.text (insert_given 9 3) 3 }
     ensures same { tx.new.conn.ghost_name ≡ tx.old.conn.ghost_name }
-    ensures changes { Changes (state S.Store tx.old.conn.now) (state S.Store tx.new.conn.now) result (λ stored. published stored (Whole sysmod.now)) }
+    ensures changes { Changes (state S.Store tx.old.conn.now) (state S.Store tx.new.conn.now) result
+        (λ stored. published stored (Whole sysmod.now)) }
 {
     put_row_and_sups(alloc, tx, sups, sysmod)?;
     load::conditional(tx, conds, &sysmod.id, sysmod.conds.as_slice())
@@ -82,10 +88,13 @@ fn put_change<S: Alter>(
     conds: &Statement,
     change: &Change,
 ) -> Result<(), Error>
-    requires sups { HasCleanDisk (state S.Store tx.old.conn.now) → Means bureau sups.now.text (insert_given 4 2) 2 }
-    requires conds { HasCleanDisk (state S.Store tx.old.conn.now) → Means bureau conds.now.text (insert_given 9 3) 3 }
+    requires sups { HasCleanDisk (state S.Store tx.old.conn.now)
+        → Means bureau sups.now.text (insert_given 4 2) 2 }
+    requires conds { HasCleanDisk (state S.Store tx.old.conn.now)
+        → Means bureau conds.now.text (insert_given 9 3) 3 }
     ensures same { tx.new.conn.ghost_name ≡ tx.old.conn.ghost_name }
-    ensures changes { Changes (state S.Store tx.old.conn.now) (state S.Store tx.new.conn.now) result (λ stored. published stored change.now) }
+    ensures changes { Changes (state S.Store tx.old.conn.now) (state S.Store tx.new.conn.now) result
+        (λ stored. published stored change.now) }
 {
     match change {
         Change::Whole(sysmod) => put_record(alloc, tx, sups, conds, sysmod),
@@ -101,7 +110,8 @@ pub(crate) fn put_changes<S: Alter>(
     changes: &[Change],
 ) -> Result<(), Error>
     ensures same { tx.new.conn.ghost_name ≡ tx.old.conn.ghost_name }
-    ensures changes { Changes (state S.Store tx.old.conn.now) (state S.Store tx.new.conn.now) result (λ stored. fold published stored changes.now) }
+    ensures changes { Changes (state S.Store tx.old.conn.now) (state S.Store tx.new.conn.now) result
+        (λ stored. fold published stored changes.now) }
 {
     let sups = prepare(tx, write::insert_sysmod_sup())?;
     let conds = prepare(tx, write::insert_sysmod_cond())?;

@@ -16,7 +16,8 @@ pub(crate) fn run<S: Alter>(
     params: &[ValueRef<'_>],
 ) -> Result<(), Error>
     ensures same { tx.new.conn.ghost_name ≡ tx.old.conn.ghost_name }
-    ensures ran { Ran text.now (bound params.now) (state S.Store tx.old.conn.now) (state S.Store tx.new.conn.now) result }
+    ensures ran { Ran text.now (bound params.now)
+        (state S.Store tx.old.conn.now) (state S.Store tx.new.conn.now) result }
 {
     tx.execute(text, params)?;
     Ok(())
@@ -25,8 +26,10 @@ pub(crate) fn run<S: Alter>(
 /// Prepares a text.
 pub(crate) fn prepare<S: Alter>(tx: &mut Transaction<'_, S>, text: &str) -> Result<Statement, Error>
     ensures same { tx.new.conn.ghost_name ≡ tx.old.conn.ghost_name }
-    ensures text { IfOk result (λ statement. HasCleanDisk (state S.Store tx.new.conn.now) → statement.text ≡ text.now) }
-    ensures changes { Changes (state S.Store tx.old.conn.now) (state S.Store tx.new.conn.now) result (λ stored. stored) }
+    ensures text { IfOk result (λ statement. HasCleanDisk (state S.Store tx.new.conn.now)
+        → statement.text ≡ text.now) }
+    ensures changes { Changes (state S.Store tx.old.conn.now) (state S.Store tx.new.conn.now) result
+        (λ stored. stored) }
 {
     tx.prepare(text)
 }
@@ -38,7 +41,8 @@ pub(crate) fn run_prepared<S: Alter>(
     params: &[ValueRef<'_>],
 ) -> Result<(), Error>
     ensures same { tx.new.conn.ghost_name ≡ tx.old.conn.ghost_name }
-    ensures ran { Ran statement.now.text (bound params.now) (state S.Store tx.old.conn.now) (state S.Store tx.new.conn.now) result }
+    ensures ran { Ran statement.now.text (bound params.now)
+        (state S.Store tx.old.conn.now) (state S.Store tx.new.conn.now) result }
 {
     tx.execute_prepared(statement, params)?;
     Ok(())

@@ -11,14 +11,16 @@ use sqlite::{Alter, Error, Transaction};
 
 fn bureau_version<S: Alter>(tx: &mut Transaction<'_, S>) -> Result<(), Error>
     ensures same { tx.new.conn.ghost_name ≡ tx.old.conn.ghost_name }
-    ensures made { Leads (state S.Store tx.old.conn.now) (state S.Store tx.new.conn.now) result IsEmpty (IsMade 1 0) }
+    ensures made { Leads (state S.Store tx.old.conn.now) (state S.Store tx.new.conn.now) result
+        IsEmpty (IsMade 1 0) }
 {
     run(tx, texts::bureau_version(), &[])
 }
 
 fn up_to_caller<S: Alter>(tx: &mut Transaction<'_, S>) -> Result<(), Error>
     ensures same { tx.new.conn.ghost_name ≡ tx.old.conn.ghost_name }
-    ensures made { Leads (state S.Store tx.old.conn.now) (state S.Store tx.new.conn.now) result IsEmpty (IsMade 2 2) }
+    ensures made { Leads (state S.Store tx.old.conn.now) (state S.Store tx.new.conn.now) result
+        IsEmpty (IsMade 2 2) }
 {
     bureau_version(tx)?;
     run(tx, texts::caller(), &[])
@@ -26,7 +28,8 @@ fn up_to_caller<S: Alter>(tx: &mut Transaction<'_, S>) -> Result<(), Error>
 
 fn up_to_last_change<S: Alter>(tx: &mut Transaction<'_, S>) -> Result<(), Error>
     ensures same { tx.new.conn.ghost_name ≡ tx.old.conn.ghost_name }
-    ensures made { Leads (state S.Store tx.old.conn.now) (state S.Store tx.new.conn.now) result IsEmpty (IsMade 3 3) }
+    ensures made { Leads (state S.Store tx.old.conn.now) (state S.Store tx.new.conn.now) result
+        IsEmpty (IsMade 3 3) }
 {
     up_to_caller(tx)?;
     run(tx, texts::last_change(), &[])
@@ -34,7 +37,8 @@ fn up_to_last_change<S: Alter>(tx: &mut Transaction<'_, S>) -> Result<(), Error>
 
 fn up_to_sysmod<S: Alter>(tx: &mut Transaction<'_, S>) -> Result<(), Error>
     ensures same { tx.new.conn.ghost_name ≡ tx.old.conn.ghost_name }
-    ensures made { Leads (state S.Store tx.old.conn.now) (state S.Store tx.new.conn.now) result IsEmpty (IsMade 4 4) }
+    ensures made { Leads (state S.Store tx.old.conn.now) (state S.Store tx.new.conn.now) result
+        IsEmpty (IsMade 4 4) }
 {
     up_to_last_change(tx)?;
     run(tx, texts::sysmod(), &[])
@@ -42,7 +46,8 @@ fn up_to_sysmod<S: Alter>(tx: &mut Transaction<'_, S>) -> Result<(), Error>
 
 fn up_to_sysmod_sup<S: Alter>(tx: &mut Transaction<'_, S>) -> Result<(), Error>
     ensures same { tx.new.conn.ghost_name ≡ tx.old.conn.ghost_name }
-    ensures made { Leads (state S.Store tx.old.conn.now) (state S.Store tx.new.conn.now) result IsEmpty (IsMade 5 5) }
+    ensures made { Leads (state S.Store tx.old.conn.now) (state S.Store tx.new.conn.now) result
+        IsEmpty (IsMade 5 5) }
 {
     up_to_sysmod(tx)?;
     run(tx, texts::sysmod_sup(), &[])
@@ -50,7 +55,8 @@ fn up_to_sysmod_sup<S: Alter>(tx: &mut Transaction<'_, S>) -> Result<(), Error>
 
 fn up_to_by_member<S: Alter>(tx: &mut Transaction<'_, S>) -> Result<(), Error>
     ensures same { tx.new.conn.ghost_name ≡ tx.old.conn.ghost_name }
-    ensures made { Leads (state S.Store tx.old.conn.now) (state S.Store tx.new.conn.now) result IsEmpty (IsMade 5 6) }
+    ensures made { Leads (state S.Store tx.old.conn.now) (state S.Store tx.new.conn.now) result
+        IsEmpty (IsMade 5 6) }
 {
     up_to_sysmod_sup(tx)?;
     run(tx, texts::by_member(), &[])
@@ -58,7 +64,8 @@ fn up_to_by_member<S: Alter>(tx: &mut Transaction<'_, S>) -> Result<(), Error>
 
 fn up_to_hold_row<S: Alter>(tx: &mut Transaction<'_, S>) -> Result<(), Error>
     ensures same { tx.new.conn.ghost_name ≡ tx.old.conn.ghost_name }
-    ensures made { Leads (state S.Store tx.old.conn.now) (state S.Store tx.new.conn.now) result IsEmpty (IsMade 6 7) }
+    ensures made { Leads (state S.Store tx.old.conn.now) (state S.Store tx.new.conn.now) result
+        IsEmpty (IsMade 6 7) }
 {
     up_to_by_member(tx)?;
     run(tx, texts::hold_row(), &[])
@@ -66,7 +73,8 @@ fn up_to_hold_row<S: Alter>(tx: &mut Transaction<'_, S>) -> Result<(), Error>
 
 fn up_to_zone_head<S: Alter>(tx: &mut Transaction<'_, S>) -> Result<(), Error>
     ensures same { tx.new.conn.ghost_name ≡ tx.old.conn.ghost_name }
-    ensures made { Leads (state S.Store tx.old.conn.now) (state S.Store tx.new.conn.now) result IsEmpty (IsMade 7 8) }
+    ensures made { Leads (state S.Store tx.old.conn.now) (state S.Store tx.new.conn.now) result
+        IsEmpty (IsMade 7 8) }
 {
     up_to_hold_row(tx)?;
     run(tx, texts::zone_head(), &[])
@@ -74,7 +82,8 @@ fn up_to_zone_head<S: Alter>(tx: &mut Transaction<'_, S>) -> Result<(), Error>
 
 fn up_to_zone_row<S: Alter>(tx: &mut Transaction<'_, S>) -> Result<(), Error>
     ensures same { tx.new.conn.ghost_name ≡ tx.old.conn.ghost_name }
-    ensures made { Leads (state S.Store tx.old.conn.now) (state S.Store tx.new.conn.now) result IsEmpty (IsMade 8 9) }
+    ensures made { Leads (state S.Store tx.old.conn.now) (state S.Store tx.new.conn.now) result
+        IsEmpty (IsMade 8 9) }
 {
     up_to_zone_head(tx)?;
     run(tx, texts::zone_row(), &[])
@@ -82,7 +91,8 @@ fn up_to_zone_row<S: Alter>(tx: &mut Transaction<'_, S>) -> Result<(), Error>
 
 fn up_to_received_list<S: Alter>(tx: &mut Transaction<'_, S>) -> Result<(), Error>
     ensures same { tx.new.conn.ghost_name ≡ tx.old.conn.ghost_name }
-    ensures made { Leads (state S.Store tx.old.conn.now) (state S.Store tx.new.conn.now) result IsEmpty (IsMade 9 10) }
+    ensures made { Leads (state S.Store tx.old.conn.now) (state S.Store tx.new.conn.now) result
+        IsEmpty (IsMade 9 10) }
 {
     up_to_zone_row(tx)?;
     run(tx, texts::received_list(), &[])
@@ -90,7 +100,8 @@ fn up_to_received_list<S: Alter>(tx: &mut Transaction<'_, S>) -> Result<(), Erro
 
 fn up_to_sysmod_cond<S: Alter>(tx: &mut Transaction<'_, S>) -> Result<(), Error>
     ensures same { tx.new.conn.ghost_name ≡ tx.old.conn.ghost_name }
-    ensures made { Leads (state S.Store tx.old.conn.now) (state S.Store tx.new.conn.now) result IsEmpty (IsMade 10 11) }
+    ensures made { Leads (state S.Store tx.old.conn.now) (state S.Store tx.new.conn.now) result
+        IsEmpty (IsMade 10 11) }
 {
     up_to_received_list(tx)?;
     run(tx, texts::sysmod_cond(), &[])
@@ -98,7 +109,8 @@ fn up_to_sysmod_cond<S: Alter>(tx: &mut Transaction<'_, S>) -> Result<(), Error>
 
 fn with_version<S: Alter>(tx: &mut Transaction<'_, S>) -> Result<(), Error>
     ensures same { tx.new.conn.ghost_name ≡ tx.old.conn.ghost_name }
-    ensures made { Leads (state S.Store tx.old.conn.now) (state S.Store tx.new.conn.now) result IsEmpty (IsOpened []) }
+    ensures made { Leads (state S.Store tx.old.conn.now) (state S.Store tx.new.conn.now) result
+        IsEmpty (IsOpened []) }
 {
     up_to_sysmod_cond(tx)?;
     run(tx, write::insert_version(), &[])
@@ -107,7 +119,8 @@ fn with_version<S: Alter>(tx: &mut Transaction<'_, S>) -> Result<(), Error>
 /// Makes the tables and the index of version 2 in an empty database, with their version and with these callers.
 pub fn create<S: Alter>(tx: &mut Transaction<'_, S>, callers: &[CallerRow]) -> Result<(), Error>
     ensures same { tx.new.conn.ghost_name ≡ tx.old.conn.ghost_name }
-    ensures made { Leads (state S.Store tx.old.conn.now) (state S.Store tx.new.conn.now) result IsEmpty (IsOpened callers.now) }
+    ensures made { Leads (state S.Store tx.old.conn.now) (state S.Store tx.new.conn.now) result
+        IsEmpty (IsOpened callers.now) }
 {
     with_version(tx)?;
     load::callers(tx, callers)

@@ -22,8 +22,10 @@ use zone_lists::{Pattern, ZoneRow};
 /// Whether a client has a zone.
 fn has_head<S: Alter>(tx: &mut Transaction<'_, S>, client: &Id, zone: &Id) -> Result<bool, Error>
     ensures same { tx.new.conn.ghost_name ≡ tx.old.conn.ghost_name }
-    ensures changes { Changes (state S.Store tx.old.conn.now) (state S.Store tx.new.conn.now) result (λ stored. stored) }
-    ensures found { IfOk result (λ found. HasCleanDisk (state S.Store tx.new.conn.now) → IsKnown (state S.Store tx.old.conn.now).now
+    ensures changes { Changes (state S.Store tx.old.conn.now) (state S.Store tx.new.conn.now) result
+        (λ stored. stored) }
+    ensures found { IfOk result (λ found. HasCleanDisk (state S.Store tx.new.conn.now)
+        → IsKnown (state S.Store tx.old.conn.now).now
         → list_any (is_of_both client.now zone.now) (held_by (state S.Store tx.old.conn.now).now).heads ≡ found) }
 {
     let rows = tx.query_all(read::patterns(), &[id_of(client), id_of(zone)])?;
@@ -39,7 +41,8 @@ fn keep_head<S: Alter>(
     zone: &Id,
 ) -> Result<(), Error>
     ensures same { tx.new.conn.ghost_name ≡ tx.old.conn.ghost_name }
-    ensures changes { Changes (state S.Store tx.old.conn.now) (state S.Store tx.new.conn.now) result (λ stored. record stored { heads = with_head client.now zone.now stored.heads }) }
+    ensures changes { Changes (state S.Store tx.old.conn.now) (state S.Store tx.new.conn.now) result
+        (λ stored. record stored { heads = with_head client.now zone.now stored.heads }) }
 {
     if has_head(tx, client, zone)? {
         return Ok(());
@@ -55,7 +58,8 @@ fn put_rows<S: Alter>(
     rows: &[ZoneRow],
 ) -> Result<(), Error>
     ensures same { tx.new.conn.ghost_name ≡ tx.old.conn.ghost_name }
-    ensures changes { Changes (state S.Store tx.old.conn.now) (state S.Store tx.new.conn.now) result (λ stored. with_rows client.now zone.now rows.now (without_rows client.now zone.now stored)) }
+    ensures changes { Changes (state S.Store tx.old.conn.now) (state S.Store tx.new.conn.now) result
+        (λ stored. with_rows client.now zone.now rows.now (without_rows client.now zone.now stored)) }
 {
     delete::zone_rows(tx, client, zone)?;
     load::zone_rows(tx, client, zone, rows)
@@ -70,7 +74,8 @@ pub(crate) fn put<S: Alter>(
     rows: &[ZoneRow],
 ) -> Result<(), Error>
     ensures same { tx.new.conn.ghost_name ≡ tx.old.conn.ghost_name }
-    ensures changes { Changes (state S.Store tx.old.conn.now) (state S.Store tx.new.conn.now) result (changed (Client client.now) (zone_put zone.now rows.now)) }
+    ensures changes { Changes (state S.Store tx.old.conn.now) (state S.Store tx.new.conn.now) result
+        (changed (Client client.now) (zone_put zone.now rows.now)) }
 {
     keep_head(alloc, tx, client, zone)?;
     put_rows(tx, client, zone, rows)
@@ -83,7 +88,8 @@ pub(crate) fn drop_zone<S: Alter>(
     zone: &Id,
 ) -> Result<(), Error>
     ensures same { tx.new.conn.ghost_name ≡ tx.old.conn.ghost_name }
-    ensures changes { Changes (state S.Store tx.old.conn.now) (state S.Store tx.new.conn.now) result (changed (Client client.now) (zone_dropped zone.now)) }
+    ensures changes { Changes (state S.Store tx.old.conn.now) (state S.Store tx.new.conn.now) result
+        (changed (Client client.now) (zone_dropped zone.now)) }
 {
     delete::head(tx, client, zone)?;
     delete::zone_rows(tx, client, zone)
@@ -97,7 +103,8 @@ pub(crate) fn put_received<S: Alter>(
     ids: &[Id],
 ) -> Result<(), Error>
     ensures same { tx.new.conn.ghost_name ≡ tx.old.conn.ghost_name }
-    ensures changes { Changes (state S.Store tx.old.conn.now) (state S.Store tx.new.conn.now) result (changed (Client client.now) (received_put ids.now)) }
+    ensures changes { Changes (state S.Store tx.old.conn.now) (state S.Store tx.new.conn.now) result
+        (changed (Client client.now) (received_put ids.now)) }
 {
     delete::received(tx, client)?;
     insert::received(alloc, tx, client, ids)
@@ -112,7 +119,8 @@ pub(crate) fn put_patterns<S: Alter>(
     patterns: &[Pattern],
 ) -> Result<(), Error>
     ensures same { tx.new.conn.ghost_name ≡ tx.old.conn.ghost_name }
-    ensures changes { Changes (state S.Store tx.old.conn.now) (state S.Store tx.new.conn.now) result (changed (Client client.now) (patterns_put zone.now patterns.now)) }
+    ensures changes { Changes (state S.Store tx.old.conn.now) (state S.Store tx.new.conn.now) result
+        (changed (Client client.now) (patterns_put zone.now patterns.now)) }
 {
     delete::head(tx, client, zone)?;
     insert::head(alloc, tx, client, zone, patterns)
