@@ -6,6 +6,21 @@
 //! - [`callers`]: reads the file of them; [`CALLER_RECORDS`]: how many it may have
 //! - [`StoreFault`], [`CallerFault`]: why a store doesn't do what it is asked, and why no callers file is read;
 //!   [`NoMemory`]: memory ran out
+//!
+//! ```
+//! use bureau_store::{Caller, ListStore, Store, callers};
+//! use mcs_reader::Id;
+//! use zone_lists::zone_rows;
+//! let rows = callers(alloc, b"NAME,TOKEN\nPUBLISH,publisher-token\nALPHA,alpha-token\n")?;
+//! let mut store = ListStore::new(alloc, &rows)?;
+//! let (alpha, zone) = (Id::new(b"ALPHA").ok_or("an id")?, Id::new(b"TGT1").ok_or("an id")?);
+//! assert_eq!(rt; store.caller_of(b"alpha-token")?, Some(Caller::Client(alpha)));
+//! let sysmods = zone_rows(alloc, b"SYSMOD,STATE\nHBB77E0,APPLIED\nUJ90101,APPLIED\n")?;
+//! store.put_zone(&alpha, 1, b"ZONE TGT1 ROWS 2\n", &zone, &sysmods)?; // change 1, with its reply
+//! assert_eq!(rt; store.zones(&alpha)?.as_slice(), [(zone, 2)].as_slice());
+//! let (number, reply) = store.last(&Caller::Client(alpha))?;
+//! assert!(rt; number == 1 && reply.as_slice() == b"ZONE TGT1 ROWS 2\n".as_slice());
+//! ```
 #![tactic(auto)]
 
 mod by_token;

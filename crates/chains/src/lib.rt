@@ -12,6 +12,20 @@
 //! - [`candidates_for`]: the candidates that give each of several SYSMODs
 //! - [`touches`]: whether a publication may change a frame
 //! - [`good_is_planned`], [`verdicts_are_right`]: laws of the definitions
+//!
+//! ```
+//! // what isn't named here is of catalogue, mcs_reader, supersede and zone_lists
+//! use chains::{Judge, Status, Verdict, Whole, frame, plan};
+//! let source = b"++PTF(UJ90101).\n++VER(Z038) FMID(HBB77E0).\n\
+//! ++PTF(UJ90102).\n++VER(Z038) FMID(HBB77E0) PRE(UJ90101) SUP(AJ00001).\n";
+//! let (mut lists, fix) = (ListPublished::new(alloc), Id::new(b"UJ90102").ok_or("an id")?);
+//! lists.publish(&read_changes(alloc, &read(alloc, source)?)?)?;
+//! let zone = Zone::from_rows(zone_rows(alloc, b"SYSMOD,STATE\nHBB77E0,APPLIED\n")?);
+//! let verdict = Whole::new().verdict(alloc, &mut lists, &zone, &fix)?;
+//! assert!(rt; matches!(verdict, Verdict::Good(plan) if plan.len() == 2)); // UJ90101 and UJ90102
+//! let frame = frame(alloc, &mut lists, &fix)?; // serves any zone, while no publication touches it
+//! assert_eq!(rt; plan(alloc, &frame, &zone, &fix)?.status(), Status::Good);
+//! ```
 #![tactic(auto)]
 
 mod candidates;

@@ -5,6 +5,20 @@
 //! - [`Status`]: what is said of a resolver: which verdict it has
 //! - [`err_text`], [`missing_text`]: the reports in print
 //! - [`plan_json`]: a verdict as JSON
+//!
+//! ```
+//! // what isn't named here is of catalogue, chains, mcs_reader, supersede and zone_lists
+//! use reports::{err_rows, err_text};
+//! let source = b"++HOLD(UJ90101) ERROR FMID(HBB77E0) REASON(AJ00001) CLASS(PE).\n\
+//! ++PTF(UJ90102).\n++VER(Z038) FMID(HBB77E0) SUP(AJ00001).\n";
+//! let mut lists = ListPublished::new(alloc);
+//! lists.publish(&read_changes(alloc, &read(alloc, source)?)?)?;
+//! let zone = Zone::from_rows(zone_rows(alloc, b"SYSMOD,STATE\nHBB77E0,APPLIED\nUJ90101,APPLIED\n")?);
+//! let holds = lists.holds_on(&Id::new(b"UJ90101").ok_or("an id")?)?;
+//! let rows = err_rows(alloc, &mut lists, &mut Whole::new(), &zone, &[], &holds)?;
+//! let text = err_text(alloc, &Id::new(b"TGT1").ok_or("an id")?, &rows)?;
+//! assert!(rt; text.ends_with(b"HBB77E0  UJ90101  AJ00001  UJ90102  GOOD   NO       PE\nROWS 1\n"));
+//! ```
 #![tactic(auto)]
 
 mod chain;

@@ -6,6 +6,19 @@
 //! - [`verdict_of_place`]: a place's chosen plan or its blocked need, as a [`Verdict`]
 //! - [`least_sources`]: for each place the least marked one that leads to it
 //! - [`turned`]: for each place those in whose rows it stands
+//!
+//! ```
+//! use requisites::{Nodes, Rows, Verdict, resolve, verdict_of_place};
+//! let (mut needs, mut supersedes) = (Rows::new(alloc), Rows::new(alloc));
+//! needs.push_row(&[1])?; // 0 needs 1, which is no candidate
+//! for row in [&[], &[], &[1usize] as &[usize]] {
+//!     supersedes.push_row(row)?; // 2 supersedes 1
+//! }
+//! let candidates = Vec::from_slice(alloc, &[true, false, true])?;
+//! let nodes = Nodes { candidates, there: Vec::new(alloc), needs, supersedes };
+//! let verdict = verdict_of_place(alloc, &nodes, &resolve(alloc, &nodes)?, 0)?;
+//! assert!(rt; matches!(verdict, Verdict::Good(plan) if plan.as_slice() == [0, 2].as_slice()));
+//! ```
 #![tactic(auto)]
 
 mod cascade;
