@@ -63,10 +63,10 @@ database_unknown Leaves source old new old_errors new_errors status run =
 
 -- ---- what is told
 
-pub open_refused : (fault : StoreFault) (any : AnyFault) (old new : Option (List ℕ)) (status : ℕ) → any ≡ of_store fault → IsTold (Some any) old new
-    → status ≡ run_status (Some any) → IsOpenRefused old new status
-open_refused fault any old new status is told status_is =
-    (fault, subst (λ (it : AnyFault). IsTold (Some it) old new) is told, status_is ∙ ap (λ it. run_status (Some it)) is)
+pub open_refused : (Has : StoreFault → Type 0) (fault : StoreFault) (any : AnyFault) (old new : Option (List ℕ)) (status : ℕ) → Has fault
+    → any ≡ of_store fault → IsTold (Some any) old new → status ≡ run_status (Some any) → IsOpenRefused Has old new status
+open_refused Has fault any old new status has is told status_is =
+    (fault, has, subst (λ (it : AnyFault). IsTold (Some it) old new) is told, status_is ∙ ap (λ it. run_status (Some it)) is)
 
 module _ (port : ℕ) (line slice : List ℕ) (old new : Option (List ℕ)) (is : line ≡ listening_text port) (same : slice ≡ line) where
   pub served : Appends old new slice → IsServeOutput None port old new
@@ -79,13 +79,14 @@ module _ (port : ℕ) (line slice : List ℕ) (old new : Option (List ℕ)) (is 
   cut_short fault told front = inr (inl (told, subst (AppendsFront old new) (same ∙ is) front))
 
 -- a store that is refused is not served
-pub not_served : (port : ℕ) (output old new : Option (List ℕ)) (status : ℕ) → IsOpenRefused old new status → IsServeRun port output output old new status
-not_served port output old new status refused =
-    record { outcome = Some (of_store refused.0); output = inr (inr (inl (refused.0, refl), Keeps-refl output)); told = refused.1; status_is = refused.2 }
+pub not_served : (Has : StoreFault → Type 0) (port : ℕ) (output old new : Option (List ℕ)) (status : ℕ) → IsOpenRefused Has old new status
+    → IsServeRun port output output old new status
+not_served Has port output old new status refused =
+    record { outcome = Some (of_store refused.0); output = inr (inr (inl (refused.0, refl), Keeps-refl output)); told = refused.2; status_is = refused.3 }
 
 pub not_connected : (port : ℕ) (output : Option (List ℕ)) (fault : StoreFault) (any : AnyFault) (old new : Option (List ℕ)) (status : ℕ) → any ≡ of_store fault
     → IsTold (Some any) old new → status ≡ run_status (Some any) → IsServeRun port output output old new status
-not_connected port output fault any old new status is told status_is = not_served port output old new status (open_refused fault any old new status is told status_is)
+not_connected port output fault any old new status is told status_is = not_served (λ refused. Unit {0}) port output old new status (open_refused (λ refused. Unit {0}) fault any old new status tt is told status_is)
 
 -- without a cache nothing is served
 pub no_cache : (port : ℕ) (output : Option (List ℕ)) (fault : AnyFault) → fault ≡ of_program Memory → IsServeOutput (Some fault) port output output

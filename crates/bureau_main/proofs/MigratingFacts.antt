@@ -8,7 +8,7 @@ use Rattle.sql_state.specs.Earlier.{IsOfVersion1, held_by_version_1}
 use Rattle.sql_tables.specs.Stored.{tables_of}
 use Rattle.bureau_store.specs.declared.fault.StoreFault.TheVariants.{Device}
 use Rattle.bureau_sql.specs.Migrated.{IsUntouched}
-use Rattle.bureau_sql.specs.Opening.{IsNotEarlier}
+use Rattle.bureau_sql.specs.Opening.{CanMakeConditions, HasTables, IsNotEarlier}
 use Rattle.sql_reads.specs.Version.{HasVersion}
 use Rattle.bureau_sql.specs.SqlState.{SqlState}
 use Rattle.bureau_sql.specs.SqlView.{IsOurStore, shown, sql_view}
@@ -22,11 +22,12 @@ use Rattle.bureau_main.specs.declared.fault.ProgramFault.TheVariants.{NotWritten
 -- the store that was opened has the tables of the database that was there
 pub has_migrated : {S : Type 0} (g : Ghosts S) (before : State) (store : SqlState S) → store.failures ≡ 0
     → (HasCleanDisk (shown g store) → HasVersion (Some 1) before.committed)
+    → (HasCleanDisk (shown g store) → HasTables before.committed.schema × CanMakeConditions before.committed.schema)
     → (HasCleanDisk (shown g store) → IsOfVersion1 before.committed → IsOurStore g store)
     → (HasCleanDisk (shown g store) → IsOfVersion1 before.committed → (sql_view g).stands store (tables_of (held_by_version_1 before.committed)))
     → HasMigrated before (shown g store)
-has_migrated g before store open_still version ours tables =
-    λ clean. (version clean, λ earlier. (((ours clean earlier).1 open_still).1, tables clean earlier open_still))
+has_migrated g before store open_still version found ours tables =
+    λ clean. (version clean, (found clean).0, (found clean).1, λ earlier. (((ours clean earlier).1 open_still).1, tables clean earlier open_still))
 
 -- it is migrated, whether or not the line could be written
 pub migrated : {T : Type 0} (outcome : Result T AnyFault) (before after : State) → HasMigrated before after

@@ -85,10 +85,11 @@ pub record IsInitRun (Leaves : Option AnyFault → Type 0) (source : List ℕ) (
 
 -- ---- a store that is opened
 
--- it is refused, and why is told
-abbrev pub IsOpenRefused : Option (List ℕ) → Option (List ℕ) → ℕ → Type 0
-IsOpenRefused old_errors new_errors status =
-    (refused : StoreFault) × IsTold (Some (of_store refused)) old_errors new_errors × (status ≡ run_status (Some (of_store refused)))
+-- it is refused for a reason that it has, and the reason is told
+abbrev pub IsOpenRefused : (StoreFault → Type 0) → Option (List ℕ) → Option (List ℕ) → ℕ → Type 0
+IsOpenRefused Has old_errors new_errors status =
+    (refused : StoreFault) × Has refused × IsTold (Some (of_store refused)) old_errors new_errors
+    × (status ≡ run_status (Some (of_store refused)))
 
 -- ---- serve
 

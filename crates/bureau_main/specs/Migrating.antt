@@ -7,7 +7,7 @@ use Rattle.bureau_store.specs.declared.fault.StoreFault.{StoreFault}
 use Rattle.sqlite.specs.State.{HasCleanDisk, KeepsCommit, State}
 use Rattle.bureau_store.specs.declared.fault.StoreFault.TheVariants.{Device}
 use Rattle.bureau_sql.specs.Migrated.{IsUntouched}
-use Rattle.bureau_sql.specs.Opening.{IsNotEarlier}
+use Rattle.bureau_sql.specs.Opening.{CanMakeConditions, HasTables, IsNotEarlier}
 use Rattle.sql_reads.specs.Version.{HasVersion}
 use Rattle.sql_state.specs.Earlier.{IsOfVersion1, held_by_version_1}
 use Rattle.sql_state.specs.Ours.{IsOurs, held_by}
@@ -28,9 +28,11 @@ IsMigrateOutput (Some fault) old new =
     ((fault ≡ of_program NotWritten) × AppendsFront old new migrated_text)
     ⊎ ((refused : StoreFault) × (fault ≡ of_store refused) × Keeps old new)
 
--- The tables were of version 1. A database of version 1 that was ours is one of version 2, is ours, and has the same tables.
+-- The tables were those of version 1 and told that version, and the one of version 2 could be made. A database of version 1 that
+-- was ours is one of version 2, is ours, and has the same tables.
 abbrev pub HasMigrated : State → State → Type 0
 HasMigrated before after = HasCleanDisk after → HasVersion (Some 1) before.committed
+    × HasTables before.committed.schema × CanMakeConditions before.committed.schema
     × (IsOfVersion1 before.committed
     → IsOurs after.committed × (tables_of (held_by after.committed) ≡ tables_of (held_by_version_1 before.committed)))
 

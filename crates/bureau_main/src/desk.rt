@@ -1,16 +1,18 @@
 //! `init` and `serve`: a desk whose store is kept in a file.
-ghost use Rattle.std.specs.Prelude.{◌≡◌, ◌<◌, ◌⊎◌, ◌++◌, codes, decimal, false, IfErr, IfOk, OnErr, OnOk, Ok};
+ghost use Rattle.std.specs.Prelude.{◌≡◌, ◌<◌, ◌⊎◌, ◌++◌, codes, decimal, false, IfErr, IfOk, OnErr, OnOk, Ok, Some};
 ghost use Rattle.std.specs.Io.KnownBytes.{Appends};
 ghost use Rattle.bureau.specs.Answering.{bureau_view};
 ghost use Rattle.bureau_http.specs.Service.{IsSound};
 ghost use Rattle.bureau_main.specs.Desk.{InitSurvives, IsCallersFault, IsInitLeft, IsInitOutput, IsInitRun, IsOpenRefused, IsServeFault, IsServeOutput, IsServeRun, init_text, listening_text, of_store};
 ghost use Rattle.bureau_main.specs.Holds.{IsTold, fault_in, run_status};
 ghost use Rattle.bureau_main.specs.ProgramFault.{of_program};
+ghost use Rattle.bureau_sql.specs.Opening.{HasConditions, HasTables, IsNoStore};
 ghost use Rattle.bureau_sql.specs.SqlView.{IsOurStore, shown};
 ghost use Rattle.bureau_store.specs.Callers.{callers_of};
 ghost use Rattle.catalogue.specs.Content.{Content};
 ghost use Rattle.catalogue.specs.View.{Goes};
 ghost use Rattle.chain_cache.specs.Cache.{IsRightFor};
+ghost use Rattle.sql_reads.specs.Version.{HasVersion};
 ghost use Rattle.sql_state.specs.Ours.{IsOurs};
 ghost use Rattle.sql_state.specs.Reading.{OnlyReads};
 ghost use Rattle.sqlite.specs.Held.{state};
@@ -37,7 +39,8 @@ use std::io::Write;
 use std::net::TcpListener;
 use std::time::Clock;
 
-/// How a desk is served: the port of 127.0.0.1 where it listens, how many frames it keeps, and how many connections it takes.
+/// How a desk is served: the port of 127.0.0.1 where it listens, how many frames it keeps, and how many connections it
+/// takes.
 #[derive(Clone, Copy, Debug)]
 pub struct Service {
     pub port: u16,
@@ -45,10 +48,11 @@ pub struct Service {
     pub connections: u32,
 }
 
-/// Makes the tables of a store that has the callers of a callers file and nothing else, and prints how many there are. Returns
-/// the exit status, and the connection, at rest.
+/// Makes the tables of a store that has the callers of a callers file and nothing else, and prints how many there are.
+/// Returns the exit status, and the connection, at rest.
 ///
-/// The line is made before the tables, so that they stand where it can't be written (72). A fault is told on `errors` alone.
+/// The line is made before the tables, so that they stand where it can't be written (72). A fault is told on `errors`
+/// alone.
 pub fn run_init<S: Alter + Drop, W: Write, E: Write>(
     alloc: Global,
     conn: Connection<S>,
@@ -57,7 +61,8 @@ pub fn run_init<S: Alter + Drop, W: Write, E: Write>(
     errors: &mut E,
 ) -> (u8, Connection<S>)
     requires rest { conn.in_transaction ≡ false }
-    ensures run { IsInitRun (λ outcome. IsInitLeft outcome callers.now (state S.Store conn) (state S.Store result.1))
+    ensures run { IsInitRun (λ outcome. IsInitLeft outcome callers.now (state S.Store conn)
+        (state S.Store result.1))
         callers.now (W.contents writer.old) (W.contents writer.new)
         (E.contents errors.old) (E.contents errors.new) result.0 }
     ensures stopped { InitSurvives callers.now (state S.Store conn) (state S.Store result.1) }
@@ -76,7 +81,8 @@ fn make_and_print<S: Alter + Drop, W: Write>(
     writer: &mut W,
 ) -> (Result<(), AnyFault>, Connection<S>)
     requires rest { conn.in_transaction ≡ false }
-    ensures output { IsInitOutput (fault_in result.0) source.now (W.contents writer.old) (W.contents writer.new) }
+    ensures output { IsInitOutput (fault_in result.0) source.now (W.contents writer.old)
+        (W.contents writer.new) }
     ensures left { IsInitLeft (fault_in result.0) source.now (state S.Store conn) (state S.Store result.1) }
     ensures stopped { InitSurvives source.now (state S.Store conn) (state S.Store result.1) }
     ensures rest { result.1.in_transaction ≡ false }
@@ -98,12 +104,16 @@ fn make<S: Alter + Drop>(
     rows: &[CallerRow],
 ) -> Result<Connection<S>, (StoreFault, Connection<S>)>
     requires rest { conn.in_transaction ≡ false }
-    ensures made { IfOk result (λ made. HasCleanDisk (state S.Store made) → IsOpened rows.now (state S.Store made).committed) }
+    ensures made { IfOk result (λ made. HasCleanDisk (state S.Store made)
+        → IsOpened rows.now (state S.Store made).committed) }
     ensures made_rest { IfOk result (λ made. made.in_transaction ≡ false) }
-    ensures survives { IfOk result (λ made. Survives (state S.Store conn) (state S.Store made) (AreFounded (state S.Store conn) rows.now)) }
-    ensures stopped { IfErr result (λ refused. Survives (state S.Store conn) (state S.Store refused.1) (AreFounded (state S.Store conn) rows.now)) }
+    ensures survives { IfOk result (λ made. Survives (state S.Store conn) (state S.Store made)
+        (AreFounded (state S.Store conn) rows.now)) }
+    ensures stopped { IfErr result (λ refused. Survives (state S.Store conn) (state S.Store refused.1)
+        (AreFounded (state S.Store conn) rows.now)) }
     ensures cause { IfErr result (λ refused. IsNotMade (state S.Store conn) refused.0) }
-    ensures kept { IfErr result (λ refused. HasCleanDisk (state S.Store refused.1) → KeepsCommit (state S.Store conn) (state S.Store refused.1)) }
+    ensures kept { IfErr result (λ refused. HasCleanDisk (state S.Store refused.1)
+        → KeepsCommit (state S.Store conn) (state S.Store refused.1)) }
     ensures rest { IfErr result (λ refused. refused.1.in_transaction ≡ false) }
 {
     match SqlStore::init(alloc, conn, rows) {
@@ -187,9 +197,17 @@ pub fn run_open<S: Alter + Drop, E: Write>(
     requires rest { conn.in_transaction ≡ false }
     ensures opened { IfOk result (λ store. store.failures ≡ 0) }
     ensures reads { IfOk result (λ store. OnlyReads (state S.Store conn) (shown S.Store store)) }
-    ensures ours { IfOk result (λ store. HasCleanDisk (shown S.Store store) → IsOurs (state S.Store conn).committed → IsOurStore S.Store store) }
+    ensures version { IfOk result (λ store. HasCleanDisk (shown S.Store store)
+        → HasVersion (Some 2) (state S.Store conn).committed) }
+    ensures found { IfOk result (λ store. HasCleanDisk (shown S.Store store)
+        → HasTables (state S.Store conn).committed.schema
+        × HasConditions (state S.Store conn).committed.schema) }
+    ensures ours { IfOk result (λ store. HasCleanDisk (shown S.Store store)
+        → IsOurs (state S.Store conn).committed → IsOurStore S.Store store) }
     ensures silent { OnOk result (errors.new ≡ errors.old) }
-    ensures told { IfErr result (λ refused. IsOpenRefused (E.contents errors.old) (E.contents errors.new) refused.0) }
+    ensures told { IfErr result (λ refused. IsOpenRefused
+        (λ fault. HasCleanDisk (state S.Store refused.1) → IsNoStore (state S.Store conn) fault)
+        (E.contents errors.old) (E.contents errors.new) refused.0) }
     ensures kept { IfErr result (λ refused. OnlyReads (state S.Store conn) (state S.Store refused.1)) }
     ensures rest { IfErr result (λ refused. refused.1.in_transaction ≡ false) }
 {
@@ -199,10 +217,11 @@ pub fn run_open<S: Alter + Drop, E: Write>(
     }
 }
 
-/// Serves the desk whose store a file has, to so many connections to a port of 127.0.0.1. Prints where it listens, once it
-/// does. Returns the exit status.
+/// Serves the desk whose store a file has, to so many connections to a port of 127.0.0.1. Prints where it listens, once
+/// it does. Returns the exit status.
 ///
-/// A fault is told on `errors` alone. Behind the line only a device that failed is told: then no further connection is served.
+/// A fault is told on `errors` alone. Behind the line only a device that failed is told: then no further connection is
+/// served.
 #[tactic(auto, using(crate::proofs::DeskFacts::not_connected))]
 pub fn run_serve<S: Surroundings + Clock, W: Write, E: Write>(
     surroundings: &S,
@@ -262,7 +281,8 @@ fn serve_store<S: Surroundings + Clock, D: Alter + Drop, W: Write>(
     store: SqlStore<D>,
     writer: &mut W,
 ) -> (Result<(), AnyFault>, SqlStore<D>)
-    ensures output { IsServeOutput (fault_in result.0) service.port (W.contents writer.old) (W.contents writer.new) }
+    ensures output { IsServeOutput (fault_in result.0) service.port (W.contents writer.old)
+        (W.contents writer.new) }
     ensures sound { OnOk result.0 ((service.connections ≡ 0) ⊎ (result.1.failures ≡ 0)) }
 {
     match new_cache(surroundings, alloc, service.cache) {
@@ -300,7 +320,8 @@ fn serve<S: Surroundings + Clock, D: Alter + Drop, W: Write>(
     bureau: &mut Bureau<SqlStore<D>, ChainCache>,
     writer: &mut W,
 ) -> Result<(), AnyFault>
-    ensures output { IsServeOutput (fault_in result) service.port (W.contents writer.old) (W.contents writer.new) }
+    ensures output { IsServeOutput (fault_in result) service.port (W.contents writer.old)
+        (W.contents writer.new) }
     ensures sound { OnOk result ((service.connections ≡ 0) ⊎ (bureau.new.store.failures ≡ 0)) }
 {
     let line = listening_line(alloc, service.port)?;
@@ -312,7 +333,8 @@ fn serve<S: Surroundings + Clock, D: Alter + Drop, W: Write>(
     }
 }
 
-// Serves so many connections that come to a listener, one after the other, as long as the store's device has not failed.
+// Serves so many connections that come to a listener, one after the other, as long as the store's device has not
+// failed.
 fn serve_connections<C: Clock, S: Store, J: Judge<S>>(
     alloc: Global,
     clock: &C,

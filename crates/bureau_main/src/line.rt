@@ -24,8 +24,8 @@ pub enum Line {
         store: String,
         callers: String,
     },
-    /// `serve --port P --cache N --connections K STORE`: K connections to a port of 127.0.0.1, 1 to 65,535, are served over
-    /// the store in a file. N frames at most are kept, 1 to 65,536, and K is 1 to 1,000,000.
+    /// `serve --port P --cache N --connections K STORE`: K connections to a port of 127.0.0.1, 1 to 65,535, are served
+    /// over the store in a file. N frames at most are kept, 1 to 65,536, and K is 1 to 1,000,000.
     Serve {
         port: u16,
         cache: u32,
@@ -69,7 +69,8 @@ pub fn line_of(alloc: Global, words: &[String]) -> Result<Line, LineFault>
     ensures one_line { HasOneLine (map string_bytes words.now) }
 
     // Words that clap understands, and whose matches are a line's, are refused for want of memory alone.
-    ensures refused { IfErr result (IsRefusal Memory (λ _. (line : Line) → IsLineOf (map string_bytes words.now) line
+    ensures refused { IfErr result (IsRefusal Memory
+        (λ _. (line : Line) → IsLineOf (map string_bytes words.now) line
         → fault_of bureau_app (map string_bytes words.now) ≢ [])) }
 {
     match command(alloc)?.try_get_matches_from(words) {
@@ -81,7 +82,8 @@ pub fn line_of(alloc: Global, words: &[String]) -> Result<Line, LineFault>
 // The line that matches give.
 fn line_in(alloc: Global, matches: &ArgMatches) -> Result<Line, LineFault>
     ensures line { IfOk result (IsLineIn (subcommand_rows_of matches.now)) }
-    ensures none { IfErr result (IsRefusal Memory (λ _. (line : Line) → IsLineIn (subcommand_rows_of matches.now) line → ⊥)) }
+    ensures none { IfErr result (IsRefusal Memory
+        (λ _. (line : Line) → IsLineIn (subcommand_rows_of matches.now) line → ⊥)) }
 {
     if let Some((name, matches)) = matches.subcommand() {
         if let Some(line) = line_with(alloc, name, matches)? {
@@ -187,7 +189,8 @@ fn migrate_with(alloc: Global, matches: &ArgMatches) -> Result<Option<Line>, NoM
 // The port. clap lets no other number through.
 fn port_with(matches: &ArgMatches) -> Option<u16>
     ensures some { IfSome result (IsPort (one_of (codes "port") (rows_of (found_of matches.now)))) }
-    ensures none { IsNone result → (number : ℕ) → IsPort (one_of (codes "port") (rows_of (found_of matches.now))) number → ⊥ }
+    ensures none { IsNone result → (number : ℕ)
+        → IsPort (one_of (codes "port") (rows_of (found_of matches.now))) number → ⊥ }
 {
     let port = number_with(matches, "port", 1, 65_535)?;
     u16::try_from(port).ok()
@@ -196,7 +199,8 @@ fn port_with(matches: &ArgMatches) -> Option<u16>
 // The number of an option, in its range. clap lets no other number through.
 fn number_with(matches: &ArgMatches, name: &str, least: u32, most: u32) -> Option<u32>
     ensures some { IfSome result (IsNumberIn least most (one_of name.now (rows_of (found_of matches.now)))) }
-    ensures none { IsNone result → (number : ℕ) → IsNumberIn least most (one_of name.now (rows_of (found_of matches.now))) number → ⊥ }
+    ensures none { IsNone result → (number : ℕ)
+        → IsNumberIn least most (one_of name.now (rows_of (found_of matches.now))) number → ⊥ }
 {
     let number = matches.get_one::<u32>(name)?;
     if (least..=most).contains(&number) {

@@ -17,8 +17,8 @@ use sqlite::{Alter, Connection};
 use std::alloc::Global;
 use std::io::Write;
 
-/// Makes a store of version 1 in the database of a connection one of version 2, with all that it has, and prints that this is
-/// done. Returns the exit status, and the connection, at rest.
+/// Makes a store of version 1 in the database of a connection one of version 2, with all that it has, and prints that
+/// this is done. Returns the exit status, and the connection, at rest.
 ///
 /// A fault is told on `errors` alone. Where the line can't be written (72), the store is of version 2.
 pub fn run_migrate<S: Alter + Drop, W: Write, E: Write>(
@@ -28,9 +28,11 @@ pub fn run_migrate<S: Alter + Drop, W: Write, E: Write>(
     errors: &mut E,
 ) -> (u8, Connection<S>)
     requires rest { conn.in_transaction ≡ false }
-    ensures run { IsMigrateRun (λ outcome. IsMigrateLeft outcome (state S.Store conn) (state S.Store result.1))
+    ensures run { IsMigrateRun (λ outcome. IsMigrateLeft outcome (state S.Store conn)
+        (state S.Store result.1))
         (W.contents writer.old) (W.contents writer.new) (E.contents errors.old) (E.contents errors.new) result.0 }
-    ensures stopped { Survives (state S.Store conn) (state S.Store result.1) (AreMigrated (state S.Store conn)) }
+    ensures stopped { Survives (state S.Store conn) (state S.Store result.1)
+        (AreMigrated (state S.Store conn)) }
     ensures rest { result.1.in_transaction ≡ false }
 {
     let (outcome, conn) = migrate_and_print(alloc, conn, writer);
@@ -47,7 +49,8 @@ fn migrate_and_print<S: Alter + Drop, W: Write>(
     requires rest { conn.in_transaction ≡ false }
     ensures output { IsMigrateOutput (fault_in result.0) (W.contents writer.old) (W.contents writer.new) }
     ensures left { IsMigrateLeft (fault_in result.0) (state S.Store conn) (state S.Store result.1) }
-    ensures stopped { Survives (state S.Store conn) (state S.Store result.1) (AreMigrated (state S.Store conn)) }
+    ensures stopped { Survives (state S.Store conn) (state S.Store result.1)
+        (AreMigrated (state S.Store conn)) }
     ensures rest { result.1.in_transaction ≡ false }
 {
     match migrate(alloc, conn) {
@@ -65,10 +68,14 @@ fn migrate<S: Alter + Drop>(
     requires rest { conn.in_transaction ≡ false }
     ensures migrated { IfOk result (λ made. HasMigrated (state S.Store conn) (state S.Store made)) }
     ensures made_rest { IfOk result (λ made. made.in_transaction ≡ false) }
-    ensures survives { IfOk result (λ made. Survives (state S.Store conn) (state S.Store made) (AreMigrated (state S.Store conn))) }
-    ensures stopped { IfErr result (λ refused. Survives (state S.Store conn) (state S.Store refused.1) (AreMigrated (state S.Store conn))) }
-    ensures cause { IfErr result (λ refused. HasCleanDisk (state S.Store refused.1) → IsNotEarlier (state S.Store conn) refused.0) }
-    ensures kept { IfErr result (λ refused. HasCleanDisk (state S.Store refused.1) → KeepsCommit (state S.Store conn) (state S.Store refused.1)) }
+    ensures survives { IfOk result (λ made. Survives (state S.Store conn) (state S.Store made)
+        (AreMigrated (state S.Store conn))) }
+    ensures stopped { IfErr result (λ refused. Survives (state S.Store conn) (state S.Store refused.1)
+        (AreMigrated (state S.Store conn))) }
+    ensures cause { IfErr result (λ refused. HasCleanDisk (state S.Store refused.1)
+        → IsNotEarlier (state S.Store conn) refused.0) }
+    ensures kept { IfErr result (λ refused. HasCleanDisk (state S.Store refused.1)
+        → KeepsCommit (state S.Store conn) (state S.Store refused.1)) }
     ensures untouched { IfErr result (λ refused. refused.0 ≢ Device
         → IsUntouched (state S.Store conn) (state S.Store refused.1)) }
     ensures rest { IfErr result (λ refused. refused.1.in_transaction ≡ false) }

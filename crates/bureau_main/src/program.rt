@@ -205,15 +205,16 @@ fn do_init<S: Surroundings, O: Write, E: Write>(
     }
 }
 
-// What stands in the callers file, and a connection to the file of a store. Where that isn't there it is made, unless the
-// callers file has a fault.
+// What stands in the callers file, and a connection to the file of a store. Where that isn't there it is made, unless
+// the callers file has a fault.
 fn read_and_connect<S: Surroundings>(
     surroundings: &S,
     alloc: Global,
     store: &str,
     callers: &str,
 ) -> Result<(Vec<u8>, Connection<StoreFile>), AnyFault>
-    ensures callers { IfOk result (λ both. IsContent (S.known_file surroundings.now callers.now) both.0.items) }
+    ensures callers { IfOk result (λ both. IsContent
+        (S.known_file surroundings.now callers.now) both.0.items) }
     ensures rest { IfOk result (λ both. both.1.in_transaction ≡ false) }
     ensures fault { IfErr result (IsNotBegun (S.known_file surroundings.now callers.now)) }
 {
@@ -235,8 +236,10 @@ fn read_files<S: Surroundings>(
     callers: &str,
     files: &[String],
 ) -> Result<(Vec<u8>, Vec<Vec<u8>>), ProgramFault>
-    ensures callers { IfOk result (λ read. IsContent (S.known_file surroundings.now callers.now) read.0.items) }
-    ensures files { IfOk result (λ read. AreContents (S.known_file surroundings.now) (map string_bytes files.now)
+    ensures callers { IfOk result (λ read. IsContent
+        (S.known_file surroundings.now callers.now) read.0.items) }
+    ensures files { IfOk result (λ read. AreContents (S.known_file surroundings.now)
+        (map string_bytes files.now)
         (map (λ file. file.items) read.1.items)) }
     ensures fault { IfErr result (IsRefusal ProgramFault.Memory (λ fault. fault ≡ ProgramFault.NotRead)) }
 {

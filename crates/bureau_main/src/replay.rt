@@ -83,7 +83,8 @@ fn replies(
     cache: u32,
     keys: RandomState,
 ) -> Result<Vec<Vec<u8>>, AnyFault>
-    ensures replayed { IfOk result (λ written. IsReplayed callers.now (map (λ file. file.items) files.items) (map (λ text. text.items) written.items)) }
+    ensures replayed { IfOk result (λ written.
+        IsReplayed callers.now (map (λ file. file.items) files.items) (map (λ text. text.items) written.items)) }
     ensures fault { IfErr result (IsNotReplayed callers.now) }
 {
     let rows = callers_in(alloc, callers)?;

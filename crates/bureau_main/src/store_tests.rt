@@ -130,7 +130,8 @@ fn a_store_of_version_1_is_migrated_once(rt: HostRuntime) -> Result<(), Fail> {
     Ok(())
 }
 
-// Surroundings in which nobody connects, so that each wait for a connection ends at once, with a pause that takes no time.
+// Surroundings in which nobody connects, so that each wait for a connection ends at once, with a pause that takes no
+// time.
 #[derive(Drop)]
 struct Deserted<'a> {
     rt: &'a HostRuntime,
@@ -281,7 +282,8 @@ fn a_desk_waits_ten_minutes_for_a_connection(rt: HostRuntime) -> Result<(), Fail
     for _ in 0..8u32 {
         sent.extend_from_slice(b"GET /zones HTTP/1.1\r\n\r\n")?;
     }
-    // it comes when 100 seconds have passed, one read brings all requests at 200, and a reply goes out at 300, 400, 500 and 600
+    // it comes when 100 seconds have passed, one read brings all requests at 200, and a reply goes out at 300, 400, 500
+    // and 600
     for _ in 0..4u32 {
         wanted.extend_from_slice(refused)?;
     }

@@ -54,8 +54,8 @@ pub trait Surroundings {
     ///
     /// # Errors
     ///
-    /// `Shape` where the file isn't there and isn't to be made; `Memory` where memory ran out; `Device` where the name is no
-    /// file's, where the file may not be opened or another has it open, or where it is no database.
+    /// `Shape` where the file isn't there and isn't to be made; `Memory` where memory ran out; `Device` where the name
+    /// is no file's, where the file may not be opened or another has it open, or where it is no database.
     fn connect(&self, name: &str, makes: bool) -> Result<Connection<StoreFile>, StoreFault>
         ensures rest { IfOk result (λ conn. conn.in_transaction ≡ false) };
 

@@ -1,5 +1,5 @@
 -- A change of a connection, and how it is told, are a change of the store.
-use Rattle.std.proofs.Common.{◌≡◌, ◌∙◌, ◌⊎◌, ◌≤◌, Err, IfErr, IsTrue, Ok, OnOk, Result, ap, arith, inl, inr, refl, subst, sym}
+use Rattle.std.proofs.Common.{◌≡◌, ◌∙◌, ◌⊎◌, ◌≤◌, ℕ, Err, IfErr, IsTrue, Ok, OnOk, Result, ap, arith, inl, inr, refl, subst, sym}
 use Rattle.catalogue.specs.View.{HasFailed}
 use Rattle.bureau_store.specs.Effect.{Effect, publication, zone_put, zone_dropped, received_put, patterns_put}
 use Rattle.bureau_store.specs.Store.{HasZone, IsDue, IsOfCall, IsSettled, Makes, Update, updated, zones_of}
@@ -8,7 +8,7 @@ use Rattle.bureau_store.specs.declared.caller.Caller.{Caller}
 use Rattle.bureau_store.specs.declared.caller.Caller.TheVariants.{Publisher, Client}
 use Rattle.bureau_store.specs.declared.fault.StoreFault.{StoreFault}
 use Rattle.bureau_store.specs.declared.fault.StoreFault.TheVariants.{Device, Size}
-use Rattle.sqlite.specs.Held.{state}
+use Rattle.sqlite.specs.Held.{Held, state}
 use Rattle.sqlite.specs.State.{HasCleanDisk}
 use Rattle.sqlite_trees.specs.Tree.{Trees}
 use Rattle.sqlite_trees.specs.declared.store.Store.{Ghosts}
@@ -198,7 +198,7 @@ module _ {S : Type 0} (g : Ghosts S) (update : Update) (can : CanBeWritten updat
             let kept = told.reads.keeps clean in
             kept.committed is_open ∙ (committed.refused (between clean)).committed (kept.was_open is_open)
 
-    pub makes : {Done Refusal : Type 0} (made : Result Done Refusal) (answer : Result Done StoreFault) → IsCommitted (shown g old) (shown g mid) made (change_of update)
+    makes : {Done Refusal : Type 0} (made : Result Done Refusal) (answer : Result Done StoreFault) → IsCommitted (shown g old) (shown g mid) made (change_of update)
         → IsTold g Device mid new made answer → IfErr answer IsOfCall → Makes (sql_view g) HasNoRoom update old new answer
     makes {Done} {Refusal} (Ok b) (Ok done) committed told of_call =
         let rests_so = subst (λ it. (trees : Trees) → IsTrue (shown g it).is_open → (shown g it).may_leave trees → trees ≡ (shown g it).committed.trees) told.told.1 rests in
@@ -206,3 +206,14 @@ module _ {S : Type 0} (g : Ghosts S) (update : Update) (can : CanBeWritten updat
     makes {Done} {Refusal} (Err e) (Ok done) committed told of_call = absurd (let one = told.told.0 in cc)
     makes {Done} {Refusal} (Ok b) (Err fault) committed told of_call = absurd (let one = told.heard in cc)
     makes {Done} {Refusal} (Err e) (Err fault) committed told of_call = refused_so {Answer = Done} e fault committed told of_call
+
+  -- the connection's change, and how it is told, of a store that is open
+  pub open_makes : {Done Refusal : Type 0} (conn changed : Held S) (failures : ℕ) (old new : SqlState S) → record { conn = conn; failures = failures } ≡ old → old.failures ≡ 0
+      → ((trees : Trees) → IsTrue (shown g new).is_open → (shown g new).may_leave trees → trees ≡ (shown g new).committed.trees)
+      → (made : Result Done Refusal) (answer : Result Done StoreFault) → IsCommitted (state g conn) (state g changed) made (change_of update)
+      → IsTold g Device (record { conn = changed; failures = failures }) new made answer → IfErr answer IsOfCall → Makes (sql_view g) HasNoRoom update old new answer
+  open_makes conn changed failures old new same standing rests made answer committed told of_call =
+      let before : SqlState S = record { conn = conn; failures = failures } in
+      let between : SqlState S = record { conn = changed; failures = failures } in
+      subst (λ it. Makes (sql_view g) HasNoRoom update it new answer) same
+      (makes before between new (ap (λ it. it.failures) same ∙ standing) refl rests made answer committed told of_call)

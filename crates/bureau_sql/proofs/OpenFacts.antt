@@ -1,7 +1,7 @@
 -- What is looked at before a connection is taken for a store leaves it as it was, and says why it isn't.
-use Rattle.std.proofs.Common.{◌≡◌, ◌≢◌, ◌∙◌, ℕ, List, [], Err, IfErr, IsTrue, Ok, OnOk, Result, Some, ap, arith, inl, inr, refl, subst, sym}
+use Rattle.std.proofs.Common.{◌≡◌, ◌≢◌, ◌∙◌, ◌+◌, ◌<◌, ◌≤◌, ℕ, Bor, List, [], Err, IfErr, IsTrue, Ok, OnOk, Result, Some, ap, arith, get_or, inl, inr, length, refl, subst, suc, sym, take, zero}
 use Rattle.std.specs.List.{AllByRecursion}
-use Rattle.std.specs.Prelude.{Option, unwrap_or}
+use Rattle.std.specs.Prelude.{◌∷◌, Option, codes, unwrap_or}
 use Rattle.bureau_store.specs.Store.{IsOfRead}
 use Rattle.bureau_store.specs.declared.fault.StoreFault.{StoreFault}
 use Rattle.bureau_store.specs.declared.fault.StoreFault.TheVariants.{Device, Memory, Shape, Size, Version}
@@ -9,9 +9,12 @@ use Rattle.sqlite.specs.Effect.{Database}
 use Rattle.sqlite.specs.Held.{Held, state}
 use Rattle.sqlite.specs.Listing.{understood}
 use Rattle.sqlite.specs.Schema.{Schema}
-use Rattle.sqlite.specs.State.{HasCleanDisk, IsNoStatement, IsNotRun, KeepsCommit, State, store_error}
+use Rattle.sqlite.specs.Outline.{Outline}
+use Rattle.sqlite.specs.State.{HasCleanDisk, IsNoStatement, IsNotRun, IsUnchanged, KeepsCommit, State, store_error}
+use Rattle.sqlite.specs.Steps.{Outlines}
 use Rattle.sqlite.specs.declared.error.Error.{Error}
 use Rattle.sqlite.specs.declared.error.Error.TheVariants.{SqlInputError}
+use Rattle.sqlite_resolve.specs.declared.compiled.Compiled.{Compiled}
 use Rattle.sqlite_resolve.specs.declared.error.CompileError.{CompileError}
 use Rattle.sqlite_trees.specs.declared.error.StoreError.{StoreError}
 use Rattle.sqlite_trees.specs.declared.error.StoreError.TheVariants.{OutOfMemory, Io, Corrupt, Full, Broken, Unstorable}
@@ -19,17 +22,77 @@ use Rattle.sqlite_trees.specs.declared.store.Store.{Ghosts}
 use Rattle.sql_state.specs.Ours.{AreOurs, IsOurs, held_by}
 use Rattle.sql_state.specs.Reading.{OnlyReads}
 use Rattle.sql_tables.specs.Stored.{tables_of}
-use Rattle.sql_texts.specs.Schema.{bureau, bureau_1}
+use Rattle.sql_texts.specs.Meaning.{MakesTable, Reads}
+use Rattle.sql_texts.specs.Reads as read
+use Rattle.sql_texts.specs.Schema.{bureau, bureau_1, sysmod_cond}
 use Rattle.bureau_sql.specs.Laws.{clean_before, no_read, read_on}
-use Rattle.bureau_sql.specs.Opening.{IsNoStore, IsNone, IsNotEarlier, IsOfBureau, IsOther, IsSeen, IsUnderstood, LacksTables, TellsVersion}
+use Rattle.bureau_sql.specs.Opening.{CanMakeConditions, HasConditions, HasTables, IsNoStore, IsNone, IsNotEarlier, IsOfBureau, IsOther, IsSeen, IsUnderstood, LacksTables, TellsVersion}
 use Rattle.bureau_sql.specs.SqlState.{SqlState}
 use Rattle.bureau_sql.specs.SqlView.{IsAtRest, IsOurStore, shown, sql_view}
+use Rattle.bureau_sql.proofs.FitFacts.{all_seen, all_so_far}
 
 pub no_read_yet : (at : State) → OnlyReads at at
 no_read_yet at = no_read at
 
 pub reads_after : (first second third : State) → OnlyReads first second → OnlyReads second third → OnlyReads first third
 reads_after first second third sooner later = read_on first second third sooner later
+
+-- ---- what the texts mean
+
+-- a text that was prepared means something under the committed tables
+meaning_of : (meaning : Result Compiled CompileError) (outline : Outline) → Outlines meaning outline → (compiled : Compiled) × (meaning ≡ Ok compiled)
+meaning_of (Ok compiled) outline outlines = (compiled, refl)
+meaning_of (Err fault) outline outlines = absurd outlines
+
+pub means_here : (old new : State) (text : List ℕ) (outline : Outline) → (IsTrue old.is_open → old.now ≡ old.committed) → IsUnchanged old new
+    → Outlines (understood old.now.schema text) outline → IsUnderstood old.committed.schema text
+means_here old new text outline settled same outlines =
+    subst (λ database. IsUnderstood database.schema text) (settled same.0.was_open) (meaning_of (understood old.now.schema text) outline outlines)
+
+-- each of the texts so far does, and one more
+abbrev AreMeant : State → List (Bor (List ℕ)) → Type 0
+AreMeant at texts = AllByRecursion (λ text. IsUnderstood at.committed.schema text.now) texts
+
+pub none_meant_yet : (at : State) (texts : List (Bor (List ℕ))) → HasCleanDisk at → IsTrue at.is_open → AreMeant at (take 0 texts)
+none_meant_yet at texts clean is_open = tt
+
+-- which element is at an index doesn't hang on what stands for none
+one_within : {X : Type 0} (xs : List X) (i : ℕ) (x y : X) → i < length xs → get_or xs i x ≡ get_or xs i y
+one_within [] i x y low = absurd (omega arith)
+one_within (z ∷ xs) zero x y low = refl
+one_within (z ∷ xs) (suc i) x y low = one_within xs i x y (omega arith)
+
+pub meant_so_far : (texts : List (Bor (List ℕ))) (i : ℕ) (none : Bor (List ℕ)) (old mid new : State) → OnlyReads old mid → OnlyReads mid new
+    → i < length texts → (HasCleanDisk mid → IsTrue mid.is_open → AreMeant old (take i texts))
+    → (HasCleanDisk new → IsUnderstood mid.committed.schema (get_or texts i none).now) → HasCleanDisk new → IsTrue new.is_open → AreMeant old (take (i + 1) texts)
+meant_so_far texts i none old mid new sooner later low so_far one clean is_open =
+    let before = clean_before (λ trees. ⊥) mid new later.survives clean in
+    let was = (later.keeps clean).was_open is_open in
+    all_so_far (λ text. IsUnderstood old.committed.schema text.now) texts i (get_or texts i none) low (one_within texts i none (get_or texts i none) low) (so_far before was)
+    (subst (λ database. IsUnderstood database.schema (get_or texts i none).now) ((sooner.keeps before).committed was) (one clean))
+
+pub all_meant : (texts : List (Bor (List ℕ))) (i : ℕ) (old new : State) → length texts ≤ i → (HasCleanDisk new → IsTrue new.is_open → AreMeant old (take i texts))
+    → HasCleanDisk new → IsTrue new.is_open → AreMeant old texts
+all_meant texts i old new past so_far clean is_open = all_seen (λ text. IsUnderstood old.committed.schema text.now) texts i past (so_far clean is_open)
+
+-- what the texts say together, where all of them mean something
+pub tables_found : {A F All : Type 0} (schema : Schema) (new : State) (result : Result A F) → (All → HasTables schema)
+    → OnOk result (HasCleanDisk new → IsTrue new.is_open → All) → OnOk result (HasCleanDisk new → IsTrue new.is_open → HasTables schema)
+tables_found schema new (Ok done) together all = λ clean is_open. together (all clean is_open)
+tables_found schema new (Err fault) together all = tt
+
+-- what was found on the way of the committed tables, where the connection is open in the end
+pub found_where_open : {A F : Type 0} (Fact : Database → Type 0) (old first second last : State) (result : Result A F) → OnlyReads old first → OnlyReads first second
+    → OnlyReads second last → OnOk result (HasCleanDisk last → IsTrue last.is_open) → (HasCleanDisk second → IsTrue second.is_open → Fact first.committed)
+    → OnOk result (HasCleanDisk last → Fact old.committed)
+found_where_open Fact old first second last (Err fault) one two three is_open fact = tt
+found_where_open Fact old first second last (Ok done) one two three is_open fact = λ clean.
+    let at_second = clean_before (λ trees. ⊥) second last three.survives clean in
+    let at_first = clean_before (λ trees. ⊥) first second two.survives at_second in
+    let open_second = (three.keeps clean).was_open (is_open clean) in
+    subst Fact ((one.keeps at_first).committed ((two.keeps at_second).was_open open_second)) (fact at_second open_second)
+
+-- ---- facts of the committed rows
 
 -- what was found of the committed rows between, where the connection was open then, holds of those before
 pub found_before : (Fact : Database → Type 0) (old first second last : State) → OnlyReads old first → OnlyReads first second → OnlyReads second last
@@ -144,6 +207,16 @@ other_than_ours text database wanted none = (
   λ ours. absurd (none bureau (inl refl) ours.schema),
   λ earlier. absurd (none bureau_1 (inr refl) earlier.schema),
 )
+
+-- what `open` found: the text that it looked at asks for the requisites under a condition
+pub conditions_found : (text : List ℕ) (schema : Schema) → HasTables schema → IsUnderstood schema text
+    → Reads bureau text read.conditional (codes "fmid" ∷ codes "member" ∷ []) 1 → HasTables schema × HasConditions schema
+conditions_found text schema tables means reads = (tables, (text, reads, means))
+
+-- what `migrate` found: the text that makes their table means something
+pub conditions_to_make : (text : List ℕ) (schema : Schema) → HasTables schema → IsUnderstood schema text → MakesTable bureau_1 text sysmod_cond bureau
+    → HasTables schema × CanMakeConditions schema
+conditions_to_make text schema tables means makes = (tables, (text, makes, means))
 
 -- ---- what is looked for by a store, and by what makes a file of version 1 one of version 2
 

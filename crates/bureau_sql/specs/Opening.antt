@@ -1,16 +1,19 @@
 -- Why a connection isn't taken for a store, or its file not made one of version 2.
-use Rattle.std.specs.Prelude.{◌≡◌, ◌≢◌, ◌⊎◌, ℕ, IsTrue, List, Ok, Option, Some}
+use Rattle.std.specs.Prelude.{◌≡◌, ◌≢◌, ◌⊎◌, ℕ, IsTrue, List, [], ◌∷◌, Ok, Option, Some, codes}
 use Rattle.bureau_store.specs.declared.fault.StoreFault.{StoreFault}
 use Rattle.bureau_store.specs.declared.fault.StoreFault.TheVariants.{Device, Memory, Shape, Size, Version}
 use Rattle.sqlite.specs.Effect.{Database}
 use Rattle.sqlite.specs.Listing.{understood}
+use Rattle.sqlite.specs.Query.{Query}
 use Rattle.sqlite.specs.Schema.{Schema}
 use Rattle.sqlite.specs.State.{State}
 use Rattle.sqlite_resolve.specs.declared.compiled.Compiled.{Compiled}
 use Rattle.sql_reads.specs.Version.{HasVersion}
 use Rattle.sql_state.specs.Earlier.{IsOfVersion1}
 use Rattle.sql_state.specs.Ours.{IsOurs}
-use Rattle.sql_texts.specs.Schema.{bureau, bureau_1}
+use Rattle.sql_texts.specs.Meaning.{MakesTable, Reads}
+use Rattle.sql_texts.specs.Reads as read
+use Rattle.sql_texts.specs.Schema.{bureau, bureau_1, hold_columns, sysmod_columns, sysmod_cond}
 
 -- Its tables are other ones than the bureau's, and none of version 1 either; or they are of another version, which no
 -- database of ours has; or memory ran out, or the device failed.
@@ -32,11 +35,36 @@ IsNotEarlier at Memory = Unit {0}
 IsNotEarlier at Device = Unit {0}
 IsNotEarlier at Size = Unit {0}
 
--- ---- No part of what is promised: private contracts cite it.
+-- ---- what is there where a connection is taken
 
 -- the text means something under these tables
 abbrev pub IsUnderstood : Schema → List ℕ → Type 0
 IsUnderstood schema text = (compiled : Compiled) × (understood schema text ≡ Ok compiled)
+
+-- Some text that asks this of the bureau's tables means something under these too: each table and column is there that it names.
+abbrev pub CanAsk : Query → List (List ℕ) → ℕ → Schema → Type 0
+CanAsk query names parameters schema = (text : List ℕ) × Reads bureau text query names parameters × IsUnderstood schema text
+
+-- The tables of version 1 are there besides that of the version itself, each with the columns that a store reads.
+pub record HasTables (schema : Schema) : Type 0 where
+  pub callers : CanAsk read.caller_with_token (codes "name" ∷ []) 1 schema
+  pub last_changes : CanAsk read.last_change (codes "number" ∷ codes "body" ∷ []) 1 schema
+  pub sysmods : CanAsk read.sysmod sysmod_columns 1 schema
+  pub superseded : CanAsk read.superseded (codes "member" ∷ []) 1 schema
+  pub holds : CanAsk read.holds_on hold_columns 1 schema
+  pub zones : CanAsk read.patterns (codes "patterns" ∷ []) 2 schema
+  pub zone_rows : CanAsk read.zone_rows (codes "sysmod" ∷ codes "state" ∷ []) 2 schema
+  pub received : CanAsk read.received (codes "ids" ∷ []) 1 schema
+
+-- And that of version 2, of requisites under a condition.
+abbrev pub HasConditions : Schema → Type 0
+HasConditions = CanAsk read.conditional (codes "fmid" ∷ codes "member" ∷ []) 1
+
+-- The text that makes that table means something under these, so it can be made: no table of its name is there.
+abbrev pub CanMakeConditions : Schema → Type 0
+CanMakeConditions schema = (text : List ℕ) × MakesTable bureau_1 text sysmod_cond bureau × IsUnderstood schema text
+
+-- ---- No part of what is promised: private contracts cite it.
 
 -- What a look saw of the committed tables, where it is refused for their shape or for their version; or memory ran out, or
 -- the device failed.

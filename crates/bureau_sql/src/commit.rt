@@ -11,7 +11,8 @@ pub(crate) fn begin<S: Alter>(conn: &mut Connection<S>) -> Transaction<'_, S>
     requires { conn.old.in_transaction ≡ false }
     ensures same_reference { result.conn.ghost_name ≡ conn.entry.ghost_name }
     ensures begun { result.conn.now ≡ record conn.old { in_transaction = true } }
-    ensures settled { IsTrue (state S.Store conn.old).is_open → (state S.Store conn.old).now ≡ (state S.Store conn.old).committed }
+    ensures settled { IsTrue (state S.Store conn.old).is_open
+        → (state S.Store conn.old).now ≡ (state S.Store conn.old).committed }
     ensures live { IsLive (state S.Store conn.old) }
 {
     let _settled = conn.is_autocommit();
@@ -23,7 +24,8 @@ pub(crate) fn begin<S: Alter>(conn: &mut Connection<S>) -> Transaction<'_, S>
 pub(crate) fn end<S: Alter>(tx: Transaction<'_, S>, written: Result<(), Error>) -> Result<(), Error>
     ensures ended { tx.exit.0.now.in_transaction ≡ false }
     ensures written { OnOk result (IsOk written × (HasCleanDisk (state S.Store tx.exit.0.now)
-        → Shows (state S.Store tx.entry.conn.now) (state S.Store tx.exit.0.now) (state S.Store tx.entry.conn.now).now (state S.Store tx.entry.conn.now).now false)) }
+        → Shows (state S.Store tx.entry.conn.now) (state S.Store tx.exit.0.now)
+        (state S.Store tx.entry.conn.now).now (state S.Store tx.entry.conn.now).now false)) }
     ensures refused { OnErr result (HasCleanDisk (state S.Store tx.exit.0.now)
         → KeepsCommit (state S.Store tx.entry.conn.now) (state S.Store tx.exit.0.now)) }
     ensures survives { Survives (state S.Store tx.entry.conn.now) (state S.Store tx.exit.0.now)

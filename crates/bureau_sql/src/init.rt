@@ -30,7 +30,8 @@ fn is_empty<S: Alter>(conn: &Connection<S>) -> bool
 fn found<S: Alter>(conn: &mut Connection<S>, callers: &[CallerRow]) -> Result<(), Error>
     requires rest { conn.old.in_transaction ≡ false }
     ensures mode { conn.new.in_transaction ≡ false }
-    ensures led { IsLed (state S.Store conn.old) (state S.Store conn.new) result IsEmpty (IsOpened callers.now) }
+    ensures led { IsLed (state S.Store conn.old) (state S.Store conn.new) result IsEmpty
+        (IsOpened callers.now) }
 {
     let mut tx = begin(conn);
     let written = sql_writes::create(&mut tx, callers);
@@ -38,13 +39,13 @@ fn found<S: Alter>(conn: &mut Connection<S>, callers: &[CallerRow]) -> Result<()
 }
 
 impl<S: Alter> SqlStore<S> {
-    /// A store with these callers, and empty otherwise, in a database that is empty. All is made in one transaction: a stop
-    /// leaves what was there, or the store. The connection isn't in a transaction.
+    /// A store with these callers, and empty otherwise, in a database that is empty. All is made in one transaction: a
+    /// stop leaves what was there, or the store. The connection isn't in a transaction.
     ///
     /// # Errors
     ///
-    /// [`StoreFault::Shape`] where a table, an index or a view is there already; `Memory`, `Size` or `Device` where memory or
-    /// room ran out or the device failed. Each hands the connection back, with nothing committed.
+    /// [`StoreFault::Shape`] where a table, an index or a view is there already; `Memory`, `Size` or `Device` where
+    /// memory or room ran out or the device failed. Each hands the connection back, with nothing committed.
     #[tactic(auto, using(crate::proofs::FoundedFacts::ours_made, crate::proofs::FoundedFacts::tables_made))]
     pub fn init(
         alloc: Global,
@@ -53,7 +54,8 @@ impl<S: Alter> SqlStore<S> {
     ) -> Result<SqlStore<S>, (StoreFault, Connection<S>)>
         requires rest { conn.in_transaction ≡ false }
         ensures made { IfOk result (λ store. store.failures ≡ 0) }
-        ensures opened { IfOk result (λ store. HasCleanDisk (shown S.Store store) → IsTrue (shown S.Store store).is_open
+        ensures opened { IfOk result (λ store. HasCleanDisk (shown S.Store store)
+            → IsTrue (shown S.Store store).is_open
             × IsEmpty (state S.Store conn).committed × IsOpened callers.now (shown S.Store store).committed) }
         ensures ours { IfOk result (λ store. HasCleanDisk (shown S.Store store) → IsOurStore S.Store store) }
         ensures tables { IfOk result (λ store. HasCleanDisk (shown S.Store store)

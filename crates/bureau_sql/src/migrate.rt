@@ -11,7 +11,7 @@ ghost use Rattle.sql_state.specs.Reading.{OnlyReads};
 ghost use Rattle.sql_tables.specs.Stored.{tables_of};
 ghost use Rattle.sql_writes.specs.Migrating.{HoldsAll};
 ghost use Rattle.bureau_sql.specs.Migrated.{AreMigrated, IsMigrated, IsUntouched};
-ghost use Rattle.bureau_sql.specs.Opening.{IsNotEarlier};
+ghost use Rattle.bureau_sql.specs.Opening.{CanMakeConditions, HasTables, IsNotEarlier};
 ghost use Rattle.bureau_sql.specs.SqlView.{IsAtRest, IsOurStore, shown, sql_view};
 
 use crate::SqlStore;
@@ -42,7 +42,8 @@ fn refusal<S: Alter>(conn: &mut Connection<S>, error: Error) -> StoreFault
     ensures reads { OnlyReads (state S.Store conn.old) (state S.Store conn.new) }
     ensures mode { conn.new.in_transaction ≡ false }
     ensures call { IsOfCall result }
-    ensures is_open { result ≢ Device → HasCleanDisk (state S.Store conn.new) → IsTrue (state S.Store conn.new).is_open }
+    ensures is_open { result ≢ Device → HasCleanDisk (state S.Store conn.new)
+        → IsTrue (state S.Store conn.new).is_open }
     ensures rests { IsAtRest (state S.Store conn.new) }
 {
     let fault = refusal_of(error);
@@ -55,15 +56,23 @@ fn refusal<S: Alter>(conn: &mut Connection<S>, error: Error) -> StoreFault
 }
 
 // Makes the tables of version 1 those of version 2, where the connection has them.
+#[tactic(auto, using(crate::proofs::OpenFacts::conditions_to_make))]
 fn bring<S: Alter>(conn: &mut Connection<S>) -> Result<(), StoreFault>
     requires rest { conn.old.in_transaction ≡ false }
     ensures mode { conn.new.in_transaction ≡ false }
-    ensures is_open { OnOk result (HasCleanDisk (state S.Store conn.new) → IsTrue (state S.Store conn.new).is_open) }
+    ensures is_open { OnOk result (HasCleanDisk (state S.Store conn.new)
+        → IsTrue (state S.Store conn.new).is_open) }
     ensures version { OnOk result (HasCleanDisk (state S.Store conn.new)
         → HasVersion (Some 1) (state S.Store conn.old).committed) }
-    ensures held { OnOk result (HasCleanDisk (state S.Store conn.new) → IsOfVersion1 (state S.Store conn.old).committed
-        → HoldsAll (version_rows 2) (held_by_version_1 (state S.Store conn.old).committed) (state S.Store conn.new).committed) }
-    ensures survives { Survives (state S.Store conn.old) (state S.Store conn.new) (AreMigrated (state S.Store conn.old)) }
+    ensures found { OnOk result (HasCleanDisk (state S.Store conn.new)
+        → HasTables (state S.Store conn.old).committed.schema
+        × CanMakeConditions (state S.Store conn.old).committed.schema) }
+    ensures held { OnOk result (HasCleanDisk (state S.Store conn.new)
+        → IsOfVersion1 (state S.Store conn.old).committed
+        → HoldsAll (version_rows 2) (held_by_version_1 (state S.Store conn.old).committed)
+        (state S.Store conn.new).committed) }
+    ensures survives { Survives (state S.Store conn.old) (state S.Store conn.new)
+        (AreMigrated (state S.Store conn.old)) }
     ensures refused { OnErr result (HasCleanDisk (state S.Store conn.new)
         → KeepsCommit (state S.Store conn.old) (state S.Store conn.new)) }
     ensures cause { IfErr result (λ fault. HasCleanDisk (state S.Store conn.new)
@@ -79,16 +88,16 @@ fn bring<S: Alter>(conn: &mut Connection<S>) -> Result<(), StoreFault>
 }
 
 impl<S: Alter> SqlStore<S> {
-    /// A store over a file of version 1, which becomes one of version 2 in one transaction: a stop leaves the file as it was, or
-    /// that of version 2 with the same tables. All rows stay, and no record has requisites under a condition until it is
-    /// published again. The connection isn't in a transaction.
+    /// A store over a file of version 1, which becomes one of version 2 in one transaction: a stop leaves the file as
+    /// it was, or that of version 2 with the same tables. All rows stay, and no record has requisites under a condition
+    /// until it is published again. The connection isn't in a transaction.
     ///
     /// # Errors
     ///
-    /// [`StoreFault::Version`] where the tables are of another version than 1, [`StoreFault::Shape`] where one of them or of
-    /// their columns is missing, or where there is a table of requisites under a condition already; `Memory` or `Size` where
-    /// memory or room ran out. Each of these hands the connection back with the file as it was. `Device` where the device failed:
-    /// then a stop may have left either.
+    /// [`StoreFault::Version`] where the tables are of another version than 1, [`StoreFault::Shape`] where one of them
+    /// or of their columns is missing, or where there is a table of requisites under a condition already; `Memory` or
+    /// `Size` where memory or room ran out. Each of these hands the connection back with the file as it was. `Device`
+    /// where the device failed: then a stop may have left either.
     #[tactic(auto, using(crate::proofs::MigratedFacts::ours_migrated, crate::proofs::MigratedFacts::tables_migrated))]
     pub fn migrate(
         alloc: Global,
@@ -96,13 +105,19 @@ impl<S: Alter> SqlStore<S> {
     ) -> Result<SqlStore<S>, (StoreFault, Connection<S>)>
         requires rest { conn.in_transaction ≡ false }
         ensures migrated { IfOk result (λ store. store.failures ≡ 0) }
-        ensures is_open { IfOk result (λ store. HasCleanDisk (shown S.Store store) → IsTrue (shown S.Store store).is_open) }
+        ensures is_open { IfOk result (λ store. HasCleanDisk (shown S.Store store)
+            → IsTrue (shown S.Store store).is_open) }
         ensures version { IfOk result (λ store. HasCleanDisk (shown S.Store store)
             → HasVersion (Some 1) (state S.Store conn).committed) }
+        ensures found { IfOk result (λ store. HasCleanDisk (shown S.Store store)
+            → HasTables (state S.Store conn).committed.schema
+            × CanMakeConditions (state S.Store conn).committed.schema) }
         ensures ours { IfOk result (λ store. HasCleanDisk (shown S.Store store)
             → IsOfVersion1 (state S.Store conn).committed → IsOurStore S.Store store) }
-        ensures tables { IfOk result (λ store. HasCleanDisk (shown S.Store store) → IsOfVersion1 (state S.Store conn).committed
-            → (sql_view S.Store).stands store (tables_of (held_by_version_1 (state S.Store conn).committed))) }
+        ensures tables { IfOk result (λ store. HasCleanDisk (shown S.Store store)
+            → IsOfVersion1 (state S.Store conn).committed
+            → (sql_view S.Store).stands store
+            (tables_of (held_by_version_1 (state S.Store conn).committed))) }
         ensures rests { IfOk result (λ store. IsAtRest (shown S.Store store)) }
         ensures survives { IfOk result (λ store. Survives (state S.Store conn) (shown S.Store store)
             (AreMigrated (state S.Store conn))) }

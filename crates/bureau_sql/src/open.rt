@@ -11,7 +11,7 @@ ghost use Rattle.sql_state.specs.Ours.{IsOurs, held_by};
 ghost use Rattle.sql_state.specs.Reading.{OnlyReads};
 ghost use Rattle.sql_reads.specs.Version.{HasVersion};
 ghost use Rattle.sql_tables.specs.Stored.{tables_of};
-ghost use Rattle.bureau_sql.specs.Opening.{IsNoStore, IsNone, IsOfBureau, IsOther, IsSeen, IsUnderstood, LacksTables, TellsVersion};
+ghost use Rattle.bureau_sql.specs.Opening.{HasConditions, HasTables, IsNoStore, IsNone, IsOfBureau, IsOther, IsSeen, IsUnderstood, LacksTables, TellsVersion};
 ghost use Rattle.bureau_sql.specs.SqlView.{IsAtRest, IsOurStore, shown, sql_view};
 
 use crate::SqlStore;
@@ -28,8 +28,11 @@ fn can_read<S: Alter>(conn: &mut Connection<S>, text: &str) -> Result<(), StoreF
     requires rest { conn.old.in_transaction ≡ false }
     ensures reads { OnlyReads (state S.Store conn.old) (state S.Store conn.new) }
     ensures mode { conn.new.in_transaction ≡ false }
+    ensures understood { OnOk result (HasCleanDisk (state S.Store conn.new)
+        → IsUnderstood (state S.Store conn.old).committed.schema text.now) }
     ensures cause { IfErr result (λ fault. HasCleanDisk (state S.Store conn.new)
-        → IsSeen (IsNone (λ schema. IsUnderstood schema text.now)) (λ database. ⊥) (state S.Store conn.old) fault) }
+        → IsSeen (IsNone (λ schema. IsUnderstood schema text.now))
+        (λ database. ⊥) (state S.Store conn.old) fault) }
 {
     let _settled = conn.is_autocommit();
     match conn.prepare(text) {
@@ -66,7 +69,8 @@ fn is_version<S: Alter>(conn: &mut Connection<S>, wanted: u64) -> Result<(), Sto
     requires { conn.old.in_transaction ≡ false }
     ensures reads { OnlyReads (state S.Store conn.old) (state S.Store conn.new) }
     ensures mode { conn.new.in_transaction ≡ false }
-    ensures is_open { OnOk result (HasCleanDisk (state S.Store conn.new) → IsTrue (state S.Store conn.new).is_open) }
+    ensures is_open { OnOk result (HasCleanDisk (state S.Store conn.new)
+        → IsTrue (state S.Store conn.new).is_open) }
     ensures version { OnOk result (HasCleanDisk (state S.Store conn.new)
         → TellsVersion (Some wanted) (state S.Store conn.old).committed) }
     ensures cause { IfErr result (λ fault. HasCleanDisk (state S.Store conn.new)
@@ -80,13 +84,17 @@ fn is_version<S: Alter>(conn: &mut Connection<S>, wanted: u64) -> Result<(), Sto
 }
 
 // Whether each of these texts means something with the tables that the connection has.
-#[tactic(auto, using(crate::proofs::OpenFacts::reads_after, crate::proofs::OpenFacts::no_read_yet))]
+#[tactic(auto, using(crate::proofs::OpenFacts::reads_after, crate::proofs::OpenFacts::no_read_yet, crate::proofs::OpenFacts::none_meant_yet, crate::proofs::OpenFacts::all_meant))]
 fn can_read_all<S: Alter>(conn: &mut Connection<S>, texts: &[&str]) -> Result<(), StoreFault>
     requires rest { conn.old.in_transaction ≡ false }
     ensures reads { OnlyReads (state S.Store conn.old) (state S.Store conn.new) }
     ensures mode { conn.new.in_transaction ≡ false }
+    ensures understood { OnOk result (HasCleanDisk (state S.Store conn.new)
+        → IsTrue (state S.Store conn.new).is_open
+        → AllByRecursion (λ text. IsUnderstood (state S.Store conn.old).committed.schema text.now) texts.now) }
     ensures cause { IfErr result (λ fault. HasCleanDisk (state S.Store conn.new)
-        → IsSeen (IsNone (λ schema. AllByRecursion (λ text. IsUnderstood schema text.now) texts.now)) (λ database. ⊥)
+        → IsSeen (IsNone (λ schema. AllByRecursion (λ text. IsUnderstood schema text.now) texts.now))
+        (λ database. ⊥)
         (state S.Store conn.old) fault) }
 {
     for text in texts {
@@ -100,6 +108,9 @@ fn has_tables<S: Alter>(conn: &mut Connection<S>) -> Result<(), StoreFault>
     requires rest { conn.old.in_transaction ≡ false }
     ensures reads { OnlyReads (state S.Store conn.old) (state S.Store conn.new) }
     ensures mode { conn.new.in_transaction ≡ false }
+    ensures tables { OnOk result (HasCleanDisk (state S.Store conn.new)
+        → IsTrue (state S.Store conn.new).is_open
+        → HasTables (state S.Store conn.old).committed.schema) }
     ensures cause { IfErr result (λ fault. HasCleanDisk (state S.Store conn.new)
         → IsSeen (IsNone IsOfBureau) (λ database. ⊥) (state S.Store conn.old) fault) }
 {
@@ -141,9 +152,14 @@ pub(crate) fn holds<S: Alter>(
     requires { conn.old.in_transaction ≡ false }
     ensures reads { OnlyReads (state S.Store conn.old) (state S.Store conn.new) }
     ensures mode { conn.new.in_transaction ≡ false }
-    ensures is_open { OnOk result (HasCleanDisk (state S.Store conn.new) → IsTrue (state S.Store conn.new).is_open) }
+    ensures is_open { OnOk result (HasCleanDisk (state S.Store conn.new)
+        → IsTrue (state S.Store conn.new).is_open) }
     ensures version { OnOk result (HasCleanDisk (state S.Store conn.new)
         → TellsVersion (Some wanted) (state S.Store conn.old).committed) }
+    ensures tables { OnOk result (HasCleanDisk (state S.Store conn.new)
+        → HasTables (state S.Store conn.old).committed.schema) }
+    ensures understood { OnOk result (HasCleanDisk (state S.Store conn.new)
+        → IsUnderstood (state S.Store conn.old).committed.schema text.now) }
     ensures cause { IfErr result (λ fault. HasCleanDisk (state S.Store conn.new)
         → IsSeen (LacksTables wanted text.now) (IsOther wanted) (state S.Store conn.old) fault) }
 {
@@ -158,11 +174,11 @@ impl<S: Alter> SqlStore<S> {
     ///
     /// # Errors
     ///
-    /// [`StoreFault::Shape`] where a table of a store or one of its columns is missing, [`StoreFault::Version`] where the
-    /// tables are of another version than 2; `Memory` where memory ran out, and `Device` where the device failed. Each hands
-    /// the connection back, with its tables as they were. The store of a database that the bureau made is refused for want of
-    /// memory or the device alone.
-    #[tactic(auto, using(crate::proofs::OpenFacts::ours_opened, crate::proofs::OpenFacts::tables_opened))]
+    /// [`StoreFault::Shape`] where a table of a store or one of its columns is missing, [`StoreFault::Version`] where
+    /// the tables are of another version than 2; `Memory` where memory ran out, and `Device` where the device failed.
+    /// Each hands the connection back, with its tables as they were. The store of a database that the bureau made is
+    /// refused for want of memory or the device alone.
+    #[tactic(auto, using(crate::proofs::OpenFacts::tables_opened))]
     pub fn open(
         alloc: Global,
         mut conn: Connection<S>,
@@ -170,9 +186,13 @@ impl<S: Alter> SqlStore<S> {
         requires rest { conn.in_transaction ≡ false }
         ensures opened { IfOk result (λ store. store.failures ≡ 0) }
         ensures reads { IfOk result (λ store. OnlyReads (state S.Store conn) (shown S.Store store)) }
-        ensures is_open { IfOk result (λ store. HasCleanDisk (shown S.Store store) → IsTrue (shown S.Store store).is_open) }
+        ensures is_open { IfOk result (λ store. HasCleanDisk (shown S.Store store)
+            → IsTrue (shown S.Store store).is_open) }
         ensures version { IfOk result (λ store. HasCleanDisk (shown S.Store store)
             → HasVersion (Some 2) (state S.Store conn).committed) }
+        ensures found { IfOk result (λ store. HasCleanDisk (shown S.Store store)
+            → HasTables (state S.Store conn).committed.schema
+            × HasConditions (state S.Store conn).committed.schema) }
         ensures ours { IfOk result (λ store. HasCleanDisk (shown S.Store store)
             → IsOurs (state S.Store conn).committed → IsOurStore S.Store store) }
         ensures tables { IfOk result (λ store. HasCleanDisk (shown S.Store store)

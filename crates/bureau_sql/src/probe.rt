@@ -10,12 +10,13 @@ use sql_texts::write::rollback;
 use sqlite::{Connection, Error, ErrorCode};
 use sqlite_trees::store::Alter;
 
-/// Looks whether the connection is open: `Memory` where memory ran out, so that nothing is known, and `Device` where it isn't.
-/// Outside a transaction an open one refuses ROLLBACK as a query, and nothing changes.
+/// Looks whether the connection is open: `Memory` where memory ran out, so that nothing is known, and `Device` where it
+/// isn't. Outside a transaction an open one refuses ROLLBACK as a query, and nothing changes.
 pub(crate) fn look<S: Alter>(conn: &mut Connection<S>) -> Result<(), StoreFault>
     requires { conn.old.in_transaction ≡ false }
     ensures reads { OnlyReads (state S.Store conn.old) (state S.Store conn.new) }
-    ensures open { OnOk result (HasCleanDisk (state S.Store conn.new) → IsTrue (state S.Store conn.new).is_open) }
+    ensures open { OnOk result (HasCleanDisk (state S.Store conn.new)
+        → IsTrue (state S.Store conn.new).is_open) }
     ensures mode { conn.new.in_transaction ≡ false }
     ensures cause { IfErr result IsOfRead }
 {
@@ -30,7 +31,8 @@ pub(crate) fn look<S: Alter>(conn: &mut Connection<S>) -> Result<(), StoreFault>
 pub(crate) fn is_open<S: Alter>(conn: &mut Connection<S>) -> bool
     requires { conn.old.in_transaction ≡ false }
     ensures reads { OnlyReads (state S.Store conn.old) (state S.Store conn.new) }
-    ensures open { result ≡ true → HasCleanDisk (state S.Store conn.new) → IsTrue (state S.Store conn.new).is_open }
+    ensures open { result ≡ true → HasCleanDisk (state S.Store conn.new)
+        → IsTrue (state S.Store conn.new).is_open }
     ensures mode { conn.new.in_transaction ≡ false }
 {
     look(conn).is_ok()

@@ -1,4 +1,5 @@
-//! What a store has read since its last change. It is answered again from here, so that a client that asks often costs little.
+//! What a store has read since its last change. It is answered again from here, so that a client that asks often costs
+//! little.
 ghost use Rattle.std.specs.Prelude.{◌≡◌, ◌⊎◌, Contains, IfOk, IfSome, Some, map, option_map};
 ghost use Rattle.std.specs.List.Sorted.{IsStrictlySortedBy};
 ghost use Rattle.bureau_sql.specs.Recent.{HasMore, nothing_read};
@@ -70,8 +71,8 @@ impl Model for RowsRead {
     ghost invariant = { λ read. RowsAscend read.rows.items };
 }
 
-/// Answers of reads since the last change, of each kind at most so many. Where there is no memory to keep or to copy one, it is
-/// read anew.
+/// Answers of reads since the last change, of each kind at most so many. Where there is no memory to keep or to copy
+/// one, it is read anew.
 #[derive(Drop)]
 pub(crate) struct Recent {
     tokens: Vec<TokenRead>,
@@ -112,7 +113,8 @@ impl Recent {
 impl Recent {
     /// The caller whose token this is, if it was read.
     pub(crate) fn caller_of(&self, token: &[u8]) -> Option<Caller>
-        ensures read { IfSome result (λ caller. Contains self.now.tokens (record { token = token.now; caller = caller })) }
+        ensures read { IfSome result (λ caller. Contains self.now.tokens
+            (record { token = token.now; caller = caller })) }
         ensures proper { IfSome result IsProper }
     {
         for read in &self.tokens {
@@ -125,8 +127,10 @@ impl Recent {
 
     /// The zones of a client, if they were read.
     pub(crate) fn zones_of(&self, alloc: Global, client: &Id) -> Option<Vec<(Id, u64)>>
-        ensures read { IfSome result (λ zones. Contains self.now.zones (record { client = client.now; zones = zones.items })) }
-        ensures ascend { IfSome result (λ zones. IsStrictlySortedBy name_order (map (λ zone. zone.0) zones.items)) }
+        ensures read { IfSome result (λ zones. Contains self.now.zones
+            (record { client = client.now; zones = zones.items })) }
+        ensures ascend { IfSome result (λ zones. IsStrictlySortedBy name_order
+            (map (λ zone. zone.0) zones.items)) }
     {
         for read in &self.zones {
             if read.client == *client {
@@ -138,7 +142,8 @@ impl Recent {
 
     /// The rows of a client's zone, if they were read.
     pub(crate) fn rows_of(&self, alloc: Global, client: &Id, zone: &Id) -> Option<Vec<ZoneRow>>
-        ensures read { IfSome result (λ rows. Contains self.now.rows (record { client = client.now; zone = zone.now; rows = rows.items })) }
+        ensures read { IfSome result (λ rows. Contains self.now.rows
+            (record { client = client.now; zone = zone.now; rows = rows.items })) }
         ensures ascend { IfSome result (λ rows. RowsAscend rows.items) }
     {
         for read in &self.rows {
@@ -179,7 +184,8 @@ impl Recent {
         client: &Id,
         found: &Result<Vec<(Id, u64)>, ReadFault>,
     )
-        requires ascend { IfOk found.now (λ zones. IsStrictlySortedBy name_order (map (λ zone. zone.0) zones.items)) }
+        requires ascend { IfOk found.now (λ zones. IsStrictlySortedBy name_order
+            (map (λ zone. zone.0) zones.items)) }
         ensures zones { HasMore (λ answer read. read ≡ record { client = client.now; zones = answer.items })
             found.now self.old.zones self.new.zones }
         ensures others { (self.new.tokens ≡ self.old.tokens) × (self.new.rows ≡ self.old.rows) }
@@ -201,7 +207,8 @@ impl Recent {
         found: &Result<Option<Vec<ZoneRow>>, ReadFault>,
     )
         requires ascend { IfOk found.now (λ rows. IfSome rows (λ rows. RowsAscend rows.items)) }
-        ensures rows { HasMore (λ answer read. (option_map (λ rows. rows.items) answer ≡ Some read.rows) × (read.client ≡ client.now) × (read.zone ≡ zone.now))
+        ensures rows { HasMore (λ answer read. (option_map (λ rows. rows.items) answer ≡ Some read.rows)
+            × (read.client ≡ client.now) × (read.zone ≡ zone.now))
             found.now self.old.rows self.new.rows }
         ensures others { (self.new.tokens ≡ self.old.tokens) × (self.new.zones ≡ self.old.zones) }
     {

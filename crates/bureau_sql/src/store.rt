@@ -20,8 +20,8 @@ use std::marker::Model;
 
 /// All that the bureau keeps, in a database. A contract sees the connection, which is at rest, and how often it failed.
 ///
-/// Whose token it was, which zones a client has, and the rows of a zone are kept from when they were read until the next
-/// change, the last sixteen or fewer of each: they are answered without a query.
+/// Whose token it was, which zones a client has, and the rows of a zone are kept from when they were read until the
+/// next change, the last sixteen or fewer of each: they are answered without a query.
 #[derive(Drop)]
 pub struct SqlStore<S: Alter> {
     pub(crate) alloc: Global,
@@ -87,7 +87,8 @@ impl<S: Alter> SqlStore<S> {
 impl<S: Alter> SqlStore<S> {
     // Whether a failure has shut the store: then this call fails too.
     pub(crate) fn is_shut(&mut self) -> bool
-        ensures shut { result ≡ true → (self.new.conn ≡ self.old.conn) × (self.old.failures ≤ self.new.failures)
+        ensures shut { result ≡ true → (self.new.conn ≡ self.old.conn)
+            × (self.old.failures ≤ self.new.failures)
             × (0 < self.new.failures) × HasFailed (sql_view S.Store) self.old self.new }
         ensures open { result ≡ false → (self.new ≡ self.old) × (self.old.failures ≡ 0) }
     {

@@ -27,7 +27,8 @@ pub fn caller_of<S: Alter>(
 ) -> Result<Option<Caller>, ReadFault>
     requires rest { conn.old.in_transaction ≡ false }
     ensures mode { conn.new.in_transaction ≡ false }
-    ensures finds { Finds (state S.Store conn.old) (state S.Store conn.new) result (λ stored found. found ≡ caller_with (tables_of stored).callers token.now) }
+    ensures finds { Finds (state S.Store conn.old) (state S.Store conn.new) result
+        (λ stored found. found ≡ caller_with (tables_of stored).callers token.now) }
     ensures proper { IfOk result (λ found. IfSome found IsProper) }
 {
     let params = [ValueRef::Text(token)];
@@ -49,7 +50,8 @@ pub fn last<S: Alter>(
     requires proper { IsProper caller.now }
     ensures mode { conn.new.in_transaction ≡ false }
     ensures finds { Finds (state S.Store conn.old) (state S.Store conn.new) result
-        (λ stored last. record { number = last.0; reply = last.1.items } ≡ (tables_of stored).last caller.now) }
+        (λ stored last. record { number = last.0; reply = last.1.items }
+        ≡ (tables_of stored).last caller.now) }
 {
     let params = [name(caller)];
     let rows = rows_of(conn, read::last_change(), &params)?;

@@ -59,7 +59,8 @@ pub fn patterns<S: Alter>(
     requires rest { conn.old.in_transaction ≡ false }
     ensures mode { conn.new.in_transaction ≡ false }
     ensures finds { Finds (state S.Store conn.old) (state S.Store conn.new) result
-        (λ stored patterns. patterns.items ≡ tables.patterns_of (zone_named zone.now ((tables_of stored).zones client.now))) }
+        (λ stored patterns. patterns.items
+        ≡ tables.patterns_of (zone_named zone.now ((tables_of stored).zones client.now))) }
     ensures ascend { IfOk result (λ patterns. IsStrictlySortedBy (slice_cmp nat_cmp) patterns.items) }
 {
     let params = [id_of(client), id_of(zone)];
@@ -166,7 +167,8 @@ pub fn held_in<S: Alter>(
     ensures mode { conn.new.in_transaction ≡ false }
     ensures finds { Finds (state S.Store conn.old) (state S.Store conn.new) result
         (λ stored holds. holds.items
-        ≡ held_in (tables_of stored).content (tables.rows_of (zone_named zone.now ((tables_of stored).zones client.now))) kind) }
+        ≡ held_in (tables_of stored).content
+        (tables.rows_of (zone_named zone.now ((tables_of stored).zones client.now))) kind) }
     ensures in_key_order { IfOk result (λ holds. IsInKeyOrder holds.items) }
 {
     if !has_zone(conn, client, zone)? {

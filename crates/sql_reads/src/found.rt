@@ -42,7 +42,8 @@ fn only(rows: &[Row]) -> Result<Option<&Row>, ReadFault>
 
 /// The caller with the name in the one row.
 pub(crate) fn caller(rows: &[Row]) -> Result<Option<Caller>, ReadFault>
-    ensures caller { IfOk result (λ found. one_of (λ row. option_map caller_named (value.id_in (order.column row 0))) rows.now ≡ Some found) }
+    ensures caller { IfOk result (λ found.
+        one_of (λ row. option_map caller_named (value.id_in (order.column row 0))) rows.now ≡ Some found) }
     ensures proper { IfOk result (λ found. IfSome found IsProper) }
 {
     let Some(row) = only(rows)? else {
@@ -89,7 +90,8 @@ fn change(alloc: Global, rows: &[Row]) -> Result<Option<(u64, Vec<u8>)>, ReadFau
 
 /// The same; 0 and nothing where there is no row.
 pub(crate) fn last(alloc: Global, rows: &[Row]) -> Result<(u64, Vec<u8>), ReadFault>
-    ensures { IfOk result (λ last. option_map (λ found. unwrap_or found no_change) (one_of change_found rows.now)
+    ensures { IfOk result (λ last. option_map (λ found. unwrap_or found no_change)
+        (one_of change_found rows.now)
         ≡ Some (record { number = last.0; reply = last.1.items })) }
 {
     let change = change(alloc, rows)?;
@@ -110,7 +112,8 @@ fn list(alloc: Global, rows: &[Row]) -> Result<Option<Vec<Id>>, ReadFault>
 
 /// The same, in ascending order; no ids where there is no row.
 pub(crate) fn ascending_list(alloc: Global, rows: &[Row]) -> Result<Vec<Id>, ReadFault>
-    ensures ids { IfOk result (λ ids. option_map (λ found. unwrap_or found []) (one_of (λ row. value.ids_in (order.column row 0)) rows.now)
+    ensures ids { IfOk result (λ ids. option_map (λ found. unwrap_or found [])
+        (one_of (λ row. value.ids_in (order.column row 0)) rows.now)
         ≡ Some ids.items) }
     ensures ascend { IfOk result (λ ids. Ascend ids.items) }
 {
@@ -133,7 +136,8 @@ fn patterns(alloc: Global, rows: &[Row]) -> Result<Option<Vec<Pattern>>, ReadFau
 
 /// The same, in ascending order; no patterns where there is no row.
 pub(crate) fn ascending_patterns(alloc: Global, rows: &[Row]) -> Result<Vec<Pattern>, ReadFault>
-    ensures patterns { IfOk result (λ patterns. option_map (λ found. unwrap_or found []) (one_of (λ row. value.patterns_in (order.column row 0)) rows.now)
+    ensures patterns { IfOk result (λ patterns. option_map (λ found. unwrap_or found [])
+        (one_of (λ row. value.patterns_in (order.column row 0)) rows.now)
         ≡ Some patterns.items) }
     ensures ascend { IfOk result (λ patterns. IsStrictlySortedBy (slice_cmp nat_cmp) patterns.items) }
 {
@@ -151,9 +155,11 @@ fn patterns_ascend(patterns: &[Pattern]) -> bool
     patterns.is_sorted_by(|pattern, next| pattern.cmp(next).is_lt())
 }
 
-/// The number in the one row of a query that counts. As much as the database can count is a fault, since it may be more.
+/// The number in the one row of a query that counts. As much as the database can count is a fault, since it may be
+/// more.
 pub(crate) fn count(rows: &[Row]) -> Result<u64, ReadFault>
-    ensures count { IfOk result (λ count. one_of (λ row. value.number_in (order.column row 0)) rows.now ≡ Some (Some count)) }
+    ensures count { IfOk result (λ count.
+        one_of (λ row. value.number_in (order.column row 0)) rows.now ≡ Some (Some count)) }
     ensures below { IfOk result (λ count. count < 9223372036854775807) }
 {
     let row = only(rows)?.ok_or(ReadFault::Device)?;
@@ -202,7 +208,8 @@ fn zone_rows_ascend(rows: &[ZoneRow]) -> bool
 
 /// The ids of all rows, in ascending order.
 pub(crate) fn id_list(alloc: Global, rows: &[Row]) -> Result<Vec<Id>, ReadFault>
-    ensures ids { IfOk result (λ ids. map Some ids.items ≡ map (λ row. value.id_in (order.column row 0)) rows.now) }
+    ensures ids { IfOk result (λ ids.
+        map Some ids.items ≡ map (λ row. value.id_in (order.column row 0)) rows.now) }
     ensures ascend { IfOk result (λ ids. Ascend ids.items) }
 {
     let ids = ascending_ids(alloc, rows)?;
@@ -219,7 +226,8 @@ pub(crate) fn ascending_ids(alloc: Global, rows: &[Row]) -> Result<Ids, ReadFaul
 }
 
 fn each_id(alloc: Global, rows: &[Row]) -> Result<Vec<Id>, ReadFault>
-    ensures { IfOk result (λ ids. map Some ids.items ≡ map (λ row. value.id_in (order.column row 0)) rows.now) }
+    ensures { IfOk result (λ ids.
+        map Some ids.items ≡ map (λ row. value.id_in (order.column row 0)) rows.now) }
 {
     let mut ids = Vec::with_capacity(alloc, rows.len())?;
     for row in rows {

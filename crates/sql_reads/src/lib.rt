@@ -1,7 +1,7 @@
 //! The reads of the bureau's store in a file: one public function for each, which is lent a connection at rest.
 //!
-//! What a read tells, it tells of the rows that are committed. Rows that are out of order, or that the bureau never wrote,
-//! are a fault of the device.
+//! What a read tells, it tells of the rows that are committed. Rows that are out of order, or that the bureau never
+//! wrote, are a fault of the device.
 //!
 //! - [`caller_of`], [`last`]: callers, and the last change of each
 //! - [`zones`], [`zone_count`], [`has_zone`], [`zone`], [`zone_rows`], [`patterns`], [`received`]: what a

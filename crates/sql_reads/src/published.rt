@@ -108,7 +108,8 @@ fn conditional<S: Alter>(
 fn superseded<S: Alter>(alloc: Global, conn: &mut Connection<S>, id: &Id) -> Result<Ids, ReadFault>
     requires rest { conn.old.in_transaction ≡ false }
     ensures mode { conn.new.in_transaction ≡ false }
-    ensures finds { Finds (state S.Store conn.old) (state S.Store conn.new) result (λ stored sup. sup ≡ sup_of stored.sups id.now) }
+    ensures finds { Finds (state S.Store conn.old) (state S.Store conn.new) result
+        (λ stored sup. sup ≡ sup_of stored.sups id.now) }
 {
     let params = [id_of(id)];
     let rows = rows_of(conn, read::superseded(), &params)?;

@@ -13,8 +13,8 @@ use sql_tables::count_in;
 use sql_texts::read;
 use sqlite::{Alter, Connection, Row};
 
-/// The version of the tables, or `None` where not one row tells it. Tables of the bureau's own are of version 2; those of
-/// version 1 lack one table.
+/// The version of the tables, or `None` where not one row tells it. Tables of the bureau's own are of version 2; those
+/// of version 1 lack one table.
 ///
 /// # Errors
 ///
@@ -23,7 +23,8 @@ pub fn version<S: Alter>(conn: &mut Connection<S>) -> Result<Option<u64>, ReadFa
     requires rest { conn.old.in_transaction ≡ false }
     ensures mode { conn.new.in_transaction ≡ false }
     ensures reads { OnlyReads (state S.Store conn.old) (state S.Store conn.new) }
-    ensures is_open { IfOk result (λ version. HasCleanDisk (state S.Store conn.new) → IsTrue (state S.Store conn.new).is_open) }
+    ensures is_open { IfOk result (λ version. HasCleanDisk (state S.Store conn.new)
+        → IsTrue (state S.Store conn.new).is_open) }
     ensures version { IfOk result (λ version. HasCleanDisk (state S.Store conn.new)
         → HasVersion version (state S.Store conn.old).committed) }
     ensures ours { IfOk result (λ version. HasCleanDisk (state S.Store conn.new)

@@ -1,8 +1,8 @@
-use Rattle.std.proofs.Common.{◌≡◌, [], IfErr, IsTrue, rules, subst, sym}
+use Rattle.std.proofs.Common.{◌≡◌, [], IfErr, IsTrue, OnOk, rules, subst, sym}
 use Rattle.sqlite.specs.Held.{state}
 use Rattle.sqlite.specs.State.{HasCleanDisk}
 use Rattle.bureau_sql.specs.Opening.{IsNone, IsSeen, IsUnderstood}
-use Rattle.bureau_sql.proofs.OpenFacts.{unread}
+use Rattle.bureau_sql.proofs.OpenFacts.{means_here, unread}
 use Rattle.bureau_sql.proofs.PlainFacts.{prepare_reads}
 use Rattle.bureau_sql.proofs.open.can_read.Goals as goal
 use Rattle.bureau_sql.proofs.open.can_read.Goals.{in-Ok, in-Err}
@@ -23,4 +23,17 @@ returns-clause-cause g c =
       | in-Err w ↦
           subst (λ result. IfErr result (λ fault. HasCleanDisk new → IsSeen (IsNone (λ schema. IsUnderstood schema c.args.text.now)) (λ database. ⊥) old fault)) (sym w.result-is)
           (λ clean. unread old new c.args.text.now _ w.fault_of.result settled (w.in-Err.ensures.err clean []) w.fault_of.ensures.shape w.fault_of.ensures.other)
+    ]
+
+pub returns-clause-understood : goal.returns-clause-understood
+returns-clause-understood g c =
+    let old = state g.S.Store c.args.conn.now in
+    let new = state g.S.Store c.prepare.new.self in
+    let settled : IsTrue old.is_open → old.now ≡ old.committed =
+    search (rules, c.is_autocommit-settled.ensures.settled, c.is_autocommit-settled.ensures.value, c.requires.rest) in
+    elim c.match-prepare.branch [
+      | in-Ok w ↦
+          subst (λ result. OnOk result (HasCleanDisk new → IsUnderstood old.committed.schema c.args.text.now)) (sym w.result-is)
+          (λ clean. means_here old new c.args.text.now _ settled (w.in-Ok.ensures.ok clean).1 (w.in-Ok.ensures.shape clean))
+      | in-Err w ↦ search (rules, w.result-is)
     ]

@@ -4,7 +4,7 @@ use Rattle.sqlite.specs.Held.{state}
 use Rattle.sqlite.specs.State.{HasCleanDisk}
 use Rattle.sqlite_trees.proofs.ListLemmas.{all-get_or}
 use Rattle.bureau_sql.specs.Opening.{IsNone, IsSeen, IsUnderstood}
-use Rattle.bureau_sql.proofs.OpenFacts.{seen_before}
+use Rattle.bureau_sql.proofs.OpenFacts.{meant_so_far, reads_after, seen_before}
 use Rattle.bureau_sql.proofs.open.can_read_all.Goals as goal
 
 pub returns-in_err-can_read-clause-cause : goal.returns-in_err-can_read-clause-cause
@@ -17,3 +17,15 @@ returns-in_err-can_read-clause-cause g c =
     (λ clean none schema all. none schema (all-get_or (λ text. IsUnderstood schema text.now) c.args.texts.now c.loop-text.text-index (record { ref_ptr = (0, 0); now = [] }) all c.loop-text-test.true)) (λ clean none. none)
     c.in_err-can_read.ensures.cause in
     search (rules, cause, c.from_residual.ensures)
+
+pub loop-text-preserved : goal.loop-text-preserved
+loop-text-preserved g c =
+    let old = state g.S.Store c.args.conn.now in
+    let mid = state g.S.Store c.loop-text.conn in
+    let new = state g.S.Store c.can_read.new.conn in
+    record {
+      reads = reads_after old mid new c.loop-text.invariant.reads c.in_ok-can_read.ensures.reads;
+      mode = c.in_ok-can_read.ensures.mode;
+      understood = meant_so_far c.args.texts.now c.loop-text.text-index (record { ref_ptr = (0, 0); now = [] }) old mid new c.loop-text.invariant.reads
+          c.in_ok-can_read.ensures.reads c.loop-text-test.true c.loop-text.invariant.understood c.in_ok-can_read.ensures.understood;
+    }
