@@ -183,8 +183,7 @@ fn sources_and_their_books(rt: HostRuntime) -> Result<(), Fail> {
 #[test]
 fn the_holds_on_one_sysmod(rt: HostRuntime) -> Result<(), Fail> {
     let alloc = rt.alloc();
-    let source =
-        b"++HOLD(B) USER REASON(Z).\n++HOLD(A) ERR REASON(Z).\n++HOLD(B) ERR REASON(Z).\n\
+    let source = b"++HOLD(B) USER REASON(Z).\n++HOLD(A) ERR REASON(Z).\n++HOLD(B) ERR REASON(Z).\n\
          ++HOLD(B) ERR REASON(#).\n++HOLD(B) FIXCAT REASON(ZZZZZZZ).\n++HOLD(BA) ERR REASON(A).\n\
          ++HOLD(C) ERR REASON(A).\n";
     let book = book_by(alloc, source)?;
@@ -231,8 +230,7 @@ fn the_last_change_of_a_key_decides(rt: HostRuntime) -> Result<(), Fail> {
     for change in changes(alloc, &last)? {
         book.apply(change)?;
     }
-    let rows =
-        "UA10001  ERROR   AA20002  -        HIPER    -      -        -\n\
+    let rows = "UA10001  ERROR   AA20002  -        HIPER    -      -        -\n\
          UA10001  USER    AA20002  -        -        -      -        -";
     assert_eq!(rt;
         book.text()?,
