@@ -117,23 +117,30 @@ fn sources_and_their_books(rt: HostRuntime) -> Result<(), Fail> {
     let alloc = rt.alloc();
     let cases: [(&[u8], &str); 8] = [
         (
-            b"++HOLD(UA10001) ERR REASON(AA20002) CLASS(PE).\n++HOLD(UA10001) ERR REASON(AA20002).\n++HOLD(UA10001) ERR REASON(AA20001).\n",
-            "UA10001  ERROR   AA20001  -        -        -      -        -\nUA10001  ERROR   AA20002  -        -        -      -        -\nROWS 2\n",
+            b"++HOLD(UA10001) ERR REASON(AA20002) CLASS(PE).\n++HOLD(UA10001) ERR REASON(AA20002).\n\
+             ++HOLD(UA10001) ERR REASON(AA20001).\n",
+            "UA10001  ERROR   AA20001  -        -        -      -        -\n\
+             UA10001  ERROR   AA20002  -        -        -      -        -\nROWS 2\n",
         ),
         (
-            b"++HOLD(HBB7790) FIXCAT FMID(HBB7790) REASON(AA40001)\n RESOLVER(UA10009) COMMENT(SEE (2.1). AND /* TOO)\n CATEGORY(IBM.Device.Server,IBM.Device).\n",
+            b"++HOLD(HBB7790) FIXCAT FMID(HBB7790) REASON(AA40001)\n \
+             RESOLVER(UA10009) COMMENT(SEE (2.1). AND /* TOO)\n CATEGORY(IBM.Device.Server,IBM.Device).\n",
             "HBB7790  FIXCAT  AA40001  HBB7790  -        -      UA10009  IBM.Device,IBM.Device.Server\nROWS 1\n",
         ),
         (
-            b"++HOLD(UA10001) ERR FMID(HBB7790) REASON(AA20002) CLASS(PE).\n++RELEASE(UA10001) ERROR FMID(HXX0001) REASON(AA20002).\n++ HOLD(UA10001) ERROR FMID(HBB7790) REASON(AA20002) CLASS(HIPER).\n",
+            b"++HOLD(UA10001) ERR FMID(HBB7790) REASON(AA20002) CLASS(PE).\n\
+             ++RELEASE(UA10001) ERROR FMID(HXX0001) REASON(AA20002).\n\
+             ++ HOLD(UA10001) ERROR FMID(HBB7790) REASON(AA20002) CLASS(HIPER).\n",
             "UA10001  ERROR   AA20002  HBB7790  HIPER    -      -        -\nROWS 1\n",
         ),
         (
-            b"++HOLD(UA10001) ERR REASON(AA20002).\n++RELEASE(UA10001) ERROR REASON(AA20002) RESOLVER(x y)\n CATEGORY(A'B) DATE(1) CLASS(a).\n",
+            b"++HOLD(UA10001) ERR REASON(AA20002).\n++RELEASE(UA10001) ERROR REASON(AA20002) RESOLVER(x y)\n \
+             CATEGORY(A'B) DATE(1) CLASS(a).\n",
             "ROWS 0\n",
         ),
         (
-            b"++HOLD(UA10001) ERR REASON(AA20002).\n++RELEASE(UA10001) SYSTEM REASON(AA20002).\n++RELEASE(UA10002) ERROR REASON(AA20002).\n",
+            b"++HOLD(UA10001) ERR REASON(AA20002).\n++RELEASE(UA10001) SYSTEM REASON(AA20002).\n\
+             ++RELEASE(UA10002) ERROR REASON(AA20002).\n",
             "UA10001  ERROR   AA20002  -        -        -      -        -\nROWS 1\n",
         ),
         (
@@ -176,8 +183,9 @@ fn sources_and_their_books(rt: HostRuntime) -> Result<(), Fail> {
 #[test]
 fn the_holds_on_one_sysmod(rt: HostRuntime) -> Result<(), Fail> {
     let alloc = rt.alloc();
-    let source =
-        b"++HOLD(B) USER REASON(Z).\n++HOLD(A) ERR REASON(Z).\n++HOLD(B) ERR REASON(Z).\n++HOLD(B) ERR REASON(#).\n++HOLD(B) FIXCAT REASON(ZZZZZZZ).\n++HOLD(BA) ERR REASON(A).\n++HOLD(C) ERR REASON(A).\n";
+    let source = b"++HOLD(B) USER REASON(Z).\n++HOLD(A) ERR REASON(Z).\n++HOLD(B) ERR REASON(Z).\n\
+         ++HOLD(B) ERR REASON(#).\n++HOLD(B) FIXCAT REASON(ZZZZZZZ).\n++HOLD(BA) ERR REASON(A).\n\
+         ++HOLD(C) ERR REASON(A).\n";
     let book = book_by(alloc, source)?;
     for (sysmod, count) in [
         (b"A" as &[u8], 1),
@@ -222,8 +230,8 @@ fn the_last_change_of_a_key_decides(rt: HostRuntime) -> Result<(), Fail> {
     for change in changes(alloc, &last)? {
         book.apply(change)?;
     }
-    let rows =
-        "UA10001  ERROR   AA20002  -        HIPER    -      -        -\nUA10001  USER    AA20002  -        -        -      -        -";
+    let rows = "UA10001  ERROR   AA20002  -        HIPER    -      -        -\n\
+         UA10001  USER    AA20002  -        -        -      -        -";
     assert_eq!(rt;
         book.text()?,
         format!(in alloc; "{HEADING}{rows}\nROWS 2\n")?.into_bytes()

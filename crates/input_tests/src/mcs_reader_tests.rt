@@ -114,7 +114,8 @@ fn comments_are_passed_over(rt: HostRuntime) -> Result<(), Fail> {
 #[test]
 fn each_verb_is_read(rt: HostRuntime) -> Result<(), Fail> {
     let source: &[u8] =
-        b"++FUNCTION(A).\n++Ptf(A).\n++APAR(A).\n++usermod(A).\n++VER(Z038 Z\xFF).\n++if FMID(A).\n++HOLD(A).\n++RELEASE(A) ERROR.";
+        b"++FUNCTION(A).\n++Ptf(A).\n++APAR(A).\n++usermod(A).\n++VER(Z038 Z\xFF).\n++if FMID(A).\n\
+         ++HOLD(A).\n++RELEASE(A) ERROR.";
     let verbs = [
         Verb::Func,
         Verb::Ptf,
@@ -212,7 +213,9 @@ fn statements_come_one_at_a_time(rt: HostRuntime) -> Result<(), Fail> {
 #[test]
 fn operands_that_nobody_asks_for_are_passed_over(rt: HostRuntime) -> Result<(), Fail> {
     let source =
-        b"++HOLD(A) ERROR reason(B,(C) D) OTHER(X (REASON(Y)))\n COMMENT(FMID( . /* )) FMID.\n++HOLD(B) Q /* REASON(C) */ Reason(D)\n REASON.\n++PTF(C) REWORK(1).\n++HOLD(D) OTHER(A. REASON(B).";
+        b"++HOLD(A) ERROR reason(B,(C) D) OTHER(X (REASON(Y)))\n COMMENT(FMID( . /* )) FMID.\n\
+         ++HOLD(B) Q /* REASON(C) */ Reason(D)\n REASON.\n++PTF(C) REWORK(1).\n\
+         ++HOLD(D) OTHER(A. REASON(B).";
     let cases: [(&[&[u8]], [&str; 3]); 3] = [
         (
             &[b"REASON", b"fmid"],

@@ -1,4 +1,5 @@
 //! Heads, paths and replies, as tables.
+use crate::pieces::Pieces;
 use faults::NoMemory;
 use mcs_reader::Id;
 use requests::{
@@ -6,7 +7,7 @@ use requests::{
     read_front, read_turn, read_whole,
 };
 use std::alloc::Global;
-use std::io::{self, ErrorKind, Read};
+use std::io::ErrorKind;
 use std::test::Fail;
 use transfer::{Intake, RETRIES};
 
@@ -182,70 +183,60 @@ fn callers_numbers_and_the_connection(rt: HostRuntime) -> Result<(), Fail> {
 
 #[test]
 fn heads_of_replies_have_their_lines(rt: HostRuntime) {
-    let plain = ReplyHead {
-        status: Status::Success,
-        is_json: false,
-        length: 35,
-        allow: None,
-        closes: false,
-    };
-    assert_eq!(rt;
-        head_text(&plain).as_slice(),
-        b"HTTP/1.1 200 OK\r\ncontent-type: text/plain\r\ncontent-length: 35\r\n\r\n".as_slice()
-    );
-    let not_allowed = ReplyHead {
-        status: Status::MethodNotAllowed,
-        length: 19,
-        allow: Some(Resource::Zone),
-        closes: true,
-        is_json: false,
-    };
-    assert_eq!(rt;
-        head_text(&not_allowed).as_slice(),
-        b"HTTP/1.1 405 Method Not Allowed\r\ncontent-type: text/plain\r\ncontent-length: 19\r\nallow: DELETE, PUT\r\nconnection: close\r\n\r\n".as_slice()
-    );
-    let unknown = ReplyHead {
-        status: Status::Unauthorized,
-        is_json: true,
-        length: 14,
-        allow: None,
-        closes: false,
-    };
-    assert_eq!(rt;
-        head_text(&unknown).as_slice(),
-        b"HTTP/1.1 401 Unauthorized\r\ncontent-type: application/json\r\ncontent-length: 14\r\nwww-authenticate: Bureau\r\n\r\n".as_slice()
-    );
+    // status, whether the body is JSON, its length, what is allowed, whether the connection closes, and the lines
+    let rows: [(Status, bool, u64, Option<Resource>, bool, &[u8]); 3] = [
+        (
+            Status::Success,
+            false,
+            35,
+            None,
+            false,
+            b"HTTP/1.1 200 OK\r\ncontent-type: text/plain\r\ncontent-length: 35\r\n\r\n",
+        ),
+        (
+            Status::MethodNotAllowed,
+            false,
+            19,
+            Some(Resource::Zone),
+            true,
+            b"HTTP/1.1 405 Method Not Allowed\r\ncontent-type: text/plain\r\ncontent-length: 19\r\n\
+            allow: DELETE, PUT\r\nconnection: close\r\n\r\n",
+        ),
+        (
+            Status::Unauthorized,
+            true,
+            14,
+            None,
+            false,
+            b"HTTP/1.1 401 Unauthorized\r\ncontent-type: application/json\r\ncontent-length: 14\r\n\
+            www-authenticate: Bureau\r\n\r\n",
+        ),
+    ];
+    for (status, is_json, length, allow, closes, lines) in rows {
+        let head = ReplyHead {
+            status,
+            is_json,
+            length,
+            allow,
+            closes,
+        };
+        assert_eq!(rt; head_text(&head).as_slice(), lines, "{length}");
+    }
 }
 
 // A reader of bytes, a piece at a time, which is interrupted so often first.
-#[derive(Drop)]
-struct Pieces<'a> {
-    rest: &'a [u8],
-    piece: usize,
-    interruptions: u32,
-}
-
-impl Read for Pieces<'_> {
-    fn read(&mut self, buf: &mut [u8]) -> io::Result<usize> {
-        if self.interruptions > 0 {
-            self.interruptions -= 1;
-            return Err(io::Error::from(ErrorKind::Interrupted));
-        }
-        let count = self.piece.min(self.rest.len()).min(buf.len());
-        let (front, rest) = self.rest.split_at(count);
-        buf[..count].copy_from_slice(front);
-        self.rest = rest;
-        Ok(count)
+fn reader_of(rest: &[u8], piece: usize, failures: u32) -> Pieces<'_> {
+    Pieces {
+        rest,
+        piece,
+        failures,
+        kind: ErrorKind::Interrupted,
     }
 }
 
 // What bytes begin with that come in pieces.
 fn front_of(alloc: Global, bytes: &[u8], piece: usize) -> Result<Front, Fail> {
-    let mut reader = Pieces {
-        rest: bytes,
-        piece,
-        interruptions: 0,
-    };
+    let mut reader = reader_of(bytes, piece, 0);
     let mut retries = 0;
     Ok(read_front(&mut Intake::new(alloc), &mut reader, &mut retries)?)
 }
@@ -288,17 +279,13 @@ fn heads_end_at_their_blank_line_however_the_reads_are_cut(rt: HostRuntime) -> R
 fn bodies_are_read_by_their_length_and_no_further(rt: HostRuntime) -> Result<(), Fail> {
     let mut intake = Intake::new(rt.alloc());
     let mut retries = RETRIES;
-    let mut reader = Pieces {
-        rest: b"0123456789",
-        piece: 3,
-        interruptions: 64,
-    };
+    let mut reader = reader_of(b"0123456789", 3, 64);
     assert!(rt; read_whole(&mut intake, &mut reader, 4, &mut retries)?);
     assert_eq!(rt; intake.bytes(), b"0123".as_slice());
     assert_eq!(rt; retries, 0);
     assert!(rt; !read_whole(&mut intake, &mut reader, 11, &mut retries)?);
     assert_eq!(rt; intake.bytes(), b"0123456789".as_slice());
-    reader.interruptions = 1;
+    reader.failures = 1;
     assert!(rt; read_whole(&mut intake, &mut reader, 11, &mut retries).is_err());
     Ok(())
 }
@@ -318,11 +305,7 @@ fn a_body_of_3000000_bytes_and_a_token_of_64(rt: HostRuntime) -> Result<(), Fail
     for piece in [1_000, 65_536, 4_000_000] {
         let mut intake = Intake::new(rt.alloc());
         let mut retries = RETRIES;
-        let mut reader = Pieces {
-            rest: text.as_slice(),
-            piece,
-            interruptions: 0,
-        };
+        let mut reader = reader_of(text.as_slice(), piece, 0);
         match read_turn(&mut intake, &mut reader, &mut retries)? {
             Turn::Whole(request) => {
                 let bytes = intake.bytes();

@@ -1,34 +1,13 @@
 //! Readers and writers that give and take a piece at a time, are interrupted, or fail.
+use crate::pieces::Pieces;
 use faults::NoMemory;
 use std::alloc::Global;
-use std::io::{self, ErrorKind, Read, Write};
+use std::io::{self, ErrorKind, Write};
 use std::test::Fail;
 use transfer::{Intake, RETRIES, TransferFault, read_source, write_whole};
 
-// A reader that gives a piece at a time, or fails in one way so often before each.
-#[derive(Drop)]
-struct Pieces<'a> {
-    rest: &'a [u8],
-    piece: usize,
-    failures: u32,
-    kind: ErrorKind,
-}
-
-impl Read for Pieces<'_> {
-    fn read(&mut self, buf: &mut [u8]) -> io::Result<usize> {
-        if self.failures > 0 {
-            self.failures -= 1;
-            return Err(io::Error::from(self.kind));
-        }
-        let count = self.piece.min(self.rest.len()).min(buf.len());
-        let (front, rest) = self.rest.split_at(count);
-        buf[..count].copy_from_slice(front);
-        self.rest = rest;
-        Ok(count)
-    }
-}
-
-// A writer that takes a piece at a time while it has room. Its first writes and flushes fail in one way, so many of each.
+// A writer that takes a piece at a time while it has room. Its first writes and flushes fail in one way, so many of
+// each.
 #[derive(Drop)]
 struct Slow {
     taken: Vec<u8>,

@@ -19,6 +19,23 @@ fn row(sysmod: &[u8], state: ZoneState) -> Result<ZoneRow, Fail> {
     Ok(ZoneRow { sysmod, state })
 }
 
+// The three lists that are read.
+#[derive(Clone, Copy, Debug)]
+enum List {
+    Zone,
+    Received,
+    Patterns,
+}
+
+// How many a list has.
+fn count_of(alloc: Global, list: List, text: &[u8]) -> Result<usize, ListFault> {
+    match list {
+        List::Zone => Ok(zone_rows(alloc, text)?.len()),
+        List::Received => Ok(received_rows(alloc, text)?.len()),
+        List::Patterns => Ok(patterns(alloc, text)?.len()),
+    }
+}
+
 #[test]
 fn a_zone_lists_its_sysmods_in_order(rt: HostRuntime) -> Result<(), Fail> {
     let function = row(b"HBB7790", ZoneState::Applied)?;
@@ -53,39 +70,72 @@ fn a_zone_lists_its_sysmods_in_order(rt: HostRuntime) -> Result<(), Fail> {
 }
 
 #[test]
-fn a_zone_has_its_first_fault(rt: HostRuntime) {
-    let faulty: [(&[u8], ListFault); 14] = [
-        (b"", ListFault::Header),
-        (b"\n \n", ListFault::Header),
-        (b"sysmod,state\n", ListFault::Header),
-        (b"SYSMOD\n", ListFault::Header),
-        (b"\xEF\xBB\xBF\xEF\xBB\xBFSYSMOD,STATE\n", ListFault::Header),
+fn a_list_has_its_first_fault(rt: HostRuntime) {
+    let (zone, received, patterns) = (List::Zone, List::Received, List::Patterns);
+    let faulty: [(List, &[u8], ListFault); 22] = [
+        (zone, b"", ListFault::Header),
+        (zone, b"\n \n", ListFault::Header),
+        (zone, b"sysmod,state\n", ListFault::Header),
+        (zone, b"SYSMOD\n", ListFault::Header),
         (
+            zone,
+            b"\xEF\xBB\xBF\xEF\xBB\xBFSYSMOD,STATE\n",
+            ListFault::Header,
+        ),
+        (
+            zone,
             b"SYSMOD,STATE\nUA10001,APPLIED,X\n",
             ListFault::BadRecord(1),
         ),
-        (b"SYSMOD,STATE\nua10001\n", ListFault::BadRecord(1)),
+        (zone, b"SYSMOD,STATE\nua10001\n", ListFault::BadRecord(1)),
         (
+            zone,
             b"SYSMOD,STATE\nUA10001,APPLIED\n \t\n",
             ListFault::BadRecord(2),
         ),
-        (b"SYSMOD,STATE\n\nua10001,APPLIED\n", ListFault::BadId(1)),
-        (b"SYSMOD,STATE\nUA100012,WRONG\n", ListFault::BadId(1)),
-        (b"SYSMOD,STATE\n,APPLIED\n", ListFault::BadId(1)),
-        (b"SYSMOD,STATE\nUA10001,applied\n", ListFault::BadState(1)),
         (
+            zone,
+            b"SYSMOD,STATE\n\nua10001,APPLIED\n",
+            ListFault::BadId(1),
+        ),
+        (zone, b"SYSMOD,STATE\nUA100012,WRONG\n", ListFault::BadId(1)),
+        (zone, b"SYSMOD,STATE\n,APPLIED\n", ListFault::BadId(1)),
+        (
+            zone,
+            b"SYSMOD,STATE\nUA10001,applied\n",
+            ListFault::BadState(1),
+        ),
+        (
+            zone,
             b"SYSMOD,STATE\nUA10001,APPLIED\nUA10001,SUPERSEDED\n",
             ListFault::Repeated(2),
         ),
         (
+            zone,
             b"SYSMOD,STATE\nA,APPLIED\nB,ACCEPTED\nA,APPLIED\nB,APPLIED\nc,APPLIED\n",
             ListFault::Repeated(4),
         ),
+        (received, b"SYSMOD,STATE\n", ListFault::Header),
+        (
+            received,
+            b"SYSMOD\nUA10001\nUA10002,\n",
+            ListFault::BadRecord(2),
+        ),
+        (received, b"SYSMOD\nUA 1\n", ListFault::BadId(1)),
+        (patterns, b"category\n", ListFault::Header),
+        (patterns, b"CATEGORY\nA,B\n", ListFault::BadRecord(1)),
+        (
+            patterns,
+            b"CATEGORY\nA\nIBM.*.X\n",
+            ListFault::BadPattern(2),
+        ),
+        (patterns, b"CATEGORY\nA'B\n", ListFault::BadPattern(1)),
+        (patterns, b"CATEGORY\n\"\"\n", ListFault::BadPattern(1)),
     ];
-    for (text, fault) in faulty {
+    for (list, text, fault) in faulty {
         assert!(rt;
-            zone_rows(rt.alloc(), text) == Err(fault),
-            "{text:?} {fault}"
+            count_of(rt.alloc(), list, text) == Err(fault),
+            "{list:?} {text:?} {fault}"
         );
     }
 }
@@ -96,17 +146,6 @@ fn received_sysmods_ascend(rt: HostRuntime) -> Result<(), Fail> {
     let second = Id::new(b"UA10002").ok_or("an id")?;
     let text = b"SYSMOD\nUA10002\nUA10001\nUA10002\n";
     assert!(rt; received_rows(rt.alloc(), text)?.as_slice() == [first, second].as_slice());
-    let faulty: [(&[u8], ListFault); 3] = [
-        (b"SYSMOD,STATE\n", ListFault::Header),
-        (b"SYSMOD\nUA10001\nUA10002,\n", ListFault::BadRecord(2)),
-        (b"SYSMOD\nUA 1\n", ListFault::BadId(1)),
-    ];
-    for (text, fault) in faulty {
-        assert!(rt;
-            received_rows(rt.alloc(), text) == Err(fault),
-            "{text:?} {fault}"
-        );
-    }
     Ok(())
 }
 
@@ -119,41 +158,27 @@ fn patterns_ascend_by_their_bytes(rt: HostRuntime) -> Result<(), Fail> {
     for (pattern, text) in found.iter().zip(texts) {
         assert!(rt; pattern.text() == text, "{text:?}");
     }
-    let faulty: [(&[u8], ListFault); 5] = [
-        (b"category\n", ListFault::Header),
-        (b"CATEGORY\nA,B\n", ListFault::BadRecord(1)),
-        (b"CATEGORY\nA\nIBM.*.X\n", ListFault::BadPattern(2)),
-        (b"CATEGORY\nA'B\n", ListFault::BadPattern(1)),
-        (b"CATEGORY\n\"\"\n", ListFault::BadPattern(1)),
-    ];
-    for (text, fault) in faulty {
-        assert!(rt;
-            patterns(rt.alloc(), text) == Err(fault),
-            "{text:?} {fault}"
-        );
-    }
     Ok(())
 }
 
 #[test]
 fn lists_are_long_up_to_their_limits(rt: HostRuntime) -> Result<(), Fail> {
-    let zone = b"SYSMOD,STATE\n";
-    let text = repeated(rt.alloc(), zone, b"UA10001,APPLIED\n", 40_000)?;
-    assert_eq!(rt; zone_rows(rt.alloc(), &text)?.len(), 1);
-    let text = repeated(rt.alloc(), zone, b"UA10001,APPLIED\n", 40_001)?;
-    assert!(rt; zone_rows(rt.alloc(), &text) == Err(ListFault::TooMany));
-
-    let received = b"SYSMOD\n";
-    let text = repeated(rt.alloc(), received, b"UA10001\n", 20_000)?;
-    assert_eq!(rt; received_rows(rt.alloc(), &text)?.len(), 1);
-    let text = repeated(rt.alloc(), received, b"UA10001\n", 20_001)?;
-    assert!(rt; received_rows(rt.alloc(), &text) == Err(ListFault::TooMany));
-
-    let categories = b"CATEGORY\n";
-    let text = repeated(rt.alloc(), categories, b"IBM.Device.*\n", 64)?;
-    assert_eq!(rt; patterns(rt.alloc(), &text)?.len(), 1);
-    let text = repeated(rt.alloc(), categories, b"IBM.Device.*\n", 65)?;
-    assert!(rt; patterns(rt.alloc(), &text) == Err(ListFault::TooMany));
+    // header, record, and how many there are at the most
+    let rows: [(List, &[u8], &[u8], u32); 3] = [
+        (List::Zone, b"SYSMOD,STATE\n", b"UA10001,APPLIED\n", 40_000),
+        (List::Received, b"SYSMOD\n", b"UA10001\n", 20_000),
+        (List::Patterns, b"CATEGORY\n", b"IBM.Device.*\n", 64),
+    ];
+    for (list, header, record, most) in rows {
+        let mut text = repeated(rt.alloc(), header, record, most)?;
+        assert_eq!(rt; count_of(rt.alloc(), list, &text), Ok(1), "{list:?}");
+        text.extend_from_slice(record)?;
+        assert_eq!(rt;
+            count_of(rt.alloc(), list, &text),
+            Err(ListFault::TooMany),
+            "{list:?}"
+        );
+    }
     Ok(())
 }
 
