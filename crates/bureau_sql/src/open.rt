@@ -91,7 +91,8 @@ fn can_read_all<S: Alter>(conn: &mut Connection<S>, texts: &[&str]) -> Result<()
     ensures mode { conn.new.in_transaction ≡ false }
     ensures understood { OnOk result (HasCleanDisk (state S.Store conn.new)
         → IsTrue (state S.Store conn.new).is_open
-        → AllByRecursion (λ text. IsUnderstood (state S.Store conn.old).committed.schema text.now) texts.now) }
+        → AllByRecursion
+        (λ text. IsUnderstood (state S.Store conn.old).committed.schema text.now) texts.now) }
     ensures cause { IfErr result (λ fault. HasCleanDisk (state S.Store conn.new)
         → IsSeen (IsNone (λ schema. AllByRecursion (λ text. IsUnderstood schema text.now) texts.now))
         (λ database. ⊥)

@@ -140,7 +140,8 @@ impl ListStore {
 
     fn rows_at(&self, client: &Id, zone: &Id) -> Result<Option<Vec<ZoneRow>>, NoMemory>
         ensures rows { IfOk result (λ found. option_map (λ rows. rows.items) found
-            ≡ option_map (λ table. table.rows) (zone_named zone.now (client_in self.now.clients client.now).zones)) }
+            ≡ option_map (λ table. table.rows)
+            (zone_named zone.now (client_in self.now.clients client.now).zones)) }
         ensures ascend { IfOk result (λ found. IfSome found (λ rows. RowsAscend rows.items)) }
     {
         match self.zone_at(client, zone) {
@@ -273,7 +274,8 @@ impl Store for ListStore {
     fn zone(&mut self, client: &Id, zone: &Id) -> Result<Option<Vec<ZoneRow>>, StoreFault>
         ensures same { self.new ≡ self.old }
         ensures zone { IfOk result (λ found. option_map (λ rows. rows.items) found
-            ≡ option_map (λ table. table.rows) (zone_named zone.now ((tables_of self.old).zones client.now))) }
+            ≡ option_map (λ table. table.rows)
+            (zone_named zone.now ((tables_of self.old).zones client.now))) }
         ensures ascend { IfOk result (λ found. IfSome found (λ rows. RowsAscend rows.items)) }
         ensures memory { IfErr result (λ fault. fault ≡ Memory) }
     {

@@ -48,7 +48,8 @@ fn list_superseder(alloc: Global, index: &mut Index, sysmod: &Sysmod) -> Result<
 // Lists an id after those that stand under another.
 fn list_under(alloc: Global, index: &mut Index, under: Id, id: Id) -> Result<(), NoMemory>
     ensures { OnOk result ((q : List ℕ) → listed (get id_cmp index.new q)
-        ≡ (if same_id under q then listed (get id_cmp index.old q) ++ id ∷ [] else listed (get id_cmp index.old q))) }
+        ≡ (if same_id under q then listed (get id_cmp index.old q) ++ id ∷ []
+        else listed (get id_cmp index.old q))) }
 {
     if let Some(ids) = index.get_mut(&under) {
         ids.push(id)?;

@@ -206,7 +206,8 @@ fn closed(
     after: Vec<Change>,
 ) -> Result<Vec<Change>, NoMemory>
     ensures { IfOk result (λ changes. changes.items
-        ≡ changes_in (record { before = before.items; open_record = record_opened header; after = after.items })) }
+        ≡ changes_in
+        (record { before = before.items; open_record = record_opened header; after = after.items })) }
 {
     let mut changes = before;
     let mut after = after;

@@ -26,7 +26,8 @@ fn turn(frames: &mut Frames, ids: &[Id], ascending: bool)
     requires { ascending ≡ true → Ascend ids.now }
     ensures cap { frames.new.cap ≡ frames.old.cap }
     ensures entries { (others : List (List ℕ × FrameLists)) (last : List ℕ × FrameLists)
-        → frames.old.entries ≡ others ++ last ∷ [] → frames.new.entries ≡ untouched ids.now (last ∷ []) ++ others }
+        → frames.old.entries ≡ others ++ last ∷ []
+        → frames.new.entries ≡ untouched ids.now (last ∷ []) ++ others }
 {
     if is_last_touched(frames, ids, ascending) {
         drop(frames.pop_lru());

@@ -143,7 +143,8 @@ fn found_among(
     requires marks { length candidates.now ≡ length climb.now.ids.items }
     ensures { IfOk result (λ found. (content : Content) (rows : List ZoneRow)
         → IsFound content rows asked.now climb.now.ids.items climb.now.above there.now candidates.now
-        → map (option_map (λ ids. ids.items)) found.items ≡ map (candidates_unless_there content rows) asked.now) }
+        → map (option_map (λ ids. ids.items)) found.items
+        ≡ map (candidates_unless_there content rows) asked.now) }
 {
     let given = least_sources(alloc, &climb.below, candidates)?;
     let above = rows_with_source(alloc, &climb.above, &given)?;

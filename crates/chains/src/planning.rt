@@ -32,7 +32,8 @@ use supersede::Zone;
 pub fn plan(alloc: Global, frame: &Frame, zone: &Zone, id: &Id) -> Result<Verdict, NoMemory>
     ensures verdict { IfOk result (λ verdict. (content : Content) (start : List ℕ)
         → IsFrame content start frame.now
-        → Contains (ids_in frame.now.nodes) id.now → judge.judged_by verdict ≡ verdict_of content zone.now id.now) }
+        → Contains (ids_in frame.now.nodes) id.now
+        → judge.judged_by verdict ≡ verdict_of content zone.now id.now) }
 {
     let Some(place) = place_of(frame.ids(), id) else {
         return Ok(Verdict::Lack);

@@ -127,7 +127,8 @@ fn errors_answered(
 ) -> Result<Vec<ErrorFound>, NoMemory>
     requires { Ascend reasons.now }
     ensures { IfOk result (λ found. (content : Content) (rows : List ZoneRow)
-        → map (option_map (λ ids. ids.items)) answers.now ≡ map (candidates_unless_there content rows) reasons.now
+        → map (option_map (λ ids. ids.items)) answers.now
+        ≡ map (candidates_unless_there content rows) reasons.now
         → reasons.now ≡ in_order (map (λ one. one.reason) held.now)
         → found.items ≡ errors_found content rows held.now) }
 {

@@ -170,8 +170,10 @@ fn rows_answered(
 ) -> Result<Vec<MissingRow>, NoMemory>
     requires { Ascend asked.now }
     ensures { IfOk result (λ found. (content : Content) (rows : List ZoneRow)
-        → map (option_map (λ ids. ids.items)) answers.now ≡ map (candidates_unless_there content rows) asked.now
-        → asked.now ≡ in_order (flat_map named_by held.now) → found.items ≡ rows_found content rows held.now) }
+        → map (option_map (λ ids. ids.items)) answers.now
+        ≡ map (candidates_unless_there content rows) asked.now
+        → asked.now ≡ in_order (flat_map named_by held.now)
+        → found.items ≡ rows_found content rows held.now) }
 {
     let mut rows = Vec::new(alloc);
     let other = None;
@@ -193,7 +195,8 @@ fn unless_resolver_there(
 ) -> Result<Option<Vec<Id>>, NoMemory>
     requires { Ascend asked.now }
     ensures { IfOk result (λ found. (content : Content) (rows : List ZoneRow)
-        → map (option_map (λ ids. ids.items)) answers.now ≡ map (candidates_unless_there content rows) asked.now
+        → map (option_map (λ ids. ids.items)) answers.now
+        ≡ map (candidates_unless_there content rows) asked.now
         → IfSome resolver.now (λ resolver. has asked.now resolver ≡ true)
         → option_map (λ ids. ids.items) found ≡ unless_resolver_there content rows resolver.now) }
 {
@@ -226,7 +229,8 @@ fn both_of(
     by_resolver: &Option<Vec<Id>>,
 ) -> Result<Option<Vec<Id>>, NoMemory>
     ensures { IfOk result (λ all. option_map (λ ids. ids.items) all
-        ≡ both_of (option_map (λ ids. ids.items) by_reason.now) (option_map (λ ids. ids.items) by_resolver.now)) }
+        ≡ both_of (option_map (λ ids. ids.items) by_reason.now)
+        (option_map (λ ids. ids.items) by_resolver.now)) }
 {
     match (by_reason, by_resolver) {
         (Some(by_reason), Some(by_resolver)) => Ok(Some(joined(alloc, by_reason, by_resolver)?)),

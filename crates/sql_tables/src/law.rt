@@ -74,7 +74,8 @@ pub fn zone_rows()
 #[tactic(auto, using(crate::proofs::ClientFacts::zone_found))]
 pub fn zone()
     ensures { (stored : Stored) (client zone : List ℕ) → zone_named zone (zones_of stored client)
-        ≡ (if list_any (is_of_both client zone) stored.heads then Some (zone_of stored client zone) else None) }
+        ≡ (if list_any (is_of_both client zone) stored.heads then Some (zone_of stored client zone)
+        else None) }
 {}
 
 /// A read of holds in the order of their keys finds what the book has of them, where it finds just the holds
@@ -98,7 +99,8 @@ pub fn no_caller()
 /// A token that one row of a caller has is that caller's.
 pub fn caller()
     ensures { (rows : List Row) (token : List ℕ) (row : Row) (name : List ℕ)
-        → filter (has_token token) rows ≡ row ∷ [] → has_token token row ≡ true → id_in (column row 0) ≡ Some name
+        → filter (has_token token) rows ≡ row ∷ [] → has_token token row ≡ true
+        → id_in (column row 0) ≡ Some name
         → caller_with (filter_map caller_found rows) token ≡ Some (caller_named name) }
 {}
 
@@ -127,15 +129,18 @@ pub fn superseded()
 /// A read in order finds what an id requires under a condition.
 pub fn conditional()
     ensures { (conds : List Row) (id : List ℕ) (found : List SomeCondNeed) → CondsAscend found
-        → IsPermutation (filter_map (λ row. cond_found (shown (1 ∷ 2 ∷ []) row)) (filter (is_of id) conds)) found
+        → IsPermutation
+        (filter_map (λ row. cond_found (shown (1 ∷ 2 ∷ []) row)) (filter (is_of id) conds)) found
         → found ≡ conds_of conds id }
 {}
 
 /// A read in order of just the ids of the records finds the ids that are catalogued.
 pub fn ids()
     ensures { (stored : Stored) (found : List (List ℕ)) → Ascend found
-        → ((id : List ℕ) → Contains (ids_in (sysmods_of (beside_of stored) stored.sysmods)) id → Contains found id)
-        → ((id : List ℕ) → Contains found id → Contains (ids_in (sysmods_of (beside_of stored) stored.sysmods)) id)
+        → ((id : List ℕ) → Contains (ids_in (sysmods_of (beside_of stored) stored.sysmods)) id
+        → Contains found id)
+        → ((id : List ℕ) → Contains found id
+        → Contains (ids_in (sysmods_of (beside_of stored) stored.sysmods)) id)
         → found ≡ ids_of (content_of stored) }
 {}
 

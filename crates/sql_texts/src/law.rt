@@ -34,5 +34,6 @@ pub fn text()
 pub fn join()
     ensures { (left right : ℕ) (tests project order : List Term) (db : Trees) (params : Row) (rows : List Row)
         → IsAnswer (query_of (inner left (inner right end)) tests project order) db params rows
-        → IsPermutation (flat_map (λ first. pairs_shown params tests project first (db right)) (db left)) rows }
+        → IsPermutation
+        (flat_map (λ first. pairs_shown params tests project first (db right)) (db left)) rows }
 {}

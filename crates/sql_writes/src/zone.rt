@@ -26,7 +26,8 @@ fn has_head<S: Alter>(tx: &mut Transaction<'_, S>, client: &Id, zone: &Id) -> Re
         (λ stored. stored) }
     ensures found { IfOk result (λ found. HasCleanDisk (state S.Store tx.new.conn.now)
         → IsKnown (state S.Store tx.old.conn.now).now
-        → list_any (is_of_both client.now zone.now) (held_by (state S.Store tx.old.conn.now).now).heads ≡ found) }
+        → list_any (is_of_both client.now zone.now)
+        (held_by (state S.Store tx.old.conn.now).now).heads ≡ found) }
 {
     let rows = tx.query_all(read::patterns(), &[id_of(client), id_of(zone)])?;
     let found = rows.as_slice();
