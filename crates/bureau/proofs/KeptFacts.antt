@@ -53,9 +53,6 @@ module _ {Desk : Type 0} (view : View Desk Tables) where
     leaves = λ left h. h;
   }
 
-  pub none_kept : (old new : Desk) (this : Tables) → Idles view old new this → IsKeptRun view old new this [] this
-  none_kept old new this idles = (refl, idles)
-
   pub one_kept : (old new : Desk) (this : Tables) (turn : Turn) (next : Tables) → IsKeptStep view old new this turn next
       → IsKeptRun view old new this (turn ∷ []) next
   one_kept old new this turn next one = (new, next, one, (refl, idle new next one.stands))

@@ -28,7 +28,8 @@ const ZONE_COLUMNS: [Column; 2] = [
 
 /// How much is published: so many SYSMODs and so many holds.
 pub(crate) fn counts_line(alloc: Global, sysmods: u64, holds: u64) -> Result<Vec<u8>, NoMemory>
-    ensures { IfOk result (λ text. text.items ≡ codes "PUBLISHED SYSMODS " ++ decimal sysmods ++ codes " HOLDS " ++ decimal holds ++ codes "\n") }
+    ensures { IfOk result (λ text. text.items ≡
+        codes "PUBLISHED SYSMODS " ++ decimal sysmods ++ codes " HOLDS " ++ decimal holds ++ codes "\n") }
 {
     let mut text = Vec::new(alloc);
     text.extend_from_slice(b"PUBLISHED SYSMODS ")?;
@@ -58,7 +59,7 @@ pub(crate) fn publication_line(alloc: Global, changes: &[Change]) -> Result<Vec<
 pub(crate) fn zone_put_line(alloc: Global, zone: &Id, rows: &[ZoneRow]) -> Result<Vec<u8>, NoMemory>
     ensures { IfOk result (λ text. text.items ≡ zone_put_text zone.now rows.now) }
 {
-    let mut text = zone_begun(alloc, zone)?;
+    let mut text = zone_start(alloc, zone)?;
     text.extend_from_slice(b" ROWS ")?;
     push_number(&mut text, rows.len() as u64)?;
     text.extend_from_slice(b"\n")?;
@@ -69,7 +70,7 @@ pub(crate) fn zone_put_line(alloc: Global, zone: &Id, rows: &[ZoneRow]) -> Resul
 pub(crate) fn zone_dropped_line(alloc: Global, zone: &Id) -> Result<Vec<u8>, NoMemory>
     ensures { IfOk result (λ text. text.items ≡ zone_dropped_text zone.now) }
 {
-    let mut text = zone_begun(alloc, zone)?;
+    let mut text = zone_start(alloc, zone)?;
     text.extend_from_slice(b" DROPPED\n")?;
     Ok(text)
 }
@@ -82,7 +83,7 @@ pub(crate) fn patterns_line(
 ) -> Result<Vec<u8>, NoMemory>
     ensures { IfOk result (λ text. text.items ≡ patterns_text zone.now patterns.now) }
 {
-    let mut text = zone_begun(alloc, zone)?;
+    let mut text = zone_start(alloc, zone)?;
     text.extend_from_slice(b" PATTERNS ")?;
     push_number(&mut text, patterns.len() as u64)?;
     text.extend_from_slice(b"\n")?;
@@ -112,7 +113,7 @@ pub(crate) fn zones_table(alloc: Global, zones: &[(Id, u64)]) -> Result<Vec<u8>,
 }
 
 // The beginning of what is told of a zone.
-fn zone_begun(alloc: Global, zone: &Id) -> Result<Vec<u8>, NoMemory>
+fn zone_start(alloc: Global, zone: &Id) -> Result<Vec<u8>, NoMemory>
     ensures { IfOk result (λ text. text.items ≡ codes "ZONE " ++ text_of zone.now) }
 {
     let mut text = Vec::new(alloc);
