@@ -14,7 +14,7 @@ ghost use Rattle.bureau_store.specs.declared.caller.Caller.{Caller};
 pub fn isolation()
     ensures alone { (opening closing : Tables) (turns : List Turn) (viewer : Caller) →
         AreInOrder opening → IsRun opening turns closing → IsAlone viewer (opening_of viewer opening) turns }
-    ensures alike { (opening closing opening2 closing2 : Tables) →
+    ensures alike { (opening closing opening2 closing2 : Tables)
         (turns turns2 : List Turn) (viewer : Caller) →
         AreInOrder opening → AreInOrder opening2 → IsRun opening turns closing → IsRun opening2 turns2 closing2 →
         opening_of viewer opening ≡ opening_of viewer opening2 → AreAnsweredAlike viewer turns turns2 }
