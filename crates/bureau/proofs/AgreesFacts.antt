@@ -185,19 +185,19 @@ module _ (viewer : Caller) (opening : Opening) (history : List Asked) (now : Tab
       neither false = refl
 
   -- what comes of the call
-  abbrev come : Outcome
-  come = outcome (view_of turn.caller now) turn.call
+  abbrev found : Outcome
+  found = outcome (view_of turn.caller now) turn.call
 
-  is_proper : IsProper (view_of turn.caller now).zones turn.caller come
+  is_proper : IsProper (view_of turn.caller now).zones turn.caller found
   is_proper = proper (view_of turn.caller now) turn.call turn.caller (view_caller turn.caller now)
 
   told : (o : Outcome) → IsProper (view_of turn.caller now).zones turn.caller o → ((answer_of o).status == 503) ≡ false
   told (answered answer) h = h
   told (accepted effect text) h = refl
 
-  with_room : turn.answer ≡ answer_of come → with_turn viewer turn history ≡ (if (is_caller turn.caller Publisher || is_caller turn.caller viewer) then asked_in turn ∷ history else history)
+  with_room : turn.answer ≡ answer_of found → with_turn viewer turn history ≡ (if (is_caller turn.caller Publisher || is_caller turn.caller viewer) then asked_in turn ∷ history else history)
   with_room is =
-      ap (λ (b : Bool). if (is_caller turn.caller Publisher || is_caller turn.caller viewer) && not b then asked_in turn ∷ history else history) (ap (λ (answer : Answer). answer.status == 503) is ∙ told come is_proper)
+      ap (λ (b : Bool). if (is_caller turn.caller Publisher || is_caller turn.caller viewer) && not b then asked_in turn ∷ history else history) (ap (λ (answer : Answer). answer.status == 503) is ∙ told found is_proper)
       ∙ both (is_caller turn.caller Publisher || is_caller turn.caller viewer)
     where
       both : (b : Bool) → (if b && true then asked_in turn ∷ history else history) ≡ (if b then asked_in turn ∷ history else history)
@@ -205,19 +205,19 @@ module _ (viewer : Caller) (opening : Opening) (history : List Asked) (now : Tab
       both false = refl
 
   own_turn : IsOwn viewer turn.caller → Agrees viewer opening (accepted_in opening history) now
-      → Agrees viewer opening (accepted_in opening (asked_in turn ∷ history)) (tables_left turn.caller come now)
+      → Agrees viewer opening (accepted_in opening (asked_in turn ∷ history)) (tables_left turn.caller found now)
   own_turn is agrees =
-      subst (λ o. Agrees viewer opening (change_of turn.caller o ++ accepted_in opening history) (tables_left turn.caller come now))
+      subst (λ o. Agrees viewer opening (change_of turn.caller o ++ accepted_in opening history) (tables_left turn.caller found now))
       (ap (λ view. outcome view turn.call) (sym (view_agrees viewer opening (accepted_in opening history) now turn.caller agrees is)))
-      (by come is_proper)
+      (by found is_proper)
     where
       by : (o : Outcome) → IsProper (view_of turn.caller now).zones turn.caller o → Agrees viewer opening (change_of turn.caller o ++ accepted_in opening history) (tables_left turn.caller o now)
       by (answered answer) h = agrees
       by (accepted effect text) h = by_own viewer opening (accepted_in opening history) now effect text turn.caller is agrees h
 
   other_turn : (client : List ℕ) → turn.caller ≡ Client client → is_caller (Client client) viewer ≡ false → Agrees viewer opening (accepted_in opening history) now
-      → Agrees viewer opening (accepted_in opening history) (tables_left turn.caller come now)
-  other_turn client is apart agrees = by come is_proper
+      → Agrees viewer opening (accepted_in opening history) (tables_left turn.caller found now)
+  other_turn client is apart agrees = by found is_proper
     where
       by : (o : Outcome) → IsProper (view_of turn.caller now).zones turn.caller o → Agrees viewer opening (accepted_in opening history) (tables_left turn.caller o now)
       by (answered answer) h = agrees
@@ -234,7 +234,7 @@ module _ (viewer : Caller) (opening : Opening) (history : List Asked) (now : Tab
       (subst (λ tables. Agrees viewer opening (accepted_in opening (if (is_caller turn.caller Publisher || is_caller turn.caller viewer) then asked_in turn ∷ history else history)) tables) (sym taken.1)
       (by (is_caller turn.caller Publisher || is_caller turn.caller viewer) refl))
     where
-      by : (b : Bool) → (is_caller turn.caller Publisher || is_caller turn.caller viewer) ≡ b → Agrees viewer opening (accepted_in opening (if b then asked_in turn ∷ history else history)) (tables_left turn.caller come now)
+      by : (b : Bool) → (is_caller turn.caller Publisher || is_caller turn.caller viewer) ≡ b → Agrees viewer opening (accepted_in opening (if b then asked_in turn ∷ history else history)) (tables_left turn.caller found now)
       by true is = own_turn (who viewer turn.caller true is) agrees
       by false is = other_turn (who viewer turn.caller false is).0 (who viewer turn.caller false is).1 (who viewer turn.caller false is).2 agrees
 

@@ -14,76 +14,76 @@ use Rattle.zone_lists.specs.declared.fault.ListFault.{ListFault}
 use Rattle.zone_lists.specs.declared.fault.ListFault.TheVariants as list
 use Rattle.bureau.specs.Bodies.{list_said}
 use Rattle.bureau.specs.Call.{Call}
-use Rattle.bureau.specs.Come.{IsAskedBy, IsComing, IsInTurn, effect_of, maker_of}
+use Rattle.bureau.specs.Outcomes.{Suits, IsOutcome, IsInTurn, effect_as, maker_of}
 use Rattle.bureau.specs.Faults.{IsTold}
 use Rattle.bureau.specs.Outcome.{Outcome, answered, accepted, has_room, in_turn, not_found, of_zone, outcome, plain, said}
 use Rattle.bureau.specs.Replies.{reply_as}
 use Rattle.bureau.specs.View.{view_of}
-use Rattle.bureau.specs.declared.come.Come.TheVariants.{Answered, Accepted}
-use Rattle.bureau.specs.declared.come.Due.{Due}
+use Rattle.bureau.specs.declared.outcome.Outcome.TheVariants.{Answered, Accepted}
+use Rattle.bureau.specs.declared.outcome.AcceptedChange.{AcceptedChange}
 use Rattle.bureau.specs.declared.reply.Reply.{Reply}
 
 module _ {Source : Type 0} {view : View Source Tables} where
   -- a change out of turn is answered by its number alone
-  pub out_of_turn : {a b : Source} (caller : Caller) (call : Call) (number : Option ℕ) (turn : Result ℕ Reply) (reply : Reply) (come : Tables → Outcome)
-      → ((this : Tables) → outcome (view_of caller this) call ≡ in_turn (this.last caller) number (come this))
+  pub out_of_turn : {a b : Source} (caller : Caller) (call : Call) (number : Option ℕ) (turn : Result ℕ Reply) (reply : Reply) (decided : Tables → Outcome)
+      → ((this : Tables) → outcome (view_of caller this) call ≡ in_turn (this.last caller) number (decided this))
       → Tells view a b (λ this. IsInTurn (this.last caller) number turn) → turn ≡ Err reply
-      → Tells view a b (λ this. IsComing caller call this (Answered reply))
-  out_of_turn caller call number turn reply come comes tells is = record {
+      → Tells view a b (λ this. IsOutcome caller call this (Answered reply))
+  out_of_turn caller call number turn reply decided comes tells is = record {
     told = λ ours clean this stands.
         let late : IsInTurn (this.last caller) number (Err reply) = subst (IsInTurn (this.last caller) number) is (tells.told ours clean this stands) in
-        (sym (comes this ∙ late (come this)), tt);
+        (sym (comes this ∙ late (decided this)), tt);
   }
 
   -- a change in turn is answered
-  pub answered_in_turn : {a b : Source} (caller : Caller) (call : Call) (number : Option ℕ) (turn : Result ℕ Reply) (next : ℕ) (reply : Reply) (come : Tables → Outcome)
-      → ((this : Tables) → outcome (view_of caller this) call ≡ in_turn (this.last caller) number (come this))
+  pub answered_in_turn : {a b : Source} (caller : Caller) (call : Call) (number : Option ℕ) (turn : Result ℕ Reply) (next : ℕ) (reply : Reply) (decided : Tables → Outcome)
+      → ((this : Tables) → outcome (view_of caller this) call ≡ in_turn (this.last caller) number (decided this))
       → Tells view a b (λ this. IsInTurn (this.last caller) number turn) → turn ≡ Ok next
-      → Tells view a b (λ this. come this ≡ answered (reply_as reply))
-      → Tells view a b (λ this. IsComing caller call this (Answered reply))
-  answered_in_turn caller call number turn next reply come comes tells is answers = record {
+      → Tells view a b (λ this. decided this ≡ answered (reply_as reply))
+      → Tells view a b (λ this. IsOutcome caller call this (Answered reply))
+  answered_in_turn caller call number turn next reply decided comes tells is answers = record {
     told = λ ours clean this stands.
         let timely : IsInTurn (this.last caller) number (Ok next) = subst (IsInTurn (this.last caller) number) is (tells.told ours clean this stands) in
-        (sym (comes this ∙ timely.1 (come this) ∙ answers.told ours clean this stands), tt);
+        (sym (comes this ∙ timely.1 (decided this) ∙ answers.told ours clean this stands), tt);
   }
 
   -- a change in turn is accepted
-  pub accepted_in_turn : {a b : Source} (caller : Caller) (call : Call) (number : Option ℕ) (turn : Result ℕ Reply) (due : Due) (come : Tables → Outcome)
-      → ((this : Tables) → outcome (view_of caller this) call ≡ in_turn (this.last caller) number (come this))
-      → Tells view a b (λ this. IsInTurn (this.last caller) number turn) → turn ≡ Ok due.number → maker_of due.deed ≡ caller
-      → Tells view a b (λ this. (come this ≡ accepted (effect_of due.deed) due.text.items) × IsAskedBy due.deed this)
-      → Tells view a b (λ this. IsComing caller call this (Accepted due))
-  accepted_in_turn caller call number turn due come comes tells is maker asked = record {
+  pub accepted_in_turn : {a b : Source} (caller : Caller) (call : Call) (number : Option ℕ) (turn : Result ℕ Reply) (change : AcceptedChange) (decided : Tables → Outcome)
+      → ((this : Tables) → outcome (view_of caller this) call ≡ in_turn (this.last caller) number (decided this))
+      → Tells view a b (λ this. IsInTurn (this.last caller) number turn) → turn ≡ Ok change.number → maker_of change.effect ≡ caller
+      → Tells view a b (λ this. (decided this ≡ accepted (effect_as change.effect) change.reply.items) × Suits change.effect this)
+      → Tells view a b (λ this. IsOutcome caller call this (Accepted change))
+  accepted_in_turn caller call number turn change decided comes tells is maker asked = record {
     told = λ ours clean this stands.
-        let timely : IsInTurn (this.last caller) number (Ok due.number) = subst (IsInTurn (this.last caller) number) is (tells.told ours clean this stands) in
+        let timely : IsInTurn (this.last caller) number (Ok change.number) = subst (IsInTurn (this.last caller) number) is (tells.told ours clean this stands) in
         let both = asked.told ours clean this stands in
-        (sym (comes this ∙ timely.1 (come this) ∙ both.0), (timely.0, maker, both.1));
+        (sym (comes this ∙ timely.1 (decided this) ∙ both.0), (timely.0, maker, both.1));
   }
 
 -- what asks for a zone that isn't there
-pub zone_missing : (found : Option ZoneTable) (come : ZoneTable → Outcome) → is_some found ≡ false → of_zone found come ≡ answered not_found
-zone_missing None come missing = refl
-zone_missing (Some table) come missing = absurd (cc)
+pub zone_missing : (found : Option ZoneTable) (answer : ZoneTable → Outcome) → is_some found ≡ false → of_zone found answer ≡ answered not_found
+zone_missing None answer missing = refl
+zone_missing (Some table) answer missing = absurd (cc)
 
 -- what asks for a zone that is there, and for nothing of it
-pub zone_there : (found : Option ZoneTable) (come : Outcome) → is_some found ≡ true → of_zone found (λ table. come) ≡ come
-zone_there (Some table) come there = refl
-zone_there None come there = absurd (cc)
+pub zone_there : (found : Option ZoneTable) (answer : Outcome) → is_some found ≡ true → of_zone found (λ table. answer) ≡ answer
+zone_there (Some table) answer there = refl
+zone_there None answer there = absurd (cc)
 
 -- what is said of a body, and what is refused
-pub said_so : {A : Type 0} (says : Result A (List ℕ)) (come : A → Outcome) (what : A) → says ≡ Ok what → said says come ≡ come what
-said_so {A = A} says come what is = ap (λ (result : Result A (List ℕ)). said result come) is
+pub said_so : {A : Type 0} (says : Result A (List ℕ)) (answer : A → Outcome) (what : A) → says ≡ Ok what → said says answer ≡ answer what
+said_so {A = A} says answer what is = ap (λ (result : Result A (List ℕ)). said result answer) is
 
-pub said_not : {A : Type 0} (says : Result A (List ℕ)) (come : A → Outcome) (fault : AnyFault) (reply : Reply) → IsTold says fault → fault.cause ≡ Input
-    → reply_as reply ≡ plain 422 (text_of fault.number fault.place) → said says come ≡ answered (reply_as reply)
-said_not {A = A} says come fault reply told input is = by told
+pub said_not : {A : Type 0} (says : Result A (List ℕ)) (answer : A → Outcome) (fault : AnyFault) (reply : Reply) → IsTold says fault → fault.cause ≡ Input
+    → reply_as reply ≡ plain 422 (text_of fault.number fault.place) → said says answer ≡ answered (reply_as reply)
+said_not {A = A} says answer fault reply told input is = by told
   where
-    by : IsTold says fault → said says come ≡ answered (reply_as reply)
+    by : IsTold says fault → said says answer ≡ answered (reply_as reply)
     by (inl machine) = absurd (other (sym machine ∙ input))
       where
         other : Machine ≡ Input → ⊥
         other e = cc
-    by (inr refusal) = ap (λ (result : Result A (List ℕ)). said result come) refusal.1 ∙ ap answered (sym is)
+    by (inr refusal) = ap (λ (result : Result A (List ℕ)). said result answer) refusal.1 ∙ ap answered (sym is)
 
 -- the fault of a list, as it is told
 pub told_of_list : {A : Type 0} (says : Result A ListFault) (fault : ListFault) → IsRefusal list.Memory (λ (f : ListFault). says ≡ Err f) fault
@@ -94,8 +94,3 @@ told_of_list {A = A} says fault (inr is) = by (fault_cause fault) refl
     by : (cause : Cause) → fault_cause fault ≡ cause → IsTold (list_said says) (record { number = fault_number fault; place = fault_place fault; cause = fault_cause fault })
     by Machine e = inl e
     by Input e = inr (e, ap list_said is)
-
--- a client has room for a zone: it has this one, or fewer than it may
-pub room_counted : (zone : List ℕ) (zones : Zones) (found : Bool) → found ≡ is_some (zone_named zone zones)
-    → (if found then true else nat_lt (length zones) 64) ≡ has_room zone zones
-room_counted zone zones found is = ap (λ b. if b then true else nat_lt (length zones) 64) is

@@ -52,8 +52,8 @@ pub number_too_great : outcome alpha (drop_zone (Some 9223372036854775808) (code
 number_too_great = refl
 
 -- the greatest number that a change may have
-pub greatest_number : (come : Outcome) → in_turn (record { number = 9223372036854775806; reply = [] }) (Some 9223372036854775807) come ≡ come
-greatest_number come = refl
+pub greatest_number : (change : Outcome) → in_turn (record { number = 9223372036854775806; reply = [] }) (Some 9223372036854775807) change ≡ change
+greatest_number change = refl
 
 -- the last number again, with whatever call, gets the kept reply
 pub number_again : outcome alpha (drop_zone (Some 2) (codes "TGT9   ")) ≡ answered (plain 200 (codes "ZONE TGT1 ROWS 1\n"))

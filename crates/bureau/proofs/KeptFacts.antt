@@ -53,9 +53,6 @@ module _ {Desk : Type 0} (view : View Desk Tables) where
     leaves = λ left h. h;
   }
 
-  pub none_kept : (old new : Desk) (this : Tables) → Idles view old new this → IsKeptRun view old new this [] this
-  none_kept old new this idles = (refl, idles)
-
   pub one_kept : (old new : Desk) (this : Tables) (turn : Turn) (next : Tables) → IsKeptStep view old new this turn next
       → IsKeptRun view old new this (turn ∷ []) next
   one_kept old new this turn next one = (new, next, one, (refl, idle new next one.stands))
@@ -95,7 +92,7 @@ module _ {Desk : Type 0} (view : View Desk Tables) where
 
   -- ---- what a stop may leave
 
-  -- behind the turn that shut the desk nothing changes, nor what a stop may leave
+  -- after the turn that shut the desk nothing changes, nor what a stop may leave
   shut_run : (old new : Desk) (this : Tables) (turns : List Turn) (next : Tables) → (IsOpen view old → ⊥) → IsKeptRun view old new this turns next
       → (next ≡ this) × ((left : Tables) → view.may_leave new left → view.may_leave old left)
   shut_run old new this [] next shut kept = (kept.0, kept.1.leaves)
@@ -125,26 +122,26 @@ module _ {Desk : Type 0} (view : View Desk Tables) where
       nothing (inl is_open) = absurd (shut (was_open kept.2.goes is_open))
       nothing (inr told) = told
 
-  -- what a stop may leave behind a first turn, where it is known for a desk that is open after it
-  left_behind : (old new : Desk) (this : Tables) (turn : Turn) (turns : List Turn) (next : Tables) (kept : IsKeptRun view old new this (turn ∷ turns) next)
+  -- what a stop may leave after a first turn, where it is known for a desk that is open after it
+  left_after : (old new : Desk) (this : Tables) (turn : Turn) (turns : List Turn) (next : Tables) (kept : IsKeptRun view old new this (turn ∷ turns) next)
       → IsOpen view old → Rests view old this → (left : Tables) → view.may_leave new left → (IsOpen view kept.0 → MayBeLeft view new turns next left)
       → MayBeLeft view new (turn ∷ turns) next left
-  left_behind old new this turn turns next kept is_open rests left h if_open = by (open_or_shut (view.failures kept.0))
+  left_after old new this turn turns next kept is_open rests left h if_open = by (open_or_shut (view.failures kept.0))
     where
       later : MayBeLeft view new turns next left → MayBeLeft view new (turn ∷ turns) next left
       later (inl is) = inl is
       later (inr flight) = inr (flight.0, inr flight.1)
 
       shut_by : (next ≡ this) → TellNothing turns × (IsOpen view new → ⊥) → IsToldOfNoTables turn → view.may_leave old left ⊎ (IsOpen view old × (left ≡ tables_with turn this)) → MayBeLeft view new (turn ∷ turns) next left
-      shut_by stays behind told (inl before) = inl (rests is_open left before ∙ sym stays)
-      shut_by stays behind (inl none) (inr made) = inr (behind.1, inl (none, behind.0, made.1 ∙ ap (tables_with turn) (sym stays)))
-      shut_by stays behind (inr not_allowed) (inr made) = inl (made.1 ∙ not_asked turn.caller turn this refl not_allowed ∙ sym stays)
+      shut_by stays rest told (inl before) = inl (rests is_open left before ∙ sym stays)
+      shut_by stays rest (inl none) (inr made) = inr (rest.1, inl (none, rest.0, made.1 ∙ ap (tables_with turn) (sym stays)))
+      shut_by stays rest (inr not_allowed) (inr made) = inl (made.1 ∙ not_asked turn.caller turn this refl not_allowed ∙ sym stays)
 
       in_turn : (IsOpen view kept.0 → ⊥) → (IsOpen view kept.0) ⊎ IsToldOfNoTables turn → MayBeLeft view new (turn ∷ turns) next left
       in_turn shut (inl still) = absurd (shut still)
       in_turn shut (inr told) =
-          let behind = shut_run kept.0 new kept.1 turns next shut kept.3 in
-          shut_by (behind.0 ∙ told_nothing this kept.1 turn told kept.2.step) (told_shut kept.0 new kept.1 turns next shut kept.3) told (kept.2.leaves left (behind.1 left h))
+          let rest = shut_run kept.0 new kept.1 turns next shut kept.3 in
+          shut_by (rest.0 ∙ told_nothing this kept.1 turn told kept.2.step) (told_shut kept.0 new kept.1 turns next shut kept.3) told (kept.2.leaves left (rest.1 left h))
 
       by : (IsOpen view kept.0) ⊎ (IsOpen view kept.0 → ⊥) → MayBeLeft view new (turn ∷ turns) next left
       by (inl still) = later (if_open still)
@@ -155,5 +152,5 @@ module _ {Desk : Type 0} (view : View Desk Tables) where
       → IsOpen view old → Rests view old this → (left : Tables) → view.may_leave new left → MayBeLeft view new turns next left
   loses_nothing old new this [] next kept is_open rests left h = inl (rests is_open left (kept.1.leaves left h) ∙ sym kept.0)
   loses_nothing old new this (turn ∷ turns) next kept is_open rests left h =
-      left_behind old new this turn turns next kept is_open rests left h (λ still.
+      left_after old new this turn turns next kept is_open rests left h (λ still.
       loses_nothing kept.0 new kept.1 turns next kept.3 still (kept.2.rests rests) left h)

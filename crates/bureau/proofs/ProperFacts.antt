@@ -38,9 +38,9 @@ module _ (zones : Zones) (caller : Caller) where
   turned last None change h = refl
   turned last (Some number) change h = either (nat_lt 0 number && nat_le number greatest_number) (by_number number last change) (answered bad_number) (numbered number last change h) refl
 
-  reads : {A : Type 0} (what : Result A (List ℕ)) (come : A → Outcome) → ((a : A) → IsProper zones caller (come a)) → IsProper zones caller (said what come)
-  reads (Err line) come h = refl
-  reads (Ok a) come h = h a
+  reads : {A : Type 0} (what : Result A (List ℕ)) (answer : A → Outcome) → ((a : A) → IsProper zones caller (answer a)) → IsProper zones caller (said what answer)
+  reads (Err line) answer h = refl
+  reads (Ok a) answer h = h a
 
   finds : (found : Option ZoneTable) (answer : ZoneTable → Outcome) → ((table : ZoneTable) → found ≡ Some table → IsProper zones caller (answer table)) → IsProper zones caller (of_zone found answer)
   finds None answer h = refl

@@ -16,7 +16,7 @@ use Rattle.reports.specs.ReportText.{err_text_of, missing_text_of}
 use Rattle.chains.specs.Verdicts.{verdict_of}
 use Rattle.bureau_store.specs.Held.{held_in}
 use Rattle.bureau_store.specs.Tables.{ZoneTable, Zones, patterns_of, rows_of}
-use Rattle.bureau.specs.Come.{counted_as}
+use Rattle.bureau.specs.Outcomes.{counted_as}
 use Rattle.bureau.specs.Outcome.{Outcome, answered, as_json, not_found, of_zone, plain, told}
 use Rattle.bureau.specs.Replies.{reply_as}
 use Rattle.bureau.specs.Texts.{chain_text, err_report, missing_report, zone_fields, zones_text, zone_columns}
@@ -47,10 +47,10 @@ pub with_rows : {V : Type 0} (items : V → List ZoneRow) (found : Option V) (ro
 with_rows items found rows told is told_is = sym (ap (option_map items) is) ∙ told_is
 
 -- what asks for a zone that has no rows
-pub no_rows : (found : Option ZoneTable) (come : ZoneTable → Outcome) (reply : Reply) → None ≡ option_map (λ (table : ZoneTable). table.rows) found → reply_as reply ≡ not_found
-    → answered (reply_as reply) ≡ of_zone found come
-no_rows None come reply missing is = ap answered is
-no_rows (Some table) come reply missing is = absurd (cc)
+pub no_rows : (found : Option ZoneTable) (answer : ZoneTable → Outcome) (reply : Reply) → None ≡ option_map (λ (table : ZoneTable). table.rows) found → reply_as reply ≡ not_found
+    → answered (reply_as reply) ≡ of_zone found answer
+no_rows None answer reply missing is = ap answered is
+no_rows (Some table) answer reply missing is = absurd (cc)
 
 -- the exception SYSMOD report, from its parts
 pub err_reported : (content : Content) (zone : List ℕ) (found : Option ZoneTable) (received known : List (List ℕ)) (rows installed : List ZoneRow) (holds : List Hold) (reply : Reply)

@@ -23,23 +23,23 @@ abbrev Refuses : Outcome → Type 0
 Refuses (answered answer) = (answer.status ≡ 404) ⊎ (answer.status ≡ 422)
 Refuses (accepted effect text) = Unit {0}
 
-said_refuses : {A : Type 0} (body : Result A (List ℕ)) (come : A → Outcome) → ((a : A) → Refuses (come a)) → Refuses (said body come)
-said_refuses (Err line) come h = inr refl
-said_refuses (Ok a) come h = h a
+said_refuses : {A : Type 0} (body : Result A (List ℕ)) (answer : A → Outcome) → ((a : A) → Refuses (answer a)) → Refuses (said body answer)
+said_refuses (Err line) answer h = inr refl
+said_refuses (Ok a) answer h = h a
 
-of_zone_refuses : (found : Option ZoneTable) (come : ZoneTable → Outcome) → ((table : ZoneTable) → Refuses (come table)) → Refuses (of_zone found come)
-of_zone_refuses None come h = inl refl
-of_zone_refuses (Some table) come h = h table
+of_zone_refuses : (found : Option ZoneTable) (answer : ZoneTable → Outcome) → ((table : ZoneTable) → Refuses (answer table)) → Refuses (of_zone found answer)
+of_zone_refuses None answer h = inl refl
+of_zone_refuses (Some table) answer h = h table
 
 room_refuses : (t : Bool) (effect : Effect) (text line : List ℕ) → Refuses (if t then accepted effect text else refused line)
 room_refuses true effect text line = tt
 room_refuses false effect text line = inr refl
 
 -- a change that comes in its turn
-record ComesInTurn (last : LastChange) (n : ℕ) (come : Outcome) : Type 0 where
+record ComesInTurn (last : LastChange) (n : ℕ) (found : Outcome) : Type 0 where
   change : Outcome
   refuses : Refuses change
-  is : come ≡ in_turn last (Some n) change
+  is : found ≡ in_turn last (Some n) change
 
 numbered : (last : LastChange) (number : Option ℕ) (n : ℕ) (change : Outcome) → Refuses change → number ≡ Some n → ComesInTurn last n (in_turn last number change)
 numbered last number n change refuses e = record { change = change; refuses = refuses; is = ap (λ k. in_turn last k change) e }
@@ -71,8 +71,8 @@ view_last (Client name) tables = refl
 
 asked_in_turn : (view : View) (call : Call) (n : ℕ) → may_ask view.caller call ≡ true → number_of call ≡ Some n → ComesInTurn view.last n (outcome view call)
 asked_in_turn view call n allowed e =
-    let come = allowed_in_turn view call n e in
-    record { change = come.change; refuses = come.refuses; is = rw allowed come.is }
+    let found = allowed_in_turn view call n e in
+    record { change = found.change; refuses = found.refuses; is = rw allowed found.is }
 
 -- what comes of a change by its caller over these tables
 turn_in_turn : (old : Tables) (turn : Turn) (n : ℕ) → IsChange n turn → ComesInTurn (old.last turn.caller) n (outcome (view_of turn.caller old) turn.call)
@@ -214,7 +214,7 @@ last_goes old new turn (inr made) other = comes (outcome (view_of turn.caller ol
         inl (ap (λ (t : Tables). t.last other) (made.1 ∙ ap (λ o. tables_left turn.caller o old) e)
         ∙ ap (λ b. if b then record { number = (old.last turn.caller).number + 1; reply = text } else old.last other) is)
 
-    comes : (come : Outcome) → outcome (view_of turn.caller old) turn.call ≡ come → (new.last other ≡ old.last other) ⊎ Accepts old new turn other
+    comes : (found : Outcome) → outcome (view_of turn.caller old) turn.call ≡ found → (new.last other ≡ old.last other) ⊎ Accepts old new turn other
     comes (answered answer) e = inl (ap (λ (t : Tables). t.last other) (made.1 ∙ ap (λ o. tables_left turn.caller o old) e))
     comes (accepted effect text) e = by (is_caller turn.caller other) effect text e refl
 
@@ -257,15 +257,15 @@ record IsToldTaken (n : ℕ) (first : Turn) (new : Tables) : Type 0 where
 no_status : {A : Type 0} (answer : Answer) (a b : ℕ) → answer.status ≡ a → answer.status ≡ b → (a ≡ b → ⊥) → A
 no_status answer a b p q differ = absurd (differ (sym p ∙ q))
 
-made_taken : (old new : Tables) (first : Turn) (n : ℕ) (come change : Outcome) → Refuses change → come ≡ change → n ≡ (old.last first.caller).number + 1 → in_range n ≡ true
-    → first.answer ≡ answer_of come → new ≡ tables_left first.caller come old → first.answer.status ≡ 200 → IsToldTaken n first new
-made_taken old new first n come (answered answer) refuses is next range answers leaves ok =
+made_taken : (old new : Tables) (first : Turn) (n : ℕ) (found change : Outcome) → Refuses change → found ≡ change → n ≡ (old.last first.caller).number + 1 → in_range n ≡ true
+    → first.answer ≡ answer_of found → new ≡ tables_left first.caller found old → first.answer.status ≡ 200 → IsToldTaken n first new
+made_taken old new first n found (answered answer) refuses is next range answers leaves ok =
     let status : answer.status ≡ 200 = ap (λ o. (answer_of o).status) (sym is) ∙ ap (λ (a : Answer). a.status) (sym answers) ∙ ok in
     elim refuses [
       | inl e ↦ no_status answer 404 200 e status (λ same. omega (arith, same))
       | inr e ↦ no_status answer 422 200 e status (λ same. omega (arith, same))
     ]
-made_taken old new first n come (accepted effect text) refuses is next range answers leaves ok =
+made_taken old new first n found (accepted effect text) refuses is next range answers leaves ok =
     let left : new.last first.caller ≡ record { number = (old.last first.caller).number + 1; reply = text } =
     ap (λ (t : Tables). t.last first.caller) (leaves ∙ ap (λ o. tables_left first.caller o old) is)
     ∙ ap (λ b. if b then record { number = (old.last first.caller).number + 1; reply = text } else old.last first.caller) (own_caller first.caller) in
@@ -276,11 +276,11 @@ made_taken old new first n come (accepted effect text) refuses is next range ans
       taken = (next ∙ ap (λ (last : LastChange). last.number) (sym left), ap (λ (last : LastChange). last.reply) (sym left));
     }
 
-stood_taken : (old new : Tables) (first : Turn) (n : ℕ) (come change : Outcome) → Refuses change → in_range n ≡ true
-    → come ≡ by_number n (old.last first.caller) change → first.answer ≡ answer_of come → new ≡ tables_left first.caller come old → first.answer.status ≡ 200
+stood_taken : (old new : Tables) (first : Turn) (n : ℕ) (found change : Outcome) → Refuses change → in_range n ≡ true
+    → found ≡ by_number n (old.last first.caller) change → first.answer ≡ answer_of found → new ≡ tables_left first.caller found old → first.answer.status ≡ 200
     → Standing (old.last first.caller).number n → IsToldTaken n first new
-stood_taken old new first n come change refuses range is answers leaves ok (is_last e) =
-    let again : come ≡ told (old.last first.caller).reply = is ∙ again_taken (old.last first.caller) n change e in
+stood_taken old new first n found change refuses range is answers leaves ok (is_last e) =
+    let again : found ≡ told (old.last first.caller).reply = is ∙ again_taken (old.last first.caller) n change e in
     let same : new ≡ old = leaves ∙ ap (λ o. tables_left first.caller o old) again in
     record {
       reply = (old.last first.caller).reply;
@@ -288,13 +288,13 @@ stood_taken old new first n come change refuses range is answers leaves ok (is_l
       told_is = answers ∙ ap answer_of again;
       taken = (e ∙ ap (λ (t : Tables). (t.last first.caller).number) (sym same), ap (λ (t : Tables). (t.last first.caller).reply) (sym same));
     }
-stood_taken old new first n come change refuses range is answers leaves ok (is_next e) =
-    made_taken old new first n come change refuses (is ∙ next_taken (old.last first.caller) n change e) e range answers leaves ok
-stood_taken old new first n come change refuses range is answers leaves ok (is_below low) =
-    let e : come ≡ answered stale = is ∙ passed_taken (old.last first.caller) n change low in
+stood_taken old new first n found change refuses range is answers leaves ok (is_next e) =
+    made_taken old new first n found change refuses (is ∙ next_taken (old.last first.caller) n change e) e range answers leaves ok
+stood_taken old new first n found change refuses range is answers leaves ok (is_below low) =
+    let e : found ≡ answered stale = is ∙ passed_taken (old.last first.caller) n change low in
     no_status first.answer 409 200 (ap (λ (a : Answer). a.status) answers ∙ ap (λ o. (answer_of o).status) e) ok (λ same. omega (arith, same))
-stood_taken old new first n come change refuses range is answers leaves ok (is_above over) =
-    let e : come ≡ answered (gap (old.last first.caller).number) = is ∙ gap_taken (old.last first.caller) n change over in
+stood_taken old new first n found change refuses range is answers leaves ok (is_above over) =
+    let e : found ≡ answered (gap (old.last first.caller).number) = is ∙ gap_taken (old.last first.caller) n change over in
     no_status first.answer 409 200 (ap (λ (a : Answer). a.status) answers ∙ ap (λ o. (answer_of o).status) e) ok (λ same. omega (arith, same))
 
 first_taken : (old new : Tables) (first : Turn) (n : ℕ) → IsStep old first new → IsChange n first → first.answer.status ≡ 200 → IsToldTaken n first new
@@ -383,14 +383,14 @@ gap_stale : {A : Type 0} (first : Turn) (last : ℕ) → first.answer ≡ gap la
 gap_stale first last answers is =
     let letters : 71 ≡ 83 = ap (λ (a : Answer). get_or a.body 0 0) (sym answers ∙ is) in absurd (omega (arith, letters))
 
-stale_below : (old : Tables) (first : Turn) (n : ℕ) (come change : Outcome) → Refuses change → come ≡ by_number n (old.last first.caller) change
-    → first.answer ≡ answer_of come → first.answer ≡ stale → Standing (old.last first.caller).number n → IsPassed first.caller n old
-stale_below old first n come change refuses e answers is (is_last same) =
+stale_below : (old : Tables) (first : Turn) (n : ℕ) (found change : Outcome) → Refuses change → found ≡ by_number n (old.last first.caller) change
+    → first.answer ≡ answer_of found → first.answer ≡ stale → Standing (old.last first.caller).number n → IsPassed first.caller n old
+stale_below old first n found change refuses e answers is (is_last same) =
     no_stale first.answer (plain 200 (old.last first.caller).reply) 200 is (answers ∙ ap answer_of (e ∙ again_taken (old.last first.caller) n change same)) refl (λ equal. omega (arith, equal))
-stale_below old first n come change refuses e answers is (is_next next) =
+stale_below old first n found change refuses e answers is (is_next next) =
     made_stale first change refuses (answers ∙ ap answer_of (e ∙ next_taken (old.last first.caller) n change next)) is
-stale_below old first n come change refuses e answers is (is_below low) = low
-stale_below old first n come change refuses e answers is (is_above over) =
+stale_below old first n found change refuses e answers is (is_below low) = low
+stale_below old first n found change refuses e answers is (is_above over) =
     gap_stale first (old.last first.caller).number (answers ∙ ap answer_of (e ∙ gap_taken (old.last first.caller) n change over)) is
 
 first_stale : (old new : Tables) (first : Turn) (n : ℕ) → IsStep old first new → IsChange n first → first.answer ≡ stale → (in_range n ≡ true) × IsPassed first.caller n old

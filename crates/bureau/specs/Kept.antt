@@ -47,14 +47,14 @@ abbrev pub TellNothing : List Turn → Type 0
 TellNothing [] = Unit {0}
 TellNothing (turn ∷ turns) = IsToldOfNoTables turn × TellNothing turns
 
--- the tables with the change of one of these turns, which was told that there is no room, and behind which nothing is told
+-- the tables with the change of one of these turns, which was told that there is no room, and after which nothing is told
 -- from the tables
 abbrev pub IsWithOneRefused : Tables → List Turn → Tables → Type 0
 IsWithOneRefused this [] left = ⊥
 IsWithOneRefused this (turn ∷ turns) left =
     ((turn.answer ≡ no_room) × TellNothing turns × (left ≡ tables_with turn this)) ⊎ IsWithOneRefused this turns left
 
--- What a stop may leave after a run: the tables behind it; or, of a desk that is shut, those with the change of a turn that
--- was told 503, behind which nothing was told from the tables.
+-- What a stop may leave after a run: the tables after it; or, of a desk that is shut, those with the change of a turn that
+-- was told 503, after which nothing was told from the tables.
 abbrev pub MayBeLeft : {Desk : Type 0} → View Desk Tables → Desk → List Turn → Tables → Tables → Type 0
 MayBeLeft view new turns next left = (left ≡ next) ⊎ ((IsOpen view new → ⊥) × IsWithOneRefused next turns left)

@@ -11,7 +11,7 @@ pub mod Turn
 pub mod Replies
 pub mod Calls
 pub mod Faults
-pub mod Come
+pub mod Outcomes
 pub mod Parts
 pub mod Kept
 pub mod Runs

@@ -90,8 +90,8 @@ of_zone (Some table) answer = answer table
 
 -- a body says something, or is refused for its first fault
 abbrev pub said : {A : Type 0} → Result A (List ℕ) → (A → Outcome) → Outcome
-said (Err line) come = refused line
-said (Ok what) come = come what
+said (Err line) answer = refused line
+said (Ok what) answer = answer what
 
 -- a client's 65th zone is refused
 abbrev pub has_room : List ℕ → Zones → Bool

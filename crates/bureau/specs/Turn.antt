@@ -5,9 +5,9 @@ use Rattle.bureau.specs.declared.turn.Turn.{Turn}
 use Rattle.bureau.specs.declared.turn.Turn.TheVariants.{Next, Again, Stale, Gap, NoNumber}
 
 -- the change itself where it is its turn; else what is told in its place
-abbrev pub come_in : Turn → LastChange → Outcome → Outcome
-come_in Next last change = change
-come_in Again last change = told last.reply
-come_in Stale last change = answered stale
-come_in Gap last change = answered (gap last.number)
-come_in NoNumber last change = answered bad_number
+abbrev pub outcome_in : Turn → LastChange → Outcome → Outcome
+outcome_in Next last change = change
+outcome_in Again last change = told last.reply
+outcome_in Stale last change = answered stale
+outcome_in Gap last change = answered (gap last.number)
+outcome_in NoNumber last change = answered bad_number

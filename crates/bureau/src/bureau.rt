@@ -5,12 +5,12 @@ ghost use Rattle.bureau_store.specs.Caller.{IsProper, caller_with};
 ghost use Rattle.bureau_store.specs.Store.{Reads};
 ghost use Rattle.bureau.specs.Answering.{AreAnswered, IsAnswered, bureau_view};
 ghost use Rattle.bureau.specs.Calls.{call_as};
-ghost use Rattle.bureau.specs.Come.{answer_in};
+ghost use Rattle.bureau.specs.Outcomes.{answer_in};
 ghost use Rattle.bureau.specs.Replies.{reply_as};
 
-use crate::come::{Come, NoRoom};
 use crate::commit::commit;
 use crate::decide::decide;
+use crate::outcome::{NoRoom, Outcome};
 use crate::{Call, NoMemory, Reply};
 use bureau_store::{Caller, Store, StoreFault};
 use chains::Judge;
@@ -92,7 +92,7 @@ impl<S: Store, J: Judge<S>> Bureau<S, J> {
         ensures { IsAnswered (bureau_view S.tables_view J.is_right) self.old self.new
             (record { caller = caller.now; call = call_as call.now; answer = reply_as result }) }
     {
-        match answered(self.alloc, &mut self.store, &mut self.judge, caller, call) {
+        match reply_to(self.alloc, &mut self.store, &mut self.judge, caller, call) {
             Ok(reply) => reply,
             Err(NoRoom) => Reply::no_room(self.alloc),
         }
@@ -101,9 +101,9 @@ impl<S: Store, J: Judge<S>> Bureau<S, J> {
     /// What is answered to calls, one after the other. The room for the list of answers is taken before the first
     /// call.
     ///
-    /// `run` says that the calls with their answers are a run of the bureau, and what holds of every such run: it is kept,
-    /// a stop loses nothing that was acknowledged, each caller is answered as by a bureau that received the publisher's
-    /// calls and that caller's alone (see [`isolation`](crate::isolation)), and a change acts once (see
+    /// `run` says that the calls with their answers are a run of the bureau, and what holds of every such run: it is
+    /// kept, a stop loses nothing that was acknowledged, each caller is answered as by a bureau that received the
+    /// publisher's calls and that caller's alone (see [`isolation`](crate::isolation)), and a change acts once (see
     /// [`repeats`](crate::repeats)).
     ///
     /// # Errors
@@ -113,7 +113,8 @@ impl<S: Store, J: Judge<S>> Bureau<S, J> {
         requires { All (λ asked. IsProper asked.0) calls.now }
         ensures goes { Goes (bureau_view S.tables_view J.is_right) self.old self.new }
         ensures length { IfOk result (λ replies. length replies.items ≡ length calls.now) }
-        ensures run { IfOk result (λ replies. AreAnswered (bureau_view S.tables_view J.is_right) self.old self.new calls.now replies.items) }
+        ensures run { IfOk result (λ replies.
+            AreAnswered (bureau_view S.tables_view J.is_right) self.old self.new calls.now replies.items) }
         ensures err { OnErr result (self.new ≡ self.old) }
     {
         let mut replies = Vec::with_capacity(self.alloc, calls.len())?;
@@ -126,7 +127,7 @@ impl<S: Store, J: Judge<S>> Bureau<S, J> {
 }
 
 // The answer to a call. A change is made when its answer stands.
-fn answered<S: Store, J: Judge<S>>(
+fn reply_to<S: Store, J: Judge<S>>(
     alloc: Global,
     store: &mut S,
     judge: &mut J,
@@ -139,10 +140,10 @@ fn answered<S: Store, J: Judge<S>>(
         (record { caller = caller.now; call = call_as call.now; answer = answer_in result }) }
 {
     match decide(alloc, store, judge, caller, call)? {
-        Come::Answered(reply) => Ok(reply),
-        Come::Accepted(due) => {
-            commit(store, judge, &due)?;
-            Ok(Reply::text(due.text))
+        Outcome::Answered(reply) => Ok(reply),
+        Outcome::Accepted(change) => {
+            commit(store, judge, &change)?;
+            Ok(Reply::text(change.reply))
         }
     }
 }

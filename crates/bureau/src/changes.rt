@@ -6,14 +6,14 @@ ghost use Rattle.bureau_store.specs.Store.{greatest_number};
 ghost use Rattle.bureau_store.specs.Tables.{zone_named};
 ghost use Rattle.bureau_store.specs.declared.caller.Caller.TheVariants.{Publisher, Client};
 ghost use Rattle.bureau.specs.Call as call;
-ghost use Rattle.bureau.specs.Come.{IsComing, IsFit, IsInTurn};
+ghost use Rattle.bureau.specs.Outcomes.{IsOutcome, IsFit, IsInTurn};
 ghost use Rattle.bureau.specs.Outcome.{has_room, plain};
 ghost use Rattle.bureau.specs.Reading.{HasRead};
 ghost use Rattle.faults.specs.FaultText.{text_of};
 ghost use Rattle.faults.specs.declared.fault.Cause.TheVariants.{Input};
 ghost use Rattle.bureau.specs.Replies.{reply_as};
 
-use crate::come::{Come, Deed, Due, NoRoom};
+use crate::outcome::{AcceptedChange, Effect, NoRoom, Outcome};
 use crate::publication::changes_in;
 use crate::texts::{
     patterns_line, publication_line, received_line, zone_dropped_line, zone_put_line,
@@ -36,26 +36,26 @@ pub(crate) fn publish<S: Store>(
     store: &mut S,
     number: Option<u64>,
     body: &[u8],
-) -> Result<Come, NoRoom>
+) -> Result<Outcome, NoRoom>
     ensures reads { HasRead S.tables_view store.old store.new result }
-    ensures come { IfOk result (λ come. Tells S.tables_view store.old store.new
-        (λ this. IsComing Publisher (call.publish number body.now) this come)) }
+    ensures outcome { IfOk result (λ outcome. Tells S.tables_view store.old store.new
+        (λ this. IsOutcome Publisher (call.publish number body.now) this outcome)) }
     ensures fit { IfOk result IsFit }
 {
     let number = match in_turn(alloc, store, &Caller::Publisher, number)? {
         Ok(number) => number,
-        Err(reply) => return Ok(Come::Answered(reply)),
+        Err(reply) => return Ok(Outcome::Answered(reply)),
     };
     let changes = match changes_in(alloc, body) {
         Ok(changes) => changes,
-        Err(fault) => return Ok(Come::Answered(refused(alloc, fault)?)),
+        Err(fault) => return Ok(Outcome::Answered(refusal(alloc, fault)?)),
     };
-    let text = publication_line(alloc, &changes)?;
+    let reply = publication_line(alloc, &changes)?;
     let touched = touched(alloc, store, &changes)?;
-    Ok(Come::Accepted(Due {
+    Ok(Outcome::Accepted(AcceptedChange {
         number,
-        text,
-        deed: Deed::Publication { changes, touched },
+        reply,
+        effect: Effect::Publication { changes, touched },
     }))
 }
 
@@ -67,29 +67,29 @@ pub(crate) fn put_zone<S: Store>(
     number: Option<u64>,
     zone: &Id,
     body: &[u8],
-) -> Result<Come, NoRoom>
+) -> Result<Outcome, NoRoom>
     requires { IsProper (Client client.now) }
     ensures reads { HasRead S.tables_view store.old store.new result }
-    ensures come { IfOk result (λ come. Tells S.tables_view store.old store.new
-        (λ this. IsComing (Client client.now) (call.put_zone number zone.now body.now) this come)) }
+    ensures outcome { IfOk result (λ outcome. Tells S.tables_view store.old store.new
+        (λ this. IsOutcome (Client client.now) (call.put_zone number zone.now body.now) this outcome)) }
     ensures fit { IfOk result IsFit }
 {
     let number = match in_turn(alloc, store, &Caller::Client(*client), number)? {
         Ok(number) => number,
-        Err(reply) => return Ok(Come::Answered(reply)),
+        Err(reply) => return Ok(Outcome::Answered(reply)),
     };
     let rows = match zone_rows(alloc, body) {
         Ok(rows) => rows,
-        Err(fault) => return Ok(Come::Answered(refused(alloc, AnyFault::from(fault))?)),
+        Err(fault) => return Ok(Outcome::Answered(refusal(alloc, AnyFault::from(fault))?)),
     };
     if !has_room_for(store, client, zone)? {
-        return Ok(Come::Answered(Reply::plain(alloc, 422, b"FAULT 61\n")?));
+        return Ok(Outcome::Answered(Reply::plain(alloc, 422, b"FAULT 61\n")?));
     }
-    let text = zone_put_line(alloc, zone, &rows)?;
-    Ok(Come::Accepted(Due {
+    let reply = zone_put_line(alloc, zone, &rows)?;
+    Ok(Outcome::Accepted(AcceptedChange {
         number,
-        text,
-        deed: Deed::ZonePut {
+        reply,
+        effect: Effect::ZonePut {
             client: *client,
             zone: *zone,
             rows,
@@ -104,25 +104,25 @@ pub(crate) fn drop_zone<S: Store>(
     client: &Id,
     number: Option<u64>,
     zone: &Id,
-) -> Result<Come, NoRoom>
+) -> Result<Outcome, NoRoom>
     requires { IsProper (Client client.now) }
     ensures reads { HasRead S.tables_view store.old store.new result }
-    ensures come { IfOk result (λ come. Tells S.tables_view store.old store.new
-        (λ this. IsComing (Client client.now) (call.drop_zone number zone.now) this come)) }
+    ensures outcome { IfOk result (λ outcome. Tells S.tables_view store.old store.new
+        (λ this. IsOutcome (Client client.now) (call.drop_zone number zone.now) this outcome)) }
     ensures fit { IfOk result IsFit }
 {
     let number = match in_turn(alloc, store, &Caller::Client(*client), number)? {
         Ok(number) => number,
-        Err(reply) => return Ok(Come::Answered(reply)),
+        Err(reply) => return Ok(Outcome::Answered(reply)),
     };
     if !is_zone(store, client, zone)? {
-        return Ok(Come::Answered(Reply::not_found(alloc)?));
+        return Ok(Outcome::Answered(Reply::not_found(alloc)?));
     }
-    let text = zone_dropped_line(alloc, zone)?;
-    Ok(Come::Accepted(Due {
+    let reply = zone_dropped_line(alloc, zone)?;
+    Ok(Outcome::Accepted(AcceptedChange {
         number,
-        text,
-        deed: Deed::ZoneDropped {
+        reply,
+        effect: Effect::ZoneDropped {
             client: *client,
             zone: *zone,
         },
@@ -136,26 +136,26 @@ pub(crate) fn put_received<S: Store>(
     client: &Id,
     number: Option<u64>,
     body: &[u8],
-) -> Result<Come, NoRoom>
+) -> Result<Outcome, NoRoom>
     requires { IsProper (Client client.now) }
     ensures reads { HasRead S.tables_view store.old store.new result }
-    ensures come { IfOk result (λ come. Tells S.tables_view store.old store.new
-        (λ this. IsComing (Client client.now) (call.put_received number body.now) this come)) }
+    ensures outcome { IfOk result (λ outcome. Tells S.tables_view store.old store.new
+        (λ this. IsOutcome (Client client.now) (call.put_received number body.now) this outcome)) }
     ensures fit { IfOk result IsFit }
 {
     let number = match in_turn(alloc, store, &Caller::Client(*client), number)? {
         Ok(number) => number,
-        Err(reply) => return Ok(Come::Answered(reply)),
+        Err(reply) => return Ok(Outcome::Answered(reply)),
     };
     let ids = match received_rows(alloc, body) {
         Ok(ids) => ids,
-        Err(fault) => return Ok(Come::Answered(refused(alloc, AnyFault::from(fault))?)),
+        Err(fault) => return Ok(Outcome::Answered(refusal(alloc, AnyFault::from(fault))?)),
     };
-    let text = received_line(alloc, &ids)?;
-    Ok(Come::Accepted(Due {
+    let reply = received_line(alloc, &ids)?;
+    Ok(Outcome::Accepted(AcceptedChange {
         number,
-        text,
-        deed: Deed::ReceivedPut {
+        reply,
+        effect: Effect::ReceivedPut {
             client: *client,
             ids,
         },
@@ -170,29 +170,29 @@ pub(crate) fn put_patterns<S: Store>(
     number: Option<u64>,
     zone: &Id,
     body: &[u8],
-) -> Result<Come, NoRoom>
+) -> Result<Outcome, NoRoom>
     requires { IsProper (Client client.now) }
     ensures reads { HasRead S.tables_view store.old store.new result }
-    ensures come { IfOk result (λ come. Tells S.tables_view store.old store.new
-        (λ this. IsComing (Client client.now) (call.put_patterns number zone.now body.now) this come)) }
+    ensures outcome { IfOk result (λ outcome. Tells S.tables_view store.old store.new
+        (λ this. IsOutcome (Client client.now) (call.put_patterns number zone.now body.now) this outcome)) }
     ensures fit { IfOk result IsFit }
 {
     let number = match in_turn(alloc, store, &Caller::Client(*client), number)? {
         Ok(number) => number,
-        Err(reply) => return Ok(Come::Answered(reply)),
+        Err(reply) => return Ok(Outcome::Answered(reply)),
     };
     if !is_zone(store, client, zone)? {
-        return Ok(Come::Answered(Reply::not_found(alloc)?));
+        return Ok(Outcome::Answered(Reply::not_found(alloc)?));
     }
     let patterns = match patterns(alloc, body) {
         Ok(patterns) => patterns,
-        Err(fault) => return Ok(Come::Answered(refused(alloc, AnyFault::from(fault))?)),
+        Err(fault) => return Ok(Outcome::Answered(refusal(alloc, AnyFault::from(fault))?)),
     };
-    let text = patterns_line(alloc, zone, &patterns)?;
-    Ok(Come::Accepted(Due {
+    let reply = patterns_line(alloc, zone, &patterns)?;
+    Ok(Outcome::Accepted(AcceptedChange {
         number,
-        text,
-        deed: Deed::PatternsPut {
+        reply,
+        effect: Effect::PatternsPut {
             client: *client,
             zone: *zone,
             patterns,
@@ -218,7 +218,7 @@ fn in_turn<S: Store>(
 }
 
 // The answer to a body that has this fault.
-fn refused(alloc: Global, fault: AnyFault) -> Result<Reply, NoRoom>
+fn refusal(alloc: Global, fault: AnyFault) -> Result<Reply, NoRoom>
     ensures input { IfOk result (λ reply. fault.cause ≡ Input) }
     ensures reply { IfOk result (λ reply. reply_as reply ≡ plain 422 (text_of fault.number fault.place)) }
 {

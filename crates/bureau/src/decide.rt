@@ -4,11 +4,11 @@ ghost use Rattle.catalogue.specs.View.{IsOpen, Tells};
 ghost use Rattle.bureau_store.specs.Caller.{IsProper};
 ghost use Rattle.bureau_store.specs.declared.caller.Caller.TheVariants.{Publisher, Client};
 ghost use Rattle.bureau.specs.Calls.{call_as};
-ghost use Rattle.bureau.specs.Come.{IsComeOf, IsComing, IsFit};
+ghost use Rattle.bureau.specs.Outcomes.{IsReplyAlone, IsOutcome, IsFit};
 ghost use Rattle.bureau.specs.Outcome.{may_ask};
 
 use crate::changes::{drop_zone, publish, put_patterns, put_received, put_zone};
-use crate::come::{Come, NoRoom};
+use crate::outcome::{NoRoom, Outcome};
 use crate::questions::{chain, counts, err_sysmods, list_zones, missing_fix};
 use crate::{Call, Reply};
 use bureau_store::{Caller, Store};
@@ -23,12 +23,14 @@ pub(crate) fn decide<S: Store, J: Judge<S>>(
     judge: &mut J,
     caller: &Caller,
     call: &Call<'_>,
-) -> Result<Come, NoRoom>
+) -> Result<Outcome, NoRoom>
     requires { IsProper caller.now }
     ensures keeps { S.tables_view.keeps store.old store.new }
-    ensures told { IfOk result (λ come. IsOpen S.tables_view store.new ⊎ (may_ask caller.now (call_as call.now) ≡ false)) }
-    ensures come { IfOk result (λ come. Tells S.tables_view store.old store.new
-        (λ this. J.is_right judge.old this.content → IsComing caller.now (call_as call.now) this come)) }
+    ensures told { IfOk result (λ outcome.
+        IsOpen S.tables_view store.new ⊎ (may_ask caller.now (call_as call.now) ≡ false)) }
+    ensures outcome { IfOk result (λ outcome. Tells S.tables_view store.old store.new
+        (λ this. J.is_right judge.old this.content →
+        IsOutcome caller.now (call_as call.now) this outcome)) }
     ensures fit { IfOk result IsFit }
     ensures right { Tells S.tables_view store.old store.new
         (λ this. J.is_right judge.old this.content → J.is_right judge.new this.content) }
@@ -44,17 +46,18 @@ fn decide_for_publisher<S: Store>(
     alloc: Global,
     store: &mut S,
     call: &Call<'_>,
-) -> Result<Come, NoRoom>
+) -> Result<Outcome, NoRoom>
     ensures keeps { S.tables_view.keeps store.old store.new }
-    ensures told { IfOk result (λ come. IsOpen S.tables_view store.new ⊎ (may_ask Publisher (call_as call.now) ≡ false)) }
-    ensures come { IfOk result (λ come. Tells S.tables_view store.old store.new
-        (λ this. IsComing Publisher (call_as call.now) this come)) }
+    ensures told { IfOk result (λ outcome.
+        IsOpen S.tables_view store.new ⊎ (may_ask Publisher (call_as call.now) ≡ false)) }
+    ensures outcome { IfOk result (λ outcome. Tells S.tables_view store.old store.new
+        (λ this. IsOutcome Publisher (call_as call.now) this outcome)) }
     ensures fit { IfOk result IsFit }
 {
     match *call {
         Call::Publish { number, body } => publish(alloc, store, number, body),
-        Call::Counts => Ok(Come::Answered(counts(alloc, store)?)),
-        _ => Ok(Come::Answered(Reply::forbidden(alloc)?)),
+        Call::Counts => Ok(Outcome::Answered(counts(alloc, store)?)),
+        _ => Ok(Outcome::Answered(Reply::forbidden(alloc)?)),
     }
 }
 
@@ -65,18 +68,20 @@ fn decide_for_client<S: Store, J: Judge<S>>(
     judge: &mut J,
     client: &Id,
     call: &Call<'_>,
-) -> Result<Come, NoRoom>
+) -> Result<Outcome, NoRoom>
     requires { IsProper (Client client.now) }
     ensures keeps { S.tables_view.keeps store.old store.new }
-    ensures told { IfOk result (λ come. IsOpen S.tables_view store.new ⊎ (may_ask (Client client.now) (call_as call.now) ≡ false)) }
-    ensures come { IfOk result (λ come. Tells S.tables_view store.old store.new
-        (λ this. J.is_right judge.old this.content → IsComing (Client client.now) (call_as call.now) this come)) }
+    ensures told { IfOk result (λ outcome.
+        IsOpen S.tables_view store.new ⊎ (may_ask (Client client.now) (call_as call.now) ≡ false)) }
+    ensures outcome { IfOk result (λ outcome. Tells S.tables_view store.old store.new
+        (λ this. J.is_right judge.old this.content →
+        IsOutcome (Client client.now) (call_as call.now) this outcome)) }
     ensures fit { IfOk result IsFit }
     ensures right { Tells S.tables_view store.old store.new
         (λ this. J.is_right judge.old this.content → J.is_right judge.new this.content) }
 {
     match *call {
-        Call::Publish { .. } => Ok(Come::Answered(Reply::forbidden(alloc)?)),
+        Call::Publish { .. } => Ok(Outcome::Answered(Reply::forbidden(alloc)?)),
         Call::PutZone { number, zone, body } => {
             put_zone(alloc, store, client, number, &zone, body)
         }
@@ -85,19 +90,19 @@ fn decide_for_client<S: Store, J: Judge<S>>(
         Call::PutPatterns { number, zone, body } => {
             put_patterns(alloc, store, client, number, &zone, body)
         }
-        Call::ListZones => Ok(Come::Answered(list_zones(alloc, store, client)?)),
-        Call::ErrSysmods { zone } => come_answered(err_sysmods(alloc, store, judge, client, &zone)),
-        Call::MissingFix { zone } => come_answered(missing_fix(alloc, store, judge, client, &zone)),
+        Call::ListZones => Ok(Outcome::Answered(list_zones(alloc, store, client)?)),
+        Call::ErrSysmods { zone } => reply_alone(err_sysmods(alloc, store, judge, client, &zone)),
+        Call::MissingFix { zone } => reply_alone(missing_fix(alloc, store, judge, client, &zone)),
         Call::Chain { zone, sysmod } => {
-            come_answered(chain(alloc, store, judge, client, &zone, &sysmod))
+            reply_alone(chain(alloc, store, judge, client, &zone, &sysmod))
         }
-        Call::Counts => Ok(Come::Answered(counts(alloc, store)?)),
+        Call::Counts => Ok(Outcome::Answered(counts(alloc, store)?)),
     }
 }
 
-// An answer comes.
-fn come_answered(reply: Result<Reply, NoRoom>) -> Result<Come, NoRoom>
-    ensures { IsComeOf reply result }
+// A reply alone is the outcome.
+fn reply_alone(reply: Result<Reply, NoRoom>) -> Result<Outcome, NoRoom>
+    ensures { IsReplyAlone reply result }
 {
-    Ok(Come::Answered(reply?))
+    Ok(Outcome::Answered(reply?))
 }

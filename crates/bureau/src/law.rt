@@ -14,7 +14,8 @@ ghost use Rattle.bureau_store.specs.declared.caller.Caller.{Caller};
 pub fn isolation()
     ensures alone { (opening closing : Tables) (turns : List Turn) (viewer : Caller) →
         AreInOrder opening → IsRun opening turns closing → IsAlone viewer (opening_of viewer opening) turns }
-    ensures alike { (opening closing opening2 closing2 : Tables) (turns turns2 : List Turn) (viewer : Caller) →
+    ensures alike { (opening closing opening2 closing2 : Tables)
+        (turns turns2 : List Turn) (viewer : Caller) →
         AreInOrder opening → AreInOrder opening2 → IsRun opening turns closing → IsRun opening2 turns2 closing2 →
         opening_of viewer opening ≡ opening_of viewer opening2 → AreAnsweredAlike viewer turns turns2 }
 {}
@@ -25,6 +26,8 @@ pub fn isolation()
 /// caller's was made, and STALE from then on. `stale`: a change that was told STALE is told so from then on. A 503
 /// may come in place of each. The tables are those of the same run without what came again.
 pub fn repeats()
-    ensures once { (opening closing : Tables) (turns : List Turn) → IsRun opening turns closing → ActsOnce opening turns closing }
-    ensures stale { (opening closing : Tables) (turns : List Turn) → IsRun opening turns closing → StaysStale opening turns closing }
+    ensures once { (opening closing : Tables) (turns : List Turn) →
+        IsRun opening turns closing → ActsOnce opening turns closing }
+    ensures stale { (opening closing : Tables) (turns : List Turn) →
+        IsRun opening turns closing → StaysStale opening turns closing }
 {}

@@ -14,10 +14,10 @@
 mod bureau;
 mod call;
 mod changes;
-mod come;
 mod commit;
 mod decide;
 mod law;
+mod outcome;
 mod publication;
 mod questions;
 mod reply;

@@ -10,14 +10,14 @@ ghost use Rattle.reports.specs.ReportText.{err_text_of, missing_text_of};
 ghost use Rattle.bureau_store.specs.Caller.{IsProper};
 ghost use Rattle.bureau_store.specs.declared.caller.Caller.TheVariants.{Client};
 ghost use Rattle.bureau.specs.Call as call;
-ghost use Rattle.bureau.specs.Outcome.{answered, as_json, outcome, plain};
+ghost use Rattle.bureau.specs.Outcome.{as_json, plain};
+ghost use Rattle.bureau.specs.Outcomes.{IsReplyTo};
 ghost use Rattle.bureau.specs.Reading.{HasRead, MayRead};
 ghost use Rattle.bureau.specs.Replies.{reply_as};
 ghost use Rattle.bureau.specs.Texts.{counts_text};
-ghost use Rattle.bureau.specs.View.{view_of};
 
 use crate::Reply;
-use crate::come::NoRoom;
+use crate::outcome::NoRoom;
 use crate::texts::{counts_line, zones_table};
 use bureau_store::Store;
 use catalogue::Published;
@@ -48,7 +48,7 @@ pub(crate) fn list_zones<S: Store>(
     requires { IsProper (Client client.now) }
     ensures reads { HasRead S.tables_view store.old store.new result }
     ensures reply { IfOk result (λ reply. Tells S.tables_view store.old store.new
-        (λ this. answered (reply_as reply) ≡ outcome (view_of (Client client.now) this) call.list_zones)) }
+        (λ this. IsReplyTo (Client client.now) call.list_zones this reply)) }
 {
     let zones = store.zones(client)?;
     Ok(Reply::text(zones_table(alloc, &zones)?))
@@ -65,7 +65,8 @@ pub(crate) fn err_sysmods<S: Store, J: Judge<S>>(
     requires { IsProper (Client client.now) }
     ensures reads { HasRead S.tables_view store.old store.new result }
     ensures reply { IfOk result (λ reply. Tells S.tables_view store.old store.new
-        (λ this. J.is_right judge.old this.content → answered (reply_as reply) ≡ outcome (view_of (Client client.now) this) (call.err_sysmods zone.now))) }
+        (λ this. J.is_right judge.old this.content →
+        IsReplyTo (Client client.now) (call.err_sysmods zone.now) this reply)) }
     ensures right { Tells S.tables_view store.old store.new
         (λ this. J.is_right judge.old this.content → J.is_right judge.new this.content) }
 {
@@ -89,7 +90,8 @@ pub(crate) fn missing_fix<S: Store, J: Judge<S>>(
     requires { IsProper (Client client.now) }
     ensures reads { HasRead S.tables_view store.old store.new result }
     ensures reply { IfOk result (λ reply. Tells S.tables_view store.old store.new
-        (λ this. J.is_right judge.old this.content → answered (reply_as reply) ≡ outcome (view_of (Client client.now) this) (call.missing_fix zone.now))) }
+        (λ this. J.is_right judge.old this.content →
+        IsReplyTo (Client client.now) (call.missing_fix zone.now) this reply)) }
     ensures right { Tells S.tables_view store.old store.new
         (λ this. J.is_right judge.old this.content → J.is_right judge.new this.content) }
 {
@@ -117,7 +119,8 @@ pub(crate) fn chain<S: Store, J: Judge<S>>(
     requires { IsProper (Client client.now) }
     ensures reads { HasRead S.tables_view store.old store.new result }
     ensures reply { IfOk result (λ reply. Tells S.tables_view store.old store.new
-        (λ this. J.is_right judge.old this.content → answered (reply_as reply) ≡ outcome (view_of (Client client.now) this) (call.chain zone.now sysmod.now))) }
+        (λ this. J.is_right judge.old this.content →
+        IsReplyTo (Client client.now) (call.chain zone.now sysmod.now) this reply)) }
     ensures right { Tells S.tables_view store.old store.new
         (λ this. J.is_right judge.old this.content → J.is_right judge.new this.content) }
 {
@@ -141,7 +144,8 @@ fn err_reply<P: Published, J: Judge<P>>(
     requires { Ascend received.now }
     ensures reads { MayRead P.content_view source.old source.new result }
     ensures reply { IfOk result (λ reply. Tells P.content_view source.old source.new
-        (λ content. J.is_right judge.old content → reply_as reply ≡ plain 200 (err_text_of zone.now (err_rows_of content installed.now received.now holds.now)))) }
+        (λ content. J.is_right judge.old content → reply_as reply ≡
+        plain 200 (err_text_of zone.now (err_rows_of content installed.now received.now holds.now)))) }
     ensures right { Tells P.content_view source.old source.new
         (λ content. J.is_right judge.old content → J.is_right judge.new content) }
 {
@@ -163,7 +167,9 @@ fn missing_reply<P: Published, J: Judge<P>>(
     requires { Ascend received.now }
     ensures reads { MayRead P.content_view source.old source.new result }
     ensures reply { IfOk result (λ reply. Tells P.content_view source.old source.new
-        (λ content. J.is_right judge.old content → reply_as reply ≡ plain 200 (missing_text_of zone.now (missing_rows_of content installed.now received.now patterns.now holds.now)))) }
+        (λ content. J.is_right judge.old content → reply_as reply ≡
+        plain 200 (missing_text_of zone.now
+        (missing_rows_of content installed.now received.now patterns.now holds.now)))) }
     ensures right { Tells P.content_view source.old source.new
         (λ content. J.is_right judge.old content → J.is_right judge.new content) }
 {
@@ -182,7 +188,8 @@ fn chain_reply<P: Published, J: Judge<P>>(
 ) -> Result<Reply, NoRoom>
     ensures reads { MayRead P.content_view source.old source.new result }
     ensures reply { IfOk result (λ reply. Tells P.content_view source.old source.new
-        (λ content. J.is_right judge.old content → reply_as reply ≡ as_json (chain_text_of content zone.now sysmod.now (verdict_of content installed.now sysmod.now)))) }
+        (λ content. J.is_right judge.old content → reply_as reply ≡
+        as_json (chain_text_of content zone.now sysmod.now (verdict_of content installed.now sysmod.now)))) }
     ensures right { Tells P.content_view source.old source.new
         (λ content. J.is_right judge.old content → J.is_right judge.new content) }
 {

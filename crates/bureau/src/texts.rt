@@ -28,7 +28,8 @@ const ZONE_COLUMNS: [Column; 2] = [
 
 /// How much is published: so many SYSMODs and so many holds.
 pub(crate) fn counts_line(alloc: Global, sysmods: u64, holds: u64) -> Result<Vec<u8>, NoMemory>
-    ensures { IfOk result (λ text. text.items ≡ codes "PUBLISHED SYSMODS " ++ decimal sysmods ++ codes " HOLDS " ++ decimal holds ++ codes "\n") }
+    ensures { IfOk result (λ text. text.items ≡
+        codes "PUBLISHED SYSMODS " ++ decimal sysmods ++ codes " HOLDS " ++ decimal holds ++ codes "\n") }
 {
     let mut text = Vec::new(alloc);
     text.extend_from_slice(b"PUBLISHED SYSMODS ")?;
@@ -58,18 +59,14 @@ pub(crate) fn publication_line(alloc: Global, changes: &[Change]) -> Result<Vec<
 pub(crate) fn zone_put_line(alloc: Global, zone: &Id, rows: &[ZoneRow]) -> Result<Vec<u8>, NoMemory>
     ensures { IfOk result (λ text. text.items ≡ zone_put_text zone.now rows.now) }
 {
-    let mut text = zone_begun(alloc, zone)?;
-    text.extend_from_slice(b" ROWS ")?;
-    push_number(&mut text, rows.len() as u64)?;
-    text.extend_from_slice(b"\n")?;
-    Ok(text)
+    zone_list_line(alloc, zone, b" ROWS ", rows.len())
 }
 
 /// What is told of a zone that was dropped.
 pub(crate) fn zone_dropped_line(alloc: Global, zone: &Id) -> Result<Vec<u8>, NoMemory>
     ensures { IfOk result (λ text. text.items ≡ zone_dropped_text zone.now) }
 {
-    let mut text = zone_begun(alloc, zone)?;
+    let mut text = zone_start(alloc, zone)?;
     text.extend_from_slice(b" DROPPED\n")?;
     Ok(text)
 }
@@ -82,11 +79,7 @@ pub(crate) fn patterns_line(
 ) -> Result<Vec<u8>, NoMemory>
     ensures { IfOk result (λ text. text.items ≡ patterns_text zone.now patterns.now) }
 {
-    let mut text = zone_begun(alloc, zone)?;
-    text.extend_from_slice(b" PATTERNS ")?;
-    push_number(&mut text, patterns.len() as u64)?;
-    text.extend_from_slice(b"\n")?;
-    Ok(text)
+    zone_list_line(alloc, zone, b" PATTERNS ", patterns.len())
 }
 
 /// What is told of a received list that was put.
@@ -111,8 +104,25 @@ pub(crate) fn zones_table(alloc: Global, zones: &[(Id, u64)]) -> Result<Vec<u8>,
     table.finish()
 }
 
+// What is told of a list that was put to a zone: how many entries it has.
+fn zone_list_line(
+    alloc: Global,
+    zone: &Id,
+    entries: &[u8],
+    count: usize,
+) -> Result<Vec<u8>, NoMemory>
+    ensures { IfOk result (λ text. text.items ≡
+        codes "ZONE " ++ text_of zone.now ++ entries.now ++ decimal count ++ codes "\n") }
+{
+    let mut text = zone_start(alloc, zone)?;
+    text.extend_from_slice(entries)?;
+    push_number(&mut text, count as u64)?;
+    text.extend_from_slice(b"\n")?;
+    Ok(text)
+}
+
 // The beginning of what is told of a zone.
-fn zone_begun(alloc: Global, zone: &Id) -> Result<Vec<u8>, NoMemory>
+fn zone_start(alloc: Global, zone: &Id) -> Result<Vec<u8>, NoMemory>
     ensures { IfOk result (λ text. text.items ≡ codes "ZONE " ++ text_of zone.now) }
 {
     let mut text = Vec::new(alloc);

@@ -1,8 +1,8 @@
 //! The turn of a change, by its number.
 ghost use Rattle.std.specs.Prelude.{◌≡◌, ◌<◌, ◌≤◌, IfOk};
 ghost use Rattle.bureau.specs.Outcome.{Outcome, in_turn};
-ghost use Rattle.bureau.specs.Come.{IsInTurn};
-ghost use Rattle.bureau.specs.Turn.{come_in};
+ghost use Rattle.bureau.specs.Outcomes.{IsInTurn};
+ghost use Rattle.bureau.specs.Turn.{outcome_in};
 ghost use Rattle.bureau_store.specs.Store.{greatest_number};
 ghost use Rattle.bureau_store.specs.Tables.{LastChange};
 
@@ -29,7 +29,8 @@ pub(crate) enum Turn {
 
 /// The turn of a change with this number after the caller's last change.
 pub(crate) fn turn_of(number: Option<u64>, last: u64) -> Turn
-    ensures turn { (change : LastChange) (come : Outcome) → change.number ≡ last → in_turn change number come ≡ come_in result change come }
+    ensures turn { (kept : LastChange) (change : Outcome) →
+        kept.number ≡ last → in_turn kept number change ≡ outcome_in result kept change }
     ensures next { result ≡ Turn.Next → last < 9223372036854775807 }
 {
     let Some(number) = number else {

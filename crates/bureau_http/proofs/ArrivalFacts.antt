@@ -170,3 +170,8 @@ module _ {Desk : Type 0} (view : View Desk Tables) where
     logged = so.logged;
     heard = told_so so.heard (λ this heard. heard_lawful old new this so.arrivals heard);
   }
+
+  -- so many were asked for
+  pub in_order_all : (old new : Desk) (log log_after : Option (List Event)) (count all : ℕ) → count ≡ all → InOrder old new log log_after count
+      → AreServedInOrder view old new (IsLawfulRun view old new) log log_after all
+  in_order_all old new log log_after count all is so = in_order_lawful old new log log_after all (subst (InOrder old new log log_after) is so)

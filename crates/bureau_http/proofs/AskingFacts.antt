@@ -68,10 +68,6 @@ token_there parts token is = ap is_some (sym is)
 -- ---- the run of a request
 
 module _ {Desk : Type 0} (view : View Desk Tables) (old new : Desk) (this : Tables) where
-  -- what makes no call is no turn
-  pub refused_run : (what : What) (refusal : Refusal) (answer : Answer) → what ≡ Err refusal → Idles view old new this → IsKeptRun view old new this (turn_by what answer) this
-  refused_run what refusal answer is idles = subst (λ what. IsKeptRun view old new this (turn_by what answer) this) (sym is) (refl, idles)
-
   -- what has no room is a turn that changes nothing, or none
   pub no_room_run : (what : What) → Idles view old new this → IsKeptRun view old new this (turn_by what no_room) this
   no_room_run (Ok call) idles =

@@ -15,9 +15,6 @@ module _ {Desk : Type 0} (view : View Desk Tables) (old new : Desk) where
   pub ran_lawful : (this : Tables) → HasRun (IsKeptRun view old new) this → HasRun (IsLawfulRun view old new) this
   ran_lawful this ran = record { turns = ran.turns; closing = ran.closing; run = lawful_run view old new this ran.turns ran.closing ran.run }
 
-  pub ran_kept : (this : Tables) → HasRun (IsLawfulRun view old new) this → HasRun (IsKeptRun view old new) this
-  ran_kept this ran = record { turns = ran.turns; closing = ran.closing; run = ran.run.kept }
-
   pub one_lawful : (this : Tables) (left before after : Option (List ℕ)) (answer : Result Served ConnFault) (bytes : List ℕ)
       → IsServed (IsKeptRun view old new) this left before after answer bytes → IsServed (IsLawfulRun view old new) this left before after answer bytes
   one_lawful this left before after answer bytes served = record {

@@ -5,6 +5,7 @@ mod ServingFacts
 mod ArrivalFacts
 mod IsolatedFacts
 mod ListFacts
+mod NextFacts
 mod ConnectionFacts
 pub mod ReplayFacts
 mod LawfulFacts

@@ -31,10 +31,6 @@ pub front_second : (old mid new : Option (List ℕ)) (text more : List ℕ) → 
 front_second old mid new text more first front =
     (length text + front.0, subst (Appends old new) (sym (take-append-add text more front.0)) (Appends-trans old mid new text (take front.0 more) first front.1))
 
-body_test : (is_bare : Bool) (head body written : List ℕ) → written ≡ (if is_bare then [] else body)
-    → head ++ written ≡ head ++ (if is_bare then [] else body)
-body_test is_bare head body written e = ap (λ l. head ++ l) e
-
 -- the bytes of a reply
 pub whole_reply : (told : Told) (is_bare closes : Bool) (head written : List ℕ) → head ≡ head_text (head_told told closes)
     → written ≡ (if is_bare then [] else body_told (answer_told told)) → head ++ written ≡ told_text told is_bare closes

@@ -106,22 +106,6 @@ ActOnce Runs = (this next : Tables) (turns : List Turn) → Runs this turns next
 
 -- ---- the loop
 
--- nothing was served yet
-pub begun : (Runs : Tables → List Turn → Tables → Type 0) (this : Tables) (left old new : Option (List ℕ)) (bytes : List ℕ) → Runs this [] this → left ≡ Some bytes
-    → Appends old new [] → IsSoFar Runs this 1 left old new bytes
-begun Runs this left old new bytes run left_are written = record {
-  exchanges = [];
-  now = this;
-  run = run;
-  callers = refl;
-  answered = tt;
-  following = bytes;
-  reads = refl;
-  left_are = left_are;
-  count = refl;
-  written = written;
-}
-
 module _ (First Then Whole : Tables → List Turn → Tables → Type 0) (join : Join First Then Whole) (once : ActOnce Whole) (this : Tables) (place : ℕ) (rest left old mid new : Option (List ℕ)) (bytes : List ℕ)
     (so : IsSoFar First this place left old mid bytes) where
   reads_more : (exchange : Exchange) (following : List ℕ) → IsRequest so.now.callers place so.following exchange.asked following
@@ -383,18 +367,12 @@ whole_cut Runs this place bytes parts body following ends old new answer fault n
 
 -- ---- what the desk did, whatever it was asked
 
-pub stayed : (Runs : Tables → List Turn → Tables → Type 0) (this : Tables) → Runs this [] this → HasRun Runs this
-stayed Runs this run = record { turns = []; closing = this; run = run }
-
 pub ran_more : (First Then Whole : Tables → List Turn → Tables → Type 0) → Join First Then Whole → (this : Tables) (so : HasRun First this) → HasRun Then so.closing → HasRun Whole this
 ran_more First Then Whole join this so more = record {
   turns = so.turns ++ more.turns;
   closing = more.closing;
   run = join this so.closing more.closing so.turns more.turns so.run more.run;
 }
-
-pub exchanged_ran : (Runs : Tables → List Turn → Tables → Type 0) (this : Tables) (exchange : Exchange) → HasExchanged Runs this exchange → HasRun Runs this
-exchanged_ran Runs this exchange has = record { turns = turn_of exchange; closing = has.next; run = has.run }
 
 -- ---- a read that failed
 

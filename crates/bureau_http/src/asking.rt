@@ -26,10 +26,15 @@ pub(crate) fn answer_to<D: Desk>(
 ) -> Told
     requires { IsAt bytes.now request.now }
     ensures goes { Goes D.tables_view desk.old desk.new }
-    ensures shut { has_token (parts_in bytes.now request.now) ≡ true → IsOfLookUp result → IsOpen D.tables_view desk.new }
+    ensures shut { has_token (parts_in bytes.now request.now) ≡ true → IsOfLookUp result →
+        IsOpen D.tables_view desk.new }
     ensures told { Tells D.tables_view desk.old desk.new (λ this.
-        (next : Tables) × IsTold this (what_of this.callers (parts_in bytes.now request.now) (body_in bytes.now request.now)) (has_token (parts_in bytes.now request.now)) result next
-        × IsKeptRun D.tables_view desk.old desk.new this (turn_by (what_of this.callers (parts_in bytes.now request.now) (body_in bytes.now request.now)) (answer_told result)) next) }
+        (next : Tables)
+        × IsTold this (what_of this.callers (parts_in bytes.now request.now) (body_in bytes.now request.now))
+        (has_token (parts_in bytes.now request.now)) result next
+        × IsKeptRun D.tables_view desk.old desk.new this
+        (turn_by (what_of this.callers (parts_in bytes.now request.now) (body_in bytes.now request.now))
+        (answer_told result)) next) }
 {
     let Some(token) = request.token(bytes) else {
         return Told::Refused(Refusal::UnknownToken);

@@ -26,14 +26,16 @@ pub trait Desk {
     /// `Memory` where memory ran out, `Device` where what lies below has failed, now or before.
     fn caller_of(&mut self, token: &[u8]) -> Result<Option<Caller>, StoreFault>
         ensures reads { Reads tables_view self.old self.new result }
-        ensures caller { IfOk result (λ found. Tells tables_view self.old self.new (λ this. found ≡ caller_with this.callers token.now)) }
+        ensures caller { IfOk result (λ found. Tells tables_view self.old self.new
+            (λ this. found ≡ caller_with this.callers token.now)) }
         ensures proper { IfOk result (λ found. IfSome found IsProper) };
 
-    /// What is answered to a call: a turn of the bureau that all callers share. What is told from the tables was told by a
-    /// desk that is open.
+    /// What is answered to a call: a turn of the bureau that all callers share. What is told from the tables was told
+    /// by a desk that is open.
     fn answer(&mut self, caller: &Caller, call: &Call<'_>) -> Reply
         requires { IsProper caller.now }
-        ensures { IsAnswered tables_view self.old self.new (record { caller = caller.now; call = call_as call.now; answer = reply_as result }) };
+        ensures { IsAnswered tables_view self.old self.new
+            (record { caller = caller.now; call = call_as call.now; answer = reply_as result }) };
 
     /// What the view keeps to.
     ghost tables_lawful: { IsLawful tables_view };

@@ -37,7 +37,12 @@ impl Fault for ConnFault {
 
     ghost cause = { elim [ Read ↦ Machine | Write ↦ Machine | EndInside ↦ Input | Memory ↦ Machine ] };
 
-    ghost numbers = { elim [ Read ↦ Prim.search rules | Write ↦ Prim.search rules | EndInside ↦ Prim.search rules | Memory ↦ Prim.search rules ] };
+    ghost numbers = { elim [
+      | Read ↦ Prim.search rules
+      | Write ↦ Prim.search rules
+      | EndInside ↦ Prim.search rules
+      | Memory ↦ Prim.search rules
+    ] };
 
     fn number(self) -> u8 {
         match self {

@@ -28,9 +28,11 @@ pub fn serve_list<D: Desk>(
 ) -> Result<Vec<Vec<u8>>, (RunFault, Vec<Vec<u8>>)>
     ensures goes { Goes D.tables_view desk.old desk.new }
     ensures served { IfOk result (λ written. Tells D.tables_view desk.old desk.new (λ this.
-        AreServed (IsLawfulRun D.tables_view desk.old desk.new) this (map (λ connection. connection.items) connections.items) (map (λ text. text.items) written.items))) }
+        AreServed (IsLawfulRun D.tables_view desk.old desk.new) this
+        (map (λ connection. connection.items) connections.items) (map (λ text. text.items) written.items))) }
     ensures in_part { IfErr result (λ fault. Tells D.tables_view desk.old desk.new (λ this.
-        AreServedInPart (IsLawfulRun D.tables_view desk.old desk.new) this (map (λ connection. connection.items) connections.items) (map (λ text. text.items) fault.1.items))) }
+        AreServedInPart (IsLawfulRun D.tables_view desk.old desk.new) this
+        (map (λ connection. connection.items) connections.items) (map (λ text. text.items) fault.1.items))) }
 {
     serve_each(alloc, desk, connections.as_slice())
 }
@@ -43,9 +45,11 @@ fn serve_each<D: Desk>(
 ) -> Result<Vec<Vec<u8>>, (RunFault, Vec<Vec<u8>>)>
     ensures goes { Goes D.tables_view desk.old desk.new }
     ensures served { IfOk result (λ written. Tells D.tables_view desk.old desk.new (λ this.
-        AreServed (IsKeptRun D.tables_view desk.old desk.new) this (map (λ connection. connection.items) connections.now) (map (λ text. text.items) written.items))) }
+        AreServed (IsKeptRun D.tables_view desk.old desk.new) this
+        (map (λ connection. connection.items) connections.now) (map (λ text. text.items) written.items))) }
     ensures in_part { IfErr result (λ fault. Tells D.tables_view desk.old desk.new (λ this.
-        AreServedInPart (IsKeptRun D.tables_view desk.old desk.new) this (map (λ connection. connection.items) connections.now) (map (λ text. text.items) fault.1.items))) }
+        AreServedInPart (IsKeptRun D.tables_view desk.old desk.new) this
+        (map (λ connection. connection.items) connections.now) (map (λ text. text.items) fault.1.items))) }
 {
     isolation();
     repeats();
@@ -73,8 +77,10 @@ fn replies_to<D: Desk>(
     bytes: &[u8],
 ) -> Result<Vec<u8>, NoMemory>
     ensures goes { Goes D.tables_view desk.old desk.new }
-    ensures served { IfOk result (λ text. Tells D.tables_view desk.old desk.new (λ this. IsOneServed (IsKeptRun D.tables_view desk.old desk.new) this bytes.now text.items)) }
-    ensures cut { OnErr result (Tells D.tables_view desk.old desk.new (λ this. IsOneCut (IsKeptRun D.tables_view desk.old desk.new) this bytes.now)) }
+    ensures served { IfOk result (λ text. Tells D.tables_view desk.old desk.new (λ this.
+        IsOneServed (IsKeptRun D.tables_view desk.old desk.new) this bytes.now text.items)) }
+    ensures cut { OnErr result (Tells D.tables_view desk.old desk.new (λ this.
+        IsOneCut (IsKeptRun D.tables_view desk.old desk.new) this bytes.now)) }
 {
     let mut reader = bytes;
     let mut writer = Vec::new(alloc);

@@ -13,8 +13,8 @@ use std::io::{self, Read, Write};
 
 /// Where connections come from.
 ///
-/// The system's own sockets tell nothing of what came over them. Others, as a list, can tell all of it. So what is proved of
-/// every `Listening` says which connections are served, in which order, and what is done between them.
+/// The system's own sockets tell nothing of what came over them. Others, as a list, can tell all of it. So what is
+/// proved of every `Listening` says which connections are served, in which order, and what is done between them.
 pub trait Listening {
     type Reader: Read + Drop;
 
@@ -29,17 +29,20 @@ pub trait Listening {
     ///
     /// None could be accepted. Another may be, by another call.
     fn accept(&mut self) -> io::Result<(Self::Reader, Self::Writer)>
-        ensures came { IfOk result (λ both. Logs (log self.old) (log self.new) (came (Self.Reader.remaining both.0) (Self.Writer.contents both.1) ∷ [])) }
+        ensures came { IfOk result (λ both. Logs (log self.old) (log self.new)
+            (came (Self.Reader.remaining both.0) (Self.Writer.contents both.1) ∷ [])) }
         ensures missed { OnErr result (Logs (log self.old) (log self.new) (missed ∷ [])) };
 
-    /// Closes a connection, so that its peer gets all that was written, and then its end. It is told how serving it ended.
+    /// Closes a connection, so that its peer gets all that was written, and then its end. It is told how serving it
+    /// ended.
     fn close(
         &mut self,
         reader: Self::Reader,
         writer: Self::Writer,
         ended: Result<Served, ConnFault>,
     )
-        ensures { Logs (log self.old) (log self.new) (closed (Self.Reader.remaining reader) (Self.Writer.contents writer) ended ∷ []) };
+        ensures { Logs (log self.old) (log self.new)
+            (closed (Self.Reader.remaining reader) (Self.Writer.contents writer) ended ∷ []) };
 }
 
 /// Waits so often for a connection, serves each to its end, and closes it before it waits for the next.
@@ -52,7 +55,8 @@ pub fn serve_listener<D: Desk, L: Listening>(
     connections: u32,
 )
     ensures goes { Goes D.tables_view desk.old desk.new }
-    ensures served { AreServedInOrder D.tables_view desk.old desk.new (IsLawfulRun D.tables_view desk.old desk.new) (L.log listening.old) (L.log listening.new) connections }
+    ensures served { AreServedInOrder D.tables_view desk.old desk.new
+        (IsLawfulRun D.tables_view desk.old desk.new) (L.log listening.old) (L.log listening.new) connections }
 {
     for _ in 0..connections {
         serve_next_arrival(alloc, desk, listening);
@@ -62,7 +66,8 @@ pub fn serve_listener<D: Desk, L: Listening>(
 // Waits for the next connection, serves it to its end, and closes it.
 fn serve_next_arrival<D: Desk, L: Listening>(alloc: Global, desk: &mut D, listening: &mut L)
     ensures goes { Goes D.tables_view desk.old desk.new }
-    ensures served { AreServedInOrder D.tables_view desk.old desk.new (IsKeptRun D.tables_view desk.old desk.new) (L.log listening.old) (L.log listening.new) 1 }
+    ensures served { AreServedInOrder D.tables_view desk.old desk.new
+        (IsKeptRun D.tables_view desk.old desk.new) (L.log listening.old) (L.log listening.new) 1 }
 {
     if let Ok((mut reader, mut writer)) = listening.accept() {
         let ended = serve_one(alloc, desk, &mut reader, &mut writer);

@@ -26,7 +26,8 @@ pub fn replay(
     text: &[u8],
     connections: Vec<Vec<u8>>,
 ) -> Result<Vec<Vec<u8>>, AnyFault>
-    ensures replayed { IfOk result (λ written. IsReplayed text.now (map (λ connection. connection.items) connections.items) (map (λ text. text.items) written.items)) }
+    ensures replayed { IfOk result (λ written. IsReplayed text.now
+        (map (λ connection. connection.items) connections.items) (map (λ text. text.items) written.items)) }
     ensures refused { IfErr result (IsReplayFault text.now) }
 {
     let rows = callers_in(alloc, text)?;

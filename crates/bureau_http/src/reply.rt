@@ -90,8 +90,10 @@ impl Told {
         closes: bool,
         retries: &mut u32,
     ) -> Result<(), ConnFault>
-        ensures ok { OnOk result (Appends (W.contents writer.old) (W.contents writer.new) (told_text self.now is_bare closes)) }
-        ensures err { IfErr result (λ fault. (fault ≡ NotWritten) × AppendsFront (W.contents writer.old) (W.contents writer.new) (told_text self.now is_bare closes)) }
+        ensures ok { OnOk result
+            (Appends (W.contents writer.old) (W.contents writer.new) (told_text self.now is_bare closes)) }
+        ensures err { IfErr result (λ fault. (fault ≡ NotWritten)
+            × AppendsFront (W.contents writer.old) (W.contents writer.new) (told_text self.now is_bare closes)) }
     {
         let head = head_text(&self.head(closes));
         write_both(writer, &head, self.body_for(is_bare), retries)
@@ -126,8 +128,10 @@ fn write_both<W: Write>(
     retries: &mut u32,
 ) -> Result<(), ConnFault>
     requires { length head.now ≤ 512 }
-    ensures ok { OnOk result (Appends (W.contents writer.old) (W.contents writer.new) (head.now ++ body.now)) }
-    ensures err { IfErr result (λ fault. (fault ≡ NotWritten) × AppendsFront (W.contents writer.old) (W.contents writer.new) (head.now ++ body.now)) }
+    ensures ok { OnOk result
+        (Appends (W.contents writer.old) (W.contents writer.new) (head.now ++ body.now)) }
+    ensures err { IfErr result (λ fault. (fault ≡ NotWritten)
+        × AppendsFront (W.contents writer.old) (W.contents writer.new) (head.now ++ body.now)) }
 {
     if body.len() > ROOM - head.len() {
         write_text(writer, head, retries)?;
@@ -152,7 +156,8 @@ fn put(room: &mut ArrayVec<u8, ROOM>, text: &[u8])
 
 fn write_text<W: Write>(writer: &mut W, text: &[u8], retries: &mut u32) -> Result<(), ConnFault>
     ensures ok { OnOk result (Appends (W.contents writer.old) (W.contents writer.new) text.now) }
-    ensures err { IfErr result (λ fault. (fault ≡ NotWritten) × AppendsFront (W.contents writer.old) (W.contents writer.new) text.now) }
+    ensures err { IfErr result (λ fault. (fault ≡ NotWritten)
+        × AppendsFront (W.contents writer.old) (W.contents writer.new) text.now) }
 {
     match write_whole(writer, text, retries) {
         Ok(()) => Ok(()),

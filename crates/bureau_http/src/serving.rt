@@ -66,9 +66,12 @@ pub fn serve_one<D: Desk, R: Read, W: Write>(
     writer: &mut W,
 ) -> Result<Served, ConnFault>
     ensures goes { Goes D.tables_view desk.old desk.new }
-    ensures ran { Tells D.tables_view desk.old desk.new (λ this. HasRun (IsLawfulRun D.tables_view desk.old desk.new) this) }
+    ensures ran { Tells D.tables_view desk.old desk.new (λ this.
+        HasRun (IsLawfulRun D.tables_view desk.old desk.new) this) }
     ensures served { Tells D.tables_view desk.old desk.new (λ this.
-        IfSome (R.remaining reader.old) (IsServed (IsLawfulRun D.tables_view desk.old desk.new) this (R.remaining reader.new) (W.contents writer.old) (W.contents writer.new) result)) }
+        IfSome (R.remaining reader.old)
+        (IsServed (IsLawfulRun D.tables_view desk.old desk.new) this
+        (R.remaining reader.new) (W.contents writer.old) (W.contents writer.new) result)) }
 {
     repeats();
     let routes = Routes::new(alloc)?;
@@ -83,9 +86,12 @@ pub(crate) fn serve_connection<D: Desk, R: Read, W: Write>(
     writer: &mut W,
 ) -> Result<Served, ConnFault>
     ensures goes { Goes D.tables_view desk.old desk.new }
-    ensures ran { Tells D.tables_view desk.old desk.new (λ this. HasRun (IsKeptRun D.tables_view desk.old desk.new) this) }
+    ensures ran { Tells D.tables_view desk.old desk.new (λ this.
+        HasRun (IsKeptRun D.tables_view desk.old desk.new) this) }
     ensures served { Tells D.tables_view desk.old desk.new (λ this.
-        IfSome (R.remaining reader.old) (IsServed (IsKeptRun D.tables_view desk.old desk.new) this (R.remaining reader.new) (W.contents writer.old) (W.contents writer.new) result)) }
+        IfSome (R.remaining reader.old)
+        (IsServed (IsKeptRun D.tables_view desk.old desk.new) this
+        (R.remaining reader.new) (W.contents writer.old) (W.contents writer.new) result)) }
 {
     repeats();
     let mut intake = Intake::new(alloc);
@@ -126,11 +132,13 @@ fn serve_next<D: Desk, R: Read, W: Write>(
     retries: &mut Retries,
 ) -> Result<Step, ConnFault>
     ensures goes { Goes D.tables_view desk.old desk.new }
-    ensures ran { Tells D.tables_view desk.old desk.new (λ this. HasRun (IsKeptRun D.tables_view desk.old desk.new) this) }
+    ensures ran { Tells D.tables_view desk.old desk.new (λ this.
+        HasRun (IsKeptRun D.tables_view desk.old desk.new) this) }
     ensures within { IfOk result (λ step. step ≡ Step.Stays → place < 10000) }
     ensures next { Tells D.tables_view desk.old desk.new (λ this.
         IfSome (prepend_known intake.old (R.remaining reader.old))
-        (Serves (IsKeptRun D.tables_view desk.old desk.new) this place intake.new (R.remaining reader.new) (W.contents writer.old) (W.contents writer.new) result)) }
+        (Serves (IsKeptRun D.tables_view desk.old desk.new) this place intake.new
+        (R.remaining reader.new) (W.contents writer.old) (W.contents writer.new) result)) }
 {
     match read_turn(intake, reader, &mut retries.reads)? {
         Turn::CleanEnd => Ok(Step::CleanEnd),
@@ -178,7 +186,9 @@ fn serve_request<D: Desk, W: Write>(
     requires { IsAt bytes.now request.now }
     ensures goes { Goes D.tables_view desk.old desk.new }
     ensures exchanged { Tells D.tables_view desk.old desk.new (λ this.
-        IsExchanged (IsKeptRun D.tables_view desk.old desk.new) this (what_of this.callers (parts_in bytes.now request.now) (body_in bytes.now request.now)) (has_token (parts_in bytes.now request.now)) (is_bare (parts_in bytes.now request.now)) closes
+        IsExchanged (IsKeptRun D.tables_view desk.old desk.new) this
+        (what_of this.callers (parts_in bytes.now request.now) (body_in bytes.now request.now))
+        (has_token (parts_in bytes.now request.now)) (is_bare (parts_in bytes.now request.now)) closes
         (W.contents writer.old) (W.contents writer.new) result) }
 {
     let told = answer_to(desk, routes, request, bytes);

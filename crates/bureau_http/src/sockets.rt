@@ -43,7 +43,8 @@ impl Patience {
 
 /// Connections from a socket's listener.
 ///
-/// What is written goes out at once. A client that is slow or silent doesn't keep the desk longer than its patience lasts.
+/// What is written goes out at once. A client that is slow or silent doesn't keep the desk longer than its patience
+/// lasts.
 #[derive(Drop)]
 pub struct Sockets<'a, C> {
     listener: &'a TcpListener,
@@ -109,8 +110,8 @@ impl<'a, C: Clock> Listening for Sockets<'a, C> {
         came
     }
 
-    // A socket that is closed while bytes lie unread in it tells its peer so, and the peer may lose the last replies. So first
-    // its sending side ends, and what still comes is read for a while (RFC 9112, section 9.6).
+    // A socket that is closed while bytes lie unread in it tells its peer so, and the peer may lose the last replies.
+    // So first its sending side ends, and what still comes is read for a while (RFC 9112, section 9.6).
     fn close(
         &mut self,
         reader: Side<'a, C>,

@@ -2,17 +2,17 @@ use Rattle.std.proofs.Common.{sym, ap, subst}
 use Rattle.catalogue.proofs.SourceFacts.{told_so}
 use Rattle.bureau_store.specs.declared.caller.Caller.TheVariants.{Client}
 use Rattle.bureau.specs.Calls.{call_as}
-use Rattle.bureau.specs.Come.{IsComing}
+use Rattle.bureau.specs.Outcomes.{IsOutcome}
 use Rattle.bureau.specs.Outcome.{answered}
-use Rattle.bureau.specs.declared.come.Come.TheVariants.{Answered}
+use Rattle.bureau.specs.declared.outcome.Outcome.TheVariants.{Answered}
 use Rattle.bureau.proofs.decide.decide_for_client.Goals as goal
 
-pub returns-in_ok-list_zones-in-ListZones-clause-come : goal.returns-in_ok-list_zones-in-ListZones-clause-come
-returns-in_ok-list_zones-in-ListZones-clause-come g c =
+pub returns-in_ok-list_zones-in-ListZones-clause-outcome : goal.returns-in_ok-list_zones-in-ListZones-clause-outcome
+returns-in_ok-list_zones-in-ListZones-clause-outcome g c =
     told_so c.in_ok-list_zones-in-ListZones.ensures.reply (λ this told right.
-    subst (λ call. IsComing (Client c.args.client.now) (call_as call) this (Answered c.in_ok-list_zones-in-ListZones.field-0)) (sym c.in-ListZones.is) (told, tt))
+    subst (λ call. IsOutcome (Client c.args.client.now) (call_as call) this (Answered c.in_ok-list_zones-in-ListZones.field-0)) (sym c.in-ListZones.is) (told, tt))
 
-pub returns-in_ok-counts-in-Counts-clause-come : goal.returns-in_ok-counts-in-Counts-clause-come
-returns-in_ok-counts-in-Counts-clause-come g c =
+pub returns-in_ok-counts-in-Counts-clause-outcome : goal.returns-in_ok-counts-in-Counts-clause-outcome
+returns-in_ok-counts-in-Counts-clause-outcome g c =
     told_so c.in_ok-counts-in-Counts.ensures.reply (λ this told right.
-    subst (λ call. IsComing (Client c.args.client.now) (call_as call) this (Answered c.in_ok-counts-in-Counts.field-0)) (sym c.in-Counts.is) (ap answered told, tt))
+    subst (λ call. IsOutcome (Client c.args.client.now) (call_as call) this (Answered c.in_ok-counts-in-Counts.field-0)) (sym c.in-Counts.is) (ap answered told, tt))

@@ -1,7 +1,7 @@
-use Rattle.catalogue.proofs.SourceFacts.{no_fault, told_later, told_so}
+use Rattle.catalogue.proofs.SourceFacts.{no_fault, told_so}
 use Rattle.bureau_store.specs.Tables.{zone_named}
 use Rattle.bureau.proofs.QuestionFacts.{so_ok, told_then, with_rows, chain_told}
-use Rattle.bureau.proofs.ShownFacts.{shown_keeps, shown_tells, then_reads}
+use Rattle.bureau.proofs.ShownFacts.{shown_keeps, shown_tells, then_reads, then_shown}
 use Rattle.bureau.proofs.questions.chain.Goals as goal
 
 pub returns-clause-reads : goal.returns-clause-reads
@@ -24,8 +24,5 @@ returns-clause-reply g c =
 
 pub returns-clause-right : goal.returns-clause-right
 returns-clause-right g c =
-    let tables = g.met.S.Store in
-    let law = tables.tables_lawful in
-    let sooner = law.keeps _ _ c.in_ok-rows.ensures.reads.asks.keeps in
-    let later = law.keeps _ _ (shown_keeps tables.shows_content c.chain_reply.ensures.reads.keeps) in
-    told_later sooner later (shown_tells tables.shows_content c.chain_reply.ensures.right)
+    let law = g.met.S.Store.tables_lawful in
+    then_shown g.met.S.Store.shows_content law c.in_ok-rows.ensures.reads.asks.keeps c.chain_reply.ensures.reads.keeps c.chain_reply.ensures.right

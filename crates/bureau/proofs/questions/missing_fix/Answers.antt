@@ -1,8 +1,8 @@
 use Rattle.std.proofs.Common.{◌∙◌}
-use Rattle.catalogue.proofs.SourceFacts.{no_fault, told_later, told_so}
+use Rattle.catalogue.proofs.SourceFacts.{no_fault, told_so}
 use Rattle.bureau_store.specs.Tables.{zone_named}
 use Rattle.bureau.proofs.QuestionFacts.{so_ok, told_then, with_rows, missing_reported}
-use Rattle.bureau.proofs.ShownFacts.{shown_keeps, shown_tells, then_reads}
+use Rattle.bureau.proofs.ShownFacts.{shown_keeps, shown_tells, then_reads, then_shown}
 use Rattle.bureau.proofs.questions.missing_fix.Goals as goal
 
 pub returns-clause-reads : goal.returns-clause-reads
@@ -25,8 +25,5 @@ returns-clause-reply g c =
 
 pub returns-clause-right : goal.returns-clause-right
 returns-clause-right g c =
-    let tables = g.met.S.Store in
-    let law = tables.tables_lawful in
-    let sooner = law.keeps _ _ (law.on _ _ _ (law.on _ _ _ (law.on _ _ _ c.in_ok-rows.ensures.reads.asks.keeps c.in_ok-received.ensures.reads.asks.keeps) c.in_ok-patterns.ensures.reads.asks.keeps) c.in_ok-holds.ensures.reads.asks.keeps) in
-    let later = law.keeps _ _ (shown_keeps tables.shows_content c.missing_reply.ensures.reads.keeps) in
-    told_later sooner later (shown_tells tables.shows_content c.missing_reply.ensures.right)
+    let law = g.met.S.Store.tables_lawful in
+    then_shown g.met.S.Store.shows_content law (law.on _ _ _ (law.on _ _ _ (law.on _ _ _ c.in_ok-rows.ensures.reads.asks.keeps c.in_ok-received.ensures.reads.asks.keeps) c.in_ok-patterns.ensures.reads.asks.keeps) c.in_ok-holds.ensures.reads.asks.keeps) c.missing_reply.ensures.reads.keeps c.missing_reply.ensures.right

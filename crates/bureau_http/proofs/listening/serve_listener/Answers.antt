@@ -1,8 +1,6 @@
-use Rattle.std.proofs.Common.{◌≡◌, arith, subst}
-use Rattle.bureau.specs.Kept.{IsKeptRun}
+use Rattle.std.proofs.Common.{arith}
 use Rattle.catalogue.proofs.SourceFacts.{goes_on}
-use Rattle.bureau_http.specs.Arrivals.{AreServedInOrder}
-use Rattle.bureau_http.proofs.ArrivalFacts.{in_order_lawful, in_order_on}
+use Rattle.bureau_http.proofs.ArrivalFacts.{in_order_all, in_order_on}
 use Rattle.bureau_http.proofs.listening.serve_listener.Goals as goal
 
 pub loop-preserved : goal.loop-preserved
@@ -18,11 +16,6 @@ loop-preserved g c =
 
 pub returns-clause-served : goal.returns-clause-served
 returns-clause-served g c =
-    let view = g.D.Desk.tables_view in
-    let old = c.args.desk.now in
-    let new = c.loop.desk in
-    let log = g.L.Listening.log c.args.listening.now in
-    let log_after = g.L.Listening.log c.loop.listening in
-    let all : c.loop.counter ≡ c.args.connections = omega (arith, c.loop-test.false, c.loop.auto.counter-end) in
-    in_order_lawful view old new log log_after c.args.connections
-    (subst (λ count. AreServedInOrder view old new (IsKeptRun view old new) log log_after count) all c.loop.invariant.served)
+    in_order_all g.D.Desk.tables_view c.args.desk.now c.loop.desk
+    (g.L.Listening.log c.args.listening.now) (g.L.Listening.log c.loop.listening) c.loop.counter c.args.connections
+    (omega (arith, c.loop-test.false, c.loop.auto.counter-end)) c.loop.invariant.served

@@ -1,4 +1,4 @@
-//! What comes of a call.
+//! The outcome of a call.
 use crate::{NoMemory, Reply};
 use bureau_store::StoreFault;
 use catalogue::{Change, SourceFault};
@@ -10,29 +10,29 @@ use zone_lists::{Pattern, ZoneRow};
 #[derive(Clone, Copy, Debug)]
 pub(crate) struct NoRoom;
 
-/// What comes of a call: an answer alone, or a change.
+/// What comes of a call: a reply alone, or an accepted change with its reply.
 #[derive(Debug, Drop)]
-pub(crate) enum Come {
-    /// The answer, and nothing changes.
+pub(crate) enum Outcome {
+    /// The reply. Nothing changes.
     Answered(Reply),
     /// The change, which isn't made yet.
-    Accepted(Due),
+    Accepted(AcceptedChange),
 }
 
-/// A change that is due, with all that it takes. To make it takes no memory of the bureau's.
+/// An accepted change, with all that it takes. To make it takes no memory of the bureau's.
 #[derive(Debug, Drop)]
-pub(crate) struct Due {
+pub(crate) struct AcceptedChange {
     /// The change's number.
     pub(crate) number: u64,
-    /// What is told of it, and kept.
-    pub(crate) text: Vec<u8>,
-    /// What changes.
-    pub(crate) deed: Deed,
+    /// The text of its reply, which is kept.
+    pub(crate) reply: Vec<u8>,
+    /// What it does to the tables.
+    pub(crate) effect: Effect,
 }
 
-/// What a change does.
+/// What an accepted change does to the tables.
 #[derive(Debug, Drop)]
-pub(crate) enum Deed {
+pub(crate) enum Effect {
     /// The publisher publishes these changes, and the frames of these SYSMODs are touched.
     Publication {
         changes: Vec<Change>,
