@@ -9,6 +9,21 @@
 //! `specs/` says what the bureau is: begin with its `Outcome`, what comes of a call over what one
 //! caller sees; then `Joint`, the bureau that all share, and `Own` and `Alone`, the bureau that one caller
 //! has alone.
+//!
+//! ```
+//! use bureau::{Bureau, Call};
+//! use bureau_store::{ListStore, callers};
+//! use chains::Whole;
+//! let rows = callers(alloc, b"NAME,TOKEN\nPUBLISH,publisher-token\nALPHA,alpha-token\n")?;
+//! let mut bureau = Bureau::new(alloc, ListStore::new(alloc, &rows)?, Whole::new());
+//! let publisher = bureau.caller_of(b"publisher-token")?.ok_or("a caller")?;
+//! let body: &[u8] = b"++HOLD(UJ90101) ERROR FMID(HBB77E0) REASON(AJ00001).\n";
+//! let reply = bureau.answer(&publisher, &Call::Publish { number: Some(1), body });
+//! assert_eq!(rt; reply.body.as_slice(), b"ACCEPTED SYSMODS 0 HOLDS 1 RELEASES 0\n".as_slice());
+//! let alpha = bureau.caller_of(b"alpha-token")?.ok_or("a caller")?;
+//! let reply = bureau.answer(&alpha, &Call::Counts);
+//! assert_eq!(rt; reply.body.as_slice(), b"PUBLISHED SYSMODS 0 HOLDS 1\n".as_slice());
+//! ```
 #![tactic(auto)]
 
 mod bureau;

@@ -8,6 +8,21 @@
 //! - [`serve_while_open`]: the same over a store, as long as its device has not failed
 //! - [`Sockets`]: those of a socket's listener, with the [`Patience`] of the desk
 //! - [`one_connection`]: a law: a connection's bytes are requests and a stop in one way only
+//!
+//! ```
+//! use bureau::Bureau;
+//! use bureau_http::serve_one;
+//! use bureau_store::{ListStore, callers};
+//! use chains::Whole;
+//! let rows = callers(alloc, b"NAME,TOKEN\nPUBLISH,publisher-token\nALPHA,alpha-token\n")?;
+//! let mut bureau = Bureau::new(alloc, ListStore::new(alloc, &rows)?, Whole::new()); // a Desk
+//! let mut reader: &[u8] = b"POST /publish HTTP/1.1\r\nbureau-token: publisher-token\r\n\
+//! bureau-number: 1\r\ncontent-length: 53\r\n\r\n++HOLD(UJ90101) ERROR FMID(HBB77E0) REASON(AJ00001).\n";
+//! let mut written = Vec::new(alloc);
+//! let served = serve_one(alloc, &mut bureau, &mut reader, &mut written)?;
+//! assert!(rt; served.requests == 1 && written.starts_with(b"HTTP/1.1 200 OK\r\n"));
+//! assert!(rt; written.ends_with(b"\r\n\r\nACCEPTED SYSMODS 0 HOLDS 1 RELEASES 0\n"));
+//! ```
 #![tactic(auto)]
 
 mod asking;
