@@ -93,7 +93,8 @@ impl Told {
         ensures ok { OnOk result
             (Appends (W.contents writer.old) (W.contents writer.new) (told_text self.now is_bare closes)) }
         ensures err { IfErr result (λ fault. (fault ≡ NotWritten)
-            × AppendsFront (W.contents writer.old) (W.contents writer.new) (told_text self.now is_bare closes)) }
+            × AppendsFront (W.contents writer.old) (W.contents writer.new)
+            (told_text self.now is_bare closes)) }
     {
         let head = head_text(&self.head(closes));
         write_both(writer, &head, self.body_for(is_bare), retries)
