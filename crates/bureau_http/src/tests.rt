@@ -9,6 +9,7 @@ use std::test::Fail;
 
 mod arrivals;
 mod closing;
+mod conditional;
 mod cuts;
 mod devices;
 mod listed;

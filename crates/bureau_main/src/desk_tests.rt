@@ -42,6 +42,18 @@ const PLAN_OF_TWO: &str = "{\"plan\":[{\"id\":\"UA10001\",\"system\":[],\"user\"
     {\"id\":\"UA10002\",\"system\":[],\"user\":[]}],\
     \"status\":\"GOOD\",\"sysmod\":\"UA10002\",\"zone\":\"TGT1\"}";
 
+// A PTF that requires another where a second function is installed.
+const CONDITIONAL: &str =
+    "++PTF(UA10020).\n++VER(Z038) FMID(HBB7790).\n++IF FMID(HXX0001) THEN REQ(UA10021).\n++PTF(UA10021).\n++VER(Z038) FMID(HBB7790).\n";
+
+const BOTH_FUNCTIONS: &str = "SYSMOD,STATE\nHBB7790,APPLIED\nHXX0001,APPLIED\n";
+
+const NOT_REQUIRED: &str =
+    "{\"plan\":[{\"id\":\"UA10020\",\"system\":[],\"user\":[]}],\"status\":\"GOOD\",\"sysmod\":\"UA10020\",\"zone\":\"TGT1\"}";
+
+const REQUIRED: &str =
+    "{\"plan\":[{\"id\":\"UA10020\",\"system\":[],\"user\":[]},{\"id\":\"UA10021\",\"system\":[],\"user\":[]}],\"status\":\"GOOD\",\"sysmod\":\"UA10020\",\"zone\":\"TGT2\"}";
+
 const PUBLISHER: &str = "publisher-token";
 
 const ALPHA: &str = "alpha-token";
@@ -119,7 +131,7 @@ const ONLY_GET: Told = (
 const BAD_NUMBER: Told = ("400 Bad Request", "", "BAD NUMBER\n");
 
 // What stands after the first two requests of the script, and after BETA's zone TGT2.
-const REQUESTS: [(Asked, Told); 15] = [
+const REQUESTS: [(Asked, Told); 19] = [
     (
         (
             BETA,
@@ -174,6 +186,22 @@ const REQUESTS: [(Asked, Told); 15] = [
             "",
         ),
         BAD_NUMBER,
+    ),
+    (
+        (PUBLISHER, "POST /publish", SECOND, CONDITIONAL),
+        (OK, "", "ACCEPTED SYSMODS 2 HOLDS 0 RELEASES 0\n"),
+    ),
+    (
+        (ALPHA, "PUT /zones/TGT2", SECOND, BOTH_FUNCTIONS),
+        (OK, "", "ZONE TGT2 ROWS 2\n"),
+    ),
+    (
+        (ALPHA, "GET /zones/TGT1/chains/UA10020", "", ""),
+        (OK, "", NOT_REQUIRED),
+    ),
+    (
+        (ALPHA, "GET /zones/TGT2/chains/UA10020", "", ""),
+        (OK, "", REQUIRED),
     ),
     (
         (ALPHA, "GET http://localhost/zones", "", ""),

@@ -136,7 +136,8 @@ fn begun<S: Alter + Drop>(
     }
 }
 
-fn opened<S: Alter + Drop>(alloc: Global, conn: Connection<S>) -> Checked<SqlStore<S>> {
+/// The store that a connection has.
+pub(crate) fn opened<S: Alter + Drop>(alloc: Global, conn: Connection<S>) -> Checked<SqlStore<S>> {
     if !conn.is_autocommit() {
         return Err("a connection at rest");
     }
