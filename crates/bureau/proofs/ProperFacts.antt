@@ -6,7 +6,8 @@ use Rattle.bureau_store.specs.Tables.{LastChange, ZoneTable, Zones, zone_named}
 use Rattle.bureau_store.specs.declared.caller.Caller.{Caller}
 use Rattle.bureau_store.specs.declared.caller.Caller.TheVariants.{Publisher, Client}
 use Rattle.bureau.specs.Call.{Call, publish, put_zone, drop_zone, put_received, put_patterns, list_zones, err_sysmods, missing_fix, chain, counts}
-use Rattle.bureau.specs.Outcome.{Outcome, answered, accepted, bad_number, by_number, forbidden, gap, greatest_number, has_room, in_turn, may_ask, of_zone, outcome, outcome_allowed, put_of_zone, refused, said, stale, told}
+use Rattle.bureau_store.specs.Store.{greatest_number}
+use Rattle.bureau.specs.Outcome.{Outcome, answered, accepted, bad_number, by_number, forbidden, gap, has_room, in_turn, may_ask, of_zone, outcome, outcome_allowed, put_of_zone, refused, said, stale, told}
 use Rattle.bureau.specs.View.{View}
 use Rattle.bureau.specs.Bodies.{changes_in, ids_in, patterns_in, rows_in}
 use Rattle.bureau.specs.Texts.{chain_text, err_report, missing_report, patterns_text, publication_text, received_text, zone_dropped_text, zone_put_text}

@@ -11,7 +11,8 @@ use Rattle.bureau_store.specs.declared.caller.Caller.TheVariants.{Publisher, Cli
 use Rattle.bureau.specs.Bodies.{changes_in, rows_in, ids_in, patterns_in}
 use Rattle.bureau.specs.Call.{Call, publish, put_zone, drop_zone, put_received, put_patterns, list_zones, err_sysmods, missing_fix, chain, counts}
 use Rattle.bureau.specs.Joint.{IsRun, IsStep, Turn, tables_left}
-use Rattle.bureau.specs.Outcome.{Answer, Outcome, answered, accepted, answer_of, bad_number, by_number, forbidden, gap, greatest_number, has_room, in_turn, may_ask, no_room, of_zone, outcome, outcome_allowed, plain, refused, said, stale, told}
+use Rattle.bureau_store.specs.Store.{greatest_number}
+use Rattle.bureau.specs.Outcome.{Answer, Outcome, answered, accepted, answer_of, bad_number, by_number, forbidden, gap, has_room, in_turn, may_ask, no_room, of_zone, outcome, outcome_allowed, plain, refused, said, stale, told}
 use Rattle.bureau.specs.Repeat.{ActsOnce, GoesStale, IsChange, IsLater, IsRunWithout, KeepsReply, StaysStale, number_of}
 use Rattle.bureau.specs.View.{View, view_of}
 use Rattle.bureau.proofs.NamesFacts.{own_caller, same_caller}

@@ -1,6 +1,7 @@
 -- What comes of a call, as far as one caller's view decides it.
 use Rattle.std.specs.Prelude.{ℕ, ◌+◌, ◌==◌, ◌&&◌, ◌++◌, Bool, true, false, List, [], Option, Some, None, Result, Ok, Err, codes, decimal, is_some, length, nat_le, nat_lt, if◌then◌else◌}
 use Rattle.bureau_store.specs.Effect.{Effect, publication, zone_put, zone_dropped, received_put, patterns_put}
+use Rattle.bureau_store.specs.Store.{greatest_number}
 use Rattle.bureau_store.specs.Tables.{LastChange, ZoneTable, Zones, zone_named}
 use Rattle.bureau_store.specs.declared.caller.Caller.{Caller}
 use Rattle.bureau_store.specs.declared.caller.Caller.TheVariants.{Publisher, Client}
@@ -52,10 +53,6 @@ told text = answered (plain 200 text)
 
 abbrev pub refused : List ℕ → Outcome
 refused line = answered (plain 422 line)
-
--- the greatest number of a change
-abbrev pub greatest_number : ℕ
-greatest_number = 9223372036854775807
 
 -- the most zones of a client
 abbrev pub most_zones : ℕ

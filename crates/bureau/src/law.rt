@@ -16,7 +16,8 @@ pub fn isolation()
         AreInOrder opening → IsRun opening turns closing → IsAlone viewer (opening_of viewer opening) turns }
     ensures alike { (opening closing opening2 closing2 : Tables)
         (turns turns2 : List Turn) (viewer : Caller) →
-        AreInOrder opening → AreInOrder opening2 → IsRun opening turns closing → IsRun opening2 turns2 closing2 →
+        AreInOrder opening → AreInOrder opening2 → IsRun opening turns closing →
+        IsRun opening2 turns2 closing2 →
         opening_of viewer opening ≡ opening_of viewer opening2 → AreAnsweredAlike viewer turns turns2 }
 {}
 

@@ -144,8 +144,8 @@ fn err_reply<P: Published, J: Judge<P>>(
     requires { Ascend received.now }
     ensures reads { MayRead P.content_view source.old source.new result }
     ensures reply { IfOk result (λ reply. Tells P.content_view source.old source.new
-        (λ content. J.is_right judge.old content → reply_as reply ≡
-        plain 200 (err_text_of zone.now (err_rows_of content installed.now received.now holds.now)))) }
+        (λ content. J.is_right judge.old content → reply_as reply
+        ≡ plain 200 (err_text_of zone.now (err_rows_of content installed.now received.now holds.now)))) }
     ensures right { Tells P.content_view source.old source.new
         (λ content. J.is_right judge.old content → J.is_right judge.new content) }
 {
@@ -167,8 +167,8 @@ fn missing_reply<P: Published, J: Judge<P>>(
     requires { Ascend received.now }
     ensures reads { MayRead P.content_view source.old source.new result }
     ensures reply { IfOk result (λ reply. Tells P.content_view source.old source.new
-        (λ content. J.is_right judge.old content → reply_as reply ≡
-        plain 200 (missing_text_of zone.now
+        (λ content. J.is_right judge.old content → reply_as reply
+        ≡ plain 200 (missing_text_of zone.now
         (missing_rows_of content installed.now received.now patterns.now holds.now)))) }
     ensures right { Tells P.content_view source.old source.new
         (λ content. J.is_right judge.old content → J.is_right judge.new content) }
@@ -188,8 +188,8 @@ fn chain_reply<P: Published, J: Judge<P>>(
 ) -> Result<Reply, NoRoom>
     ensures reads { MayRead P.content_view source.old source.new result }
     ensures reply { IfOk result (λ reply. Tells P.content_view source.old source.new
-        (λ content. J.is_right judge.old content → reply_as reply ≡
-        as_json (chain_text_of content zone.now sysmod.now (verdict_of content installed.now sysmod.now)))) }
+        (λ content. J.is_right judge.old content → reply_as reply
+        ≡ as_json (chain_text_of content zone.now sysmod.now (verdict_of content installed.now sysmod.now)))) }
     ensures right { Tells P.content_view source.old source.new
         (λ content. J.is_right judge.old content → J.is_right judge.new content) }
 {

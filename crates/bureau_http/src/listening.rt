@@ -56,7 +56,8 @@ pub fn serve_listener<D: Desk, L: Listening>(
 )
     ensures goes { Goes D.tables_view desk.old desk.new }
     ensures served { AreServedInOrder D.tables_view desk.old desk.new
-        (IsLawfulRun D.tables_view desk.old desk.new) (L.log listening.old) (L.log listening.new) connections }
+        (IsLawfulRun D.tables_view desk.old desk.new)
+        (L.log listening.old) (L.log listening.new) connections }
 {
     for _ in 0..connections {
         serve_next_arrival(alloc, desk, listening);

@@ -61,8 +61,8 @@ pub fn run_init<S: Alter + Drop, W: Write, E: Write>(
     errors: &mut E,
 ) -> (u8, Connection<S>)
     requires rest { conn.in_transaction ≡ false }
-    ensures run { IsInitRun (λ outcome. IsInitLeft outcome callers.now (state S.Store conn)
-        (state S.Store result.1))
+    ensures run { IsInitRun
+        (λ outcome. IsInitLeft outcome callers.now (state S.Store conn) (state S.Store result.1))
         callers.now (W.contents writer.old) (W.contents writer.new)
         (E.contents errors.old) (E.contents errors.new) result.0 }
     ensures stopped { InitSurvives callers.now (state S.Store conn) (state S.Store result.1) }
@@ -81,8 +81,8 @@ fn make_and_print<S: Alter + Drop, W: Write>(
     writer: &mut W,
 ) -> (Result<(), AnyFault>, Connection<S>)
     requires rest { conn.in_transaction ≡ false }
-    ensures output { IsInitOutput (fault_in result.0) source.now (W.contents writer.old)
-        (W.contents writer.new) }
+    ensures output { IsInitOutput (fault_in result.0) source.now
+        (W.contents writer.old) (W.contents writer.new) }
     ensures left { IsInitLeft (fault_in result.0) source.now (state S.Store conn) (state S.Store result.1) }
     ensures stopped { InitSurvives source.now (state S.Store conn) (state S.Store result.1) }
     ensures rest { result.1.in_transaction ≡ false }
@@ -281,8 +281,8 @@ fn serve_store<S: Surroundings + Clock, D: Alter + Drop, W: Write>(
     store: SqlStore<D>,
     writer: &mut W,
 ) -> (Result<(), AnyFault>, SqlStore<D>)
-    ensures output { IsServeOutput (fault_in result.0) service.port (W.contents writer.old)
-        (W.contents writer.new) }
+    ensures output { IsServeOutput (fault_in result.0) service.port
+        (W.contents writer.old) (W.contents writer.new) }
     ensures sound { OnOk result.0 ((service.connections ≡ 0) ⊎ (result.1.failures ≡ 0)) }
 {
     match new_cache(surroundings, alloc, service.cache) {
@@ -320,8 +320,8 @@ fn serve<S: Surroundings + Clock, D: Alter + Drop, W: Write>(
     bureau: &mut Bureau<SqlStore<D>, ChainCache>,
     writer: &mut W,
 ) -> Result<(), AnyFault>
-    ensures output { IsServeOutput (fault_in result) service.port (W.contents writer.old)
-        (W.contents writer.new) }
+    ensures output { IsServeOutput (fault_in result) service.port
+        (W.contents writer.old) (W.contents writer.new) }
     ensures sound { OnOk result ((service.connections ≡ 0) ⊎ (bureau.new.store.failures ≡ 0)) }
 {
     let line = listening_line(alloc, service.port)?;

@@ -34,7 +34,8 @@ pub fn run_holds<R: Read, W: Write, E: Write>(
     errors: &mut E,
 ) -> u8
     ensures { IsHoldsRun (R.remaining reader.old) (R.remaining reader.new)
-        (W.contents writer.old) (W.contents writer.new) (E.contents errors.old) (E.contents errors.new) result }
+        (W.contents writer.old) (W.contents writer.new)
+        (E.contents errors.old) (E.contents errors.new) result }
 {
     match print_holds(alloc, reader, writer) {
         Ok(()) => 0,

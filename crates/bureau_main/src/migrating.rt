@@ -28,9 +28,10 @@ pub fn run_migrate<S: Alter + Drop, W: Write, E: Write>(
     errors: &mut E,
 ) -> (u8, Connection<S>)
     requires rest { conn.in_transaction ≡ false }
-    ensures run { IsMigrateRun (λ outcome. IsMigrateLeft outcome (state S.Store conn)
-        (state S.Store result.1))
-        (W.contents writer.old) (W.contents writer.new) (E.contents errors.old) (E.contents errors.new) result.0 }
+    ensures run { IsMigrateRun
+        (λ outcome. IsMigrateLeft outcome (state S.Store conn) (state S.Store result.1))
+        (W.contents writer.old) (W.contents writer.new)
+        (E.contents errors.old) (E.contents errors.new) result.0 }
     ensures stopped { Survives (state S.Store conn) (state S.Store result.1)
         (AreMigrated (state S.Store conn)) }
     ensures rest { result.1.in_transaction ≡ false }

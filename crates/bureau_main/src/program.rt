@@ -213,8 +213,8 @@ fn read_and_connect<S: Surroundings>(
     store: &str,
     callers: &str,
 ) -> Result<(Vec<u8>, Connection<StoreFile>), AnyFault>
-    ensures callers { IfOk result (λ both. IsContent
-        (S.known_file surroundings.now callers.now) both.0.items) }
+    ensures callers { IfOk result (λ both.
+        IsContent (S.known_file surroundings.now callers.now) both.0.items) }
     ensures rest { IfOk result (λ both. both.1.in_transaction ≡ false) }
     ensures fault { IfErr result (IsNotBegun (S.known_file surroundings.now callers.now)) }
 {
@@ -236,8 +236,8 @@ fn read_files<S: Surroundings>(
     callers: &str,
     files: &[String],
 ) -> Result<(Vec<u8>, Vec<Vec<u8>>), ProgramFault>
-    ensures callers { IfOk result (λ read. IsContent
-        (S.known_file surroundings.now callers.now) read.0.items) }
+    ensures callers { IfOk result (λ read.
+        IsContent (S.known_file surroundings.now callers.now) read.0.items) }
     ensures files { IfOk result (λ read. AreContents (S.known_file surroundings.now)
         (map string_bytes files.now)
         (map (λ file. file.items) read.1.items)) }

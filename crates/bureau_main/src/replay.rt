@@ -46,7 +46,8 @@ pub fn run_replay<W: Write, E: Write>(
     errors: &mut E,
 ) -> u8
     ensures { IsReplayRun callers.now (map (λ file. file.items) files.items)
-        (W.contents writer.old) (W.contents writer.new) (E.contents errors.old) (E.contents errors.new) result }
+        (W.contents writer.old) (W.contents writer.new)
+        (E.contents errors.old) (E.contents errors.new) result }
 {
     match print_replies(alloc, callers, files, cache, keys, writer) {
         Ok(()) => 0,
@@ -84,7 +85,8 @@ fn replies(
     keys: RandomState,
 ) -> Result<Vec<Vec<u8>>, AnyFault>
     ensures replayed { IfOk result (λ written.
-        IsReplayed callers.now (map (λ file. file.items) files.items) (map (λ text. text.items) written.items)) }
+        IsReplayed callers.now (map (λ file. file.items) files.items)
+        (map (λ text. text.items) written.items)) }
     ensures fault { IfErr result (IsNotReplayed callers.now) }
 {
     let rows = callers_in(alloc, callers)?;

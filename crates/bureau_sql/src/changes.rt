@@ -28,7 +28,8 @@ pub(crate) fn publish<S: Alter>(
     requires number { number ≤ greatest_number }
     ensures mode { conn.new.in_transaction ≡ false }
     ensures committed { IsCommitted (state S.Store conn.old) (state S.Store conn.new) result
-        (stored_after OfPublisher (publication changes.now) (record { number = number; reply = reply.now })) }
+        (stored_after OfPublisher (publication changes.now)
+        (record { number = number; reply = reply.now })) }
 {
     let mut tx = begin(conn);
     let written = sql_writes::publish(alloc, &mut tx, number, reply, changes);
@@ -50,7 +51,8 @@ pub(crate) fn put_zone<S: Alter>(
     requires client { IsProper (OfClient client.now) }
     ensures mode { conn.new.in_transaction ≡ false }
     ensures committed { IsCommitted (state S.Store conn.old) (state S.Store conn.new) result
-        (stored_after (OfClient client.now) (zone_put zone.now rows.now) (record { number = number; reply = reply.now })) }
+        (stored_after (OfClient client.now) (zone_put zone.now rows.now)
+        (record { number = number; reply = reply.now })) }
 {
     let mut tx = begin(conn);
     let written = sql_writes::put_zone(alloc, &mut tx, client, number, reply, zone, rows);
@@ -70,7 +72,8 @@ pub(crate) fn drop_zone<S: Alter>(
     requires client { IsProper (OfClient client.now) }
     ensures mode { conn.new.in_transaction ≡ false }
     ensures committed { IsCommitted (state S.Store conn.old) (state S.Store conn.new) result
-        (stored_after (OfClient client.now) (zone_dropped zone.now) (record { number = number; reply = reply.now })) }
+        (stored_after (OfClient client.now) (zone_dropped zone.now)
+        (record { number = number; reply = reply.now })) }
 {
     let mut tx = begin(conn);
     let written = sql_writes::drop_zone(&mut tx, client, number, reply, zone);
@@ -91,7 +94,8 @@ pub(crate) fn put_received<S: Alter>(
     requires client { IsProper (OfClient client.now) }
     ensures mode { conn.new.in_transaction ≡ false }
     ensures committed { IsCommitted (state S.Store conn.old) (state S.Store conn.new) result
-        (stored_after (OfClient client.now) (received_put ids.now) (record { number = number; reply = reply.now })) }
+        (stored_after (OfClient client.now) (received_put ids.now)
+        (record { number = number; reply = reply.now })) }
 {
     let mut tx = begin(conn);
     let written = sql_writes::put_received(alloc, &mut tx, client, number, reply, ids);
@@ -113,7 +117,8 @@ pub(crate) fn put_patterns<S: Alter>(
     requires client { IsProper (OfClient client.now) }
     ensures mode { conn.new.in_transaction ≡ false }
     ensures committed { IsCommitted (state S.Store conn.old) (state S.Store conn.new) result
-        (stored_after (OfClient client.now) (patterns_put zone.now patterns.now) (record { number = number; reply = reply.now })) }
+        (stored_after (OfClient client.now) (patterns_put zone.now patterns.now)
+        (record { number = number; reply = reply.now })) }
 {
     let mut tx = begin(conn);
     let written = sql_writes::put_patterns(alloc, &mut tx, client, number, reply, zone, patterns);

@@ -24,9 +24,15 @@ use zone_lists::{Pattern, ZoneRow};
 ///
 /// Reads leave the tables as they are, and a list of what isn't there is empty. Each change replaces
 /// what it names whole and sets the caller's last number and reply, at once; refused, the tables are
-/// unchanged. A call is refused for want of memory, of the device or of its size alone, and for the device and its
-/// size only where that was so. What is told of the tables is told where the file was this product's own as the call
-/// began and the disk has returned what was written, up to the call's end; of lists that is always true.
+/// unchanged. What a change does is said where it is due: one of the callers makes it, with that caller's next number,
+/// and the zone that it names is there. What is told of the tables is told where the file was this product's own as the call
+/// began and the disk has returned what was written, up to the call's end; of lists that is always true. Lists ascend
+/// in any case, each entry once.
+///
+/// # Errors
+///
+/// `Memory` where memory ran out; `Device` where the device failed, now or before; of a change alone, `Size` where there
+/// was no room for it on the device. A refused call changes nothing.
 pub trait Store: Published {
     /// How the store is looked at, with all its tables.
     ghost tables_view: { View Self Tables };
@@ -117,7 +123,7 @@ pub trait Store: Published {
             ≡ held_in tables.content (rows_of (zone_named zone.now (tables.zones client.now))) kind)) }
         ensures in_key_order { IfOk result (λ holds. IsInKeyOrder holds.items) };
 
-    /// Publishes these changes, as the publisher's change with this number and reply.
+    /// Makes a publication of these changes to the content. Its number and reply are kept as the publisher's last.
     fn publish(&mut self, number: u64, reply: &[u8], changes: &[Change]) -> Result<(), StoreFault>
         requires { number ≤ greatest_number }
         ensures makes { Makes tables_view outgrown

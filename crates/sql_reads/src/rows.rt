@@ -17,8 +17,8 @@ pub(crate) fn rows_of<S: Alter>(
     requires rest { conn.old.in_transaction ≡ false }
     requires read { IsRead text.now }
     ensures mode { conn.new.in_transaction ≡ false }
-    ensures answers { Answers text.now (bound params.now) (state S.Store conn.old)
-        (state S.Store conn.new) result }
+    ensures answers { Answers text.now (bound params.now)
+        (state S.Store conn.old) (state S.Store conn.new) result }
 {
     let _at_rest = conn.is_autocommit();
     match conn.query_all(text, params) {

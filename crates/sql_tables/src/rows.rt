@@ -114,7 +114,8 @@ fn hold_with(alloc: Global, key: HoldKey, row: &Row) -> Result<Option<Hold>, NoM
 /// Memory ran out.
 pub fn change_in(alloc: Global, row: &Row) -> Result<Option<(u64, Vec<u8>)>, NoMemory>
     ensures { IfOk result (λ found.
-        option_map (λ change. record { number = change.0; reply = change.1.items }) found ≡ spec.change_found row.now) }
+        option_map (λ change. record { number = change.0; reply = change.1.items }) found
+        ≡ spec.change_found row.now) }
 {
     let Some(number) = number_in(column(row, 0)) else {
         return Ok(None);

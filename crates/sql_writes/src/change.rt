@@ -57,7 +57,8 @@ pub fn publish<S: Alter>(
     requires { number ≤ greatest_number }
     ensures same { tx.new.conn.ghost_name ≡ tx.old.conn.ghost_name }
     ensures changes { Changes (state S.Store tx.old.conn.now) (state S.Store tx.new.conn.now) result
-        (stored_after Publisher (publication changes.now) (record { number = number; reply = reply.now })) }
+        (stored_after Publisher (publication changes.now)
+        (record { number = number; reply = reply.now })) }
 {
     put_changes(alloc, tx, changes)?;
     put_last(tx, &publisher(), number, reply)
@@ -96,7 +97,8 @@ pub fn drop_zone<S: Alter>(
     requires number { number ≤ greatest_number }
     ensures same { tx.new.conn.ghost_name ≡ tx.old.conn.ghost_name }
     ensures changes { Changes (state S.Store tx.old.conn.now) (state S.Store tx.new.conn.now) result
-        (stored_after (Client client.now) (zone_dropped zone.now) (record { number = number; reply = reply.now })) }
+        (stored_after (Client client.now) (zone_dropped zone.now)
+        (record { number = number; reply = reply.now })) }
 {
     zones::drop_zone(tx, client, zone)?;
     put_last(tx, client, number, reply)
@@ -115,7 +117,8 @@ pub fn put_received<S: Alter>(
     requires number { number ≤ greatest_number }
     ensures same { tx.new.conn.ghost_name ≡ tx.old.conn.ghost_name }
     ensures changes { Changes (state S.Store tx.old.conn.now) (state S.Store tx.new.conn.now) result
-        (stored_after (Client client.now) (received_put ids.now) (record { number = number; reply = reply.now })) }
+        (stored_after (Client client.now) (received_put ids.now)
+        (record { number = number; reply = reply.now })) }
 {
     zones::put_received(alloc, tx, client, ids)?;
     put_last(tx, client, number, reply)
