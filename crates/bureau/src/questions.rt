@@ -189,7 +189,8 @@ fn chain_reply<P: Published, J: Judge<P>>(
     ensures reads { MayRead P.content_view source.old source.new result }
     ensures reply { IfOk result (λ reply. Tells P.content_view source.old source.new
         (λ content. J.is_right judge.old content → reply_as reply
-        ≡ as_json (chain_text_of content zone.now sysmod.now (verdict_of content installed.now sysmod.now)))) }
+        ≡ as_json (chain_text_of content zone.now sysmod.now
+        (verdict_of content installed.now sysmod.now)))) }
     ensures right { Tells P.content_view source.old source.new
         (λ content. J.is_right judge.old content → J.is_right judge.new content) }
 {
