@@ -250,7 +250,6 @@ pub fn close(conn: Connection<StoreFile>) {
 }
 
 /// Serves the desk whose store a connection has, and gives the connection back.
-#[tactic(auto, using(crate::proofs::DeskFacts::not_served))]
 pub fn open_and_serve<S: Surroundings + Clock, D: Alter + Drop, W: Write, E: Write>(
     surroundings: &S,
     alloc: Global,
