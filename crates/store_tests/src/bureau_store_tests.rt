@@ -23,7 +23,7 @@ fn id(text: &[u8]) -> Result<Id, Fail> {
     Ok(Id::new(text).ok_or("an id")?)
 }
 
-fn empty_store(alloc: Global) -> Result<ListStore, Fail> {
+fn opened(alloc: Global) -> Result<ListStore, Fail> {
     let rows = callers(alloc, CALLERS)?;
     Ok(ListStore::new(alloc, &rows)?)
 }
@@ -114,11 +114,11 @@ fn ten_thousand_callers_are_read_and_no_more(rt: HostRuntime) -> Result<(), Fail
 
 // A change of a client's.
 #[derive(Clone, Copy)]
-enum Step<'a> {
-    Rows(&'a [u8], &'a [u8]),
-    Drop(&'a [u8]),
-    Received(&'a [u8]),
-    Patterns(&'a [u8], &'a [u8]),
+enum Step {
+    Rows(&'static [u8], &'static [u8]),
+    Drop(&'static [u8]),
+    Received(&'static [u8]),
+    Patterns(&'static [u8], &'static [u8]),
 }
 
 fn make(
@@ -126,28 +126,53 @@ fn make(
     store: &mut ListStore,
     client: &Id,
     number: u64,
-    step: Step<'_>,
+    step: Step,
 ) -> Result<(), Fail> {
     match step {
-        Step::Rows(zone, text) => {
-            let rows = zone_rows(alloc, text)?;
-            store.put_zone(client, number, b"zone", &id(zone)?, &rows)?;
-        }
-        Step::Drop(zone) => store.drop_zone(client, number, b"dropped", &id(zone)?)?,
-        Step::Received(text) => {
-            let ids = received_rows(alloc, text)?;
-            store.put_received(client, number, b"received", &ids)?;
-        }
-        Step::Patterns(zone, text) => {
-            let wanted = patterns(alloc, text)?;
-            store.put_patterns(client, number, b"patterns", &id(zone)?, &wanted)?;
-        }
+        Step::Rows(zone, text) => put_rows(alloc, store, client, number, &id(zone)?, text),
+        Step::Drop(zone) => Ok(store.drop_zone(client, number, b"dropped", &id(zone)?)?),
+        Step::Received(text) => put_received(alloc, store, client, number, text),
+        Step::Patterns(zone, text) => put_patterns(alloc, store, client, number, &id(zone)?, text),
     }
-    Ok(())
+}
+
+fn put_rows(
+    alloc: Global,
+    store: &mut ListStore,
+    client: &Id,
+    number: u64,
+    zone: &Id,
+    text: &[u8],
+) -> Result<(), Fail> {
+    let rows = zone_rows(alloc, text)?;
+    Ok(store.put_zone(client, number, b"zone", zone, &rows)?)
+}
+
+fn put_received(
+    alloc: Global,
+    store: &mut ListStore,
+    client: &Id,
+    number: u64,
+    text: &[u8],
+) -> Result<(), Fail> {
+    let ids = received_rows(alloc, text)?;
+    Ok(store.put_received(client, number, b"received", &ids)?)
+}
+
+fn put_patterns(
+    alloc: Global,
+    store: &mut ListStore,
+    client: &Id,
+    number: u64,
+    zone: &Id,
+    text: &[u8],
+) -> Result<(), Fail> {
+    let wanted = patterns(alloc, text)?;
+    Ok(store.put_patterns(client, number, b"patterns", zone, &wanted)?)
 }
 
 // What the store tells of a client.
-fn client_text(alloc: Global, store: &mut ListStore, client: &Id) -> Result<String, Fail> {
+fn told(alloc: Global, store: &mut ListStore, client: &Id) -> Result<String, Fail> {
     let mut text = String::new(alloc);
     put_last(alloc, &mut text, store, &Caller::Client(*client))?;
     for (zone, rows) in &store.zones(client)? {
@@ -191,51 +216,75 @@ fn put_zone_text(
 #[test]
 fn each_client_has_what_it_put(rt: HostRuntime) -> Result<(), Fail> {
     let alloc = rt.alloc();
-    let mut store = empty_store(alloc)?;
+    let mut store = opened(alloc)?;
     let alpha = id(b"ALPHA")?;
     let beta = id(b"BETA")?;
-    let of_beta = "1 zone; TGT1 1: HBB7790; received";
-    let function = Step::Rows(b"TGT1", b"SYSMOD,STATE\nHBB7790,APPLIED\n");
-    make(alloc, &mut store, &beta, 1, function)?;
-    assert_eq!(rt; client_text(alloc, &mut store, &beta)?.as_str(), of_beta);
-    let steps = [
+    let steps: [(&Id, u64, Step, &str); 9] = [
         (
+            &alpha,
+            1,
             Step::Rows(b"TGT1", b"SYSMOD,STATE\nUA10001,APPLIED\nHBB7790,APPLIED\n"),
             "1 zone; TGT1 2: HBB7790 UA10001; received",
         ),
         (
+            &beta,
+            1,
+            Step::Rows(b"TGT1", b"SYSMOD,STATE\nHBB7790,APPLIED\n"),
+            "1 zone; TGT1 1: HBB7790; received",
+        ),
+        (
+            &alpha,
+            2,
             Step::Patterns(b"TGT1", b"CATEGORY\nibm.device.*\n"),
             "2 patterns; TGT1 2: HBB7790 UA10001 *ibm.device.*; received",
         ),
         (
+            &alpha,
+            3,
             Step::Rows(b"TGT1", b"SYSMOD,STATE\nUA10002,APPLIED\n"),
             "3 zone; TGT1 1: UA10002 *ibm.device.*; received",
         ),
         (
+            &alpha,
+            4,
             Step::Received(b"SYSMOD\nUA2\nUA1\n"),
             "4 received; TGT1 1: UA10002 *ibm.device.*; received UA1 UA2",
         ),
         (
+            &alpha,
+            5,
             Step::Rows(b"DLB1", b"SYSMOD,STATE\n"),
             "5 zone; DLB1 0:; TGT1 1: UA10002 *ibm.device.*; received UA1 UA2",
         ),
-        (Step::Drop(b"TGT1"), "6 dropped; DLB1 0:; received UA1 UA2"),
         (
+            &alpha,
+            6,
+            Step::Drop(b"TGT1"),
+            "6 dropped; DLB1 0:; received UA1 UA2",
+        ),
+        (
+            &alpha,
+            7,
             Step::Rows(b"TGT1", b"SYSMOD,STATE\n"),
             "7 zone; DLB1 0:; TGT1 0:; received UA1 UA2",
         ),
         (
+            &alpha,
+            8,
             Step::Received(b"SYSMOD\n"),
             "8 received; DLB1 0:; TGT1 0:; received",
         ),
     ];
-    for (number, (step, text)) in (1..9u64).zip(steps) {
-        make(alloc, &mut store, &alpha, number, step)?;
-        assert_eq!(rt; client_text(alloc, &mut store, &alpha)?.as_str(), text);
+    for (client, number, step, text) in steps {
+        make(alloc, &mut store, client, number, step)?;
+        assert_eq!(rt; told(alloc, &mut store, client)?.as_str(), text);
     }
-    assert_eq!(rt; client_text(alloc, &mut store, &beta)?.as_str(), of_beta);
     assert_eq!(rt;
-        client_text(alloc, &mut store, &id(b"GAMMA")?)?.as_str(),
+        told(alloc, &mut store, &beta)?.as_str(),
+        "1 zone; TGT1 1: HBB7790; received"
+    );
+    assert_eq!(rt;
+        told(alloc, &mut store, &id(b"GAMMA")?)?.as_str(),
         "0 ; received"
     );
     Ok(())
@@ -254,21 +303,9 @@ fn client_at(alloc: Global, i: u32) -> Result<Id, Fail> {
 fn put_own(alloc: Global, store: &mut ListStore, i: u32) -> Result<(), Fail> {
     let client = client_at(alloc, i)?;
     let rows = format!(in alloc; "SYSMOD,STATE\nUA{i:05},APPLIED\n")?;
-    make(
-        alloc,
-        store,
-        &client,
-        1,
-        Step::Rows(b"TGT1", rows.as_bytes()),
-    )?;
+    put_rows(alloc, store, &client, 1, &id(b"TGT1")?, rows.as_bytes())?;
     let received = format!(in alloc; "SYSMOD\nUB{i:05}\n")?;
-    make(
-        alloc,
-        store,
-        &client,
-        2,
-        Step::Received(received.as_bytes()),
-    )
+    put_received(alloc, store, &client, 2, received.as_bytes())
 }
 
 // Whether a client drops its zone.
@@ -289,7 +326,7 @@ fn own(alloc: Global, i: u32) -> Result<String, Fail> {
 #[test]
 fn each_of_200_clients_has_what_it_put(rt: HostRuntime) -> Result<(), Fail> {
     let alloc = rt.alloc();
-    let mut store = empty_store(alloc)?;
+    let mut store = opened(alloc)?;
     // the last client comes first
     for i in (0..CLIENTS).rev() {
         put_own(alloc, &mut store, i)?;
@@ -300,7 +337,7 @@ fn each_of_200_clients_has_what_it_put(rt: HostRuntime) -> Result<(), Fail> {
         }
     }
     for i in 0..CLIENTS {
-        let text = client_text(alloc, &mut store, &client_at(alloc, i)?)?;
+        let text = told(alloc, &mut store, &client_at(alloc, i)?)?;
         assert_eq!(rt; text.as_str(), own(alloc, i)?.as_str());
     }
     Ok(())
@@ -308,7 +345,7 @@ fn each_of_200_clients_has_what_it_put(rt: HostRuntime) -> Result<(), Fail> {
 
 #[test]
 fn callers_are_known_by_their_tokens(rt: HostRuntime) -> Result<(), Fail> {
-    let mut store = empty_store(rt.alloc())?;
+    let mut store = opened(rt.alloc())?;
     let rows: [(&[u8], Option<Caller>); 4] = [
         (b"publish-token", Some(Caller::Publisher)),
         (b"alpha-token", Some(Caller::Client(id(b"ALPHA")?))),
@@ -327,14 +364,14 @@ fn publish(alloc: Global, store: &mut ListStore, number: u64, source: &[u8]) -> 
 }
 
 // How many holds of a kind the reports on a zone begin with.
-fn hold_count(store: &mut ListStore, client: &[u8], kind: Kind) -> Result<usize, Fail> {
+fn held(store: &mut ListStore, client: &[u8], kind: Kind) -> Result<usize, Fail> {
     Ok(store.held_in(&id(client)?, &id(b"TGT1")?, kind)?.len())
 }
 
 #[test]
 fn what_is_published_is_all_clients(rt: HostRuntime) -> Result<(), Fail> {
     let alloc = rt.alloc();
-    let mut store = empty_store(alloc)?;
+    let mut store = opened(alloc)?;
     make(
         alloc,
         &mut store,
@@ -351,20 +388,20 @@ fn what_is_published_is_all_clients(rt: HostRuntime) -> Result<(), Fail> {
     let mut last = String::new(alloc);
     put_last(alloc, &mut last, &mut store, &Caller::Publisher)?;
     assert_eq!(rt; last.as_str(), "1 published");
-    assert_eq!(rt; hold_count(&mut store, b"ALPHA", Kind::ErrorHold)?, 1);
+    assert_eq!(rt; held(&mut store, b"ALPHA", Kind::ErrorHold)?, 1);
     assert_eq!(rt;
-        hold_count(&mut store, b"ALPHA", Kind::SystemHold)?,
+        held(&mut store, b"ALPHA", Kind::SystemHold)?,
         0,
         "superseded is not installed"
     );
-    assert_eq!(rt; hold_count(&mut store, b"BETA", Kind::ErrorHold)?, 0);
+    assert_eq!(rt; held(&mut store, b"BETA", Kind::ErrorHold)?, 0);
     Ok(())
 }
 
 #[test]
 fn a_store_is_a_source_of_what_is_published(rt: HostRuntime) -> Result<(), Fail> {
     let alloc = rt.alloc();
-    let mut store = empty_store(alloc)?;
+    let mut store = opened(alloc)?;
     publish(alloc, &mut store, 1, BASE)?;
     let mut text = String::new(alloc);
     put_ids(&mut text, &store.ids()?)?;

@@ -1,8 +1,7 @@
 //! Tests of where the tables stand: lists, and the statements and tables of a database.
 //!
-//! Each NAME_tests file tests the public items of the crate that it is named after; `tables` has the database that
-//! several of them begin with. A crate with tests of its own is proved twice by the gate, so those of the lower
-//! crates stand here.
+//! Each file tests the public items of the crate that it is named after. A crate with tests of its own is proved twice by the gate,
+//! so those of the lower crates stand here.
 #![tactic(auto)]
 
 #[cfg(test)]
@@ -15,5 +14,3 @@ mod sql_tables_tests;
 mod sql_texts_tests;
 #[cfg(test)]
 mod sql_writes_tests;
-#[cfg(test)]
-mod tables;

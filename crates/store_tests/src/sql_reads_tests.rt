@@ -1,7 +1,6 @@
 //! Each read finds what was written, over a database in memory; rows that the bureau never wrote are a fault.
 ghost use Rattle.std.specs.Prelude.{◌≡◌, false, IfOk};
 
-use crate::tables::{ALPHA, BASE, FIX, FIXED, NO_DATE, NOTHING, ONE, ZERO, ZONE, database};
 use bureau_store::Caller;
 use catalogue::{CondNeed, CondNeeds};
 use holddata::Kind;
@@ -10,13 +9,53 @@ use sql_reads::{
     ReadFault, caller_of, counts, held_in, holds_on, ids, last, patterns, received, superseders,
     sysmod, version, zone, zone_count, zones,
 };
-use sql_texts::write;
+use sql_texts::{create, write};
 use sqlite::types::ValueRef;
 use sqlite::{Connection, Error, MemStore};
 use std::alloc::Global;
 use std::test::Fail;
 
+const ALPHA: ValueRef<'static> = ValueRef::Text(b"ALPHA");
+
+const ZONE: ValueRef<'static> = ValueRef::Text(b"TGT1");
+
+const BASE: ValueRef<'static> = ValueRef::Text(b"HBB7790");
+
+const FIX: ValueRef<'static> = ValueRef::Text(b"UA10002");
+
+const FIXED: ValueRef<'static> = ValueRef::Text(b"AA20002");
+
 const OTHER: ValueRef<'static> = ValueRef::Text(b"UA10003");
+
+const NOTHING: ValueRef<'static> = ValueRef::Text(b"");
+
+const NO_DATE: ValueRef<'static> = ValueRef::Int(-1);
+
+const ZERO: ValueRef<'static> = ValueRef::Int(0);
+
+const ONE: ValueRef<'static> = ValueRef::Int(1);
+
+// A database with no rows.
+fn made(alloc: Global) -> Result<Connection<MemStore>, Error> {
+    let mut conn = Connection::open_in_memory(alloc)?;
+    let texts = [
+        create::bureau_version(),
+        create::caller(),
+        create::last_change(),
+        create::sysmod(),
+        create::sysmod_sup(),
+        create::by_member(),
+        create::hold_row(),
+        create::zone_head(),
+        create::zone_row(),
+        create::received_list(),
+        create::sysmod_cond(),
+    ];
+    for text in texts {
+        conn.execute(text, &[])?;
+    }
+    Ok(conn)
+}
 
 fn put(
     conn: &mut Connection<MemStore>,
@@ -158,11 +197,7 @@ fn above(alloc: Global, conn: &mut Connection<MemStore>, name: &Id) -> Result<us
     Ok(superseders(alloc, at_rest(conn)?, name)?.len())
 }
 
-fn hold_count(
-    alloc: Global,
-    conn: &mut Connection<MemStore>,
-    name: &Id,
-) -> Result<usize, ReadFault> {
+fn held(alloc: Global, conn: &mut Connection<MemStore>, name: &Id) -> Result<usize, ReadFault> {
     Ok(holds_on(alloc, at_rest(conn)?, name)?.len())
 }
 
@@ -188,7 +223,7 @@ fn is_device<T: Drop>(answer: Result<T, ReadFault>) -> bool {
 #[test]
 fn callers_are_found_by_their_tokens(rt: HostRuntime) -> Result<(), Fail> {
     let alloc = rt.alloc();
-    let mut conn = database(alloc)?;
+    let mut conn = made(alloc)?;
     fill(&mut conn)?;
     let rows = [
         (
@@ -214,7 +249,7 @@ fn callers_are_found_by_their_tokens(rt: HostRuntime) -> Result<(), Fail> {
 #[test]
 fn a_client_finds_what_it_has(rt: HostRuntime) -> Result<(), Fail> {
     let alloc = rt.alloc();
-    let mut conn = database(alloc)?;
+    let mut conn = made(alloc)?;
     fill(&mut conn)?;
     publish(&mut conn)?;
     let target = id(b"TGT1")?;
@@ -239,7 +274,7 @@ fn a_client_finds_what_it_has(rt: HostRuntime) -> Result<(), Fail> {
 #[test]
 fn what_is_published_is_found(rt: HostRuntime) -> Result<(), Fail> {
     let alloc = rt.alloc();
-    let mut conn = database(alloc)?;
+    let mut conn = made(alloc)?;
     publish(&mut conn)?;
     assert_eq!(rt; all_ids(alloc, &mut conn)?, 1);
     assert!(rt; totals(&mut conn)? == (1, 2));
@@ -251,7 +286,7 @@ fn what_is_published_is_found(rt: HostRuntime) -> Result<(), Fail> {
         let name = id(name)?;
         assert_eq!(rt; superseded_by(alloc, &mut conn, &name)?, sup);
         assert_eq!(rt; above(alloc, &mut conn, &name)?, superseders);
-        assert_eq!(rt; hold_count(alloc, &mut conn, &name)?, holds);
+        assert_eq!(rt; held(alloc, &mut conn, &name)?, holds);
     }
     Ok(())
 }
@@ -259,7 +294,7 @@ fn what_is_published_is_found(rt: HostRuntime) -> Result<(), Fail> {
 #[test]
 fn requisites_under_a_condition_are_found_in_order(rt: HostRuntime) -> Result<(), Fail> {
     let alloc = rt.alloc();
-    let mut conn = database(alloc)?;
+    let mut conn = made(alloc)?;
     publish(&mut conn)?;
     let found = conditional(alloc, &mut conn, &id(b"UA10002")?)?.ok_or("a record")?;
     let fmid = id(b"HBB7790")?;
@@ -283,7 +318,7 @@ fn requisites_under_a_condition_are_found_in_order(rt: HostRuntime) -> Result<()
 
 #[test]
 fn the_version_is_found(rt: HostRuntime) -> Result<(), Fail> {
-    let mut conn = database(rt.alloc())?;
+    let mut conn = made(rt.alloc())?;
     assert_eq!(rt; tables_version(&mut conn)?, None);
     put(&mut conn, write::insert_version(), &[])?;
     assert_eq!(rt; tables_version(&mut conn)?, Some(2));
@@ -293,7 +328,7 @@ fn the_version_is_found(rt: HostRuntime) -> Result<(), Fail> {
 #[test]
 fn rows_that_the_bureau_never_wrote_are_a_fault(rt: HostRuntime) -> Result<(), Fail> {
     let alloc = rt.alloc();
-    let mut conn = database(alloc)?;
+    let mut conn = made(alloc)?;
     let (alpha, fix) = (id(b"ALPHA")?, id(b"UA10002")?);
     let falling = ValueRef::Text(b"UA10003,UA10002");
     put(&mut conn, write::insert_received_list(), &[ALPHA, falling])?;
@@ -314,6 +349,6 @@ fn rows_that_the_bureau_never_wrote_are_a_fault(rt: HostRuntime) -> Result<(), F
     let no_day = ValueRef::Int(12000);
     let hold = [FIX, ZERO, FIXED, BASE, NOTHING, no_day, NOTHING, NOTHING];
     put(&mut conn, write::insert_hold_row(), &hold)?;
-    assert!(rt; is_device(hold_count(alloc, &mut conn, &fix)));
+    assert!(rt; is_device(held(alloc, &mut conn, &fix)));
     Ok(())
 }

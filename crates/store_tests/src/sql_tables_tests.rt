@@ -15,21 +15,13 @@ fn row_of(conn: &mut Connection<MemStore>, select: &str) -> Result<Row, Error> {
     conn.query_row(select, &[])
 }
 
-// What a row may be of.
-#[derive(Clone, Copy)]
-enum Of {
-    Hold,
-    Record,
+fn is_hold(alloc: Global, row: &Row) -> Result<bool, NoMemory> {
+    Ok(hold_in(alloc, row)?.is_some())
 }
 
-fn is_read(alloc: Global, of: Of, row: &Row) -> Result<bool, NoMemory> {
-    match of {
-        Of::Hold => Ok(hold_in(alloc, row)?.is_some()),
-        Of::Record => {
-            let (conds, sup) = (CondNeeds::new(alloc), Ids::new(alloc));
-            Ok(sysmod_in(alloc, row, conds, sup)?.is_some())
-        }
-    }
+fn is_sysmod(alloc: Global, row: &Row) -> Result<bool, NoMemory> {
+    let (conds, sup) = (CondNeeds::new(alloc), Ids::new(alloc));
+    Ok(sysmod_in(alloc, row, conds, sup)?.is_some())
 }
 
 #[test]
@@ -54,45 +46,50 @@ fn lists_are_read_as_they_are_written(rt: HostRuntime) -> Result<(), Fail> {
 }
 
 #[test]
-fn holds_and_records_are_read_and_nothing_else(rt: HostRuntime) -> Result<(), Fail> {
+fn holds_are_read_and_nothing_else(rt: HostRuntime) -> Result<(), Fail> {
     let alloc = rt.alloc();
     let mut conn = Connection::open_in_memory(alloc)?;
-    let (hold, record) = (Of::Hold, Of::Record);
     let rows = [
         (
-            hold,
             "SELECT 'UA1', 0, 'AA2', 'HBB7790', 'PE', 12045, '', ''",
             true,
         ),
         (
-            hold,
             "SELECT 'UA1', 3, 'AA2', '', '', -1, 'UA3', 'IBM.A,IBM.B'",
             true,
         ),
-        (hold, "SELECT 'UA1', 4, 'AA2', '', '', -1, '', ''", false),
-        (hold, "SELECT 'ua1', 0, 'AA2', '', '', -1, '', ''", false),
-        (hold, "SELECT 'UA1', 0, '', '', '', -1, '', ''", false),
-        (hold, "SELECT 'UA1', 0, 'AA2', NULL, '', -1, '', ''", false),
-        (hold, "SELECT 'UA1', 0, 'AA2', '', '', 12000, '', ''", false),
-        (hold, "SELECT 'UA1', 0, 'AA2', '', '', -2, '', ''", false),
+        ("SELECT 'UA1', 4, 'AA2', '', '', -1, '', ''", false),
+        ("SELECT 'ua1', 0, 'AA2', '', '', -1, '', ''", false),
+        ("SELECT 'UA1', 0, '', '', '', -1, '', ''", false),
+        ("SELECT 'UA1', 0, 'AA2', NULL, '', -1, '', ''", false),
+        ("SELECT 'UA1', 0, 'AA2', '', '', 12000, '', ''", false),
+        ("SELECT 'UA1', 0, 'AA2', '', '', -2, '', ''", false),
         (
-            hold,
             "SELECT 'UA1', 0, 'AA2', '', '', -1, '', 'IBM.B,IBM.A'",
             false,
         ),
-        (hold, "SELECT 'UA1', 0, 'AA2', '', '', -1, ''", false),
-        (
-            record,
-            "SELECT 'UA1', 1, 'HBB7790,HBB7791', '', 'UA2'",
-            true,
-        ),
-        (record, "SELECT 'UA1', 1, 'HBB7791,HBB7790', '', ''", false),
-        (record, "SELECT 'UA1', 4, '', '', ''", false),
-        (record, "SELECT 'UA1', 1, '', 'UA2,', ''", false),
+        ("SELECT 'UA1', 0, 'AA2', '', '', -1, ''", false),
     ];
-    for (of, select, is) in rows {
+    for (select, is) in rows {
         let row = row_of(&mut conn, select)?;
-        assert_eq!(rt; is_read(alloc, of, &row)?, is, "{select}");
+        assert_eq!(rt; is_hold(alloc, &row)?, is, "{select}");
+    }
+    Ok(())
+}
+
+#[test]
+fn records_are_read_and_nothing_else(rt: HostRuntime) -> Result<(), Fail> {
+    let alloc = rt.alloc();
+    let mut conn = Connection::open_in_memory(alloc)?;
+    let rows = [
+        ("SELECT 'UA1', 1, 'HBB7790,HBB7791', '', 'UA2'", true),
+        ("SELECT 'UA1', 1, 'HBB7791,HBB7790', '', ''", false),
+        ("SELECT 'UA1', 4, '', '', ''", false),
+        ("SELECT 'UA1', 1, '', 'UA2,', ''", false),
+    ];
+    for (select, is) in rows {
+        let row = row_of(&mut conn, select)?;
+        assert_eq!(rt; is_sysmod(alloc, &row)?, is, "{select}");
     }
     Ok(())
 }

@@ -1,11 +1,48 @@
 //! A database in memory takes each text, and each finds its row.
-use crate::tables::{ALPHA, BASE, FIX, FIXED, NO_DATE, NOTHING, ONE, ZERO, ZONE, database};
-use sql_texts::{read, write};
+use sql_texts::{create, read, write};
 use sqlite::types::ValueRef;
-use sqlite::{Connection, MemStore};
+use sqlite::{Connection, Error, MemStore};
+use std::alloc::Global;
 use std::test::Fail;
 
+const ZERO: ValueRef<'static> = ValueRef::Int(0);
+
+const ONE: ValueRef<'static> = ValueRef::Int(1);
+
 const TOKEN: ValueRef<'static> = ValueRef::Text(b"alpha-token");
+
+const ALPHA: ValueRef<'static> = ValueRef::Text(b"ALPHA");
+
+const ZONE: ValueRef<'static> = ValueRef::Text(b"TGT1");
+
+const BASE: ValueRef<'static> = ValueRef::Text(b"HBB7790");
+
+const FIX: ValueRef<'static> = ValueRef::Text(b"UA10002");
+
+const FIXED: ValueRef<'static> = ValueRef::Text(b"AA20002");
+
+const NOTHING: ValueRef<'static> = ValueRef::Text(b"");
+
+fn made(alloc: Global) -> Result<Connection<MemStore>, Error> {
+    let mut conn = Connection::open_in_memory(alloc)?;
+    let texts = [
+        create::bureau_version(),
+        create::caller(),
+        create::last_change(),
+        create::sysmod(),
+        create::sysmod_sup(),
+        create::by_member(),
+        create::hold_row(),
+        create::zone_head(),
+        create::zone_row(),
+        create::received_list(),
+        create::sysmod_cond(),
+    ];
+    for text in texts {
+        conn.execute(text, &[])?;
+    }
+    Ok(conn)
+}
 
 fn found_one(rows: usize, text: &'static str) -> Result<(), Fail> {
     if rows == 1 {
@@ -51,7 +88,16 @@ fn fill(conn: &mut Connection<MemStore>) -> Result<(), Fail> {
     )?;
     write_each(conn, &[write::insert_sysmod_sup()], &[FIX, FIXED])?;
     write_each(conn, &[write::insert_sysmod_cond()], &[FIX, BASE, FIXED])?;
-    let hold = [FIX, ZERO, FIXED, BASE, NOTHING, NO_DATE, NOTHING, NOTHING];
+    let hold = [
+        FIX,
+        ZERO,
+        FIXED,
+        BASE,
+        NOTHING,
+        ValueRef::Int(-1),
+        NOTHING,
+        NOTHING,
+    ];
     write_each(conn, &[write::insert_hold_row()], &hold)?;
     write_each(conn, &[write::insert_zone_head()], &[ALPHA, ZONE, NOTHING])?;
     write_each(conn, &[write::insert_zone_row()], &[ALPHA, ZONE, FIX, ZERO])?;
@@ -115,7 +161,7 @@ fn clear(conn: &mut Connection<MemStore>) -> Result<(), Fail> {
 
 #[test]
 fn each_text_finds_its_row(rt: HostRuntime) -> Result<(), Fail> {
-    let mut conn = database(rt.alloc())?;
+    let mut conn = made(rt.alloc())?;
     fill(&mut conn)?;
     look(&mut conn)?;
     clear(&mut conn)

@@ -3,10 +3,10 @@ ghost use Rattle.std.specs.Prelude.{◌≡◌, IfOk};
 ghost use Rattle.bureau_store.specs.Caller.{IsProper, publisher_name};
 ghost use Rattle.bureau_store.specs.declared.caller.Caller.TheVariants.{Client};
 
-use crate::tables::of_version_1;
 use bureau_store::callers;
 use catalogue::read_changes;
 use mcs_reader::{Id, read};
+use sql_texts::create as texts;
 use sql_writes::{create, drop_zone, migrate, publish, put_patterns, put_received, put_zone};
 use sqlite::{Connection, MemStore, Transaction};
 use std::alloc::Global;
@@ -27,7 +27,7 @@ fn in_transaction() -> Fail {
 }
 
 // A database with the callers.
-fn database(alloc: Global) -> Result<Connection<MemStore>, Fail> {
+fn made(alloc: Global) -> Result<Connection<MemStore>, Fail> {
     let rows = callers(alloc, CALLERS)?;
     let mut conn = Connection::open_in_memory(alloc)?;
     if !conn.is_autocommit() {
@@ -59,8 +59,6 @@ fn client(text: &[u8]) -> Result<Id, Fail>
     Ok(id)
 }
 
-type Tx<'a> = Transaction<'a, MemStore>;
-
 #[derive(Drop)]
 enum Put<'a> {
     Zone(&'a [u8]),
@@ -74,40 +72,81 @@ fn zone_name() -> Result<Id, Fail> {
     Ok(Id::new(b"TGT1").ok_or("a zone")?)
 }
 
-fn zone_is_put(alloc: Global, tx: &mut Tx<'_>, number: u32, text: &[u8]) -> Result<(), Fail> {
+fn zone_is_put(
+    alloc: Global,
+    tx: &mut Transaction<'_, MemStore>,
+    number: u32,
+    text: &[u8],
+) -> Result<(), Fail> {
     let (alpha, zone) = (client(b"ALPHA")?, zone_name()?);
     let rows = zone_rows(alloc, text)?;
-    put_zone(alloc, tx, &alpha, u64::from(number), b"OK", &zone, &rows)?;
+    put_zone(
+        alloc,
+        tx,
+        &alpha,
+        u64::from(number),
+        b"OK",
+        &zone,
+        rows.as_slice(),
+    )?;
     Ok(())
 }
 
-fn zone_is_dropped(tx: &mut Tx<'_>, number: u32) -> Result<(), Fail> {
+fn zone_is_dropped(tx: &mut Transaction<'_, MemStore>, number: u32) -> Result<(), Fail> {
     let (alpha, zone) = (client(b"ALPHA")?, zone_name()?);
     drop_zone(tx, &alpha, u64::from(number), b"OK", &zone)?;
     Ok(())
 }
 
-fn list_is_put(alloc: Global, tx: &mut Tx<'_>, number: u32, text: &[u8]) -> Result<(), Fail> {
+fn list_is_put(
+    alloc: Global,
+    tx: &mut Transaction<'_, MemStore>,
+    number: u32,
+    text: &[u8],
+) -> Result<(), Fail> {
     let alpha = client(b"ALPHA")?;
     let ids = received_rows(alloc, text)?;
     put_received(alloc, tx, &alpha, u64::from(number), b"OK", ids.as_slice())?;
     Ok(())
 }
 
-fn patterns_are_put(alloc: Global, tx: &mut Tx<'_>, number: u32, text: &[u8]) -> Result<(), Fail> {
+fn patterns_are_put(
+    alloc: Global,
+    tx: &mut Transaction<'_, MemStore>,
+    number: u32,
+    text: &[u8],
+) -> Result<(), Fail> {
     let (alpha, zone) = (client(b"ALPHA")?, zone_name()?);
     let asked = patterns(alloc, text)?;
-    put_patterns(alloc, tx, &alpha, u64::from(number), b"OK", &zone, &asked)?;
+    put_patterns(
+        alloc,
+        tx,
+        &alpha,
+        u64::from(number),
+        b"OK",
+        &zone,
+        asked.as_slice(),
+    )?;
     Ok(())
 }
 
-fn is_published(alloc: Global, tx: &mut Tx<'_>, number: u32, text: &[u8]) -> Result<(), Fail> {
+fn is_published(
+    alloc: Global,
+    tx: &mut Transaction<'_, MemStore>,
+    number: u32,
+    text: &[u8],
+) -> Result<(), Fail> {
     let changes = read_changes(alloc, &read(alloc, text)?)?;
     publish(alloc, tx, u64::from(number), b"OK", changes.as_slice())?;
     Ok(())
 }
 
-fn make(alloc: Global, tx: &mut Tx<'_>, number: u32, put: &Put<'_>) -> Result<(), Fail> {
+fn make(
+    alloc: Global,
+    tx: &mut Transaction<'_, MemStore>,
+    number: u32,
+    put: &Put<'_>,
+) -> Result<(), Fail> {
     match put {
         Put::Zone(text) => zone_is_put(alloc, tx, number, text),
         Put::Drop => zone_is_dropped(tx, number),
@@ -144,7 +183,7 @@ fn assert_each(
     alloc: Global,
     puts: &[(u32, Put<'_>, &'static str, usize)],
 ) -> Result<(), Fail> {
-    let mut conn = database(alloc)?;
+    let mut conn = made(alloc)?;
     for (number, put, text, found) in puts {
         change(alloc, &mut conn, *number, put)?;
         let there = count(&mut conn, text)?;
@@ -207,11 +246,31 @@ fn a_publication_leaves_its_rows(rt: HostRuntime) -> Result<(), Fail> {
     assert_each(&rt, rt.alloc(), &puts)
 }
 
+// A database of version 1, with no row but that of the version.
+fn of_version_1(alloc: Global) -> Result<Connection<MemStore>, Fail> {
+    let mut conn = Connection::open_in_memory(alloc)?;
+    let tables = [
+        texts::bureau_version(),
+        texts::caller(),
+        texts::last_change(),
+        texts::sysmod(),
+        texts::sysmod_sup(),
+        texts::by_member(),
+        texts::hold_row(),
+        texts::zone_head(),
+        texts::zone_row(),
+        texts::received_list(),
+        "INSERT INTO bureau_version (one, version) VALUES (1, 1)",
+    ];
+    for text in tables {
+        conn.execute(text, &[])?;
+    }
+    Ok(conn)
+}
+
 #[test]
 fn tables_of_version_1_become_those_of_version_2(rt: HostRuntime) -> Result<(), Fail> {
     let mut conn = of_version_1(rt.alloc())?;
-    let row = "INSERT INTO bureau_version (one, version) VALUES (1, 1)";
-    conn.execute(row, &[])?;
     assert!(rt; conn.is_autocommit());
     let mut tx = conn.transaction();
     migrate(&mut tx)?;
