@@ -1,15 +1,8 @@
 //! Drawn calls of a publisher and three clients: no store and no judge shows in an answer, and each client is
 //! answered as where the others' calls are left out.
-use crate::asked::{
-    ALPHA, BASE, BETA, BOTH, Checked, FUNCTION, GAMMA, PUBLISHER, Script, asked, id,
-};
-use crate::conditional::{
-    ALONE_IN_TGT2, BLOCKED, BOTH_FUNCTIONS, REQUIRING, REQUIRING_NOTHING, SUPERSEDED_FUNCTION,
-    WITH_REQUIRED,
-};
+use crate::asked::{ALPHA, BASE, BETA, BOTH, FUNCTION, GAMMA, PUBLISHER, Script, asked, id};
 use crate::desks::{assert_script, assert_script_by, cache, fresh};
 use crate::stores::{InDatabases, Lists, Place, in_files, in_memory};
-use crate::worked::SUPERSEDING;
 use bureau::{Bureau, Call, Reply};
 use bureau_store::Store;
 use chains::{Judge, Whole};
@@ -23,31 +16,20 @@ use std::test::Fail;
 
 const CALLS: u32 = 4_000;
 
-// Publications. What a SYSMOD requires where a second function is installed comes, and goes with the next
-// record of that SYSMOD. What is required is one for that function, and is held and released.
-const PUBLICATIONS: [&[u8]; 8] = [
+// Four bodies of each sort.
+const PUBLICATIONS: [&[u8]; 4] = [
     BASE,
-    SUPERSEDING,
-    b"++PTF(UA10005).\n++VER(Z038) FMID(HBB7790) SUP(UA10002).\n++IF FMID(HXX0001) REQ(UA10021).\n",
-    REQUIRING,
-    REQUIRING_NOTHING,
-    b"++FUNCTION(HXX0001).\n++VER(Z038).\n++PTF(UA10021).\n++VER(Z038) FMID(HXX0001).\n",
+    b"++PTF(UA10005).\n++VER(Z038) FMID(HBB7790) SUP(UA10002).\n",
     b"++HOLD(UA10002) ERROR FMID(HBB7790) REASON(AA30003).\n\
-++HOLD(UA10021) ERROR FMID(HXX0001) REASON(AA30004).\n\
 ++HOLD(HBB7790) FIXCAT FMID(HBB7790) REASON(AA40001) RESOLVER(UA10009)\n CATEGORY(IBM.Device).\n",
-    b"++RELEASE(UA10002) ERROR FMID(HBB7790) REASON(AA30003).\n\
-++RELEASE(UA10021) ERROR FMID(HXX0001) REASON(AA30004).\n",
+    b"++RELEASE(UA10002) ERROR FMID(HBB7790) REASON(AA30003).\n",
 ];
 
-const ZONE_BODIES: [&[u8]; 8] = [
+const ZONE_BODIES: [&[u8]; 4] = [
     BOTH,
     FUNCTION,
     b"SYSMOD,STATE\nHBB7790,APPLIED\nUA10001,ACCEPTED\nUA10002,APPLIED\n",
     b"no header",
-    BOTH_FUNCTIONS,
-    SUPERSEDED_FUNCTION,
-    b"SYSMOD,STATE\nHBB7790,APPLIED\nHXX0001,ACCEPTED\nUA10001,APPLIED\n",
-    b"SYSMOD,STATE\nHBB7790,APPLIED\nHXX0001,APPLIED\nUA10021,ACCEPTED\n",
 ];
 
 const RECEIVED: [&[u8]; 4] = [
@@ -138,10 +120,9 @@ impl Drawn {
         }
     }
 
-    // The drawn one of these, which are 4 or 8.
-    fn body_of(&self, bodies: &[&'static [u8]]) -> &'static [u8] {
-        let place = self.body.checked_rem(bodies.len()).unwrap_or(0);
-        bodies.get(place).copied().unwrap_or(b"")
+    // The drawn one of four bodies.
+    fn body_of(&self, bodies: &[&'static [u8]; 4]) -> &'static [u8] {
+        bodies.get(self.body).copied().unwrap_or(b"")
     }
 
     fn is_change(&self) -> bool {
@@ -166,17 +147,15 @@ fn run_of_all<S: Store, J: Judge<S>>(
     let mut draws = Draws { state: 20_261_122 };
     let mut last = [0u64; 4];
     let mut all = Vec::new(alloc);
-    let zones = [id(b"TGT1")?, id(b"TGT2")?];
-    let sysmods = [id(b"UA10001")?, id(b"UA10002")?, id(b"UA10020")?];
     for _ in 0..CALLS {
         let caller = draws.below(4) as usize;
         let drawn = Drawn {
             caller,
             kind: draws.below(11),
             number: draws.number(last.get(caller).copied().unwrap_or(0)),
-            zone: drawn_of(&mut draws, &zones)?,
-            sysmod: drawn_of(&mut draws, &sysmods)?,
-            body: draws.below(8) as usize,
+            zone: drawn_of(&mut draws, id(b"TGT1")?, id(b"TGT2")?),
+            sysmod: drawn_of(&mut draws, id(b"UA10001")?, id(b"UA10002")?),
+            body: draws.below(4) as usize,
         };
         let reply = asked(bureau, token_of(caller), &drawn.call())?;
         if let Some(last) = last.get_mut(caller) {
@@ -187,9 +166,8 @@ fn run_of_all<S: Store, J: Judge<S>>(
     Ok(all)
 }
 
-fn drawn_of(draws: &mut Draws, ids: &[Id]) -> Checked<Id> {
-    let place = draws.below(ids.len() as u64) as usize;
-    ids.get(place).copied().ok_or("an id")
+fn drawn_of(draws: &mut Draws, one: Id, other: Id) -> Id {
+    if draws.below(2) == 0 { one } else { other }
 }
 
 // The number of a caller's last accepted change.
@@ -295,14 +273,6 @@ fn assert_alone_in_databases<S: Alter + Drop>(
     assert_alone(rt, alloc, keys, &mut InDatabases::new(spare))
 }
 
-// Whether a reply has this text.
-fn is_told(reply: &Reply, text: &str) -> bool {
-    match str::from_utf8(reply.body.as_slice()) {
-        Ok(told) => told.contains(text),
-        Err(_) => false,
-    }
-}
-
 #[test]
 fn each_status_is_drawn(rt: HostRuntime) -> Result<(), Fail> {
     let all = all_drawn(rt.alloc())?;
@@ -310,22 +280,6 @@ fn each_status_is_drawn(rt: HostRuntime) -> Result<(), Fail> {
         assert!(rt;
             all.iter().any(|one| one.1.status == status),
             "{status} is never answered"
-        );
-    }
-    Ok(())
-}
-
-// Where the second function is installed, chains are asked for while what is required can be installed, while it
-// can't, and while nothing is required; and a report in which UA10005 is held, which needs nothing but under a
-// condition.
-#[test]
-fn each_condition_is_drawn(rt: HostRuntime) -> Result<(), Fail> {
-    let all = all_drawn(rt.alloc())?;
-    let held = "HBB7790  UA10001  AA20002  UA10005  HELD   NO       PE\n";
-    for text in [WITH_REQUIRED, BLOCKED, ALONE_IN_TGT2, held] {
-        assert!(rt;
-            all.iter().any(|one| is_told(&one.1, text)),
-            "never told: {text}"
         );
     }
     Ok(())

@@ -14,12 +14,9 @@ pub(crate) const REQUIRED: &[u8] = b"++PTF(UA10021).\n++VER(Z038) FMID(HBB7790).
 /// The first PTF again, and it requires nothing.
 pub(crate) const REQUIRING_NOTHING: &[u8] = b"++PTF(UA10020).\n++VER(Z038) FMID(HBB7790).\n";
 
-/// A zone in which both functions are applied.
 pub(crate) const BOTH_FUNCTIONS: &[u8] = b"SYSMOD,STATE\nHBB7790,APPLIED\nHXX0001,APPLIED\n";
 
-/// A zone in which the second function is superseded, so that it is not installed.
-pub(crate) const SUPERSEDED_FUNCTION: &[u8] =
-    b"SYSMOD,STATE\nHBB7790,APPLIED\nHXX0001,SUPERSEDED\n";
+const SUPERSEDED_FUNCTION: &[u8] = b"SYSMOD,STATE\nHBB7790,APPLIED\nHXX0001,SUPERSEDED\n";
 
 pub(crate) const ALONE_IN_TGT1: &str = "{\"plan\":[{\"id\":\"UA10020\",\"system\":[],\"user\":[]}],\
 \"status\":\"GOOD\",\"sysmod\":\"UA10020\",\"zone\":\"TGT1\"}";
@@ -31,7 +28,7 @@ pub(crate) const WITH_REQUIRED: &str = "{\"plan\":[{\"id\":\"UA10020\",\"system\
 {\"id\":\"UA10021\",\"system\":[],\"user\":[]}],\
 \"status\":\"GOOD\",\"sysmod\":\"UA10020\",\"zone\":\"TGT2\"}";
 
-pub(crate) const BLOCKED: &str =
+const BLOCKED: &str =
     "{\"blocked\":\"UA10021\",\"status\":\"HELD\",\"sysmod\":\"UA10020\",\"zone\":\"TGT2\"}";
 
 const TWO_ROWS: &str = "ZONE TGT2 ROWS 2\n";

@@ -16,11 +16,7 @@ mod desks;
 #[cfg(test)]
 mod device_tests;
 #[cfg(test)]
-mod earlier;
-#[cfg(test)]
 mod limits_tests;
-#[cfg(test)]
-mod migrated_tests;
 #[cfg(test)]
 mod numbers;
 #[cfg(test)]

@@ -4,7 +4,7 @@ use crate::asked::{
 };
 use crate::desks::assert_script;
 use crate::stores::{InDatabases, Lists, Place, in_files, in_memory};
-use bureau::{Bureau, Call};
+use bureau::Bureau;
 use bureau_store::Store;
 use chains::Judge;
 use sqlite::{Alter, Connection};
@@ -69,9 +69,7 @@ fn zone_text(alloc: Global, rows: u32) -> Result<Vec<u8>, Fail> {
     Ok(text)
 }
 
-const FULL_ZONE: &str = "ZONE     SYSMODS\nTGT1     40000\nROWS 1\n";
-
-// A zone with too many SYSMODs, and then with the most, which is listed with all of them.
+// A zone with too many SYSMODs, and then with the most.
 struct FullZone;
 
 impl Script for FullZone {
@@ -88,8 +86,6 @@ impl Script for FullZone {
         let full = zone_text(alloc, 40_000)?;
         let put = asked(bureau, ALPHA, &put_zone(1, zone, &full))?;
         assert_told(rt, &put, 200, "ZONE TGT1 ROWS 40000\n");
-        let listed = asked(bureau, ALPHA, &Call::ListZones)?;
-        assert_told(rt, &listed, 200, FULL_ZONE);
         Ok(())
     }
 }

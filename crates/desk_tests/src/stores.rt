@@ -136,8 +136,7 @@ fn begun<S: Alter + Drop>(
     }
 }
 
-/// The store that a connection has.
-pub(crate) fn opened<S: Alter + Drop>(alloc: Global, conn: Connection<S>) -> Checked<SqlStore<S>> {
+fn opened<S: Alter + Drop>(alloc: Global, conn: Connection<S>) -> Checked<SqlStore<S>> {
     if !conn.is_autocommit() {
         return Err("a connection at rest");
     }
