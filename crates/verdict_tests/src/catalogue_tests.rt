@@ -1,6 +1,5 @@
 //! What statements publish, what a publication leaves and touches, and that each call succeeds where there is
 //! memory.
-use crate::base::{BASE, id_of};
 use catalogue::{
     Change, ChangeReader, CondNeed, CondNeeds, Ids, ListPublished, Published, Sysmod, SysmodKind,
     read_changes, touched,
@@ -9,6 +8,16 @@ use holddata::{HoldChange, HoldKey};
 use mcs_reader::{Id, read};
 use std::alloc::Global;
 use std::test::Fail;
+
+// A function, two PTFs of which the second supersedes an APAR, and an error of the first.
+const BASE: &[u8] = b"++FUNCTION(HBB7790).\n\
+++VER(Z038).\n\
+++PTF(UA10001).\n\
+++VER(Z038) FMID(HBB7790).\n\
+++PTF(UA10002).\n\
+++VER(Z038) FMID(HBB7790) PRE(UA10001) SUP(AA20002).\n\
+++HOLD(UA10001) ERROR FMID(HBB7790)\n \
+REASON(AA20002) CLASS(PE) DATE(12045).\n";
 
 const BASE_TEXT: &str = "HBB7790 Func fmids pre req sup; \
 UA10001 Ptf fmids HBB7790 pre req sup; \
@@ -25,7 +34,7 @@ fn changes_of(alloc: Global, source: &[u8]) -> Result<Vec<Change>, Fail> {
     Ok(read_changes(alloc, &read(alloc, source)?)?)
 }
 
-fn lists_after(alloc: Global, sources: &[&[u8]]) -> Result<ListPublished, Fail> {
+fn published(alloc: Global, sources: &[&[u8]]) -> Result<ListPublished, Fail> {
     let mut lists = ListPublished::new(alloc);
     for source in sources {
         lists.publish(&changes_of(alloc, source)?)?;
@@ -108,14 +117,14 @@ fn answers(lists: &mut ListPublished, text: &mut String, id: &Id) -> Result<(), 
 }
 
 fn answered(alloc: Global, sources: &[&[u8]], id: &[u8]) -> Result<String, Fail> {
-    let mut lists = lists_after(alloc, sources)?;
+    let mut lists = published(alloc, sources)?;
     let mut text = String::new(alloc);
-    answers(&mut lists, &mut text, &id_of(id)?)?;
+    answers(&mut lists, &mut text, &Id::new(id).ok_or("an id")?)?;
     Ok(text)
 }
 
 fn touched_text(alloc: Global, sources: &[&[u8]], source: &[u8]) -> Result<String, Fail> {
-    let mut lists = lists_after(alloc, sources)?;
+    let mut lists = published(alloc, sources)?;
     let changes = changes_of(alloc, source)?;
     ids_text(alloc, &touched(alloc, &mut lists, &changes)?)
 }
@@ -126,8 +135,7 @@ fn statements_publish_sysmods_and_holds(rt: HostRuntime) -> Result<(), Fail> {
     let rows: [(&[u8], &str); 8] = [
         (BASE, BASE_TEXT),
         (
-            b"++PTF(UA1).\n++IF FMID(F2) THEN REQ(B,A) REQ(C,A).\n++VER(Z038) FMID(F1).\n\
-             ++if fmid(F1) req(B).\n++IF FMID(F2) REQ(A).\n",
+            b"++PTF(UA1).\n++IF FMID(F2) THEN REQ(B,A) REQ(C,A).\n++VER(Z038) FMID(F1).\n++if fmid(F1) req(B).\n++IF FMID(F2) REQ(A).\n",
             "UA1 Ptf fmids F1 pre req sup if F1 B if F2 A if F2 B if F2 C; ",
         ),
         (
@@ -143,8 +151,7 @@ fn statements_publish_sysmods_and_holds(rt: HostRuntime) -> Result<(), Fail> {
             "UA10030 Ptf fmids HBB7790 pre req sup; ",
         ),
         (
-            b"++APAR(AA1).\n++VER(Z038) PRE(B,A) PRE(B) SUP(AA1).\n++USERMOD(MOD1).\n\
-             ++RELEASE(UA1) ERROR REASON(AA1).\n++VER(Z038) SUP(C).\n",
+            b"++APAR(AA1).\n++VER(Z038) PRE(B,A) PRE(B) SUP(AA1).\n++USERMOD(MOD1).\n++RELEASE(UA1) ERROR REASON(AA1).\n++VER(Z038) SUP(C).\n",
             "AA1 Apar fmids pre A B req sup AA1; MOD1 Usermod fmids pre req sup C; release UA1 AA1; ",
         ),
         (
@@ -231,7 +238,7 @@ fn lists_answer_what_is_published(rt: HostRuntime) -> Result<(), Fail> {
     for (sources, id, text) in rows {
         assert_eq!(rt; answered(alloc, sources, id)?.as_str(), text);
     }
-    let mut lists = lists_after(alloc, &[BASE])?;
+    let mut lists = published(alloc, &[BASE])?;
     assert_eq!(rt;
         ids_text(alloc, &lists.ids()?)?.as_str(),
         " HBB7790 UA10001 UA10002"
@@ -261,8 +268,8 @@ fn a_publication_touches_what_it_may_change(rt: HostRuntime) -> Result<(), Fail>
 #[test]
 fn ids_are_made_of_lists_that_ascend(rt: HostRuntime) -> Result<(), Fail> {
     let alloc = rt.alloc();
-    let a = id_of(b"A")?;
-    let b = id_of(b"B")?;
+    let a = Id::new(b"A").ok_or("an id")?;
+    let b = Id::new(b"B").ok_or("an id")?;
     let rows: [(&[Id], bool); 5] = [
         (&[], true),
         (&[b], true),
@@ -285,7 +292,7 @@ fn ids_are_made_of_lists_that_ascend(rt: HostRuntime) -> Result<(), Fail> {
 #[test]
 fn conditional_requisites_are_made_of_lists_that_ascend(rt: HostRuntime) -> Result<(), Fail> {
     let alloc = rt.alloc();
-    let (a, b) = (id_of(b"A")?, id_of(b"B")?);
+    let (a, b) = (Id::new(b"A").ok_or("an id")?, Id::new(b"B").ok_or("an id")?);
     let [aa, ab, ba] = [(a, a), (a, b), (b, a)].map(|(fmid, need)| CondNeed { fmid, need });
     let rows: [(&[CondNeed], bool); 6] = [
         (&[], true),
@@ -310,29 +317,37 @@ fn conditional_requisites_are_made_of_lists_that_ascend(rt: HostRuntime) -> Resu
 #[test]
 fn long_publications_are_read_and_published(rt: HostRuntime) -> Result<(), Fail> {
     let alloc = rt.alloc();
-    assert_eq!(rt; after_one_header(alloc, 20_000, false)?, (20_000, 0));
-    assert_eq!(rt; after_one_header(alloc, 20_000, true)?, (0, 20_000));
+    assert_eq!(rt; vers_after_one_header(alloc, 20_000)?, 20_000);
+    assert_eq!(rt; ifs_after_one_header(alloc, 20_000)?, 20_000);
     assert_eq!(rt; superseders_of_one(alloc, 20_000)?, (20_000, 20_001));
     assert_eq!(rt; one_again(alloc, 20_000)?.as_str(), " S0");
     Ok(())
 }
 
-// How many requisites a PTF has of so many statements after its header: by PRE, and under a condition.
-fn after_one_header(alloc: Global, rows: u32, is_under: bool) -> Result<(usize, usize), Fail> {
-    let mut reader = take(ChangeReader::new(alloc), alloc, b"++PTF(UA1).\n")?;
+fn vers_after_one_header(alloc: Global, rows: u32) -> Result<usize, Fail> {
+    let mut reader = taken(ChangeReader::new(alloc), alloc, b"++PTF(UA1).\n")?;
     for i in 0..rows {
-        let statement = if is_under {
-            format!(in alloc; "++IF FMID(F{}) REQ(P{i}).\n", i % 7)?
-        } else {
-            format!(in alloc; "++VER(Z038) PRE(P{i}) SUP(AA1).\n")?
-        };
-        reader = take(reader, alloc, statement.as_bytes())?;
+        let ver = format!(in alloc; "++VER(Z038) PRE(P{i}) SUP(AA1).\n")?;
+        reader = taken(reader, alloc, ver.as_bytes())?;
     }
     let changes = reader.finish()?;
     let Some(Change::Whole(sysmod)) = changes.first() else {
         return Err(Fail::from("a record"));
     };
-    Ok((sysmod.pre.as_slice().len(), sysmod.conds.as_slice().len()))
+    Ok(sysmod.pre.as_slice().len())
+}
+
+fn ifs_after_one_header(alloc: Global, rows: u32) -> Result<usize, Fail> {
+    let mut reader = taken(ChangeReader::new(alloc), alloc, b"++PTF(UA1).\n")?;
+    for i in 0..rows {
+        let condition = format!(in alloc; "++IF FMID(F{}) REQ(P{i}).\n", i % 7)?;
+        reader = taken(reader, alloc, condition.as_bytes())?;
+    }
+    let changes = reader.finish()?;
+    let Some(Change::Whole(sysmod)) = changes.first() else {
+        return Err(Fail::from("a record"));
+    };
+    Ok(sysmod.conds.as_slice().len())
 }
 
 fn one_again(alloc: Global, rows: u32) -> Result<String, Fail> {
@@ -342,7 +357,9 @@ fn one_again(alloc: Global, rows: u32) -> Result<String, Fail> {
     }
     let mut lists = ListPublished::new(alloc);
     lists.publish(&changes)?;
-    let sysmod = lists.sysmod(&id_of(b"U1")?)?.ok_or("a record")?;
+    let sysmod = lists
+        .sysmod(&Id::new(b"U1").ok_or("an id")?)?
+        .ok_or("a record")?;
     ids_text(alloc, sysmod.sup.as_slice())
 }
 
@@ -353,11 +370,11 @@ fn superseders_of_one(alloc: Global, rows: u32) -> Result<(usize, usize), Fail> 
     }
     let mut lists = ListPublished::new(alloc);
     lists.publish(&changes)?;
-    let above = lists.superseders(&id_of(b"S1")?)?.len();
+    let above = lists.superseders(&Id::new(b"S1").ok_or("an id")?)?.len();
     Ok((above, touched(alloc, &mut lists, &changes)?.len()))
 }
 
-fn take(reader: ChangeReader, alloc: Global, source: &[u8]) -> Result<ChangeReader, Fail> {
+fn taken(reader: ChangeReader, alloc: Global, source: &[u8]) -> Result<ChangeReader, Fail> {
     let mut reader = reader;
     for statement in &read(alloc, source)? {
         reader = reader.take(statement)?;
@@ -383,5 +400,5 @@ fn ptf(alloc: Global, number: u32, superseded: u32) -> Result<Change, Fail> {
 
 fn numbered(alloc: Global, letter: char, number: u32) -> Result<Id, Fail> {
     let text = format!(in alloc; "{letter}{number}")?;
-    id_of(text.as_bytes())
+    Ok(Id::new(text.as_bytes()).ok_or("an id")?)
 }

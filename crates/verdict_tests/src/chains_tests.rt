@@ -1,16 +1,51 @@
 //! Worked verdicts over lists, verdicts beside a plain slow body, and hard shapes at length.
-use crate::base::verdict_text;
-use catalogue::{ListPublished, Published, SourceFault};
+use catalogue::{ListPublished, Published, SourceFault, read_changes};
 use chains::{Frame, Judge, Status, Verdict, Whole, frame, good, plan};
-use mcs_reader::Id;
+use mcs_reader::{Id, read};
 use std::alloc::Global;
 use std::test::Fail;
 use supersede::Zone;
+use zone_lists::zone_rows;
 
 mod frames;
 mod random;
 mod rows;
 mod shapes;
+
+fn published(alloc: Global, source: &[u8]) -> Result<ListPublished, Fail> {
+    let mut lists = ListPublished::new(alloc);
+    lists.publish(&read_changes(alloc, &read(alloc, source)?)?)?;
+    Ok(lists)
+}
+
+fn zone_of(alloc: Global, text: &[u8]) -> Result<Zone, Fail> {
+    let rows = zone_rows(alloc, text)?;
+    Ok(Zone::new(alloc, &rows)?)
+}
+
+fn id_of(text: &[u8]) -> Result<Id, Fail> {
+    Ok(Id::new(text).ok_or("an id")?)
+}
+
+// A verdict in print.
+fn verdict_text(alloc: Global, verdict: &Verdict) -> Result<String, Fail> {
+    let mut text = String::new(alloc);
+    match verdict {
+        Verdict::Good(plan) => {
+            text.push_str("GOOD")?;
+            for id in plan {
+                text.push(' ')?;
+                text.push_str(id.text())?;
+            }
+        }
+        Verdict::Held(need) => {
+            text.push_str("HELD ")?;
+            text.push_str(need.text())?;
+        }
+        Verdict::Lack => text.push_str("LACK")?,
+    }
+    Ok(text)
+}
 
 fn judged(alloc: Global, lists: &mut ListPublished, zone: &Zone, id: &Id) -> Result<String, Fail> {
     let verdict = Whole::new().verdict(alloc, lists, zone, id)?;

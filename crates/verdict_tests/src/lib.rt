@@ -1,11 +1,9 @@
 //! Tests of what a catalogue says: changes, superseding, plans, chains, frames and both reports.
 //!
-//! Each NAME_tests file tests the public items of the crate that it is named after; `base` has what several of them
-//! begin with. A crate with tests of its own is proved twice by the gate, so those of the lower crates stand here.
+//! Each file tests the public items of the crate that it is named after. A crate with tests of its own is proved twice by the gate,
+//! so those of the lower crates stand here.
 #![tactic(auto)]
 
-#[cfg(test)]
-mod base;
 #[cfg(test)]
 mod catalogue_tests;
 #[cfg(test)]

@@ -1,6 +1,5 @@
 //! Which frames are kept, in what order, and how many were put.
-use super::{kept_text, publish};
-use crate::base::{BASE, id_of, verdict_text, zone_of};
+use super::{id_of, kept_text, publish, verdict_text, zone_of};
 use catalogue::{ListPublished, Published};
 use chain_cache::ChainCache;
 use chains::{Judge, Status, Verdict};
@@ -12,21 +11,17 @@ use supersede::Zone;
 
 const ZONE: &[u8] = b"SYSMOD,STATE\nHBB7790,APPLIED\nUA10001,APPLIED\n";
 
-// A third PTF, which supersedes the second of the base.
-const THIRD: &[u8] = b"++PTF(UA10005).\n++VER(Z038) FMID(HBB7790) SUP(UA10002).\n";
-
-// The base and the third PTF, and a cache of so many frames.
-fn lists_and_cache(
-    alloc: Global,
-    capacity: u32,
-    keys: RandomState,
-) -> Result<(ListPublished, ChainCache), Fail> {
-    let mut lists = ListPublished::new(alloc);
-    let mut cache = ChainCache::new(alloc, capacity, keys)?;
-    publish(alloc, &mut lists, &mut cache, BASE)?;
-    publish(alloc, &mut lists, &mut cache, THIRD)?;
-    Ok((lists, cache))
-}
+// A function, three PTFs, and an error of the first that the second fixes, which the third supersedes.
+const BASE: &[u8] = b"++FUNCTION(HBB7790).\n\
+++VER(Z038).\n\
+++PTF(UA10001).\n\
+++VER(Z038) FMID(HBB7790).\n\
+++PTF(UA10002).\n\
+++VER(Z038) FMID(HBB7790) PRE(UA10001) SUP(AA20002).\n\
+++HOLD(UA10001) ERROR FMID(HBB7790)\n \
+REASON(AA20002) CLASS(PE) DATE(12045).\n\
+++PTF(UA10005).\n\
+++VER(Z038) FMID(HBB7790) SUP(UA10002).\n";
 
 // The capacity, the ids that are asked for, and after each: what is kept, and how many frames were put.
 const ASKED: [(u32, &[(&str, &str, u64)]); 3] = [
@@ -65,7 +60,9 @@ fn the_frame_used_longest_ago_goes(rt: HostRuntime) -> Result<(), Fail> {
     let alloc = rt.alloc();
     let zone = zone_of(alloc, ZONE)?;
     for (capacity, rows) in ASKED {
-        let (mut lists, mut cache) = lists_and_cache(alloc, capacity, RandomState::new(&rt)?)?;
+        let mut lists = ListPublished::new(alloc);
+        let mut cache = ChainCache::new(alloc, capacity, RandomState::new(&rt)?)?;
+        publish(alloc, &mut lists, &mut cache, BASE)?;
         for (id, kept, built) in rows {
             drop(cache.verdict(alloc, &mut lists, &zone, &id_of(id.as_bytes())?)?);
             assert_eq!(rt;
@@ -92,7 +89,9 @@ fn nodes_of_frame(
 #[test]
 fn a_frame_is_given_and_kept(rt: HostRuntime) -> Result<(), Fail> {
     let alloc = rt.alloc();
-    let (mut lists, mut cache) = lists_and_cache(alloc, 2, RandomState::new(&rt)?)?;
+    let mut lists = ListPublished::new(alloc);
+    let mut cache = ChainCache::new(alloc, 2, RandomState::new(&rt)?)?;
+    publish(alloc, &mut lists, &mut cache, BASE)?;
     for (id, nodes) in [
         ("UA10002", 4),
         ("UA10001", 4),
@@ -124,9 +123,8 @@ fn ring(alloc: Global, count: u32) -> Result<String, Fail> {
     Ok(text)
 }
 
-// How many SYSMODs a ring has, and how many frames are put where each of them is a candidate of one report. Those of
-// the last two reports would have more nodes in all than a report may have, and there are more candidates than a
-// report may have.
+// How many SYSMODs a ring has, and how many frames are put where each of them is a candidate of one report. Those of the last
+// two reports would have more nodes in all than a report may have, and there are more candidates than a report may have.
 const RINGS: [(u32, u64); 4] = [(1, 1), (12, 12), (256, 1), (257, 0)];
 
 #[test]
@@ -278,7 +276,9 @@ fn a_publication_drops_the_frames_that_it_touches(rt: HostRuntime) -> Result<(),
     let alloc = rt.alloc();
     let zone = zone_of(alloc, ZONE)?;
     let id = id_of(b"UA10002")?;
-    let (mut lists, mut cache) = lists_and_cache(alloc, 16, RandomState::new(&rt)?)?;
+    let mut lists = ListPublished::new(alloc);
+    let mut cache = ChainCache::new(alloc, 16, RandomState::new(&rt)?)?;
+    publish(alloc, &mut lists, &mut cache, BASE)?;
     drop(cache.verdict(alloc, &mut lists, &zone, &id_of(b"HBB7790")?)?);
     drop(cache.verdict(alloc, &mut lists, &zone, &id)?);
     for (place, (source, kept, verdict, built)) in PUBLISHED.iter().enumerate() {
@@ -295,32 +295,19 @@ const BARE: &[u8] = b"SYSMOD,STATE\nHBB7790,APPLIED\n";
 
 const WITH_OTHER: &[u8] = b"SYSMOD,STATE\nHBB7790,APPLIED\nHXX0001,APPLIED\n";
 
-const LISTED: &[u8] = b"SYSMOD,STATE\nHBB7790,APPLIED\nHXX0001,SUPERSEDED\n";
-
 const WITH_CONDITION: &[u8] = b"++PTF(UA10020).\n++VER(Z038) FMID(HBB7790).\n\
 ++IF FMID(HXX0001) THEN REQ(UA10021).\n++PTF(UA10021).\n++VER(Z038) FMID(HBB7790).\n";
 
 const WITHOUT_CONDITION: &[u8] = b"++PTF(UA10020).\n++VER(Z038) FMID(HBB7790).\n";
 
-// What is published, how many frames were put then, and in each zone the verdict on UA10020.
-const BY_ZONE: [(&[u8], u64, [(&[u8], &str); 3]); 2] = [
+// The zone, and the verdict on UA10020 there: as it is published, and without the condition.
+const BY_ZONE: [(&[u8], &str, &str); 3] = [
+    (BARE, "GOOD UA10020", "GOOD UA10020"),
+    (WITH_OTHER, "GOOD UA10020 UA10021", "GOOD UA10020"),
     (
-        WITH_CONDITION,
-        1,
-        [
-            (BARE, "GOOD UA10020"),
-            (WITH_OTHER, "GOOD UA10020 UA10021"),
-            (LISTED, "GOOD UA10020"),
-        ],
-    ),
-    (
-        WITHOUT_CONDITION,
-        2,
-        [
-            (BARE, "GOOD UA10020"),
-            (WITH_OTHER, "GOOD UA10020"),
-            (LISTED, "GOOD UA10020"),
-        ],
+        b"SYSMOD,STATE\nHBB7790,APPLIED\nHXX0001,SUPERSEDED\n",
+        "GOOD UA10020",
+        "GOOD UA10020",
     ),
 ];
 
@@ -329,15 +316,21 @@ const BY_ZONE: [(&[u8], u64, [(&[u8], &str); 3]); 2] = [
 fn a_frame_serves_each_zone(rt: HostRuntime) -> Result<(), Fail> {
     let alloc = rt.alloc();
     let id = id_of(b"UA10020")?;
-    let (mut lists, mut cache) = lists_and_cache(alloc, 16, RandomState::new(&rt)?)?;
-    for (source, built, verdicts) in BY_ZONE {
-        publish(alloc, &mut lists, &mut cache, source)?;
-        assert_eq!(rt; kept_text(alloc, &cache)?.as_str(), "", "{built}");
-        for (zone, verdict) in verdicts {
-            let given = cache.verdict(alloc, &mut lists, &zone_of(alloc, zone)?, &id)?;
-            assert_eq!(rt; verdict_text(alloc, &given)?.as_str(), verdict, "{built}");
-            assert_eq!(rt; cache.built(), built);
-        }
+    let mut lists = ListPublished::new(alloc);
+    let mut cache = ChainCache::new(alloc, 16, RandomState::new(&rt)?)?;
+    publish(alloc, &mut lists, &mut cache, BASE)?;
+    publish(alloc, &mut lists, &mut cache, WITH_CONDITION)?;
+    for (zone, verdict, _) in BY_ZONE {
+        let given = cache.verdict(alloc, &mut lists, &zone_of(alloc, zone)?, &id)?;
+        assert_eq!(rt; verdict_text(alloc, &given)?.as_str(), verdict);
+        assert_eq!(rt; cache.built(), 1);
+    }
+    publish(alloc, &mut lists, &mut cache, WITHOUT_CONDITION)?;
+    assert_eq!(rt; kept_text(alloc, &cache)?.as_str(), "");
+    for (zone, _, verdict) in BY_ZONE {
+        let given = cache.verdict(alloc, &mut lists, &zone_of(alloc, zone)?, &id)?;
+        assert_eq!(rt; verdict_text(alloc, &given)?.as_str(), verdict);
+        assert_eq!(rt; cache.built(), 2);
     }
     Ok(())
 }

@@ -1,7 +1,6 @@
 //! Catalogues that are drawn at random, with publications between: what is kept is what would be built, and each
 //! verdict is that over the whole catalogue.
-use super::publish;
-use crate::base::{Draws, id_of, verdict_text, zone_of};
+use super::{id_of, publish, verdict_text, zone_of};
 use catalogue::{Ids, ListPublished, Published};
 use chain_cache::ChainCache;
 use chains::{Frame, Judge, Whole, frame};
@@ -14,6 +13,32 @@ use supersede::Zone;
 const RUNS: u32 = 20;
 
 const PUBLICATIONS: u32 = 12;
+
+const IDS: u32 = 8;
+
+#[derive(Drop)]
+struct Draws {
+    state: u64,
+}
+
+impl Draws {
+    // A number below 2 to the 31.
+    fn next(&mut self) -> u32 {
+        self.state = self
+            .state
+            .wrapping_mul(6_364_136_223_846_793_005)
+            .wrapping_add(1_442_695_040_888_963_407);
+        (self.state.wrapping_shr(33) & 0x7FFF_FFFF) as u32
+    }
+
+    fn id(&mut self) -> u32 {
+        self.next() & (IDS - 1)
+    }
+
+    fn is(&mut self) -> bool {
+        self.next() & 0x10 == 0
+    }
+}
 
 fn put_operand(text: &mut String, draws: &mut Draws, name: &str) -> Result<(), Fail> {
     if draws.is() {
@@ -127,8 +152,7 @@ fn are_statuses(
     Ok(given.as_slice() == whole.as_slice())
 }
 
-// Whether frames, verdicts and statuses are as over the whole catalogue, in each of some zones, after one more
-// publication.
+// Whether frames, verdicts and statuses are as over the whole catalogue, in each of some zones, after one more publication.
 fn is_as_whole_after(
     alloc: Global,
     draws: &mut Draws,

@@ -1,7 +1,6 @@
 //! Frames: worked ones, and verdicts from a frame beside those over the whole catalogue.
-use super::is_as_whole;
-use super::rows::CONDITIONAL;
-use crate::base::{BASE, content_of, content_with, id_of, zone_of};
+use super::rows::{BASE, CONDITIONAL};
+use super::{id_of, is_as_whole, published, zone_of};
 use catalogue::{CondNeed, Ids, ListPublished};
 use chains::{Frame, frame, touches};
 use mcs_reader::Id;
@@ -93,7 +92,9 @@ UA10022 yes HXX0001, - - UA10022,\n",
 fn worked_frames(rt: HostRuntime) -> Result<(), Fail> {
     let alloc = rt.alloc();
     for (more, id, text) in FRAMES {
-        let mut lists = content_with(alloc, more)?;
+        let mut source = Vec::from_slice(alloc, BASE)?;
+        source.extend_from_slice(more)?;
+        let mut lists = published(alloc, &source)?;
         let frame = frame_of(alloc, &mut lists, id)?;
         assert_eq!(rt; frame_text(alloc, &frame)?.as_str(), text);
     }
@@ -111,7 +112,7 @@ fn ids_of(alloc: Global, texts: &[&[u8]]) -> Result<Vec<Id>, Fail> {
 #[test]
 fn a_frame_is_touched_by_what_it_has(rt: HostRuntime) -> Result<(), Fail> {
     let alloc = rt.alloc();
-    let mut lists = content_of(alloc, BASE)?;
+    let mut lists = published(alloc, BASE)?;
     let frame = frame_of(alloc, &mut lists, b"UA10002")?;
     let rows: [(&[&[u8]], bool); 4] = [
         (&[], false),
@@ -159,7 +160,7 @@ fn conditional_row(alloc: Global, count: u32) -> Result<String, Fail> {
 #[test]
 fn a_frame_goes_on_where_no_function_is_installed(rt: HostRuntime) -> Result<(), Fail> {
     let alloc = rt.alloc();
-    let mut lists = content_of(alloc, conditional_row(alloc, 10_000)?.as_bytes())?;
+    let mut lists = published(alloc, conditional_row(alloc, 10_000)?.as_bytes())?;
     let frame = frame_of(alloc, &mut lists, b"N00000")?;
     assert_eq!(rt; frame.nodes().len(), 10_001);
     Ok(())
@@ -175,7 +176,7 @@ fn long_frames(rt: HostRuntime) -> Result<(), Fail> {
         ("SUP", 100, 99_999, "N99999", 101),
     ];
     for (operand, count, last, id, nodes) in rows {
-        let mut lists = content_of(alloc, row(alloc, operand, count, last)?.as_bytes())?;
+        let mut lists = published(alloc, row(alloc, operand, count, last)?.as_bytes())?;
         let frame = frame_of(alloc, &mut lists, id.as_bytes())?;
         assert_eq!(rt; frame.nodes().len(), nodes, "{operand} {id}");
     }
@@ -187,7 +188,7 @@ fn verdicts_on_a_row_of_superseding(rt: HostRuntime) -> Result<(), Fail> {
     let alloc = rt.alloc();
     let mut text = row(alloc, "SUP", 20, 99_999)?;
     text.push_str("++PTF(N20000).\n++VER(Z038) FMID(HBB7790) PRE(N99999).\n")?;
-    let mut lists = content_of(alloc, text.as_bytes())?;
+    let mut lists = published(alloc, text.as_bytes())?;
     let zone = zone_of(alloc, ZONE)?;
     assert!(rt; is_as_whole(alloc, &mut lists, &zone, &id_of(b"N20000")?)?);
     Ok(())

@@ -1,6 +1,5 @@
 //! Verdicts on small contents that are drawn at random, beside a plain slow body that tries every set of ids.
-use super::{are_statuses, is_as_whole, judged};
-use crate::base::{Draws, content_of, id_of, zone_of};
+use super::{are_statuses, id_of, is_as_whole, judged, published, zone_of};
 use mcs_reader::Id;
 use std::alloc::Global;
 use std::fmt::Write;
@@ -24,6 +23,30 @@ struct Drawn {
     // What each needs where the functions of conditions are installed, by function.
     conds: Vec<[u32; 3]>,
     superseded: Vec<u32>,
+}
+
+#[derive(Drop)]
+struct Draws {
+    state: u64,
+}
+
+impl Draws {
+    fn next(&mut self) -> u32 {
+        self.state = self
+            .state
+            .wrapping_mul(6_364_136_223_846_793_005)
+            .wrapping_add(1_442_695_040_888_963_407);
+        (self.state.wrapping_shr(33) & 0xFFFF_FFFF) as u32
+    }
+
+    // Each id with one chance in two to the `rarity`.
+    fn set(&mut self, rarity: u32) -> u32 {
+        let mut ids = 0xFF;
+        for _ in 0..rarity {
+            ids &= self.next();
+        }
+        ids
+    }
 }
 
 fn has(ids: u32, id: u32) -> bool {
@@ -245,7 +268,7 @@ fn verdicts_are_those_of_a_plain_slow_body(rt: HostRuntime) -> Result<(), Fail> 
     let mut draws = Draws { state: 20_260_101 };
     for content in 0..CONTENTS {
         let drawn = Drawn::draw(alloc, &mut draws)?;
-        let mut lists = content_of(alloc, drawn.statements(alloc)?.as_bytes())?;
+        let mut lists = published(alloc, drawn.statements(alloc)?.as_bytes())?;
         let zone = zone_of(alloc, drawn.zone(alloc)?.as_bytes())?;
         let good = drawn.good();
         let mut ids: Vec<Id> = Vec::new(alloc);

@@ -1,6 +1,5 @@
 //! Worked verdicts.
-use super::{are_statuses, is_as_whole, judged};
-use crate::base::{content_with, id_of, zone_of};
+use super::{are_statuses, id_of, is_as_whole, judged, published, zone_of};
 use std::test::Fail;
 
 const ALPHA: &[u8] = b"SYSMOD,STATE\nHBB7790,APPLIED\nUA10001,APPLIED\n";
@@ -8,6 +7,16 @@ const ALPHA: &[u8] = b"SYSMOD,STATE\nHBB7790,APPLIED\nUA10001,APPLIED\n";
 const BETA: &[u8] = b"SYSMOD,STATE\nHBB7790,APPLIED\n";
 
 const SUPERSEDED: &[u8] = b"SYSMOD,STATE\nHBB7790,APPLIED\nUA10001,APPLIED\nUA10002,SUPERSEDED\n";
+
+// A function, two PTFs, and an error of the first that the second fixes.
+pub(super) const BASE: &[u8] = b"++FUNCTION(HBB7790).\n\
+++VER(Z038).\n\
+++PTF(UA10001).\n\
+++VER(Z038) FMID(HBB7790).\n\
+++PTF(UA10002).\n\
+++VER(Z038) FMID(HBB7790) PRE(UA10001) SUP(AA20002).\n\
+++HOLD(UA10001) ERROR FMID(HBB7790)\n \
+REASON(AA20002) CLASS(PE) DATE(12045).\n";
 
 // An error of the second PTF too.
 const HELD: &[u8] = b"++HOLD(UA10002) ERROR FMID(HBB7790) REASON(AA30003).\n";
@@ -108,7 +117,9 @@ const ROWS: [(&[u8], &[u8], &[u8], &str); 34] = [
 fn worked_verdicts(rt: HostRuntime) -> Result<(), Fail> {
     let alloc = rt.alloc();
     for (more, zone, id, text) in ROWS {
-        let mut lists = content_with(alloc, more)?;
+        let mut source = Vec::from_slice(alloc, BASE)?;
+        source.extend_from_slice(more)?;
+        let mut lists = published(alloc, &source)?;
         let zone = zone_of(alloc, zone)?;
         let id = id_of(id)?;
         assert_eq!(rt;

@@ -1,9 +1,7 @@
 //! Hard shapes, of 10,000 SYSMODs each.
-use super::judged;
-use crate::base::{content_of, id_of, zone_of};
+use super::{id_of, judged, published, zone_of};
 use std::alloc::Global;
 use std::fmt::Write;
-use std::process::Abort;
 use std::test::Fail;
 
 const FIRST: u32 = 10_000;
@@ -34,7 +32,7 @@ fn row(alloc: Global, operand: &str, last: u32) -> Result<String, Fail> {
 }
 
 fn verdict_in(alloc: Global, text: &str, zone: &[u8], id: &[u8]) -> Result<String, Fail> {
-    let mut lists = content_of(alloc, text.as_bytes())?;
+    let mut lists = published(alloc, text.as_bytes())?;
     judged(alloc, &mut lists, &zone_of(alloc, zone)?, &id_of(id)?)
 }
 
@@ -45,29 +43,6 @@ fn verdict(alloc: Global, text: &str, id: &[u8]) -> Result<String, Fail> {
 // How many ids a good verdict names.
 fn count(verdict: &str) -> usize {
     verdict.bytes().filter(|byte| *byte == b'N').count()
-}
-
-// A good verdict that names all, in their order.
-fn assert_names_all(rt: &impl Abort, verdict: &str) {
-    assert!(rt; verdict.starts_with("GOOD N10000 N10001 "));
-    assert_eq!(rt; count(verdict), 10_000);
-}
-
-// Each but the last, which needs them by these words.
-fn last_needs_all(alloc: Global, words: &str) -> Result<String, Fail> {
-    let mut text = String::new(alloc);
-    for id in FIRST..LAST {
-        write!(text, "++PTF(N{id}).\n++VER(Z038) FMID(HBB7790).\n")?;
-    }
-    write!(
-        text,
-        "++PTF(N19999).\n++VER(Z038) FMID(HBB7790){words}\nREQ(\n"
-    )?;
-    for id in FIRST..LAST {
-        write!(text, "N{id}\n")?;
-    }
-    text.push_str(").\n")?;
-    Ok(text)
 }
 
 #[test]
@@ -84,7 +59,8 @@ fn needs_in_a_ring(rt: HostRuntime) -> Result<(), Fail> {
     let alloc = rt.alloc();
     let text = row(alloc, "REQ", FIRST)?;
     let verdict = verdict(alloc, &text, b"N15000")?;
-    assert_names_all(&rt, verdict.as_str());
+    assert!(rt; verdict.as_str().starts_with("GOOD N10000 N10001 "));
+    assert_eq!(rt; count(verdict.as_str()), 10_000);
     Ok(())
 }
 
@@ -121,9 +97,18 @@ fn all_need_one(rt: HostRuntime) -> Result<(), Fail> {
 #[test]
 fn one_needs_all(rt: HostRuntime) -> Result<(), Fail> {
     let alloc = rt.alloc();
-    let text = last_needs_all(alloc, "")?;
+    let mut text = String::new(alloc);
+    for id in FIRST..LAST {
+        write!(text, "++PTF(N{id}).\n++VER(Z038) FMID(HBB7790).\n")?;
+    }
+    text.push_str("++PTF(N19999).\n++VER(Z038) FMID(HBB7790)\nREQ(\n")?;
+    for id in FIRST..LAST {
+        write!(text, "N{id}\n")?;
+    }
+    text.push_str(").\n")?;
     let verdict = verdict(alloc, &text, b"N19999")?;
-    assert_names_all(&rt, verdict.as_str());
+    assert!(rt; verdict.as_str().starts_with("GOOD N10000 N10001 "));
+    assert_eq!(rt; count(verdict.as_str()), 10_000);
     Ok(())
 }
 
@@ -145,16 +130,26 @@ fn conditions_in_a_row(rt: HostRuntime) -> Result<(), Fail> {
     );
     text.push_str("++PTF(N19999).\n++VER(Z038) FMID(HBB7790).\n")?;
     let verdict = verdict_in(alloc, &text, WITH_OTHER, b"N10000")?;
-    assert_names_all(&rt, verdict.as_str());
+    assert!(rt; verdict.as_str().starts_with("GOOD N10000 N10001 "));
+    assert_eq!(rt; count(verdict.as_str()), 10_000);
     Ok(())
 }
 
 #[test]
 fn one_needs_all_where_a_function_is_installed(rt: HostRuntime) -> Result<(), Fail> {
     let alloc = rt.alloc();
-    let text = last_needs_all(alloc, ".\n++IF FMID(HXX0001)")?;
+    let mut text = String::new(alloc);
+    for id in FIRST..LAST {
+        write!(text, "++PTF(N{id}).\n++VER(Z038) FMID(HBB7790).\n")?;
+    }
+    text.push_str("++PTF(N19999).\n++VER(Z038) FMID(HBB7790).\n++IF FMID(HXX0001)\nREQ(\n")?;
+    for id in FIRST..LAST {
+        write!(text, "N{id}\n")?;
+    }
+    text.push_str(").\n")?;
     assert_eq!(rt; verdict(alloc, &text, b"N19999")?.as_str(), "GOOD N19999");
     let verdict = verdict_in(alloc, &text, WITH_OTHER, b"N19999")?;
-    assert_names_all(&rt, verdict.as_str());
+    assert!(rt; verdict.as_str().starts_with("GOOD N10000 N10001 "));
+    assert_eq!(rt; count(verdict.as_str()), 10_000);
     Ok(())
 }

@@ -3,8 +3,7 @@ ghost use Rattle.std.specs.Prelude.{◌≡◌, ◌<◌, ◌≤◌, ◌⊎◌, fa
 ghost use Rattle.catalogue.specs.View.{most_failures};
 
 use super::id;
-use super::worked::{ALPHA, FIXCAT, holds_of_kind};
-use crate::base::{BASE, content_with};
+use super::worked::{ALPHA, BASE, FIXCAT, held, published};
 use catalogue::{
     Change, Ids, ListPublished, Published, SourceFault, Sysmod, read_changes, touched,
 };
@@ -38,9 +37,7 @@ impl Failing {
     fn fails(&mut self) -> bool
         ensures lists { self.new.lists ≡ self.old.lists }
         ensures rises { self.old.failures ≤ self.new.failures }
-        ensures fails { result ≡ true →
-            (0 < self.new.failures)
-            × ((self.old.failures < self.new.failures) ⊎ (self.new.failures ≡ most_failures)) }
+        ensures fails { result ≡ true → (0 < self.new.failures) × ((self.old.failures < self.new.failures) ⊎ (self.new.failures ≡ most_failures)) }
         ensures stands { result ≡ false → (self.old.failures ≡ 0) × (self.new.failures ≡ 0) }
     {
         if self.left == 0 || self.failures > 0 {
@@ -144,16 +141,16 @@ struct Asked {
 
 fn what_is_asked(alloc: Global) -> Result<Asked, Fail> {
     let rows = zone_rows(alloc, ALPHA)?;
-    let mut lists = content_with(alloc, FIXCAT.as_bytes())?;
+    let mut lists = published(alloc, FIXCAT)?;
     Ok(Asked {
         zone: Zone::new(alloc, &rows)?,
         name: id("TGT1")?,
         sysmod: id("UA10002")?,
         reason: id("AA20002")?,
-        errors: holds_of_kind(alloc, &mut lists, &rows, Kind::ErrorHold)?,
-        fixes: holds_of_kind(alloc, &mut lists, &rows, Kind::FixcatHold)?,
+        errors: held(alloc, &mut lists, &rows, Kind::ErrorHold)?,
+        fixes: held(alloc, &mut lists, &rows, Kind::FixcatHold)?,
         patterns: patterns(alloc, b"CATEGORY\n*\n")?,
-        changes: read_changes(alloc, &read(alloc, BASE)?)?,
+        changes: read_changes(alloc, &read(alloc, BASE.as_bytes())?)?,
     })
 }
 
@@ -200,7 +197,7 @@ fn make(alloc: Global, source: &mut Failing, asked: &Asked, call: Call) -> Resul
 // How often a call reads, where each of its reads in turn fails and is passed on.
 fn reads_of(alloc: Global, asked: &Asked, which: Call) -> Result<u64, Fail> {
     for left in 0..64 {
-        let lists = content_with(alloc, FIXCAT.as_bytes())?;
+        let lists = published(alloc, FIXCAT)?;
         let mut source = Failing::after(lists, left);
         match make(alloc, &mut source, asked, which) {
             Ok(()) => return Ok(left),

@@ -1,7 +1,6 @@
 //! A report over a long row of superseding, in which the reasons of many holds stand.
 use super::failing::{Failing, reads_left};
-use super::worked::holds_of_kind;
-use crate::base::content_with;
+use super::worked::{held, published};
 use catalogue::Ids;
 use chains::Whole;
 use holddata::Kind;
@@ -37,9 +36,9 @@ const READS: u64 = 10_000;
 // How many rows the report on a zone has, and how many reads are left after it.
 fn rows_and_left(alloc: Global, zone: &[u8]) -> Result<(usize, u64), Fail> {
     let source = row_and_holds(alloc)?;
-    let mut lists = content_with(alloc, source.as_bytes())?;
+    let mut lists = published(alloc, source.as_str())?;
     let rows = zone_rows(alloc, zone)?;
-    let holds = holds_of_kind(alloc, &mut lists, &rows, Kind::ErrorHold)?;
+    let holds = held(alloc, &mut lists, &rows, Kind::ErrorHold)?;
     let zone = Zone::new(alloc, &rows)?;
     let mut source = Failing::after(lists, READS);
     let none = Ids::new(alloc);

@@ -1,32 +1,37 @@
 //! Worked reports and chains, from statements and a client's lists to their bytes.
 use super::{ERR_FRONT, MISSING_FRONT, id};
-use crate::base::content_with;
-use catalogue::{ListPublished, Published};
+use catalogue::{ListPublished, Published, read_changes};
 use chains::{Judge, Whole};
 use holddata::{Hold, Kind};
-use mcs_reader::Id;
+use mcs_reader::{Id, read};
 use reports::{err_rows, err_text, missing_rows, missing_text, plan_json};
 use std::alloc::Global;
 use std::test::Fail;
 use supersede::Zone;
 use zone_lists::{ZoneRow, patterns, received_rows, zone_rows};
 
+pub(crate) const BASE: &str = "\
+++FUNCTION(HBB7790).
+++VER(Z038).
+++PTF(UA10001).
+++VER(Z038) FMID(HBB7790).
+++PTF(UA10002).
+++VER(Z038) FMID(HBB7790) PRE(UA10001) SUP(AA20002).
+++HOLD(UA10001) ERROR FMID(HBB7790)
+ REASON(AA20002) CLASS(PE) DATE(12045).
+";
+
 pub(crate) const ALPHA: &[u8] = b"SYSMOD,STATE\nHBB7790,APPLIED\nUA10001,APPLIED\n";
 
-// What is published, and a zone with its rows.
-fn zoned(
-    alloc: Global,
-    more: &str,
-    zone: &[u8],
-) -> Result<(ListPublished, Vec<ZoneRow>, Zone), Fail> {
-    let lists = content_with(alloc, more.as_bytes())?;
-    let rows = zone_rows(alloc, zone)?;
-    let zone = Zone::new(alloc, &rows)?;
-    Ok((lists, rows, zone))
+pub(crate) fn published(alloc: Global, more: &str) -> Result<ListPublished, Fail> {
+    let source = format!(in alloc; "{BASE}{more}")?;
+    let mut lists = ListPublished::new(alloc);
+    lists.publish(&read_changes(alloc, &read(alloc, source.as_bytes())?)?)?;
+    Ok(lists)
 }
 
 // The holds of a kind on the SYSMODs that are installed, in the order of their keys.
-pub(crate) fn holds_of_kind(
+pub(crate) fn held(
     alloc: Global,
     lists: &mut ListPublished,
     rows: &[ZoneRow],
@@ -46,11 +51,19 @@ pub(crate) fn holds_of_kind(
 }
 
 fn err_report(alloc: Global, more: &str, received: &[u8]) -> Result<Vec<u8>, Fail> {
-    let (mut lists, rows, zone) = zoned(alloc, more, ALPHA)?;
+    let mut lists = published(alloc, more)?;
+    let rows = zone_rows(alloc, ALPHA)?;
+    let zone = Zone::new(alloc, &rows)?;
     let received = received_rows(alloc, received)?;
-    let holds = holds_of_kind(alloc, &mut lists, &rows, Kind::ErrorHold)?;
-    let mut judge = Whole::new();
-    let rows = err_rows(alloc, &mut lists, &mut judge, &zone, &received, &holds)?;
+    let holds = held(alloc, &mut lists, &rows, Kind::ErrorHold)?;
+    let rows = err_rows(
+        alloc,
+        &mut lists,
+        &mut Whole::new(),
+        &zone,
+        &received,
+        &holds,
+    )?;
     Ok(err_text(alloc, &id("TGT1")?, &rows)?)
 }
 
@@ -60,10 +73,12 @@ fn missing_report(
     zone: &[u8],
     categories: &[u8],
 ) -> Result<Vec<u8>, Fail> {
-    let (mut lists, rows, zone) = zoned(alloc, more, zone)?;
+    let mut lists = published(alloc, more)?;
+    let rows = zone_rows(alloc, zone)?;
+    let zone = Zone::new(alloc, &rows)?;
     let received = received_rows(alloc, b"SYSMOD\nUA10009\n")?;
     let patterns = patterns(alloc, categories)?;
-    let holds = holds_of_kind(alloc, &mut lists, &rows, Kind::FixcatHold)?;
+    let holds = held(alloc, &mut lists, &rows, Kind::FixcatHold)?;
     let rows = missing_rows(
         alloc,
         &mut lists,
@@ -77,7 +92,9 @@ fn missing_report(
 }
 
 fn chain(alloc: Global, more: &str, sysmod: &Id) -> Result<Vec<u8>, Fail> {
-    let (mut lists, _, zone) = zoned(alloc, more, ALPHA)?;
+    let mut lists = published(alloc, more)?;
+    let rows = zone_rows(alloc, ALPHA)?;
+    let zone = Zone::new(alloc, &rows)?;
     let verdict = Whole::new().verdict(alloc, &mut lists, &zone, sysmod)?;
     Ok(plan_json(alloc, &mut lists, &id("TGT1")?, sysmod, &verdict)?)
 }
@@ -293,8 +310,7 @@ fn chains_as_json(rt: HostRuntime) -> Result<(), Fail> {
         (
             "++HOLD(UA10002) SYSTEM FMID(HBB7790) REASON(IPL).\n",
             "UA10002",
-            "{\"plan\":[{\"id\":\"UA10002\",\"system\":[\"IPL\"],\"user\":[]}],\
-             \"status\":\"GOOD\",\"sysmod\":\"UA10002\",\"zone\":\"TGT1\"}",
+            r#"{"plan":[{"id":"UA10002","system":["IPL"],"user":[]}],"status":"GOOD","sysmod":"UA10002","zone":"TGT1"}"#,
         ),
         (
             "",
@@ -317,10 +333,8 @@ const RING: &str = "\
 ++VER(Z038) FMID(HBB7790) REQ(UA10006).
 ";
 
-const IN_RING: &str = "{\"plan\":[{\"id\":\"UA10006\",\"system\":[],\"user\":[]},\
-    {\"id\":\"UA10007\",\"system\":[],\"user\":[]}],\
-    \"status\":\"GOOD\",\"sysmod\":\"UA10006\",\"zone\":\"TGT1\"}";
+const IN_RING: &str =
+    r#"{"plan":[{"id":"UA10006","system":[],"user":[]},{"id":"UA10007","system":[],"user":[]}],"status":"GOOD","sysmod":"UA10006","zone":"TGT1"}"#;
 
-const LATER_IN_RING: &str = "{\"plan\":[{\"id\":\"UA10006\",\"system\":[],\"user\":[]},\
-    {\"id\":\"UA10007\",\"system\":[],\"user\":[]}],\
-    \"status\":\"GOOD\",\"sysmod\":\"UA10007\",\"zone\":\"TGT1\"}";
+const LATER_IN_RING: &str =
+    r#"{"plan":[{"id":"UA10006","system":[],"user":[]},{"id":"UA10007","system":[],"user":[]}],"status":"GOOD","sysmod":"UA10007","zone":"TGT1"}"#;
