@@ -33,8 +33,8 @@ impl Read for Interrupted {
 // The name of a store, whose blanks count.
 const STORE: &str = " a store ";
 
-// Words, and files that are interrupted so often. A store is refused for its shape where it may be made, and for its
-// version where it may not. There is no file of another name.
+// Words, and files that are interrupted so often. A store is refused for its shape where it may be made, and for its version
+// where it may not. There is no file of another name.
 #[derive(Drop)]
 struct Few {
     words: &'static [&'static str],

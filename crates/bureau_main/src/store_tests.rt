@@ -23,7 +23,7 @@ use std::time::{Clock, Duration};
 type Disk = FileStore<Memory>;
 
 // A connection to the file that is kept in memory, with an empty log.
-fn connection(alloc: Global, db: Memory) -> Result<Connection<Disk>, Fail>
+fn connected(alloc: Global, db: Memory) -> Result<Connection<Disk>, Fail>
     requires { IsTrue (memory_is_usable db) }
     ensures { IfOk result (λ conn. conn.in_transaction ≡ false) }
 {
@@ -32,12 +32,6 @@ fn connection(alloc: Global, db: Memory) -> Result<Connection<Disk>, Fail>
         Ok(conn) => Ok(conn),
         Err(_) => Err("a connection".into()),
     }
-}
-
-fn run_text(alloc: Global, status: u8, output: &[u8], errors: &[u8]) -> Result<String, Fail> {
-    let output = str::from_utf8(output).ok().ok_or("a text")?;
-    let errors = str::from_utf8(errors).ok().ok_or("a text")?;
-    Ok(format!(in alloc; "{status} {output}{errors}")?)
 }
 
 // The status, standard output and standard error of `init`, and the connection.
@@ -51,11 +45,13 @@ fn init(
 {
     let (mut output, mut errors) = (Vec::new(alloc), Vec::new(alloc));
     let (status, conn) = run_init(alloc, conn, callers, &mut output, &mut errors);
-    Ok((run_text(alloc, status, &output, &errors)?, conn))
+    let output = str::from_utf8(output.as_slice()).ok().ok_or("a text")?;
+    let errors = str::from_utf8(errors.as_slice()).ok().ok_or("a text")?;
+    Ok((format!(in alloc; "{status} {output}{errors}")?, conn))
 }
 
 // The status and standard error of an opening that is refused, and the connection.
-fn refusal(alloc: Global, conn: Connection<Disk>) -> Result<(String, Connection<Disk>), Fail>
+fn refused(alloc: Global, conn: Connection<Disk>) -> Result<(String, Connection<Disk>), Fail>
     requires { conn.in_transaction ≡ false }
     ensures { IfOk result (λ both. both.1.in_transaction ≡ false) }
 {
@@ -63,7 +59,8 @@ fn refusal(alloc: Global, conn: Connection<Disk>) -> Result<(String, Connection<
     let Err((status, conn)) = run_open(alloc, conn, &mut errors) else {
         return Err("a refusal".into());
     };
-    Ok((run_text(alloc, status, b"", &errors)?, conn))
+    let errors = str::from_utf8(errors.as_slice()).ok().ok_or("a text")?;
+    Ok((format!(in alloc; "{status} {errors}")?, conn))
 }
 
 #[test]
@@ -78,9 +75,9 @@ fn a_fault_of_the_callers_leaves_no_tables(rt: HostRuntime) -> Result<(), Fail> 
         (b"NAME,TOKEN\nALPHA,alpha-token\n", "1 FAULT 48\n"),
     ];
     for (callers, wanted) in rows {
-        let (told, conn) = init(alloc, connection(alloc, Memory::new(alloc))?, callers)?;
+        let (told, conn) = init(alloc, connected(alloc, Memory::new(alloc))?, callers)?;
         assert_eq!(rt; told.as_str(), wanted);
-        let (told, conn) = refusal(alloc, conn)?;
+        let (told, conn) = refused(alloc, conn)?;
         assert_eq!(rt; told.as_str(), "1 FAULT 44\n");
         let (told, _) = init(alloc, conn, CALLERS)?;
         assert_eq!(rt; told.as_str(), "0 CALLERS 3\n");
@@ -95,14 +92,16 @@ fn migrate(alloc: Global, conn: Connection<Disk>) -> Result<(String, Connection<
 {
     let (mut output, mut errors) = (Vec::new(alloc), Vec::new(alloc));
     let (status, conn) = run_migrate(alloc, conn, &mut output, &mut errors);
-    Ok((run_text(alloc, status, &output, &errors)?, conn))
+    let output = str::from_utf8(output.as_slice()).ok().ok_or("a text")?;
+    let errors = str::from_utf8(errors.as_slice()).ok().ok_or("a text")?;
+    Ok((format!(in alloc; "{status} {output}{errors}")?, conn))
 }
 
 // A store that has what version 1 had.
-fn store_of_version_1(alloc: Global) -> Result<Connection<Disk>, Fail>
+fn earlier(alloc: Global) -> Result<Connection<Disk>, Fail>
     ensures { IfOk result (λ conn. conn.in_transaction ≡ false) }
 {
-    let (_, mut conn) = init(alloc, connection(alloc, Memory::new(alloc))?, CALLERS)?;
+    let (_, mut conn) = init(alloc, connected(alloc, Memory::new(alloc))?, CALLERS)?;
     for text in [
         "DROP TABLE sysmod_cond",
         "UPDATE bureau_version SET version = 1",
@@ -118,7 +117,7 @@ fn store_of_version_1(alloc: Global) -> Result<Connection<Disk>, Fail>
 #[test]
 fn a_store_of_version_1_is_migrated_once(rt: HostRuntime) -> Result<(), Fail> {
     let alloc = rt.alloc();
-    let (told, conn) = refusal(alloc, store_of_version_1(alloc)?)?;
+    let (told, conn) = refused(alloc, earlier(alloc)?)?;
     assert_eq!(rt; told.as_str(), "1 FAULT 45\n");
     let (told, conn) = migrate(alloc, conn)?;
     assert_eq!(rt; told.as_str(), "0 MIGRATED VERSION 2\n");
@@ -126,41 +125,22 @@ fn a_store_of_version_1_is_migrated_once(rt: HostRuntime) -> Result<(), Fail> {
     assert_eq!(rt; told.as_str(), "1 FAULT 45\n");
     let mut errors = Vec::new(alloc);
     assert!(rt; run_open(alloc, conn, &mut errors).is_ok());
-    let (told, _) = migrate(alloc, connection(alloc, Memory::new(alloc))?)?;
+    let (told, _) = migrate(alloc, connected(alloc, Memory::new(alloc))?)?;
     assert_eq!(rt; told.as_str(), "1 FAULT 44\n");
     Ok(())
 }
 
-// Surroundings in which so many seconds pass before each look at the clock, and a pause takes no time. They listen
-// already, or on a free port, where nobody connects, so that each wait for a connection ends at once.
+// Surroundings in which nobody connects, so that each wait for a connection ends at once, with a pause that takes no time.
 #[derive(Drop)]
-struct Staged<'a> {
+struct Deserted<'a> {
     rt: &'a HostRuntime,
-    pace: u64,
-    listener: Option<&'a TcpListener>,
-    looks: Cell<u64>,
     port: Cell<u16>,
     paused: Cell<u128>,
 }
 
-impl<'a> Staged<'a> {
-    fn new(rt: &'a HostRuntime, pace: u64, listener: Option<&'a TcpListener>) -> Staged<'a> {
-        Staged {
-            rt,
-            pace,
-            listener,
-            looks: Cell::new(0),
-            port: Cell::new(0),
-            paused: Cell::new(0),
-        }
-    }
-}
-
-impl Clock for Staged<'_> {
+impl Clock for Deserted<'_> {
     fn monotonic(&self) -> io::Result<Duration> {
-        let looks = self.looks.get().saturating_add(1);
-        self.looks.set(looks);
-        Ok(Duration::from_secs(looks.saturating_mul(self.pace)))
+        Ok(Duration::from_secs(1))
     }
 
     fn since_1970(&self) -> io::Result<Duration> {
@@ -173,7 +153,7 @@ impl Clock for Staged<'_> {
     }
 }
 
-impl Surroundings for Staged<'_> {
+impl Surroundings for Deserted<'_> {
     ghost use Rattle.bureau_main.specs.Surroundings.{Unknown};
     ghost use Rattle.std.specs.Prelude.{None};
 
@@ -199,12 +179,9 @@ impl Surroundings for Staged<'_> {
         RandomState::new(self.rt)
     }
 
-    // It remembers which port was asked for.
+    // It listens on a free port, and remembers which one was asked for.
     fn listen(&self, port: u16) -> io::Result<TcpListener> {
         self.port.set(port);
-        if let Some(listener) = self.listener {
-            return listener.try_clone();
-        }
         let listener = TcpListener::bind(self.rt, "127.0.0.1:0")?;
         listener.set_nonblocking(true)?;
         Ok(listener)
@@ -216,8 +193,12 @@ fn a_desk_waits_as_often_as_it_is_asked_to(rt: HostRuntime) -> Result<(), Fail> 
     let alloc = rt.alloc();
     // most, and more than fit in 16 bits
     for connections in [0, 1, 65_537, 1_000_000] {
-        let (_, conn) = init(alloc, connection(alloc, Memory::new(alloc))?, CALLERS)?;
-        let deserted = Staged::new(&rt, 0, None);
+        let (_, conn) = init(alloc, connected(alloc, Memory::new(alloc))?, CALLERS)?;
+        let deserted = Deserted {
+            rt: &rt,
+            port: Cell::new(0),
+            paused: Cell::new(0),
+        };
         let (mut output, mut errors) = (Vec::new(alloc), Vec::new(alloc));
         let (status, _) = open_and_serve(
             &deserted,
@@ -240,18 +221,67 @@ fn a_desk_waits_as_often_as_it_is_asked_to(rt: HostRuntime) -> Result<(), Fail> 
     Ok(())
 }
 
+// Surroundings in which 100 seconds pass before each look at the clock, and which listen already.
+#[derive(Drop)]
+struct Hurried<'a> {
+    rt: &'a HostRuntime,
+    listener: &'a TcpListener,
+    looks: Cell<u64>,
+}
+
+impl Clock for Hurried<'_> {
+    fn monotonic(&self) -> io::Result<Duration> {
+        let looks = self.looks.get().saturating_add(1);
+        self.looks.set(looks);
+        Ok(Duration::from_secs(looks.saturating_mul(100)))
+    }
+
+    fn since_1970(&self) -> io::Result<Duration> {
+        self.monotonic()
+    }
+}
+
+impl Surroundings for Hurried<'_> {
+    ghost use Rattle.bureau_main.specs.Surroundings.{Unknown};
+    ghost use Rattle.std.specs.Prelude.{None};
+
+    type File = File;
+
+    ghost known_words = { λ _. None };
+
+    ghost known_file = { λ _ _. Unknown };
+
+    fn words(&self, _alloc: Global) -> Result<Vec<String>, LineFault> {
+        Err(LineFault::Memory)
+    }
+
+    fn open(&self, _name: &str) -> io::Result<File> {
+        Err(io::Error::from(ErrorKind::NotFound))
+    }
+
+    fn connect(&self, _name: &str, _makes: bool) -> Result<Connection<StoreFile>, StoreFault> {
+        Err(StoreFault::Shape)
+    }
+
+    fn listen(&self, _port: u16) -> io::Result<TcpListener> {
+        self.listener.try_clone()
+    }
+
+    fn random_keys(&self) -> io::Result<RandomState> {
+        RandomState::new(self.rt)
+    }
+}
+
 #[test]
 fn a_desk_waits_ten_minutes_for_a_connection(rt: HostRuntime) -> Result<(), Fail> {
     let alloc = rt.alloc();
     let refused: &[u8] =
-        b"HTTP/1.1 401 Unauthorized\r\ncontent-type: text/plain\r\ncontent-length: 14\r\n\
-         www-authenticate: Bureau\r\n\r\nUNKNOWN TOKEN\n";
+        b"HTTP/1.1 401 Unauthorized\r\ncontent-type: text/plain\r\ncontent-length: 14\r\nwww-authenticate: Bureau\r\n\r\nUNKNOWN TOKEN\n";
     let (mut sent, mut wanted) = (Vec::new(alloc), Vec::new(alloc));
     for _ in 0..8u32 {
         sent.extend_from_slice(b"GET /zones HTTP/1.1\r\n\r\n")?;
     }
-    // it comes when 100 seconds have passed, one read brings all requests at 200, and a reply goes out at 300, 400,
-    // 500 and 600
+    // it comes when 100 seconds have passed, one read brings all requests at 200, and a reply goes out at 300, 400, 500 and 600
     for _ in 0..4u32 {
         wanted.extend_from_slice(refused)?;
     }
@@ -259,8 +289,12 @@ fn a_desk_waits_ten_minutes_for_a_connection(rt: HostRuntime) -> Result<(), Fail
     let listener = TcpListener::bind(&rt, "127.0.0.1:0")?;
     let mut client = TcpStream::connect(&rt, listener.local_addr()?)?;
     client.write_all(sent.as_slice())?;
-    let (_, conn) = init(alloc, connection(alloc, Memory::new(alloc))?, CALLERS)?;
-    let hurried = Staged::new(&rt, 100, Some(&listener));
+    let (_, conn) = init(alloc, connected(alloc, Memory::new(alloc))?, CALLERS)?;
+    let hurried = Hurried {
+        rt: &rt,
+        listener: &listener,
+        looks: Cell::new(0),
+    };
     let (mut output, mut errors) = (Vec::new(alloc), Vec::new(alloc));
     let service = Service {
         port: 4_711,

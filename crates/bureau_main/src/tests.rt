@@ -2,7 +2,6 @@
 use crate::holds::run_holds;
 use std::alloc::Global;
 use std::io::{self, ErrorKind, Read, Write};
-use std::process::Abort;
 use std::str;
 use std::test::Fail;
 
@@ -101,16 +100,6 @@ fn run_of<R: Read>(alloc: Global, reader: &mut R) -> Run {
     }
 }
 
-// What each source gives: the status, standard output and standard error.
-fn assert_runs(rt: &impl Abort, alloc: Global, rows: &[(&str, u8, &str, &str)]) {
-    for (source, status, output, errors) in rows {
-        let run = run_of(alloc, &mut source.as_bytes());
-        assert_eq!(rt; run.status, *status, "{source}");
-        assert!(rt; run.output.as_slice() == output.as_bytes(), "{source}");
-        assert!(rt; run.errors.as_slice() == errors.as_bytes(), "{source}");
-    }
-}
-
 #[test]
 fn worked_sources(rt: HostRuntime) -> Result<(), Fail> {
     let empty = format!(in rt.alloc(); "{HEADING}ROWS 0\n")?;
@@ -162,7 +151,12 @@ fn worked_sources(rt: HostRuntime) -> Result<(), Fail> {
             "FAULT 13 1\n",
         ),
     ];
-    assert_runs(&rt, rt.alloc(), &rows);
+    for (source, status, output, errors) in rows {
+        let run = run_of(rt.alloc(), &mut source.as_bytes());
+        assert_eq!(rt; run.status, status, "{source}");
+        assert!(rt; run.output.as_slice() == output.as_bytes(), "{source}");
+        assert!(rt; run.errors.as_slice() == errors.as_bytes(), "{source}");
+    }
     Ok(())
 }
 
@@ -203,7 +197,12 @@ fn what_is_passed_over(rt: HostRuntime) -> Result<(), Fail> {
             "FAULT 4 1\n",
         ),
     ];
-    assert_runs(&rt, rt.alloc(), &rows);
+    for (source, status, output, errors) in rows {
+        let run = run_of(rt.alloc(), &mut source.as_bytes());
+        assert_eq!(rt; run.status, status, "{source}");
+        assert!(rt; run.output.as_slice() == output.as_bytes(), "{source}");
+        assert!(rt; run.errors.as_slice() == errors.as_bytes(), "{source}");
+    }
     let deep = comment_of(rt.alloc(), 2_000)?;
     let run = run_of(rt.alloc(), &mut deep.as_slice());
     assert!(rt; run.status == 0 && run.output.as_slice() == one.as_bytes());
