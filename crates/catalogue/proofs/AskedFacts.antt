@@ -1,9 +1,10 @@
 -- What statements publish is the same where no other operands are read than those that are asked for.
-use Rattle.std.proofs.Common.{◌≡◌, ℕ, Bool, true, false, ◌||◌, ◌&&◌, ◌++◌, List, [], ◌∷◌, map, codes, refl, sym, ◌∙◌, ap, Option, Some, None}
+use Rattle.std.proofs.Common.{◌≡◌, ℕ, Bool, true, ◌||◌, ◌++◌, List, [], ◌∷◌, map, codes, refl, sym, ◌∙◌, ap, Option, Some, None}
 use Rattle.std.specs.Prelude.{is_some, not, option_map}
 use Rattle.std.specs.List.{filter_map, flat_map, list_all, list_any}
 use Rattle.std.specs.Option.{option_or, option_to_list}
 use Rattle.std.specs.Str.{bytes_eq}
+use Rattle.std.proofs.lemmas.Bool.{and_parts}
 use Rattle.std.proofs.lemmas.List.Folds.{list_all-append}
 use Rattle.mcs_reader.specs.Asking.{asking}
 use Rattle.mcs_reader.specs.Id.{id_of}
@@ -12,7 +13,7 @@ use Rattle.holddata.specs.Asked.{are_among, hold_operands}
 use Rattle.mcs_reader.specs.StatementText.{sole}
 use Rattle.holddata.specs.Operands.{the_id}
 use Rattle.holddata.specs.Statements as holddata
-use Rattle.holddata.proofs.AskedFacts.{asked_too, change_asked as hold_change_asked, faults_asked as hold_faults_asked, values_asked}
+use Rattle.holddata.proofs.AskedFacts.{asked_too, change_asked as hold_change_asked, each_asked, faults_asked as hold_faults_asked, values_asked}
 use Rattle.catalogue.specs.declared.change.Change.TheVariants.{Whole, OfHold}
 use Rattle.catalogue.specs.declared.fault.CatFault.TheVariants.{VerOutside, IfOutside, IfFmid, BadId, Held}
 use Rattle.catalogue.specs.declared.sysmod.Sysmod.{Sysmod}
@@ -22,16 +23,12 @@ use Rattle.catalogue.specs.Conditional.{put_conds}
 use Rattle.catalogue.specs.Ids.{in_order, put_among}
 use Rattle.catalogue.specs.Reading.{Part, Header, More, OnCondition, OnHold, Begun, part_of, ids_given, vers_in, vers_in_front, ifs_in, ifs_in_front, conds_given, conds_under, has_function, if_faults, requires_no_id, record_by, changes_by, changes_of, is_header, is_no_id, gives_no_id, has_bad_id, fault_if, faults_by, faults_of, first_fault, with_ver, with_if, with_part, with_statement}
 
-front_holds : (a b : Bool) → (a && b) ≡ true → a ≡ true
-front_holds true b h = refl
-front_holds false b h = absurd (cc h)
-
 -- what is asked for on account of holds is among it
 holds_too : (names : List (List ℕ)) → are_among publication_operands names ≡ true → are_among hold_operands names ≡ true
 holds_too names all =
     let test = λ (name : List ℕ). list_any (bytes_eq name) names in
     let rest = codes "PRE" ∷ codes "REQ" ∷ codes "SUP" ∷ [] in
-    front_holds (list_all test hold_operands) (list_all test rest) (sym (list_all-append test hold_operands rest) ∙ all)
+    (and_parts (list_all test hold_operands) (list_all test rest) (sym (list_all-append test hold_operands rest) ∙ all)).0
 
 given_asked : (names : List (List ℕ)) (name : List ℕ) → are_among publication_operands names ≡ true → list_any (bytes_eq name) publication_operands ≡ true → (statement : Statement)
     → holddata.given (asking names statement) name ≡ holddata.given statement name
@@ -88,34 +85,29 @@ first_fault_asked names begun all (statement ∷ statements) =
 
 -- ---- changes
 
-vers_asked : (names : List (List ℕ)) (statements : List Statement) → vers_in_front (map (asking names) statements) ≡ map (asking names) (vers_in_front statements)
-vers_asked names [] = refl
-vers_asked names (statement ∷ statements) = by (part_of statement) (vers_asked names statements)
-  where
-    by : (part : Part) → vers_in_front (map (asking names) statements) ≡ map (asking names) (vers_in_front statements)
-        → vers_in part (asking names statement) (vers_in_front (map (asking names) statements)) ≡ map (asking names) (vers_in part statement (vers_in_front statements))
-    by (Header kind) rest = refl
-    by More rest = ap (λ vers. asking names statement ∷ vers) rest
-    by OnCondition rest = rest
-    by OnHold rest = rest
+-- what stands in front of the next header is the same, read with these operands
+abbrev AreAsked : List (List ℕ) → List Statement → List Statement → Type 0
+AreAsked names asked statements = asked ≡ map (asking names) statements
 
-ifs_asked : (names : List (List ℕ)) (statements : List Statement) → ifs_in_front (map (asking names) statements) ≡ map (asking names) (ifs_in_front statements)
-ifs_asked names [] = refl
-ifs_asked names (statement ∷ statements) = by (part_of statement) (ifs_asked names statements)
+front_asked : (names : List (List ℕ)) (statements : List Statement)
+    → AreAsked names (vers_in_front (map (asking names) statements)) (vers_in_front statements)
+    × AreAsked names (ifs_in_front (map (asking names) statements)) (ifs_in_front statements)
+front_asked names [] = (refl, refl)
+front_asked names (statement ∷ statements) =
+    let (vers, ifs) = front_asked names statements in
+    by (part_of statement) (vers_in_front (map (asking names) statements)) (vers_in_front statements) (ifs_in_front (map (asking names) statements)) (ifs_in_front statements) vers ifs
   where
-    by : (part : Part) → ifs_in_front (map (asking names) statements) ≡ map (asking names) (ifs_in_front statements)
-        → ifs_in part (asking names statement) (ifs_in_front (map (asking names) statements)) ≡ map (asking names) (ifs_in part statement (ifs_in_front statements))
-    by (Header kind) rest = refl
-    by More rest = rest
-    by OnCondition rest = ap (λ ifs. asking names statement ∷ ifs) rest
-    by OnHold rest = rest
+    by : (part : Part) (asked_vers vers asked_ifs ifs : List Statement) → AreAsked names asked_vers vers → AreAsked names asked_ifs ifs
+        → AreAsked names (vers_in part (asking names statement) asked_vers) (vers_in part statement vers)
+        × AreAsked names (ifs_in part (asking names statement) asked_ifs) (ifs_in part statement ifs)
+    by (Header kind) asked_vers vers asked_ifs ifs same_vers same_ifs = (refl, refl)
+    by More asked_vers vers asked_ifs ifs same_vers same_ifs = (ap (λ vers. asking names statement ∷ vers) same_vers, same_ifs)
+    by OnCondition asked_vers vers asked_ifs ifs same_vers same_ifs = (same_vers, ap (λ ifs. asking names statement ∷ ifs) same_ifs)
+    by OnHold asked_vers vers asked_ifs ifs same_vers same_ifs = (same_vers, same_ifs)
 
 joined_asked : (names : List (List ℕ)) (name : List ℕ) → are_among publication_operands names ≡ true → list_any (bytes_eq name) publication_operands ≡ true → (vers : List Statement)
     → flat_map (ids_given name) (map (asking names) vers) ≡ flat_map (ids_given name) vers
-joined_asked names name all among [] = refl
-joined_asked names name all among (ver ∷ vers) =
-    ap (λ ids. ids ++ flat_map (ids_given name) (map (asking names) vers)) (ids_asked names name all among ver)
-    ∙ ap (λ ids. ids_given name ver ++ ids) (joined_asked names name all among vers)
+joined_asked names name all among = each_asked names (ids_given name) (ids_asked names name all among)
 
 conds_asked : (names : List (List ℕ)) → are_among publication_operands names ≡ true → (statement : Statement) → conds_given (asking names statement) ≡ conds_given statement
 conds_asked names all statement =
@@ -124,10 +116,7 @@ conds_asked names all statement =
 
 conds_joined_asked : (names : List (List ℕ)) → are_among publication_operands names ≡ true → (ifs : List Statement)
     → flat_map conds_given (map (asking names) ifs) ≡ flat_map conds_given ifs
-conds_joined_asked names all [] = refl
-conds_joined_asked names all (condition ∷ ifs) =
-    ap (λ conds. conds ++ flat_map conds_given (map (asking names) ifs)) (conds_asked names all condition)
-    ∙ ap (λ conds. conds_given condition ++ conds) (conds_joined_asked names all ifs)
+conds_joined_asked names all = each_asked names conds_given (conds_asked names all)
 
 record_asked : (kind : SysmodKind) (id : List ℕ) (names : List (List ℕ)) → are_among publication_operands names ≡ true → (vers ifs : List Statement)
     → record_by kind id (map (asking names) vers) (map (asking names) ifs) ≡ record_by kind id vers ifs
@@ -156,8 +145,8 @@ pub changes_asked : (names : List (List ℕ)) → are_among publication_operands
 changes_asked names all [] = refl
 changes_asked names all (statement ∷ statements) =
     let asked = map (asking names) statements in
-    ap (λ vers. changes_by (part_of statement) (asking names statement) vers (ifs_in_front asked) ++ changes_of asked) (vers_asked names statements)
-    ∙ ap (λ ifs. changes_by (part_of statement) (asking names statement) (map (asking names) (vers_in_front statements)) ifs ++ changes_of asked) (ifs_asked names statements)
+    ap (λ vers. changes_by (part_of statement) (asking names statement) vers (ifs_in_front asked) ++ changes_of asked) (front_asked names statements).0
+    ∙ ap (λ ifs. changes_by (part_of statement) (asking names statement) (map (asking names) (vers_in_front statements)) ifs ++ changes_of asked) (front_asked names statements).1
     ∙ ap (λ changes. changes ++ changes_of asked) (change_asked (part_of statement) names all statement (vers_in_front statements) (ifs_in_front statements))
     ∙ ap (λ changes. changes_by (part_of statement) statement (vers_in_front statements) (ifs_in_front statements) ++ changes) (changes_asked names all statements)
 

@@ -1,22 +1,21 @@
 -- The hold book over an old book: the old holds are put again, and then the changes are made.
 use Rattle.std.proofs.Common.{◌≡◌, Bool, true, false, ◌||◌, cond, List, [], ◌∷◌, ◌++◌, refl, sym, ◌∙◌, ap}
 use Rattle.std.specs.Prelude.{filter, find, map, reverse, is_some, Option, Some, None, option_and_then, if◌then◌else◌}
-use Rattle.std.specs.List.{list_any, AllByRecursion}
+use Rattle.std.specs.List.{list_any}
 use Rattle.std.specs.List.Sorted.{IsStrictlySortedBy}
 use Rattle.std.specs.Option.{option_or}
-use Rattle.std.specs.Ordering.{is_eq}
-use Rattle.std.specs.declared.cmp.Ordering.TheVariants.{Less}
 use Rattle.std.proofs.lemmas.List.{reverse-append}
 use Rattle.std.proofs.lemmas.List.Folds.{find-append}
 use Rattle.holddata.specs.declared.key.HoldKey.{HoldKey}
 use Rattle.holddata.specs.declared.hold.Hold.{Hold}
 use Rattle.holddata.specs.declared.hold.HoldChange.{HoldChange}
 use Rattle.holddata.specs.declared.hold.HoldChange.TheVariants.{Put}
-use Rattle.holddata.specs.HoldKey.{key_cmp, is_same_key}
+use Rattle.holddata.specs.HoldKey.{is_same_key}
 use Rattle.holddata.specs.HoldChange.{names, hold_put, hold_left}
-use Rattle.holddata.specs.HoldBook.{keys_in, hold_under, book_of, IsInKeyOrder}
+use Rattle.holddata.specs.HoldBook.{hold_under, book_of, IsInKeyOrder}
 use Rattle.holddata.proofs.BookFacts.{book_of_is_left, book_of_only}
-use Rattle.holddata.proofs.KeyFacts.{same_is, same_key, turned_same}
+use Rattle.holddata.proofs.FoundFacts.{any_last, filtered_ascend, none_found, none_is}
+use Rattle.holddata.proofs.KeyFacts.{key_order, same_key, turned_same}
 
 -- ---- how keys are compared
 
@@ -27,27 +26,12 @@ same_test key hold = turned_same key hold.key
 one_key : (key : HoldKey) (hold : Hold) → names key (Put hold) ≡ true → hold.key ≡ key
 one_key key hold h = same_key hold.key key h
 
-below_apart : (key : HoldKey) (hold : Hold) → key_cmp key hold.key ≡ Less → is_same_key key hold.key ≡ false
-below_apart key hold h = sym (same_is key hold.key) ∙ ap is_eq h
-
 -- ---- the last change of a key
-
-any_is : (test : HoldChange → Bool) (cs : List HoldChange) → list_any test cs ≡ is_some (find test (reverse cs))
-any_is test [] = refl
-any_is test (c ∷ cs) =
-    by (find test (reverse cs)) (test c) (any_is test cs)
-    ∙ sym (ap is_some (ap (find test) (reverse-append (c ∷ []) cs) ∙ find-append test (reverse cs) (c ∷ [])))
-  where
-    by : (o : Option HoldChange) (b : Bool) → list_any test cs ≡ is_some o → (b || list_any test cs) ≡ is_some (option_or o (cond b (Some c) None))
-    by None true h = refl
-    by None false h = h
-    by (Some d) true h = refl
-    by (Some d) false h = h
 
 pub left_append : (cs ds : List HoldChange) (key : HoldKey) → hold_left (cs ++ ds) key ≡ (if list_any (names key) ds then hold_left ds key else hold_left cs key)
 left_append cs ds key =
     ap (option_and_then hold_put) (ap (find (names key)) (reverse-append cs ds) ∙ find-append (names key) (reverse ds) (reverse cs))
-    ∙ by (find (names key) (reverse ds)) (any_is (names key) ds)
+    ∙ by (find (names key) (reverse ds)) (any_last (names key) ds)
   where
     by : (o : Option HoldChange) → list_any (names key) ds ≡ is_some o
         → option_and_then hold_put (option_or o (find (names key) (reverse cs))) ≡ (if list_any (names key) ds then option_and_then hold_put o else hold_left cs key)
@@ -55,10 +39,6 @@ left_append cs ds key =
     by (Some d) h = ap (λ b. cond b (hold_put d) (hold_left cs key)) (sym h)
 
 -- ---- a book by its own holds
-
-none_under : (key : HoldKey) (book : List Hold) → AllByRecursion (λ k. key_cmp key k ≡ Less) (keys_in book) → hold_under book key ≡ None
-none_under key [] h = refl
-none_under key (hold ∷ book) h = ap (λ b. cond b (Some hold) (hold_under book key)) (below_apart key hold h.0) ∙ none_under key book h.1
 
 any_under : (book : List Hold) (key : HoldKey) → list_any (names key) (map Put book) ≡ is_some (hold_under book key)
 any_under [] key = refl
@@ -70,10 +50,6 @@ any_under (hold ∷ book) key =
     by : (b : Bool) → (b || is_some (hold_under book key)) ≡ is_some (cond b (Some hold) (hold_under book key))
     by true = refl
     by false = refl
-
-none_is : (o : Option Hold) → is_some o ≡ false → o ≡ None
-none_is None h = refl
-none_is (Some hold) h = cc
 
 -- a book in order is what its holds leave when they are put
 pub own_left : (book : List Hold) (key : HoldKey) → IsInKeyOrder book → hold_left (map Put book) key ≡ hold_under book key
@@ -91,7 +67,7 @@ own_left (hold ∷ book) key h =
     by : (any named : Bool) → list_any (names key) (map Put book) ≡ any → names key (Put hold) ≡ named → hold_left (map Put book) key ≡ hold_under book key
         → (if list_any (names key) (map Put book) then hold_left (map Put book) key else hold_left (Put hold ∷ []) key) ≡ cond (names key (Put hold)) (Some hold) (hold_under book key)
     by true true is at rest =
-        let none : hold_under book key ≡ None = ap (hold_under book) (sym (one_key key hold at)) ∙ none_under hold.key book h.0 in
+        let none : hold_under book key ≡ None = ap (hold_under book) (sym (one_key key hold at)) ∙ none_found (λ (x : Hold). x.key) key_order hold.key book h.0 in
         let e : true ≡ false = sym is ∙ any_under book key ∙ ap is_some none in cc
     by true false is at rest =
         ap (λ b. cond b (hold_left (map Put book) key) (hold_left (Put hold ∷ []) key)) is ∙ rest ∙ sym (ap (λ b. cond b (Some hold) (hold_under book key)) at)
@@ -121,19 +97,5 @@ own_book book h = book_of_only (map Put book) book (record { in_key_order = h; h
 
 -- ---- some of the holds
 
-all_filtered : (P : HoldKey → Type 0) (test : Hold → Bool) (xs : List Hold) → AllByRecursion P (keys_in xs) → AllByRecursion P (keys_in (filter test xs))
-all_filtered P test [] h = tt
-all_filtered P test (x ∷ xs) h = by (all_filtered P test xs h.1) (test x)
-  where
-    by : AllByRecursion P (keys_in (filter test xs)) → (b : Bool) → AllByRecursion P (keys_in (cond b (x ∷ filter test xs) (filter test xs)))
-    by rest true = (h.0, rest)
-    by rest false = rest
-
 pub filtered_in_order : (test : Hold → Bool) (xs : List Hold) → IsInKeyOrder xs → IsInKeyOrder (filter test xs)
-unfolding IsStrictlySortedBy
-filtered_in_order test [] h = tt
-filtered_in_order test (x ∷ xs) h = by (filtered_in_order test xs h.1) (test x)
-  where
-    by : IsInKeyOrder (filter test xs) → (b : Bool) → IsInKeyOrder (cond b (x ∷ filter test xs) (filter test xs))
-    by rest true = (all_filtered (λ y. key_cmp x.key y ≡ Less) test xs h.0, rest)
-    by rest false = rest
+filtered_in_order = filtered_ascend (λ (x : Hold). x.key) key_order

@@ -1,23 +1,18 @@
 -- The ids that values and operands give, from one place on.
-use Rattle.std.proofs.Common.{◌≡◌, ℕ, Bool, codes, inl, inr, ◌+◌, ◌<◌, ◌≤◌, true, false, ◌||◌, List, [], ◌∷◌, ◌++◌, length, drop, get_or, refl, sym, ◌∙◌, ap, subst, add-one, drop-cons}
+use Rattle.std.proofs.Common.{◌≡◌, ℕ, ◌+◌, ◌<◌, true, false, ◌||◌, List, ◌∷◌, ◌++◌, length, drop, get_or, refl, sym, ◌∙◌, ap, subst, add-one, drop-cons}
 use Rattle.std.specs.BTreeSet.{insert_key}
 use Rattle.std.specs.List.{filter_map, list_any}
-use Rattle.std.proofs.Math.ListN.{drop_of_length-le}
 use Rattle.std.proofs.lemmas.List.Elements.{filter_map-append}
 use Rattle.std.proofs.lemmas.List.Folds.{list_any-append}
 use Rattle.std.proofs.lemmas.List.Sums.{fold-append}
 use Rattle.mcs_reader.specs.Id.{id_of}
 use Rattle.mcs_reader.specs.Operand.{operand_text, operand_texts}
 use Rattle.mcs_reader.specs.declared.statement.Operand.{Operand}
-use Rattle.mcs_reader.specs.declared.statement.Statement.{Statement}
 use Rattle.holddata.specs.Operands.{named_values, values_of}
-use Rattle.faults.specs.Refusal.{IsRefusal}
-use Rattle.catalogue.specs.declared.fault.CatFault.{CatFault}
-use Rattle.catalogue.specs.declared.fault.CatFault.TheVariants.{BadId, Memory}
 use Rattle.catalogue.specs.Conditional.{cond_cmp, put_conds, required_under}
 use Rattle.catalogue.specs.declared.conditional.CondNeed.{CondNeed}
 use Rattle.catalogue.specs.Ids.{id_cmp, put_among}
-use Rattle.catalogue.specs.Reading.{gives_no_id, has_bad_id, ids_given, is_no_id}
+use Rattle.catalogue.specs.Reading.{is_no_id}
 
 -- what is put, and whether a value is no id, of all values of a list
 pub record Puts (keys values : List (List ℕ)) (all_keys all_values : List (List ℕ)) : Type 0 where
@@ -75,73 +70,7 @@ bad_operand name operands i operand keys all_keys below at puts bad =
     bad_front keys (named_values name (operand_text operand)) (values_of name (operand_texts (drop (i + 1) operands))) all_keys all
     (subst (λ values. Puts keys values all_keys all) (operands_rest name operands i operand below at) puts) bad
 
--- ---- a `++VER` statement
-
--- its operands are read to the end
-pub read_whole : (name : List ℕ) (operands : List Operand) (ver : Statement) (i : ℕ) (keys all_keys : List (List ℕ)) → operand_texts operands ≡ ver.operands → length operands ≤ i
-    → PutsFrom name operands i keys all_keys → (keys ≡ put_among all_keys (ids_given name ver)) × (gives_no_id ver name ≡ false)
-read_whole name operands ver i keys all_keys are passed puts = (
-  ended.ids ∙ ap (λ os. put_among all_keys (filter_map id_of (values_of name os))) are,
-  sym (ended.bad ∙ ap (λ os. list_any is_no_id (values_of name os)) are),
-)
-  where
-    ended : Puts keys [] all_keys (values_of name (operand_texts operands))
-    ended = subst (λ rest. Puts keys (values_of name (operand_texts rest)) all_keys (values_of name (operand_texts operands))) (drop_of_length-le operands passed) puts
-
--- one of its operands has a value that is no id
-gives_bad : (name : List ℕ) (operands : List Operand) (ver : Statement) (i : ℕ) (operand : Operand) (keys all_keys : List (List ℕ)) → operand_texts operands ≡ ver.operands
-    → i < length operands → operand ≡ get_or operands i operand → PutsFrom name operands i keys all_keys
-    → list_any is_no_id (named_values name (operand_text operand)) ≡ true → gives_no_id ver name ≡ true
-gives_bad name operands ver i operand keys all_keys are below at puts bad =
-    sym (ap (λ os. list_any is_no_id (values_of name os)) are) ∙ bad_operand name operands i operand keys all_keys below at puts bad
-
-left_true : (a b : Bool) → a ≡ true → (a || b) ≡ true
-left_true a b h = ap (λ x. x || b) h
-
-right_true : (a b : Bool) → b ≡ true → (a || b) ≡ true
-right_true true b h = refl
-right_true false b h = h
-
-pub bad_fmid : (ver : Statement) → gives_no_id ver (codes "FMID") ≡ true → has_bad_id ver ≡ true
-bad_fmid ver bad = left_true _ _ (left_true _ _ (left_true _ _ bad))
-
-pub bad_pre : (ver : Statement) → gives_no_id ver (codes "PRE") ≡ true → has_bad_id ver ≡ true
-bad_pre ver bad = left_true _ _ (left_true _ _ (right_true (gives_no_id ver (codes "FMID")) _ bad))
-
-pub bad_req : (ver : Statement) → gives_no_id ver (codes "REQ") ≡ true → has_bad_id ver ≡ true
-bad_req ver bad = left_true _ _ (right_true (gives_no_id ver (codes "FMID") || gives_no_id ver (codes "PRE")) _ bad)
-
-pub bad_sup : (ver : Statement) → gives_no_id ver (codes "SUP") ≡ true → has_bad_id ver ≡ true
-bad_sup ver bad = right_true (gives_no_id ver (codes "FMID") || gives_no_id ver (codes "PRE") || gives_no_id ver (codes "REQ")) _ bad
-
--- it is refused for one of its operands
-pub refused : (name : List ℕ) (operands : List Operand) (ver : Statement) (i : ℕ) (operand : Operand) (keys all_keys : List (List ℕ)) (fault : CatFault)
-    → operand_texts operands ≡ ver.operands → i < length operands → operand ≡ get_or operands i operand → PutsFrom name operands i keys all_keys
-    → (gives_no_id ver name ≡ true → has_bad_id ver ≡ true)
-    → IsRefusal Memory (λ f. (f ≡ BadId ver.line) × (list_any is_no_id (named_values name (operand_text operand)) ≡ true)) fault
-    → IsRefusal Memory (λ f. (f ≡ BadId ver.line) × (has_bad_id ver ≡ true)) fault
-refused name operands ver i operand keys all_keys fault are below at puts counts (inl memory) = inl memory
-refused name operands ver i operand keys all_keys fault are below at puts counts (inr bad) =
-    inr (bad.0, counts (gives_bad name operands ver i operand keys all_keys are below at puts bad.1))
-
 -- ---- an `++IF` statement
-
--- all values of some operands are ids, and they were put
-pub named_whole : (name : List ℕ) (operands : List Operand) (i : ℕ) (keys all_keys : List (List ℕ)) → length operands ≤ i → PutsFrom name operands i keys all_keys
-    → (keys ≡ put_among all_keys (filter_map id_of (values_of name (operand_texts operands)))) × (list_any is_no_id (values_of name (operand_texts operands)) ≡ false)
-named_whole name operands i keys all_keys passed puts = (ended.ids, sym ended.bad)
-  where
-    ended : Puts keys [] all_keys (values_of name (operand_texts operands))
-    ended = subst (λ rest. Puts keys (values_of name (operand_texts rest)) all_keys (values_of name (operand_texts operands))) (drop_of_length-le operands passed) puts
-
--- one of them has a value that is no id
-pub named_refused : (name : List ℕ) (operands : List Operand) (line i : ℕ) (operand : Operand) (keys all_keys : List (List ℕ)) (fault : CatFault)
-    → i < length operands → operand ≡ get_or operands i operand → PutsFrom name operands i keys all_keys
-    → IsRefusal Memory (λ f. (f ≡ BadId line) × (list_any is_no_id (named_values name (operand_text operand)) ≡ true)) fault
-    → IsRefusal Memory (λ f. (f ≡ BadId line) × (list_any is_no_id (values_of name (operand_texts operands)) ≡ true)) fault
-named_refused name operands line i operand keys all_keys fault below at puts (inl memory) = inl memory
-named_refused name operands line i operand keys all_keys fault below at puts (inr bad) =
-    inr (bad.0, bad_operand name operands i operand keys all_keys below at puts bad.1)
 
 -- one more requisite under a condition is put
 pub put_one : (fmid : List ℕ) (needs : List (List ℕ)) (i : ℕ) (need : List ℕ) (conds new : List CondNeed) → i < length needs → need ≡ get_or needs i need

@@ -1,5 +1,5 @@
 -- Ids that compare alike are one, and lists of them in order.
-use Rattle.std.proofs.Common.{◌≡◌, ℕ, ◌+◌, Bool, true, false, ◌||◌, List, [], ◌∷◌, arith, get_or, refl, sym, ◌∙◌, ap}
+use Rattle.std.proofs.Common.{◌≡◌, ℕ, ◌+◌, Bool, true, false, ◌||◌, List, [], arith, get_or, refl, sym, ◌∙◌, ap}
 use Rattle.std.specs.BTreeSet.{insert_key}
 use Rattle.std.specs.Cmp.{IsTotalOrder}
 use Rattle.std.specs.Cmp.Lexicographic.{nat_list_cmp_total, nat_list_eq_equiv}
@@ -15,6 +15,7 @@ use Rattle.std.proofs.lemmas.Map.Lookups.{CmpEqualImpliesEq, exact_bytes}
 use Rattle.std.proofs.lemmas.Map.Text.{is_eq-slice_cmp}
 use Rattle.std.proofs.lemmas.Map.Views.{Contains-from_any, list_any-from_Contains}
 use Rattle.std.proofs.lemmas.Slice.Eq.{bytes_eq-Decides}
+use Rattle.holddata.proofs.FoundFacts.{IsKeyOrder}
 use Rattle.holddata.proofs.InsertFacts as keys
 use Rattle.std.proofs.lemmas.Cmp.{on_total, then_total}
 use Rattle.catalogue.specs.Conditional.{cond_cmp}
@@ -39,6 +40,10 @@ same_is a b = sym (is_eq-slice_cmp a b)
 pub same_back : (a b : List ℕ) → same_id a b ≡ same_id b a
 same_back a b = nat_list_eq_equiv.symm a b
 
+-- ids are known by the order of their bytes
+pub id_order : IsKeyOrder id_cmp (λ a b. same_id b a)
+id_order = record { total = ids_total; exact = exact_ids; decides = λ a b. same_back b a ∙ same_is a b }
+
 pub apart : (a b : List ℕ) → id_cmp a b ≡ Less → same_id a b ≡ false
 apart a b h = same_is a b ∙ ap is_eq h
 
@@ -61,31 +66,13 @@ insert_ascends = keys.sorted_insert id_cmp ids_total
 
 -- ---- all ids of a list
 
-fold_ascends : (ks ids : List (List ℕ)) → Ascend ks → Ascend (fold (insert_key id_cmp) ks ids)
-fold_ascends ks [] h = h
-fold_ascends ks (id ∷ ids) h = fold_ascends (insert_key id_cmp ks id) ids (insert_ascends ks id h)
-
 -- those that are put among ids, and these
 pub fold_any : (test : List ℕ → Bool) (ks ids : List (List ℕ)) → list_any test (fold (insert_key id_cmp) ks ids) ≡ (list_any test ks || list_any test ids)
-fold_any test ks [] = plain (list_any test ks)
-  where
-    plain : (b : Bool) → b ≡ (b || false)
-    plain true = refl
-    plain false = refl
-fold_any test ks (id ∷ ids) =
-    fold_any test (insert_key id_cmp ks id) ids
-    ∙ ap (λ b. b || list_any test ids) (any_insert test ks id)
-    ∙ swap (test id) (list_any test ks) (list_any test ids)
-  where
-    swap : (a b c : Bool) → ((a || b) || c) ≡ (b || (a || c))
-    swap true true c = refl
-    swap true false c = refl
-    swap false true c = refl
-    swap false false c = refl
+fold_any = keys.any_puts id_cmp exact_ids
 
 pub in_order_ascends : (ids : List (List ℕ)) → Ascend (in_order ids)
 unfolding IsStrictlySortedBy
-in_order_ascends ids = fold_ascends [] ids tt
+in_order_ascends ids = keys.sorted_puts id_cmp ids_total [] ids tt
 
 pub in_order_any : (test : List ℕ → Bool) (ids : List (List ℕ)) → list_any test (in_order ids) ≡ list_any test ids
 in_order_any test ids = fold_any test [] ids

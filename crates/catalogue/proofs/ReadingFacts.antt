@@ -135,41 +135,33 @@ read_all statements = read_on nothing_begun statements
 
 -- ---- faults
 
+or_true : (b : Bool) → true ≡ (b || true)
+or_true true = refl
+or_true false = refl
+
+or_false : (b : Bool) → b ≡ (b || false)
+or_false true = refl
+or_false false = refl
+
 -- a header that is read begins a record
 pub begins : (part : Part) (statement : Statement) (begun : Begun) → faults_by part (is_some begun.open_record) statement ≡ []
     → is_some (with_part part statement begun).open_record ≡ (is_some begun.open_record || is_header part)
 begins (Header kind) statement begun none = by statement.subject none ∙ or_true (is_some begun.open_record)
   where
-    or_true : (b : Bool) → true ≡ (b || true)
-    or_true true = refl
-    or_true false = refl
-
     by : (subject : Option (List ℕ)) → fault_if (is_none subject) (BadId statement.line) ≡ [] → is_some (option_map (λ id. record_by kind id [] []) subject) ≡ true
     by None h = cc
     by (Some id) h = refl
 begins More statement begun none = by begun.open_record ∙ or_false (is_some begun.open_record)
   where
-    or_false : (b : Bool) → b ≡ (b || false)
-    or_false true = refl
-    or_false false = refl
-
     by : (o : Option Sysmod) → is_some (option_map (with_ver statement) o) ≡ is_some o
     by None = refl
     by (Some sysmod) = refl
 begins OnCondition statement begun none = by begun.open_record ∙ or_false (is_some begun.open_record)
   where
-    or_false : (b : Bool) → b ≡ (b || false)
-    or_false true = refl
-    or_false false = refl
-
     by : (o : Option Sysmod) → is_some (option_map (with_if statement) o) ≡ is_some o
     by None = refl
     by (Some sysmod) = refl
 begins OnHold statement begun none = or_false (is_some begun.open_record)
-  where
-    or_false : (b : Bool) → b ≡ (b || false)
-    or_false true = refl
-    or_false false = refl
 
 neither_one : {A : Type 0} (o p : Option A) → option_or o p ≡ None → (o ≡ None) × (p ≡ None)
 neither_one None p h = (refl, h)

@@ -34,12 +34,12 @@ part_of {Source} {Whole} {Part} part view = record {
 }
 
 module _ {Source Held : Type 0} (view : View Source Held) where
-  -- the first failure shuts a source
+  -- the first failure closes a source
   abbrev pub IsOpen : Source → Type 0
   IsOpen source = view.failures source ≡ 0
 
   -- How a source goes on in a call. What is known of the disk is known afterwards, of all that happened so far; that
-  -- the file is ours stays true; failures are never forgotten, so a source that was shut stays shut.
+  -- the file is ours stays true; failures are never forgotten, so a source that was closed stays closed.
   pub record Goes (old new : Source) : Type 0 where
     pub clean : view.is_clean new → view.is_clean old
     pub ours : view.is_ours old → view.is_clean new → view.is_ours new
@@ -60,13 +60,13 @@ module _ {Source Held : Type 0} (view : View Source Held) where
   HasFailed old new = (view.failures old < view.failures new) ⊎ (view.failures new ≡ most_failures)
 
   -- What may ask the source leaves what it holds. It answers a fault of the device only where one came, and nothing else
-  -- shuts the source.
+  -- closes the source.
   pub record MayAsk {Answer Fault : Type 0} (device : Fault) (old new : Source) (answer : Result Answer Fault) : Type 0 where
     pub keeps : view.keeps old new
     pub cause : IsErrOf answer device → HasFailed old new
     pub stays_open : (IsErrOf answer device → ⊥) → IsOpen old → IsOpen new
 
-  -- What asks the source does so too, and of a source that is shut it answers nothing but a fault of the device.
+  -- What asks the source does so too, and of a source that is closed it answers nothing but a fault of the device.
   pub record Asks {Answer Fault : Type 0} (device : Fault) (old new : Source) (answer : Result Answer Fault) : Type 0 where
     pub keeps : view.keeps old new
     pub cause : IsErrOf answer device → HasFailed old new

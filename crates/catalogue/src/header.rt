@@ -57,31 +57,13 @@ impl Open {
             (λ fault. (fault ≡ BadId ver.now.line) × (has_bad_id ver.now ≡ true))) }
     {
         let line = ver.line;
-        let Open {
-            id,
-            kind,
-            mut fmids,
-            mut pre,
-            mut req,
-            conds,
-            mut sup,
-        } = self;
         let operands = ver.operands.as_slice();
-        for operand in operands {
-            put_operand(&mut fmids, line, operand, b"FMID")?;
-            put_operand(&mut pre, line, operand, b"PRE")?;
-            put_operand(&mut req, line, operand, b"REQ")?;
-            put_operand(&mut sup, line, operand, b"SUP")?;
-        }
-        Ok(Open {
-            id,
-            kind,
-            fmids,
-            pre,
-            req,
-            conds,
-            sup,
-        })
+        let mut open = self;
+        put_named(&mut open.fmids, line, operands, b"FMID")?;
+        put_named(&mut open.pre, line, operands, b"PRE")?;
+        put_named(&mut open.req, line, operands, b"REQ")?;
+        put_named(&mut open.sup, line, operands, b"SUP")?;
+        Ok(open)
     }
 
     /// The record with what an `++IF` says.
@@ -141,9 +123,7 @@ fn ids_named(
         × (list_any is_no_id (values_of name.now (operand_texts operands.now)) ≡ true))) }
 {
     let mut ids = BTreeSet::new(alloc);
-    for operand in operands {
-        put_operand(&mut ids, line, operand, name)?;
-    }
+    put_named(&mut ids, line, operands, name)?;
     Ok(listed(alloc, ids)?)
 }
 
@@ -157,24 +137,35 @@ fn put_conds(conds: &mut BTreeSet<CondNeed>, fmid: Id, needs: &[Id]) -> Result<(
     Ok(())
 }
 
-// Puts the ids of an operand among the others if it has the name.
-fn put_operand(
+// Puts the ids that operands of this name give among the others.
+fn put_named(
     ids: &mut BTreeSet<Id>,
     line: u32,
-    operand: &Operand,
+    operands: &[Operand],
     name: &[u8],
 ) -> Result<(), CatFault>
     ensures ids { OnOk result (ids.new.keys
-        ≡ put_among ids.old.keys (filter_map id_of (named_values name.now (operand_text operand.now)))) }
+        ≡ put_among ids.old.keys (filter_map id_of (values_of name.now (operand_texts operands.now)))) }
     ensures no_fault { OnOk result
-        (list_any is_no_id (named_values name.now (operand_text operand.now)) ≡ false) }
+        (list_any is_no_id (values_of name.now (operand_texts operands.now)) ≡ false) }
     ensures fault { IfErr result (IsRefusal Memory (λ fault. (fault ≡ BadId line)
-        × (list_any is_no_id (named_values name.now (operand_text operand.now)) ≡ true))) }
+        × (list_any is_no_id (values_of name.now (operand_texts operands.now)) ≡ true))) }
 {
-    if !operand.name.eq_ignore_ascii_case(name) {
-        return Ok(());
+    for operand in operands {
+        put_values(ids, line, values_named(operand, name))?;
     }
-    put_values(ids, line, operand.values.as_slice())
+    Ok(())
+}
+
+// The values of an operand if it has the name.
+fn values_named<'a, 'b>(operand: &'a Operand<'b>, name: &[u8]) -> &'a [&'b [u8]]
+    ensures { bytes_of_each result.now ≡ named_values name.now (operand_text operand.now) }
+{
+    if operand.name.eq_ignore_ascii_case(name) {
+        operand.values.as_slice()
+    } else {
+        &[]
+    }
 }
 
 // Puts the ids of values among the others.

@@ -137,20 +137,12 @@ impl ChangeReader {
         ensures fault { IfErr result (IsRefusal Memory
             (λ fault. first_of (faults_by More (is_some self.open_record) ver.now) ≡ Some fault)) }
     {
-        let ChangeReader {
-            alloc,
-            before,
-            header,
-            after,
-        } = self;
-        let Some(header) = header else {
-            return Err(CatFault::VerOutside(ver.line));
-        };
+        let header = self.header.ok_or(CatFault::VerOutside(ver.line))?;
         Ok(ChangeReader {
-            alloc,
-            before,
+            alloc: self.alloc,
+            before: self.before,
             header: Some(header.with(ver)?),
-            after,
+            after: self.after,
         })
     }
 
@@ -161,20 +153,12 @@ impl ChangeReader {
         ensures fault { IfErr result (IsRefusal Memory (λ fault.
             first_of (faults_by OnCondition (is_some self.open_record) condition.now) ≡ Some fault)) }
     {
-        let ChangeReader {
-            alloc,
-            before,
-            header,
-            after,
-        } = self;
-        let Some(header) = header else {
-            return Err(CatFault::IfOutside(condition.line));
-        };
+        let header = self.header.ok_or(CatFault::IfOutside(condition.line))?;
         Ok(ChangeReader {
-            alloc,
-            before,
-            header: Some(header.under(alloc, condition)?),
-            after,
+            alloc: self.alloc,
+            before: self.before,
+            header: Some(header.under(self.alloc, condition)?),
+            after: self.after,
         })
     }
 

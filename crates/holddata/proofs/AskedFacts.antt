@@ -144,9 +144,13 @@ key_faults_said line subject said =
     ++ fault_if (is_none subject) (BadId line)
     ++ fault_if (is_bad_id said.reason) (BadId line)
 
--- what a statement does to the holds, and its faults, by what its operands say
-abbrev what_said : Verb → ℕ → Option (List ℕ) → Said → Option HoldChange × List HoldFault
-what_said verb.Hold line subject said = (
+-- what a statement does to the holds, and its faults
+abbrev what_is : Verb → Statement → Option HoldChange × List HoldFault
+what_is v statement = (change_by v statement, faults_by v statement)
+
+-- the same of a HOLD, by what its operands say
+abbrev hold_does : ℕ → Option (List ℕ) → Said → Option HoldChange × List HoldFault
+hold_does line subject said = (
   option_map Put (hold_said subject said),
   key_faults_said line subject said
       ++ (fault_if (is_bad_id said.fmid) (BadId line)
@@ -155,42 +159,26 @@ what_said verb.Hold line subject said = (
       ++ fault_if (is_bad_date said.date) (BadDate line)
       ++ fault_if (not (list_all is_category said.category)) (BadCategory line)),
 )
-what_said verb.Release line subject said = (option_map Release (key_said subject said), key_faults_said line subject said ++ fault_if (is_bad_id said.fmid) (BadId line))
-what_said verb.Func line subject said = (None, [])
-what_said verb.Ptf line subject said = (None, [])
-what_said verb.Apar line subject said = (None, [])
-what_said verb.Usermod line subject said = (None, [])
-what_said verb.Ver line subject said = (None, [])
-what_said verb.Cond line subject said = (None, [])
 
-abbrev said_of : Statement → Said → Option HoldChange × List HoldFault
-said_of statement said = what_said statement.verb statement.line statement.subject said
+-- and of a RELEASE
+abbrev release_does : ℕ → Option (List ℕ) → Said → Option HoldChange × List HoldFault
+release_does line subject said = (option_map Release (key_said subject said), key_faults_said line subject said ++ fault_if (is_bad_id said.fmid) (BadId line))
 
-abbrev what_is : Verb → Statement → Option HoldChange × List HoldFault
-what_is v statement = (change_by v statement, faults_by v statement)
-
-says : (v : Verb) (statement : Statement) → what_is v statement ≡ what_said v statement.line statement.subject (said_by statement.operands)
-says verb.Hold statement = refl
-says verb.Release statement = refl
-says verb.Func statement = refl
-says verb.Ptf statement = refl
-says verb.Apar statement = refl
-says verb.Usermod statement = refl
-says verb.Ver statement = refl
-says verb.Cond statement = refl
-
-both_asked : (names : List (List ℕ)) → are_among hold_operands names ≡ true → (statement : Statement)
-    → what_is statement.verb (asking names statement) ≡ what_is statement.verb statement
-both_asked names all statement =
-    says statement.verb (asking names statement)
-    ∙ ap (said_of statement) (said_asked names all statement.operands)
-    ∙ sym (says statement.verb statement)
+both_asked : (names : List (List ℕ)) → are_among hold_operands names ≡ true → (v : Verb) (statement : Statement) → what_is v (asking names statement) ≡ what_is v statement
+both_asked names all verb.Hold statement = ap (hold_does statement.line statement.subject) (said_asked names all statement.operands)
+both_asked names all verb.Release statement = ap (release_does statement.line statement.subject) (said_asked names all statement.operands)
+both_asked names all verb.Func statement = refl
+both_asked names all verb.Ptf statement = refl
+both_asked names all verb.Apar statement = refl
+both_asked names all verb.Usermod statement = refl
+both_asked names all verb.Ver statement = refl
+both_asked names all verb.Cond statement = refl
 
 pub change_asked : (names : List (List ℕ)) → are_among hold_operands names ≡ true → (statement : Statement) → change_of (asking names statement) ≡ change_of statement
-change_asked names all statement = ap (λ (said : Option HoldChange × List HoldFault). said.0) (both_asked names all statement)
+change_asked names all statement = ap (λ (said : Option HoldChange × List HoldFault). said.0) (both_asked names all statement.verb statement)
 
 pub faults_asked : (names : List (List ℕ)) → are_among hold_operands names ≡ true → (statement : Statement) → faults_of (asking names statement) ≡ faults_of statement
-faults_asked names all statement = ap (λ (said : Option HoldChange × List HoldFault). said.1) (both_asked names all statement)
+faults_asked names all statement = ap (λ (said : Option HoldChange × List HoldFault). said.1) (both_asked names all statement.verb statement)
 
 -- ---- lists of statements
 

@@ -5,11 +5,12 @@ use Rattle.std.specs.Option.{option_or}
 use Rattle.std.specs.Result.{result_ok}
 use Rattle.std.proofs.lemmas.Bool.{cases_Bool, or_parts}
 use Rattle.std.proofs.lemmas.Bool.Decides.{nat_tests}
+use Rattle.faults.specs.Refusal.{IsRefusal}
 use Rattle.zone_lists.specs.Fields.{Record}
 use Rattle.zone_lists.specs.FirstFault.{AreFaultless, IsFaultAfter, IsFirstFault, turn}
 use Rattle.zone_lists.specs.Lists.{AnyStandsFor, Contradicts, ListKind, Numbered, answer, entries, fault_after, first_fault, own_fault, unless}
 use Rattle.zone_lists.specs.declared.fault.ListFault.{ListFault}
-use Rattle.zone_lists.specs.declared.fault.ListFault.TheVariants.{Header, Repeated, TooMany}
+use Rattle.zone_lists.specs.declared.fault.ListFault.TheVariants.{Header, Memory, Repeated, TooMany}
 
 -- what a record is read as agrees with what is wrong with it by itself
 abbrev pub Tells : {Entry : Type 0} → (ℕ → ListFault → Type 0) → Result Entry Numbered → Type 0
@@ -197,3 +198,8 @@ module _ {Entry : Type 0} (kind : ListKind Entry) (IsOwnFault : ℕ → Record �
                   inr (record { header = header; earlier = at.0; fields = at.1; rest = at.2; whole = ap (λ records. header ∷ records) at.3; headed = is; faultless = at.4; own = at.5.0; first = at.5.1 })
             ] refl (rw is at answers)
       ]
+
+  -- the fault of a refusal is the first, unless memory ran out
+  pub first_or_memory : (records : List Record) (fault : ListFault) → IsRefusal Memory (λ told. answer kind records ≡ Err told) fault → IsRefusal Memory (IsFirstFault kind IsOwnFault records) fault
+  first_or_memory records fault (inl memory) = inl memory
+  first_or_memory records fault (inr told) = inr (first records fault told)

@@ -1,18 +1,20 @@
 -- What a record of each kind of list is read as agrees with what is wrong with it by itself.
-use Rattle.std.proofs.Common.{◌≡◌, ℕ, Bool, true, false, List, [], ◌∷◌, Option, Some, None, Ok, Err, inl, inr, refl, arith, if◌then◌else◌}
+use Rattle.std.proofs.Common.{◌≡◌, ℕ, Bool, true, false, List, [], ◌∷◌, Option, Some, None, Result, Ok, Err, inl, inr, refl, arith, if◌then◌else◌}
+use Rattle.faults.specs.Refusal.{IsRefusal}
 use Rattle.mcs_reader.specs.Id.{id_of}
-use Rattle.zone_lists.specs.Fields.{Record, trimmed}
+use Rattle.zone_lists.specs.Column.{IsColumnFault, column_field}
+use Rattle.zone_lists.specs.Fields.{Record, one_field, trimmed}
 use Rattle.zone_lists.specs.FirstFault.{IsFirstFault}
-use Rattle.zone_lists.specs.Lists.{answer}
+use Rattle.zone_lists.specs.Lists.{Numbered, answer}
 use Rattle.zone_lists.specs.Pattern.{is_pattern}
-use Rattle.zone_lists.specs.PatternList.{IsPatternFault, pattern_list}
-use Rattle.zone_lists.specs.ReceivedList.{IsReceivedFault, received_id, received_list}
+use Rattle.zone_lists.specs.PatternList.{IsPatternFault, pattern_list, pattern_read}
+use Rattle.zone_lists.specs.ReceivedList.{IsReceivedFault, received_id, received_list, received_read}
 use Rattle.zone_lists.specs.ZoneList.{IsZoneFault, state_of, zone_list, zone_row}
 use Rattle.zone_lists.specs.declared.fault.ListFault.{ListFault}
-use Rattle.zone_lists.specs.declared.fault.ListFault.TheVariants.{BadRecord, BadPattern}
+use Rattle.zone_lists.specs.declared.fault.ListFault.TheVariants.{BadRecord, BadId, BadPattern, Memory}
 use Rattle.zone_lists.specs.declared.zones.ZoneRow.{ZoneRow}
 use Rattle.zone_lists.specs.declared.zones.ZoneState.{ZoneState}
-use Rattle.zone_lists.proofs.FirstFacts.{Tells, first}
+use Rattle.zone_lists.proofs.FirstFacts.{Tells, first_or_memory}
 
 -- another number of fields is all that is wrong then
 wrong_number : (Entry : Type 0) → Tells {Entry = Entry} (λ n fault. fault ≡ BadRecord n) (Err BadRecord)
@@ -43,34 +45,33 @@ zone_tells (only ∷ []) = wrong_number ZoneRow
 zone_tells (id ∷ state ∷ []) = zone_tells_at id state (id_of (trimmed id)) (state_of (trimmed state)) refl refl
 zone_tells (first ∷ second ∷ third ∷ more) = wrong_number ZoneRow
 
-pub first_of_zone : (records : List Record) (fault : ListFault) → answer zone_list records ≡ Err fault → IsFirstFault zone_list IsZoneFault records fault
-first_of_zone records fault answers = first zone_list IsZoneFault zone_tells records fault answers
+pub first_of_zone : (records : List Record) (fault : ListFault) → IsRefusal Memory (λ told. answer zone_list records ≡ Err told) fault
+    → IsRefusal Memory (IsFirstFault zone_list IsZoneFault records) fault
+first_of_zone = first_or_memory zone_list IsZoneFault zone_tells
 
--- ---- received SYSMODs
+-- ---- lists of one column
 
-received_tells_at : (id : List ℕ) (found : Option (List ℕ)) → id_of (trimmed id) ≡ found → Tells (λ n fault. IsReceivedFault n (id ∷ []) fault) (received_id found)
-received_tells_at id None no_id = λ n. ((refl, no_id), λ other is. rw is.0 (omega arith), omega arith, omega arith)
-received_tells_at id (Some sysmod) an_id = λ n fault is. cc (an_id, is.1)
+column_tells : (read : List ℕ → Result (List ℕ) Numbered) (bad : Numbered) (IsBad : List ℕ → Type 0)
+    → ((field : List ℕ) → Tells (λ n fault. (fault ≡ bad n) × IsBad field) (read field))
+    → (fields : Record) → Tells (λ n fault. IsColumnFault bad IsBad n fields fault) (column_field read (one_field fields))
+column_tells read bad IsBad tells [] = wrong_number (List ℕ)
+column_tells read bad IsBad tells (field ∷ []) = tells (trimmed field)
+column_tells read bad IsBad tells (first ∷ second ∷ more) = wrong_number (List ℕ)
 
-received_tells : (fields : Record) → Tells (λ n fault. IsReceivedFault n fields fault) (received_list.entry fields)
-received_tells [] = wrong_number (List ℕ)
-received_tells (id ∷ []) = received_tells_at id (id_of (trimmed id)) refl
-received_tells (first ∷ second ∷ more) = wrong_number (List ℕ)
+received_tells : (text : List ℕ) (found : Option (List ℕ)) → id_of text ≡ found → Tells (λ n fault. (fault ≡ BadId n) × (id_of text ≡ None)) (received_id found)
+received_tells text None no_id = λ n. ((refl, no_id), λ other is. rw is.0 (omega arith), omega arith, omega arith)
+received_tells text (Some sysmod) an_id = λ n fault is. cc (an_id, is.1)
 
-pub first_of_received : (records : List Record) (fault : ListFault) → answer received_list records ≡ Err fault → IsFirstFault received_list IsReceivedFault records fault
-first_of_received records fault answers = first received_list IsReceivedFault received_tells records fault answers
+pub first_of_received : (records : List Record) (fault : ListFault) → IsRefusal Memory (λ told. answer received_list records ≡ Err told) fault
+    → IsRefusal Memory (IsFirstFault received_list IsReceivedFault records) fault
+first_of_received =
+    first_or_memory received_list IsReceivedFault (column_tells received_read BadId (λ text. id_of text ≡ None) (λ text. received_tells text (id_of text) refl))
 
--- ---- patterns
+pattern_tells : (text : List ℕ) (is : Bool) → is_pattern text ≡ is → Tells (λ n fault. (fault ≡ BadPattern n) × (is_pattern text ≡ false)) (if is then Ok text else Err BadPattern)
+pattern_tells text false none = λ n. ((refl, none), λ other is. rw is.0 (omega arith), omega arith, omega arith)
+pattern_tells text true one = λ n fault is. cc (one, is.1)
 
-pattern_tells_at : (text : List ℕ) (is : Bool) → is_pattern (trimmed text) ≡ is
-    → Tells (λ n fault. IsPatternFault n (text ∷ []) fault) (if is then Ok (trimmed text) else Err BadPattern)
-pattern_tells_at text false none = λ n. ((refl, none), λ other is. rw is.0 (omega arith), omega arith, omega arith)
-pattern_tells_at text true one = λ n fault is. cc (one, is.1)
-
-pattern_tells : (fields : Record) → Tells (λ n fault. IsPatternFault n fields fault) (pattern_list.entry fields)
-pattern_tells [] = wrong_number (List ℕ)
-pattern_tells (text ∷ []) = pattern_tells_at text (is_pattern (trimmed text)) refl
-pattern_tells (first ∷ second ∷ more) = wrong_number (List ℕ)
-
-pub first_of_patterns : (records : List Record) (fault : ListFault) → answer pattern_list records ≡ Err fault → IsFirstFault pattern_list IsPatternFault records fault
-first_of_patterns records fault answers = first pattern_list IsPatternFault pattern_tells records fault answers
+pub first_of_patterns : (records : List Record) (fault : ListFault) → IsRefusal Memory (λ told. answer pattern_list records ≡ Err told) fault
+    → IsRefusal Memory (IsFirstFault pattern_list IsPatternFault records) fault
+first_of_patterns =
+    first_or_memory pattern_list IsPatternFault (column_tells pattern_read BadPattern (λ text. is_pattern text ≡ false) (λ text. pattern_tells text (is_pattern text) refl))

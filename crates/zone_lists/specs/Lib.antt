@@ -1,3 +1,4 @@
+pub mod Column
 pub mod Fields
 pub mod FirstFault
 pub mod Gathered

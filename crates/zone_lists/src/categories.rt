@@ -29,6 +29,7 @@ pub const PATTERN_RECORDS: u32 = 64;
 /// The first fault of the list, by record, and in a record in this order: `TooMany` at record
 /// [`PATTERN_RECORDS`] + 1, `BadRecord` where it has not one field, `BadPattern`. `Header` comes
 /// first of all. `Memory` may come in place of any answer.
+#[tactic(auto, using(crate::proofs::KeyFacts::each_pattern, crate::proofs::OwnFaultFacts::first_of_patterns))]
 pub fn patterns(alloc: Global, text: &[u8]) -> Result<Vec<Pattern>, ListFault>
     ensures rows { IfOk result (λ patterns. patterns_of text.now ≡ Ok patterns.items) }
     ensures fault { IfErr result (IsRefusal ListFault.Memory (λ fault. patterns_of text.now ≡ Err fault)) }

@@ -1,8 +1,4 @@
-use Rattle.std.proofs.Common.{◌∙◌, ap, inl, inr, rules, sym, Ok}
-use Rattle.faults.specs.Refusal.{IsRefusal}
-use Rattle.zone_lists.specs.FirstFault.{IsFirstFault}
-use Rattle.zone_lists.specs.ZoneList.{IsZoneFault, zone_list}
-use Rattle.zone_lists.specs.declared.fault.ListFault.TheVariants.{Memory}
+use Rattle.std.proofs.Common.{◌∙◌, ap, rules, sym, Ok}
 use Rattle.zone_lists.proofs.OwnFaultFacts.{first_of_zone}
 use Rattle.zone_lists.specs.Lists.{records_of}
 use Rattle.zone_lists.proofs.RowFacts.{each_row, rows_ascend}
@@ -22,6 +18,5 @@ returns-clause-each c = each_row (records_of c.args.text.now) c.in_ok-rows.rows.
 
 pub returns-in_err-list-clause-first : goal.returns-in_err-list-clause-first
 returns-in_err-list-clause-first c =
-    let told : IsRefusal Memory (IsFirstFault zone_list IsZoneFault (records_of c.args.text.now)) c.in_err-list.field-0.0 =
-    elim c.in_err-list.ensures.fault [ inl memory ↦ inl memory | inr fault ↦ inr (first_of_zone (records_of c.args.text.now) c.in_err-list.field-0.0 fault) ] in
+    let told = first_of_zone (records_of c.args.text.now) c.in_err-list.field-0.0 c.in_err-list.ensures.fault in
     search rules

@@ -1,7 +1,0 @@
-use Rattle.std.proofs.Common.{[]}
-use Rattle.catalogue.proofs.HeaderFacts.{PutsFrom}
-use Rattle.catalogue.proofs.header.ids_named.Given as goal
-
--- what the operands to come put
-abbrev pub invariant-loop-operand : goal.invariant-loop-operand
-invariant-loop-operand l = PutsFrom l.name l.operands l.operand-index l.ids.keys []
