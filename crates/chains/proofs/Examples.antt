@@ -4,28 +4,16 @@ use Rattle.mcs_reader.specs.Id.{padded}
 use Rattle.holddata.specs.declared.hold.Hold.{Hold}
 use Rattle.holddata.specs.declared.key.Kind.TheVariants.{ErrorHold}
 use Rattle.zone_lists.specs.declared.zones.ZoneRow.{ZoneRow}
-use Rattle.zone_lists.specs.declared.zones.ZoneState.{ZoneState}
 use Rattle.zone_lists.specs.declared.zones.ZoneState.TheVariants.{Accepted, Applied, Superseded}
 use Rattle.catalogue.specs.Content.{Content}
 use Rattle.catalogue.specs.declared.sysmod.Sysmod.{Sysmod}
 use Rattle.catalogue.specs.declared.sysmod.SysmodKind.TheVariants.{Ptf}
+use Rattle.supersede.proofs.Examples.{apar, conditional, first, function, other_function, required, second, with_other, zone}
 use Rattle.chains.specs.Frames.{node_of}
 use Rattle.chains.specs.Verdicts.{good, held, lack, verdict_of}
 
-abbrev function : List ℕ
-function = padded (codes "HBB7790")
-
-abbrev first : List ℕ
-first = padded (codes "UA10001")
-
-abbrev second : List ℕ
-second = padded (codes "UA10002")
-
 abbrev third : List ℕ
 third = padded (codes "UA10004")
-
-abbrev apar : List ℕ
-apar = padded (codes "AA20002")
 
 abbrev later_apar : List ℕ
 later_apar = padded (codes "AA30003")
@@ -56,10 +44,7 @@ second_fixed = record { sysmods = base ++ ptf third (second ∷ []) [] (later_ap
 abbrev each_other : Content
 each_other = record { sysmods = ptf first [] (second ∷ []) [] ∷ ptf second [] (first ∷ []) [] ∷ []; holds = [] }
 
--- a zone with the function and the first PTF, and one with the function alone
-abbrev zone : List ZoneRow
-zone = record { sysmod = function; state = Applied } ∷ record { sysmod = first; state = Applied } ∷ []
-
+-- a zone with the function alone
 abbrev bare_zone : List ZoneRow
 bare_zone = record { sysmod = function; state = Applied } ∷ []
 
@@ -89,15 +74,6 @@ another_function = refl
 
 -- ---- a requisite where another function is installed
 
-abbrev other_function : List ℕ
-other_function = padded (codes "HXX0001")
-
-abbrev conditional : List ℕ
-conditional = padded (codes "UA10020")
-
-abbrev required : List ℕ
-required = padded (codes "UA10021")
-
 -- a PTF that needs another one where the other function is installed
 abbrev with_condition : Sysmod
 with_condition = record { id = conditional; kind = Ptf; fmids = function ∷ []; pre = []; req = []; conds = record { fmid = other_function; need = required } ∷ []; sup = [] }
@@ -107,10 +83,6 @@ both_published = record { sysmods = with_condition ∷ ptf required [] [] [] ∷
 
 abbrev one_published : Content
 one_published = record { sysmods = with_condition ∷ []; holds = [] }
-
--- a zone with both functions, the other one in a state
-abbrev with_other : ZoneState → List ZoneRow
-with_other state = record { sysmod = function; state = Applied } ∷ record { sysmod = other_function; state = state } ∷ []
 
 without_the_function_alone : verdict_of both_published bare_zone conditional ≡ good (conditional ∷ [])
 without_the_function_alone = refl

@@ -3,11 +3,11 @@ pub mod GoodFacts
 pub mod StatusFacts
 pub mod CutFacts
 pub mod OrderFacts
-pub mod PathFacts
 pub mod VerdictFacts
 pub mod SightFacts
 pub mod ConditionalFacts
 pub mod PlaceFacts
+pub mod WayFacts
 pub mod MadeCutFacts
 pub mod PlaceVerdictFacts
 pub mod FrameFacts

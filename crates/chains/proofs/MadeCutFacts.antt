@@ -1,36 +1,25 @@
 -- The nodes that are made of a content and a zone are a cut of its world.
-use Rattle.std.proofs.Common.{◌≡◌, ◌⊎◌, ◌&&◌, ◌∙◌, ℕ, ◌<◌, Bool, true, false, cond, List, [], ◌∷◌, length, map, is_some, Option, Some, None, refl, sym, ap, subst, inl, inr, arith}
-use Rattle.std.specs.Prelude.{◌↔◌}
-use Rattle.std.specs.List.{Contains, find, flat_map, list_any}
+use Rattle.std.proofs.Common.{◌≡◌, ◌⊎◌, ◌∙◌, ℕ, ◌<◌, Bool, true, false, List, [], length, map, is_some, Option, Some, None, refl, sym, ap, subst, inl, inr, arith}
+use Rattle.std.specs.List.{Contains, flat_map, list_any}
 use Rattle.std.specs.Option.{IsSomeAnd}
-use Rattle.std.specs.Str.{bytes_eq}
-use Rattle.zone_lists.specs.Installed.{is_installed, is_installed_state, is_listed}
+use Rattle.zone_lists.specs.Installed.{is_installed}
 use Rattle.zone_lists.specs.declared.zones.ZoneRow.{ZoneRow}
-use Rattle.catalogue.specs.Content.{Content, Supersedes, ids_in, ids_of, is_of, record_of}
+use Rattle.catalogue.specs.Content.{Content, Supersedes, ids_of, record_of}
 use Rattle.catalogue.specs.Ids.{Ascend, same_id}
 use Rattle.catalogue.specs.declared.sysmod.Sysmod.{Sysmod}
 use Rattle.catalogue.proofs.IdFacts.{itself, one_id}
 use Rattle.supersede.specs.Giving.{always_needs, conds_of, fmids_of, is_candidate, needs_in, sup_of}
-use Rattle.supersede.specs.Leading.{Gives, InstalledGiver, IsThere, IsWay}
-use Rattle.requisites.specs.Leads.{IsPath, Leads}
-use Rattle.requisites.specs.Nodes.{IsMarked, Links, mark_of, row, world}
+use Rattle.requisites.specs.Nodes.{IsMarked, mark_of, row, world}
 use Rattle.requisites.specs.declared.nodes.Nodes.{Nodes}
 use Rattle.requisites.proofs.SourceFacts.{marked_inside}
-use Rattle.chains.specs.Cuts.{IsCut, NeedPlace, PlaceOf, id_at}
-use Rattle.chains.specs.Places.{AreSeen, AreThere, InstalledAt}
+use Rattle.chains.specs.Cuts.{IsCut, NeedPlace, id_at}
+use Rattle.chains.specs.Places.{AreSeen, AreThere}
 use Rattle.chains.specs.Sights.{Sight, all_needs, needs_seen, sight_of}
 use Rattle.chains.specs.Worlds.{world_of}
 use Rattle.chains.proofs.ConditionalFacts.{may_be_needed}
-use Rattle.chains.proofs.PlaceFacts.{inside_at, need_inside, one_place, order_down, order_up}
-use Rattle.chains.proofs.SearchFacts.{any_at, any_from, first_inside, first_true, none_inside, rest_inside}
-
--- what has a record is listed
-pub listed_record : (sysmods : List Sysmod) (id : List ℕ) → is_some (find (is_of id) sysmods) ≡ true → Contains (ids_in sysmods) id
-listed_record [] id h = absurd (cc)
-listed_record (sysmod ∷ sysmods) id h = go (listed_record sysmods id) (is_of id sysmod) refl h where
-  go : (is_some (find (is_of id) sysmods) ≡ true → Contains (ids_in sysmods) id) → (b : Bool) → is_of id sysmod ≡ b → is_some (cond b (Some sysmod) (find (is_of id) sysmods)) ≡ true → Contains (sysmod.id ∷ ids_in sysmods) id
-  go further true e known = let P : List ℕ → Type 0 = λ x. Contains (sysmod.id ∷ ids_in sysmods) x in subst P (one_id sysmod.id id e) (first_inside sysmod.id (ids_in sysmods))
-  go further false e known = rest_inside sysmod.id id (ids_in sysmods) (further known)
+use Rattle.chains.proofs.PlaceFacts.{inside_at, need_inside, order_down, order_up}
+use Rattle.chains.proofs.SearchFacts.{any_at, any_from, none_inside}
+use Rattle.chains.proofs.WayFacts.{AreWays, gives_at, listed_record, superseder_listed, there_at}
 
 -- a candidate is catalogued
 pub candidate_catalogued : (content : Content) (rows : List ZoneRow) (id : List ℕ) → is_candidate content rows id ≡ true → Contains (ids_of content) id
@@ -52,12 +41,6 @@ module _ (content : Content) (rows : List ZoneRow) (members : List (List ℕ)) (
 
   candidate_listed : (id : List ℕ) → is_candidate content rows id ≡ true → Contains (ids_of content) id
   candidate_listed id h = candidate_catalogued content rows id h
-
-  superseder_listed : (id next : List ℕ) → Supersedes content id next → Contains (ids_of content) id
-  superseder_listed id next step = listed_record content.sysmods id (known (record_of content id) step) where
-    known : (o : Option Sysmod) → IsSomeAnd o (λ sysmod. Contains sysmod.sup next) → is_some o ≡ true
-    known None none = absurd none
-    known (Some sysmod) among = refl
 
   is_listed_id : (id : List ℕ) → Contains (ids_of content) id ⊎ (Contains (ids_of content) id → ⊥)
   is_listed_id id = go (list_any (same_id id) (ids_of content)) refl where
@@ -128,81 +111,21 @@ module _ (content : Content) (rows : List ZoneRow) (members : List (List ℕ)) (
   step_down p q below within step =
       let view = seen.supersedes_are.each p below in
       let P : Sight → Type 0 = λ s. Contains s.superseded (id_at members q) in
-      view.so.whole q within (subst P (sym (view.seen.listed (superseder_listed (id_at members p) (id_at members q) step))) (superseded_in (record_of content (id_at members p)) step))
+      view.so.whole q within (subst P (sym (view.seen.listed (superseder_listed content (id_at members p) (id_at members q) step))) (superseded_in (record_of content (id_at members p)) step))
     where
       superseded_in : (o : Option Sysmod) → IsSomeAnd o (λ sysmod. Contains sysmod.sup (id_at members q)) → Contains (sup_of o) (id_at members q)
       superseded_in None none = absurd none
       superseded_in (Some sysmod) inside = inside
 
-  way_up : (p : ℕ) → p < length members → (list : List ℕ) (q : ℕ) → IsPath (Links nodes.supersedes (length members)) p list q → IsWay content (id_at members p) (map (id_at members) list) (id_at members q)
-  way_up p below [] q same = ap (id_at members) same
-  way_up p below (z ∷ zs) q path = (step_up p z below path.0.listed, way_up z path.0.place zs q path.1)
-
-  -- each id that a way visits on its way to a member is a member
-  visited : (next : List ℕ) (later : List (List ℕ)) (q : ℕ) → q < length members → IsWay content next later (id_at members q) → PlaceOf members next
-  visited next [] q within same = record { place = q; within = within; is = sym same }
-  visited next (z ∷ zs) q within way = inside_at members next (ids_inside next (superseder_listed next z way.0))
-
-  way_down : (p : ℕ) → p < length members → (list : List (List ℕ)) (q : ℕ) → q < length members → IsWay content (id_at members p) list (id_at members q) → Leads (Links nodes.supersedes (length members)) p q
-  way_down p below [] q within same = record { list = []; path = one_place members p q [] ascend below within same }
-  way_down p below (next ∷ later) q within way =
-      let at = visited next later q within way.1 in
-      let S : List ℕ → Type 0 = λ x. Supersedes content (id_at members p) x in
-      let Y : List ℕ → Type 0 = λ x. IsWay content x later (id_at members q) in
-      let rest = way_down at.place at.within later q within (subst Y (sym at.is) way.1) in
-      record {
-        list = at.place ∷ rest.list;
-        path = (record { listed = step_down p at.place below at.within (subst S (sym at.is) way.0); place = at.within }, rest.path);
-      }
-
-  gives_up : (p q : ℕ) → p < length members → Contains (ids_of content) (id_at members p) → Leads (Links nodes.supersedes (length members)) p q → Gives content (id_at members p) (id_at members q)
-  gives_up p q below listed leads = record { catalogued = listed; way = map (id_at members) leads.list; leads = way_up p below leads.list q leads.path }
-
-  gives_down : (p q : ℕ) → p < length members → q < length members → Gives content (id_at members p) (id_at members q) → Leads (Links nodes.supersedes (length members)) p q
-  gives_down p q below within gives = way_down p below gives.way q within gives.leads
-
-  -- ---- what is there
-
-  listed_if_installed : (id : List ℕ) → is_installed rows id ≡ true → is_listed rows id ≡ true
-  listed_if_installed id h =
-      let found = any_from (λ (row : ZoneRow). bytes_eq row.sysmod id && is_installed_state row.state) rows h in
-      any_at (λ (row : ZoneRow). bytes_eq row.sysmod id) rows found.element found.member (first_true (bytes_eq found.element.sysmod id) (is_installed_state found.element.state) found.passes)
-
-  there_up : (q : ℕ) → q < length members → InstalledAt rows members nodes.supersedes q → IsThere content rows (id_at members q)
-  there_up q below at = by at.leads.list at.leads.path where
-    by : (list : List ℕ) → IsPath (Links nodes.supersedes (length members)) at.source list q → IsThere content rows (id_at members q)
-    by [] same = (let P : ℕ → Type 0 = λ k. is_listed rows (id_at members k) ≡ true in inl (subst P same (listed_if_installed (id_at members at.source) at.installed)))
-    by (z ∷ zs) path = inr (record {
-      giver = id_at members at.source;
-      installed = at.installed;
-      gives = gives_up at.source q at.within (superseder_listed (id_at members at.source) (id_at members z) (step_up at.source z at.within path.0.listed)) (record { list = z ∷ zs; path = path });
-    })
-
-  there_down : (q : ℕ) → q < length members → InstalledGiver content rows (id_at members q) → InstalledAt rows members nodes.supersedes q
-  there_down q below by =
-      let at = inside_at members by.giver (ids_inside by.giver by.gives.catalogued) in
-      let I : List ℕ → Type 0 = λ x. is_installed rows x ≡ true in
-      let G : List ℕ → Type 0 = λ x. Gives content x (id_at members q) in
-      record {
-        source = at.place;
-        within = at.within;
-        installed = subst I (sym at.is) by.installed;
-        leads = gives_down at.place q at.within below (subst G (sym at.is) by.gives);
-      }
-
-  there_is_so : (q : ℕ) → q < length members → IsMarked nodes.there.items q ↔ IsThere content rows (id_at members q)
-  there_is_so q below = let is = there.each q below in (
-    λ marked. elim (is.0 marked.is) [ inl listed ↦ inl listed | inr at ↦ there_up q below at ],
-    λ here. elim here [ inl listed ↦ record { is = is.1 (inl listed) } | inr by ↦ record { is = is.1 (inr (there_down q below by)) } ],
-  )
+  ways : AreWays content members nodes.supersedes
+  ways = record {
+    ascend = ascend;
+    up = λ p q below within linked. step_up p q below linked;
+    down = step_down;
+    inside = λ giver q within gives. ids_inside giver gives.catalogued;
+  }
 
   -- ---- the cut
-
-  leads_as_many : (p q : ℕ) → Leads (Links nodes.supersedes (length nodes.candidates.items)) p q ↔ Leads (Links nodes.supersedes (length members)) p q
-  leads_as_many p q = (
-    λ leads. let L : ℕ → Type 0 = λ n. Leads (Links nodes.supersedes n) p q in subst L as_many leads,
-    λ leads. let L : ℕ → Type 0 = λ n. Leads (Links nodes.supersedes n) p q in subst L (sym as_many) leads,
-  )
 
   pub made_cut : IsCut (world_of content rows) members (world nodes)
   made_cut = record {
@@ -211,11 +134,10 @@ module _ (content : Content) (rows : List ZoneRow) (members : List (List ℕ)) (
     needs_within = λ p q marked needs. need_within p q (candidate_within p marked) needs;
     needs = need_up;
     all_needs = need_down;
-    there = there_is_so;
+    there = there_at content members nodes.supersedes ways rows nodes.there.items there;
     gives = λ p q marked within. (
-      λ leads. gives_up p q (candidate_within p marked) (candidate_listed (id_at members p) (candidate_up p (candidate_within p marked) marked)) ((leads_as_many p q).0 leads),
-      λ gives. (leads_as_many p q).1 (gives_down p q (candidate_within p marked) within gives),
-    );
+        let below = candidate_within p marked in
+        gives_at content members nodes.supersedes ways (length nodes.candidates.items) p q as_many below within (candidate_listed (id_at members p) (candidate_up p below marked)));
     givers = λ giver q within candidate gives. inside_at members giver (ids_inside giver gives.catalogued);
     order = λ p q below within. (
       λ least. order_up members p q [] ascend within least,

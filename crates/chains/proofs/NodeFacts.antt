@@ -25,11 +25,11 @@ use Rattle.chains.specs.Places.{ArePlacesOf}
 use Rattle.chains.specs.declared.frames.FrameNode.{FrameNode}
 use Rattle.chains.specs.declared.gathered.Gathered.{Gathered}
 use Rattle.chains.proofs.FrameFacts.{direct_gives, giver_is, givers_ascend, record_listed}
-use Rattle.chains.proofs.MadeCutFacts.{listed_record}
 use Rattle.chains.proofs.OrderFacts.{ascending_same}
 use Rattle.chains.proofs.PartFacts.{at_map}
 use Rattle.chains.proofs.PlaceFacts.{at_inside, get_any, inside_at}
 use Rattle.chains.proofs.SearchFacts.{inside_cases, map_from, map_inside, none_inside}
+use Rattle.chains.proofs.WayFacts.{listed_record}
 
 -- ---- one step by what is named, and by what is needed and gives
 

@@ -1,47 +1,36 @@
 -- Nodes that have all that a frame reaches are a cut of its content's world.
-use Rattle.std.proofs.Common.{◌≡◌, ◌&&◌, ◌∙◌, ℕ, zero, suc, ◌<◌, Bool, true, false, List, [], ◌∷◌, length, map, get_or, is_some, Option, Some, None, refl, sym, ap, subst, inl, inr, arith}
+use Rattle.std.proofs.Common.{◌≡◌, ◌∙◌, ℕ, zero, suc, ◌<◌, Bool, false, List, [], ◌∷◌, length, map, get_or, refl, sym, ap, subst, inl, inr, arith}
 use Rattle.std.specs.Prelude.{◌↔◌}
 use Rattle.std.specs.List.{Contains, list_any}
-use Rattle.std.specs.Option.{IsSomeAnd}
-use Rattle.std.specs.Str.{bytes_eq}
 use Rattle.std.proofs.lemmas.List.{length-map}
 use Rattle.std.proofs.lemmas.List.Elements.{Contains-append_cases, Contains-append_left, Contains-append_right}
-use Rattle.zone_lists.specs.Installed.{is_installed, is_installed_state, is_listed}
+use Rattle.zone_lists.specs.Installed.{is_installed}
 use Rattle.zone_lists.specs.declared.zones.ZoneRow.{ZoneRow}
 use Rattle.catalogue.specs.Content.{Content, Supersedes, ids_of, record_of}
 use Rattle.catalogue.specs.Ids.{Ascend, in_order}
-use Rattle.catalogue.specs.declared.sysmod.Sysmod.{Sysmod}
 use Rattle.catalogue.proofs.IdFacts.{in_order_has}
 use Rattle.supersede.specs.Giving.{always_needs, conds_of, is_candidate, may_need, needs_in, needs_where}
-use Rattle.supersede.specs.Leading.{Gives, InstalledGiver, IsThere, IsWay}
-use Rattle.requisites.specs.Leads.{IsPath, Leads}
-use Rattle.requisites.specs.Nodes.{IsMarked, Links, mark_of, row, world}
+use Rattle.supersede.specs.Leading.{Gives}
+use Rattle.requisites.specs.Nodes.{IsMarked, mark_of, row, world}
 use Rattle.requisites.specs.declared.nodes.Nodes.{Nodes}
 use Rattle.requisites.proofs.LeadsFacts.{leads_more}
 use Rattle.requisites.proofs.SourceFacts.{marked_inside}
-use Rattle.chains.specs.Cuts.{IsCut, NeedPlace, PlaceOf, id_at}
+use Rattle.chains.specs.Cuts.{IsCut, NeedPlace, id_at}
 use Rattle.chains.specs.FramePlaces.{ArePlaced, node_needs}
 use Rattle.chains.specs.Frames.{FrameLists, IsFrame, ids_in, node_of}
-use Rattle.chains.specs.Places.{ArePlacesOf, AreThere, InstalledAt}
+use Rattle.chains.specs.Places.{ArePlacesOf, AreThere}
 use Rattle.chains.specs.Worlds.{world_of}
 use Rattle.chains.specs.declared.frames.FrameNode.{FrameNode}
 use Rattle.chains.proofs.ConditionalFacts.{may_be_needed}
-use Rattle.chains.proofs.MadeCutFacts.{candidate_catalogued, listed_record}
-use Rattle.chains.proofs.PlaceFacts.{at_inside, inside_at, one_place, order_down, order_up}
-use Rattle.chains.proofs.SearchFacts.{any_at, any_from, first_true}
+use Rattle.chains.proofs.MadeCutFacts.{candidate_catalogued}
+use Rattle.chains.proofs.PlaceFacts.{at_inside, inside_at, order_down, order_up}
+use Rattle.chains.proofs.WayFacts.{AreWays, gives_at, there_at}
 
 -- what f makes of a list stands where the list has what it is made of
 pub at_map : {X Y : Type 0} (f : X → Y) (xs : List X) (p : ℕ) (d : X) (e : Y) → p < length xs → get_or (map f xs) p e ≡ f (get_or xs p d)
 at_map f [] p d e below = absurd (omega (arith, below))
 at_map f (x ∷ xs) zero d e below = refl
 at_map f (x ∷ xs) (suc p) d e below = at_map f xs p d e (omega (arith, below))
-
--- what supersedes another is catalogued
-superseder_listed : (content : Content) (id next : List ℕ) → Supersedes content id next → Contains (ids_of content) id
-superseder_listed content id next step = listed_record content.sysmods id (known (record_of content id) step) where
-  known : (o : Option Sysmod) → IsSomeAnd o (λ sysmod. Contains sysmod.sup next) → is_some o ≡ true
-  known None none = absurd none
-  known (Some sysmod) among = refl
 
 module _ (content : Content) (rows : List ZoneRow) (start : List ℕ) (frame : FrameLists) (nodes : Nodes) (ascend : Ascend (ids_in frame.nodes)) (is : IsFrame content start frame)
     (candidates : nodes.candidates.items ≡ map (λ node. list_any (λ fmid. is_installed rows fmid) node.fmids) frame.nodes)
@@ -132,76 +121,10 @@ module _ (content : Content) (rows : List ZoneRow) (start : List ℕ) (frame : F
       let P : List (List ℕ) → Type 0 = λ l. Contains (row l p) q in
       subst P (sym supersedes) ((is.supersedes p q below within).1 step)
 
-  way_up : (p : ℕ) → p < length members → (list : List ℕ) (q : ℕ) → IsPath (Links nodes.supersedes (length members)) p list q → IsWay content (id_at members p) (map (id_at members) list) (id_at members q)
-  way_up p below [] q same = ap (id_at members) same
-  way_up p below (z ∷ zs) q path = (step_up p z below path.0.place path.0.listed, way_up z path.0.place zs q path.1)
-
-  -- each id that a way visits on its way to a member is a member
-  visited : (next : List ℕ) (later : List (List ℕ)) (q : ℕ) → q < length members → IsWay content next later (id_at members q) → PlaceOf members next
-  visited next [] q within same = record { place = q; within = within; is = sym same }
-  visited next (z ∷ zs) q within way =
-      inside_at members next (giver_reached next q within (record { catalogued = superseder_listed content next z way.0; way = z ∷ zs; leads = way }))
-
-  way_down : (p : ℕ) → p < length members → (list : List (List ℕ)) (q : ℕ) → q < length members → IsWay content (id_at members p) list (id_at members q) → Leads (Links nodes.supersedes (length members)) p q
-  way_down p below [] q within same = record { list = []; path = one_place members p q [] ascend below within same }
-  way_down p below (next ∷ later) q within way =
-      let at = visited next later q within way.1 in
-      let S : List ℕ → Type 0 = λ x. Supersedes content (id_at members p) x in
-      let Y : List ℕ → Type 0 = λ x. IsWay content x later (id_at members q) in
-      let rest = way_down at.place at.within later q within (subst Y (sym at.is) way.1) in
-      record {
-        list = at.place ∷ rest.list;
-        path = (record { listed = step_down p at.place below at.within (subst S (sym at.is) way.0); place = at.within }, rest.path);
-      }
-
-  gives_up : (p q : ℕ) → p < length members → Contains (ids_of content) (id_at members p) → Leads (Links nodes.supersedes (length members)) p q → Gives content (id_at members p) (id_at members q)
-  gives_up p q below listed leads = record { catalogued = listed; way = map (id_at members) leads.list; leads = way_up p below leads.list q leads.path }
-
-  gives_down : (p q : ℕ) → p < length members → q < length members → Gives content (id_at members p) (id_at members q) → Leads (Links nodes.supersedes (length members)) p q
-  gives_down p q below within gives = way_down p below gives.way q within gives.leads
-
-  -- ---- what is there
-
-  listed_if_installed : (id : List ℕ) → is_installed rows id ≡ true → is_listed rows id ≡ true
-  listed_if_installed id h =
-      let found = any_from (λ (row : ZoneRow). bytes_eq row.sysmod id && is_installed_state row.state) rows h in
-      any_at (λ (row : ZoneRow). bytes_eq row.sysmod id) rows found.element found.member (first_true (bytes_eq found.element.sysmod id) (is_installed_state found.element.state) found.passes)
-
-  there_up : (q : ℕ) → InstalledAt rows members nodes.supersedes q → IsThere content rows (id_at members q)
-  there_up q at = by at.leads.list at.leads.path where
-    by : (list : List ℕ) → IsPath (Links nodes.supersedes (length members)) at.source list q → IsThere content rows (id_at members q)
-    by [] same = (let P : ℕ → Type 0 = λ k. is_listed rows (id_at members k) ≡ true in inl (subst P same (listed_if_installed (id_at members at.source) at.installed)))
-    by (z ∷ zs) path = inr (record {
-      giver = id_at members at.source;
-      installed = at.installed;
-      gives = gives_up at.source q at.within (superseder_listed content (id_at members at.source) (id_at members z) (step_up at.source z at.within path.0.place path.0.listed)) (record { list = z ∷ zs; path = path });
-    })
-
-  there_down : (q : ℕ) → q < length members → InstalledGiver content rows (id_at members q) → InstalledAt rows members nodes.supersedes q
-  there_down q below by =
-      let at = inside_at members by.giver (giver_reached by.giver q below by.gives) in
-      let I : List ℕ → Type 0 = λ x. is_installed rows x ≡ true in
-      let G : List ℕ → Type 0 = λ x. Gives content x (id_at members q) in
-      record {
-        source = at.place;
-        within = at.within;
-        installed = subst I (sym at.is) by.installed;
-        leads = gives_down at.place q at.within below (subst G (sym at.is) by.gives);
-      }
-
-  there_is_so : (q : ℕ) → q < length members → IsMarked nodes.there.items q ↔ IsThere content rows (id_at members q)
-  there_is_so q below = let so = there.each q below in (
-    λ marked. elim (so.0 marked.is) [ inl listed ↦ inl listed | inr at ↦ there_up q at ],
-    λ here. elim here [ inl listed ↦ record { is = so.1 (inl listed) } | inr by ↦ record { is = so.1 (inr (there_down q below by)) } ],
-  )
+  ways : AreWays content members nodes.supersedes
+  ways = record { ascend = ascend; up = step_up; down = step_down; inside = giver_reached }
 
   -- ---- the cut
-
-  leads_as_many : (p q : ℕ) → Leads (Links nodes.supersedes (length nodes.candidates.items)) p q ↔ Leads (Links nodes.supersedes (length members)) p q
-  leads_as_many p q = (
-    λ leads. let L : ℕ → Type 0 = λ n. Leads (Links nodes.supersedes n) p q in subst L as_many leads,
-    λ leads. let L : ℕ → Type 0 = λ n. Leads (Links nodes.supersedes n) p q in subst L (sym as_many) leads,
-  )
 
   pub frame_cut : IsCut (world_of content rows) members (world nodes)
   frame_cut = record {
@@ -210,11 +133,9 @@ module _ (content : Content) (rows : List ZoneRow) (start : List ℕ) (frame : F
     needs_within = λ p q marked needs. (needs_are p (candidate_within p marked)).within q needs;
     needs = λ p q marked needs. need_up p q (candidate_within p marked) needs;
     all_needs = λ p need marked needs. need_down p need (candidate_within p marked) needs;
-    there = there_is_so;
-    gives = λ p q marked within. (
-      λ leads. gives_up p q (candidate_within p marked) (candidate_listed p marked) ((leads_as_many p q).0 leads),
-      λ gives. (leads_as_many p q).1 (gives_down p q (candidate_within p marked) within gives),
-    );
+    there = there_at content members nodes.supersedes ways rows nodes.there.items there;
+    gives = λ p q marked within.
+        gives_at content members nodes.supersedes ways (length nodes.candidates.items) p q as_many (candidate_within p marked) within (candidate_listed p marked);
     givers = λ giver q within candidate gives. inside_at members giver (giver_reached giver q within gives);
     order = λ p q below within. (
       λ least. order_up members p q [] ascend within least,

@@ -1,5 +1,5 @@
 -- Verdicts on places of a cut are those on the ids that stand there.
-use Rattle.std.proofs.Common.{◌≡◌, ◌∙◌, ℕ, suc, ◌<◌, Bool, true, false, List, [], ◌∷◌, length, map, get_or, Option, sym, subst, arith}
+use Rattle.std.proofs.Common.{◌≡◌, ◌∙◌, ℕ, suc, ◌<◌, Bool, true, false, List, [], ◌∷◌, length, map, get_or, Option, refl, sym, subst, arith}
 use Rattle.std.specs.List.{AllByRecursion, Contains}
 use Rattle.std.specs.List.Sorted.{IsStrictlySortedBy}
 use Rattle.std.specs.declared.cmp.Ordering.TheVariants.{Less}
@@ -19,6 +19,7 @@ use Rattle.requisites.proofs.SourceFacts.{marked_inside}
 use Rattle.chains.specs.Cuts.{IsCut, id_at}
 use Rattle.chains.specs.Judge.{status_of}
 use Rattle.chains.specs.Places.{AreNodesWithin, IsAt, IsWithin, verdict_at}
+use Rattle.chains.specs.Surveys.{status_by}
 use Rattle.chains.specs.Verdicts.{Judged, lack, verdict_of}
 use Rattle.chains.specs.Worlds.{IsVerdict, world_of}
 use Rattle.chains.specs.declared.verdict.Status.TheVariants as status
@@ -89,18 +90,26 @@ module _ (content : Content) (rows : List ZoneRow) (members : List (List ℕ)) (
   marked_here : IsGood (world_of content rows) id → IsMarked marks p
   marked_here is_good = (let P : List ℕ → Type 0 = λ x. IsGood (world_of content rows) x in are.unmarked p (good_down (world_of content rows) members (world nodes) cut p at.within (subst P (sym at.is) is_good)))
 
-  pub is_good_status : mark_of marks p ≡ true → status.Good ≡ status_of (verdict_of content rows id)
+  is_good_status : mark_of marks p ≡ true → status.Good ≡ status_of (verdict_of content rows id)
   is_good_status on = sym ((right_status content rows id).good.1 (good_here (record { is = on })))
 
-  pub is_held_status : mark_of marks p ≡ false → mark_of nodes.candidates.items p ≡ true → status.Held ≡ status_of (verdict_of content rows id)
+  is_held_status : mark_of marks p ≡ false → mark_of nodes.candidates.items p ≡ true → status.Held ≡ status_of (verdict_of content rows id)
   is_held_status off candidate =
       let P : List ℕ → Type 0 = λ x. is_candidate content rows x ≡ true in
       sym ((right_status content rows id).held.1 (subst P at.is ((cut.candidates p at.within).0 (record { is = candidate })), λ is_good. (let on = (marked_here is_good).is in cc)))
 
-  pub is_lack_status : mark_of nodes.candidates.items p ≡ false → status.Lack ≡ status_of (verdict_of content rows id)
+  is_lack_status : mark_of nodes.candidates.items p ≡ false → status.Lack ≡ status_of (verdict_of content rows id)
   is_lack_status off =
       let P : List ℕ → Type 0 = λ x. is_candidate content rows x ≡ true in
       sym ((right_status content rows id).lack.1 (λ candidate. (let on = ((cut.candidates p at.within).1 (subst P (sym at.is) candidate)).is in cc)))
+
+  -- what the marks of the place say is the verdict
+  pub status_here : status_by (mark_of marks p) (mark_of nodes.candidates.items p) ≡ status_of (verdict_of content rows id)
+  status_here = by (mark_of marks p) refl (mark_of nodes.candidates.items p) refl where
+    by : (good : Bool) → mark_of marks p ≡ good → (candidate : Bool) → mark_of nodes.candidates.items p ≡ candidate → status_by good candidate ≡ status_of (verdict_of content rows id)
+    by true on candidate is = is_good_status on
+    by false off true on = is_held_status off on
+    by false off false none = is_lack_status none
 
 pub lack_outside : (content : Content) (rows : List ZoneRow) (members : List (List ℕ)) (id : List ℕ) → ((x : List ℕ) → Contains (ids_of content) x → Contains members x) → (Contains members id → ⊥) → status.Lack ≡ status_of (verdict_of content rows id)
 lack_outside content rows members id inside outside = sym ((right_status content rows id).lack.1 (λ candidate. outside (inside id (candidate_catalogued content rows id candidate))))

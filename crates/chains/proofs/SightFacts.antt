@@ -1,11 +1,11 @@
 -- What is read, one entry at a time.
 use Rattle.std.proofs.Common.{◌≡◌, ℕ, ◌+◌, ◌<◌, ◌==◌, ◌∙◌, Bool, true, false, cond, List, [], ◌∷◌, ◌++◌, length, map, take, get_or, refl, sym, ap, append_assoc}
-use Rattle.std.proofs.lemmas.List.{map-append, take_more}
+use Rattle.std.proofs.lemmas.List.{take_more}
 use Rattle.std.specs.List.{filter}
 use Rattle.holddata.specs.HoldKey.{kind_place}
 use Rattle.holddata.specs.declared.hold.Hold.{Hold}
 use Rattle.holddata.specs.declared.key.Kind.TheVariants.{ErrorHold}
-use Rattle.chains.specs.Sights.{Sight, reasons_in}
+use Rattle.chains.specs.Sights.{reasons_in}
 
 is_error : Hold → Bool
 is_error hold = kind_place hold.key.kind == kind_place ErrorHold
@@ -37,14 +37,3 @@ reasons_more holds i hold start old new below at was now =
     ∙ append_assoc start (reasons_in (take i holds)) added
     ∙ ap (λ l. start ++ l) (sym (reasons_push (take i holds) hold))
     ∙ ap (λ hs. start ++ reasons_in hs) (sym (take_more holds i hold below ∙ ap (λ h. take i holds ++ h ∷ []) (sym at)))
-
--- one more is read
-pub sights_more : (f : List ℕ → Sight) (ids : List (List ℕ)) (i : ℕ) (id : List ℕ) (old new : List Sight) (one : Sight) → i < length ids → id ≡ get_or ids i id
-    → old ≡ map f (take i ids) → new ≡ old ++ one ∷ [] → one ≡ f id
-    → new ≡ map f (take (i + 1) ids)
-sights_more f ids i id old new one below at was now is =
-    now
-    ∙ ap (λ l. l ++ one ∷ []) was
-    ∙ ap (λ s. map f (take i ids) ++ s ∷ []) is
-    ∙ sym (map-append f (take i ids) (id ∷ []))
-    ∙ ap (map f) (sym (take_more ids i id below ∙ ap (λ x. take i ids ++ x ∷ []) (sym at)))

@@ -12,6 +12,7 @@ use Rattle.supersede.specs.Giving.{gives, is_candidate, is_there, needs_in}
 use Rattle.supersede.specs.Leading.{IsThere}
 use Rattle.supersede.proofs.GivingFacts.{In}
 use Rattle.supersede.proofs.LeadingFacts.{gives_is, there_is}
+use Rattle.supersede.proofs.PathFacts.{AllSources, shorten}
 use Rattle.requisites.specs.Leads.{IsPath, Leads}
 use Rattle.requisites.specs.World.{IsChosen, IsGood, IsGoodGiver, IsHeldFor, IsPick, PicksFor}
 use Rattle.chains.specs.Verdicts.{Judged, blocked_need, chosen_plan, good, held, held_for, is_good, lack, open_needs, pick_for, picked_within, verdict_of}
@@ -20,7 +21,6 @@ use Rattle.chains.proofs.SearchFacts.{any_at, any_from, both_true, either_true, 
 use Rattle.chains.proofs.GoodFacts.{candidate_inside, good_found, good_from}
 use Rattle.chains.proofs.StatusFacts.{candidate_gives, find_none, find_some, not_good, unblocked_good}
 use Rattle.chains.proofs.OrderFacts.{ascending_same, at_most_same, find_inside, find_least}
-use Rattle.chains.proofs.PathFacts.{AllSources, shorten}
 
 -- ---- lists
 
@@ -196,7 +196,9 @@ module _ (content : Content) (rows : List ZoneRow) where
   chosen_found : (id y : List ℕ) → IsGood (world_of content rows) id → IsChosen (world_of content rows) id y → Contains (chosen_plan content rows id) y
   chosen_found id y is leads =
       let listed = good_listed y (path_good id leads.list y is leads.path) in
-      let short = shorten (PicksFor (world_of content rows)) (length (ids_of content)) (ids_of content) (omega arith) id leads.list y leads.path (sources_listed id leads.list y is leads.path) in
+      let short =
+      shorten (PicksFor (world_of content rows)) (IsPath (PicksFor (world_of content rows))) (λ from next later to path. path) (λ from next later to path. path)
+      (length (ids_of content)) (ids_of content) (omega arith) id leads.list y leads.path (sources_listed id leads.list y is leads.path) in
       let as_many : length (ids_of content) ≡ length content.sysmods = length-map content.sysmods (λ sysmod. sysmod.id) in
       let few = short.short in
       kept_inside (picked_within content rows (length content.sysmods) id) (in_order (ids_of content)) y ((in_order_has (ids_of content) y).1 listed)

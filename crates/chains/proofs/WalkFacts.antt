@@ -17,7 +17,7 @@ use Rattle.requisites.specs.Leads.{Leads}
 use Rattle.requisites.specs.Nodes.{row}
 use Rattle.chains.specs.FramePlaces.{IsAbove}
 use Rattle.requisites.proofs.LeadsFacts.{leads_closed, leads_itself, leads_more}
-use Rattle.chains.specs.Gathered.{AreNamed, IsGathered, IsGathering, IsWalked, Names, gathered_of, named_by}
+use Rattle.chains.specs.Gathered.{AreNamed, AreRead, IsGathered, IsGathering, IsWalked, Names, gathered_of, named_by}
 use Rattle.chains.specs.declared.gathered.Gathered.{Gathered}
 use Rattle.chains.proofs.SearchFacts.{first_inside, inside_cases, none_inside, rest_inside}
 
@@ -70,14 +70,19 @@ module _ {A : Type 0} (Step : A → A → Type 0) (start : A) where
     ];
   }
 
-  pub walk_passes : (seen order : List A) (at : ℕ) (x : A) → at < length order → x ≡ get_or order at x → Contains seen x → IsWalked Step start seen order at → IsWalked Step start seen order (at + 1)
-  walk_passes seen order at x below is here walked = record {
+  -- what was looked at up to one place was up to another
+  pub walk_moves : (seen order : List A) (at to : ℕ) → (((y : A) → Contains (take at order) y → Contains seen y) → (y : A) → Contains (take to order) y → Contains seen y)
+      → IsWalked Step start seen order at → IsWalked Step start seen order to
+  walk_moves seen order at to on walked = record {
     begun = walked.begun;
-    asked = asked_passes seen order at x below is here walked.asked;
+    asked = on walked.asked;
     drawn = walked.drawn;
     closed = walked.closed;
     reached = walked.reached;
   }
+
+  pub walk_passes : (seen order : List A) (at : ℕ) (x : A) → at < length order → x ≡ get_or order at x → Contains seen x → IsWalked Step start seen order at → IsWalked Step start seen order (at + 1)
+  walk_passes seen order at x below is here = walk_moves seen order at (at + 1) (asked_passes seen order at x below is here)
 
   pub walk_reads : (seen seen' order order' more : List A) (at : ℕ) (x : A) → at < length order → x ≡ get_or order at x
       → ((y : A) → Contains seen' y → (x ≡ y) ⊎ Contains seen y) → ((y : A) → Contains seen y → Contains seen' y) → Contains seen' x
@@ -259,10 +264,10 @@ above_reads above start old new order order' more at x below is now more_is orde
 
 -- ---- what is gathered
 
--- what was read before
-pub gather_passes : (content : Content) (start : List ℕ) (ids order : List (List ℕ)) (gathered : List Gathered) (at : ℕ) (x : List ℕ) → at < length order → x ≡ get_or order at x → Contains ids x
-    → IsGathering content start ids order at gathered → IsGathering content start ids order (at + 1) gathered
-gather_passes content start ids order gathered at x below is here so_far = record { says = so_far.says; walked = walk_passes (Names content) start ids order at x below is here so_far.walked }
+-- what was read up to one place of the order was up to another
+pub gather_moves : (content : Content) (start : List ℕ) (ids order : List (List ℕ)) (gathered : List Gathered) (at to : ℕ) → (AreRead ids order at → AreRead ids order to)
+    → IsGathering content start ids order at gathered → IsGathering content start ids order to gathered
+gather_moves content start ids order gathered at to on so_far = record { says = so_far.says; walked = walk_moves (Names content) start ids order at to on so_far.walked }
 
 module _ (old new : List (List ℕ × Gathered)) (x : List ℕ) (v : Gathered) (now : new ≡ insert_entry id_cmp old x v) where
   stays : (y : List ℕ) → Contains (keys_of old) y → Contains (keys_of new) y

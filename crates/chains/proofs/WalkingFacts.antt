@@ -3,11 +3,12 @@ use Rattle.std.proofs.Common.{◌≡◌, ◌∙◌, ℕ, ◌+◌, ◌<◌, ◌�
 use Rattle.std.specs.Prelude.{◌↔◌}
 use Rattle.std.specs.List.{Contains}
 use Rattle.std.proofs.lemmas.Bool.{cases_eq}
-use Rattle.std.proofs.lemmas.List.{append-nil, get_or-set_other, get_or-set_same, length-append, length-set, take_all, take_more, take-append-le}
+use Rattle.std.proofs.lemmas.List.{append-nil, get_or-set_other, get_or-set_same, length-set, take_all, take_more}
 use Rattle.std.proofs.lemmas.List.Elements.{Contains-append_cases, Contains-append_left, Contains-append_right, Contains-push, Contains-push_cases}
 use Rattle.requisites.specs.Leads.{Leads}
 use Rattle.requisites.specs.Nodes.{Links, row}
 use Rattle.requisites.proofs.LeadsFacts.{leads_closed, leads_itself, leads_more}
+use Rattle.requisites.proofs.OrderFacts.{order_front, order_grows, order_keeps}
 use Rattle.chains.specs.Climbs.{AreTaken, IsWalking}
 use Rattle.chains.proofs.SearchFacts.{first_inside, inside_cases, none_inside}
 
@@ -121,7 +122,7 @@ module _ (rows : List (List ℕ)) (n start turn : ℕ) where
     marked = marked;
     closed = λ p q inside link. (
         let P : List ℕ → Type 0 = λ l. Contains l p in
-        elim (Contains-push_cases (take at order) next p (subst P front inside)) [
+        elim (Contains-push_cases (take at order) next p (subst P (order_front order order' taken.more taken.goes_on at next below is) inside)) [
           | inl before ↦ kept q (was.closed p q before link)
           | inr same ↦
               let R : ℕ → Type 0 = λ k. Contains (row rows k) q in
@@ -139,25 +140,17 @@ module _ (rows : List (List ℕ)) (n start turn : ℕ) where
               leads_more (was.reached next here) (record { listed = subst L own_is (taken.drawn q now); place = omega (arith, place, was.len) })
         ]);
     bound = taken.bound was.bound;
-    within = (let longer = length_more in omega (arith, below, longer));
+    within = (let longer = order_grows order order' taken.more taken.goes_on in omega (arith, below, longer));
     len = taken.len ∙ was.len;
   } where
     marked : (q : ℕ) → get_or seen' q 0 ≡ turn → Contains order' q
     marked = taken.marked was.marked
 
     kept : (q : ℕ) → Contains order q → Contains order' q
-    kept q inside = let L : List ℕ → Type 0 = λ l. Contains l q in subst L (sym taken.goes_on) (Contains-append_left order taken.more q inside)
+    kept = order_keeps order order' taken.more taken.goes_on
 
     here : Contains order next
     here = (at, below, sym is)
-
-    front : take (at + 1) order' ≡ take at order ++ next ∷ []
-    front =
-        ap (take (at + 1)) taken.goes_on ∙ take-append-le (at + 1) order taken.more (omega (arith, below)) ∙ take_more order at next below
-        ∙ ap (λ k. take at order ++ k ∷ []) (sym is)
-
-    length_more : length order ≤ length order'
-    length_more = omega (arith, ap length taken.goes_on ∙ length-append order taken.more)
 
   pub walk_ends : (seen order : List ℕ) (at : ℕ) → length order ≤ at → IsWalking rows n start turn seen order at → (q : ℕ) → Contains order q ↔ Leads (Links rows n) start q
   walk_ends seen order at whole was q = (

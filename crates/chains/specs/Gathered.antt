@@ -32,6 +32,10 @@ named_by gathered = gathered.needs ++ each_need gathered.conds ++ gathered.above
 abbrev pub Names : Content → List ℕ → List ℕ → Type 0
 Names content from to = Contains (named_by (gathered_of content from)) to
 
+-- each id before a place of an order was read
+abbrev pub AreRead : List (List ℕ) → List (List ℕ) → ℕ → Type 0
+AreRead read order at = (id : List ℕ) → Contains (take at order) id → Contains read id
+
 -- What is read names nothing but what stands in a list.
 pub record AreNamed (list : List Gathered) (ids : List (List ℕ)) : Type 0 where
   pub named : (gathered : Gathered) (id : List ℕ) → Contains list gathered → Contains (named_by gathered) id → Contains ids id

@@ -1,5 +1,5 @@
 -- Surveys: what can be installed in one zone of all that is catalogued, by the places of ids.
-use Rattle.std.specs.Prelude.{ℕ, Bool, List, Option, Contains}
+use Rattle.std.specs.Prelude.{ℕ, Bool, List, Option, Contains, if◌then◌else◌}
 use Rattle.zone_lists.specs.declared.zones.ZoneRow.{ZoneRow}
 use Rattle.catalogue.specs.Content.{Content, ids_of}
 use Rattle.catalogue.specs.Ids.{Ascend}
@@ -9,6 +9,8 @@ use Rattle.requisites.specs.declared.nodes.Nodes.{Nodes}
 use Rattle.chains.specs.Cuts.{IsCut}
 use Rattle.chains.specs.Places.{AreNodesWithin}
 use Rattle.chains.specs.Worlds.{world_of}
+use Rattle.chains.specs.declared.verdict.Status.{Status}
+use Rattle.chains.specs.declared.verdict.Status.TheVariants.{Good, Held, Lack}
 
 -- A survey as contracts see it: ids in order, and what the zone and the catalogue say of each place among them.
 pub record SurveyLists : Type 0 where
@@ -25,3 +27,7 @@ pub record IsResolved (members : List (List ℕ)) (nodes : Nodes) (good : List B
   pub ascend : Ascend members
   pub within : AreNodesWithin members nodes
   pub resolved : AreGood nodes good givers
+
+-- which verdict it is on a place, by whether it is good and whether it is a candidate
+abbrev pub status_by : Bool → Bool → Status
+status_by good candidate = if good then Good else if candidate then Held else Lack

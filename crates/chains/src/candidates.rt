@@ -19,11 +19,10 @@ use crate::climbing::{Climb, climb_from};
 use crate::cut::{has_source, source_at, there_marks};
 use crate::listing::is_any_installed;
 use crate::places::{ids_at, place_of, sort_each_once};
-use crate::surveying::is_marked;
 use crate::walks::Walks;
 use catalogue::{Published, SourceFault, Sysmod};
 use mcs_reader::{Id, NoMemory};
-use requisites::{Rows, least_sources};
+use requisites::{Rows, is_marked, least_sources};
 use std::alloc::Global;
 use supersede::Zone;
 

@@ -9,6 +9,7 @@ ghost use Rattle.requisites.specs.Nodes.{AreReversed};
 ghost use Rattle.chains.specs.Climbs.{AreAbove, AreListed};
 ghost use Rattle.chains.specs.FramePlaces.{ArePlaced};
 
+use crate::found::{ids_found, next_unread};
 use crate::gathered::ascending;
 use crate::places::put_places;
 use catalogue::{Ids, Published, SourceFault};
@@ -67,12 +68,9 @@ fn superseders_of<P: Published>(
     let mut at = 0;
     while at < order.len() {
         let id = order[at];
-        at += 1;
-        if found.contains_key(&id) {
-            continue;
-        }
         let above = source.superseders(&id)?;
         add(&mut found, &mut order, id, ascending(above))?;
+        at = next_unread(&found, &order, at + 1);
     }
     Ok(found)
 }
@@ -103,18 +101,6 @@ fn by_places(alloc: Global, found: BTreeMap<Id, Ids>) -> Result<Climb, NoMemory>
     let above = rows_of(alloc, &ids, &lists)?;
     let below = turned(alloc, &above, ids.len())?;
     Ok(Climb { ids, above, below })
-}
-
-// The ids of which something was read, ascending.
-fn ids_found(alloc: Global, found: &BTreeMap<Id, Ids>) -> Result<Vec<Id>, NoMemory>
-    ensures ids { IfOk result (λ ids. ids.items ≡ keys found.now) }
-    ensures ascend { IfOk result (λ ids. Ascend ids.items) }
-{
-    let mut ids = Vec::with_capacity(alloc, found.len())?;
-    for id in found.keys() {
-        ids.push(*id)?;
-    }
-    Ok(ids)
 }
 
 // What was read of them, in their order.

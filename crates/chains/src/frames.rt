@@ -8,6 +8,7 @@ ghost use Rattle.chains.specs.FramePlaces.{ArePlaced, has_conds};
 ghost use Rattle.chains.specs.Frames.{IsClosed, IsFrame, ids_in};
 ghost use Rattle.chains.specs.Gathered.{AreNamed, IsGathered};
 
+use crate::found::ids_found;
 use crate::gathered::Gathered;
 use crate::links::Links;
 use crate::nodes::nodes_of;
@@ -134,18 +135,6 @@ fn is_any_conditional(nodes: &[FrameNode]) -> bool
     ensures { result ≡ list_any has_conds nodes.now }
 {
     nodes.iter().any(|node| !node.conds.as_slice().is_empty())
-}
-
-// The ids of which something was read, ascending.
-fn ids_found(alloc: Global, found: &BTreeMap<Id, Gathered>) -> Result<Vec<Id>, NoMemory>
-    ensures ids { IfOk result (λ ids. ids.items ≡ keys found.now) }
-    ensures ascend { IfOk result (λ ids. Ascend ids.items) }
-{
-    let mut ids = Vec::with_capacity(alloc, found.len())?;
-    for id in found.keys() {
-        ids.push(*id)?;
-    }
-    Ok(ids)
 }
 
 // What was read of them, in their order.

@@ -9,7 +9,8 @@ ghost use Rattle.chains.specs.Gathered.{AreNamed, IsGathered, named_by};
 ghost use Rattle.chains.specs.Sights.{reasons_in};
 
 use crate::conditional::push_each_need;
-use crate::listing::{joined, push_reasons};
+use crate::found::next_unread;
+use crate::listing::{append, push_reasons};
 use crate::places::sort_each_once;
 use catalogue::{CondNeeds, Ids, Published, SourceFault, Sysmod};
 use holddata::Hold;
@@ -51,16 +52,13 @@ pub(crate) fn gather<P: Published>(
     order.push(*start)?;
     let mut at = 0;
     while at < order.len() {
-        let id = order[at];
-        at += 1;
-        if found.contains_key(&id) {
-            continue;
-        }
         if is_full(&found, most) {
             return Ok(None);
         }
+        let id = order[at];
         let gathered = gathered_of(alloc, source, &id)?;
         add(&mut found, &mut order, id, gathered)?;
+        at = next_unread(&found, &order, at + 1);
     }
     Ok(Some(found))
 }
@@ -129,7 +127,7 @@ fn gathered_from(
             above,
         });
     };
-    let needs = joined(sysmod.pre.into_vec(), sysmod.req.into_vec())?;
+    let needs = append(sysmod.pre.into_vec(), sysmod.req.into_vec())?;
     Ok(Gathered {
         catalogued: true,
         fmids: sysmod.fmids,

@@ -32,6 +32,7 @@ mod candidates;
 mod climbing;
 mod conditional;
 mod cut;
+mod found;
 mod frames;
 mod framing;
 mod gathered;

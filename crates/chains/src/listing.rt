@@ -172,7 +172,7 @@ fn entry_from(alloc: Global, sysmod: Option<Sysmod>, holds: &[Hold]) -> Result<E
             superseded: Vec::new(alloc),
         });
     };
-    let mut needs = joined(sysmod.pre.into_vec(), sysmod.req.into_vec())?;
+    let mut needs = append(sysmod.pre.into_vec(), sysmod.req.into_vec())?;
     push_reasons(&mut needs, holds)?;
     Ok(Entry {
         fmids: sysmod.fmids,
@@ -183,7 +183,7 @@ fn entry_from(alloc: Global, sysmod: Option<Sysmod>, holds: &[Hold]) -> Result<E
 }
 
 /// The ids of two lists, one after the other. It takes no memory where the first is empty.
-pub(crate) fn joined(mut first: Vec<Id>, second: Vec<Id>) -> Result<Vec<Id>, NoMemory>
+pub(crate) fn append(mut first: Vec<Id>, second: Vec<Id>) -> Result<Vec<Id>, NoMemory>
     ensures { IfOk result (λ both. both.items ≡ first.items ++ second.items) }
 {
     if first.is_empty() {

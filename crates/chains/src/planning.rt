@@ -18,9 +18,8 @@ use crate::cut::there_marks;
 use crate::frames::{Frame, FrameNode};
 use crate::listing::is_any_installed;
 use crate::places::{by_ids, place_of};
-use crate::surveying::is_marked;
 use mcs_reader::{Id, NoMemory};
-use requisites::{Nodes, Rows, resolve, verdict_of_place};
+use requisites::{Nodes, Rows, is_marked, resolve, verdict_of_place};
 use std::alloc::Global;
 use supersede::Zone;
 

@@ -3,10 +3,9 @@ ghost use Rattle.std.specs.Prelude.{◌≡◌, List, IfOk, map};
 ghost use Rattle.catalogue.specs.Content.{Content};
 ghost use Rattle.catalogue.specs.View.{MayAsk, Tells};
 ghost use Rattle.catalogue.specs.declared.fault.SourceFault.TheVariants.{Device};
-ghost use Rattle.requisites.specs.Nodes.{mark_of};
 ghost use Rattle.chains.specs.Judge as judge;
 ghost use Rattle.chains.specs.Sights.{IsListing};
-ghost use Rattle.chains.specs.Surveys.{IsSurvey};
+ghost use Rattle.chains.specs.Surveys.{IsSurvey, status_by};
 ghost use Rattle.chains.specs.Verdicts.{verdict_of};
 ghost use Rattle.zone_lists.specs.declared.zones.ZoneRow.{ZoneRow};
 
@@ -16,7 +15,7 @@ use crate::places::{by_ids, place_of};
 use crate::{Status, Verdict};
 use catalogue::{Published, SourceFault};
 use mcs_reader::{Id, NoMemory};
-use requisites::{Resolution, resolve, verdict_of_place};
+use requisites::{Resolution, is_marked, resolve, verdict_of_place};
 use std::alloc::Global;
 use std::marker::Model;
 use supersede::Zone;
@@ -97,14 +96,23 @@ impl Survey {
         let Some(place) = place_of(&self.cut.members, id) else {
             return Status::Lack;
         };
-        if is_marked(&self.resolution.good, place) {
-            return Status::Good;
-        }
-        if is_marked(&self.cut.nodes.candidates, place) {
-            return Status::Held;
-        }
-        Status::Lack
+        let good = is_marked(&self.resolution.good, place);
+        let candidate = is_marked(&self.cut.nodes.candidates, place);
+        status_by(good, candidate)
     }
+}
+
+// Which verdict it is, by the marks of a place.
+fn status_by(good: bool, candidate: bool) -> Status
+    ensures { result ≡ status_by good candidate }
+{
+    if good {
+        return Status::Good;
+    }
+    if candidate {
+        return Status::Held;
+    }
+    Status::Lack
 }
 
 /// The survey of a zone: all that is catalogued is read, once.
@@ -123,11 +131,4 @@ pub fn survey_of<P: Published>(
 {
     let listing = listing_of(alloc, source)?;
     Ok(Survey::of(alloc, zone, &listing)?)
-}
-
-/// Whether a place is marked.
-pub(crate) fn is_marked(marks: &[bool], place: usize) -> bool
-    ensures { result ≡ mark_of marks.now place }
-{
-    marks.get(place).copied().unwrap_or(false)
 }

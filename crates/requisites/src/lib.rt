@@ -6,6 +6,7 @@
 //! - [`verdict_of_place`]: a place's chosen plan or its blocked need, as a [`Verdict`]
 //! - [`least_sources`]: for each place the least marked one that leads to it
 //! - [`turned`]: for each place those in whose rows it stands
+//! - [`is_marked`]: whether a place is marked
 //!
 //! ```
 //! use requisites::{Nodes, Rows, Verdict, resolve, verdict_of_place};
@@ -32,7 +33,7 @@ mod sources;
 mod verdict;
 
 pub use good::{Resolution, resolve};
-pub use nodes::Nodes;
+pub use nodes::{Nodes, is_marked};
 pub use reversed::turned;
 pub use rows::Rows;
 pub use sources::least_sources;

@@ -40,8 +40,8 @@ impl Nodes {
     }
 }
 
-// Whether a place is marked.
-pub(crate) fn is_marked(marks: &[bool], place: usize) -> bool
+/// Whether a place is marked. One past the end is not.
+pub fn is_marked(marks: &[bool], place: usize) -> bool
     ensures { result ≡ mark_of marks.now place }
 {
     marks.get(place).copied().unwrap_or(false)

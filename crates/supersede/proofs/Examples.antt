@@ -11,19 +11,19 @@ use Rattle.catalogue.specs.declared.sysmod.Sysmod.{Sysmod}
 use Rattle.catalogue.specs.declared.sysmod.SysmodKind.TheVariants.{Func, Ptf}
 use Rattle.supersede.specs.Giving.{always_needs, gives, givers_of, is_candidate, is_there, may_need, needs_in}
 
-abbrev function : List ℕ
+abbrev pub function : List ℕ
 function = padded (codes "HBB7790")
 
-abbrev first : List ℕ
+abbrev pub first : List ℕ
 first = padded (codes "UA10001")
 
-abbrev second : List ℕ
+abbrev pub second : List ℕ
 second = padded (codes "UA10002")
 
-abbrev third : List ℕ
+abbrev pub third : List ℕ
 third = padded (codes "UA10005")
 
-abbrev apar : List ℕ
+abbrev pub apar : List ℕ
 apar = padded (codes "AA20002")
 
 -- a PTF for the function, which needs some and supersedes some
@@ -38,7 +38,7 @@ published = record {
 }
 
 -- a zone with the function and the first PTF
-abbrev zone : List ZoneRow
+abbrev pub zone : List ZoneRow
 zone = record { sysmod = function; state = Applied } ∷ record { sysmod = first; state = Applied } ∷ []
 
 itself_and_through_another : givers_of published apar ≡ second ∷ third ∷ []
@@ -82,13 +82,13 @@ a_requisite_is_a_need = refl
 
 -- ---- a requisite where another function is installed
 
-abbrev other_function : List ℕ
+abbrev pub other_function : List ℕ
 other_function = padded (codes "HXX0001")
 
-abbrev conditional : List ℕ
+abbrev pub conditional : List ℕ
 conditional = padded (codes "UA10020")
 
-abbrev required : List ℕ
+abbrev pub required : List ℕ
 required = padded (codes "UA10021")
 
 -- a PTF that needs the first, and another one where the other function is installed
@@ -101,7 +101,7 @@ with_condition = record {
 }
 
 -- a zone with both functions, the other one in a state
-abbrev with_other : ZoneState → List ZoneRow
+abbrev pub with_other : ZoneState → List ZoneRow
 with_other state = record { sysmod = function; state = Applied } ∷ record { sysmod = other_function; state = state } ∷ []
 
 whatever_the_zone_it_needs_its_pre : always_needs with_condition conditional ≡ first ∷ []

@@ -1,8 +1,9 @@
-mod Examples
+pub mod Examples
 pub mod GivingFacts
 pub mod LeadingFacts
 pub mod PathFacts
 mod ReachFacts
 mod SearchFacts
+pub mod TellingFacts
 pub mod WithoutFacts
 pub mod ZoneFacts

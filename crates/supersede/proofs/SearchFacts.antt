@@ -1,5 +1,5 @@
--- Looking for an id by halves among ids that ascend.
-use Rattle.std.proofs.Common.{◌≡◌, ℕ, zero, suc, ◌<◌, ◌≤◌, ◌||◌, Bool, true, false, List, [], ◌∷◌, length, get_or, Some, Ok, Err, inl, inr, refl, ap, arith}
+-- Looking for an id by halves among ids that ascend, or among what ascends by ids.
+use Rattle.std.proofs.Common.{◌≡◌, ℕ, zero, suc, ◌<◌, ◌≤◌, ◌||◌, Bool, true, false, List, [], ◌∷◌, length, map, map-id, get_or, Some, Ok, Err, inl, inr, refl, sym, subst, ap, arith}
 use Rattle.std.specs.List.{AllByRecursion, slice_get}
 use Rattle.std.specs.List.Sorted.{IsBinarySearchResult, IsNonDecreasingBy, IsStrictlySortedBy}
 use Rattle.std.specs.Ordering.{ordering_index}
@@ -21,20 +21,21 @@ rises_by a b id Greater at below = most (id_cmp a id)
     most Equal = omega arith
     most Greater = omega arith
 
--- what holds of every id holds of the one at a place
-at_place : (P : List ℕ → Type 0) (ids : List (List ℕ)) → AllByRecursion P ids → (k : ℕ) (d : List ℕ) → k < length ids → P (get_or ids k d)
-at_place P [] all k d within = absurd (omega arith)
-at_place P (id ∷ ids) all zero d within = all.0
-at_place P (id ∷ ids) all (suc k) d within = at_place P ids all.1 k d (omega arith)
+-- what holds of every key holds of the one at a place
+pub at_place : {X : Type 0} → (key : X → List ℕ) (P : List ℕ → Type 0) (xs : List X) → AllByRecursion P (map key xs) → (k : ℕ) (d : X) → k < length xs → P (key (get_or xs k d))
+at_place key P [] all k d within = absurd (omega arith)
+at_place key P (x ∷ xs) all zero d within = all.0
+at_place key P (x ∷ xs) all (suc k) d within = at_place key P xs all.1 k d (omega arith)
 
-rises : (ids : List (List ℕ)) (id : List ℕ) → Ascend ids → IsNonDecreasingBy (λ other. ordering_index (id_cmp other id)) ids
+-- the comparison with an id rises along what ascends by its key
+pub rises : {X : Type 0} → (key : X → List ℕ) (xs : List X) (id : List ℕ) → Ascend (map key xs) → IsNonDecreasingBy (λ x. ordering_index (id_cmp (key x) id)) xs
 unfolding IsStrictlySortedBy
-rises [] id ascend i j d le within = absurd (omega arith)
-rises (x ∷ ids) id ascend zero zero d le within = omega arith
-rises (x ∷ ids) id ascend zero (suc j) d le within =
-    rises_by x (get_or ids j d) id (id_cmp (get_or ids j d) id) refl (at_place (λ other. id_cmp x other ≡ Less) ids ascend.0 j d (omega arith))
-rises (x ∷ ids) id ascend (suc i) zero d le within = absurd (omega arith)
-rises (x ∷ ids) id ascend (suc i) (suc j) d le within = rises ids id ascend.1 i j d (omega arith) (omega arith)
+rises key [] id ascend i j d le within = absurd (omega arith)
+rises key (x ∷ xs) id ascend zero zero d le within = omega arith
+rises key (x ∷ xs) id ascend zero (suc j) d le within =
+    rises_by (key x) (key (get_or xs j d)) id (id_cmp (key (get_or xs j d)) id) refl (at_place key (λ other. id_cmp (key x) other ≡ Less) xs ascend.0 j d (omega arith))
+rises key (x ∷ xs) id ascend (suc i) zero d le within = absurd (omega arith)
+rises key (x ∷ xs) id ascend (suc i) (suc j) d le within = rises key xs id ascend.1 i j d (omega arith) (omega arith)
 
 none_has : (ids : List (List ℕ)) (id : List ℕ) → ((k : ℕ) (d : List ℕ) → k < length ids → same_id id (get_or ids k d) ≡ false) → has ids id ≡ false
 none_has [] id differ = refl
@@ -59,7 +60,7 @@ place_found ids id at within found = got ids id at within found
 
 pub not_found : (ids : List (List ℕ)) (id : List ℕ) (at : ℕ) → Ascend ids → IsBinarySearchResult (λ other. id_cmp other id) ids (Err at) → has ids id ≡ false
 not_found ids id at ascend parted =
-    let parts = parted (rises ids id ascend) in
+    let parts = parted (rises (λ other. other) ids id (subst Ascend (sym (map-id ids)) ascend)) in
     none_has ids id (λ k d in_list. elim (cases_lt k at) [
       | inl below ↦ apart_back (get_or ids k d) id (parts.0 k d (omega arith) below)
       | inr from ↦ apart id (get_or ids k d) (turned (get_or ids k d) id (parts.1 k d from in_list))

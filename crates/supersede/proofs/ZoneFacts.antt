@@ -1,9 +1,9 @@
 -- Looking for a SYSMOD by halves among rows that ascend.
-use Rattle.std.proofs.Common.{◌≡◌, ℕ, zero, suc, ◌<◌, ◌≤◌, ◌∙◌, Bool, true, false, List, [], ◌∷◌, length, map, get_or, is_some, Option, Some, None, Err, inl, inr, refl, sym, ap, arith}
+use Rattle.std.proofs.Common.{◌≡◌, ℕ, zero, suc, ◌<◌, ◌∙◌, Bool, true, false, List, [], ◌∷◌, length, map, get_or, is_some, Option, Some, None, Err, inl, inr, refl, sym, ap, arith}
 use Rattle.std.specs.Cmp.Lexicographic.{slice_cmp, nat_list_cmp_total}
 use Rattle.std.specs.List.{AllByRecursion}
-use Rattle.std.specs.List.Sorted.{IsBinarySearchResult, IsNonDecreasingBy, IsStrictlySortedBy}
-use Rattle.std.specs.Ordering.{is_eq, nat_cmp, ordering_index, ordering_reverse}
+use Rattle.std.specs.List.Sorted.{IsBinarySearchResult, IsStrictlySortedBy}
+use Rattle.std.specs.Ordering.{is_eq, nat_cmp, ordering_reverse}
 use Rattle.std.specs.Str.{bytes_eq}
 use Rattle.std.specs.declared.cmp.Ordering.{Ordering}
 use Rattle.std.specs.declared.cmp.Ordering.TheVariants.{Less, Equal, Greater}
@@ -16,6 +16,7 @@ use Rattle.zone_lists.specs.ZoneList.{RowsAscend}
 use Rattle.zone_lists.specs.declared.zones.ZoneRow.{ZoneRow}
 use Rattle.zone_lists.specs.declared.zones.ZoneState.{ZoneState}
 use Rattle.supersede.specs.Zone.{state_in}
+use Rattle.supersede.proofs.SearchFacts.{at_place, rises}
 
 -- the order of ids
 abbrev cmp : List ℕ → List ℕ → Ordering
@@ -24,37 +25,6 @@ cmp a b = slice_cmp nat_cmp a b
 -- two ids are the same where they compare so
 same_by : (a b : List ℕ) (o : Ordering) → cmp a b ≡ o → bytes_eq a b ≡ is_eq o
 same_by a b o is = sym (is_eq-slice_cmp a b) ∙ ap is_eq is
-
--- ---- rows that ascend
-
--- the comparison with an id rises with the row
-rises_by : (a b id : List ℕ) (o : Ordering) → cmp b id ≡ o → cmp a b ≡ Less → ordering_index (cmp a id) ≤ ordering_index o
-rises_by a b id Less at below = let less : cmp a id ≡ Less = nat_list_cmp_total.trans a b id below at in rw less (omega arith)
-rises_by a b id Equal at below =
-    let swapped : cmp b a ≡ cmp id a = nat_list_cmp_total.congr b id a at in
-    let less : cmp a id ≡ Less = nat_list_cmp_total.antisymm a id ∙ ap ordering_reverse (sym swapped) ∙ sym (nat_list_cmp_total.antisymm a b) ∙ below in
-    rw less (omega arith)
-rises_by a b id Greater at below = most (cmp a id)
-  where
-    most : (o : Ordering) → ordering_index o ≤ 2
-    most Less = omega arith
-    most Equal = omega arith
-    most Greater = omega arith
-
--- what holds of every id holds of the one at a place
-at_place : (P : List ℕ → Type 0) (rows : List ZoneRow) → AllByRecursion P (map (λ row. row.sysmod) rows) → (k : ℕ) (d : ZoneRow) → k < length rows → P (get_or rows k d).sysmod
-at_place P [] all k d within = absurd (omega arith)
-at_place P (row ∷ rows) all zero d within = all.0
-at_place P (row ∷ rows) all (suc k) d within = at_place P rows all.1 k d (omega arith)
-
-rises : (rows : List ZoneRow) (id : List ℕ) → RowsAscend rows → IsNonDecreasingBy (λ row. ordering_index (cmp row.sysmod id)) rows
-unfolding IsStrictlySortedBy
-rises [] id ascend i j d le within = absurd (omega arith)
-rises (row ∷ rows) id ascend zero zero d le within = omega arith
-rises (row ∷ rows) id ascend zero (suc j) d le within =
-    rises_by row.sysmod (get_or rows j d).sysmod id (cmp (get_or rows j d).sysmod id) refl (at_place (λ other. cmp row.sysmod other ≡ Less) rows ascend.0 j d (omega arith))
-rises (row ∷ rows) id ascend (suc i) zero d le within = absurd (omega arith)
-rises (row ∷ rows) id ascend (suc i) (suc j) d le within = rises rows id ascend.1 i j d (omega arith) (omega arith)
 
 -- ---- the row of an id
 
@@ -71,7 +41,7 @@ unfolding IsStrictlySortedBy
 has_at [] id k d ascend within same = absurd (omega arith)
 has_at (row ∷ rows) id zero d ascend within same = rw same refl
 has_at (row ∷ rows) id (suc k) d ascend within same =
-    let other : bytes_eq row.sysmod id ≡ false = before_differs row.sysmod (get_or rows k d).sysmod id (at_place (λ other. cmp row.sysmod other ≡ Less) rows ascend.0 k d (omega arith)) same in
+    let other : bytes_eq row.sysmod id ≡ false = before_differs row.sysmod (get_or rows k d).sysmod id (at_place (λ row. row.sysmod) (λ other. cmp row.sysmod other ≡ Less) rows ascend.0 k d (omega arith)) same in
     rw other (has_at rows id k d ascend.1 (omega arith) same)
 
 -- a search by halves that found a place
@@ -81,7 +51,7 @@ found_at rows id k d ascend within equal = has_at rows id k d ascend within (sam
 -- a search by halves that found none
 pub not_found : (rows : List ZoneRow) (id : List ℕ) (at : ℕ) → RowsAscend rows → IsBinarySearchResult (λ row. cmp row.sysmod id) rows (Err at) → state_in rows id ≡ None
 not_found rows id at ascend parted =
-    let parts = parted (rises rows id ascend) in
+    let parts = parted (rises (λ row. row.sysmod) rows id ascend) in
     none_has rows id (λ k d within. elim (cases_lt k at) [
       | inl below ↦ same_by (get_or rows k d).sysmod id Less (parts.0 k d (omega arith) below)
       | inr from ↦ same_by (get_or rows k d).sysmod id Greater (parts.1 k d from within)

@@ -1,7 +1,8 @@
 use Rattle.std.proofs.Common.{◌≡◌, ◌∙◌, ◌+◌, [], ℕ, ap, length, subst, arith}
-use Rattle.catalogue.proofs.SourceFacts.{no_fault, told_both, told_later, told_so, told_sooner}
+use Rattle.catalogue.proofs.SourceFacts.{no_fault, told_so}
 use Rattle.requisites.specs.Sources.{HasSource}
 use Rattle.supersede.specs.Giving.{is_candidate}
+use Rattle.supersede.proofs.TellingFacts.{tells_on}
 use Rattle.chains.specs.Cuts.{id_at}
 use Rattle.chains.specs.Places.{MarksAre}
 use Rattle.chains.proofs.PlaceFacts.{get_any, length-push, marks_more}
@@ -9,7 +10,6 @@ use Rattle.chains.proofs.candidates.wanted_candidates.Goals as goal
 
 pub loop-place-preserved : goal.loop-place-preserved
 loop-place-preserved g c =
-    let law = g.met.P.Published in
     let was = c.loop-place.invariant in
     let ids = c.args.ids.now in
     let wanted = c.args.wanted.now in
@@ -18,24 +18,19 @@ loop-place-preserved g c =
     let id = c.index-ids-place.result in
     let mark = c.in_ok-is_wanted_candidate.field-0 in
     let asks = c.in_ok-is_wanted_candidate.ensures.asks in
-    let sooner = law.lawful.keeps _ _ was.keeps in
-    let later = law.lawful.keeps _ _ asks.keeps in
-    let both = told_both (told_sooner was.told later) (told_later sooner later c.in_ok-is_wanted_candidate.ensures.candidate) in
     record {
-      keeps = law.lawful.on _ _ _ was.keeps asks.keeps;
-      len = ap length c.in_ok-push.ensures.items ∙ length-push c.loop-place.marks.items mark ∙ ap (λ (k : ℕ). k + 1) was.len;
-      still_open = λ standing. asks.stays_open (no_fault _) (was.still_open standing);
-      told = told_so both (λ content facts.
-          marks_more (λ p m. HasSource wanted p → m ≡ is_candidate content rows (id_at ids p)) place c.loop-place.marks.items c.push.new.self.items mark facts.0
+      has_told = tells_on g.met.P.Published.lawful was.has_told asks.keeps (asks.stays_open (no_fault _)) c.in_ok-is_wanted_candidate.ensures.candidate (λ content so_far candidate.
+          marks_more (λ p m. HasSource wanted p → m ≡ is_candidate content rows (id_at ids p)) place c.loop-place.marks.items c.push.new.self.items mark so_far
           (λ has.
-          let own : mark ≡ is_candidate content rows id = facts.1 (c.has_source.ensures.1 has) in
+          let own : mark ≡ is_candidate content rows id = candidate (c.has_source.ensures.1 has) in
           own ∙ ap (is_candidate content rows) (c.index-ids-place.is ∙ get_any ids place id [] c.loop-place-test.true))
           c.in_ok-push.ensures.items);
+      len = ap length c.in_ok-push.ensures.items ∙ length-push c.loop-place.marks.items mark ∙ ap (λ (k : ℕ). k + 1) was.len;
     }
 
 pub returns-clause-marks : goal.returns-clause-marks
 returns-clause-marks g c =
     let all : c.loop-place.place ≡ length c.args.ids.now = omega arith in
-    told_so c.loop-place.invariant.told (λ content marks.
+    told_so c.loop-place.invariant.has_told.told (λ content marks.
     let M : ℕ → Type 0 = λ n. MarksAre (λ p mark. HasSource c.args.wanted.now p → mark ≡ is_candidate content c.args.zone.now (id_at c.args.ids.now p)) n c.loop-place.marks.items in
     subst M all marks)

@@ -1,39 +1,26 @@
 use Rattle.std.proofs.Common.{◌∙◌, filter, sym, ap, subst}
 use Rattle.std.proofs.lemmas.List.Kept.{IsStrictlySortedBy-filter}
 use Rattle.catalogue.specs.Ids.{Ascend, id_cmp}
-use Rattle.catalogue.proofs.SourceFacts.{no_fault, told_both, told_later, told_so, told_sooner, was_open}
+use Rattle.catalogue.proofs.SourceFacts.{no_fault, told_so}
 use Rattle.supersede.specs.Reach.{is_other}
 use Rattle.supersede.proofs.ReachFacts.{each_gives, reach_but_itself, reach_whole}
+use Rattle.supersede.proofs.TellingFacts.{told_in_order_by_two}
 use Rattle.supersede.proofs.giving.givers.Goals as goal
 
 pub returns-in-Some-clause-givers : goal.returns-in-Some-clause-givers
 returns-in-Some-clause-givers g c =
     let law = g.met.P.Published in
-    let first = law.lawful.keeps _ _ c.in_ok-found.ensures.asks.keeps in
-    let second = law.lawful.keeps _ _ c.sysmod.ensures.asks.keeps in
-    let both = told_both (told_sooner c.in_ok-found.ensures.reach second) (told_later first second c.in_ok-sysmod.ensures.sysmod) in
-    record {
-      told = λ ours clean content stands.
-          let facts = both.told ours clean content stands in
-          let standing = was_open first.goes (was_open second.goes (c.in_ok-sysmod.ensures.asks.is_open (no_fault _))) in
-          let ascend = (law.in_order c.args.source.now content ours standing stands).sysmods in
-          reach_whole content ascend c.in_ok-found.found.items c.args.id.now c.in_ok-found.ensures.ascend (facts.0 ascend) c.in-Some.field-0 (sym c.in-Some.is ∙ facts.1);
-    }
+    told_in_order_by_two law.in_order (law.lawful.keeps _ _ c.in_ok-found.ensures.asks.keeps) (law.lawful.keeps _ _ c.sysmod.ensures.asks.keeps) (c.in_ok-sysmod.ensures.asks.is_open (no_fault _))
+    c.in_ok-found.ensures.reach c.in_ok-sysmod.ensures.sysmod (λ content ordered reached told.
+    reach_whole content ordered.sysmods c.in_ok-found.found.items c.args.id.now c.in_ok-found.ensures.ascend (reached ordered.sysmods) c.in-Some.field-0 (sym c.in-Some.is ∙ told))
 
 pub returns-in_ok-others-in-None-clause-givers : goal.returns-in_ok-others-in-None-clause-givers
 returns-in_ok-others-in-None-clause-givers g c =
     let law = g.met.P.Published in
-    let first = law.lawful.keeps _ _ c.in_ok-found.ensures.asks.keeps in
-    let second = law.lawful.keeps _ _ c.sysmod.ensures.asks.keeps in
-    let both = told_both (told_sooner c.in_ok-found.ensures.reach second) (told_later first second c.in_ok-sysmod.ensures.sysmod) in
-    record {
-      told = λ ours clean content stands.
-          let facts = both.told ours clean content stands in
-          let standing = was_open first.goes (was_open second.goes (c.in_ok-sysmod.ensures.asks.is_open (no_fault _))) in
-          let ascend = (law.in_order c.args.source.now content ours standing stands).sysmods in
-          c.in_ok-others-in-None.ensures ∙ ap (filter (is_other c.args.id.now)) c.deref.ensures.value
-          ∙ reach_but_itself content ascend c.in_ok-found.found.items c.args.id.now c.in_ok-found.ensures.ascend (facts.0 ascend) (sym c.in-None.is ∙ facts.1);
-    }
+    told_in_order_by_two law.in_order (law.lawful.keeps _ _ c.in_ok-found.ensures.asks.keeps) (law.lawful.keeps _ _ c.sysmod.ensures.asks.keeps) (c.in_ok-sysmod.ensures.asks.is_open (no_fault _))
+    c.in_ok-found.ensures.reach c.in_ok-sysmod.ensures.sysmod (λ content ordered reached told.
+    c.in_ok-others-in-None.ensures ∙ ap (filter (is_other c.args.id.now)) c.deref.ensures.value
+    ∙ reach_but_itself content ordered.sysmods c.in_ok-found.found.items c.args.id.now c.in_ok-found.ensures.ascend (reached ordered.sysmods) (sym c.in-None.is ∙ told))
 
 pub returns-in_ok-others-in-None-clause-ascend : goal.returns-in_ok-others-in-None-clause-ascend
 returns-in_ok-others-in-None-clause-ascend g c =

@@ -1,36 +1,36 @@
-use Rattle.std.proofs.Common.{◌∙◌, ap}
-use Rattle.catalogue.proofs.SourceFacts.{no_fault, told_both, told_later, told_so, told_sooner}
+use Rattle.std.proofs.Common.{◌∙◌, ap, map}
+use Rattle.std.proofs.lemmas.List.{take_all}
+use Rattle.catalogue.proofs.SourceFacts.{no_fault, told_both, told_so}
+use Rattle.supersede.proofs.TellingFacts.{tells_on, told_by_two}
 use Rattle.chains.specs.Judge.{status_of}
 use Rattle.chains.specs.Verdicts.{verdict_of}
 use Rattle.chains.proofs.PlaceFacts.{made_more}
 use Rattle.chains.proofs.judge.Judge.statuses.Goals as goal
 
+pub loop-id-preserved : goal.loop-id-preserved
+loop-id-preserved g c =
+    let asks = c.verdict.ensures.asks in
+    tells_on g.met.P.Published.lawful c.loop-id.invariant asks.keeps (c.in_ok-verdict.ensures.asks.stays_open (no_fault _)) (told_both c.in_ok-verdict.ensures.verdict c.verdict.ensures.right) (λ content so_far told held.
+    let was = so_far held in (
+      made_more (λ id. status_of (verdict_of content c.args.zone.now id)) c.args.ids.now c.loop-id.id-index c.id-item.result c.status.result c.loop-id.statuses.items c.push.new.self.items
+          c.loop-id-test.true c.id-item.is was.0 c.in_ok-push.ensures.items (c.status.ensures ∙ ap status_of (told.0 was.1)),
+      told.1 was.1,
+    ))
+
 pub returns-in_err-verdict-clause-right : goal.returns-in_err-verdict-clause-right
 returns-in_err-verdict-clause-right g c =
-    let law = g.met.P.Published in
-    let sooner = law.lawful.keeps _ _ c.loop-id.invariant.keeps in
-    let later = law.lawful.keeps _ _ c.verdict.ensures.asks.keeps in
-    told_so (told_both (told_sooner c.loop-id.invariant.right later) (told_later sooner later c.verdict.ensures.right)) (λ content facts held. facts.1 (facts.0 held))
+    let law = g.met.P.Published.lawful in
+    told_by_two (law.keeps _ _ c.loop-id.invariant.keeps) (law.keeps _ _ c.verdict.ensures.asks.keeps) c.loop-id.invariant.told c.verdict.ensures.right (λ content so_far right held. right (so_far held).1)
 
 pub returns-in_err-push-clause-right : goal.returns-in_err-push-clause-right
 returns-in_err-push-clause-right g c =
-    let law = g.met.P.Published in
-    let sooner = law.lawful.keeps _ _ c.loop-id.invariant.keeps in
-    let later = law.lawful.keeps _ _ c.verdict.ensures.asks.keeps in
-    told_so (told_both (told_sooner c.loop-id.invariant.right later) (told_later sooner later c.verdict.ensures.right)) (λ content facts held. facts.1 (facts.0 held))
+    let law = g.met.P.Published.lawful in
+    told_by_two (law.keeps _ _ c.loop-id.invariant.keeps) (law.keeps _ _ c.verdict.ensures.asks.keeps) c.loop-id.invariant.told c.verdict.ensures.right (λ content so_far right held. right (so_far held).1)
 
-pub loop-id-preserved : goal.loop-id-preserved
-loop-id-preserved g c =
-    let law = g.met.P.Published in
-    let sooner = law.lawful.keeps _ _ c.loop-id.invariant.keeps in
-    let later = law.lawful.keeps _ _ c.verdict.ensures.asks.keeps in
-    let so_far = told_both (told_sooner c.loop-id.invariant.told later) (told_sooner c.loop-id.invariant.right later) in
-    let all = told_both so_far (told_later sooner later c.in_ok-verdict.ensures.verdict) in
-    record {
-      keeps = law.lawful.on _ _ _ c.loop-id.invariant.keeps c.verdict.ensures.asks.keeps;
-      still_open = λ standing. c.in_ok-verdict.ensures.asks.stays_open (no_fault _) (c.loop-id.invariant.still_open standing);
-      told = told_so all (λ content facts held.
-          made_more (λ id. status_of (verdict_of content c.args.zone.now id)) c.args.ids.now c.loop-id.id-index c.id-item.result c.status.result c.loop-id.statuses.items c.push.new.self.items
-          c.loop-id-test.true c.id-item.is (facts.0.0 held) c.in_ok-push.ensures.items (c.status.ensures ∙ ap status_of (facts.1 (facts.0.1 held))));
-      right = told_so (told_both (told_sooner c.loop-id.invariant.right later) (told_later sooner later c.verdict.ensures.right)) (λ content facts held. facts.1 (facts.0 held));
-    }
+pub returns-clause-right : goal.returns-clause-right
+returns-clause-right g c = told_so c.loop-id.invariant.told (λ content so_far held. (so_far held).1)
+
+pub returns-clause-statuses : goal.returns-clause-statuses
+returns-clause-statuses g c =
+    told_so c.loop-id.invariant.told (λ content so_far held.
+    (so_far held).0 ∙ ap (map (λ id. status_of (verdict_of content c.args.zone.now id))) (take_all c.loop-id.id-index c.args.ids.now c.loop-id-test.false))
