@@ -97,7 +97,7 @@ module _ {Store Judge : Type 0} (view : View Store Tables) (is_right : Judge →
       → IsAnswered (bureau_view view is_right) (record { store = old; judge = judge }) (record { store = mid; judge = now }) turn
   unchanged {judge = judge} {now = now} turn keeps right step told = record {
     goes = as_bureau judge now keeps.goes;
-    shut = told;
+    closed = told;
     turn_made = record {
       told = λ ours clean this stands among. (
         this,
@@ -148,7 +148,7 @@ module _ {Store Judge : Type 0} (view : View Store Tables) (is_right : Judge →
         → IsAnswered (bureau_view view is_right) (record { store = old; judge = judge }) (record { store = new; judge = after }) (turn_of caller call answer)
     change_not_made failed none kept = record {
       goes = as_bureau judge after (goes_on keeps.goes makes.goes);
-      shut = inr (inl none);
+      closed = inr (inl none);
       turn_made = record {
         told = λ ours clean this stands among.
             let between = makes.goes.clean clean in
@@ -173,7 +173,7 @@ module _ {Store Judge : Type 0} (view : View Store Tables) (is_right : Judge →
         → IsAnswered (bureau_view view is_right) (record { store = old; judge = judge }) (record { store = new; judge = after }) (turn_of caller call (reply_as reply))
     change_made done reply is told order ready = record {
       goes = as_bureau judge after (goes_on keeps.goes makes.goes);
-      shut = inl (made_open (update_of change) result done is makes);
+      closed = inl (made_open (update_of change) result done is makes);
       turn_made = record {
         told = λ ours clean this stands among.
             let between = makes.goes.clean clean in

@@ -30,9 +30,9 @@ told_nothing this next turn (inl no_room_told) (inr made) = made.1 ∙ by (outco
 told_nothing this next turn (inr not_allowed) (inr made) = made.1 ∙ not_asked turn.caller turn this refl not_allowed
 
 -- a count is 0 or not
-open_or_shut : (count : ℕ) → (count ≡ 0) ⊎ (count ≡ 0 → ⊥)
-open_or_shut zero = inl refl
-open_or_shut (suc count) = inr (λ is. absurd (cc is))
+open_or_closed : (count : ℕ) → (count ≡ 0) ⊎ (count ≡ 0 → ⊥)
+open_or_closed zero = inl refl
+open_or_closed (suc count) = inr (λ is. absurd (cc is))
 
 module _ {Desk : Type 0} (view : View Desk Tables) where
   -- the run that it is
@@ -92,60 +92,60 @@ module _ {Desk : Type 0} (view : View Desk Tables) where
 
   -- ---- what a stop may leave
 
-  -- after the turn that shut the desk nothing changes, nor what a stop may leave
-  shut_run : (old new : Desk) (this : Tables) (turns : List Turn) (next : Tables) → (IsOpen view old → ⊥) → IsKeptRun view old new this turns next
+  -- after the turn that closed the desk nothing changes, nor what a stop may leave
+  closed_run : (old new : Desk) (this : Tables) (turns : List Turn) (next : Tables) → (IsOpen view old → ⊥) → IsKeptRun view old new this turns next
       → (next ≡ this) × ((left : Tables) → view.may_leave new left → view.may_leave old left)
-  shut_run old new this [] next shut kept = (kept.0, kept.1.leaves)
-  shut_run old new this (turn ∷ turns) next shut kept =
+  closed_run old new this [] next closed kept = (kept.0, kept.1.leaves)
+  closed_run old new this (turn ∷ turns) next closed kept =
       let step = kept.2 in
-      let still_shut : IsOpen view kept.0 → ⊥ = λ is_open. shut (was_open step.goes is_open) in
-      let later = shut_run kept.0 new kept.1 turns next still_shut kept.3 in
+      let still_closed : IsOpen view kept.0 → ⊥ = λ is_open. closed (was_open step.goes is_open) in
+      let later = closed_run kept.0 new kept.1 turns next still_closed kept.3 in
       (later.0 ∙ same step.told, λ left h. by left (step.leaves left (later.1 left h)))
     where
       same : (IsOpen view kept.0) ⊎ IsToldOfNoTables turn → kept.1 ≡ this
-      same (inl is_open) = absurd (shut (was_open kept.2.goes is_open))
+      same (inl is_open) = absurd (closed (was_open kept.2.goes is_open))
       same (inr told) = told_nothing this kept.1 turn told kept.2.step
 
       by : (left : Tables) → view.may_leave old left ⊎ (IsOpen view old × (left ≡ tables_with turn this)) → view.may_leave old left
       by left (inl h) = h
-      by left (inr h) = absurd (shut h.0)
+      by left (inr h) = absurd (closed h.0)
 
-  -- a desk that is shut tells nothing from the tables, and stays shut
-  told_shut : (old new : Desk) (this : Tables) (turns : List Turn) (next : Tables) → (IsOpen view old → ⊥) → IsKeptRun view old new this turns next
+  -- a desk that is closed tells nothing from the tables, and stays closed
+  told_closed : (old new : Desk) (this : Tables) (turns : List Turn) (next : Tables) → (IsOpen view old → ⊥) → IsKeptRun view old new this turns next
       → TellNothing turns × (IsOpen view new → ⊥)
-  told_shut old new this [] next shut kept = (tt, λ is_open. shut (was_open kept.1.goes is_open))
-  told_shut old new this (turn ∷ turns) next shut kept =
-      let later = told_shut kept.0 new kept.1 turns next (λ is_open. shut (was_open kept.2.goes is_open)) kept.3 in
+  told_closed old new this [] next closed kept = (tt, λ is_open. closed (was_open kept.1.goes is_open))
+  told_closed old new this (turn ∷ turns) next closed kept =
+      let later = told_closed kept.0 new kept.1 turns next (λ is_open. closed (was_open kept.2.goes is_open)) kept.3 in
       ((nothing kept.2.told, later.0), later.1)
     where
       nothing : (IsOpen view kept.0) ⊎ IsToldOfNoTables turn → IsToldOfNoTables turn
-      nothing (inl is_open) = absurd (shut (was_open kept.2.goes is_open))
+      nothing (inl is_open) = absurd (closed (was_open kept.2.goes is_open))
       nothing (inr told) = told
 
   -- what a stop may leave after a first turn, where it is known for a desk that is open after it
   left_after : (old new : Desk) (this : Tables) (turn : Turn) (turns : List Turn) (next : Tables) (kept : IsKeptRun view old new this (turn ∷ turns) next)
       → IsOpen view old → Rests view old this → (left : Tables) → view.may_leave new left → (IsOpen view kept.0 → MayBeLeft view new turns next left)
       → MayBeLeft view new (turn ∷ turns) next left
-  left_after old new this turn turns next kept is_open rests left h if_open = by (open_or_shut (view.failures kept.0))
+  left_after old new this turn turns next kept is_open rests left h if_open = by (open_or_closed (view.failures kept.0))
     where
       later : MayBeLeft view new turns next left → MayBeLeft view new (turn ∷ turns) next left
       later (inl is) = inl is
       later (inr flight) = inr (flight.0, inr flight.1)
 
-      shut_by : (next ≡ this) → TellNothing turns × (IsOpen view new → ⊥) → IsToldOfNoTables turn → view.may_leave old left ⊎ (IsOpen view old × (left ≡ tables_with turn this)) → MayBeLeft view new (turn ∷ turns) next left
-      shut_by stays rest told (inl before) = inl (rests is_open left before ∙ sym stays)
-      shut_by stays rest (inl none) (inr made) = inr (rest.1, inl (none, rest.0, made.1 ∙ ap (tables_with turn) (sym stays)))
-      shut_by stays rest (inr not_allowed) (inr made) = inl (made.1 ∙ not_asked turn.caller turn this refl not_allowed ∙ sym stays)
+      closed_by : (next ≡ this) → TellNothing turns × (IsOpen view new → ⊥) → IsToldOfNoTables turn → view.may_leave old left ⊎ (IsOpen view old × (left ≡ tables_with turn this)) → MayBeLeft view new (turn ∷ turns) next left
+      closed_by stays rest told (inl before) = inl (rests is_open left before ∙ sym stays)
+      closed_by stays rest (inl none) (inr made) = inr (rest.1, inl (none, rest.0, made.1 ∙ ap (tables_with turn) (sym stays)))
+      closed_by stays rest (inr not_allowed) (inr made) = inl (made.1 ∙ not_asked turn.caller turn this refl not_allowed ∙ sym stays)
 
       in_turn : (IsOpen view kept.0 → ⊥) → (IsOpen view kept.0) ⊎ IsToldOfNoTables turn → MayBeLeft view new (turn ∷ turns) next left
-      in_turn shut (inl still) = absurd (shut still)
-      in_turn shut (inr told) =
-          let rest = shut_run kept.0 new kept.1 turns next shut kept.3 in
-          shut_by (rest.0 ∙ told_nothing this kept.1 turn told kept.2.step) (told_shut kept.0 new kept.1 turns next shut kept.3) told (kept.2.leaves left (rest.1 left h))
+      in_turn closed (inl still) = absurd (closed still)
+      in_turn closed (inr told) =
+          let rest = closed_run kept.0 new kept.1 turns next closed kept.3 in
+          closed_by (rest.0 ∙ told_nothing this kept.1 turn told kept.2.step) (told_closed kept.0 new kept.1 turns next closed kept.3) told (kept.2.leaves left (rest.1 left h))
 
       by : (IsOpen view kept.0) ⊎ (IsOpen view kept.0 → ⊥) → MayBeLeft view new (turn ∷ turns) next left
       by (inl still) = later (if_open still)
-      by (inr shut) = in_turn shut kept.2.told
+      by (inr closed) = in_turn closed kept.2.told
 
   -- a stop loses nothing that was acknowledged
   pub loses_nothing : (old new : Desk) (this : Tables) (turns : List Turn) (next : Tables) → IsKeptRun view old new this turns next

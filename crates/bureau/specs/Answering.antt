@@ -64,7 +64,7 @@ bureau_lawful view is_right lawful = record {
 -- A call is answered: where one of the callers asks, it is a turn of the bureau that all callers share.
 pub record IsAnswered {Desk : Type 0} (view : View Desk Tables) (old new : Desk) (turn : Turn) : Type 0 where
   pub goes : Goes view old new
-  pub shut : IsOpen view new ⊎ IsToldOfNoTables turn
+  pub closed : IsOpen view new ⊎ IsToldOfNoTables turn
   pub turn_made : Tells view old new (λ this. IsAmong this.callers turn.caller → (next : Tables) × IsKeptStep view old new this turn next)
 
 -- the turns of calls with their answers, as far as both go

@@ -35,7 +35,7 @@ module _ {Desk : Type 0} (view : View Desk Tables) where
     pub leaves : (left : Tables) → view.may_leave new left → view.may_leave old left ⊎ (IsOpen view old × (left ≡ tables_with turn this))
     pub rests : Rests old this → Rests new next
 
-  -- A run from one desk to another, with the desk as each turn leaves it: from the turn that shuts it on, nothing is told
+  -- A run from one desk to another, with the desk as each turn leaves it: from the turn that closes it on, nothing is told
   -- from the tables.
   abbrev pub IsKeptRun : Desk → Desk → Tables → List Turn → Tables → Type 0
   IsKeptRun old new this [] next = (next ≡ this) × Idles old new next
@@ -54,7 +54,7 @@ IsWithOneRefused this [] left = ⊥
 IsWithOneRefused this (turn ∷ turns) left =
     ((turn.answer ≡ no_room) × TellNothing turns × (left ≡ tables_with turn this)) ⊎ IsWithOneRefused this turns left
 
--- What a stop may leave after a run: the tables after it; or, of a desk that is shut, those with the change of a turn that
+-- What a stop may leave after a run: the tables after it; or, of a desk that is closed, those with the change of a turn that
 -- was told 503, after which nothing was told from the tables.
 abbrev pub MayBeLeft : {Desk : Type 0} → View Desk Tables → Desk → List Turn → Tables → Tables → Type 0
 MayBeLeft view new turns next left = (left ≡ next) ⊎ ((IsOpen view new → ⊥) × IsWithOneRefused next turns left)

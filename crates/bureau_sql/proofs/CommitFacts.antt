@@ -12,12 +12,11 @@ use Rattle.sql_tables.specs.Stored.{Stored}
 use Rattle.sql_state.specs.Ours.{IsOurs, held_by}
 use Rattle.sql_state.specs.Writing.{Changes, IsKnown}
 use Rattle.bureau_sql.specs.Committed.{AreChanged, HaveChange, IsCommitted}
-use Rattle.bureau_sql.specs.Laws.{clean_before, no_read}
-use Rattle.bureau_sql.proofs.PlainFacts.{failed_keeps, unchanged_keeps}
+use Rattle.sql_state.proofs.StopFacts.{kept_begun, kept_failing, kept_then, kept_unchanged, no_read, was_clean}
 
 failed_commit_keeps : (old new : State) (e : Error) → FailsToCommit old new e → KeepsCommit old new
-failed_commit_keeps old new e (inl failed) = failed_keeps old new e failed
-failed_commit_keeps old new e (inr ended) = unchanged_keeps old new ended.2
+failed_commit_keeps old new e (inl failed) = kept_failing old new ⊥ e failed
+failed_commit_keeps old new e (inr ended) = kept_unchanged old new ended.2
 
 pub refused_commit : {Done : Type 0} (old new : State) (result : Result Done Error) → (HasCleanDisk new → IfErr result (FailsToCommit old new))
     → OnErr result (HasCleanDisk new → KeepsCommit old new)
@@ -31,10 +30,7 @@ module _ (old begun mid new : State) (change : Stored → Stored) (same_now : be
   known is_open ours = subst IsKnown (sym (same_now ∙ settled is_open)) (record { schema = ours.schema; sound = (live is_open).1; numbered = ours.rows.numbered })
 
   kept : KeepsCommit begun mid → KeepsCommit mid new → KeepsCommit old new
-  kept first then = record {
-    was_open = λ h. subst IsTrue same_open (first.was_open (then.was_open h));
-    committed = λ h. then.committed h ∙ first.committed (then.was_open h) ∙ same_committed;
-  }
+  kept first then = kept_then old begun new (kept_begun old begun same_committed same_open) (kept_then begun mid new first then)
 
   was_open : KeepsCommit begun mid → IsTrue mid.is_open → IsTrue old.is_open
   was_open first is_open = subst IsTrue same_open (first.was_open is_open)
@@ -71,7 +67,7 @@ module _ (old begun mid new : State) (change : Stored → Stored) (same_now : be
   }
     where
       before : HasCleanDisk new → HasCleanDisk mid
-      before = clean_before (λ trees. IsOk written × (trees ≡ mid.now.trees)) mid new survives
+      before = was_clean mid new (λ trees. IsOk written × (trees ≡ mid.now.trees)) survives
 
       done : (result : Result Done Refusal) → OnOk result (IsOk written × (HasCleanDisk new → Shows mid new mid.now mid.now false))
           → OnOk result (HasCleanDisk new → IsTrue new.is_open × (IsOurs old.committed → (new.committed.schema ≡ bureau) × HaveChange old.committed change new.committed.trees))

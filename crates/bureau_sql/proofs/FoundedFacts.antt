@@ -19,16 +19,13 @@ use Rattle.sql_writes.specs.Making.{IsOpened, Leads}
 use Rattle.bureau_sql.specs.Founded.{AreLed, IsLed}
 use Rattle.bureau_sql.specs.SqlState.{SqlState}
 use Rattle.bureau_sql.specs.SqlView.{IsAtRest, IsOurStore, shown, sql_view}
-use Rattle.bureau_sql.specs.Laws.{clean_before, no_read}
+use Rattle.sql_state.proofs.StopFacts.{kept_begun, kept_then, no_read, was_clean}
 
 -- The connection at rest, as its transaction begins, after what was written, and after the end.
 module _ (old begun mid new : State) (From To : Database → Type 0) (same_now : begun.now ≡ old.now) (same_committed : begun.committed ≡ old.committed)
     (same_open : begun.is_open ≡ old.is_open) (inside : IsTrue begun.in_transaction) (settled : IsTrue old.is_open → old.now ≡ old.committed) where
   kept : KeepsCommit begun mid → KeepsCommit mid new → KeepsCommit old new
-  kept first then = record {
-    was_open = λ h. subst IsTrue same_open (first.was_open (then.was_open h));
-    committed = λ h. then.committed h ∙ first.committed (then.was_open h) ∙ same_committed;
-  }
+  kept first then = kept_then old begun new (kept_begun old begun same_committed same_open) (kept_then begun mid new first then)
 
   written_so : {Answer Fault : Type 0} (written : Result Answer Fault) → Leads begun mid written From To → IsOk written → HasCleanDisk mid
       → IsTrue old.is_open × IsTrue mid.is_open × (From old.committed → To mid.now)
@@ -50,7 +47,7 @@ module _ (old begun mid new : State) (From To : Database → Type 0) (same_now :
   }
     where
       before : HasCleanDisk new → HasCleanDisk mid
-      before = clean_before (λ trees. IsOk written × (trees ≡ mid.now.trees)) mid new survives
+      before = was_clean mid new (λ trees. IsOk written × (trees ≡ mid.now.trees)) survives
 
       done : (result : Result Done Refusal) → OnOk result (IsOk written × (HasCleanDisk new → Shows mid new mid.now mid.now false))
           → OnOk result (HasCleanDisk new → IsTrue old.is_open × IsTrue new.is_open × (From old.committed → To new.committed))

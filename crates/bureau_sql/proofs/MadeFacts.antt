@@ -1,6 +1,5 @@
 -- A change of a connection, and how it is told, are a change of the store.
-use Rattle.std.proofs.Common.{◌≡◌, ◌∙◌, ◌⊎◌, ◌≤◌, ℕ, Err, IfErr, IsTrue, Ok, OnOk, Result, ap, arith, inl, inr, refl, subst, sym}
-use Rattle.catalogue.specs.View.{HasFailed}
+use Rattle.std.proofs.Common.{◌≡◌, ◌∙◌, ◌⊎◌, ℕ, Err, IfErr, IsTrue, Ok, OnOk, Result, ap, arith, inl, inr, refl, subst, sym}
 use Rattle.bureau_store.specs.Effect.{Effect, publication, zone_put, zone_dropped, received_put, patterns_put}
 use Rattle.bureau_store.specs.Store.{HasZone, IsDue, IsOfCall, IsSettled, Makes, Update, updated, zones_of}
 use Rattle.bureau_store.specs.Tables.{Tables}
@@ -21,7 +20,7 @@ use Rattle.sql_tables.proofs.ChangeFacts.{change_made}
 use Rattle.sql_tables.proofs.WholeFacts.{whole_after}
 use Rattle.sql_state.specs.Ours.{AreOurs, IsOurs, held_by}
 use Rattle.bureau_sql.specs.Committed.{AreChanged, HaveChange, IsCommitted}
-use Rattle.bureau_sql.specs.Laws.{clean_before}
+use Rattle.sql_state.proofs.StopFacts.{was_clean}
 use Rattle.bureau_sql.specs.Outgrown.{HasNoRoom}
 use Rattle.bureau_sql.specs.SqlState.{SqlState}
 use Rattle.bureau_sql.specs.SqlView.{IsOurStore, shown, sql_view}
@@ -61,25 +60,6 @@ module _ {S : Type 0} (g : Ghosts S) (update : Update) (can : CanBeWritten updat
       → IsSettled (sql_view g) store
   settles store rests ours clean standing this stands left may =
       sym may.2 ∙ ap (λ trees. tables_of (stored_in trees)) (rests may.0 (ours.1 standing).0 may.1) ∙ stands standing
-
-  -- a store that is shut refuses each change, and its connection is as it was
-  pub shut_makes : {Done : Type 0} (old new : SqlState S) → new.conn ≡ old.conn → HasFailed (sql_view g) old new → old.failures ≤ new.failures
-      → Makes (sql_view g) {Done = Done} HasNoRoom update old new (Err Device)
-  shut_makes old new same failed rise = record {
-    goes = record {
-      clean = λ clean. subst (λ it. HasCleanDisk (state g it)) same clean;
-      ours = λ ours clean. (λ trees may. ours.0 trees (subst (λ conn. (state g conn).may_leave trees) same may), λ standing. absurd (never_failed g old new failed standing));
-      failures_rise = rise;
-    };
-    done = tt;
-    refused = λ ours clean this stands standing. absurd (never_failed g old new failed standing);
-    refusal = tt;
-    cause = λ is. failed;
-    is_open = λ none. absurd (none refl);
-    size = λ is. absurd cc;
-    crash = λ ours clean this due stands left may. inl (may.0, subst (λ conn. (state g conn).may_leave may.0) same may.1, may.2);
-    settled = λ ours clean standing. absurd (never_failed g old new failed standing);
-  }
 
   module _ (old mid new : SqlState S) (standing : old.failures ≡ 0) (same : mid.failures ≡ old.failures)
       (rests : (trees : Trees) → IsTrue (shown g new).is_open → (shown g new).may_leave trees → trees ≡ (shown g new).committed.trees) where
@@ -126,7 +106,7 @@ module _ {S : Type 0} (g : Ghosts S) (update : Update) (can : CanBeWritten updat
         let after = ours_after {Refusal = Refusal} (Ok b) committed in
         record {
           goes = record {
-            clean = clean_before (AreChanged (shown g old) (change_of update)) (shown g old) (shown g mid) committed.survives;
+            clean = was_clean (shown g old) (shown g mid) (AreChanged (shown g old) (change_of update)) committed.survives;
             ours = λ ours clean. (ours_left {Refusal = Refusal} (Ok b) committed clean ours, λ standing_so. let it = after ours clean in (it.0, it.1));
             failures_rise = omega (arith, same);
           };
@@ -182,10 +162,10 @@ module _ {S : Type 0} (g : Ghosts S) (update : Update) (can : CanBeWritten updat
         }
       where
         between : HasCleanDisk (shown g new) → HasCleanDisk (shown g mid)
-        between = clean_before (λ trees. ⊥) (shown g mid) (shown g new) told.reads.survives
+        between = was_clean (shown g mid) (shown g new) (λ trees. ⊥) told.reads.survives
 
         before : HasCleanDisk (shown g mid) → HasCleanDisk (shown g old)
-        before = clean_before (AreChanged (shown g old) (change_of update)) (shown g old) (shown g mid) committed.survives
+        before = was_clean (shown g old) (shown g mid) (AreChanged (shown g old) (change_of update)) committed.survives
 
         still_open : new.failures ≡ 0 → HasCleanDisk (shown g new) → IsTrue (shown g new).is_open
         still_open standing_so clean = elim told.refused [

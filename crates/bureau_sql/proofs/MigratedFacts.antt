@@ -14,7 +14,7 @@ use Rattle.sql_state.specs.Reading.{OnlyReads}
 use Rattle.sql_tables.specs.Stored.{tables_of}
 use Rattle.sql_tables.specs.Whole.{IsWhole}
 use Rattle.sql_writes.specs.Migrating.{HeldEarlier, HoldsAll}
-use Rattle.bureau_sql.specs.Laws.{clean_before}
+use Rattle.sql_state.proofs.StopFacts.{kept_then, was_clean}
 use Rattle.bureau_sql.specs.Migrated.{AreMigrated, IsMigrated, IsUntouched}
 use Rattle.bureau_sql.specs.Opening.{IsNotEarlier}
 use Rattle.bureau_sql.specs.SqlState.{SqlState}
@@ -48,7 +48,7 @@ reads_survive old new reads = record {
 
 module _ (old mid new : State) (reads : OnlyReads old mid) (is_open : HasCleanDisk mid → IsTrue mid.is_open) {A F : Type 0} (result : Result A F) (led : IsMigrated mid new result) where
   at_mid : HasCleanDisk new → HasCleanDisk mid
-  at_mid = clean_before (AreMigrated mid) mid new led.survives
+  at_mid = was_clean mid new (AreMigrated mid) led.survives
 
   same : HasCleanDisk mid → mid.committed ≡ old.committed
   same clean = (reads.keeps clean).committed (is_open clean)
@@ -80,25 +80,19 @@ module _ (old mid new : State) (reads : OnlyReads old mid) (is_open : HasCleanDi
     where
       by : (r : Result A F) → OnErr r (HasCleanDisk new → KeepsCommit mid new) → OnErr r (HasCleanDisk new → KeepsCommit old new)
       by (Ok a) refused = tt
-      by (Err e) refused = λ clean.
-          let before = reads.keeps (at_mid clean) in
-          let after = refused clean in
-          record { was_open = λ h. before.was_open (after.was_open h); committed = λ h. after.committed h ∙ before.committed (after.was_open h) }
+      by (Err e) refused = λ clean. kept_then old mid new (reads.keeps (at_mid clean)) (refused clean)
 
 -- ---- a refusal of the transaction, after which the connection is looked at
 
 module _ (old mid new : State) (reads : OnlyReads mid new) where
   clean_mid : HasCleanDisk new → HasCleanDisk mid
-  clean_mid = clean_before (λ trees. ⊥) mid new reads.survives
+  clean_mid = was_clean mid new (λ trees. ⊥) reads.survives
 
   pub refused_survives : Survives old mid (AreMigrated old) → Survives old new (AreMigrated old)
   refused_survives survives = survives_then old mid new (AreMigrated old) (λ trees. ⊥) (AreMigrated old) (λ clean trees made. made) (λ clean trees none. absurd none) survives reads.survives
 
   pub refused_keeps : (HasCleanDisk mid → KeepsCommit old mid) → HasCleanDisk new → KeepsCommit old new
-  refused_keeps keeps clean =
-      let before = keeps (clean_mid clean) in
-      let after = reads.keeps clean in
-      record { was_open = λ h. before.was_open (after.was_open h); committed = λ h. after.committed h ∙ before.committed (after.was_open h) }
+  refused_keeps keeps clean = kept_then old mid new (keeps (clean_mid clean)) (reads.keeps clean)
 
   pub refused_untouched : (HasCleanDisk mid → KeepsCommit old mid) → (HasCleanDisk new → IsTrue new.is_open) → IsAtRest new → IsUntouched old new
   refused_untouched keeps is_open rests = record {

@@ -25,7 +25,7 @@ use Rattle.sql_tables.specs.Stored.{tables_of}
 use Rattle.sql_texts.specs.Meaning.{MakesTable, Reads}
 use Rattle.sql_texts.specs.Reads as read
 use Rattle.sql_texts.specs.Schema.{bureau, bureau_1, sysmod_cond}
-use Rattle.bureau_sql.specs.Laws.{clean_before, no_read, read_on}
+use Rattle.sql_state.proofs.StopFacts.{no_read, read_on, was_clean}
 use Rattle.bureau_sql.specs.Opening.{CanMakeConditions, HasConditions, HasTables, IsNoStore, IsNone, IsNotEarlier, IsOfBureau, IsOther, IsSeen, IsUnderstood, LacksTables, TellsVersion}
 use Rattle.bureau_sql.specs.SqlState.{SqlState}
 use Rattle.bureau_sql.specs.SqlView.{IsAtRest, IsOurStore, shown, sql_view}
@@ -66,7 +66,7 @@ pub meant_so_far : (texts : List (Bor (List ℕ))) (i : ℕ) (none : Bor (List �
     → i < length texts → (HasCleanDisk mid → IsTrue mid.is_open → AreMeant old (take i texts))
     → (HasCleanDisk new → IsUnderstood mid.committed.schema (get_or texts i none).now) → HasCleanDisk new → IsTrue new.is_open → AreMeant old (take (i + 1) texts)
 meant_so_far texts i none old mid new sooner later low so_far one clean is_open =
-    let before = clean_before (λ trees. ⊥) mid new later.survives clean in
+    let before = was_clean mid new (λ trees. ⊥) later.survives clean in
     let was = (later.keeps clean).was_open is_open in
     all_so_far (λ text. IsUnderstood old.committed.schema text.now) texts i (get_or texts i none) low (one_within texts i none (get_or texts i none) low) (so_far before was)
     (subst (λ database. IsUnderstood database.schema (get_or texts i none).now) ((sooner.keeps before).committed was) (one clean))
@@ -87,8 +87,8 @@ pub found_where_open : {A F : Type 0} (Fact : Database → Type 0) (old first se
     → OnOk result (HasCleanDisk last → Fact old.committed)
 found_where_open Fact old first second last (Err fault) one two three is_open fact = tt
 found_where_open Fact old first second last (Ok done) one two three is_open fact = λ clean.
-    let at_second = clean_before (λ trees. ⊥) second last three.survives clean in
-    let at_first = clean_before (λ trees. ⊥) first second two.survives at_second in
+    let at_second = was_clean second last (λ trees. ⊥) three.survives clean in
+    let at_first = was_clean first second (λ trees. ⊥) two.survives at_second in
     let open_second = (three.keeps clean).was_open (is_open clean) in
     subst Fact ((one.keeps at_first).committed ((two.keeps at_second).was_open open_second)) (fact at_second open_second)
 
@@ -98,8 +98,8 @@ found_where_open Fact old first second last (Ok done) one two three is_open fact
 pub found_before : (Fact : Database → Type 0) (old first second last : State) → OnlyReads old first → OnlyReads first second → OnlyReads second last
     → (HasCleanDisk second → IsTrue second.is_open) → (HasCleanDisk second → Fact first.committed) → HasCleanDisk last → Fact old.committed
 found_before Fact old first second last one two three is_open fact clean =
-    let at_second = clean_before (λ trees. ⊥) second last three.survives clean in
-    let at_first = clean_before (λ trees. ⊥) first second two.survives at_second in
+    let at_second = was_clean second last (λ trees. ⊥) three.survives clean in
+    let at_first = was_clean first second (λ trees. ⊥) two.survives at_second in
     let was_open = (two.keeps at_second).was_open (is_open at_second) in
     subst Fact ((one.keeps at_first).committed was_open) (fact at_second)
 
@@ -169,7 +169,7 @@ pub seen_before : (Shaped Versioned Shape_there Version_there : Database → Typ
 seen_before Shaped Versioned Shape_there Version_there old mid last fault sooner later shape version seen clean = by fault (seen clean)
   where
     kept : KeepsCommit old mid
-    kept = sooner.keeps (clean_before (λ trees. ⊥) mid last later.survives clean)
+    kept = sooner.keeps (was_clean mid last (λ trees. ⊥) later.survives clean)
 
     by : (fault : StoreFault) → IsSeen Shaped Versioned mid fault → IsSeen Shape_there Version_there old fault
     by Memory it = tt

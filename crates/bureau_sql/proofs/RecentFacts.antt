@@ -13,7 +13,7 @@ use Rattle.sql_state.specs.Reading.{OnlyReads}
 use Rattle.sqlite_trees.specs.declared.store.Store.{Ghosts}
 use Rattle.zone_lists.specs.declared.zones.ZoneRow.{ZoneRow}
 use Rattle.sql_tables.specs.Stored.{Stored, tables_of}
-use Rattle.bureau_sql.specs.Laws.{clean_before, no_read}
+use Rattle.sql_state.proofs.StopFacts.{no_read, was_clean}
 use Rattle.bureau_sql.specs.Recent.{AreReadFrom, AreZonesOf, HasMore, IsRecent, RecentLists, nothing_read}
 use Rattle.bureau_sql.specs.SqlState.{SqlState}
 use Rattle.bureau_sql.specs.SqlView.{shown, sql_view, tables_in}
@@ -34,10 +34,10 @@ module _ (old new : State) (reads : OnlyReads old new) (Fact : Stored → Type 0
   pub fact_after : (HasCleanDisk old → IsTrue old.is_open → IsOurs old.committed → Fact (held_by old.committed))
       → HasCleanDisk new → IsTrue new.is_open → IsOurs new.committed → Fact (held_by new.committed)
   fact_after before clean is_open ours =
-      let was_clean = clean_before (λ trees. ⊥) old new reads.survives clean in
+      let clean_before = was_clean old new (λ trees. ⊥) reads.survives clean in
       let kept = reads.keeps clean in
       let same = kept.committed is_open in
-      subst (λ database. Fact (held_by database)) (sym same) (before was_clean (kept.was_open is_open) (subst IsOurs same ours))
+      subst (λ database. Fact (held_by database)) (sym same) (before clean_before (kept.was_open is_open) (subst IsOurs same ours))
 
 pub recent_after : (old new : State) (recent : RecentLists) → OnlyReads old new → IsRecent old recent → IsRecent new recent
 recent_after old new recent reads was = fact_after old new reads (λ stored. AreReadFrom (tables_of stored) recent) was

@@ -9,7 +9,8 @@ use Rattle.sqlite_trees.specs.declared.store.Store.{Ghosts}
 use Rattle.sql_tables.specs.Stored.{Stored, tables_of}
 use Rattle.sql_state.specs.Ours.{IsOurs, held_by}
 use Rattle.sql_state.specs.Reading.{Finds, OnlyReads}
-use Rattle.bureau_sql.specs.Laws.{no_read, read_on, sql_content_view}
+use Rattle.sql_state.proofs.StopFacts.{no_read, read_on}
+use Rattle.bureau_sql.specs.Laws.{sql_content_view}
 use Rattle.bureau_sql.specs.SqlState.{SqlState}
 use Rattle.bureau_sql.specs.SqlView.{Stays, shown, sql_view}
 use Rattle.bureau_sql.specs.Told.{IsTold}
@@ -76,10 +77,10 @@ module _ {S : Type 0} (g : Ghosts S) where
     }
     tells Meaning means (Err refusal) told = tt
 
-  -- a store that is shut refuses each read, and its connection is as it was
-  pub shut_asks : {Answer Refusal : Type 0} (device : Refusal) (old new : SqlState S) → new.conn ≡ old.conn → HasFailed (sql_view g) old new → old.failures ≤ new.failures
+  -- a store that is closed refuses each read, and its connection is as it was
+  pub closed_asks : {Answer Refusal : Type 0} (device : Refusal) (old new : SqlState S) → new.conn ≡ old.conn → HasFailed (sql_view g) old new → old.failures ≤ new.failures
       → Asks (sql_view g) {Answer = Answer} device old new (Err device)
-  shut_asks device old new same failed rise = record {
+  closed_asks device old new same failed rise = record {
     keeps = record {
       reads = subst (λ conn. OnlyReads (shown g old) (state g conn)) (sym same) (no_read (shown g old));
       failures_rise = rise;

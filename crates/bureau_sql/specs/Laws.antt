@@ -5,47 +5,15 @@ use Rattle.catalogue.specs.Content.{Content, IsInOrder}
 use Rattle.catalogue.specs.View.{IsLawful, IsOpen, View, part_lawful, part_of}
 use Rattle.bureau_store.specs.Store.{AreOfOneStore}
 use Rattle.bureau_store.specs.Tables.{AreInOrder, Tables}
-use Rattle.sqlite.specs.State.{HasCleanDisk, State, Survives}
-use Rattle.sqlite.proofs.StateLemmas.{survives_then}
-use Rattle.sqlite_trees.specs.Tree.{Trees}
+use Rattle.sqlite.specs.State.{HasCleanDisk}
 use Rattle.sqlite_trees.specs.declared.store.Store.{Ghosts}
 use Rattle.sql_tables.specs.Stored.{tables_of}
 use Rattle.sql_tables.proofs.ChangeFacts.{tables_in_order}
 use Rattle.sql_state.specs.Ours.{IsOurs, held_by}
 use Rattle.sql_state.specs.Reading.{OnlyReads}
+use Rattle.sql_state.proofs.StopFacts.{no_read, read_on, was_clean}
 use Rattle.bureau_sql.specs.SqlState.{SqlState}
 use Rattle.bureau_sql.specs.SqlView.{IsOurStore, shown, sql_view, tables_in}
-
-pub clean_before : (Commits : Trees → Type 0) (old new : State) → Survives old new Commits → HasCleanDisk new → HasCleanDisk old
-clean_before commits old new survives clean = omega (arith, survives.clean, clean)
-
--- ---- a read leaves what is committed
-
-pub no_read : (at : State) → OnlyReads at at
-no_read at = record {
-  keeps = λ clean. record { was_open = λ h. h; committed = λ h. refl };
-  survives = record {
-    clean = omega arith;
-    shield = λ h. h;
-    counts = omega arith;
-    limit = refl;
-    closes = λ clean was. inl was;
-    crash = λ clean trees left. inl left;
-  };
-}
-
-pub read_on : (first second third : State) → OnlyReads first second → OnlyReads second third → OnlyReads first third
-read_on first second third sooner later = record {
-  keeps = λ clean.
-      let before = clean_before (λ trees. ⊥) second third later.survives clean in
-      let left = sooner.keeps before in
-      let kept = later.keeps clean in
-      record {
-        was_open = λ h. left.was_open (kept.was_open h);
-        committed = λ h. kept.committed h ∙ left.committed (kept.was_open h);
-      };
-  survives = survives_then first second third (λ trees. ⊥) (λ trees. ⊥) (λ trees. ⊥) (λ clean trees none. none) (λ clean trees none. none) sooner.survives later.survives;
-}
 
 -- ---- the view
 
@@ -61,7 +29,7 @@ module _ {S : Type 0} (g : Ghosts S) where
   sql_lawful = record {
     keeps = λ old new kept. record {
       goes = record {
-        clean = clean_before (λ trees. ⊥) (shown g old) (shown g new) kept.reads.survives;
+        clean = was_clean (shown g old) (shown g new) (λ trees. ⊥) kept.reads.survives;
         ours = λ ours clean. (
           λ trees left. elim (kept.reads.survives.crash clean trees left) [
             | inl was ↦ ours.0 trees was
@@ -86,7 +54,7 @@ module _ {S : Type 0} (g : Ghosts S) where
       failures_rise = omega (arith, sooner.failures_rise, later.failures_rise);
       stays_open = λ standing clean was.
           let between : second.failures ≡ 0 = omega (arith, later.failures_rise, standing) in
-          let before = clean_before (λ trees. ⊥) (shown g second) (shown g third) later.reads.survives clean in
+          let before = was_clean (shown g second) (shown g third) (λ trees. ⊥) later.reads.survives clean in
           later.stays_open standing clean (sooner.stays_open between before was);
     };
     one = λ store standing this other first second. sym (first standing) ∙ second standing;

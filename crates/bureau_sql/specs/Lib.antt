@@ -1,4 +1,5 @@
 pub mod Committed
+pub mod Effects
 pub mod Founded
 pub mod Laws
 pub mod Migrated

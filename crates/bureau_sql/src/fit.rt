@@ -9,7 +9,9 @@ ghost use Rattle.bureau_store.specs.Caller.{IsProper};
 ghost use Rattle.bureau_store.specs.Effect.{publication, zone_put, zone_dropped, received_put, patterns_put};
 ghost use Rattle.bureau_store.specs.declared.caller.Caller.TheVariants.{Client, Publisher};
 ghost use Rattle.sql_tables.specs.Fit.{CanBeWritten, IsCond, IsFitChange, IsHold, IsRecord};
+ghost use Rattle.bureau_sql.specs.Effects.{IsFitEffect, effect_as, maker_of};
 
+use crate::effect::Effect;
 use bureau_store::CallerRow;
 use catalogue::{Change, CondNeed, Sysmod};
 use holddata::{Hold, HoldChange};
@@ -76,9 +78,9 @@ fn patterns(patterns: &[Pattern])
     }
 }
 
-/// A zone's rows.
+// A zone's rows.
 #[tactic(auto, using(crate::proofs::FitFacts::client_named))]
-pub(crate) fn zone(client: &Id, zone: &Id, of_zone: &[ZoneRow])
+fn zone(client: &Id, zone: &Id, of_zone: &[ZoneRow])
     requires client { IsProper (Client client.now) }
     requires ascending { RowsAscend of_zone.now }
     ensures { CanBeWritten (Client client.now) (zone_put zone.now of_zone.now) }
@@ -88,9 +90,9 @@ pub(crate) fn zone(client: &Id, zone: &Id, of_zone: &[ZoneRow])
     rows(of_zone);
 }
 
-/// A zone that goes.
+// A zone that goes.
 #[tactic(auto, using(crate::proofs::FitFacts::client_named))]
-pub(crate) fn zone_gone(client: &Id, zone: &Id)
+fn zone_gone(client: &Id, zone: &Id)
     requires { IsProper (Client client.now) }
     ensures { CanBeWritten (Client client.now) (zone_dropped zone.now) }
 {
@@ -98,9 +100,9 @@ pub(crate) fn zone_gone(client: &Id, zone: &Id)
     id(zone);
 }
 
-/// The list of what was received.
+// The list of what was received.
 #[tactic(auto, using(crate::proofs::FitFacts::client_named))]
-pub(crate) fn received(client: &Id, received: &[Id])
+fn received(client: &Id, received: &[Id])
     requires { IsProper (Client client.now) }
     ensures { CanBeWritten (Client client.now) (received_put received.now) }
 {
@@ -108,9 +110,9 @@ pub(crate) fn received(client: &Id, received: &[Id])
     ids(received);
 }
 
-/// The patterns of a zone.
+// The patterns of a zone.
 #[tactic(auto, using(crate::proofs::FitFacts::client_named, crate::proofs::FitFacts::all_patterns))]
-pub(crate) fn zone_patterns(client: &Id, zone: &Id, asked: &[Pattern])
+fn zone_patterns(client: &Id, zone: &Id, asked: &[Pattern])
     requires { IsProper (Client client.now) }
     ensures { CanBeWritten (Client client.now) (patterns_put zone.now asked.now) }
 {
@@ -166,12 +168,34 @@ fn change(change: &Change)
     }
 }
 
-/// Statements.
+// Statements.
 #[tactic(auto, using(crate::proofs::FitFacts::all_so_far, crate::proofs::FitFacts::all_seen))]
-pub(crate) fn publication(changes: &[Change])
+fn publication(changes: &[Change])
     ensures { CanBeWritten Publisher (publication changes.now) }
 {
     for one in changes {
         change(one);
+    }
+}
+
+/// What a change writes.
+pub(crate) fn effect(effect: &Effect<'_>)
+    requires { IsFitEffect effect.now }
+    ensures { CanBeWritten (maker_of effect.now) (effect_as effect.now) }
+{
+    match *effect {
+        Effect::Publication { changes } => publication(changes),
+        Effect::ZonePut {
+            client,
+            zone: name,
+            rows,
+        } => zone(client, name, rows),
+        Effect::ZoneDropped { client, zone } => zone_gone(client, zone),
+        Effect::ReceivedPut { client, ids } => received(client, ids),
+        Effect::PatternsPut {
+            client,
+            zone,
+            patterns,
+        } => zone_patterns(client, zone, patterns),
     }
 }

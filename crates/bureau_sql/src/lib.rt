@@ -25,6 +25,7 @@
 
 mod changes;
 mod commit;
+mod effect;
 mod fit;
 mod init;
 mod migrate;

@@ -11,7 +11,7 @@ impl<S: Alter> Published for SqlStore<S> {
     ghost content_view = { sql_content_view S.Store };
 
     fn ids(&mut self) -> Result<Vec<Id>, SourceFault> {
-        if self.is_shut() {
+        if self.is_closed() {
             return Err(SourceFault::Device);
         }
         let found = sql_reads::ids(self.alloc, &mut self.conn);
@@ -19,7 +19,7 @@ impl<S: Alter> Published for SqlStore<S> {
     }
 
     fn sysmod(&mut self, id: &Id) -> Result<Option<Sysmod>, SourceFault> {
-        if self.is_shut() {
+        if self.is_closed() {
             return Err(SourceFault::Device);
         }
         let found = sql_reads::sysmod(self.alloc, &mut self.conn, id);
@@ -27,7 +27,7 @@ impl<S: Alter> Published for SqlStore<S> {
     }
 
     fn superseders(&mut self, id: &Id) -> Result<Vec<Id>, SourceFault> {
-        if self.is_shut() {
+        if self.is_closed() {
             return Err(SourceFault::Device);
         }
         let found = sql_reads::superseders(self.alloc, &mut self.conn, id);
@@ -35,7 +35,7 @@ impl<S: Alter> Published for SqlStore<S> {
     }
 
     fn holds_on(&mut self, id: &Id) -> Result<Vec<Hold>, SourceFault> {
-        if self.is_shut() {
+        if self.is_closed() {
             return Err(SourceFault::Device);
         }
         let found = sql_reads::holds_on(self.alloc, &mut self.conn, id);

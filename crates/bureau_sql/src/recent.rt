@@ -1,10 +1,9 @@
 //! What a store has read since its last change. It is answered again from here, so that a client that asks often costs
 //! little.
 ghost use Rattle.std.specs.Prelude.{◌≡◌, ◌⊎◌, Contains, IfOk, IfSome, Some, map, option_map};
-ghost use Rattle.std.specs.List.Sorted.{IsStrictlySortedBy};
 ghost use Rattle.bureau_sql.specs.Recent.{HasMore, nothing_read};
 ghost use Rattle.bureau_store.specs.Caller.{IsProper};
-ghost use Rattle.bureau_store.specs.Tables.{name_order};
+ghost use Rattle.bureau_store.specs.Tables.{NamesAscend};
 ghost use Rattle.zone_lists.specs.ZoneList.{RowsAscend};
 
 use bureau_store::Caller;
@@ -42,15 +41,14 @@ struct ZonesRead {
 
 impl Model for ZonesRead {
     ghost use Rattle.std.specs.Prelude.{map};
-    ghost use Rattle.std.specs.List.Sorted.{IsStrictlySortedBy};
     ghost use Rattle.bureau_sql.specs.Recent.{ZonesRead};
-    ghost use Rattle.bureau_store.specs.Tables.{name_order};
+    ghost use Rattle.bureau_store.specs.Tables.{NamesAscend};
 
     ghost Value = { ZonesRead };
 
     ghost view = { λ read. record { client = read.client; zones = read.zones.items } };
 
-    ghost invariant = { λ read. IsStrictlySortedBy name_order (map (λ zone. zone.0) read.zones.items) };
+    ghost invariant = { λ read. NamesAscend (map (λ zone. zone.0) read.zones.items) };
 }
 
 #[derive(Drop)]
@@ -129,8 +127,7 @@ impl Recent {
     pub(crate) fn zones_of(&self, alloc: Global, client: &Id) -> Option<Vec<(Id, u64)>>
         ensures read { IfSome result (λ zones. Contains self.now.zones
             (record { client = client.now; zones = zones.items })) }
-        ensures ascend { IfSome result (λ zones. IsStrictlySortedBy name_order
-            (map (λ zone. zone.0) zones.items)) }
+        ensures ascend { IfSome result (λ zones. NamesAscend (map (λ zone. zone.0) zones.items)) }
     {
         for read in &self.zones {
             if read.client == *client {
@@ -184,8 +181,7 @@ impl Recent {
         client: &Id,
         found: &Result<Vec<(Id, u64)>, ReadFault>,
     )
-        requires ascend { IfOk found.now (λ zones. IsStrictlySortedBy name_order
-            (map (λ zone. zone.0) zones.items)) }
+        requires ascend { IfOk found.now (λ zones. NamesAscend (map (λ zone. zone.0) zones.items)) }
         ensures zones { HasMore (λ answer read. read ≡ record { client = client.now; zones = answer.items })
             found.now self.old.zones self.new.zones }
         ensures others { (self.new.tokens ≡ self.old.tokens) × (self.new.rows ≡ self.old.rows) }

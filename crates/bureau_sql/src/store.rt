@@ -78,16 +78,16 @@ impl<S: Alter> SqlStore<S> {
         ensures same { self.new.conn ≡ self.old.conn }
         ensures failed { HasFailed (sql_view S.Store) self.old self.new }
         ensures rises { self.old.failures ≤ self.new.failures }
-        ensures shut { 0 < self.new.failures }
+        ensures closed { 0 < self.new.failures }
     {
         self.failures = self.failures.saturating_add(1);
     }
 }
 
 impl<S: Alter> SqlStore<S> {
-    // Whether a failure has shut the store: then this call fails too.
-    pub(crate) fn is_shut(&mut self) -> bool
-        ensures shut { result ≡ true → (self.new.conn ≡ self.old.conn)
+    // Whether a failure has closed the store: then this call fails too.
+    pub(crate) fn is_closed(&mut self) -> bool
+        ensures closed { result ≡ true → (self.new.conn ≡ self.old.conn)
             × (self.old.failures ≤ self.new.failures)
             × (0 < self.new.failures) × HasFailed (sql_view S.Store) self.old self.new }
         ensures open { result ≡ false → (self.new ≡ self.old) × (self.old.failures ≡ 0) }
@@ -101,7 +101,7 @@ impl<S: Alter> SqlStore<S> {
 }
 
 impl<S: Alter> SqlStore<S> {
-    // Tells that a read was refused. Where memory ran out, the connection may have been shut, so it is looked at.
+    // Tells that a read was refused. Where memory ran out, the connection may have been closed, so it is looked at.
     fn refused(&mut self, fault: ReadFault) -> SourceFault
         ensures reads { OnlyReads (shown S.Store self.old) (shown S.Store self.new) }
         ensures rises { self.old.failures ≤ self.new.failures }

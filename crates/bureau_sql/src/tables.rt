@@ -1,6 +1,11 @@
 //! All tables, as a store in a database keeps them.
-ghost use Rattle.std.specs.Prelude.{◌≡◌, nat_lt};
+ghost use Rattle.std.specs.Prelude.{◌≡◌, ◌≤◌, nat_lt};
+ghost use Rattle.bureau_store.specs.Store.{Makes, greatest_number};
+ghost use Rattle.bureau_sql.specs.Effects.{IsFitEffect, update};
+ghost use Rattle.bureau_sql.specs.Outgrown.{HasNoRoom};
+ghost use Rattle.bureau_sql.specs.SqlView.{sql_view};
 
+use crate::effect::Effect;
 use crate::{SqlStore, changes, fit};
 use bureau_store::{Caller, Store, StoreFault};
 use catalogue::Change;
@@ -8,6 +13,24 @@ use holddata::{Hold, Kind};
 use mcs_reader::Id;
 use sqlite_trees::store::Alter;
 use zone_lists::{Pattern, ZoneRow};
+
+impl<S: Alter> SqlStore<S> {
+    // Makes a change, and forgets what was read before it.
+    fn make(&mut self, number: u64, reply: &[u8], effect: &Effect<'_>) -> Result<(), StoreFault>
+        requires number { number ≤ greatest_number }
+        requires fit { IsFitEffect effect.now }
+        ensures { Makes (sql_view S.Store) HasNoRoom (update effect.now number reply.now)
+            self.old self.new result }
+    {
+        if self.is_closed() {
+            return Err(StoreFault::Device);
+        }
+        self.recent.forget();
+        fit::effect(effect);
+        let made = changes::make(self.alloc, &mut self.conn, number, reply, effect);
+        self.made(made)
+    }
+}
 
 impl<S: Alter> Store for SqlStore<S> {
     ghost use Rattle.bureau_sql.specs.Laws.{sql_holds_tables, sql_in_order, sql_lawful, sql_shows_content};
@@ -23,7 +46,7 @@ impl<S: Alter> Store for SqlStore<S> {
     }
 
     fn caller_of(&mut self, token: &[u8]) -> Result<Option<Caller>, StoreFault> {
-        if self.is_shut() {
+        if self.is_closed() {
             return Err(StoreFault::Device);
         }
         if let Some(caller) = self.recent.caller_of(token) {
@@ -35,7 +58,7 @@ impl<S: Alter> Store for SqlStore<S> {
     }
 
     fn last(&mut self, caller: &Caller) -> Result<(u64, Vec<u8>), StoreFault> {
-        if self.is_shut() {
+        if self.is_closed() {
             return Err(StoreFault::Device);
         }
         let found = sql_reads::last(self.alloc, &mut self.conn, caller);
@@ -43,7 +66,7 @@ impl<S: Alter> Store for SqlStore<S> {
     }
 
     fn counts(&mut self) -> Result<(u64, u64), StoreFault> {
-        if self.is_shut() {
+        if self.is_closed() {
             return Err(StoreFault::Device);
         }
         let found = sql_reads::counts(&mut self.conn);
@@ -51,7 +74,7 @@ impl<S: Alter> Store for SqlStore<S> {
     }
 
     fn zones(&mut self, client: &Id) -> Result<Vec<(Id, u64)>, StoreFault> {
-        if self.is_shut() {
+        if self.is_closed() {
             return Err(StoreFault::Device);
         }
         if let Some(zones) = self.recent.zones_of(self.alloc, client) {
@@ -63,7 +86,7 @@ impl<S: Alter> Store for SqlStore<S> {
     }
 
     fn zone_count(&mut self, client: &Id) -> Result<u64, StoreFault> {
-        if self.is_shut() {
+        if self.is_closed() {
             return Err(StoreFault::Device);
         }
         let found = sql_reads::zone_count(&mut self.conn, client);
@@ -71,7 +94,7 @@ impl<S: Alter> Store for SqlStore<S> {
     }
 
     fn has_zone(&mut self, client: &Id, zone: &Id) -> Result<bool, StoreFault> {
-        if self.is_shut() {
+        if self.is_closed() {
             return Err(StoreFault::Device);
         }
         let found = sql_reads::has_zone(&mut self.conn, client, zone);
@@ -79,7 +102,7 @@ impl<S: Alter> Store for SqlStore<S> {
     }
 
     fn zone(&mut self, client: &Id, zone: &Id) -> Result<Option<Vec<ZoneRow>>, StoreFault> {
-        if self.is_shut() {
+        if self.is_closed() {
             return Err(StoreFault::Device);
         }
         if let Some(rows) = self.recent.rows_of(self.alloc, client, zone) {
@@ -91,7 +114,7 @@ impl<S: Alter> Store for SqlStore<S> {
     }
 
     fn received(&mut self, client: &Id) -> Result<Vec<Id>, StoreFault> {
-        if self.is_shut() {
+        if self.is_closed() {
             return Err(StoreFault::Device);
         }
         let found = sql_reads::received(self.alloc, &mut self.conn, client);
@@ -99,7 +122,7 @@ impl<S: Alter> Store for SqlStore<S> {
     }
 
     fn patterns(&mut self, client: &Id, zone: &Id) -> Result<Vec<Pattern>, StoreFault> {
-        if self.is_shut() {
+        if self.is_closed() {
             return Err(StoreFault::Device);
         }
         let found = sql_reads::patterns(self.alloc, &mut self.conn, client, zone);
@@ -107,7 +130,7 @@ impl<S: Alter> Store for SqlStore<S> {
     }
 
     fn held_in(&mut self, client: &Id, zone: &Id, kind: Kind) -> Result<Vec<Hold>, StoreFault> {
-        if self.is_shut() {
+        if self.is_closed() {
             return Err(StoreFault::Device);
         }
         let found = sql_reads::held_in(self.alloc, &mut self.conn, client, zone, kind);
@@ -115,13 +138,7 @@ impl<S: Alter> Store for SqlStore<S> {
     }
 
     fn publish(&mut self, number: u64, reply: &[u8], changes: &[Change]) -> Result<(), StoreFault> {
-        if self.is_shut() {
-            return Err(StoreFault::Device);
-        }
-        self.recent.forget();
-        fit::publication(changes);
-        let made = changes::publish(self.alloc, &mut self.conn, number, reply, changes);
-        self.made(made)
+        self.make(number, reply, &Effect::Publication { changes })
     }
 
     fn put_zone(
@@ -132,21 +149,7 @@ impl<S: Alter> Store for SqlStore<S> {
         zone: &Id,
         rows: &[ZoneRow],
     ) -> Result<(), StoreFault> {
-        if self.is_shut() {
-            return Err(StoreFault::Device);
-        }
-        self.recent.forget();
-        fit::zone(client, zone, rows);
-        let made = changes::put_zone(
-            self.alloc,
-            &mut self.conn,
-            client,
-            number,
-            reply,
-            zone,
-            rows,
-        );
-        self.made(made)
+        self.make(number, reply, &Effect::ZonePut { client, zone, rows })
     }
 
     fn drop_zone(
@@ -156,13 +159,7 @@ impl<S: Alter> Store for SqlStore<S> {
         reply: &[u8],
         zone: &Id,
     ) -> Result<(), StoreFault> {
-        if self.is_shut() {
-            return Err(StoreFault::Device);
-        }
-        self.recent.forget();
-        fit::zone_gone(client, zone);
-        let made = changes::drop_zone(&mut self.conn, client, number, reply, zone);
-        self.made(made)
+        self.make(number, reply, &Effect::ZoneDropped { client, zone })
     }
 
     fn put_received(
@@ -172,13 +169,7 @@ impl<S: Alter> Store for SqlStore<S> {
         reply: &[u8],
         ids: &[Id],
     ) -> Result<(), StoreFault> {
-        if self.is_shut() {
-            return Err(StoreFault::Device);
-        }
-        self.recent.forget();
-        fit::received(client, ids);
-        let made = changes::put_received(self.alloc, &mut self.conn, client, number, reply, ids);
-        self.made(made)
+        self.make(number, reply, &Effect::ReceivedPut { client, ids })
     }
 
     fn put_patterns(
@@ -189,21 +180,12 @@ impl<S: Alter> Store for SqlStore<S> {
         zone: &Id,
         patterns: &[Pattern],
     ) -> Result<(), StoreFault> {
-        if self.is_shut() {
-            return Err(StoreFault::Device);
-        }
-        self.recent.forget();
-        fit::zone_patterns(client, zone, patterns);
-        let made = changes::put_patterns(
-            self.alloc,
-            &mut self.conn,
+        let effect = Effect::PatternsPut {
             client,
-            number,
-            reply,
             zone,
             patterns,
-        );
-        self.made(made)
+        };
+        self.make(number, reply, &effect)
     }
 
     ghost tables_lawful = { sql_lawful _ };

@@ -1,6 +1,6 @@
 -- What a store in lists tells, and what its changes make.
 use Rattle.std.proofs.Common.{◌≡◌, ℕ, ◌∙◌, List, inl, inr, refl, sym, ap, subst, arith, if◌then◌else◌}
-use Rattle.std.specs.Prelude.{Result, Ok, Err, IfErr, IsErrOf, OnErr, OnOk}
+use Rattle.std.specs.Prelude.{Result, Ok, Err, IfErr, OnErr, OnOk}
 use Rattle.std.specs.List.Sorted.{IsStrictlySortedBy}
 use Rattle.std.specs.Map.{keys_of}
 use Rattle.std.specs.Str.{bytes_eq}
@@ -14,15 +14,15 @@ use Rattle.catalogue.specs.declared.change.Change.{Change}
 use Rattle.bureau_store.specs.Caller.{is_caller}
 use Rattle.bureau_store.specs.Effect.{Effect, content_after, publication, received_after, tables_after, zones_after}
 use Rattle.bureau_store.specs.Lists.{ClientTable, IsOurs, Lists, NeverOutgrown, client_after, client_in, last_in, lists_view, tables_of}
-use Rattle.bureau_store.specs.Store.{IsOfCall, Makes, Update, updated}
+use Rattle.bureau_store.specs.Store.{Makes, Update, updated}
 use Rattle.bureau_store.specs.Tables.{AreInOrder, LastChange, Tables, name_order}
 use Rattle.bureau_store.specs.declared.caller.Caller.{Caller}
 use Rattle.bureau_store.specs.declared.caller.Caller.TheVariants.{Publisher, Client}
 use Rattle.bureau_store.specs.declared.fault.StoreFault.{StoreFault}
-use Rattle.bureau_store.specs.declared.fault.StoreFault.TheVariants.{Memory, Device, Size, Shape, Version}
+use Rattle.bureau_store.specs.declared.fault.StoreFault.TheVariants.{Memory, Device, Size}
 
 -- tables are those of which each part is the same
-same_tables : (a b : Tables) → a.callers ≡ b.callers → a.content ≡ b.content → ((caller : Caller) → a.last caller ≡ b.last caller)
+pub same_tables : (a b : Tables) → a.callers ≡ b.callers → a.content ≡ b.content → ((caller : Caller) → a.last caller ≡ b.last caller)
     → ((name : List ℕ) → a.zones name ≡ b.zones name) → ((name : List ℕ) → a.received name ≡ b.received name) → a ≡ b
 same_tables a b callers content last zones received =
     let lasts = fun_ext last in
@@ -101,6 +101,13 @@ publication_ordered old new content clients ordered = record {
 
 -- ---- what lists make, as a store makes it
 
+-- want of memory is told neither for the device nor for its size
+pub not_device : {A : Type 0} → ◌≡◌ {A = Result A StoreFault} (Err Memory) (Err Device) → ⊥
+not_device same = cc
+
+pub not_size : {A : Type 0} → ◌≡◌ {A = Result A StoreFault} (Err Memory) (Err Size) → ⊥
+not_size same = cc
+
 pub lists_make : {Done : Type 0} (asked : Update) (old new : Lists) (answer : Result Done StoreFault) → OnOk answer (tables_of new ≡ updated asked (tables_of old))
     → OnErr answer (tables_of new ≡ tables_of old) → IsOurs new → IfErr answer (λ fault. fault ≡ Memory) → Makes lists_view NeverOutgrown asked old new answer
 lists_make asked old new (Ok done) made kept ours memory = record {
@@ -114,28 +121,14 @@ lists_make asked old new (Ok done) made kept ours memory = record {
   crash = λ _ _ this due stands left h. inr (refl, h ∙ made ∙ sym (ap (updated asked) stands));
   settled = λ _ _ _ this stands left h. h ∙ sym stands;
 }
-lists_make {Done = Done} asked old new (Err fault) made kept ours memory = record {
+lists_make {Done = Done} asked old new (Err fault) made kept ours memory = subst (λ f. Makes lists_view {Done = Done} NeverOutgrown asked old new (Err f)) (sym memory) (record {
   goes = record { clean = λ h. h; ours = λ _ _. ours; failures_rise = omega arith };
   done = tt;
   refused = λ _ _ this stands. stands ∙ sym kept;
-  refusal = subst IsOfCall (sym memory) tt;
-  cause = λ is. absurd (no_device fault memory is);
+  refusal = tt;
+  cause = λ is. absurd (not_device is);
   is_open = λ _. refl;
-  size = λ is. absurd (no_size fault memory is);
+  size = λ is. absurd (not_size is);
   crash = λ _ _ this due stands left h. inl (h ∙ kept);
   settled = λ _ _ _ this stands left h. h ∙ sym stands;
-}
-  where
-    no_device : (f : StoreFault) → f ≡ Memory → IsErrOf {T = Done} {E = StoreFault} (Err f) Device → ⊥
-    no_device Memory same is = cc
-    no_device Device same is = cc
-    no_device Size same is = cc
-    no_device Shape same is = cc
-    no_device Version same is = cc
-
-    no_size : (f : StoreFault) → f ≡ Memory → IsErrOf {T = Done} {E = StoreFault} (Err f) Size → ⊥
-    no_size Memory same is = cc
-    no_size Device same is = cc
-    no_size Size same is = cc
-    no_size Shape same is = cc
-    no_size Version same is = cc
+})

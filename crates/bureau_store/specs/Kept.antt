@@ -2,14 +2,13 @@
 use Rattle.std.specs.Prelude.{◌≡◌, ℕ, List}
 use Rattle.std.specs.BTreeMap.{is_at}
 use Rattle.std.specs.Cmp.Lexicographic.{slice_cmp}
-use Rattle.std.specs.List.Sorted.{IsStrictlySortedBy}
 use Rattle.std.specs.Map.{lookup}
 use Rattle.std.specs.Ordering.{nat_cmp}
 use Rattle.zone_lists.specs.ZoneList.{RowsAscend}
 use Rattle.zone_lists.specs.declared.zones.ZoneRow.{ZoneRow}
 use Rattle.catalogue.specs.Ids.{Ascend}
 use Rattle.bureau_store.specs.Effect.{Effect, zone_put, zone_dropped, received_put, patterns_put}
-use Rattle.bureau_store.specs.Tables.{Zones, patterns_of, rows_of, zone_named}
+use Rattle.bureau_store.specs.Tables.{PatternsAscend, Zones, patterns_of, rows_of, zone_named}
 use Rattle.bureau_store.specs.Caller.{caller_with}
 use Rattle.bureau_store.specs.declared.caller.Caller.{Caller}
 use Rattle.bureau_store.specs.declared.caller.CallerRow.{CallerRow}
@@ -28,7 +27,7 @@ abbrev pub IsFit : Put → Type 0
 IsFit (put.Rows zone rows) = RowsAscend rows.items
 IsFit (put.NoZone zone) = Unit {0}
 IsFit (put.Received ids) = Ascend ids.items
-IsFit (put.Patterns zone patterns) = IsStrictlySortedBy (slice_cmp nat_cmp) patterns.items
+IsFit (put.Patterns zone patterns) = PatternsAscend patterns.items
 
 -- what a zone has, as a map of zones finds it
 abbrev pub rows_at : List ℕ → Zones → List ZoneRow

@@ -87,7 +87,7 @@ module _ {Store : Type 0} (view : View Store Tables) where
   IsSettled store = view.is_ours store → view.is_clean store → IsOpen view store → (this : Tables) → view.stands store this → (left : Tables) → view.may_leave store left → left ≡ this
 
   -- What a change keeps to: done, the tables are changed as they should be; refused, they are as they were. A store that
-  -- is shut answers nothing but a fault of the device, so what is told as done was done by a store that is open.
+  -- is closed answers nothing but a fault of the device, so what is told as done was done by a store that is open.
   pub record Makes {Done : Type 0} (HasOutgrown : Update → Store → Store → Type 0) (update : Update) (old new : Store) (answer : Result Done StoreFault) : Type 0 where
     pub goes : Goes view old new
     pub done : OnOk answer (view.is_ours old → view.is_clean new → (this : Tables) → IsDue update this → view.stands old this → view.stands new (updated update this))

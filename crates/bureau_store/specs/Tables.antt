@@ -56,6 +56,14 @@ opened rows = record {
 abbrev pub name_order : List ℕ → List ℕ → Ordering
 name_order = slice_cmp nat_cmp
 
+-- names ascend, and none comes twice
+abbrev pub NamesAscend : List (List ℕ) → Type 0
+NamesAscend names = IsStrictlySortedBy name_order names
+
+-- patterns ascend by their bytes, and none comes twice
+abbrev pub PatternsAscend : List (List ℕ) → Type 0
+PatternsAscend patterns = IsStrictlySortedBy (slice_cmp nat_cmp) patterns
+
 -- the zone of this name
 abbrev pub zone_named : List ℕ → Zones → Option ZoneTable
 zone_named name zones = lookup (bytes_eq name) zones
@@ -71,4 +79,4 @@ patterns_of (Some table) = table.patterns
 -- What is published is in order, and so are the names of each client's zones, so that a zone stands there once.
 pub record AreInOrder (tables : Tables) : Type 0 where
   pub content : catalogue.IsInOrder tables.content
-  pub zones : (client : List ℕ) → IsStrictlySortedBy name_order (keys_of (tables.zones client))
+  pub zones : (client : List ℕ) → NamesAscend (keys_of (tables.zones client))

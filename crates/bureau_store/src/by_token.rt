@@ -12,7 +12,7 @@ use std::alloc::Global;
 use std::collections::BTreeMap;
 
 /// The rows of callers once more.
-pub(crate) fn rows_copied(alloc: Global, rows: &[CallerRow]) -> Result<Vec<CallerRow>, NoMemory>
+pub(crate) fn copy_rows(alloc: Global, rows: &[CallerRow]) -> Result<Vec<CallerRow>, NoMemory>
     ensures { IfOk result (λ copy. copy.items ≡ rows.now) }
 {
     let mut copy = Vec::with_capacity(alloc, rows.len())?;
@@ -45,12 +45,12 @@ fn put_token(by_token: &mut BTreeMap<Vec<u8>, Caller>, row: &CallerRow) -> Resul
         → KnowsTokens (λ text. text.items) by_token.new.entries (row.now ∷ rows)) }
 {
     let token = row.token.copy()?;
-    by_token.insert(token.into_vec(), named(&row.name))?;
+    by_token.insert(token.into_vec(), caller_named(&row.name))?;
     Ok(())
 }
 
 // The caller of a name.
-fn named(name: &Id) -> Caller
+fn caller_named(name: &Id) -> Caller
     ensures { result ≡ caller_named name.now }
 {
     if is_publisher(name) {

@@ -1,11 +1,10 @@
 //! The clients' tables by name.
 ghost use Rattle.std.specs.Prelude.{◌≡◌, ℕ, List, length, map, option_copied, unwrap_or, IfOk, OnOk, OnErr, if◌then◌else◌};
-ghost use Rattle.std.specs.List.Sorted.{IsStrictlySortedBy};
 ghost use Rattle.std.specs.Map.{keys_of};
 ghost use Rattle.std.specs.Str.{bytes_eq};
 ghost use Rattle.bureau_store.specs.Kept.{IsFit, effect_of};
 ghost use Rattle.bureau_store.specs.Lists.{client_after, client_in, nothing_sent};
-ghost use Rattle.bureau_store.specs.Tables.{name_order};
+ghost use Rattle.bureau_store.specs.Tables.{NamesAscend};
 
 use crate::kept::{Client, Last, Put, Zone};
 use faults::NoMemory;
@@ -36,8 +35,8 @@ pub(crate) fn make_for(
     ensures err { OnErr result ((name : List ℕ)
         → client_in clients.new.entries name ≡ client_in clients.old.entries name) }
     ensures ordered { (name : List ℕ)
-        → IsStrictlySortedBy name_order (keys_of (client_in clients.old.entries name).zones)
-        → IsStrictlySortedBy name_order (keys_of (client_in clients.new.entries name).zones) }
+        → NamesAscend (keys_of (client_in clients.old.entries name).zones)
+        → NamesAscend (keys_of (client_in clients.new.entries name).zones) }
 {
     if let Some(kept) = clients.get_mut(client) {
         return kept.make(put, last);
@@ -49,24 +48,24 @@ pub(crate) fn make_for(
 }
 
 /// Zones with the counts of their rows, ascending by name.
-pub(crate) fn counted_in_order(
+pub(crate) fn zone_counts(
     alloc: Global,
     zones: &BTreeMap<Id, Zone>,
 ) -> Result<Vec<(Id, u64)>, NoMemory>
     ensures zones { IfOk result (λ counts. counts.items
         ≡ map (λ zone. (zone.0, length zone.1.rows)) zones.now.entries) }
     ensures ascend { IfOk result
-        (λ counts. IsStrictlySortedBy name_order (map (λ zone. zone.0) counts.items)) }
+        (λ counts. NamesAscend (map (λ zone. zone.0) counts.items)) }
 {
-    let counts = counted(alloc, zones)?;
+    let counts = count_rows(alloc, zones)?;
     Ok(counts)
 }
 
 // Zones with the counts of their rows.
-fn counted(alloc: Global, zones: &BTreeMap<Id, Zone>) -> Result<Vec<(Id, u64)>, NoMemory>
+fn count_rows(alloc: Global, zones: &BTreeMap<Id, Zone>) -> Result<Vec<(Id, u64)>, NoMemory>
     ensures zones { IfOk result (λ counts. counts.items
         ≡ map (λ zone. (zone.0, length zone.1.rows)) zones.now.entries) }
-    ensures ascend { OnOk result (IsStrictlySortedBy name_order (keys_of zones.now.entries)) }
+    ensures ascend { OnOk result (NamesAscend (keys_of zones.now.entries)) }
 {
     let mut counts = Vec::with_capacity(alloc, zones.len())?;
     for (name, zone) in zones {

@@ -1,15 +1,12 @@
 //! What is kept for one caller.
 ghost use Rattle.std.specs.Prelude.{◌≡◌, length, IfOk, OnOk, OnErr, option_copied};
-ghost use Rattle.std.specs.Cmp.Lexicographic.{slice_cmp};
-ghost use Rattle.std.specs.List.Sorted.{IsStrictlySortedBy};
 ghost use Rattle.std.specs.Map.{keys_of};
-ghost use Rattle.std.specs.Ordering.{nat_cmp};
 ghost use Rattle.zone_lists.specs.ZoneList.{RowsAscend};
 ghost use Rattle.catalogue.specs.Ids.{Ascend};
 ghost use Rattle.bureau_store.specs.Effect.{zone_put, zone_dropped, received_put, patterns_put};
 ghost use Rattle.bureau_store.specs.Kept.{IsFit, effect_of, rows_at, patterns_at};
 ghost use Rattle.bureau_store.specs.Lists.{client_after, nothing_sent};
-ghost use Rattle.bureau_store.specs.Tables.{name_order, zone_named};
+ghost use Rattle.bureau_store.specs.Tables.{NamesAscend, PatternsAscend, zone_named};
 
 use faults::NoMemory;
 use mcs_reader::Id;
@@ -58,11 +55,8 @@ pub(crate) struct Zone {
 }
 
 impl Model for Zone {
-    ghost use Rattle.std.specs.Cmp.Lexicographic.{slice_cmp};
-    ghost use Rattle.std.specs.List.Sorted.{IsStrictlySortedBy};
-    ghost use Rattle.std.specs.Ordering.{nat_cmp};
     ghost use Rattle.zone_lists.specs.ZoneList.{RowsAscend};
-    ghost use Rattle.bureau_store.specs.Tables.{ZoneTable};
+    ghost use Rattle.bureau_store.specs.Tables.{PatternsAscend, ZoneTable};
 
     ghost Value = { ZoneTable };
 
@@ -70,7 +64,7 @@ impl Model for Zone {
 
     ghost invariant = { λ zone. record {
       rows : RowsAscend zone.rows.items;
-      patterns : IsStrictlySortedBy (slice_cmp nat_cmp) zone.patterns.items;
+      patterns : PatternsAscend zone.patterns.items;
     } };
 }
 
@@ -78,7 +72,7 @@ impl Zone {
     /// A zone with these rows and patterns.
     pub(crate) fn new(rows: Vec<ZoneRow>, patterns: Vec<Pattern>) -> Zone
         requires rows { RowsAscend rows.items }
-        requires patterns { IsStrictlySortedBy (slice_cmp nat_cmp) patterns.items }
+        requires patterns { PatternsAscend patterns.items }
         ensures { result ≡ record { rows = rows.items; patterns = patterns.items } }
     {
         Zone { rows, patterns }
@@ -102,7 +96,7 @@ impl Zone {
     /// Its patterns.
     pub(crate) fn patterns(&self) -> &[Pattern]
         ensures value { result.now ≡ self.now.patterns }
-        ensures ascend { IsStrictlySortedBy (slice_cmp nat_cmp) self.now.patterns }
+        ensures ascend { PatternsAscend self.now.patterns }
     {
         self.patterns.as_slice()
     }
@@ -131,11 +125,10 @@ pub(crate) struct Client {
 }
 
 impl Model for Client {
-    ghost use Rattle.std.specs.List.Sorted.{IsStrictlySortedBy};
     ghost use Rattle.std.specs.Map.{keys_of};
     ghost use Rattle.catalogue.specs.Ids.{Ascend};
     ghost use Rattle.bureau_store.specs.Lists.{ClientTable};
-    ghost use Rattle.bureau_store.specs.Tables.{name_order};
+    ghost use Rattle.bureau_store.specs.Tables.{NamesAscend};
 
     ghost Value = { ClientTable };
 
@@ -146,7 +139,7 @@ impl Model for Client {
     } };
 
     ghost invariant = { λ client. record {
-      zones : IsStrictlySortedBy name_order (keys_of client.zones.entries);
+      zones : NamesAscend (keys_of client.zones.entries);
       received : Ascend client.received.items;
     } };
 }
@@ -174,7 +167,7 @@ impl Client {
     /// Its zones by name.
     pub(crate) fn zones(&self) -> &BTreeMap<Id, Zone>
         ensures value { result.now.entries ≡ self.now.zones }
-        ensures ascend { IsStrictlySortedBy name_order (keys_of self.now.zones) }
+        ensures ascend { NamesAscend (keys_of self.now.zones) }
     {
         &self.zones
     }
@@ -192,7 +185,7 @@ impl Client {
         requires { IsFit put }
         ensures done { OnOk result (self.new ≡ client_after (effect_of put) last self.old) }
         ensures err { OnErr result (self.new ≡ self.old) }
-        ensures ascend { IsStrictlySortedBy name_order (keys_of self.new.zones) }
+        ensures ascend { NamesAscend (keys_of self.new.zones) }
     {
         match put {
             Put::Rows(zone, rows) => self.put_rows(zone, rows, last),
@@ -212,7 +205,7 @@ impl Client {
         requires { RowsAscend rows.items }
         ensures done { OnOk result (self.new ≡ client_after (zone_put zone rows.items) last self.old) }
         ensures err { OnErr result (self.new ≡ self.old) }
-        ensures ascend { IsStrictlySortedBy name_order (keys_of self.new.zones) }
+        ensures ascend { NamesAscend (keys_of self.new.zones) }
     {
         let patterns = patterns_kept(self.alloc, &self.zones, &zone)?;
         self.zones.insert(zone, Zone::new(rows, patterns))?;
@@ -222,7 +215,7 @@ impl Client {
 
     fn drop_zone(&mut self, zone: &Id, last: Last)
         ensures done { self.new ≡ client_after (zone_dropped zone.now) last self.old }
-        ensures ascend { IsStrictlySortedBy name_order (keys_of self.new.zones) }
+        ensures ascend { NamesAscend (keys_of self.new.zones) }
     {
         self.zones.remove(zone);
         self.last = last;
@@ -231,18 +224,18 @@ impl Client {
     fn put_received(&mut self, ids: Vec<Id>, last: Last)
         requires { Ascend ids.items }
         ensures done { self.new ≡ client_after (received_put ids.items) last self.old }
-        ensures ascend { IsStrictlySortedBy name_order (keys_of self.new.zones) }
+        ensures ascend { NamesAscend (keys_of self.new.zones) }
     {
         self.received = ids;
         self.last = last;
     }
 
     fn put_patterns(&mut self, zone: Id, patterns: Vec<Pattern>, last: Last) -> Result<(), NoMemory>
-        requires { IsStrictlySortedBy (slice_cmp nat_cmp) patterns.items }
+        requires { PatternsAscend patterns.items }
         ensures done { OnOk result
             (self.new ≡ client_after (patterns_put zone patterns.items) last self.old) }
         ensures err { OnErr result (self.new ≡ self.old) }
-        ensures ascend { IsStrictlySortedBy name_order (keys_of self.new.zones) }
+        ensures ascend { NamesAscend (keys_of self.new.zones) }
     {
         let rows = rows_kept(self.alloc, &self.zones, &zone)?;
         self.zones.insert(zone, Zone::new(rows, patterns))?;
@@ -265,16 +258,16 @@ fn patterns_kept(
     zone: &Id,
 ) -> Result<Vec<Pattern>, NoMemory>
     ensures patterns { IfOk result (λ patterns. patterns.items ≡ patterns_at zone.now zones.now.entries) }
-    ensures ascend { IfOk result (λ patterns. IsStrictlySortedBy (slice_cmp nat_cmp) patterns.items) }
+    ensures ascend { IfOk result (λ patterns. PatternsAscend patterns.items) }
 {
     match zone_of(zones, zone) {
-        Some(kept) => copied(alloc, kept.patterns()),
+        Some(kept) => copy_patterns(alloc, kept.patterns()),
         None => Ok(Vec::new(alloc)),
     }
 }
 
 /// Patterns once more.
-pub(crate) fn copied(alloc: Global, patterns: &[Pattern]) -> Result<Vec<Pattern>, NoMemory>
+pub(crate) fn copy_patterns(alloc: Global, patterns: &[Pattern]) -> Result<Vec<Pattern>, NoMemory>
     ensures { IfOk result (λ copy. copy.items ≡ patterns.now) }
 {
     let mut copy = Vec::with_capacity(alloc, patterns.len())?;

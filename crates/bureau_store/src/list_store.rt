@@ -1,8 +1,5 @@
 //! The store in lists.
 ghost use Rattle.std.specs.Prelude.{◌≡◌, length, map, option_copied, option_map, IfOk, IfErr, IfSome, OnOk, OnErr, is_some, false};
-ghost use Rattle.std.specs.Cmp.Lexicographic.{slice_cmp};
-ghost use Rattle.std.specs.List.Sorted.{IsStrictlySortedBy};
-ghost use Rattle.std.specs.Ordering.{nat_cmp};
 ghost use Rattle.holddata.specs.HoldBook.{IsInKeyOrder};
 ghost use Rattle.zone_lists.specs.ZoneList.{RowsAscend};
 ghost use Rattle.catalogue.specs.Ids.{Ascend};
@@ -11,17 +8,17 @@ ghost use Rattle.bureau_store.specs.Effect.{publication, zone_put, zone_dropped,
 ghost use Rattle.bureau_store.specs.Held.{held_in};
 ghost use Rattle.bureau_store.specs.Kept.{IsFit, effect_of};
 ghost use Rattle.bureau_store.specs.Lists.{IsOurs, Lists, client_in, last_in, tables_of};
-ghost use Rattle.bureau_store.specs.Tables.{name_order, opened, patterns_of, rows_of, zone_named};
+ghost use Rattle.bureau_store.specs.Tables.{NamesAscend, PatternsAscend, opened, patterns_of, rows_of, zone_named};
 ghost use Rattle.bureau_store.specs.declared.caller.Caller.TheVariants.{Client as OfClient, Publisher as OfPublisher};
 ghost use Rattle.bureau_store.specs.declared.caller.CallerRow.{CallerRow};
 ghost use Rattle.bureau_store.specs.declared.fault.StoreFault.TheVariants.{Memory};
 
 mod published;
 
-use crate::by_token::{callers_by_token, rows_copied};
-use crate::clients::{client_of, counted_in_order, make_for};
+use crate::by_token::{callers_by_token, copy_rows};
+use crate::clients::{client_of, make_for, zone_counts};
 use crate::held::held_among;
-use crate::kept::{Client, Last, Put, Zone, copied, zone_of};
+use crate::kept::{Client, Last, Put, Zone, copy_patterns, zone_of};
 use crate::{Caller, CallerRow, Store, StoreFault};
 use catalogue::{Change, ListPublished};
 use faults::NoMemory;
@@ -76,7 +73,7 @@ impl ListStore {
         ensures ours { IfOk result IsOurs }
         ensures memory { IfErr result (λ fault. fault ≡ Memory) }
     {
-        let rows = rows_copied(alloc, callers)?;
+        let rows = copy_rows(alloc, callers)?;
         let by_token = callers_by_token(alloc, callers)?;
         Ok(ListStore {
             alloc,
@@ -112,10 +109,10 @@ impl ListStore {
         ensures zones { IfOk result (λ zones. zones.items
             ≡ map (λ zone. (zone.0, length zone.1.rows)) (client_in self.now.clients client.now).zones) }
         ensures ascend { IfOk result
-            (λ zones. IsStrictlySortedBy name_order (map (λ zone. zone.0) zones.items)) }
+            (λ zones. NamesAscend (map (λ zone. zone.0) zones.items)) }
     {
         match client_of(&self.by_name, client) {
-            Some(client) => counted_in_order(self.alloc, client.zones()),
+            Some(client) => zone_counts(self.alloc, client.zones()),
             None => Ok(Vec::new(self.alloc)),
         }
     }
@@ -163,15 +160,15 @@ impl ListStore {
     fn patterns_at(&self, client: &Id, zone: &Id) -> Result<Vec<Pattern>, NoMemory>
         ensures patterns { IfOk result (λ patterns. patterns.items
             ≡ patterns_of (zone_named zone.now (client_in self.now.clients client.now).zones)) }
-        ensures ascend { IfOk result (λ patterns. IsStrictlySortedBy (slice_cmp nat_cmp) patterns.items) }
+        ensures ascend { IfOk result (λ patterns. PatternsAscend patterns.items) }
     {
         match self.zone_at(client, zone) {
-            Some(kept) => copied(self.alloc, kept.patterns()),
+            Some(kept) => copy_patterns(self.alloc, kept.patterns()),
             None => Ok(Vec::new(self.alloc)),
         }
     }
 
-    fn held(&self, client: &Id, zone: &Id, kind: Kind) -> Result<Vec<Hold>, NoMemory>
+    fn holds_in(&self, client: &Id, zone: &Id, kind: Kind) -> Result<Vec<Hold>, NoMemory>
         ensures holds { IfOk result (λ holds. holds.items
             ≡ held_in self.now.content
             (rows_of (zone_named zone.now (client_in self.now.clients client.now).zones)) kind) }
@@ -248,7 +245,7 @@ impl Store for ListStore {
         ensures zones { IfOk result (λ zones. zones.items
             ≡ map (λ zone. (zone.0, length zone.1.rows)) ((tables_of self.old).zones client.now)) }
         ensures ascend { IfOk result
-            (λ zones. IsStrictlySortedBy name_order (map (λ zone. zone.0) zones.items)) }
+            (λ zones. NamesAscend (map (λ zone. zone.0) zones.items)) }
         ensures memory { IfErr result (λ fault. fault ≡ Memory) }
     {
         Ok(self.zones_of(client)?)
@@ -295,7 +292,7 @@ impl Store for ListStore {
         ensures same { self.new ≡ self.old }
         ensures patterns { IfOk result (λ patterns. patterns.items
             ≡ patterns_of (zone_named zone.now ((tables_of self.old).zones client.now))) }
-        ensures ascend { IfOk result (λ patterns. IsStrictlySortedBy (slice_cmp nat_cmp) patterns.items) }
+        ensures ascend { IfOk result (λ patterns. PatternsAscend patterns.items) }
         ensures memory { IfErr result (λ fault. fault ≡ Memory) }
     {
         Ok(self.patterns_at(client, zone)?)
@@ -309,7 +306,7 @@ impl Store for ListStore {
         ensures in_key_order { IfOk result (λ holds. IsInKeyOrder holds.items) }
         ensures memory { IfErr result (λ fault. fault ≡ Memory) }
     {
-        Ok(self.held(client, zone, kind)?)
+        Ok(self.holds_in(client, zone, kind)?)
     }
 
     fn publish(&mut self, number: u64, reply: &[u8], changes: &[Change]) -> Result<(), StoreFault>
@@ -390,7 +387,7 @@ impl Store for ListStore {
         zone: &Id,
         patterns: &[Pattern],
     ) -> Result<(), StoreFault>
-        requires { IsStrictlySortedBy (slice_cmp nat_cmp) patterns.now }
+        requires { PatternsAscend patterns.now }
         ensures done { OnOk result (tables_of self.new
             ≡ tables_after (OfClient client.now) (patterns_put zone.now patterns.now)
             (record { number = number; reply = reply.now }) (tables_of self.old)) }
@@ -398,7 +395,7 @@ impl Store for ListStore {
         ensures ours { IsOurs self.new }
         ensures memory { IfErr result (λ fault. fault ≡ Memory) }
     {
-        let patterns = copied(self.alloc, patterns)?;
+        let patterns = copy_patterns(self.alloc, patterns)?;
         Ok(self.make(client, Put::Patterns(*zone, patterns), number, reply)?)
     }
 

@@ -1,8 +1,5 @@
 //! Where all that the bureau keeps is kept.
 ghost use Rattle.std.specs.Prelude.{◌≡◌, ◌≤◌, length, map, nat_lt, option_map, IfOk, IfSome, is_some};
-ghost use Rattle.std.specs.Cmp.Lexicographic.{slice_cmp};
-ghost use Rattle.std.specs.List.Sorted.{IsStrictlySortedBy};
-ghost use Rattle.std.specs.Ordering.{nat_cmp};
 ghost use Rattle.holddata.specs.HoldBook.{IsInKeyOrder};
 ghost use Rattle.zone_lists.specs.ZoneList.{RowsAscend};
 ghost use Rattle.catalogue.specs.Ids.{Ascend};
@@ -11,7 +8,7 @@ ghost use Rattle.bureau_store.specs.Caller.{IsProper, caller_with};
 ghost use Rattle.bureau_store.specs.Effect.{publication, zone_put, zone_dropped, received_put, patterns_put};
 ghost use Rattle.bureau_store.specs.Held.{held_in};
 ghost use Rattle.bureau_store.specs.Store.{AreOfOneStore, Makes, Reads, Update, greatest_number, update};
-ghost use Rattle.bureau_store.specs.Tables.{AreInOrder, Tables, name_order, patterns_of, rows_of, zone_named};
+ghost use Rattle.bureau_store.specs.Tables.{AreInOrder, NamesAscend, PatternsAscend, Tables, patterns_of, rows_of, zone_named};
 ghost use Rattle.bureau_store.specs.declared.caller.Caller.TheVariants.{Publisher, Client};
 
 use crate::{Caller, StoreFault};
@@ -73,7 +70,7 @@ pub trait Store: Published {
         ensures zones { IfOk result (λ zones. Tells tables_view self.old self.new
             (λ tables. zones.items ≡ map (λ zone. (zone.0, length zone.1.rows)) (tables.zones client.now))) }
         ensures ascend { IfOk result
-            (λ zones. IsStrictlySortedBy name_order (map (λ zone. zone.0) zones.items)) };
+            (λ zones. NamesAscend (map (λ zone. zone.0) zones.items)) };
 
     /// How many zones a client has.
     fn zone_count(&mut self, client: &Id) -> Result<u64, StoreFault>
@@ -112,7 +109,7 @@ pub trait Store: Published {
         ensures reads { Reads tables_view self.old self.new result }
         ensures patterns { IfOk result (λ patterns. Tells tables_view self.old self.new
             (λ tables. patterns.items ≡ patterns_of (zone_named zone.now (tables.zones client.now)))) }
-        ensures ascend { IfOk result (λ patterns. IsStrictlySortedBy (slice_cmp nat_cmp) patterns.items) };
+        ensures ascend { IfOk result (λ patterns. PatternsAscend patterns.items) };
 
     /// The holds of a kind on SYSMODs that are installed in a zone, in the order of their keys.
     fn held_in(&mut self, client: &Id, zone: &Id, kind: Kind) -> Result<Vec<Hold>, StoreFault>
@@ -186,7 +183,7 @@ pub trait Store: Published {
     ) -> Result<(), StoreFault>
         requires client { IsProper (Client client.now) }
         requires number { number ≤ greatest_number }
-        requires ascending { IsStrictlySortedBy (slice_cmp nat_cmp) patterns.now }
+        requires ascending { PatternsAscend patterns.now }
         ensures makes { Makes tables_view outgrown
             (update (Client client.now) (patterns_put zone.now patterns.now) number reply.now)
             self.old self.new result };

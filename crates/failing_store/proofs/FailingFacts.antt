@@ -2,6 +2,7 @@
 use Rattle.std.proofs.Common.{◌≡◌, ◌∙◌, ◌<◌, ◌≤◌, ◌⊎◌, inr, inl, ap, arith, refl, subst, sym, Result, Ok, Err, IfErr, OnErr, OnOk}
 use Rattle.catalogue.specs.View.{most_failures}
 use Rattle.catalogue.proofs.SourceFacts.{no_fault}
+use Rattle.bureau_store.proofs.StoreFacts.{not_device, not_size}
 use Rattle.bureau_store.specs.Lists.{IsOurs, Lists, tables_of}
 use Rattle.bureau_store.specs.Store.{Makes, Update, updated}
 use Rattle.bureau_store.specs.Tables.{Tables}
@@ -9,12 +10,6 @@ use Rattle.bureau_store.specs.declared.fault.StoreFault.{StoreFault}
 use Rattle.bureau_store.specs.declared.fault.StoreFault.TheVariants.{Device, Memory, Size}
 use Rattle.failing_store.specs.Failing.{failing_view}
 use Rattle.failing_store.specs.declared.store.FailingStore.{FailingStore}
-
-not_device : {A : Type 0} → ◌≡◌ {A = Result A StoreFault} (Err Memory) (Err Device) → ⊥
-not_device same = cc
-
-not_size : {A : Type 0} → ◌≡◌ {A = Result A StoreFault} (Err Memory) (Err Size) → ⊥
-not_size same = cc
 
 device_not_size : {A : Type 0} → ◌≡◌ {A = Result A StoreFault} (Err Device) (Err Size) → ⊥
 device_not_size same = cc

@@ -22,7 +22,7 @@ use Rattle.sql_texts.specs.Found.{is_text, shown}
 use Rattle.sql_texts.specs.Reads as read
 use Rattle.sql_reads.specs.Answering.{one_of}
 use Rattle.sql_reads.proofs.TableFacts.{filter_alike, one_case, one_passes, table_found}
-use Rattle.sql_reads.proofs.TextFacts.{one_given}
+use Rattle.sql_state.proofs.TextFacts.{one_given}
 
 abbrev pub name_shown : Row → Option Caller
 name_shown row = option_map caller_named (id_in (column row 0))

@@ -1,13 +1,15 @@
 -- What a query that counts answers, and what it says of the tables.
-use Rattle.std.proofs.Common.{◌≡◌, ◌<◌, ℕ, suc, Bool, true, false, cond, List, [], ◌∷◌, ◌++◌, length, drop, arith, refl, sym, ◌∙◌, ap, subst, Some}
-use Rattle.std.specs.Prelude.{filter, flat_map, map, min}
+use Rattle.std.proofs.Common.{◌≡◌, ◌<◌, ℕ, Ok, Result, suc, Bool, true, false, cond, List, [], ◌∷◌, ◌++◌, length, drop, arith, refl, sym, ◌∙◌, ap, subst, Some}
+use Rattle.std.specs.Prelude.{IfOk, Vec, codes, filter, flat_map, map, min}
+use Rattle.std.specs.declared.alloc.Global.{Global}
 use Rattle.std.specs.List.{AllZip, list_all}
 use Rattle.std.specs.List.Sorted.{IsPermutation}
 use Rattle.std.proofs.lemmas.List.{length-map}
 use Rattle.std.proofs.lemmas.List.Sorted.{length_permutation}
 use Rattle.mcs_reader.specs.Id.{IsId, text_of}
 use Rattle.sqlite.proofs.Callers.{one_permutation}
-use Rattle.sqlite.specs.Query.{IsAnswer, Output, output}
+use Rattle.sqlite.specs.Query.{IsAnswer, Output, Query, output}
+use Rattle.sqlite.specs.State.{State}
 use Rattle.sqlite.specs.Term.{Term, lit}
 use Rattle.sqlite.specs.Tree.{Trees}
 use Rattle.sqlite_sql.specs.Aggregate.{count}
@@ -17,16 +19,21 @@ use Rattle.sqlite_sql.specs.Term.{Env, eval, holds}
 use Rattle.sqlite_value.specs.Order.{Row, column}
 use Rattle.sqlite_value.specs.declared.value.Value.TheVariants.{Null, Text}
 use Rattle.sql_tables.specs.InTrees.{columns_of, stored_in}
-use Rattle.sql_tables.specs.Stored.{is_of, tables_of}
+use Rattle.sql_tables.specs.Stored.{Stored, is_of, tables_of}
 use Rattle.sql_tables.specs.Values.{number_in}
 use Rattle.sql_tables.specs.Whole.{IsWhole}
 use Rattle.sql_tables.proofs.TreeFacts.{filter_after}
 use Rattle.sql_texts.specs.Found.{passes}
+use Rattle.sql_texts.specs.Meaning.{Reads}
+use Rattle.sql_texts.specs.Schema.{bureau}
 use Rattle.sql_texts.specs.Reads as read
 use Rattle.sql_texts.specs.Reads.{count_of, how_many}
-use Rattle.sql_reads.specs.Answering.{one_of}
+use Rattle.sql_state.specs.Ours.{IsOurs, held_by}
+use Rattle.sql_state.specs.Reading.{Finds}
+use Rattle.sql_reads.specs.Answering.{Answers, one_of}
 use Rattle.sql_reads.proofs.LengthFacts.{holds_length, sysmods_length, zones_length}
-use Rattle.sql_reads.proofs.TextFacts.{of_given}
+use Rattle.sql_reads.proofs.TableFacts.{finds_of_two}
+use Rattle.sql_state.proofs.TextFacts.{of_given}
 
 abbrev all_rows : Grouping
 all_rows = record { keys = []; collations = []; aggregates = how_many ∷ []; having = [] }
@@ -111,3 +118,15 @@ module _ (trees : Trees) (rows : List Row) (found : ℕ) (whole : IsWhole (store
       ∙ sym (map_length (filter (passes params tests) (trees 13)))
       ∙ ap length (filter_after (passes params tests) (is_of client) (of_given client is) (trees 13))
       ∙ sym (zones_length (stored_in trees) whole client)
+
+-- ---- what a read that counts finds
+
+pub count_found : {Fault : Type 0} (text : List ℕ) (params asked : Row) → params ≡ asked → (old new : State) (query : Query) (parameters : ℕ)
+    → Reads bureau text query (codes "count(*)" ∷ []) parameters → (rows : Vec Row Global) (seen : List Row) → seen ≡ rows.items → Answers {Fault = Fault} text params old new (Ok rows)
+    → (result : Result ℕ Fault) → IfOk result (λ found. one_of (λ row. number_in (column row 0)) seen ≡ Some (Some found)) → IfOk result (λ found. found < most) → (many : Stored → ℕ)
+    → (IsOurs old.committed → IsAnswer query old.committed.trees asked seen → (found : ℕ) → one_of (λ row. number_in (column row 0)) seen ≡ Some (Some found) → found < most → found ≡ many (held_by old.committed))
+    → Finds old new result (λ stored found. found ≡ many stored)
+count_found text params asked same_params old new query parameters reads rows seen same answers result count below many law =
+    finds_of_two text params asked same_params old new query (codes "count(*)" ∷ []) parameters reads rows seen same answers result
+    (λ found. one_of (λ row. number_in (column row 0)) seen ≡ Some (Some found)) (λ found. found < most) count below
+    (λ stored found. found ≡ many stored) law

@@ -48,7 +48,7 @@ use Rattle.sql_texts.specs.Reads as read
 use Rattle.sql_texts.proofs.AnswerFacts.{join_answer, same_text}
 use Rattle.sql_reads.proofs.JoinFacts.{both, both_back, join_said}
 use Rattle.sql_reads.proofs.MemberFacts.{all_of, any_from, any_to, filtered, joined_from, joined_to, made_from, made_to, one_key, passed, read_from, read_to}
-use Rattle.sql_reads.proofs.TextFacts.{named_text}
+use Rattle.sql_state.proofs.TextFacts.{text_named}
 
 -- ---- how the database compares
 
@@ -85,7 +85,7 @@ unfolding binary
 kind_compared a b = ap (λ o. is_true (from_truth (Some (is_eq o)))) (value_cmp-Int (pos (kind_place a)) (pos (kind_place b))) ∙ back _ ∙ kinds_alike a b
 
 id_compared : (id : List ℕ) (value : Value) → IsId id → (text : Value) → text ≡ Text (text_of id) → is_true (binary (Compare Eq Binary) value text) ≡ is_named id value
-id_compared id value is text same = ap (λ t. is_true (binary (Compare Eq Binary) value t)) same ∙ same_text value (text_of id) ∙ named_text id is value
+id_compared id value is text same = ap (λ t. is_true (binary (Compare Eq Binary) value t)) same ∙ same_text value (text_of id) ∙ text_named id is value
 
 -- ---- the rows of a zone
 

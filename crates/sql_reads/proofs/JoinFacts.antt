@@ -36,11 +36,11 @@ use Rattle.sql_tables.proofs.TreeFacts.{column_after}
 use Rattle.sql_tables.proofs.ValueFacts.{id_again}
 use Rattle.sql_texts.specs.Found.{pairs_shown, passes_with}
 use Rattle.sql_texts.specs.Reads as read
-use Rattle.sql_texts.proofs.AnswerFacts.{join_answer, same_text}
+use Rattle.sql_texts.proofs.AnswerFacts.{join_answer}
 use Rattle.sql_reads.proofs.ClientFacts.{all_said}
 use Rattle.sql_reads.proofs.MemberFacts.{all_of, any_from, any_to, filtered, joined_from, joined_to, made_from, made_to, passed, read_from, read_to}
 use Rattle.sql_reads.proofs.PublishedFacts.{sysmods_ids}
-use Rattle.sql_reads.proofs.TextFacts.{named_text}
+use Rattle.sql_state.proofs.TextFacts.{text_given}
 
 pub both : (a b : Bool) → (a && b) ≡ true → (a ≡ true) × (b ≡ true)
 both true b h = (refl, h)
@@ -108,9 +108,9 @@ module _ (trees : Trees) (id : List ℕ) (is : IsId id) (whole : IsWhole (stored
       ap (λ v. is_true (binary (Compare Eq Binary) (column s 1) v) && (is_true (binary (Compare Eq Binary) (column p 2) (Text (text_of id))) && true))
       (sym (column_after p 0) ∙ ap (λ row. column row 0) same)
       ∙ ap (λ b. b && (is_true (binary (Compare Eq Binary) (column p 2) (Text (text_of id))) && true))
-      (same_text (column s 1) (text_of member.id) ∙ named_text member.id fit.0 (column s 1) ∙ ap (is_named member.id) (sym (column_after s 0)))
+      (text_given member.id fit.0 s 0)
       ∙ ap (λ b. is_named member.id (column (drop 1 s) 0) && (b && true))
-      (same_text (column p 2) (text_of id) ∙ named_text id is (column p 2) ∙ ap (is_named id) (sym (column_after p 1)))
+      (text_given id is p 1)
 
   -- the id that a row names
   named_is : (name : List ℕ) (value : Value) → is_named name value ≡ true → id_in value ≡ Some name

@@ -11,6 +11,5 @@ mod ProperFacts
 mod PublishedFacts
 mod QuietFacts
 mod TableFacts
-mod TextFacts
 mod VersionFacts
 mod ZoneFacts

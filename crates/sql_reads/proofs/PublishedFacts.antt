@@ -37,7 +37,7 @@ use Rattle.sql_reads.specs.Answering.{one_of}
 use Rattle.sql_reads.proofs.ClientFacts.{table_said}
 use Rattle.sql_reads.proofs.MemberFacts.{filtered, passed, read_from, read_to}
 use Rattle.sql_reads.proofs.TableFacts.{one_case, one_passes, table_found}
-use Rattle.sql_reads.proofs.TextFacts.{of_given}
+use Rattle.sql_state.proofs.TextFacts.{of_given}
 
 filter_true : (rows : List Row) → filter (λ row. true) rows ≡ rows
 filter_true [] = refl

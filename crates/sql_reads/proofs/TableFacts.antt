@@ -1,18 +1,18 @@
 -- What a text shows of one table, as rows without their rowids; and the one row that it shows.
-use Rattle.std.proofs.Common.{◌≡◌, ◌⊎◌, ℕ, suc, Bool, true, false, cond, length, drop, List, [], ◌∷◌, refl, sym, ◌∙◌, ap, subst, arith, inl, inr, ◌≤◌, Ok, Err, Result, Some, None}
+use Rattle.std.proofs.Common.{◌≡◌, ◌⊎◌, ℕ, suc, Bool, true, false, cond, length, drop, List, [], ◌∷◌, refl, sym, ◌∙◌, ap, subst, arith, inl, inr, Ok, Err, Result, Some, None}
 use Rattle.std.specs.Prelude.{filter, is_some, map, Option, option_map, Vec, IfOk}
 use Rattle.std.specs.declared.alloc.Global.{Global}
 use Rattle.std.specs.List.{AllByRecursion, Contains}
 use Rattle.std.specs.List.Sorted.{IsPermutation}
 use Rattle.std.proofs.lemmas.List.Sorted.{Contains-permutation, IsPermutation-sym, length_permutation}
 use Rattle.sqlite.specs.Query.{IsAnswer, Query}
-use Rattle.sqlite.specs.State.{HasCleanDisk, State, Survives}
-use Rattle.sqlite_disk.specs.Disk.{MoreFaults}
+use Rattle.sqlite.specs.State.{State}
 use Rattle.sqlite.specs.Term.{Term}
 use Rattle.sqlite.specs.Tree.{Trees}
 use Rattle.sqlite_value.specs.Order.{Row}
 use Rattle.sql_state.specs.Ours.{IsOurs, held_by}
-use Rattle.sql_state.specs.Reading.{Finds, OnlyReads}
+use Rattle.sql_state.specs.Reading.{Finds}
+use Rattle.sql_state.proofs.StopFacts.{read_on, was_clean}
 use Rattle.sql_tables.specs.InTrees.{columns_of}
 use Rattle.sql_tables.specs.Stored.{Stored, first}
 use Rattle.sql_tables.specs.Whole.{IsWhole}
@@ -25,7 +25,7 @@ use Rattle.sql_texts.specs.Schema.{bureau}
 use Rattle.sql_texts.proofs.AnswerFacts.{table_answer}
 use Rattle.sql_reads.specs.Answering.{Answers, one_of}
 
-pub if_both : {A Fault : Type 0} (P Q : A → Type 0) (result : Result A Fault) → IfOk result P → IfOk result Q → IfOk result (λ a. P a × Q a)
+if_both : {A Fault : Type 0} (P Q : A → Type 0) (result : Result A Fault) → IfOk result P → IfOk result Q → IfOk result (λ a. P a × Q a)
 if_both P Q (Ok a) p q = (p, q)
 if_both P Q (Err e) p q = tt
 
@@ -44,6 +44,13 @@ module _ {A Fault : Type 0} (text : List ℕ) (params asked : Row) (same_params 
   }
   finds rows seen same answers (Err e) Said said Fact law = record { reads = answers.reads; is_open = tt; told = tt }
 
+  -- the same from two things that are said
+  pub finds_of_two : (rows : Vec Row Global) (seen : List Row) → seen ≡ rows.items → Answers {Fault = Fault} text params old new (Ok rows)
+      → (result : Result A Fault) (Said Also : A → Type 0) → IfOk result Said → IfOk result Also → (Fact : Stored → A → Type 0)
+      → (IsOurs old.committed → IsAnswer query old.committed.trees asked seen → (a : A) → Said a → Also a → Fact (held_by old.committed) a) → Finds old new result Fact
+  finds_of_two rows seen same answers result Said Also said also Fact law =
+      finds rows seen same answers result (λ a. Said a × Also a) (if_both Said Also result said also) Fact (λ ours answer a both. law ours answer a both.0 both.1)
+
 -- the rows of an answer are what is found
 pub finds_rows : {Fault : Type 0} (text : List ℕ) (params asked : Row) → params ≡ asked → (old new : State) (query : Query) (names : List (List ℕ)) (parameters : ℕ) → Reads bureau text query names parameters
     → (result : Result (Vec Row Global) Fault) → Answers {Fault = Fault} text params old new result → (Fact : Stored → Vec Row Global → Type 0)
@@ -57,49 +64,15 @@ finds_rows text params asked same_params old new query names parameters reads (E
 
 -- ---- one read after another
 
-more_faults : (a b c : ℕ) → MoreFaults a b → b ≤ c → MoreFaults a c
-more_faults a b c h k = omega (arith, h, k)
-
-more_after : (a b c : ℕ) → a ≤ b → MoreFaults b c → MoreFaults a c
-more_after a b c h k = omega (arith, h, k)
-
 module _ (old mid new : State) where
-  clean_before : (P : Trees → Type 0) → Survives mid new P → HasCleanDisk new → HasCleanDisk mid
-  clean_before P survives clean = omega (arith, survives.clean, clean)
-
-  pub reads_on : OnlyReads old mid → OnlyReads mid new → OnlyReads old new
-  reads_on first second = record {
-    keeps = λ clean.
-        let before = first.keeps (clean_before _ second.survives clean) in
-        let after = second.keeps clean in
-        record { was_open = λ here. before.was_open (after.was_open here); committed = λ here. after.committed here ∙ before.committed (after.was_open here) };
-    survives = record {
-      clean = omega (arith, first.survives.clean, second.survives.clean);
-      shield = λ h. second.survives.shield (first.survives.shield h);
-      counts = omega (arith, first.survives.counts, second.survives.counts);
-      limit = second.survives.limit ∙ first.survives.limit;
-      closes = λ clean here. elim (first.survives.closes (clean_before _ second.survives clean) here) [
-        | inl there ↦ elim (second.survives.closes clean there) [
-          | inl last ↦ inl last
-          | inr more ↦ inr (more_after old.faults mid.faults new.faults first.survives.counts more)
-        ]
-        | inr more ↦ inr (more_faults old.faults mid.faults new.faults more second.survives.counts)
-      ];
-      crash = λ clean db left. elim (second.survives.crash clean db left) [
-        | inl before ↦ first.survives.crash (clean_before _ second.survives clean) db before
-        | inr none ↦ absurd none
-      ];
-    };
-  }
-
   -- what two reads find, both find of the rows that are committed
   pub finds_on : {A B C Fault : Type 0} (a : A) (b : B) (c : C) (First : Stored → A → Type 0) (Second : Stored → B → Type 0) (Fact : Stored → C → Type 0)
       → Finds old mid {Answer = A} {Fault = Fault} (Ok a) First → Finds mid new {Answer = B} {Fault = Fault} (Ok b) Second → ((stored : Stored) → IsWhole stored → First stored a → Second stored b → Fact stored c) → Finds old new {Answer = C} {Fault = Fault} (Ok c) Fact
   finds_on a b c First Second Fact first second step = record {
-    reads = reads_on first.reads second.reads;
+    reads = read_on old mid new first.reads second.reads;
     is_open = second.is_open;
     told = λ clean ours.
-        let before = clean_before _ second.reads.survives clean in
+        let before = was_clean mid new _ second.reads.survives clean in
         let same : mid.committed ≡ old.committed = (first.reads.keeps before).committed (first.is_open before) in
         step (held_by old.committed) ours.rows.whole (first.told before ours)
         (subst (λ d. Second (held_by d) b) same (second.told clean (subst IsOurs (sym same) ours)));
@@ -110,19 +83,19 @@ module _ (old mid new : State) where
       → Finds old mid {Answer = A} {Fault = Fault} (Ok a) First → Finds mid new {Answer = B} {Fault = Fault} (Ok b) Second → (Said : C → Type 0) → IfOk result Said
       → ((stored : Stored) (c : C) → First stored a → Second stored b → Said c → Fact stored c) → Finds old new {Answer = C} {Fault = Fault} result Fact
   finds_both a b (Ok c) First Second Fact first second Said said step = finds_on a b c First Second Fact first second (λ stored whole one two. step stored c one two said)
-  finds_both a b (Err e) First Second Fact first second Said said step = record { reads = reads_on first.reads second.reads; is_open = tt; told = tt }
+  finds_both a b (Err e) First Second Fact first second Said said step = record { reads = read_on old mid new first.reads second.reads; is_open = tt; told = tt }
 
   -- the same, where the second may be refused
   pub then_finds : {A B Fault : Type 0} (a : A) (result : Result B Fault) (First : Stored → A → Type 0) (Second Fact : Stored → B → Type 0)
       → Finds old mid {Answer = A} {Fault = Fault} (Ok a) First → Finds mid new {Answer = B} {Fault = Fault} result Second
       → ((stored : Stored) (b : B) → First stored a → Second stored b → Fact stored b) → Finds old new {Answer = B} {Fault = Fault} result Fact
   then_finds a (Ok b) First Second Fact first second step = finds_on a b b First Second Fact first second (λ stored whole. step stored b)
-  then_finds a (Err e) First Second Fact first second step = record { reads = reads_on first.reads second.reads; is_open = tt; told = tt }
+  then_finds a (Err e) First Second Fact first second step = record { reads = read_on old mid new first.reads second.reads; is_open = tt; told = tt }
 
   -- the first told something, and the second is refused
   pub then_refused : {A B C Fault : Type 0} (a : A) (fault : Fault) (First : Stored → A → Type 0) (Second : Stored → B → Type 0) (Fact : Stored → C → Type 0)
       → Finds old mid {Answer = A} {Fault = Fault} (Ok a) First → Finds mid new {Answer = B} {Fault = Fault} (Err fault) Second → Finds old new {Answer = C} {Fault = Fault} (Err fault) Fact
-  then_refused a fault First Second Fact first second = record { reads = reads_on first.reads second.reads; is_open = tt; told = tt }
+  then_refused a fault First Second Fact first second = record { reads = read_on old mid new first.reads second.reads; is_open = tt; told = tt }
 
 -- what one read finds says more
 pub finds_so : {A B Fault : Type 0} (old new : State) (a : A) (b : B) (First : Stored → A → Type 0) (Fact : Stored → B → Type 0) → Finds old new {Answer = A} {Fault = Fault} (Ok a) First

@@ -21,7 +21,7 @@ use Rattle.sqlite_sql.specs.declared.ops.CompareOp.TheVariants.{Eq}
 use Rattle.sqlite_value.specs.Order.{Row, column}
 use Rattle.sqlite_value.specs.declared.value.Value.TheVariants.{Int, Text}
 use Rattle.sql_tables.specs.InTrees.{columns_of, stored_in}
-use Rattle.sql_tables.specs.Stored.{is_named, is_of, is_of_both, names_of, tables_of, zone_of, zone_rows_of}
+use Rattle.sql_tables.specs.Stored.{is_of, is_of_both, names_of, tables_of, zone_of, zone_rows_of}
 use Rattle.sql_tables.specs.Values.{id_in, id_value}
 use Rattle.sql_tables.specs.Whole.{Head, IsHead, IsWhole, row_of_head}
 use Rattle.sql_tables.proofs.MemberFacts.{first_in, rest_in}
@@ -31,12 +31,11 @@ use Rattle.sql_tables.proofs.ValueFacts.{id_again, named_value}
 use Rattle.sql_texts.specs.Found.{passes}
 use Rattle.sql_texts.specs.Reads as read
 use Rattle.sql_texts.specs.Reads.{in_the_zone, is_given, most_rows}
-use Rattle.sql_texts.proofs.AnswerFacts.{same_text}
 use Rattle.sql_reads.specs.ZoneCounts.{with_count, zone_counted}
 use Rattle.sql_reads.proofs.ClientFacts.{map_map}
 use Rattle.sql_reads.proofs.LengthFacts.{zone_rows_length}
 use Rattle.sql_reads.proofs.MemberFacts.{all_of, filtered, made_from, made_to, read_from, read_to}
-use Rattle.sql_reads.proofs.TextFacts.{and_true, named_text, of_given}
+use Rattle.sql_state.proofs.TextFacts.{both_given, of_given}
 
 -- how many rows of the other table are of the zone of a head
 abbrev pub rows_counted : Row → List Row → Row → ℕ
@@ -136,10 +135,7 @@ module _ (trees : Trees) (client : List ℕ) (is : IsId client) (whole : IsWhole
     row_counted : (row : Row) → list_all (holds (params ∷ head ∷ row ∷ [])) in_the_zone ≡ is_of_both client zone (drop 1 row)
     row_counted row =
         ap₂ (λ v w. is_true (binary (Compare Eq Binary) (column row 1) v) && (is_true (binary (Compare Eq Binary) (column row 2) w) && true)) of named
-        ∙ ap (λ b. b && (is_true (binary (Compare Eq Binary) (column row 2) (Text (text_of zone))) && true))
-        (same_text (column row 1) (text_of client) ∙ named_text client is (column row 1) ∙ ap (is_named client) (sym (column_after row 0)))
-        ∙ ap (λ b. is_of client (drop 1 row) && b)
-        (and_true _ ∙ same_text (column row 2) (text_of zone) ∙ named_text zone is_zone (column row 2) ∙ ap (is_named zone) (sym (column_after row 1)))
+        ∙ both_given client zone is is_zone row
 
     count_is : rows_counted params (trees 15) head ≡ min most_rows (length (zone_rows_of (columns_of (trees 15)) client zone))
     count_is =

@@ -1,15 +1,12 @@
 //! Reads of what a client has: its zones with their rows and patterns, and what it has received.
 ghost use Rattle.std.specs.Prelude.{◌≡◌, false, length, is_some, option_map, IfOk, IfSome};
-ghost use Rattle.std.specs.Cmp.Lexicographic.{slice_cmp};
-ghost use Rattle.std.specs.List.Sorted.{IsStrictlySortedBy};
-ghost use Rattle.std.specs.Ordering.{nat_cmp};
 ghost use Rattle.sqlite.specs.Held.{state};
 ghost use Rattle.holddata.specs.HoldBook.{IsInKeyOrder};
 ghost use Rattle.catalogue.specs.Ids.{Ascend};
 ghost use Rattle.zone_lists.specs.ZoneList.{RowsAscend};
 ghost use Rattle.bureau_store.specs.Held.{held_in};
 ghost use Rattle.bureau_store.specs.Tables as tables;
-ghost use Rattle.bureau_store.specs.Tables.{zone_named};
+ghost use Rattle.bureau_store.specs.Tables.{PatternsAscend, zone_named};
 ghost use Rattle.sql_state.specs.Reading.{Finds};
 ghost use Rattle.sql_tables.specs.Stored.{tables_of, zone_rows_of};
 
@@ -61,7 +58,7 @@ pub fn patterns<S: Alter>(
     ensures finds { Finds (state S.Store conn.old) (state S.Store conn.new) result
         (λ stored patterns. patterns.items
         ≡ tables.patterns_of (zone_named zone.now ((tables_of stored).zones client.now))) }
-    ensures ascend { IfOk result (λ patterns. IsStrictlySortedBy (slice_cmp nat_cmp) patterns.items) }
+    ensures ascend { IfOk result (λ patterns. PatternsAscend patterns.items) }
 {
     let params = [id_of(client), id_of(zone)];
     let rows = rows_of(conn, read::patterns(), &params)?;

@@ -1,11 +1,9 @@
 //! What the rows of an answer say.
 ghost use Rattle.std.specs.Prelude.{◌≡◌, ◌<◌, ◌↔◌, [], map, option_map, unwrap_or, is_some, Some, IfOk, IfSome, IsTrue};
-ghost use Rattle.std.specs.Cmp.Lexicographic.{slice_cmp};
-ghost use Rattle.std.specs.List.Sorted.{IsStrictlySortedBy};
-ghost use Rattle.std.specs.Ordering.{is_lt, nat_cmp};
+ghost use Rattle.std.specs.Ordering.{is_lt};
 ghost use Rattle.sqlite_value.specs.Order as order;
 ghost use Rattle.bureau_store.specs.Caller.{IsProper, caller_named, is_publisher};
-ghost use Rattle.bureau_store.specs.Tables.{no_change};
+ghost use Rattle.bureau_store.specs.Tables.{PatternsAscend, no_change};
 ghost use Rattle.holddata.specs.HoldBook.{IsInKeyOrder};
 ghost use Rattle.holddata.specs.HoldKey.{key_cmp, kind_place};
 ghost use Rattle.catalogue.specs.Conditional.{CondsAscend};
@@ -139,7 +137,7 @@ pub(crate) fn ascending_patterns(alloc: Global, rows: &[Row]) -> Result<Vec<Patt
     ensures patterns { IfOk result (λ patterns. option_map (λ found. unwrap_or found [])
         (one_of (λ row. value.patterns_in (order.column row 0)) rows.now)
         ≡ Some patterns.items) }
-    ensures ascend { IfOk result (λ patterns. IsStrictlySortedBy (slice_cmp nat_cmp) patterns.items) }
+    ensures ascend { IfOk result (λ patterns. PatternsAscend patterns.items) }
 {
     let patterns = patterns(alloc, rows)?.unwrap_or(Vec::new(alloc));
     if !patterns_ascend(patterns.as_slice()) {
@@ -150,7 +148,7 @@ pub(crate) fn ascending_patterns(alloc: Global, rows: &[Row]) -> Result<Vec<Patt
 
 // Whether patterns ascend, each once.
 fn patterns_ascend(patterns: &[Pattern]) -> bool
-    ensures { IsTrue result ↔ IsStrictlySortedBy (slice_cmp nat_cmp) patterns.now }
+    ensures { IsTrue result ↔ PatternsAscend patterns.now }
 {
     patterns.is_sorted_by(|pattern, next| pattern.cmp(next).is_lt())
 }

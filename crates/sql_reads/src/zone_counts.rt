@@ -1,9 +1,8 @@
 //! The read of a client's zones, each with how many rows it has.
 ghost use Rattle.std.specs.Prelude.{◌≡◌, ◌↔◌, false, length, map, Some, IfOk, IsTrue};
-ghost use Rattle.std.specs.List.Sorted.{IsStrictlySortedBy};
+ghost use Rattle.bureau_store.specs.Tables.{NamesAscend};
 ghost use Rattle.sqlite.specs.Held.{state};
 ghost use Rattle.sqlite_value.specs.Order as order;
-ghost use Rattle.bureau_store.specs.Tables.{name_order};
 ghost use Rattle.sql_reads.specs.ZoneCounts.{zone_counted};
 ghost use Rattle.sql_state.specs.Reading.{Finds};
 ghost use Rattle.sql_tables.specs.Stored.{tables_of};
@@ -35,7 +34,7 @@ pub fn zones<S: Alter>(
     ensures finds { Finds (state S.Store conn.old) (state S.Store conn.new) result
         (λ stored zones. zones.items
         ≡ map (λ zone. (zone.0, length zone.1.rows)) ((tables_of stored).zones client.now)) }
-    ensures ascend { IfOk result (λ zones. IsStrictlySortedBy name_order (map (λ zone. zone.0) zones.items)) }
+    ensures ascend { IfOk result (λ zones. NamesAscend (map (λ zone. zone.0) zones.items)) }
 {
     let params = [id_of(client)];
     let rows = rows_of(conn, read::zones(), &params)?;
@@ -45,7 +44,7 @@ pub fn zones<S: Alter>(
 // The zones of all rows, in the order of their names.
 fn ascending_zones(alloc: Global, rows: &[Row]) -> Result<Vec<(Id, u64)>, ReadFault>
     ensures zones { IfOk result (λ zones. map Some zones.items ≡ map zone_counted rows.now) }
-    ensures ascend { IfOk result (λ zones. IsStrictlySortedBy name_order (map (λ zone. zone.0) zones.items)) }
+    ensures ascend { IfOk result (λ zones. NamesAscend (map (λ zone. zone.0) zones.items)) }
 {
     let zones = each_zone(alloc, rows)?;
     if !names_ascend(zones.as_slice()) {
@@ -88,7 +87,7 @@ fn second_number(row: &Row) -> Option<u64>
 
 // Whether the names of zones ascend, each once.
 fn names_ascend(zones: &[(Id, u64)]) -> bool
-    ensures { IsTrue result ↔ IsStrictlySortedBy name_order (map (λ zone. zone.0) zones.now) }
+    ensures { IsTrue result ↔ NamesAscend (map (λ zone. zone.0) zones.now) }
 {
     zones.is_sorted_by(|zone, next| zone.0.cmp(&next.0).is_lt())
 }

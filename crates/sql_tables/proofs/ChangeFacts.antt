@@ -2,18 +2,18 @@
 use Rattle.std.proofs.Common.{◌≡◌, ℕ, Bool, true, false, cond, List, [], ◌∷◌, refl, sym, ◌∙◌, ap, if◌then◌else◌}
 use Rattle.std.specs.Prelude.{filter, fold, map, Some, None, is_some, option_and_then, option_map, unwrap_or}
 use Rattle.std.specs.List.{AllByRecursion, cons_option, filter_map, list_any}
-use Rattle.std.proofs.Math.Path.{fun_ext}
 use Rattle.mcs_reader.specs.Id.{IsId}
 use Rattle.catalogue.specs.Content.{Content}
 use Rattle.catalogue.specs.Ids.{same_id}
 use Rattle.catalogue.specs.declared.change.Change.{Change}
 use Rattle.catalogue.specs.declared.change.Change.TheVariants.{Whole, OfHold}
 use Rattle.catalogue.proofs.IdFacts.{one_id, same_back}
+use Rattle.bureau_store.proofs.StoreFacts.{same_tables}
 use Rattle.bureau_store.specs.Caller.{is_caller, is_publisher, publisher_name}
 use Rattle.bureau_store.specs.Effect as effect
 use Rattle.bureau_store.specs.Effect.{Effect, publication, zone_put, zone_dropped, received_put, patterns_put, zones_after}
 use Rattle.bureau_store.specs.Tables as tables
-use Rattle.bureau_store.specs.Tables.{AreInOrder, LastChange, Tables, no_change, zone_named}
+use Rattle.bureau_store.specs.Tables.{AreInOrder, LastChange, no_change}
 use Rattle.bureau_store.specs.declared.caller.Caller.{Caller}
 use Rattle.bureau_store.specs.declared.caller.Caller.TheVariants.{Publisher, Client}
 use Rattle.bureau_store.specs.declared.caller.CallerRow.{CallerRow}
@@ -102,15 +102,6 @@ last_after (Client client) (Client name) last rows is =
     by false at false there = ap (λ o. unwrap_or o no_change) (change_other client name last rows is.0 there)
 
 -- ---- all of it
-
--- tables are those of which each part is the same
-pub same_tables : (a b : Tables) → a.callers ≡ b.callers → a.content ≡ b.content → ((caller : Caller) → a.last caller ≡ b.last caller)
-    → ((name : List ℕ) → a.zones name ≡ b.zones name) → ((name : List ℕ) → a.received name ≡ b.received name) → a ≡ b
-same_tables a b callers content last zones received =
-    let lasts = fun_ext last in
-    let zoned = fun_ext zones in
-    let had = fun_ext received in
-    λ i. record { callers = callers i; content = content i; last = lasts i; zones = zoned i; received = had i }
 
 private_content : (client : List ℕ) (e : Effect) (content : Content) → IsOwn (Client client) e → effect.content_after e content ≡ content
 private_content client (publication changes) content own = absurd own

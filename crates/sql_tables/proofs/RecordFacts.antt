@@ -1,6 +1,6 @@
 -- What a read of records, of ids or of what an id supersedes finds is what the tables say.
 use Rattle.std.proofs.Common.{◌≡◌, ℕ, Bool, true, false, cond, ◌||◌, List, [], ◌∷◌, refl, sym, ◌∙◌, ap}
-use Rattle.std.specs.Prelude.{filter, find, reverse, is_some, Option, Some, None, option_map, unwrap_or}
+use Rattle.std.specs.Prelude.{filter, find, reverse, is_some, Some, None, option_map, unwrap_or}
 use Rattle.std.specs.List.{Contains, cons_option, filter_map, list_any}
 use Rattle.std.specs.List.Sorted.{IsPermutation}
 use Rattle.std.proofs.lemmas.List.Sorted.{IsPermutation-reverse, list_any-IsPermutation}

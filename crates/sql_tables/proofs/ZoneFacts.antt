@@ -11,7 +11,7 @@ use Rattle.catalogue.specs.Ids.{same_id}
 use Rattle.catalogue.proofs.IdFacts.{one_id, same_back}
 use Rattle.bureau_store.specs.Effect.{Effect, publication, zone_put, zone_dropped, received_put, patterns_put, zones_after}
 use Rattle.bureau_store.specs.Tables as tables
-use Rattle.bureau_store.specs.Tables.{ZoneTable, Zones, rows_of, zone_named}
+use Rattle.bureau_store.specs.Tables.{ZoneTable, rows_of, zone_named}
 use Rattle.sqlite_value.specs.Order.{Row, column}
 use Rattle.sql_tables.specs.Changes.{heads_after, replaced, rows_after, with_head}
 use Rattle.sql_tables.specs.Fit.{AreZoneRows, IsFit}

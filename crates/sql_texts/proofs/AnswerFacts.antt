@@ -83,7 +83,7 @@ same_text (Text t) text = two_texts t text
 -- ---- from what a connection shows
 
 -- no table is computed first
-plain_trees : (db : Trees) (tree : ℕ) → overlay db [] tree ≡ db tree
+pub plain_trees : (db : Trees) (tree : ℕ) → overlay db [] tree ≡ db tree
 plain_trees db tree = by (nat_le (2 ^ 31) tree)
   where
     by : (b : Bool) → unwrap_or (cond b (slice_get [] (tree - 2 ^ 31)) None) (db tree) ≡ db tree

@@ -9,7 +9,7 @@ use Rattle.sqlite.specs.Effect.{Database}
 use Rattle.sqlite.specs.Order.{Row}
 use Rattle.sqlite.specs.Query.{Query}
 use Rattle.sqlite.specs.Listing.{understood}
-use Rattle.sqlite.specs.State.{FailsToQuery, FailsToShow, Fails, HasCleanDisk, IsNotRun, IsTooLate, IsUnchanged, KeepsCommit, Shown, ShowsRows, State, Survives}
+use Rattle.sqlite.specs.State.{FailsToQuery, FailsToShow, HasCleanDisk, IsTooLate, IsUnchanged, KeepsCommit, Shown, ShowsRows, State, Survives}
 use Rattle.sqlite.specs.declared.error.Error.{Error}
 use Rattle.sqlite_resolve.specs.declared.compiled.Compiled.{Compiled}
 use Rattle.sqlite_schema.specs.declared.command.Returning.{Returning}
@@ -28,19 +28,14 @@ use Rattle.sql_tables.specs.Values.{id_value}
 use Rattle.sql_state.specs.Ours.{held_by}
 use Rattle.sql_state.specs.Writing.{Changes, IsKnown}
 use Rattle.sql_writes.specs.Parts as parts
-use Rattle.sql_writes.proofs.ChangeFacts.{alike_here, changes_then, was_clean}
+use Rattle.sql_state.proofs.StopFacts.{kept_failing, kept_unchanged, kept_unrun, was_clean}
+use Rattle.sql_writes.proofs.ChangeFacts.{alike_here, changes_then}
 use Rattle.sql_writes.proofs.LoadFacts.{told}
 use Rattle.sql_writes.proofs.RowidFacts.{any_counts, any_mapped, is_some_of}
-use Rattle.sql_writes.proofs.ValueFacts.{both_given}
+use Rattle.sql_state.proofs.TextFacts.{both_given}
 
 same_value : {B E : Type 0} {a b : B} → ◌≡◌ {A = Result B E} (Ok a) (Ok b) → a ≡ b
 same_value e = cc
-
-kept_unchanged : (old new : State) → IsUnchanged old new → KeepsCommit old new
-kept_unchanged old new same = record { was_open = λ here. same.0.was_open; committed = λ here. same.0.committed_is }
-
-kept_failing : (old new : State) (big : Type 0) (e : Error) → Fails old new big e → KeepsCommit old new
-kept_failing old new big e h = record { was_open = h.3.was_open; committed = λ here. (h.3.undone here).1 }
 
 kept_shown : (old new : State) (sql : List ℕ) (c : Compiled) (params : Row) (rows : List Row) (what : Option Returning) → IsTrue old.in_transaction → ShowsRows old new sql c params rows what → KeepsCommit old new
 kept_shown old new sql c params rows None inside h = kept_unchanged old new h.3
@@ -60,11 +55,6 @@ kept_refused : (old new : State) (sql : List ℕ) (c : Compiled) (params : Row) 
 kept_refused old new sql c params e None h = kept_unchanged old new h.3
 kept_refused old new sql c params e (Some what) (inl h) = kept_unchanged old new h.1
 kept_refused old new sql c params e (Some what) (inr h) = kept_failing old new _ e h
-
-kept_unrun : (old new : State) (sql : List ℕ) (params : Row) (e : Error) → IsNotRun old new sql params e → KeepsCommit old new
-unfolding IsNotRun
-kept_unrun old new sql params e (inl h) = kept_unchanged old new h.1
-kept_unrun old new sql params e (inr h) = kept_failing old new _ e h
 
 kept_unread : (old new : State) (sql : List ℕ) (params : Row) (e : Error) → FailsToQuery sql params old new e ⊎ IsTooLate sql params old new e → KeepsCommit old new
 unfolding FailsToQuery

@@ -1,20 +1,16 @@
 -- From what is said of one statement to what it changes, and from one change to several.
-use Rattle.std.proofs.Common.{◌≡◌, ℕ, List, [], Result, Ok, Err, IfErr, IfOk, IsTrue, OnOk, refl, sym, ◌∙◌, ap, subst, arith, inl, inr}
+use Rattle.std.proofs.Common.{◌≡◌, ℕ, List, [], Result, Ok, Err, IfErr, IfOk, IsTrue, OnOk, sym, ◌∙◌, ap, subst}
 use Rattle.std.specs.Result.{IsErr}
 use Rattle.std.proofs.lemmas.Bool.{false≢true}
 use Rattle.sqlite.specs.Effect.{Database}
 use Rattle.sqlite.specs.Order.{Row}
 use Rattle.sqlite.specs.State.{Executes, HasCleanDisk, IsNotRun, IsUnchanged, KeepsCommit, State, Survives}
 use Rattle.sqlite.specs.declared.error.Error.{Error}
-use Rattle.sqlite.proofs.StateLemmas.{survives_then}
 use Rattle.sql_tables.specs.Stored.{Stored}
 use Rattle.sql_state.specs.Ours.{held_by}
 use Rattle.sql_state.specs.Writing.{Changes, IsKnown}
+use Rattle.sql_state.proofs.StopFacts.{kept_then, kept_unchanged, kept_unrun, no_read, survives_both, was_clean}
 use Rattle.sql_writes.specs.Running.{Ran}
-
--- the disk was clean before, where it is clean now
-pub was_clean : (old new : State) (Leaves : _ → Type 0) → Survives old new Leaves → HasCleanDisk new → HasCleanDisk old
-was_clean old new Leaves survives clean = omega (arith, survives.clean)
 
 -- one statement is a change
 pub changed_by : {A F : Type 0} (old new : State) (text : List ℕ) (params : Row) (result : Result A F) (change : Stored → Stored) → Ran text params old new result
@@ -30,18 +26,19 @@ changed_by {A} {F} old new text params result change ran meant = record { keeps 
         (it.0, it.1, λ known. meant (was_clean old new _ ran.survives clean) it.2.0 known it.2.1)
     by (Err e) done = tt
 
-pub kept_then : (old mid new : State) → KeepsCommit old mid → KeepsCommit mid new → KeepsCommit old new
-kept_then old mid new one two =
-    record { was_open = λ here. one.was_open (two.was_open here); committed = λ here. two.committed here ∙ one.committed (two.was_open here) }
+-- what is committed stays over both of two steps
+pub keeps_both : (old mid new : State) → (HasCleanDisk mid → IsTrue old.in_transaction → KeepsCommit old mid) → (HasCleanDisk new → IsTrue mid.in_transaction → KeepsCommit mid new)
+    → Survives mid new (λ trees. ⊥) → (HasCleanDisk mid → IsTrue old.in_transaction → IsTrue mid.in_transaction) → HasCleanDisk new → IsTrue old.in_transaction → KeepsCommit old new
+keeps_both old mid new one two survives stays clean inside =
+    let before = was_clean mid new _ survives clean in
+    kept_then old mid new (one before inside) (two clean (stays before inside))
 
 -- one change and then another
 pub changes_then : {A B E F : Type 0} (old mid new : State) (a : A) (result : Result B F) (first second : Stored → Stored)
     → Changes {Fault = E} old mid (Ok a) first → Changes mid new result second → Changes old new result (λ stored. second (first stored))
 changes_then {A} {B} {E} {F} old mid new a result first second one two = record {
-  keeps = λ clean inside.
-      let before = was_clean mid new _ two.survives clean in
-      kept_then old mid new (one.keeps before inside) (two.keeps clean (one.done before inside).1);
-  survives = survives_then old mid new (λ trees. ⊥) (λ trees. ⊥) (λ trees. ⊥) (λ _ db none. none) (λ _ db none. none) one.survives two.survives;
+  keeps = keeps_both old mid new one.keeps two.keeps two.survives (λ clean inside. (one.done clean inside).1);
+  survives = survives_both old mid new one.survives two.survives;
   done = by result two.done;
 }
   where
@@ -71,40 +68,25 @@ pub alike : {A F : Type 0} (old new : State) (result : Result A F) (change other
     → Changes old new result change → Changes old new result other
 alike old new result change other same h = subst (Changes old new result) (λ i stored. same stored i) h
 
-survives_itself : (s : State) → Survives s s (λ trees. ⊥)
-survives_itself s = record {
-  clean = omega arith;
-  shield = λ here. here;
-  counts = omega arith;
-  limit = refl;
-  closes = λ clean here. inl here;
-  crash = λ clean trees left. inl left;
-}
-
 -- nothing is done, and the call is refused
 pub untouched : {A F : Type 0} (s : State) (e : F) (change : Stored → Stored) → Changes {Answer = A} s s (Err e) change
 untouched s e change =
-    record { keeps = λ clean inside. record { was_open = λ here. here; committed = λ here. refl }; survives = survives_itself s; done = tt }
+    record { keeps = λ clean inside. (no_read s).keeps clean; survives = (no_read s).survives; done = tt }
 
 -- a statement is prepared
 pub prepared : {A : Type 0} (text_of : A → List ℕ) (old new : State) (text : List ℕ) (result : Result A Error)
     → (HasCleanDisk new → IfOk result (λ a. (text_of a ≡ text) × IsUnchanged old new))
     → (HasCleanDisk new → IfErr result (λ e. (params : Row) → IsNotRun old new text params e))
     → Survives old new (λ trees. ⊥) → Changes old new result (λ stored. stored)
-unfolding IsNotRun
 prepared text_of old new text (Ok a) ok err survives = record {
-  keeps = λ clean inside. let same = (ok clean).1 in record { was_open = λ here. same.0.was_open; committed = λ here. same.0.committed_is };
+  keeps = λ clean inside. kept_unchanged old new (ok clean).1;
   survives = survives;
   done = λ clean inside.
       let same = (ok clean).1 in
       let mode : IsTrue new.in_transaction = same.0.mode ∙ inside in
       (same.0.is_open, mode, λ known. (subst IsKnown (sym same.0.now_is) known, ap held_by same.0.now_is, ap (λ (d : Database). d.trees 0) same.0.now_is));
 }
-prepared text_of old new text (Err e) ok err survives = record { keeps = λ clean inside. by (err clean []); survives = survives; done = tt }
-  where
-    by : IsNotRun old new text [] e → KeepsCommit old new
-    by (inl h) = record { was_open = λ here. h.1.0.was_open; committed = λ here. h.1.0.committed_is }
-    by (inr h) = record { was_open = h.3.was_open; committed = λ here. (h.3.undone here).1 }
+prepared text_of old new text (Err e) ok err survives = record { keeps = λ clean inside. kept_unrun old new text [] e (err clean []); survives = survives; done = tt }
 
 -- one change and then another, which together are this one
 pub both : {A B E F : Type 0} (old mid new : State) (a : A) (result : Result B F) (first second whole : Stored → Stored)

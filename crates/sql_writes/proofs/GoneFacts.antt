@@ -32,14 +32,23 @@ use Rattle.sql_writes.proofs.ChangeFacts.{changed_by}
 use Rattle.sql_writes.proofs.KindFacts.{key_given}
 use Rattle.sql_writes.proofs.StatementFacts.{deletes}
 use Rattle.sql_writes.proofs.StoredFacts.{gone, gone_known, held_set, known_after}
-use Rattle.sql_writes.proofs.ValueFacts.{both_given, one_given}
+use Rattle.sql_state.proofs.TextFacts.{both_given, of_given}
 
 module _ {A F : Type 0} (old new : State) (text : List ℕ) (result : Result A F) where
+  -- a statement that deletes the rows of an id from the table at a place
+  abbrev IdGoes : ℕ → ℕ → (List ℕ → Stored → Stored) → Type 0
+  IdGoes place tree without = (id : List ℕ) (a : ValueRef) → IsId id → owned a ≡ id_value id → Means bureau text (delete_of place tree (is_given 1 0 ∷ [])) 1
+      → Ran text (bound (a ∷ [])) old new result → Changes old new result (without id)
+
+  -- the same of a client's zone
+  abbrev ZoneGoes : ℕ → ℕ → (List ℕ → List ℕ → Stored → Stored) → Type 0
+  ZoneGoes place tree without = (client zone : List ℕ) (a b : ValueRef) → IsId client → IsId zone → owned a ≡ id_value client → owned b ≡ id_value zone
+      → Means bureau text (delete_of place tree (is_given 1 0 ∷ is_given 2 1 ∷ [])) 2 → Ran text (bound (a ∷ b ∷ [])) old new result → Changes old new result (without client zone)
+
   -- the rows of an id leave a table
   id_goes : (place : ℕ) (table : Table) (without : List ℕ → Stored → Stored) → slice_get tables place ≡ Some table → (AreNumbered old.now.trees → IsNumbered (old.now.trees table.tree)) → 0 ≢ table.tree
       → ((id : List ℕ) (left : List Row) → columns_of left ≡ replaced (is_of id) [] (columns_of (old.now.trees table.tree)) → stored_in (λ t. cond (t == table.tree) left (old.now.trees t)) ≡ without id (held_by old.now))
-      → (id : List ℕ) (a : ValueRef) → IsId id → owned a ≡ id_value id → Means bureau text (delete_of place table.tree (is_given 1 0 ∷ [])) 1
-      → Ran text (bound (a ∷ [])) old new result → Changes old new result (without id)
+      → IdGoes place table.tree without
   id_goes place table without here numbered other made id a is at means ran =
       let rows = old.now.trees table.tree in
       let params = id_value id ∷ [] in
@@ -47,55 +56,46 @@ module _ {A F : Type 0} (old new : State) (text : List ℕ) (result : Result A F
       changed_by old new text params result (without id) (subst (λ row. Ran text row old new result) (λ i. bound_value (at i) ∷ []) ran) (λ clean count known executes.
       let set = deletes text place table tests 1 params old new count means here known.schema (numbered known.numbered) executes in (
         known_after table.tree _ old.now new.now known.numbered set,
-        held_set table.tree _ old.now new.now set ∙ made id _ (gone (is_of id) (passes params tests) (one_given id is) rows),
+        held_set table.tree _ old.now new.now set ∙ made id _ (gone (is_of id) (passes params tests) (of_given id is) rows),
         set.others.0 other,
       ))
 
-  pub changes_go : (id : List ℕ) (a : ValueRef) → IsId id → owned a ≡ id_value id → Means bureau text (delete_of 2 4 (is_given 1 0 ∷ [])) 1
-      → Ran text (bound (a ∷ [])) old new result → Changes old new result (without_last id)
+  pub changes_go : IdGoes 2 4 without_last
   changes_go = id_goes 2 schema.last_change without_last refl (λ numbered. numbered.1.1.0) (λ e. omega (arith, e)) (λ id left same. ap (λ rows. record (held_by old.now) { changes = rows }) same)
 
-  pub sysmods_go : (id : List ℕ) (a : ValueRef) → IsId id → owned a ≡ id_value id → Means bureau text (delete_of 3 6 (is_given 1 0 ∷ [])) 1
-      → Ran text (bound (a ∷ [])) old new result → Changes old new result (without_sysmod id)
+  pub sysmods_go : IdGoes 3 6 without_sysmod
   sysmods_go = id_goes 3 schema.sysmod without_sysmod refl (λ numbered. numbered.1.1.1.0) (λ e. omega (arith, e)) (λ id left same. ap (λ rows. record (held_by old.now) { sysmods = rows }) same)
 
-  pub sups_go : (id : List ℕ) (a : ValueRef) → IsId id → owned a ≡ id_value id → Means bureau text (delete_of 4 8 (is_given 1 0 ∷ [])) 1
-      → Ran text (bound (a ∷ [])) old new result → Changes old new result (without_sups id)
+  pub sups_go : IdGoes 4 8 without_sups
   sups_go = id_goes 4 schema.sysmod_sup without_sups refl (λ numbered. numbered.1.1.1.1.0) (λ e. omega (arith, e)) (λ id left same. ap (λ rows. record (held_by old.now) { sups = rows }) same)
 
-  pub conds_go : (id : List ℕ) (a : ValueRef) → IsId id → owned a ≡ id_value id → Means bureau text (delete_of 9 19 (is_given 1 0 ∷ [])) 1
-      → Ran text (bound (a ∷ [])) old new result → Changes old new result (without_conds id)
+  pub conds_go : IdGoes 9 19 without_conds
   conds_go = id_goes 9 schema.sysmod_cond without_conds refl (λ numbered. numbered.1.1.1.1.1.1.1.1.1.0) (λ e. omega (arith, e)) (λ id left same. ap (λ rows. record (held_by old.now) { conds = rows }) same)
 
-  pub received_go : (id : List ℕ) (a : ValueRef) → IsId id → owned a ≡ id_value id → Means bureau text (delete_of 8 17 (is_given 1 0 ∷ [])) 1
-      → Ran text (bound (a ∷ [])) old new result → Changes old new result (without_received id)
+  pub received_go : IdGoes 8 17 without_received
   received_go = id_goes 8 schema.received_list without_received refl (λ numbered. numbered.1.1.1.1.1.1.1.1.0) (λ e. omega (arith, e)) (λ id left same. ap (λ rows. record (held_by old.now) { received = rows }) same)
 
-  pub heads_go : (client zone : List ℕ) (a b : ValueRef) → IsId client → IsId zone → owned a ≡ id_value client → owned b ≡ id_value zone
-      → Means bureau text (delete_of 6 13 (is_given 1 0 ∷ is_given 2 1 ∷ [])) 2 → Ran text (bound (a ∷ b ∷ [])) old new result → Changes old new result (without_head client zone)
-  heads_go client zone a b is_client is_zone at_client at_zone means ran =
-      let rows = old.now.trees 13 in
+  -- the rows of a client's zone leave a table
+  zone_goes : (place : ℕ) (table : Table) (without : List ℕ → List ℕ → Stored → Stored) → slice_get tables place ≡ Some table → (AreNumbered old.now.trees → IsNumbered (old.now.trees table.tree)) → 0 ≢ table.tree
+      → ((client zone : List ℕ) (left : List Row) → columns_of left ≡ replaced (is_of_both client zone) [] (columns_of (old.now.trees table.tree))
+      → stored_in (λ t. cond (t == table.tree) left (old.now.trees t)) ≡ without client zone (held_by old.now))
+      → ZoneGoes place table.tree without
+  zone_goes place table without here numbered other made client zone a b is_client is_zone at_client at_zone means ran =
+      let rows = old.now.trees table.tree in
       let params = id_value client ∷ id_value zone ∷ [] in
       let tests = is_given 1 0 ∷ is_given 2 1 ∷ [] in
-      changed_by old new text params result (without_head client zone) (subst (λ row. Ran text row old new result) (λ i. bound_value (at_client i) ∷ bound_value (at_zone i) ∷ []) ran) (λ clean count known executes.
-      let set = deletes text 6 schema.zone_head tests 2 params old new count means refl known.schema known.numbered.1.1.1.1.1.1.0 executes in (
-        known_after 13 _ old.now new.now known.numbered set,
-        held_set 13 _ old.now new.now set ∙ ap (λ left. record (held_by old.now) { heads = left }) (gone (is_of_both client zone) (passes params tests) (both_given client zone is_client is_zone) rows),
-        set.others.0 (λ e. omega (arith, e)),
+      changed_by old new text params result (without client zone) (subst (λ row. Ran text row old new result) (λ i. bound_value (at_client i) ∷ bound_value (at_zone i) ∷ []) ran) (λ clean count known executes.
+      let set = deletes text place table tests 2 params old new count means here known.schema (numbered known.numbered) executes in (
+        known_after table.tree _ old.now new.now known.numbered set,
+        held_set table.tree _ old.now new.now set ∙ made client zone _ (gone (is_of_both client zone) (passes params tests) (both_given client zone is_client is_zone) rows),
+        set.others.0 other,
       ))
 
-  pub rows_go : (client zone : List ℕ) (a b : ValueRef) → IsId client → IsId zone → owned a ≡ id_value client → owned b ≡ id_value zone
-      → Means bureau text (delete_of 7 15 (is_given 1 0 ∷ is_given 2 1 ∷ [])) 2 → Ran text (bound (a ∷ b ∷ [])) old new result → Changes old new result (without_rows client zone)
-  rows_go client zone a b is_client is_zone at_client at_zone means ran =
-      let rows = old.now.trees 15 in
-      let params = id_value client ∷ id_value zone ∷ [] in
-      let tests = is_given 1 0 ∷ is_given 2 1 ∷ [] in
-      changed_by old new text params result (without_rows client zone) (subst (λ row. Ran text row old new result) (λ i. bound_value (at_client i) ∷ bound_value (at_zone i) ∷ []) ran) (λ clean count known executes.
-      let set = deletes text 7 schema.zone_row tests 2 params old new count means refl known.schema known.numbered.1.1.1.1.1.1.1.0 executes in (
-        known_after 15 _ old.now new.now known.numbered set,
-        held_set 15 _ old.now new.now set ∙ ap (λ left. record (held_by old.now) { rows = left }) (gone (is_of_both client zone) (passes params tests) (both_given client zone is_client is_zone) rows),
-        set.others.0 (λ e. omega (arith, e)),
-      ))
+  pub heads_go : ZoneGoes 6 13 without_head
+  heads_go = zone_goes 6 schema.zone_head without_head refl (λ numbered. numbered.1.1.1.1.1.1.0) (λ e. omega (arith, e)) (λ client zone left same. ap (λ rows. record (held_by old.now) { heads = rows }) same)
+
+  pub rows_go : ZoneGoes 7 15 without_rows
+  rows_go = zone_goes 7 schema.zone_row without_rows refl (λ numbered. numbered.1.1.1.1.1.1.1.0) (λ e. omega (arith, e)) (λ client zone left same. ap (λ rows. record (held_by old.now) { rows = rows }) same)
 
   -- The kinds of holds are whole numbers by the rules of their table.
   pub holds_go : (key : HoldKey) (a b c : ValueRef) → IsId key.sysmod → IsId key.reason

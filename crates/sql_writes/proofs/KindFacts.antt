@@ -2,6 +2,7 @@
 use Rattle.std.proofs.Common.{◌≡◌, ℕ, ℤ, pos, negsuc, Bool, true, false, cond, [], ◌∷◌, ◌==◌, ◌&&◌, refl, sym, ◌∙◌, ap, ap₂, subst, arith, int_cmp}
 use Rattle.std.specs.Prelude.{codes, drop, None, Some, option_map, unwrap_or}
 use Rattle.std.specs.Ordering.{is_eq}
+use Rattle.std.proofs.Math.Bool.{and-true}
 use Rattle.std.proofs.lemmas.Bool.{and_parts, eqb-true, false≢true}
 use Rattle.std.proofs.lemmas.Bool.Decides.{nat_tests}
 use Rattle.holddata.specs.HoldKey.{is_same_kind, kind_place}
@@ -21,11 +22,10 @@ use Rattle.sqlite_value.proofs.OrderLemmas.{value_cmp-Int}
 use Rattle.sql_texts.specs.Found.{passes}
 use Rattle.sql_texts.specs.Reads.{is_given}
 use Rattle.sql_texts.specs.Schema as schema
-use Rattle.sql_texts.specs.Schema.{bureau}
 use Rattle.sql_tables.proofs.TreeFacts.{column_after}
 use Rattle.sql_tables.specs.Changes.{is_kind, is_under}
 use Rattle.sql_tables.specs.Values.{hold_kind_at, hold_kind_value, id_value}
-use Rattle.sql_writes.proofs.ValueFacts.{and_true, text_given}
+use Rattle.sql_state.proofs.TextFacts.{text_given}
 
 -- ---- which kind a number is
 
@@ -33,28 +33,16 @@ abbrev IsSo : Kind → ℕ → Type 0
 IsSo kind m = (m == kind_place kind) ≡ unwrap_or (option_map (λ found. is_same_kind found kind) (hold_kind_at m)) false
 
 at_0 : (kind : Kind) → IsSo kind 0
-at_0 ErrorHold = refl
-at_0 SystemHold = refl
-at_0 UserHold = refl
-at_0 FixcatHold = refl
+at_0 = elim [ ErrorHold ↦ refl | SystemHold ↦ refl | UserHold ↦ refl | FixcatHold ↦ refl ]
 
 at_1 : (kind : Kind) → IsSo kind 1
-at_1 ErrorHold = refl
-at_1 SystemHold = refl
-at_1 UserHold = refl
-at_1 FixcatHold = refl
+at_1 = elim [ ErrorHold ↦ refl | SystemHold ↦ refl | UserHold ↦ refl | FixcatHold ↦ refl ]
 
 at_2 : (kind : Kind) → IsSo kind 2
-at_2 ErrorHold = refl
-at_2 SystemHold = refl
-at_2 UserHold = refl
-at_2 FixcatHold = refl
+at_2 = elim [ ErrorHold ↦ refl | SystemHold ↦ refl | UserHold ↦ refl | FixcatHold ↦ refl ]
 
 at_3 : (kind : Kind) → IsSo kind 3
-at_3 ErrorHold = refl
-at_3 SystemHold = refl
-at_3 UserHold = refl
-at_3 FixcatHold = refl
+at_3 = elim [ ErrorHold ↦ refl | SystemHold ↦ refl | UserHold ↦ refl | FixcatHold ↦ refl ]
 
 elsewhere : (kind : Kind) (m : ℕ) → (m == 0) ≡ false → (m == 1) ≡ false → (m == 2) ≡ false → (m == 3) ≡ false → (m == kind_place kind) ≡ false
 elsewhere ErrorHold m a b c d = a
@@ -127,4 +115,4 @@ pub key_given : (key : HoldKey) → IsId key.sysmod → IsId key.reason → (row
 key_given key is_sysmod is_reason row typed =
     ap₂ ◌&&◌ (text_given key.sysmod is_sysmod row 0) (ap₂ ◌&&◌
     (ap (λ v. is_true (binary (Compare Eq Binary) v (hold_kind_value key.kind))) (sym (column_after row 1)) ∙ kind_compared key.kind (column (drop 1 row) 1) (second_typed (drop 1 row) typed))
-    (and_true _ ∙ text_given key.reason is_reason row 2))
+    (and-true _ ∙ text_given key.reason is_reason row 2))

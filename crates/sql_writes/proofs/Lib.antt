@@ -10,4 +10,3 @@ pub mod MigrateFacts
 pub mod RowidFacts
 pub mod StatementFacts
 pub mod StoredFacts
-pub mod ValueFacts

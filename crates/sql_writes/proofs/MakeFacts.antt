@@ -6,7 +6,6 @@ use Rattle.std.specs.Result.{IsErr}
 use Rattle.std.proofs.lemmas.Bool.{false≢true}
 use Rattle.std.proofs.lemmas.List.{take_all}
 use Rattle.sqlite.proofs.Callers.{IsPlain, command_of, runs_as, statement_of}
-use Rattle.sqlite.proofs.StateLemmas.{survives_then}
 use Rattle.sqlite.specs.Change.{KeepsRows, created, indexed, next_tree}
 use Rattle.sqlite.specs.Command.TheVariants.{CreateIndex, CreateTable}
 use Rattle.sqlite.specs.Does.{Defines, MakesIndex as IndexMade, Tally, lacks_sequence}
@@ -28,7 +27,8 @@ use Rattle.sql_state.specs.Writing.{Changes, IsKnown}
 use Rattle.sql_writes.specs.Making.{IsMade, IsOpened, Leads}
 use Rattle.sql_writes.specs.Parts.{with_callers}
 use Rattle.sql_writes.specs.Running.{Ran}
-use Rattle.sql_writes.proofs.ChangeFacts.{kept_then, was_clean}
+use Rattle.sql_state.proofs.StopFacts.{survives_both, was_clean}
+use Rattle.sql_writes.proofs.ChangeFacts.{keeps_both}
 use Rattle.sql_writes.proofs.StatementFacts.{inserts_version, on_table, same_value, went}
 use Rattle.sql_writes.proofs.StoredFacts.{known_after}
 
@@ -137,10 +137,8 @@ index_comes n m m′ place text table index old new result makes at ran =
 pub leads_then : {A B E F : Type 0} (old mid new : State) (a : A) (result : Result B F) (One Two Three : Database → Type 0) → Leads {Fault = E} old mid (Ok a) One Two → Leads mid new result Two Three
     → Leads old new result One Three
 leads_then {A} {B} {E} {F} old mid new a result One Two Three one two = record {
-  keeps = λ clean inside.
-      let before = was_clean mid new _ two.survives clean in
-      kept_then old mid new (one.keeps before inside) (two.keeps clean (one.done before inside).1);
-  survives = survives_then old mid new (λ trees. ⊥) (λ trees. ⊥) (λ trees. ⊥) (λ _ db none. none) (λ _ db none. none) one.survives two.survives;
+  keeps = keeps_both old mid new one.keeps two.keeps two.survives (λ clean inside. (one.done clean inside).1);
+  survives = survives_both old mid new one.survives two.survives;
   done = by result two.done;
 }
   where

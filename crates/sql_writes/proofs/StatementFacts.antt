@@ -1,6 +1,6 @@
 -- What one statement that deletes or inserts leaves of the trees, from its meaning and from what the kit says of running it.
 use Rattle.std.proofs.Common.{◌≡◌, ◌≢◌, ◌⊎◌, ℕ, ◌+◌, Bool, true, false, List, [], ◌∷◌, ◌++◌, Option, Some, None, Result, Ok, Err, refl, sym, ◌∙◌, ap, subst, inl, inr, ℤ, pos}
-use Rattle.std.specs.Prelude.{◌-◌, ◌^◌, ◌/◌, cond, filter, length, map, nat_le, not, slice_get, unwrap_or}
+use Rattle.std.specs.Prelude.{◌/◌, cond, filter, length, map, not, slice_get}
 use Rattle.std.specs.List.{AllByRecursion, range_with_len}
 use Rattle.std.specs.List.Sorted.{IsPermutation}
 use Rattle.sqlite.proofs.Callers.{IsPlain, command_of, one_step, runs_as, statement_of}
@@ -26,7 +26,7 @@ use Rattle.sqlite.specs.declared.types.Value.TheVariants.{Int, Null}
 use Rattle.sqlite_rules.specs.Calls.{ids_of}
 use Rattle.sqlite_trees.proofs.TreeLemmas.{IsShaped-filter, IsShaped-put_row}
 use Rattle.sqlite_trees.specs.declared.store.Shape.TheVariants as shape
-use Rattle.sql_texts.proofs.AnswerFacts.{table_answer}
+use Rattle.sql_texts.proofs.AnswerFacts.{plain_trees, table_answer}
 use Rattle.sql_texts.specs.Found.{passes, shown}
 use Rattle.sql_texts.specs.Meaning.{Means}
 use Rattle.sql_texts.specs.Reads.{from_table}
@@ -60,14 +60,6 @@ pub on_table : (limit : Option ℕ) (mode : Mode) (params : Row) (db : Database)
     → P (record { limit = limit; keys = mode.keys; schema = db.schema; table = table; params = params }) (Ok done)
 on_table limit mode params db place P table done at h =
     subst (λ found. AtPlace (λ t. P (record { limit = limit; keys = mode.keys; schema = db.schema; table = t; params = params })) found (Ok done)) at h
-
--- no table is computed first
-plain_trees : (db : Trees) (tree : ℕ) → overlay db [] tree ≡ db tree
-plain_trees db tree = by (nat_le (2 ^ 31) tree)
-  where
-    by : (b : Bool) → unwrap_or (cond b (slice_get [] (tree - 2 ^ 31)) None) (db tree) ≡ db tree
-    by true = refl
-    by false = refl
 
 -- no table here counts its rowids
 uncounted_rows : (task : Task) (mid next : Trees) (counter : Option Row) (top : _) → task.table.is_counted ≡ false → Counts task mid counter top (Ok next) → next ≡ mid

@@ -1,3 +1,4 @@
+pub mod Altering
 pub mod Making
 pub mod Migrating
 pub mod Parts

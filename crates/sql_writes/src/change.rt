@@ -4,11 +4,10 @@ ghost use Rattle.bureau_store.specs.Caller.{IsProper, publisher_name};
 ghost use Rattle.bureau_store.specs.Effect.{patterns_put, publication, received_put, zone_dropped, zone_put};
 ghost use Rattle.bureau_store.specs.Store.{greatest_number};
 ghost use Rattle.bureau_store.specs.declared.caller.Caller.TheVariants.{Client, Publisher};
-ghost use Rattle.sqlite.specs.Held.{state};
 ghost use Rattle.sql_tables.specs.Changes.{replaced, stored_after};
 ghost use Rattle.sql_tables.specs.Rows.{change_row};
 ghost use Rattle.sql_tables.specs.Stored.{is_of};
-ghost use Rattle.sql_state.specs.Writing.{Changes};
+ghost use Rattle.sql_writes.specs.Altering.{Alters};
 
 use crate::publication::put_changes;
 use crate::{delete, insert, zone as zones};
@@ -27,11 +26,10 @@ fn put_last<S: Alter>(
 ) -> Result<(), Error>
     requires { number ≤ greatest_number }
     ensures same { tx.new.conn.ghost_name ≡ tx.old.conn.ghost_name }
-    ensures changes { Changes (state S.Store tx.old.conn.now) (state S.Store tx.new.conn.now) result
-        (λ stored. record stored {
-          changes = replaced (is_of name.now)
-              (change_row name.now (record { number = number; reply = reply.now }) ∷ []) stored.changes;
-        }) }
+    ensures changes { Alters S.Store tx.old.conn.now tx.new.conn.now result (λ stored. record stored {
+      changes = replaced (is_of name.now)
+          (change_row name.now (record { number = number; reply = reply.now }) ∷ []) stored.changes;
+    }) }
 {
     delete::last_change(tx, name)?;
     insert::last_change(tx, name, number, reply)
@@ -56,9 +54,8 @@ pub fn publish<S: Alter>(
 ) -> Result<(), Error>
     requires { number ≤ greatest_number }
     ensures same { tx.new.conn.ghost_name ≡ tx.old.conn.ghost_name }
-    ensures changes { Changes (state S.Store tx.old.conn.now) (state S.Store tx.new.conn.now) result
-        (stored_after Publisher (publication changes.now)
-        (record { number = number; reply = reply.now })) }
+    ensures changes { Alters S.Store tx.old.conn.now tx.new.conn.now result
+        (stored_after Publisher (publication changes.now) (record { number = number; reply = reply.now })) }
 {
     put_changes(alloc, tx, changes)?;
     put_last(tx, &publisher(), number, reply)
@@ -77,7 +74,7 @@ pub fn put_zone<S: Alter>(
     requires client { IsProper (Client client.now) }
     requires number { number ≤ greatest_number }
     ensures same { tx.new.conn.ghost_name ≡ tx.old.conn.ghost_name }
-    ensures changes { Changes (state S.Store tx.old.conn.now) (state S.Store tx.new.conn.now) result
+    ensures changes { Alters S.Store tx.old.conn.now tx.new.conn.now result
         (stored_after (Client client.now) (zone_put zone.now rows.now)
         (record { number = number; reply = reply.now })) }
 {
@@ -96,7 +93,7 @@ pub fn drop_zone<S: Alter>(
     requires client { IsProper (Client client.now) }
     requires number { number ≤ greatest_number }
     ensures same { tx.new.conn.ghost_name ≡ tx.old.conn.ghost_name }
-    ensures changes { Changes (state S.Store tx.old.conn.now) (state S.Store tx.new.conn.now) result
+    ensures changes { Alters S.Store tx.old.conn.now tx.new.conn.now result
         (stored_after (Client client.now) (zone_dropped zone.now)
         (record { number = number; reply = reply.now })) }
 {
@@ -116,7 +113,7 @@ pub fn put_received<S: Alter>(
     requires client { IsProper (Client client.now) }
     requires number { number ≤ greatest_number }
     ensures same { tx.new.conn.ghost_name ≡ tx.old.conn.ghost_name }
-    ensures changes { Changes (state S.Store tx.old.conn.now) (state S.Store tx.new.conn.now) result
+    ensures changes { Alters S.Store tx.old.conn.now tx.new.conn.now result
         (stored_after (Client client.now) (received_put ids.now)
         (record { number = number; reply = reply.now })) }
 {
@@ -137,7 +134,7 @@ pub fn put_patterns<S: Alter>(
     requires client { IsProper (Client client.now) }
     requires number { number ≤ greatest_number }
     ensures same { tx.new.conn.ghost_name ≡ tx.old.conn.ghost_name }
-    ensures changes { Changes (state S.Store tx.old.conn.now) (state S.Store tx.new.conn.now) result
+    ensures changes { Alters S.Store tx.old.conn.now tx.new.conn.now result
         (stored_after (Client client.now) (patterns_put zone.now patterns.now)
         (record { number = number; reply = reply.now })) }
 {

@@ -1,7 +1,6 @@
 //! Rows that go, by one statement. Rows that aren't there are no fault.
 ghost use Rattle.std.specs.Prelude.{◌≡◌};
-ghost use Rattle.sqlite.specs.Held.{state};
-ghost use Rattle.sql_state.specs.Writing.{Changes};
+ghost use Rattle.sql_writes.specs.Altering.{Alters};
 ghost use Rattle.sql_writes.specs.Parts.{without_conds, without_head, without_hold, without_last, without_received, without_rows, without_sups, without_sysmod};
 
 use crate::run::run;
@@ -15,8 +14,7 @@ use sqlite::{Alter, Error, Transaction};
 /// The last change of the caller of this name.
 pub(crate) fn last_change<S: Alter>(tx: &mut Transaction<'_, S>, name: &Id) -> Result<(), Error>
     ensures same { tx.new.conn.ghost_name ≡ tx.old.conn.ghost_name }
-    ensures changes { Changes (state S.Store tx.old.conn.now) (state S.Store tx.new.conn.now) result
-        (without_last name.now) }
+    ensures changes { Alters S.Store tx.old.conn.now tx.new.conn.now result (without_last name.now) }
 {
     run(tx, write::delete_last_change(), &[id_of(name)])
 }
@@ -24,8 +22,7 @@ pub(crate) fn last_change<S: Alter>(tx: &mut Transaction<'_, S>, name: &Id) -> R
 /// The row of a SYSMOD's record.
 pub(crate) fn sysmod<S: Alter>(tx: &mut Transaction<'_, S>, id: &Id) -> Result<(), Error>
     ensures same { tx.new.conn.ghost_name ≡ tx.old.conn.ghost_name }
-    ensures changes { Changes (state S.Store tx.old.conn.now) (state S.Store tx.new.conn.now) result
-        (without_sysmod id.now) }
+    ensures changes { Alters S.Store tx.old.conn.now tx.new.conn.now result (without_sysmod id.now) }
 {
     run(tx, write::delete_sysmod(), &[id_of(id)])
 }
@@ -33,8 +30,7 @@ pub(crate) fn sysmod<S: Alter>(tx: &mut Transaction<'_, S>, id: &Id) -> Result<(
 /// What a SYSMOD supersedes.
 pub(crate) fn superseded<S: Alter>(tx: &mut Transaction<'_, S>, id: &Id) -> Result<(), Error>
     ensures same { tx.new.conn.ghost_name ≡ tx.old.conn.ghost_name }
-    ensures changes { Changes (state S.Store tx.old.conn.now) (state S.Store tx.new.conn.now) result
-        (without_sups id.now) }
+    ensures changes { Alters S.Store tx.old.conn.now tx.new.conn.now result (without_sups id.now) }
 {
     run(tx, write::delete_superseded(), &[id_of(id)])
 }
@@ -42,8 +38,7 @@ pub(crate) fn superseded<S: Alter>(tx: &mut Transaction<'_, S>, id: &Id) -> Resu
 /// What a SYSMOD requires under a condition.
 pub(crate) fn conditional<S: Alter>(tx: &mut Transaction<'_, S>, id: &Id) -> Result<(), Error>
     ensures same { tx.new.conn.ghost_name ≡ tx.old.conn.ghost_name }
-    ensures changes { Changes (state S.Store tx.old.conn.now) (state S.Store tx.new.conn.now) result
-        (without_conds id.now) }
+    ensures changes { Alters S.Store tx.old.conn.now tx.new.conn.now result (without_conds id.now) }
 {
     run(tx, write::delete_conditional(), &[id_of(id)])
 }
@@ -51,8 +46,7 @@ pub(crate) fn conditional<S: Alter>(tx: &mut Transaction<'_, S>, id: &Id) -> Res
 /// The hold with this key.
 pub(crate) fn hold<S: Alter>(tx: &mut Transaction<'_, S>, key: &HoldKey) -> Result<(), Error>
     ensures same { tx.new.conn.ghost_name ≡ tx.old.conn.ghost_name }
-    ensures changes { Changes (state S.Store tx.old.conn.now) (state S.Store tx.new.conn.now) result
-        (without_hold key.now) }
+    ensures changes { Alters S.Store tx.old.conn.now tx.new.conn.now result (without_hold key.now) }
 {
     let params = [
         id_of(&key.sysmod),
@@ -69,7 +63,7 @@ pub(crate) fn head<S: Alter>(
     zone: &Id,
 ) -> Result<(), Error>
     ensures same { tx.new.conn.ghost_name ≡ tx.old.conn.ghost_name }
-    ensures changes { Changes (state S.Store tx.old.conn.now) (state S.Store tx.new.conn.now) result
+    ensures changes { Alters S.Store tx.old.conn.now tx.new.conn.now result
         (without_head client.now zone.now) }
 {
     run(tx, write::delete_zone_head(), &[id_of(client), id_of(zone)])
@@ -82,7 +76,7 @@ pub(crate) fn zone_rows<S: Alter>(
     zone: &Id,
 ) -> Result<(), Error>
     ensures same { tx.new.conn.ghost_name ≡ tx.old.conn.ghost_name }
-    ensures changes { Changes (state S.Store tx.old.conn.now) (state S.Store tx.new.conn.now) result
+    ensures changes { Alters S.Store tx.old.conn.now tx.new.conn.now result
         (without_rows client.now zone.now) }
 {
     run(tx, write::delete_zone_rows(), &[id_of(client), id_of(zone)])
@@ -91,8 +85,7 @@ pub(crate) fn zone_rows<S: Alter>(
 /// What a client has received.
 pub(crate) fn received<S: Alter>(tx: &mut Transaction<'_, S>, client: &Id) -> Result<(), Error>
     ensures same { tx.new.conn.ghost_name ≡ tx.old.conn.ghost_name }
-    ensures changes { Changes (state S.Store tx.old.conn.now) (state S.Store tx.new.conn.now) result
-        (without_received client.now) }
+    ensures changes { Alters S.Store tx.old.conn.now tx.new.conn.now result (without_received client.now) }
 {
     run(tx, write::delete_received(), &[id_of(client)])
 }

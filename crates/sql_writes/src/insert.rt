@@ -2,11 +2,7 @@
 ghost use Rattle.std.specs.Prelude.{◌≡◌, ◌≤◌, [], ◌∷◌};
 ghost use Rattle.bureau_store.specs.Store.{greatest_number};
 ghost use Rattle.sqlite.specs.Held.{state};
-ghost use Rattle.sqlite.specs.State.{HasCleanDisk};
-ghost use Rattle.sql_texts.specs.Meaning.{Means};
-ghost use Rattle.sql_texts.specs.Schema.{bureau};
-ghost use Rattle.sql_texts.specs.Writes.{insert_given};
-ghost use Rattle.sql_state.specs.Writing.{Changes};
+ghost use Rattle.sql_writes.specs.Altering.{Alters, Inserts};
 ghost use Rattle.sql_writes.specs.Parts.{with_callers, with_conds, with_head, with_hold, with_last, with_received, with_rows, with_sups, with_sysmod};
 
 use crate::run::{run, run_prepared};
@@ -31,11 +27,9 @@ pub(crate) fn caller<S: Alter>(
     statement: &Statement,
     row: &CallerRow,
 ) -> Result<(), Error>
-    requires means { HasCleanDisk (state S.Store tx.old.conn.now)
-        → Means bureau statement.now.text (insert_given 1 2) 2 }
+    requires means { Inserts S.Store tx.old.conn.now statement.now.text 1 2 }
     ensures same { tx.new.conn.ghost_name ≡ tx.old.conn.ghost_name }
-    ensures changes { Changes (state S.Store tx.old.conn.now) (state S.Store tx.new.conn.now) result
-        (with_callers (row.now ∷ [])) }
+    ensures changes { Alters S.Store tx.old.conn.now tx.new.conn.now result (with_callers (row.now ∷ [])) }
 {
     let params = [id_of(&row.name), ValueRef::Text(row.token.as_bytes())];
     run_prepared(tx, statement, &params)
@@ -50,7 +44,7 @@ pub(crate) fn last_change<S: Alter>(
 ) -> Result<(), Error>
     requires { number ≤ greatest_number }
     ensures same { tx.new.conn.ghost_name ≡ tx.old.conn.ghost_name }
-    ensures changes { Changes (state S.Store tx.old.conn.now) (state S.Store tx.new.conn.now) result
+    ensures changes { Alters S.Store tx.old.conn.now tx.new.conn.now result
         (with_last name.now (record { number = number; reply = reply.now })) }
 {
     let params = [id_of(name), number_of(number), ValueRef::Blob(reply)];
@@ -64,8 +58,7 @@ pub(crate) fn sysmod<S: Alter>(
     sysmod: &Sysmod,
 ) -> Result<(), Error>
     ensures same { tx.new.conn.ghost_name ≡ tx.old.conn.ghost_name }
-    ensures changes { Changes (state S.Store tx.old.conn.now) (state S.Store tx.new.conn.now) result
-        (with_sysmod sysmod.now) }
+    ensures changes { Alters S.Store tx.old.conn.now tx.new.conn.now result (with_sysmod sysmod.now) }
 {
     let fmids = joined_ids(alloc, sysmod.fmids.as_slice())?;
     let pre = joined_ids(alloc, sysmod.pre.as_slice())?;
@@ -87,10 +80,9 @@ pub(crate) fn sup_row<S: Alter>(
     id: &Id,
     member: &Id,
 ) -> Result<(), Error>
-    requires means { HasCleanDisk (state S.Store tx.old.conn.now)
-        → Means bureau statement.now.text (insert_given 4 2) 2 }
+    requires means { Inserts S.Store tx.old.conn.now statement.now.text 4 2 }
     ensures same { tx.new.conn.ghost_name ≡ tx.old.conn.ghost_name }
-    ensures changes { Changes (state S.Store tx.old.conn.now) (state S.Store tx.new.conn.now) result
+    ensures changes { Alters S.Store tx.old.conn.now tx.new.conn.now result
         (with_sups id.now (member.now ∷ [])) }
 {
     run_prepared(tx, statement, &[id_of(id), id_of(member)])
@@ -103,10 +95,9 @@ pub(crate) fn cond_row<S: Alter>(
     id: &Id,
     cond: &CondNeed,
 ) -> Result<(), Error>
-    requires means { HasCleanDisk (state S.Store tx.old.conn.now)
-        → Means bureau statement.now.text (insert_given 9 3) 3 }
+    requires means { Inserts S.Store tx.old.conn.now statement.now.text 9 3 }
     ensures same { tx.new.conn.ghost_name ≡ tx.old.conn.ghost_name }
-    ensures changes { Changes (state S.Store tx.old.conn.now) (state S.Store tx.new.conn.now) result
+    ensures changes { Alters S.Store tx.old.conn.now tx.new.conn.now result
         (with_conds id.now (cond.now ∷ [])) }
 {
     let params = [id_of(id), id_of(&cond.fmid), id_of(&cond.need)];
@@ -116,8 +107,7 @@ pub(crate) fn cond_row<S: Alter>(
 /// A hold.
 pub(crate) fn hold<S: Alter>(tx: &mut Transaction<'_, S>, hold: &Hold) -> Result<(), Error>
     ensures same { tx.new.conn.ghost_name ≡ tx.old.conn.ghost_name }
-    ensures changes { Changes (state S.Store tx.old.conn.now) (state S.Store tx.new.conn.now) result
-        (with_hold hold.now) }
+    ensures changes { Alters S.Store tx.old.conn.now tx.new.conn.now result (with_hold hold.now) }
 {
     let params = [
         id_of(&hold.key.sysmod),
@@ -141,7 +131,7 @@ pub(crate) fn head<S: Alter>(
     patterns: &[Pattern],
 ) -> Result<(), Error>
     ensures same { tx.new.conn.ghost_name ≡ tx.old.conn.ghost_name }
-    ensures changes { Changes (state S.Store tx.old.conn.now) (state S.Store tx.new.conn.now) result
+    ensures changes { Alters S.Store tx.old.conn.now tx.new.conn.now result
         (with_head client.now zone.now patterns.now) }
 {
     let joined = joined_patterns(alloc, patterns)?;
@@ -161,10 +151,9 @@ pub(crate) fn zone_row<S: Alter>(
     zone: &Id,
     row: &ZoneRow,
 ) -> Result<(), Error>
-    requires means { HasCleanDisk (state S.Store tx.old.conn.now)
-        → Means bureau statement.now.text (insert_given 7 4) 4 }
+    requires means { Inserts S.Store tx.old.conn.now statement.now.text 7 4 }
     ensures same { tx.new.conn.ghost_name ≡ tx.old.conn.ghost_name }
-    ensures changes { Changes (state S.Store tx.old.conn.now) (state S.Store tx.new.conn.now) result
+    ensures changes { Alters S.Store tx.old.conn.now tx.new.conn.now result
         (with_rows client.now zone.now (row.now ∷ [])) }
 {
     let params = [
@@ -184,7 +173,7 @@ pub(crate) fn received<S: Alter>(
     ids: &[Id],
 ) -> Result<(), Error>
     ensures same { tx.new.conn.ghost_name ≡ tx.old.conn.ghost_name }
-    ensures changes { Changes (state S.Store tx.old.conn.now) (state S.Store tx.new.conn.now) result
+    ensures changes { Alters S.Store tx.old.conn.now tx.new.conn.now result
         (with_received client.now ids.now) }
 {
     let joined = joined_ids(alloc, ids)?;

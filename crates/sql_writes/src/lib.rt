@@ -4,8 +4,9 @@
 //! - [`create`]: the tables of version 2 with the callers, in an empty database
 //! - [`migrate`]: the tables of version 1 become those of version 2, with the rows that they hold
 //!
-//! A contract says what a change makes of the rows that the transaction sees (`Changes` of `sql_state`), in the words
-//! of `sql_tables`. `specs/Making` says what `create` leads to, and `specs/Migrating` what `migrate` does.
+//! A contract says what a change makes of the rows that the transaction sees, in the words of `sql_tables`: `Alters`
+//! is `Changes` of `sql_state` for the connection that the transaction lends. `specs/Making` says what `create` leads to,
+//! and `specs/Migrating` what `migrate` does.
 #![tactic(auto)]
 
 mod change;

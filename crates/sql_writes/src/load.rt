@@ -1,11 +1,6 @@
 //! Lists of rows that come, each list by one prepared statement.
 ghost use Rattle.std.specs.Prelude.{◌≡◌};
-ghost use Rattle.sqlite.specs.Held.{state};
-ghost use Rattle.sqlite.specs.State.{HasCleanDisk};
-ghost use Rattle.sql_texts.specs.Meaning.{Means};
-ghost use Rattle.sql_texts.specs.Schema.{bureau};
-ghost use Rattle.sql_texts.specs.Writes.{insert_given};
-ghost use Rattle.sql_state.specs.Writing.{Changes};
+ghost use Rattle.sql_writes.specs.Altering.{Alters, Inserts};
 ghost use Rattle.sql_writes.specs.Parts.{with_callers, with_conds, with_rows, with_sups, without_conds, without_sups};
 
 use crate::run::prepare;
@@ -25,7 +20,7 @@ pub(crate) fn zone_rows<S: Alter>(
     rows: &[ZoneRow],
 ) -> Result<(), Error>
     ensures same { tx.new.conn.ghost_name ≡ tx.old.conn.ghost_name }
-    ensures changes { Changes (state S.Store tx.old.conn.now) (state S.Store tx.new.conn.now) result
+    ensures changes { Alters S.Store tx.old.conn.now tx.new.conn.now result
         (with_rows client.now zone.now rows.now) }
 {
     let statement = prepare(tx, write::insert_zone_row())?;
@@ -42,10 +37,9 @@ pub(crate) fn superseded<S: Alter>(
     id: &Id,
     members: &[Id],
 ) -> Result<(), Error>
-    requires means { HasCleanDisk (state S.Store tx.old.conn.now)
-        → Means bureau statement.now.text (insert_given 4 2) 2 }
+    requires means { Inserts S.Store tx.old.conn.now statement.now.text 4 2 }
     ensures same { tx.new.conn.ghost_name ≡ tx.old.conn.ghost_name }
-    ensures changes { Changes (state S.Store tx.old.conn.now) (state S.Store tx.new.conn.now) result
+    ensures changes { Alters S.Store tx.old.conn.now tx.new.conn.now result
         (λ stored. with_sups id.now members.now (without_sups id.now stored)) }
 {
     delete::superseded(tx, id)?;
@@ -63,10 +57,9 @@ pub(crate) fn conditional<S: Alter>(
     id: &Id,
     conds: &[CondNeed],
 ) -> Result<(), Error>
-    requires means { HasCleanDisk (state S.Store tx.old.conn.now)
-        → Means bureau statement.now.text (insert_given 9 3) 3 }
+    requires means { Inserts S.Store tx.old.conn.now statement.now.text 9 3 }
     ensures same { tx.new.conn.ghost_name ≡ tx.old.conn.ghost_name }
-    ensures changes { Changes (state S.Store tx.old.conn.now) (state S.Store tx.new.conn.now) result
+    ensures changes { Alters S.Store tx.old.conn.now tx.new.conn.now result
         (λ stored. with_conds id.now conds.now (without_conds id.now stored)) }
 {
     delete::conditional(tx, id)?;
@@ -82,8 +75,7 @@ pub(crate) fn callers<S: Alter>(
     rows: &[CallerRow],
 ) -> Result<(), Error>
     ensures same { tx.new.conn.ghost_name ≡ tx.old.conn.ghost_name }
-    ensures changes { Changes (state S.Store tx.old.conn.now) (state S.Store tx.new.conn.now) result
-        (with_callers rows.now) }
+    ensures changes { Alters S.Store tx.old.conn.now tx.new.conn.now result (with_callers rows.now) }
 {
     let statement = prepare(tx, write::insert_caller())?;
     for row in rows {

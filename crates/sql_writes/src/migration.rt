@@ -1,9 +1,8 @@
 //! The tables of version 1 become those of version 2, with the rows that they hold.
 ghost use Rattle.std.specs.Prelude.{◌≡◌, []};
-ghost use Rattle.sqlite.specs.Held.{state};
 ghost use Rattle.sql_state.specs.Ours.{version_rows};
 ghost use Rattle.sql_tables.specs.Stored.{Stored};
-ghost use Rattle.sql_writes.specs.Making.{Leads};
+ghost use Rattle.sql_writes.specs.Altering.{Turns};
 ghost use Rattle.sql_writes.specs.Migrating.{HeldEarlier, HoldsAll};
 
 use crate::run::run;
@@ -13,7 +12,7 @@ use sqlite::{Alter, Error, Transaction};
 fn with_sysmod_cond<S: Alter>(tx: &mut Transaction<'_, S>) -> Result<(), Error>
     ensures same { tx.new.conn.ghost_name ≡ tx.old.conn.ghost_name }
     ensures made { (stored : Stored)
-        → Leads (state S.Store tx.old.conn.now) (state S.Store tx.new.conn.now) result
+        → Turns S.Store tx.old.conn.now tx.new.conn.now result
         (HeldEarlier stored) (HoldsAll (version_rows 1) stored) }
 {
     run(tx, create::sysmod_cond(), &[])
@@ -22,8 +21,7 @@ fn with_sysmod_cond<S: Alter>(tx: &mut Transaction<'_, S>) -> Result<(), Error>
 fn without_version<S: Alter>(tx: &mut Transaction<'_, S>) -> Result<(), Error>
     ensures same { tx.new.conn.ghost_name ≡ tx.old.conn.ghost_name }
     ensures made { (stored : Stored)
-        → Leads (state S.Store tx.old.conn.now) (state S.Store tx.new.conn.now) result
-        (HeldEarlier stored) (HoldsAll [] stored) }
+        → Turns S.Store tx.old.conn.now tx.new.conn.now result (HeldEarlier stored) (HoldsAll [] stored) }
 {
     with_sysmod_cond(tx)?;
     run(tx, write::delete_version(), &[])
@@ -34,7 +32,7 @@ fn without_version<S: Alter>(tx: &mut Transaction<'_, S>) -> Result<(), Error>
 pub fn migrate<S: Alter>(tx: &mut Transaction<'_, S>) -> Result<(), Error>
     ensures same { tx.new.conn.ghost_name ≡ tx.old.conn.ghost_name }
     ensures made { (stored : Stored)
-        → Leads (state S.Store tx.old.conn.now) (state S.Store tx.new.conn.now) result
+        → Turns S.Store tx.old.conn.now tx.new.conn.now result
         (HeldEarlier stored) (HoldsAll (version_rows 2) stored) }
 {
     without_version(tx)?;

@@ -2,13 +2,8 @@
 ghost use Rattle.std.specs.Prelude.{◌≡◌, fold};
 ghost use Rattle.holddata.specs.declared.hold.HoldChange.TheVariants.{Put};
 ghost use Rattle.catalogue.specs.declared.change.Change.TheVariants.{Whole};
-ghost use Rattle.sqlite.specs.Held.{state};
-ghost use Rattle.sqlite.specs.State.{HasCleanDisk};
-ghost use Rattle.sql_texts.specs.Meaning.{Means};
-ghost use Rattle.sql_texts.specs.Schema.{bureau};
-ghost use Rattle.sql_texts.specs.Writes.{insert_given};
 ghost use Rattle.sql_tables.specs.Changes.{holds_changed, published};
-ghost use Rattle.sql_state.specs.Writing.{Changes};
+ghost use Rattle.sql_writes.specs.Altering.{Alters, Inserts};
 ghost use Rattle.sql_writes.specs.Parts.{with_sysmod, without_sysmod};
 
 use crate::run::prepare;
@@ -22,7 +17,7 @@ use std::alloc::Global;
 /// The hold comes in place of one with its key.
 fn put_hold<S: Alter>(tx: &mut Transaction<'_, S>, hold: &Hold) -> Result<(), Error>
     ensures same { tx.new.conn.ghost_name ≡ tx.old.conn.ghost_name }
-    ensures changes { Changes (state S.Store tx.old.conn.now) (state S.Store tx.new.conn.now) result
+    ensures changes { Alters S.Store tx.old.conn.now tx.new.conn.now result
         (λ stored. record stored { holds = holds_changed (Put hold.now) stored.holds }) }
 {
     delete::hold(tx, &hold.key)?;
@@ -36,7 +31,7 @@ fn put_row<S: Alter>(
     sysmod: &Sysmod,
 ) -> Result<(), Error>
     ensures same { tx.new.conn.ghost_name ≡ tx.old.conn.ghost_name }
-    ensures changes { Changes (state S.Store tx.old.conn.now) (state S.Store tx.new.conn.now) result
+    ensures changes { Alters S.Store tx.old.conn.now tx.new.conn.now result
         (λ stored. with_sysmod sysmod.now (without_sysmod sysmod.now.id stored)) }
 {
     delete::sysmod(tx, &sysmod.id)?;
@@ -50,10 +45,9 @@ fn put_row_and_sups<S: Alter>(
     sups: &Statement,
     sysmod: &Sysmod,
 ) -> Result<(), Error>
-    requires means { HasCleanDisk (state S.Store tx.old.conn.now)
-        → Means bureau sups.now.text (insert_given 4 2) 2 }
+    requires means { Inserts S.Store tx.old.conn.now sups.now.text 4 2 }
     ensures same { tx.new.conn.ghost_name ≡ tx.old.conn.ghost_name }
-    ensures changes { Changes (state S.Store tx.old.conn.now) (state S.Store tx.new.conn.now) result
+    ensures changes { Alters S.Store tx.old.conn.now tx.new.conn.now result
         (λ stored. record (published stored (Whole sysmod.now)) { conds = stored.conds }) }
 {
     put_row(alloc, tx, sysmod)?;
@@ -68,12 +62,10 @@ fn put_record<S: Alter>(
     conds: &Statement,
     sysmod: &Sysmod,
 ) -> Result<(), Error>
-    requires sups { HasCleanDisk (state S.Store tx.old.conn.now)
-        → Means bureau sups.now.text (insert_given 4 2) 2 }
-    requires conds { HasCleanDisk (state S.Store tx.old.conn.now)
-        → Means bureau conds.now.text (insert_given 9 3) 3 }
+    requires sups { Inserts S.Store tx.old.conn.now sups.now.text 4 2 }
+    requires conds { Inserts S.Store tx.old.conn.now conds.now.text 9 3 }
     ensures same { tx.new.conn.ghost_name ≡ tx.old.conn.ghost_name }
-    ensures changes { Changes (state S.Store tx.old.conn.now) (state S.Store tx.new.conn.now) result
+    ensures changes { Alters S.Store tx.old.conn.now tx.new.conn.now result
         (λ stored. published stored (Whole sysmod.now)) }
 {
     put_row_and_sups(alloc, tx, sups, sysmod)?;
@@ -88,12 +80,10 @@ fn put_change<S: Alter>(
     conds: &Statement,
     change: &Change,
 ) -> Result<(), Error>
-    requires sups { HasCleanDisk (state S.Store tx.old.conn.now)
-        → Means bureau sups.now.text (insert_given 4 2) 2 }
-    requires conds { HasCleanDisk (state S.Store tx.old.conn.now)
-        → Means bureau conds.now.text (insert_given 9 3) 3 }
+    requires sups { Inserts S.Store tx.old.conn.now sups.now.text 4 2 }
+    requires conds { Inserts S.Store tx.old.conn.now conds.now.text 9 3 }
     ensures same { tx.new.conn.ghost_name ≡ tx.old.conn.ghost_name }
-    ensures changes { Changes (state S.Store tx.old.conn.now) (state S.Store tx.new.conn.now) result
+    ensures changes { Alters S.Store tx.old.conn.now tx.new.conn.now result
         (λ stored. published stored change.now) }
 {
     match change {
@@ -110,7 +100,7 @@ pub(crate) fn put_changes<S: Alter>(
     changes: &[Change],
 ) -> Result<(), Error>
     ensures same { tx.new.conn.ghost_name ≡ tx.old.conn.ghost_name }
-    ensures changes { Changes (state S.Store tx.old.conn.now) (state S.Store tx.new.conn.now) result
+    ensures changes { Alters S.Store tx.old.conn.now tx.new.conn.now result
         (λ stored. fold published stored changes.now) }
 {
     let sups = prepare(tx, write::insert_sysmod_sup())?;

@@ -3,7 +3,7 @@ ghost use Rattle.std.specs.Prelude.{◌≡◌, IfOk};
 ghost use Rattle.sqlite.specs.Held.{state};
 ghost use Rattle.sqlite.specs.State.{HasCleanDisk};
 ghost use Rattle.sqlite.specs.Values.{bound};
-ghost use Rattle.sql_state.specs.Writing.{Changes};
+ghost use Rattle.sql_writes.specs.Altering.{Alters};
 ghost use Rattle.sql_writes.specs.Running.{Ran};
 
 use sqlite::types::ValueRef;
@@ -28,8 +28,7 @@ pub(crate) fn prepare<S: Alter>(tx: &mut Transaction<'_, S>, text: &str) -> Resu
     ensures same { tx.new.conn.ghost_name ≡ tx.old.conn.ghost_name }
     ensures text { IfOk result (λ statement. HasCleanDisk (state S.Store tx.new.conn.now)
         → statement.text ≡ text.now) }
-    ensures changes { Changes (state S.Store tx.old.conn.now) (state S.Store tx.new.conn.now) result
-        (λ stored. stored) }
+    ensures changes { Alters S.Store tx.old.conn.now tx.new.conn.now result (λ stored. stored) }
 {
     tx.prepare(text)
 }

@@ -1,7 +1,7 @@
 //! The tables of version 2, made one after the other in an empty database.
 ghost use Rattle.std.specs.Prelude.{◌≡◌, []};
-ghost use Rattle.sqlite.specs.Held.{state};
-ghost use Rattle.sql_writes.specs.Making.{IsEmpty, IsMade, IsOpened, Leads};
+ghost use Rattle.sql_writes.specs.Altering.{Turns};
+ghost use Rattle.sql_writes.specs.Making.{IsEmpty, IsMade, IsOpened};
 
 use crate::load;
 use crate::run::run;
@@ -11,16 +11,14 @@ use sqlite::{Alter, Error, Transaction};
 
 fn bureau_version<S: Alter>(tx: &mut Transaction<'_, S>) -> Result<(), Error>
     ensures same { tx.new.conn.ghost_name ≡ tx.old.conn.ghost_name }
-    ensures made { Leads (state S.Store tx.old.conn.now) (state S.Store tx.new.conn.now) result
-        IsEmpty (IsMade 1 0) }
+    ensures made { Turns S.Store tx.old.conn.now tx.new.conn.now result IsEmpty (IsMade 1 0) }
 {
     run(tx, texts::bureau_version(), &[])
 }
 
 fn up_to_caller<S: Alter>(tx: &mut Transaction<'_, S>) -> Result<(), Error>
     ensures same { tx.new.conn.ghost_name ≡ tx.old.conn.ghost_name }
-    ensures made { Leads (state S.Store tx.old.conn.now) (state S.Store tx.new.conn.now) result
-        IsEmpty (IsMade 2 2) }
+    ensures made { Turns S.Store tx.old.conn.now tx.new.conn.now result IsEmpty (IsMade 2 2) }
 {
     bureau_version(tx)?;
     run(tx, texts::caller(), &[])
@@ -28,8 +26,7 @@ fn up_to_caller<S: Alter>(tx: &mut Transaction<'_, S>) -> Result<(), Error>
 
 fn up_to_last_change<S: Alter>(tx: &mut Transaction<'_, S>) -> Result<(), Error>
     ensures same { tx.new.conn.ghost_name ≡ tx.old.conn.ghost_name }
-    ensures made { Leads (state S.Store tx.old.conn.now) (state S.Store tx.new.conn.now) result
-        IsEmpty (IsMade 3 3) }
+    ensures made { Turns S.Store tx.old.conn.now tx.new.conn.now result IsEmpty (IsMade 3 3) }
 {
     up_to_caller(tx)?;
     run(tx, texts::last_change(), &[])
@@ -37,8 +34,7 @@ fn up_to_last_change<S: Alter>(tx: &mut Transaction<'_, S>) -> Result<(), Error>
 
 fn up_to_sysmod<S: Alter>(tx: &mut Transaction<'_, S>) -> Result<(), Error>
     ensures same { tx.new.conn.ghost_name ≡ tx.old.conn.ghost_name }
-    ensures made { Leads (state S.Store tx.old.conn.now) (state S.Store tx.new.conn.now) result
-        IsEmpty (IsMade 4 4) }
+    ensures made { Turns S.Store tx.old.conn.now tx.new.conn.now result IsEmpty (IsMade 4 4) }
 {
     up_to_last_change(tx)?;
     run(tx, texts::sysmod(), &[])
@@ -46,8 +42,7 @@ fn up_to_sysmod<S: Alter>(tx: &mut Transaction<'_, S>) -> Result<(), Error>
 
 fn up_to_sysmod_sup<S: Alter>(tx: &mut Transaction<'_, S>) -> Result<(), Error>
     ensures same { tx.new.conn.ghost_name ≡ tx.old.conn.ghost_name }
-    ensures made { Leads (state S.Store tx.old.conn.now) (state S.Store tx.new.conn.now) result
-        IsEmpty (IsMade 5 5) }
+    ensures made { Turns S.Store tx.old.conn.now tx.new.conn.now result IsEmpty (IsMade 5 5) }
 {
     up_to_sysmod(tx)?;
     run(tx, texts::sysmod_sup(), &[])
@@ -55,8 +50,7 @@ fn up_to_sysmod_sup<S: Alter>(tx: &mut Transaction<'_, S>) -> Result<(), Error>
 
 fn up_to_by_member<S: Alter>(tx: &mut Transaction<'_, S>) -> Result<(), Error>
     ensures same { tx.new.conn.ghost_name ≡ tx.old.conn.ghost_name }
-    ensures made { Leads (state S.Store tx.old.conn.now) (state S.Store tx.new.conn.now) result
-        IsEmpty (IsMade 5 6) }
+    ensures made { Turns S.Store tx.old.conn.now tx.new.conn.now result IsEmpty (IsMade 5 6) }
 {
     up_to_sysmod_sup(tx)?;
     run(tx, texts::by_member(), &[])
@@ -64,8 +58,7 @@ fn up_to_by_member<S: Alter>(tx: &mut Transaction<'_, S>) -> Result<(), Error>
 
 fn up_to_hold_row<S: Alter>(tx: &mut Transaction<'_, S>) -> Result<(), Error>
     ensures same { tx.new.conn.ghost_name ≡ tx.old.conn.ghost_name }
-    ensures made { Leads (state S.Store tx.old.conn.now) (state S.Store tx.new.conn.now) result
-        IsEmpty (IsMade 6 7) }
+    ensures made { Turns S.Store tx.old.conn.now tx.new.conn.now result IsEmpty (IsMade 6 7) }
 {
     up_to_by_member(tx)?;
     run(tx, texts::hold_row(), &[])
@@ -73,8 +66,7 @@ fn up_to_hold_row<S: Alter>(tx: &mut Transaction<'_, S>) -> Result<(), Error>
 
 fn up_to_zone_head<S: Alter>(tx: &mut Transaction<'_, S>) -> Result<(), Error>
     ensures same { tx.new.conn.ghost_name ≡ tx.old.conn.ghost_name }
-    ensures made { Leads (state S.Store tx.old.conn.now) (state S.Store tx.new.conn.now) result
-        IsEmpty (IsMade 7 8) }
+    ensures made { Turns S.Store tx.old.conn.now tx.new.conn.now result IsEmpty (IsMade 7 8) }
 {
     up_to_hold_row(tx)?;
     run(tx, texts::zone_head(), &[])
@@ -82,8 +74,7 @@ fn up_to_zone_head<S: Alter>(tx: &mut Transaction<'_, S>) -> Result<(), Error>
 
 fn up_to_zone_row<S: Alter>(tx: &mut Transaction<'_, S>) -> Result<(), Error>
     ensures same { tx.new.conn.ghost_name ≡ tx.old.conn.ghost_name }
-    ensures made { Leads (state S.Store tx.old.conn.now) (state S.Store tx.new.conn.now) result
-        IsEmpty (IsMade 8 9) }
+    ensures made { Turns S.Store tx.old.conn.now tx.new.conn.now result IsEmpty (IsMade 8 9) }
 {
     up_to_zone_head(tx)?;
     run(tx, texts::zone_row(), &[])
@@ -91,8 +82,7 @@ fn up_to_zone_row<S: Alter>(tx: &mut Transaction<'_, S>) -> Result<(), Error>
 
 fn up_to_received_list<S: Alter>(tx: &mut Transaction<'_, S>) -> Result<(), Error>
     ensures same { tx.new.conn.ghost_name ≡ tx.old.conn.ghost_name }
-    ensures made { Leads (state S.Store tx.old.conn.now) (state S.Store tx.new.conn.now) result
-        IsEmpty (IsMade 9 10) }
+    ensures made { Turns S.Store tx.old.conn.now tx.new.conn.now result IsEmpty (IsMade 9 10) }
 {
     up_to_zone_row(tx)?;
     run(tx, texts::received_list(), &[])
@@ -100,8 +90,7 @@ fn up_to_received_list<S: Alter>(tx: &mut Transaction<'_, S>) -> Result<(), Erro
 
 fn up_to_sysmod_cond<S: Alter>(tx: &mut Transaction<'_, S>) -> Result<(), Error>
     ensures same { tx.new.conn.ghost_name ≡ tx.old.conn.ghost_name }
-    ensures made { Leads (state S.Store tx.old.conn.now) (state S.Store tx.new.conn.now) result
-        IsEmpty (IsMade 10 11) }
+    ensures made { Turns S.Store tx.old.conn.now tx.new.conn.now result IsEmpty (IsMade 10 11) }
 {
     up_to_received_list(tx)?;
     run(tx, texts::sysmod_cond(), &[])
@@ -109,8 +98,7 @@ fn up_to_sysmod_cond<S: Alter>(tx: &mut Transaction<'_, S>) -> Result<(), Error>
 
 fn with_version<S: Alter>(tx: &mut Transaction<'_, S>) -> Result<(), Error>
     ensures same { tx.new.conn.ghost_name ≡ tx.old.conn.ghost_name }
-    ensures made { Leads (state S.Store tx.old.conn.now) (state S.Store tx.new.conn.now) result
-        IsEmpty (IsOpened []) }
+    ensures made { Turns S.Store tx.old.conn.now tx.new.conn.now result IsEmpty (IsOpened []) }
 {
     up_to_sysmod_cond(tx)?;
     run(tx, write::insert_version(), &[])
@@ -119,8 +107,7 @@ fn with_version<S: Alter>(tx: &mut Transaction<'_, S>) -> Result<(), Error>
 /// Makes the tables and the index of version 2 in an empty database, with their version and with these callers.
 pub fn create<S: Alter>(tx: &mut Transaction<'_, S>, callers: &[CallerRow]) -> Result<(), Error>
     ensures same { tx.new.conn.ghost_name ≡ tx.old.conn.ghost_name }
-    ensures made { Leads (state S.Store tx.old.conn.now) (state S.Store tx.new.conn.now) result
-        IsEmpty (IsOpened callers.now) }
+    ensures made { Turns S.Store tx.old.conn.now tx.new.conn.now result IsEmpty (IsOpened callers.now) }
 {
     with_version(tx)?;
     load::callers(tx, callers)

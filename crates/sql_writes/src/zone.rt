@@ -8,7 +8,8 @@ ghost use Rattle.sqlite.specs.State.{HasCleanDisk};
 ghost use Rattle.sql_tables.specs.Changes.{changed, with_head};
 ghost use Rattle.sql_tables.specs.Stored.{is_of_both};
 ghost use Rattle.sql_state.specs.Ours.{held_by};
-ghost use Rattle.sql_state.specs.Writing.{Changes, IsKnown};
+ghost use Rattle.sql_state.specs.Writing.{IsKnown};
+ghost use Rattle.sql_writes.specs.Altering.{Alters};
 ghost use Rattle.sql_writes.specs.Parts.{with_rows, without_rows};
 
 use crate::values::id_of;
@@ -22,8 +23,7 @@ use zone_lists::{Pattern, ZoneRow};
 /// Whether a client has a zone.
 fn has_head<S: Alter>(tx: &mut Transaction<'_, S>, client: &Id, zone: &Id) -> Result<bool, Error>
     ensures same { tx.new.conn.ghost_name ≡ tx.old.conn.ghost_name }
-    ensures changes { Changes (state S.Store tx.old.conn.now) (state S.Store tx.new.conn.now) result
-        (λ stored. stored) }
+    ensures changes { Alters S.Store tx.old.conn.now tx.new.conn.now result (λ stored. stored) }
     ensures found { IfOk result (λ found. HasCleanDisk (state S.Store tx.new.conn.now)
         → IsKnown (state S.Store tx.old.conn.now).now
         → list_any (is_of_both client.now zone.now)
@@ -42,7 +42,7 @@ fn keep_head<S: Alter>(
     zone: &Id,
 ) -> Result<(), Error>
     ensures same { tx.new.conn.ghost_name ≡ tx.old.conn.ghost_name }
-    ensures changes { Changes (state S.Store tx.old.conn.now) (state S.Store tx.new.conn.now) result
+    ensures changes { Alters S.Store tx.old.conn.now tx.new.conn.now result
         (λ stored. record stored { heads = with_head client.now zone.now stored.heads }) }
 {
     if has_head(tx, client, zone)? {
@@ -59,7 +59,7 @@ fn put_rows<S: Alter>(
     rows: &[ZoneRow],
 ) -> Result<(), Error>
     ensures same { tx.new.conn.ghost_name ≡ tx.old.conn.ghost_name }
-    ensures changes { Changes (state S.Store tx.old.conn.now) (state S.Store tx.new.conn.now) result
+    ensures changes { Alters S.Store tx.old.conn.now tx.new.conn.now result
         (λ stored. with_rows client.now zone.now rows.now (without_rows client.now zone.now stored)) }
 {
     delete::zone_rows(tx, client, zone)?;
@@ -75,7 +75,7 @@ pub(crate) fn put<S: Alter>(
     rows: &[ZoneRow],
 ) -> Result<(), Error>
     ensures same { tx.new.conn.ghost_name ≡ tx.old.conn.ghost_name }
-    ensures changes { Changes (state S.Store tx.old.conn.now) (state S.Store tx.new.conn.now) result
+    ensures changes { Alters S.Store tx.old.conn.now tx.new.conn.now result
         (changed (Client client.now) (zone_put zone.now rows.now)) }
 {
     keep_head(alloc, tx, client, zone)?;
@@ -89,7 +89,7 @@ pub(crate) fn drop_zone<S: Alter>(
     zone: &Id,
 ) -> Result<(), Error>
     ensures same { tx.new.conn.ghost_name ≡ tx.old.conn.ghost_name }
-    ensures changes { Changes (state S.Store tx.old.conn.now) (state S.Store tx.new.conn.now) result
+    ensures changes { Alters S.Store tx.old.conn.now tx.new.conn.now result
         (changed (Client client.now) (zone_dropped zone.now)) }
 {
     delete::head(tx, client, zone)?;
@@ -104,7 +104,7 @@ pub(crate) fn put_received<S: Alter>(
     ids: &[Id],
 ) -> Result<(), Error>
     ensures same { tx.new.conn.ghost_name ≡ tx.old.conn.ghost_name }
-    ensures changes { Changes (state S.Store tx.old.conn.now) (state S.Store tx.new.conn.now) result
+    ensures changes { Alters S.Store tx.old.conn.now tx.new.conn.now result
         (changed (Client client.now) (received_put ids.now)) }
 {
     delete::received(tx, client)?;
@@ -120,7 +120,7 @@ pub(crate) fn put_patterns<S: Alter>(
     patterns: &[Pattern],
 ) -> Result<(), Error>
     ensures same { tx.new.conn.ghost_name ≡ tx.old.conn.ghost_name }
-    ensures changes { Changes (state S.Store tx.old.conn.now) (state S.Store tx.new.conn.now) result
+    ensures changes { Alters S.Store tx.old.conn.now tx.new.conn.now result
         (changed (Client client.now) (patterns_put zone.now patterns.now)) }
 {
     delete::head(tx, client, zone)?;

@@ -1,7 +1,7 @@
 use Rattle.std.proofs.Common.{rules}
 use Rattle.sqlite.specs.Held.{state}
 use Rattle.sqlite.specs.State.{HasCleanDisk}
-use Rattle.bureau_sql.specs.Laws.{clean_before, read_on}
+use Rattle.sql_state.proofs.StopFacts.{read_on, was_clean}
 use Rattle.bureau_sql.specs.Opening.{HasTables, IsNone, IsOfBureau, IsOther, IsSeen, IsUnderstood, LacksTables}
 use Rattle.bureau_sql.proofs.OpenFacts.{found_where_open, other_than_ours, seen_before, seen_so}
 use Rattle.bureau_sql.proofs.open.holds.Goals as goal
@@ -29,7 +29,7 @@ returns-in_err-can_read-clause-cause g c =
     let second = state g.S.Store c.has_tables.new.conn in
     let last = state g.S.Store c.can_read.new.conn in
     let version = λ (clean : HasCleanDisk last).
-    c.in_ok-has_version.ensures.version (clean_before (λ trees. ⊥) first second c.in_ok-has_tables.ensures.reads.survives (clean_before (λ trees. ⊥) second last c.in_err-can_read.ensures.reads.survives clean)) in
+    c.in_ok-has_version.ensures.version (was_clean first second (λ trees. ⊥) c.in_ok-has_tables.ensures.reads.survives (was_clean second last (λ trees. ⊥) c.in_err-can_read.ensures.reads.survives clean)) in
     let cause : HasCleanDisk last → IsSeen (LacksTables c.args.wanted c.args.text.now) (IsOther c.args.wanted) old c.in_err-can_read.field-0.0 =
     seen_before (IsNone (λ schema. IsUnderstood schema c.args.text.now)) (λ database. ⊥) (LacksTables c.args.wanted c.args.text.now) (IsOther c.args.wanted)
     old second last c.in_err-can_read.field-0.0

@@ -8,15 +8,14 @@ use Rattle.sql_tables.specs.Stored.{tables_of}
 use Rattle.sql_tables.specs.Values.{id_in}
 use Rattle.sql_texts.specs.Reads as read
 use Rattle.sql_reads.proofs.PublishedFacts.{ids_told}
-use Rattle.sql_reads.proofs.TableFacts.{finds, if_both}
+use Rattle.sql_reads.proofs.TableFacts.{finds_of_two}
 use Rattle.sql_reads.proofs.published.ids.Goals as goal
 
 pub returns-clause-finds : goal.returns-clause-finds
 returns-clause-finds g c =
     let old = state g.S.Store c.args.conn.now in
-    finds c.sysmod_ids.result.now [] [] refl old (state g.S.Store c.rows_of.new.conn) read.sysmod_ids (codes "id" ∷ []) 0 c.sysmod_ids.ensures
+    finds_of_two c.sysmod_ids.result.now [] [] refl old (state g.S.Store c.rows_of.new.conn) read.sysmod_ids (codes "id" ∷ []) 0 c.sysmod_ids.ensures
     c.in_ok-rows.rows c.as_slice.result.now c.as_slice.ensures.value c.in_ok-rows.ensures.answers c.id_list.result
-    (λ ids. (map Some ids.items ≡ map (λ row. id_in (column row 0)) c.as_slice.result.now) × Ascend ids.items)
-    (if_both (λ ids. map Some ids.items ≡ map (λ row. id_in (column row 0)) c.as_slice.result.now) (λ ids. Ascend ids.items) c.id_list.result c.id_list.ensures.ids c.id_list.ensures.ascend)
+    (λ ids. map Some ids.items ≡ map (λ row. id_in (column row 0)) c.as_slice.result.now) (λ ids. Ascend ids.items) c.id_list.ensures.ids c.id_list.ensures.ascend
     (λ stored ids. ids.items ≡ ids_of (tables_of stored).content)
-    (λ ours answer ids said. ids_told old.committed.trees c.as_slice.result.now ids.items ours.rows.whole said.1 answer said.0)
+    (λ ours answer ids said also. ids_told old.committed.trees c.as_slice.result.now ids.items ours.rows.whole also answer said)

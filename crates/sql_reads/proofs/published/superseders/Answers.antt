@@ -12,16 +12,15 @@ use Rattle.sql_tables.specs.Stored.{tables_of}
 use Rattle.sql_tables.specs.Values.{id_in}
 use Rattle.sql_texts.specs.Reads as read
 use Rattle.sql_reads.proofs.JoinFacts.{superseders_told}
-use Rattle.sql_reads.proofs.TableFacts.{finds, if_both}
+use Rattle.sql_reads.proofs.TableFacts.{finds_of_two}
 use Rattle.sql_reads.proofs.published.superseders.Goals as goal
 
 pub returns-clause-finds : goal.returns-clause-finds
 returns-clause-finds g c =
     let old = state g.S.Store c.args.conn.now in
-    finds c.superseders.result.now (bound_value (owned c.id_of.result) ∷ []) (Text (text_of c.args.id.now) ∷ []) (ap (λ v. bound_value v ∷ []) c.id_of.ensures.value) old (state g.S.Store c.rows_of.new.conn)
+    finds_of_two c.superseders.result.now (bound_value (owned c.id_of.result) ∷ []) (Text (text_of c.args.id.now) ∷ []) (ap (λ v. bound_value v ∷ []) c.id_of.ensures.value) old (state g.S.Store c.rows_of.new.conn)
     read.superseders (codes "id" ∷ []) 1 c.superseders.ensures
     c.in_ok-rows.rows c.as_slice.result.now c.as_slice.ensures.value c.in_ok-rows.ensures.answers c.id_list.result
-    (λ ids. (map Some ids.items ≡ map (λ row. id_in (column row 0)) c.as_slice.result.now) × Ascend ids.items)
-    (if_both (λ ids. map Some ids.items ≡ map (λ row. id_in (column row 0)) c.as_slice.result.now) (λ ids. Ascend ids.items) c.id_list.result c.id_list.ensures.ids c.id_list.ensures.ascend)
+    (λ ids. map Some ids.items ≡ map (λ row. id_in (column row 0)) c.as_slice.result.now) (λ ids. Ascend ids.items) c.id_list.ensures.ids c.id_list.ensures.ascend
     (λ stored ids. ids.items ≡ superseders (tables_of stored).content c.args.id.now)
-    (λ ours answer ids said. superseders_told old.committed.trees c.args.id.now c.id_of.ensures.is_id ours.rows.whole c.as_slice.result.now ids.items said.1 answer said.0)
+    (λ ours answer ids said also. superseders_told old.committed.trees c.args.id.now c.id_of.ensures.is_id ours.rows.whole c.as_slice.result.now ids.items also answer said)

@@ -1,21 +1,14 @@
-use Rattle.std.proofs.Common.{◌≡◌, ◌<◌, [], ◌∷◌, Some, refl, length}
-use Rattle.std.specs.Prelude.{codes}
+use Rattle.std.proofs.Common.{[], refl, length}
 use Rattle.sqlite.specs.Held.{state}
-use Rattle.sqlite_value.specs.Order.{column}
 use Rattle.sql_tables.specs.Stored.{tables_of}
-use Rattle.sql_tables.specs.Values.{number_in}
 use Rattle.sql_texts.specs.Reads as read
-use Rattle.sql_reads.specs.Answering.{one_of}
-use Rattle.sql_reads.proofs.CountFacts.{sysmods_counted}
-use Rattle.sql_reads.proofs.TableFacts.{finds, if_both}
+use Rattle.sql_reads.proofs.CountFacts.{count_found, sysmods_counted}
 use Rattle.sql_reads.proofs.published.sysmod_count.Goals as goal
 
 pub returns-clause-finds : goal.returns-clause-finds
 returns-clause-finds g c =
     let old = state g.S.Store c.args.conn.now in
-    finds c.sysmod_count.result.now [] [] refl old (state g.S.Store c.rows_of.new.conn) read.sysmod_count (codes "count(*)" ∷ []) 0 c.sysmod_count.ensures
-    c.in_ok-rows.rows c.as_slice.result.now c.as_slice.ensures.value c.in_ok-rows.ensures.answers c.count.result
-    (λ count. (one_of (λ row. number_in (column row 0)) c.as_slice.result.now ≡ Some (Some count)) × (count < 9223372036854775807))
-    (if_both (λ count. one_of (λ row. number_in (column row 0)) c.as_slice.result.now ≡ Some (Some count)) (λ count. count < 9223372036854775807) c.count.result c.count.ensures.count c.count.ensures.below)
-    (λ stored count. count ≡ length (tables_of stored).content.sysmods)
-    (λ ours answer count said. sysmods_counted old.committed.trees c.as_slice.result.now count ours.rows.whole said.0 said.1 answer)
+    count_found c.sysmod_count.result.now [] [] refl old (state g.S.Store c.rows_of.new.conn) read.sysmod_count 0 c.sysmod_count.ensures
+    c.in_ok-rows.rows c.as_slice.result.now c.as_slice.ensures.value c.in_ok-rows.ensures.answers c.count.result c.count.ensures.count c.count.ensures.below
+    (λ stored. length (tables_of stored).content.sysmods)
+    (λ ours answer count said below. sysmods_counted old.committed.trees c.as_slice.result.now count ours.rows.whole said below answer)

@@ -3,7 +3,8 @@ use Rattle.sql_texts.specs.Meaning.{Means}
 use Rattle.sql_texts.specs.Schema.{bureau}
 use Rattle.sql_texts.specs.Writes.{insert_given}
 use Rattle.sql_writes.specs.Parts.{with_callers}
-use Rattle.sql_writes.proofs.ChangeFacts.{stopped, was_clean}
+use Rattle.sql_state.proofs.StopFacts.{was_clean}
+use Rattle.sql_writes.proofs.ChangeFacts.{stopped}
 use Rattle.sql_writes.proofs.LoadFacts.{begun, ended, more, callers_turn}
 use Rattle.sql_writes.proofs.load.callers.Goals as goal
 
@@ -19,9 +20,6 @@ caller-requires g c = record {
   means = λ clean. subst (λ text. Means bureau text (insert_given 1 2) 2) (sym (c.in_ok-statement.ensures.text (c.loop-row.invariant.clean clean))) c.insert_caller.ensures;
 }
 
-pub returns-in_err-caller-clause-same : goal.returns-in_err-caller-clause-same
-returns-in_err-caller-clause-same g c = c.caller.ensures.same ∙ c.loop-row.invariant.same
-
 pub returns-in_err-caller-clause-changes : goal.returns-in_err-caller-clause-changes
 returns-in_err-caller-clause-changes g c =
     stopped _ _ _ tt _ _ (with_callers (take c.loop-row.row-index c.args.rows.now)) _ _ c.from_residual-in_err-caller.ensures.0 c.loop-row.invariant.changes c.in_err-caller.ensures.changes
@@ -33,9 +31,6 @@ loop-row-preserved g c = record {
       c.loop-row.invariant.changes c.in_ok-caller.ensures.changes;
   clean = λ clean. c.loop-row.invariant.clean (was_clean _ _ _ c.caller.ensures.changes.survives clean);
 }
-
-pub returns-clause-same : goal.returns-clause-same
-returns-clause-same g c = c.loop-row.invariant.same
 
 pub returns-clause-changes : goal.returns-clause-changes
 returns-clause-changes g c =

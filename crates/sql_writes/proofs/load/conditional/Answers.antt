@@ -1,6 +1,7 @@
 use Rattle.std.proofs.Common.{take, ◌∙◌, arith}
 use Rattle.sql_writes.specs.Parts.{with_conds, without_conds}
-use Rattle.sql_writes.proofs.ChangeFacts.{stopped, was_clean}
+use Rattle.sql_state.proofs.StopFacts.{was_clean}
+use Rattle.sql_writes.proofs.ChangeFacts.{stopped}
 use Rattle.sql_writes.proofs.LoadFacts.{begun, ended, more, conds_turn}
 use Rattle.sql_writes.proofs.load.conditional.Goals as goal
 
@@ -16,9 +17,6 @@ cond_row-requires g c = record {
   means = λ clean. c.requires.means (c.loop-cond.invariant.clean clean);
 }
 
-pub returns-in_err-cond_row-clause-same : goal.returns-in_err-cond_row-clause-same
-returns-in_err-cond_row-clause-same g c = c.cond_row.ensures.same ∙ c.loop-cond.invariant.same
-
 pub returns-in_err-cond_row-clause-changes : goal.returns-in_err-cond_row-clause-changes
 returns-in_err-cond_row-clause-changes g c =
     stopped _ _ _ tt _ _ (λ stored. with_conds c.args.id.now (take c.loop-cond.cond-index c.args.conds.now) (without_conds c.args.id.now stored)) _ _ c.from_residual-in_err-cond_row.ensures.0 c.loop-cond.invariant.changes c.in_err-cond_row.ensures.changes
@@ -30,9 +28,6 @@ loop-cond-preserved g c = record {
       c.loop-cond.invariant.changes c.in_ok-cond_row.ensures.changes;
   clean = λ clean. c.loop-cond.invariant.clean (was_clean _ _ _ c.cond_row.ensures.changes.survives clean);
 }
-
-pub returns-clause-same : goal.returns-clause-same
-returns-clause-same g c = c.loop-cond.invariant.same
 
 pub returns-clause-changes : goal.returns-clause-changes
 returns-clause-changes g c =

@@ -1,6 +1,7 @@
 use Rattle.std.proofs.Common.{take, ◌∙◌, arith}
 use Rattle.sql_writes.specs.Parts.{with_sups, without_sups}
-use Rattle.sql_writes.proofs.ChangeFacts.{stopped, was_clean}
+use Rattle.sql_state.proofs.StopFacts.{was_clean}
+use Rattle.sql_writes.proofs.ChangeFacts.{stopped}
 use Rattle.sql_writes.proofs.LoadFacts.{begun, ended, more, sups_turn}
 use Rattle.sql_writes.proofs.load.superseded.Goals as goal
 
@@ -16,9 +17,6 @@ sup_row-requires g c = record {
   means = λ clean. c.requires.means (c.loop-member.invariant.clean clean);
 }
 
-pub returns-in_err-sup_row-clause-same : goal.returns-in_err-sup_row-clause-same
-returns-in_err-sup_row-clause-same g c = c.sup_row.ensures.same ∙ c.loop-member.invariant.same
-
 pub returns-in_err-sup_row-clause-changes : goal.returns-in_err-sup_row-clause-changes
 returns-in_err-sup_row-clause-changes g c =
     stopped _ _ _ tt _ _ (λ stored. with_sups c.args.id.now (take c.loop-member.member-index c.args.members.now) (without_sups c.args.id.now stored)) _ _ c.from_residual-in_err-sup_row.ensures.0 c.loop-member.invariant.changes c.in_err-sup_row.ensures.changes
@@ -30,9 +28,6 @@ loop-member-preserved g c = record {
       c.loop-member.invariant.changes c.in_ok-sup_row.ensures.changes;
   clean = λ clean. c.loop-member.invariant.clean (was_clean _ _ _ c.sup_row.ensures.changes.survives clean);
 }
-
-pub returns-clause-same : goal.returns-clause-same
-returns-clause-same g c = c.loop-member.invariant.same
 
 pub returns-clause-changes : goal.returns-clause-changes
 returns-clause-changes g c =

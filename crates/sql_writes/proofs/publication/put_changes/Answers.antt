@@ -4,7 +4,8 @@ use Rattle.sql_texts.specs.Schema.{bureau}
 use Rattle.sql_texts.specs.Writes.{insert_given}
 use Rattle.std.specs.Prelude.{fold}
 use Rattle.sql_tables.specs.Changes.{published}
-use Rattle.sql_writes.proofs.ChangeFacts.{changes_then, stopped, was_clean}
+use Rattle.sql_state.proofs.StopFacts.{was_clean}
+use Rattle.sql_writes.proofs.ChangeFacts.{changes_then, stopped}
 use Rattle.sql_writes.proofs.LoadFacts.{begun, ended, more, published_turn}
 use Rattle.sql_writes.proofs.publication.put_changes.Goals as goal
 
@@ -24,9 +25,6 @@ put_change-requires g c = record {
   conds = λ clean. subst (λ text. Means bureau text (insert_given 9 3) 3) (sym (c.in_ok-conds.ensures.text (c.loop-change.invariant.clean clean))) c.insert_sysmod_cond.ensures;
 }
 
-pub returns-in_err-put_change-clause-same : goal.returns-in_err-put_change-clause-same
-returns-in_err-put_change-clause-same g c = c.put_change.ensures.same ∙ c.loop-change.invariant.same
-
 pub returns-in_err-put_change-clause-changes : goal.returns-in_err-put_change-clause-changes
 returns-in_err-put_change-clause-changes g c =
     stopped _ _ _ tt _ _ (λ stored. fold published stored (take c.loop-change.change-index c.args.changes.now)) _ _ c.from_residual-in_err-put_change.ensures.0 c.loop-change.invariant.changes c.in_err-put_change.ensures.changes
@@ -38,9 +36,6 @@ loop-change-preserved g c = record {
       c.loop-change.invariant.changes c.in_ok-put_change.ensures.changes;
   clean = λ clean. c.loop-change.invariant.clean (was_clean _ _ _ c.put_change.ensures.changes.survives clean);
 }
-
-pub returns-clause-same : goal.returns-clause-same
-returns-clause-same g c = c.loop-change.invariant.same
 
 pub returns-clause-changes : goal.returns-clause-changes
 returns-clause-changes g c =

@@ -5,7 +5,8 @@ use Rattle.sql_tables.specs.Changes.{published, replaced}
 use Rattle.sql_tables.specs.Rows.{cond_row}
 use Rattle.sql_tables.specs.Stored.{is_of}
 use Rattle.sql_writes.specs.Parts.{with_conds, without_conds}
-use Rattle.sql_writes.proofs.ChangeFacts.{both, refused, was_clean}
+use Rattle.sql_state.proofs.StopFacts.{was_clean}
+use Rattle.sql_writes.proofs.ChangeFacts.{both, refused}
 use Rattle.sql_writes.proofs.StoredFacts.{replaced_then}
 use Rattle.sql_writes.proofs.publication.put_record.Goals as goal
 

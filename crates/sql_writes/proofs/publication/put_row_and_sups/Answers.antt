@@ -4,7 +4,8 @@ use Rattle.sql_tables.specs.Changes.{replaced}
 use Rattle.sql_tables.specs.Rows.{sup_row, sysmod_row}
 use Rattle.sql_tables.specs.Stored.{is_of}
 use Rattle.sql_writes.specs.Parts.{with_sups, with_sysmod, without_sups, without_sysmod}
-use Rattle.sql_writes.proofs.ChangeFacts.{both, refused, was_clean}
+use Rattle.sql_state.proofs.StopFacts.{was_clean}
+use Rattle.sql_writes.proofs.ChangeFacts.{both, refused}
 use Rattle.sql_writes.proofs.StoredFacts.{replaced_then}
 use Rattle.sql_writes.proofs.publication.put_row_and_sups.Goals as goal
 

@@ -1,5 +1,5 @@
 use Rattle.std.proofs.Common.{◌≡◌, ◌++◌, length, map}
-use Rattle.bureau_store.proofs.clients.counted.Given as goal
+use Rattle.bureau_store.proofs.clients.count_rows.Given as goal
 
 -- the counts so far, and the zones that are left
 abbrev pub invariant-loop-name : goal.invariant-loop-name

@@ -2,6 +2,7 @@
 use Rattle.std.proofs.Common.{◌≡◌, ℕ, suc, [], ◌∷◌, ap₂, ◌&&◌, Bool, true, false, cond, List, refl, sym, ◌∙◌, ap, subst}
 use Rattle.std.specs.Prelude.{drop, Some, None, option_map, unwrap_or}
 use Rattle.std.specs.Str.{bytes_eq}
+use Rattle.std.proofs.Math.Bool.{and-true}
 use Rattle.std.proofs.lemmas.Bool.{both_ways, false_from_ne_true}
 use Rattle.mcs_reader.specs.Id.{IsId, is_id_text, padded, text_of}
 use Rattle.mcs_reader.proofs.IdFacts.{padded_over_blanks, text_over_blanks}
@@ -50,19 +51,21 @@ text_named id is (Text t) = by (is_id_text t) refl
     by true text = same_test (bytes_eq t (text_of id)) (bytes_eq (padded t) id) there (back text)
     by false none = false_from_ne_true _ (never none)
 
--- ---- which rows a deletion finds
-
-pub and_true : (b : Bool) → (b && true) ≡ b
-and_true true = refl
-and_true false = refl
-
--- a column is the text that is given
+-- a column is the text of an id just if it names the id
 pub text_given : (id : List ℕ) → IsId id → (row : Row) (place : ℕ) → is_true (binary (Compare Eq Binary) (column row (suc place)) (Text (text_of id))) ≡ is_named id (column (drop 1 row) place)
 text_given id is row place = same_text (column row (suc place)) (text_of id) ∙ text_named id is (column row (suc place)) ∙ ap (is_named id) (sym (column_after row place))
 
-pub one_given : (id : List ℕ) → IsId id → (row : Row) → passes (id_value id ∷ []) (is_given 1 0 ∷ []) row ≡ is_of id (drop 1 row)
-one_given id is row = and_true _ ∙ text_given id is row 0
+-- ---- which rows are found
 
-pub both_given : (first second : List ℕ) → IsId first → IsId second → (row : Row)
-    → passes (id_value first ∷ id_value second ∷ []) (is_given 1 0 ∷ is_given 2 1 ∷ []) row ≡ is_of_both first second (drop 1 row)
-both_given first second is_first is_second row = ap₂ ◌&&◌ (text_given first is_first row 0) (and_true _ ∙ text_given second is_second row 1)
+-- those with a text in a column
+pub one_given : (place : ℕ) (text : List ℕ) (row : Row) → passes (Text text ∷ []) (is_given place 0 ∷ []) row ≡ is_text text (column row place)
+one_given place text row = and-true _ ∙ same_text (column row place) text
+
+-- those of an id
+pub of_given : (id : List ℕ) → IsId id → (row : Row) → passes (id_value id ∷ []) (is_given 1 0 ∷ []) row ≡ is_of id (drop 1 row)
+of_given id is row = and-true _ ∙ text_given id is row 0
+
+-- those of a client's zone
+pub both_given : (client zone : List ℕ) → IsId client → IsId zone → (row : Row)
+    → passes (id_value client ∷ id_value zone ∷ []) (is_given 1 0 ∷ is_given 2 1 ∷ []) row ≡ is_of_both client zone (drop 1 row)
+both_given client zone is_client is_zone row = ap₂ ◌&&◌ (text_given client is_client row 0) (and-true _ ∙ text_given zone is_zone row 1)

@@ -1,0 +1,35 @@
+//! What a change does to the tables.
+use catalogue::Change;
+use mcs_reader::Id;
+use zone_lists::{Pattern, ZoneRow};
+
+/// What a change does to the tables, in the caller's own lists.
+#[derive(Clone, Copy)]
+pub(crate) enum Effect<'a> {
+    /// The publisher publishes these changes.
+    Publication {
+        changes: &'a [Change],
+    },
+    /// A client's zone gets these rows.
+    ZonePut {
+        client: &'a Id,
+        zone: &'a Id,
+        rows: &'a [ZoneRow],
+    },
+    /// A client's zone is dropped.
+    ZoneDropped {
+        client: &'a Id,
+        zone: &'a Id,
+    },
+    /// A client's list of received SYSMODs is this one.
+    ReceivedPut {
+        client: &'a Id,
+        ids: &'a [Id],
+    },
+    /// A client's zone gets these patterns.
+    PatternsPut {
+        client: &'a Id,
+        zone: &'a Id,
+        patterns: &'a [Pattern],
+    },
+}

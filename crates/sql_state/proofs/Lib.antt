@@ -1,0 +1,3 @@
+pub mod ReadFacts
+pub mod StopFacts
+pub mod TextFacts

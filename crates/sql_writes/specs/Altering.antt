@@ -1,0 +1,24 @@
+-- What a call says of the connection that a transaction lends, as it is before the call and after it.
+use Rattle.std.specs.Prelude.{ℕ, List, Result}
+use Rattle.sqlite.specs.Effect.{Database}
+use Rattle.sqlite.specs.Held.{Held, state}
+use Rattle.sqlite.specs.State.{HasCleanDisk}
+use Rattle.sqlite_trees.specs.declared.store.Store.{Ghosts}
+use Rattle.sql_texts.specs.Meaning.{Means}
+use Rattle.sql_texts.specs.Schema.{bureau}
+use Rattle.sql_texts.specs.Writes.{insert_given}
+use Rattle.sql_tables.specs.Stored.{Stored}
+use Rattle.sql_state.specs.Writing.{Changes}
+use Rattle.sql_writes.specs.Making.{Leads}
+
+-- the rows change so
+abbrev pub Alters : {S Answer Fault : Type 0} → Ghosts S → Held S → Held S → Result Answer Fault → (Stored → Stored) → Type 0
+Alters ghosts old new result change = Changes (state ghosts old) (state ghosts new) result change
+
+-- such a database becomes such a one
+abbrev pub Turns : {S Answer Fault : Type 0} → Ghosts S → Held S → Held S → Result Answer Fault → (Database → Type 0) → (Database → Type 0) → Type 0
+Turns ghosts old new result From To = Leads (state ghosts old) (state ghosts new) result From To
+
+-- a text inserts one row of so many given columns into the table at this place, where the disk is clean
+abbrev pub Inserts : {S : Type 0} → Ghosts S → Held S → List ℕ → ℕ → ℕ → Type 0
+Inserts ghosts held text place columns = HasCleanDisk (state ghosts held) → Means bureau text (insert_given place columns) columns
