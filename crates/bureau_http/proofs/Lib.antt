@@ -10,4 +10,3 @@ mod ConnectionFacts
 pub mod ReplayFacts
 mod LawfulFacts
 mod ServiceFacts
-mod ListedFacts

@@ -1,35 +1,9 @@
 -- The bytes of replies.
-use Rattle.std.proofs.Common.{◌≡◌, ◌⊎◌, inl, inr, ℕ, ◌+◌, ◌≤◌, Bool, true, false, List, [], ◌++◌, length, take, nat_le, Option, Result, Ok, Err, IfErr, refl, sym, ap, ◌∙◌, subst, arith, if◌then◌else◌}
-use Rattle.std.proofs.KnownBytes.{Appends-trans}
-use Rattle.std.proofs.Math.Seq.{take-append-add}
-use Rattle.std.proofs.lemmas.Bool.Decides.{nat_tests}
-use Rattle.std.proofs.lemmas.List.{take-append-le, take_all}
-use Rattle.std.specs.Io.KnownBytes.{Appends}
-use Rattle.transfer.specs.Transfer.{AppendsFront}
+use Rattle.std.proofs.Common.{◌≡◌, ℕ, Bool, List, [], ◌++◌, Result, Ok, Err, IfErr, sym, ap, ◌∙◌, subst, if◌then◌else◌}
 use Rattle.requests.specs.Reply.{head_text}
 use Rattle.bureau_http.specs.Exchange.{body_told}
 use Rattle.bureau_http.specs.Told.{answer_told, head_told, told_text}
 use Rattle.bureau_http.specs.declared.reply.Told.{Told}
-
-order : (t : Bool) (a b : ℕ) → nat_le a b ≡ t → (a ≤ b) ⊎ (b ≤ a)
-order true a b h = inl (grind (arith, nat_tests))
-order false a b h = inr (grind (arith, nat_tests))
-
--- a front of a text is a front of more
-front_of_more : (n : ℕ) (text more : List ℕ) → (m : ℕ) × (take m (text ++ more) ≡ take n text)
-front_of_more n text more = elim (order (nat_le n (length text)) n (length text) refl) [
-  | inl h ↦ (n, take-append-le n text more h)
-  | inr h ↦ (length text, take-append-le (length text) text more (omega arith) ∙ take_all (length text) text (omega arith) ∙ sym (take_all n text h))
-]
-
-pub front_first : (old new : Option (List ℕ)) (text more : List ℕ) → AppendsFront old new text → AppendsFront old new (text ++ more)
-front_first old new text more front =
-    let part = front_of_more front.0 text more in (part.0, subst (Appends old new) (sym part.1) front.1)
-
-pub front_second : (old mid new : Option (List ℕ)) (text more : List ℕ) → Appends old mid text → AppendsFront mid new more
-    → AppendsFront old new (text ++ more)
-front_second old mid new text more first front =
-    (length text + front.0, subst (Appends old new) (sym (take-append-add text more front.0)) (Appends-trans old mid new text (take front.0 more) first front.1))
 
 -- the bytes of a reply
 pub whole_reply : (told : Told) (is_bare closes : Bool) (head written : List ℕ) → head ≡ head_text (head_told told closes)

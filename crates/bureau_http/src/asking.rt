@@ -26,7 +26,7 @@ pub(crate) fn answer_to<D: Desk>(
 ) -> Told
     requires { IsAt bytes.now request.now }
     ensures goes { Goes D.tables_view desk.old desk.new }
-    ensures shut { has_token (parts_in bytes.now request.now) ≡ true → IsOfLookUp result →
+    ensures closed { has_token (parts_in bytes.now request.now) ≡ true → IsOfLookUp result →
         IsOpen D.tables_view desk.new }
     ensures told { Tells D.tables_view desk.old desk.new (λ this.
         (next : Tables)

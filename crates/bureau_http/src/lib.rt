@@ -37,8 +37,6 @@ mod reply;
 mod service;
 mod serving;
 mod sockets;
-#[cfg(test)]
-mod tests;
 
 pub use desk::Desk;
 pub use fault::{ConnFault, RunFault};

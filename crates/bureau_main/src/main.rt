@@ -1,32 +1,14 @@
-//! The programs of the bureau: what a command line asks for, from bytes to bytes.
+//! The program: a run over the system's own words, files, ports and streams.
 #![tactic(auto)]
 
-mod cache;
-mod commands;
-mod desk;
-#[cfg(test)]
-mod desk_tests;
-mod fault;
-mod help;
-mod holds;
-mod line;
-#[cfg(test)]
-mod line_tests;
-mod migrating;
-mod program;
-#[cfg(test)]
-mod program_tests;
-mod replay;
-#[cfg(test)]
-mod store_tests;
-mod surroundings;
-#[cfg(test)]
-mod tests;
+mod system;
 
 use std::process::ExitCode;
+use system::System;
 
 fn main(rt: HostRuntime) -> ExitCode {
     let (mut input, mut output, mut errors) = (rt.stdin(), rt.stdout(), rt.stderr());
-    let status = program::run(&rt, rt.alloc(), &mut input, &mut output, &mut errors);
+    let system = System::new(&rt);
+    let status = bureau_program::run(&system, rt.alloc(), &mut input, &mut output, &mut errors);
     ExitCode::from(status)
 }

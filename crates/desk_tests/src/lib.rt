@@ -4,26 +4,4 @@
 #![tactic(auto)]
 
 #[cfg(test)]
-mod alone_tests;
-#[cfg(test)]
-mod asked;
-#[cfg(test)]
-mod cached_tests;
-#[cfg(test)]
-mod conditional;
-#[cfg(test)]
-mod desks;
-#[cfg(test)]
-mod device_tests;
-#[cfg(test)]
-mod limits_tests;
-#[cfg(test)]
-mod numbers;
-#[cfg(test)]
-mod row_tests;
-#[cfg(test)]
-mod stores;
-#[cfg(test)]
-mod verdicts;
-#[cfg(test)]
-mod worked;
+mod tests;

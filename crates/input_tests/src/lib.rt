@@ -6,18 +6,4 @@
 #![tactic(auto)]
 
 #[cfg(test)]
-mod columns_tests;
-#[cfg(test)]
-mod faults_tests;
-#[cfg(test)]
-mod holddata_tests;
-#[cfg(test)]
-mod mcs_reader_tests;
-#[cfg(test)]
-mod pieces;
-#[cfg(test)]
-mod requests_tests;
-#[cfg(test)]
-mod transfer_tests;
-#[cfg(test)]
-mod zone_lists_tests;
+mod tests;

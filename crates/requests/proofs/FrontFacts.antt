@@ -89,6 +89,25 @@ none_at_end Line at = at
 none_at_end Feed at = at
 none_at_end FeedReturn at = at
 
+-- bytes in which the search found no end, fewer than a head may have
+pub record HasNoEnd (shown held : List ℕ) (next : Place) : Type 0 where
+  pub whole : shown ≡ held
+  pub count : length shown ≡ length held
+  pub short : length held < head_limit
+  pub none : search EmptyLines held ≡ Err next
+
+-- where fewer bytes than a head may have are shown, they are all that are held
+pub no_end : (shown bytes held : List ℕ) (next : Place) → (length shown < 16384 → shown ≡ bytes) → bytes ≡ held → length shown < 16384
+    → search EmptyLines shown ≡ Err next → HasNoEnd shown held next
+no_end shown bytes held next all same less none =
+    let whole : shown ≡ held = all less ∙ same in
+    record {
+      whole = whole;
+      count = ap length whole;
+      short = subst (λ m. length held < m) limit_is (subst (λ l. length l < 16384) whole less);
+      none = ap (search EmptyLines) (sym whole) ∙ none;
+    }
+
 -- where fewer bytes than a head may have show no head's end, no head was at hand
 pub not_at_hand : (limit : ℕ) (held first : List ℕ) (place : Place) → search EmptyLines held ≡ Err place → length held < limit → held ≡ first
     → IsAtHand (front_of limit first) → ⊥

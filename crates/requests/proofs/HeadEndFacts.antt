@@ -24,16 +24,36 @@ found Line bytes = head_len bytes
 found Feed bytes = if nat_lt 0 (line_end_len bytes) then Some (line_end_len bytes) else head_len bytes
 found FeedReturn bytes = if begins_with_feed bytes then Some 1 else head_len bytes
 
--- what is found in the bytes after the next one
-abbrev FoundIn : List ℕ → Type 0
-FoundIn rest = (place : Place) → result_ok (search place rest) ≡ found place rest
+-- whether only empty lines are there after a place
+abbrev clean : Place → List ℕ → Bool
+clean EmptyLines bytes = empty_lines_len bytes == length bytes
+clean EmptyLinesReturn bytes = begins_with_feed bytes && (empty_lines_len bytes == length bytes)
+clean Line bytes = false
+clean Feed bytes = false
+clean FeedReturn bytes = false
+
+-- a search in these bytes finds that end, and says whether only empty lines were there
+abbrev Agrees : Place → List ℕ → Result ℕ Place → Type 0
+Agrees place bytes says = (result_ok says ≡ found place bytes) × (ends_clean says ≡ clean place bytes)
+
+abbrev AgreesIn : List ℕ → Type 0
+AgreesIn rest = (place : Place) → Agrees place rest (search place rest)
 
 counted_ok : (r : Result ℕ Place) → result_ok (counted r) ≡ one_more (result_ok r)
 counted_ok (Ok n) = ap (λ m. Some m) (omega arith)
 counted_ok (Err place) = refl
 
-found_further : (place : Place) (rest : List ℕ) → FoundIn rest → result_ok (counted (search place rest)) ≡ one_more (found place rest)
-found_further place rest e = counted_ok (search place rest) ∙ ap one_more (e place)
+counted_clean : (r : Result ℕ Place) → ends_clean (counted r) ≡ ends_clean r
+counted_clean (Ok n) = refl
+counted_clean (Err place) = refl
+
+-- what the search in the bytes after the next one says
+further : (place : Place) (rest : List ℕ) → AgreesIn rest
+    → (result_ok (counted (search place rest)) ≡ one_more (found place rest)) × (ends_clean (counted (search place rest)) ≡ clean place rest)
+further place rest e =
+    (counted_ok (search place rest) ∙ ap one_more (e place).0, counted_clean (search place rest) ∙ (e place).1)
+
+-- ---- how many bytes the head has
 
 -- a head after so many bytes
 abbrev head_from : ℕ → List ℕ → Option ℕ
@@ -62,34 +82,10 @@ return_choice : (t : Bool) (b : ℕ) (rest : List ℕ) → (b == line_feed) ≡ 
 return_choice true b rest h = sym (after_one (empty_lines_len rest) b rest)
 return_choice false b rest h = sym (after_none b rest h)
 
-step_empty : (b : ℕ) (rest : List ℕ) → FoundIn rest
-    → result_ok (go_on (after EmptyLines b) (λ p. search p rest)) ≡ found EmptyLines (b ∷ rest)
-step_empty b rest e = elim (test (b == line_feed)) [
-  | inl h ↦ rw h (found_further EmptyLines rest e ∙ sym (after_one (empty_lines_len rest) b rest))
-  | inr h ↦ elim (test (b == carriage_return)) [
-    | inl k ↦ rw (h, k) (found_further EmptyLinesReturn rest e ∙ return_choice (begins_with_feed rest) b rest h)
-    | inr k ↦ rw (h, k) (found_further Line rest e ∙ sym (after_none b rest h))
-  ]
-]
-
-step_empty_return : (b : ℕ) (rest : List ℕ) → FoundIn rest
-    → result_ok (go_on (after EmptyLinesReturn b) (λ p. search p rest)) ≡ found EmptyLinesReturn (b ∷ rest)
-step_empty_return b rest e = elim (test (b == line_feed)) [
-  | inl h ↦ rw h (found_further EmptyLines rest e ∙ sym (after_one (empty_lines_len rest) b rest))
-  | inr h ↦ rw h (found_further Line rest e)
-]
-
 line_choice : (t : Bool) (n : ℕ) (other : Option ℕ)
     → one_more (if t then Some n else other) ≡ (if t then Some (1 + n) else one_more other)
 line_choice true n other = refl
 line_choice false n other = refl
-
-step_line : (b : ℕ) (rest : List ℕ) → FoundIn rest
-    → result_ok (go_on (after Line b) (λ p. search p rest)) ≡ found Line (b ∷ rest)
-step_line b rest e = elim (test (b == line_feed)) [
-  | inl h ↦ rw h (found_further Feed rest e ∙ line_choice (nat_lt 0 (line_end_len rest)) (line_end_len rest) (head_len rest))
-  | inr h ↦ rw h (found_further Line rest e)
-]
 
 feed_choice : (t : Bool) (rest : List ℕ)
     → one_more (if t then Some 1 else head_len rest)
@@ -97,55 +93,7 @@ feed_choice : (t : Bool) (rest : List ℕ)
 feed_choice true rest = refl
 feed_choice false rest = refl
 
-step_feed : (b : ℕ) (rest : List ℕ) → FoundIn rest
-    → result_ok (go_on (after Feed b) (λ p. search p rest)) ≡ found Feed (b ∷ rest)
-step_feed b rest e = elim (test (b == line_feed)) [
-  | inl h ↦ rw h refl
-  | inr h ↦ elim (test (b == carriage_return)) [
-    | inl k ↦ rw (h, k) (found_further FeedReturn rest e ∙ feed_choice (begins_with_feed rest) rest)
-    | inr k ↦ rw (h, k) (found_further Line rest e)
-  ]
-]
-
-step_feed_return : (b : ℕ) (rest : List ℕ) → FoundIn rest
-    → result_ok (go_on (after FeedReturn b) (λ p. search p rest)) ≡ found FeedReturn (b ∷ rest)
-step_feed_return b rest e = elim (test (b == line_feed)) [
-  | inl h ↦ rw h refl
-  | inr h ↦ rw h (found_further Line rest e)
-]
-
--- the search finds the end
-pub search_finds : (bytes : List ℕ) (place : Place) → result_ok (search place bytes) ≡ found place bytes
-unfolding search
-search_finds [] EmptyLines = refl
-search_finds [] EmptyLinesReturn = refl
-search_finds [] Line = refl
-search_finds [] Feed = refl
-search_finds [] FeedReturn = refl
-search_finds (b ∷ rest) EmptyLines = step_empty b rest (search_finds rest)
-search_finds (b ∷ rest) EmptyLinesReturn = step_empty_return b rest (search_finds rest)
-search_finds (b ∷ rest) Line = step_line b rest (search_finds rest)
-search_finds (b ∷ rest) Feed = step_feed b rest (search_finds rest)
-search_finds (b ∷ rest) FeedReturn = step_feed_return b rest (search_finds rest)
-
 -- ---- whether only empty lines were there
-
-abbrev clean : Place → List ℕ → Bool
-clean EmptyLines bytes = empty_lines_len bytes == length bytes
-clean EmptyLinesReturn bytes = begins_with_feed bytes && (empty_lines_len bytes == length bytes)
-clean Line bytes = false
-clean Feed bytes = false
-clean FeedReturn bytes = false
-
-abbrev CleanIn : List ℕ → Type 0
-CleanIn rest = (place : Place) → ends_clean (search place rest) ≡ clean place rest
-
-counted_clean : (r : Result ℕ Place) → ends_clean (counted r) ≡ ends_clean r
-counted_clean (Ok n) = refl
-counted_clean (Err place) = refl
-
-then_clean : (place : Place) (rest : List ℕ) → CleanIn rest → ends_clean (counted (search place rest)) ≡ clean place rest
-then_clean place rest e = counted_clean (search place rest) ∙ e place
 
 same_more : (m n : ℕ) → (m == n) ≡ ((1 + m) == suc n)
 same_more m n = grind (arith, nat_tests)
@@ -157,53 +105,75 @@ return_clean : (t : Bool) (m n : ℕ) → (t && (m == n)) ≡ ((if t then 1 + m 
 return_clean true m n = same_more m n
 return_clean false m n = none_of_more n
 
-clean_empty : (b : ℕ) (rest : List ℕ) → CleanIn rest
-    → ends_clean (go_on (after EmptyLines b) (λ p. search p rest)) ≡ clean EmptyLines (b ∷ rest)
-clean_empty b rest e = elim (test (b == line_feed)) [
-  | inl h ↦ rw h (then_clean EmptyLines rest e ∙ same_more (empty_lines_len rest) (length rest))
+-- ---- one byte
+
+step_empty : (b : ℕ) (rest : List ℕ) → AgreesIn rest → Agrees EmptyLines (b ∷ rest) (go_on (after EmptyLines b) (λ p. search p rest))
+step_empty b rest e = elim (test (b == line_feed)) [
+  | inl h ↦
+      let (finds, cleans) = further EmptyLines rest e in
+      rw h (finds ∙ sym (after_one (empty_lines_len rest) b rest), cleans ∙ same_more (empty_lines_len rest) (length rest))
   | inr h ↦ elim (test (b == carriage_return)) [
-    | inl k ↦ rw (h, k) (then_clean EmptyLinesReturn rest e ∙ return_clean (begins_with_feed rest) (empty_lines_len rest) (length rest))
-    | inr k ↦ rw (h, k) (then_clean Line rest e ∙ none_of_more (length rest))
+    | inl k ↦
+        let (finds, cleans) = further EmptyLinesReturn rest e in
+        rw (h, k) (finds ∙ return_choice (begins_with_feed rest) b rest h, cleans ∙ return_clean (begins_with_feed rest) (empty_lines_len rest) (length rest))
+    | inr k ↦
+        let (finds, cleans) = further Line rest e in
+        rw (h, k) (finds ∙ sym (after_none b rest h), cleans ∙ none_of_more (length rest))
   ]
 ]
 
-clean_empty_return : (b : ℕ) (rest : List ℕ) → CleanIn rest
-    → ends_clean (go_on (after EmptyLinesReturn b) (λ p. search p rest)) ≡ clean EmptyLinesReturn (b ∷ rest)
-clean_empty_return b rest e = elim (test (b == line_feed)) [
-  | inl h ↦ rw h (then_clean EmptyLines rest e ∙ same_more (empty_lines_len rest) (length rest))
-  | inr h ↦ rw h (then_clean Line rest e)
+step_empty_return : (b : ℕ) (rest : List ℕ) → AgreesIn rest → Agrees EmptyLinesReturn (b ∷ rest) (go_on (after EmptyLinesReturn b) (λ p. search p rest))
+step_empty_return b rest e = elim (test (b == line_feed)) [
+  | inl h ↦
+      let (finds, cleans) = further EmptyLines rest e in
+      rw h (finds ∙ sym (after_one (empty_lines_len rest) b rest), cleans ∙ same_more (empty_lines_len rest) (length rest))
+  | inr h ↦ rw h (further Line rest e)
 ]
 
-clean_line : (b : ℕ) (rest : List ℕ) → CleanIn rest → ends_clean (go_on (after Line b) (λ p. search p rest)) ≡ false
-clean_line b rest e = elim (test (b == line_feed)) [
-  | inl h ↦ rw h (then_clean Feed rest e)
-  | inr h ↦ rw h (then_clean Line rest e)
+step_line : (b : ℕ) (rest : List ℕ) → AgreesIn rest → Agrees Line (b ∷ rest) (go_on (after Line b) (λ p. search p rest))
+step_line b rest e = elim (test (b == line_feed)) [
+  | inl h ↦
+      let (finds, cleans) = further Feed rest e in
+      rw h (finds ∙ line_choice (nat_lt 0 (line_end_len rest)) (line_end_len rest) (head_len rest), cleans)
+  | inr h ↦ rw h (further Line rest e)
 ]
 
-clean_feed : (b : ℕ) (rest : List ℕ) → CleanIn rest → ends_clean (go_on (after Feed b) (λ p. search p rest)) ≡ false
-clean_feed b rest e = elim (test (b == line_feed)) [
-  | inl h ↦ rw h refl
+step_feed : (b : ℕ) (rest : List ℕ) → AgreesIn rest → Agrees Feed (b ∷ rest) (go_on (after Feed b) (λ p. search p rest))
+step_feed b rest e = elim (test (b == line_feed)) [
+  | inl h ↦ rw h (refl, refl)
   | inr h ↦ elim (test (b == carriage_return)) [
-    | inl k ↦ rw (h, k) (then_clean FeedReturn rest e)
-    | inr k ↦ rw (h, k) (then_clean Line rest e)
+    | inl k ↦
+        let (finds, cleans) = further FeedReturn rest e in
+        rw (h, k) (finds ∙ feed_choice (begins_with_feed rest) rest, cleans)
+    | inr k ↦ rw (h, k) (further Line rest e)
   ]
 ]
 
-clean_feed_return : (b : ℕ) (rest : List ℕ) → CleanIn rest → ends_clean (go_on (after FeedReturn b) (λ p. search p rest)) ≡ false
-clean_feed_return b rest e = elim (test (b == line_feed)) [
-  | inl h ↦ rw h refl
-  | inr h ↦ rw h (then_clean Line rest e)
+step_feed_return : (b : ℕ) (rest : List ℕ) → AgreesIn rest → Agrees FeedReturn (b ∷ rest) (go_on (after FeedReturn b) (λ p. search p rest))
+step_feed_return b rest e = elim (test (b == line_feed)) [
+  | inl h ↦ rw h (refl, refl)
+  | inr h ↦ rw h (further Line rest e)
 ]
 
-pub search_clean : (bytes : List ℕ) (place : Place) → ends_clean (search place bytes) ≡ clean place bytes
+-- ---- all bytes
+
+agrees : (bytes : List ℕ) → AgreesIn bytes
 unfolding search
-search_clean [] EmptyLines = refl
-search_clean [] EmptyLinesReturn = refl
-search_clean [] Line = refl
-search_clean [] Feed = refl
-search_clean [] FeedReturn = refl
-search_clean (b ∷ rest) EmptyLines = clean_empty b rest (search_clean rest)
-search_clean (b ∷ rest) EmptyLinesReturn = clean_empty_return b rest (search_clean rest)
-search_clean (b ∷ rest) Line = clean_line b rest (search_clean rest)
-search_clean (b ∷ rest) Feed = clean_feed b rest (search_clean rest)
-search_clean (b ∷ rest) FeedReturn = clean_feed_return b rest (search_clean rest)
+agrees [] EmptyLines = (refl, refl)
+agrees [] EmptyLinesReturn = (refl, refl)
+agrees [] Line = (refl, refl)
+agrees [] Feed = (refl, refl)
+agrees [] FeedReturn = (refl, refl)
+agrees (b ∷ rest) EmptyLines = step_empty b rest (agrees rest)
+agrees (b ∷ rest) EmptyLinesReturn = step_empty_return b rest (agrees rest)
+agrees (b ∷ rest) Line = step_line b rest (agrees rest)
+agrees (b ∷ rest) Feed = step_feed b rest (agrees rest)
+agrees (b ∷ rest) FeedReturn = step_feed_return b rest (agrees rest)
+
+-- the search finds the end
+pub search_finds : (bytes : List ℕ) (place : Place) → result_ok (search place bytes) ≡ found place bytes
+search_finds bytes place = (agrees bytes place).0
+
+-- the search says whether only empty lines were there
+pub search_clean : (bytes : List ℕ) (place : Place) → ends_clean (search place bytes) ≡ clean place bytes
+search_clean bytes place = (agrees bytes place).1

@@ -4,14 +4,4 @@
 #![tactic(auto)]
 
 #[cfg(test)]
-mod damage_tests;
-#[cfg(test)]
-mod desk;
-#[cfg(test)]
-mod device_tests;
-#[cfg(test)]
-mod files;
-#[cfg(test)]
-mod migrate_tests;
-#[cfg(test)]
-mod script;
+mod tests;

@@ -5,12 +5,4 @@
 #![tactic(auto)]
 
 #[cfg(test)]
-mod bureau_store_tests;
-#[cfg(test)]
-mod sql_reads_tests;
-#[cfg(test)]
-mod sql_tables_tests;
-#[cfg(test)]
-mod sql_texts_tests;
-#[cfg(test)]
-mod sql_writes_tests;
+mod tests;

@@ -1,1 +1,2 @@
+pub mod FrontFacts
 pub mod IntakeFacts

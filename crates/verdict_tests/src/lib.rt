@@ -5,14 +5,4 @@
 #![tactic(auto)]
 
 #[cfg(test)]
-mod catalogue_tests;
-#[cfg(test)]
-mod chain_cache_tests;
-#[cfg(test)]
-mod chains_tests;
-#[cfg(test)]
-mod reports_tests;
-#[cfg(test)]
-mod requisites_tests;
-#[cfg(test)]
-mod supersede_tests;
+mod tests;

@@ -2,7 +2,8 @@ use Rattle.std.proofs.Common.{◌≡◌, ◌++◌}
 use Rattle.transfer.specs.Transfer.{AppendsFront}
 use Rattle.std.proofs.lemmas.Result.{err_from_is_err_and}
 use Rattle.bureau_http.specs.declared.fault.ConnFault.TheVariants.{Write as NotWritten}
-use Rattle.bureau_http.proofs.ReplyFacts.{exits, front_first, front_second, map_err}
+use Rattle.transfer.proofs.FrontFacts.{front_first, front_second}
+use Rattle.bureau_http.proofs.ReplyFacts.{exits, map_err}
 use Rattle.bureau_http.proofs.reply.write_both.Goals as goal
 
 pub returns-in_err-write_text-clause-err : goal.returns-in_err-write_text-clause-err

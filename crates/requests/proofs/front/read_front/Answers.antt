@@ -1,11 +1,11 @@
-use Rattle.std.proofs.Common.{refl, ◌≡◌, ◌<◌, ◌≤◌, length, take, subst, sym, ap, ◌∙◌, arith, length-append, Err}
+use Rattle.std.proofs.Common.{refl, ◌≡◌, ◌≤◌, length, take, subst, sym, ap, ◌∙◌, arith, length-append}
 use Rattle.std.proofs.KnownBytes.{Keeps-refl}
 use Rattle.std.proofs.lemmas.List.{take-append-le, take-take, take_all}
 use Rattle.requests.specs.HeadEnd.{front_of, head_limit}
 use Rattle.requests.specs.Search.{search}
 use Rattle.requests.specs.declared.front.Front.TheVariants.{Head, TooLarge}
 use Rattle.requests.specs.declared.head_end.Place.TheVariants.{EmptyLines}
-use Rattle.requests.proofs.FrontFacts.{any_err, at_end, ended_before, found, found_so_far, none_read, not_at_hand, limit_is, taken, told, told_at_end, too_large, too_large_so_far}
+use Rattle.requests.proofs.FrontFacts.{any_err, at_end, ended_before, found, found_so_far, limit_is, no_end, none_read, not_at_hand, taken, told, told_at_end, too_large, too_large_so_far}
 use Rattle.requests.proofs.SearchFacts.{search_nil}
 use Rattle.requests.proofs.front.read_front.Goals as goal
 
@@ -60,79 +60,47 @@ returns-then-seen-eq-HEAD_LIMIT-clause-came g c =
 
 pub returns-then-branch-eq0-clause-came : goal.returns-then-branch-eq0-clause-came
 returns-then-branch-eq0-clause-came g c =
-    let less : length c.within_limit-shown.result.now < 16384 = omega arith in
-    let whole = c.within_limit-shown.ensures.all less ∙ c.bytes.ensures in
-    let count : length c.within_limit-shown.result.now ≡ length c.loop-count.intake = ap length whole in
-    let short : length c.loop-count.intake < 16384 = omega arith in
+    let held = no_end _ _ c.loop-count.intake _ c.within_limit-shown.ensures.all c.bytes.ensures (omega arith) (sym c.find_on.ensures.found ∙ c.in-Err.is) in
     let read = c.in_ok-read_more.ensures.bytes in
     let same : c.read_more.new.self ≡ c.loop-count.intake = none_read _ _ read.bytes read.grown (read.count ∙ c.if-branch-eq0.true) in
     c.at_end.ensures
-    ∙ at_end head_limit c.loop-count.intake c.in-Err.next
-    (ap (search EmptyLines) (sym whole) ∙ sym c.find_on.ensures.found ∙ c.in-Err.is)
-    (subst (λ m. length c.loop-count.intake < m) limit_is short)
+    ∙ at_end head_limit c.loop-count.intake c.in-Err.next held.none held.short
     ∙ ap (front_of head_limit) (sym same)
 
 pub returns-in_err-read_more-clause-none_came : goal.returns-in_err-read_more-clause-none_came
 returns-in_err-read_more-clause-none_came g c =
-    let less : length c.within_limit-shown.result.now < 16384 = omega arith in
-    let whole = c.within_limit-shown.ensures.all less ∙ c.bytes.ensures in
-    let count : length c.within_limit-shown.result.now ≡ length c.loop-count.intake = ap length whole in
-    let short : length c.loop-count.intake < 16384 = omega arith in
-    any_err _ (not_at_hand head_limit c.loop-count.intake c.read_more.new.self c.in-Err.next
-    (ap (search EmptyLines) (sym whole) ∙ sym c.find_on.ensures.found ∙ c.in-Err.is)
-    (subst (λ m. length c.loop-count.intake < m) limit_is short) (sym c.in_err-read_more.ensures.err))
+    let held = no_end _ _ c.loop-count.intake _ c.within_limit-shown.ensures.all c.bytes.ensures (omega arith) (sym c.find_on.ensures.found ∙ c.in-Err.is) in
+    any_err _ (not_at_hand head_limit c.loop-count.intake c.read_more.new.self c.in-Err.next held.none held.short (sym c.in_err-read_more.ensures.err))
 
 pub returns-then-branch-eq0-clause-front : goal.returns-then-branch-eq0-clause-front
 returns-then-branch-eq0-clause-front g c =
-    let less : length c.within_limit-shown.result.now < 16384 = omega arith in
-    let whole = c.within_limit-shown.ensures.all less ∙ c.bytes.ensures in
-    let count : length c.within_limit-shown.result.now ≡ length c.loop-count.intake = ap length whole in
-    let short : length c.loop-count.intake < 16384 = omega arith in
+    let held = no_end _ _ c.loop-count.intake _ c.within_limit-shown.ensures.all c.bytes.ensures (omega arith) (sym c.find_on.ensures.found ∙ c.in-Err.is) in
     let read = c.in_ok-read_more.ensures.bytes in
     told_at_end (λ bytes. c.at_end.result ≡ front_of head_limit bytes) _ _ c.loop-count.intake c.loop-count.invariant.kept
     (ended_before _ _ read.bytes read.consumed (read.count ∙ c.if-branch-eq0.true) (c.in_ok-read_more.ensures.end c.if-branch-eq0.true))
     (c.at_end.ensures
-    ∙ at_end head_limit c.loop-count.intake c.in-Err.next
-    (ap (search EmptyLines) (sym whole) ∙ sym c.find_on.ensures.found ∙ c.in-Err.is)
-    (subst (λ m. length c.loop-count.intake < m) limit_is short))
+    ∙ at_end head_limit c.loop-count.intake c.in-Err.next held.none held.short)
 
 pub loop-count-smaller : goal.loop-count-smaller
 loop-count-smaller g c =
-    let less : length c.within_limit-shown.result.now < 16384 = omega arith in
-    let whole = c.within_limit-shown.ensures.all less ∙ c.bytes.ensures in
-    let count : length c.within_limit-shown.result.now ≡ length c.loop-count.intake = ap length whole in
+    let held = no_end _ _ c.loop-count.intake _ c.within_limit-shown.ensures.all c.bytes.ensures (omega arith) (sym c.find_on.ensures.found ∙ c.in-Err.is) in
     let read = c.in_ok-read_more.ensures.bytes in
-    let longer = ap length read.grown ∙ length-append c.loop-count.intake read.bytes in
-    let some = read.count in
-    omega arith
+    omega (arith, held.count, read.count, ap length read.grown ∙ length-append c.loop-count.intake read.bytes)
 
 pub returns-in_err-read_more-clause-at_hand : goal.returns-in_err-read_more-clause-at_hand
 returns-in_err-read_more-clause-at_hand g c at =
-    let less : length c.within_limit-shown.result.now < 16384 = omega arith in
-    let whole = c.within_limit-shown.ensures.all less ∙ c.bytes.ensures in
-    let count : length c.within_limit-shown.result.now ≡ length c.loop-count.intake = ap length whole in
-    let short : length c.loop-count.intake < 16384 = omega arith in
-    absurd (not_at_hand head_limit c.loop-count.intake c.args.intake.now c.in-Err.next
-    (ap (search EmptyLines) (sym whole) ∙ sym c.find_on.ensures.found ∙ c.in-Err.is)
-    (subst (λ m. length c.loop-count.intake < m) limit_is short) (c.loop-count.invariant.at_hand at).0 at)
+    let held = no_end _ _ c.loop-count.intake _ c.within_limit-shown.ensures.all c.bytes.ensures (omega arith) (sym c.find_on.ensures.found ∙ c.in-Err.is) in
+    absurd (not_at_hand head_limit c.loop-count.intake c.args.intake.now c.in-Err.next held.none held.short (c.loop-count.invariant.at_hand at).0 at)
 
 pub returns-then-branch-eq0-clause-at_hand : goal.returns-then-branch-eq0-clause-at_hand
 returns-then-branch-eq0-clause-at_hand g c at =
-    let less : length c.within_limit-shown.result.now < 16384 = omega arith in
-    let whole = c.within_limit-shown.ensures.all less ∙ c.bytes.ensures in
-    let count : length c.within_limit-shown.result.now ≡ length c.loop-count.intake = ap length whole in
-    let short : length c.loop-count.intake < 16384 = omega arith in
-    absurd (not_at_hand head_limit c.loop-count.intake c.args.intake.now c.in-Err.next
-    (ap (search EmptyLines) (sym whole) ∙ sym c.find_on.ensures.found ∙ c.in-Err.is)
-    (subst (λ m. length c.loop-count.intake < m) limit_is short) (c.loop-count.invariant.at_hand at).0 at)
+    let held = no_end _ _ c.loop-count.intake _ c.within_limit-shown.ensures.all c.bytes.ensures (omega arith) (sym c.find_on.ensures.found ∙ c.in-Err.is) in
+    absurd (not_at_hand head_limit c.loop-count.intake c.args.intake.now c.in-Err.next held.none held.short (c.loop-count.invariant.at_hand at).0 at)
 
 pub loop-count-preserved : goal.loop-count-preserved
 loop-count-preserved g c =
-    let less : length c.within_limit-shown.result.now < 16384 = omega arith in
-    let whole = c.within_limit-shown.ensures.all less ∙ c.bytes.ensures in
-    let count : length c.within_limit-shown.result.now ≡ length c.loop-count.intake = ap length whole in
-    let short : length c.loop-count.intake < 16384 = omega arith in
-    let none : search EmptyLines c.loop-count.intake ≡ Err c.in-Err.next = ap (search EmptyLines) (sym whole) ∙ sym c.find_on.ensures.found ∙ c.in-Err.is in
+    let held = no_end _ _ c.loop-count.intake _ c.within_limit-shown.ensures.all c.bytes.ensures (omega arith) (sym c.find_on.ensures.found ∙ c.in-Err.is) in
+    let count = held.count in
     let read = c.in_ok-read_more.ensures.bytes in
     let longer = ap length read.grown ∙ length-append c.loop-count.intake read.bytes in
     let some = read.count in
@@ -141,11 +109,11 @@ loop-count-preserved g c =
       kept = taken _ _ _ _ _ read.bytes c.loop-count.invariant.kept read.grown read.consumed;
       within = omega arith;
       limit = omega arith;
-      at_hand = λ at. absurd (not_at_hand head_limit c.loop-count.intake c.args.intake.now c.in-Err.next none
-          (subst (λ m. length c.loop-count.intake < m) limit_is short) (c.loop-count.invariant.at_hand at).0 at);
+      at_hand = λ at. absurd (not_at_hand head_limit c.loop-count.intake c.args.intake.now c.in-Err.next held.none held.short
+          (c.loop-count.invariant.at_hand at).0 at);
       no_further = λ limit most low. omega arith;
       none = ap (search EmptyLines) (ap (take (length c.within_limit-shown.result.now)) read.grown
           ∙ take-append-le (length c.within_limit-shown.result.now) c.loop-count.intake read.bytes (omega arith)
-          ∙ take_all (length c.within_limit-shown.result.now) c.loop-count.intake (omega arith)) ∙ none;
+          ∙ take_all (length c.within_limit-shown.result.now) c.loop-count.intake (omega arith)) ∙ held.none;
       counted = omega (arith, c.loop-count.invariant.counted, c.read_more.ensures);
     }

@@ -1,4 +1,4 @@
-use Rattle.std.proofs.Common.{sym, ap, ◌∙◌}
+use Rattle.std.proofs.Common.{sym, ◌∙◌}
 use Rattle.requests.proofs.TurnFacts.{map_err, unfinished_head}
 use Rattle.requests.proofs.turn.read_turn.Goals as goal
 

@@ -1,0 +1,58 @@
+-- What `migrate` leaves of a database, and what it tells.
+use Rattle.std.proofs.Common.{◌≡◌, ◌≢◌, ◌∙◌, ℕ, List, Option, Some, Ok, Err, Result, IfErr, ap, inl, inr, refl, subst, sym}
+use Rattle.std.proofs.KnownBytes.{Keeps-refl}
+use Rattle.faults.specs.declared.any.AnyFault.{AnyFault}
+use Rattle.sqlite.specs.State.{HasCleanDisk, KeepsCommit, State}
+use Rattle.sqlite_trees.specs.declared.store.Store.{Ghosts}
+use Rattle.sql_state.specs.Earlier.{IsOfVersion1, held_by_version_1}
+use Rattle.sql_tables.specs.Stored.{tables_of}
+use Rattle.bureau_store.specs.declared.fault.StoreFault.TheVariants.{Device}
+use Rattle.bureau_sql.specs.Migrated.{IsUntouched}
+use Rattle.bureau_sql.specs.Opening.{CanMakeConditions, HasTables, IsNotEarlier}
+use Rattle.sql_reads.specs.Version.{HasVersion}
+use Rattle.bureau_sql.specs.SqlState.{SqlState}
+use Rattle.bureau_sql.specs.SqlView.{IsOurStore, shown, sql_view}
+use Rattle.bureau_store.specs.declared.fault.StoreFault.{StoreFault}
+use Rattle.bureau_program.specs.Desk.{of_store}
+use Rattle.bureau_program.specs.Holds.{IsTold, fault_in, run_status}
+use Rattle.bureau_program.specs.Migrating.{HasMigrated, IsMigrateLeft, IsMigrateRun}
+use Rattle.bureau_program.specs.ProgramFault.{of_program}
+use Rattle.bureau_program.specs.declared.fault.ProgramFault.TheVariants.{NotWritten}
+
+-- the store that was opened has the tables of the database that was there
+pub has_migrated : {S : Type 0} (g : Ghosts S) (before : State) (store : SqlState S) → store.failures ≡ 0
+    → (HasCleanDisk (shown g store) → HasVersion (Some 1) before.committed)
+    → (HasCleanDisk (shown g store) → HasTables before.committed.schema × CanMakeConditions before.committed.schema)
+    → (HasCleanDisk (shown g store) → IsOfVersion1 before.committed → IsOurStore g store)
+    → (HasCleanDisk (shown g store) → IsOfVersion1 before.committed → (sql_view g).stands store (tables_of (held_by_version_1 before.committed)))
+    → HasMigrated before (shown g store)
+has_migrated g before store open_still version found ours tables =
+    λ clean. (version clean, (found clean).0, (found clean).1, λ earlier. (((ours clean earlier).1 open_still).1, tables clean earlier open_still))
+
+-- it is migrated, whether or not the line could be written
+pub migrated : {T : Type 0} (outcome : Result T AnyFault) (before after : State) → HasMigrated before after
+    → IfErr outcome (λ fault. fault ≡ of_program NotWritten) → IsMigrateLeft (fault_in outcome) before after
+migrated (Ok done) before after has told = has
+migrated (Err why) before after has told = inl (told, has)
+
+pub not_migrated : (refused : StoreFault) (fault : AnyFault) (before after : State) → fault ≡ of_store refused
+    → (HasCleanDisk after → IsNotEarlier before refused) → (HasCleanDisk after → KeepsCommit before after)
+    → (refused ≢ Device → IsUntouched before after) → IsMigrateLeft (Some fault) before after
+not_migrated refused fault before after is why kept untouched = inr (refused, is, why, kept, untouched)
+
+-- a file that can't be opened is left alone
+pub not_connected : (output : Option (List ℕ)) (fault : StoreFault) (any : AnyFault) (old new : Option (List ℕ)) (status : ℕ) → any ≡ of_store fault
+    → IsTold (Some any) old new → status ≡ run_status (Some any) → IsMigrateRun (λ outcome. Unit {0}) output output old new status
+not_connected output fault any old new status is told status_is = record {
+  outcome = Some any;
+  left = tt;
+  output = inr (fault, is, Keeps-refl output);
+  told = told;
+  status_is = status_is;
+}
+
+-- the same run, where nothing is known of the database
+pub database_unknown : (Leaves : Option AnyFault → Type 0) (old new old_errors new_errors : Option (List ℕ)) (status : ℕ)
+    → IsMigrateRun Leaves old new old_errors new_errors status → IsMigrateRun (λ outcome. Unit {0}) old new old_errors new_errors status
+database_unknown Leaves old new old_errors new_errors status run =
+    record { outcome = run.outcome; left = tt; output = run.output; told = run.told; status_is = run.status_is }

@@ -1,0 +1,45 @@
+-- What a writer gets of texts that are written one after the other, and why nothing is written.
+use Rattle.std.proofs.Common.{◌≡◌, inl, ℕ, ◌+◌, ◌<◌, List, [], ◌∷◌, ◌++◌, length, map, take, drop, get_or, Option, sym, ap, ◌∙◌, subst, append-nil, append_assoc, take-append-drop}
+use Rattle.std.proofs.KnownBytes.{Appends-trans}
+use Rattle.std.proofs.lemmas.Grind.{flat_map-append}
+use Rattle.std.proofs.lemmas.List.{map-append, take_more}
+use Rattle.std.specs.Io.KnownBytes.{Appends}
+use Rattle.transfer.specs.Transfer.{AppendsFront}
+use Rattle.transfer.proofs.FrontFacts.{front_first, front_second}
+use Rattle.faults.specs.declared.any.AnyFault.{AnyFault}
+use Rattle.bureau_store.specs.declared.fault.StoreFault.TheVariants.{Device}
+use Rattle.bureau_program.specs.Desk.{of_store}
+use Rattle.bureau_program.specs.Replay.{IsNotServed, joined}
+
+joined_on : (before more : List (List ℕ)) → joined (before ++ more) ≡ joined before ++ joined more
+joined_on before more = flat_map-append (λ text. text) before more
+
+module _ {V : Type 0} (f : V → List ℕ) (texts : List V) (i : ℕ) (item : V) (low : i < length texts) (is : item ≡ get_or texts i item) where
+  one_on : map f (take (i + 1) texts) ≡ map f (take i texts) ++ f item ∷ []
+  one_on =
+      ap (map f) (take_more texts i item low) ∙ map-append f (take i texts) (get_or texts i item ∷ [])
+      ∙ ap (λ v. map f (take i texts) ++ f v ∷ []) (sym is)
+
+  -- one text more was written
+  pub one_more : (old mid new : Option (List ℕ)) → Appends old mid (joined (map f (take i texts))) → Appends mid new (f item)
+      → Appends old new (joined (map f (take (i + 1) texts)))
+  one_more old mid new before now =
+      let joins : joined (map f (take (i + 1) texts)) ≡ joined (map f (take i texts)) ++ f item =
+      ap joined one_on ∙ joined_on (map f (take i texts)) (f item ∷ []) ∙ ap (λ l. joined (map f (take i texts)) ++ l) (append-nil (f item)) in
+      subst (Appends old new) (sym joins) (Appends-trans old mid new (joined (map f (take i texts))) (f item) before now)
+
+  -- of this text a front was written
+  pub cut : (old mid new : Option (List ℕ)) → Appends old mid (joined (map f (take i texts))) → AppendsFront mid new (f item)
+      → AppendsFront old new (joined (map f texts))
+  cut old mid new before front =
+      let rest = map f (drop (i + 1) texts) in
+      let all : map f texts ≡ map f (take i texts) ++ (f item ∷ rest) =
+      ap (map f) (sym (take-append-drop (i + 1) texts)) ∙ map-append f (take (i + 1) texts) (drop (i + 1) texts)
+      ∙ ap (λ l. l ++ rest) one_on ∙ append_assoc (map f (take i texts)) (f item ∷ []) rest in
+      let joins : joined (map f texts) ≡ joined (map f (take i texts)) ++ (f item ++ joined rest) =
+      ap joined all ∙ joined_on (map f (take i texts)) (f item ∷ rest) in
+      subst (AppendsFront old new) (sym joins) (front_second old mid new (joined (map f (take i texts))) (f item ++ joined rest) before (front_first mid new (f item) (joined rest) front))
+
+-- the device of the store has failed
+pub device_not_served : (fault : AnyFault) → fault ≡ of_store Device → IsNotServed fault
+device_not_served fault is = inl (Device, is)

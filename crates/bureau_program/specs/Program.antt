@@ -1,0 +1,115 @@
+-- What a run does: from the words of a command line to what it reads, what both streams get, and the exit status.
+use Rattle.std.specs.Prelude.{◌≡◌, ◌≢◌, ◌⊎◌, ℕ, [], List, codes, map, Option, Some, Result, Ok, Err, IfSome, string_bytes}
+use Rattle.std.specs.Io.KnownBytes.{Keeps}
+use Rattle.bureau_store.specs.declared.fault.StoreFault.{StoreFault}
+use Rattle.clap.specs.Words.{fault_of}
+use Rattle.faults.specs.declared.any.AnyFault.{AnyFault}
+use Rattle.transfer.specs.Transfer.{AppendsFront}
+use Rattle.bureau_program.specs.Holds.{IsHoldsRun, IsTold}
+use Rattle.bureau_program.specs.Line.{bureau_app, IsLineOf}
+use Rattle.bureau_program.specs.Desk.{IsCallersFault, IsInitRun, IsServeRun, of_store}
+use Rattle.bureau_program.specs.Migrating.{IsMigrateRun}
+use Rattle.bureau_program.specs.ProgramFault.{of_program, status_of}
+use Rattle.bureau_program.specs.Replay.{IsReplayRun}
+use Rattle.bureau_program.specs.Surroundings.{KnownFile, AreContents, IsContent, IsNotOpened, IsOpened}
+use Rattle.bureau_program.specs.declared.fault.ProgramFault.{ProgramFault}
+use Rattle.bureau_program.specs.declared.fault.ProgramFault.TheVariants.{NotRead, Memory}
+use Rattle.bureau_program.specs.declared.line.Line.{Line}
+use Rattle.bureau_program.specs.declared.line.Line.TheVariants as line
+use Rattle.bureau_program.specs.declared.line.LineFault.{LineFault}
+use Rattle.bureau_program.specs.declared.line.LineFault.TheVariants as line_fault
+
+-- What standard output and standard error had before a run and have after it, where that is known.
+pub record Outputs : Type 0 where
+  pub output : Option (List ℕ)
+  pub written : Option (List ℕ)
+  pub errors : Option (List ℕ)
+  pub told : Option (List ℕ)
+
+-- a run that ends before it makes anything: standard output stays, standard error has the fault's line, the status is 3
+abbrev pub IsEndedBy : ProgramFault → Outputs → ℕ → Type 0
+IsEndedBy fault outputs status =
+    Keeps outputs.output outputs.written × IsTold (Some (of_program fault)) outputs.errors outputs.told × (status ≡ 3)
+
+-- the hold book of what a file has; or the file can't be opened
+abbrev pub IsHoldsOf : KnownFile → Outputs → ℕ → Type 0
+IsHoldsOf file outputs status =
+    ((bytes : Option (List ℕ)) × (rest : Option (List ℕ)) × IsOpened file bytes
+    × IsHoldsRun bytes rest outputs.output outputs.written outputs.errors outputs.told status)
+    ⊎ (IsNotOpened file × IsEndedBy NotRead outputs status)
+
+-- `holds FILE`: FILE is `-`, and standard input is read; or it isn't, and the file of that name is, and standard input stays
+abbrev pub IsHolds : (List ℕ → KnownFile) → List ℕ → Option (List ℕ) → Option (List ℕ) → Outputs → ℕ → Type 0
+IsHolds files name input rest outputs status =
+    ((name ≡ codes "-") × IsHoldsRun input rest outputs.output outputs.written outputs.errors outputs.told status)
+    ⊎ ((name ≢ codes "-") × Keeps input rest × IsHoldsOf (files name) outputs status)
+
+-- `replay CALLERS FILE..`: the callers file and each FILE are read, and nothing else
+pub record IsServed (files : List ℕ → KnownFile) (callers : List ℕ) (names : List (List ℕ)) (outputs : Outputs) (status : ℕ) : Type 0 where
+  pub source : List ℕ
+  pub connections : List (List ℕ)
+  pub callers_are : IsContent (files callers) source
+  pub files_are : AreContents files names connections
+  pub replayed : IsReplayRun source connections outputs.output outputs.written outputs.errors outputs.told status
+
+-- the same, or one of them can't be read, or memory ran out
+abbrev pub IsReplay : (List ℕ → KnownFile) → List ℕ → List (List ℕ) → Outputs → ℕ → Type 0
+IsReplay files callers names outputs status =
+    IsServed files callers names outputs status ⊎ IsEndedBy NotRead outputs status ⊎ IsEndedBy Memory outputs status
+
+-- a run that ends with a fault before it makes anything: standard output stays, standard error has the fault's line
+abbrev pub IsToldAlone : AnyFault → Outputs → ℕ → Type 0
+IsToldAlone fault outputs status =
+    Keeps outputs.output outputs.written × IsTold (Some fault) outputs.errors outputs.told × (status ≡ status_of fault.cause)
+
+-- the callers file has a fault
+abbrev pub HasCallerFault : KnownFile → AnyFault → Type 0
+HasCallerFault callers fault = (source : List ℕ) × IsContent callers source × IsCallersFault source fault
+
+-- the callers file can't be read or has a fault, the file of the store can't be opened, or memory ran out
+abbrev pub IsNotBegun : KnownFile → AnyFault → Type 0
+IsNotBegun callers fault =
+    (fault ≡ of_program NotRead) ⊎ (fault ≡ of_program Memory)
+    ⊎ ((refused : StoreFault) × (fault ≡ of_store refused)) ⊎ HasCallerFault callers fault
+
+-- `init STORE CALLERS`: the callers file is read, and a store with its callers is made in a database, of which nothing is known
+pub record IsMade (files : List ℕ → KnownFile) (callers : List ℕ) (outputs : Outputs) (status : ℕ) : Type 0 where
+  pub source : List ℕ
+  pub callers_are : IsContent (files callers) source
+  pub made : IsInitRun (λ outcome. Unit {0}) source outputs.output outputs.written outputs.errors outputs.told status
+
+abbrev pub IsInit : (List ℕ → KnownFile) → List ℕ → Outputs → ℕ → Type 0
+IsInit files callers outputs status =
+    IsMade files callers outputs status ⊎ ((fault : AnyFault) × IsNotBegun (files callers) fault × IsToldAlone fault outputs status)
+
+-- words that are no line: what to tell the user stands on standard error
+abbrev pub IsExplained : List ℕ → Outputs → ℕ → Type 0
+IsExplained text outputs status =
+    Keeps outputs.output outputs.written × AppendsFront outputs.errors outputs.told text × (status ≡ 2)
+
+-- What a line asks for is done, or what is wrong with the words is told. Standard input is read for `holds -` alone.
+abbrev pub IsAnswered : (List ℕ → KnownFile) → Result Line LineFault → Option (List ℕ) → Option (List ℕ) → Outputs → ℕ → Type 0
+IsAnswered files (Ok (line.Holds file)) input rest outputs status = IsHolds files (string_bytes file) input rest outputs status
+IsAnswered files (Ok (line.Replay cache callers names)) input rest outputs status =
+    Keeps input rest × IsReplay files (string_bytes callers) (map string_bytes names.items) outputs status
+IsAnswered files (Ok (line.Init store callers)) input rest outputs status =
+    Keeps input rest × IsInit files (string_bytes callers) outputs status
+IsAnswered files (Ok (line.Serve port cache connections store)) input rest outputs status =
+    Keeps input rest × IsServeRun port outputs.output outputs.written outputs.errors outputs.told status
+IsAnswered files (Ok (line.Migrate store)) input rest outputs status =
+    Keeps input rest × IsMigrateRun (λ outcome. Unit {0}) outputs.output outputs.written outputs.errors outputs.told status
+IsAnswered files (Err (line_fault.Words text)) input rest outputs status =
+    Keeps input rest × IsExplained (string_bytes text) outputs status
+IsAnswered files (Err line_fault.Memory) input rest outputs status = Keeps input rest × IsEndedBy Memory outputs status
+
+-- the words are understood as this line; clap has a fault to find in them, or they ask for help; or memory ran out
+abbrev pub IsUnderstoodAs : List (List ℕ) → Result Line LineFault → Type 0
+IsUnderstoodAs words (Ok asked) = IsLineOf words asked
+IsUnderstoodAs words (Err (line_fault.Words text)) = (asked : Line) → IsLineOf words asked → fault_of bureau_app words ≢ []
+IsUnderstoodAs words (Err line_fault.Memory) = Unit {0}
+
+-- A whole run of the program, from its words, where they are known, and its files to its streams and its status.
+pub record IsRun (words : Option (List (List ℕ))) (files : List ℕ → KnownFile) (input rest : Option (List ℕ)) (outputs : Outputs) (status : ℕ) : Type 0 where
+  pub line : Result Line LineFault
+  pub understood : IfSome words (λ known. IsUnderstoodAs known line)
+  pub answered : IsAnswered files line input rest outputs status

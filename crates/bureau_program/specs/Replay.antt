@@ -1,0 +1,52 @@
+-- What `replay` makes of a callers file and the bytes of connections.
+use Rattle.std.specs.Prelude.{◌≡◌, ◌⊎◌, ℕ, List, Option, Some, None, true}
+use Rattle.std.specs.Io.KnownBytes.{Appends, Keeps}
+use Rattle.std.specs.List.{flat_map}
+use Rattle.faults.specs.declared.any.AnyFault.{AnyFault}
+use Rattle.faults.specs.declared.fault.Cause.TheVariants.{Machine}
+use Rattle.bureau_http.specs.Replay.{IsReplayed}
+use Rattle.bureau_store.specs.declared.fault.StoreFault.{StoreFault}
+use Rattle.bureau_program.specs.Desk.{IsCallersFault, of_store}
+use Rattle.transfer.specs.Transfer.{AppendsFront}
+use Rattle.bureau_program.specs.Holds.{IsTold, run_status}
+use Rattle.bureau_program.specs.ProgramFault.{of_program}
+use Rattle.bureau_program.specs.declared.fault.ProgramFault.TheVariants.{NotWritten, Memory}
+use Rattle.sqlite_trees.specs.declared.store.Store.{Ghosts}
+
+-- files in which each byte that is read is the one that was written, whatever happens
+abbrev pub IsAlwaysClean : {S : Type 0} → Ghosts S → Type 0
+IsAlwaysClean {S} g = (store : S) → (g.view store).is_clean ≡ true
+
+-- what was written to each connection, in order
+abbrev pub joined : List (List ℕ) → List ℕ
+joined written = flat_map (λ text. text) written
+
+-- a write failed: standard output has a front part of the replies
+abbrev pub IsReplayCutShort : AnyFault → List ℕ → List (List ℕ) → Option (List ℕ) → Option (List ℕ) → Type 0
+IsReplayCutShort fault callers connections old new =
+    (fault ≡ of_program NotWritten) × ((written : List (List ℕ)) × IsReplayed callers connections written × AppendsFront old new (joined written))
+
+-- no store can be made, its device failed, or memory ran out
+abbrev pub IsNotServed : AnyFault → Type 0
+IsNotServed fault =
+    ((refused : StoreFault) × (fault ≡ of_store refused)) ⊎ (fault ≡ of_program Memory)
+    ⊎ (fault ≡ record { number = 54; place = None; cause = Machine })
+
+-- the same, or the callers file has a fault
+abbrev pub IsNotReplayed : List ℕ → AnyFault → Type 0
+IsNotReplayed callers fault = IsCallersFault callers fault ⊎ IsNotServed fault
+
+-- What standard output gets: the replies of connections that were served one after the other, each caller answered as
+-- if alone; a front part of them where a write failed; or nothing, where the callers file has a fault or memory ran out.
+abbrev pub IsReplayOutput : Option AnyFault → List ℕ → List (List ℕ) → Option (List ℕ) → Option (List ℕ) → Type 0
+IsReplayOutput None callers connections old new =
+    (written : List (List ℕ)) × IsReplayed callers connections written × Appends old new (joined written)
+IsReplayOutput (Some fault) callers connections old new =
+    IsReplayCutShort fault callers connections old new ⊎ (IsNotReplayed callers fault × Keeps old new)
+
+-- A whole run: from what is read to what standard output and standard error get, and the exit status.
+pub record IsReplayRun (callers : List ℕ) (connections : List (List ℕ)) (old new old_errors new_errors : Option (List ℕ)) (status : ℕ) : Type 0 where
+  pub outcome : Option AnyFault
+  pub output : IsReplayOutput outcome callers connections old new
+  pub told : IsTold outcome old_errors new_errors
+  pub status_is : status ≡ run_status outcome

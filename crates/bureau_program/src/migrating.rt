@@ -1,0 +1,110 @@
+//! `migrate`: a store of version 1 in a file becomes one of version 2.
+ghost use Rattle.std.specs.Prelude.{◌≡◌, ◌≢◌, false, IfErr, IfOk};
+ghost use Rattle.bureau_program.specs.Holds.{fault_in};
+ghost use Rattle.bureau_program.specs.Migrating.{HasMigrated, IsMigrateLeft, IsMigrateOutput, IsMigrateRun};
+ghost use Rattle.bureau_sql.specs.Migrated.{AreMigrated, IsUntouched};
+ghost use Rattle.bureau_store.specs.declared.fault.StoreFault.TheVariants.{Device};
+ghost use Rattle.bureau_sql.specs.Opening.{IsNotEarlier};
+ghost use Rattle.sqlite.specs.Held.{state};
+ghost use Rattle.sqlite.specs.State.{HasCleanDisk, KeepsCommit, Survives};
+
+use crate::desk::{close, of_store, printed, told};
+use crate::surroundings::Surroundings;
+use bureau_sql::SqlStore;
+use bureau_store::StoreFault;
+use faults::AnyFault;
+use sqlite::{Alter, Connection};
+use std::alloc::Global;
+use std::io::Write;
+
+/// Makes a store of version 1 in the database of a connection one of version 2, with all that it has, and prints that
+/// this is done. Returns the exit status, and the connection, at rest.
+///
+/// A fault is told on `errors` alone. Where the line can't be written (72), the store is of version 2.
+pub fn run_migrate<S: Alter + Drop, W: Write, E: Write>(
+    alloc: Global,
+    conn: Connection<S>,
+    writer: &mut W,
+    errors: &mut E,
+) -> (u8, Connection<S>)
+    requires rest { conn.in_transaction ≡ false }
+    ensures run { IsMigrateRun
+        (λ outcome. IsMigrateLeft outcome (state S.Store conn) (state S.Store result.1))
+        (W.contents writer.old) (W.contents writer.new)
+        (E.contents errors.old) (E.contents errors.new) result.0 }
+    ensures stopped { Survives (state S.Store conn) (state S.Store result.1)
+        (AreMigrated (state S.Store conn)) }
+    ensures rest { result.1.in_transaction ≡ false }
+{
+    let (outcome, conn) = migrate_and_print(alloc, conn, writer);
+    (told(errors, outcome), conn)
+}
+
+// Makes the store one of version 2, and prints that this is done.
+#[tactic(auto, using(crate::proofs::MigratingFacts::migrated, crate::proofs::MigratingFacts::not_migrated))]
+fn migrate_and_print<S: Alter + Drop, W: Write>(
+    alloc: Global,
+    conn: Connection<S>,
+    writer: &mut W,
+) -> (Result<(), AnyFault>, Connection<S>)
+    requires rest { conn.in_transaction ≡ false }
+    ensures output { IsMigrateOutput (fault_in result.0) (W.contents writer.old) (W.contents writer.new) }
+    ensures left { IsMigrateLeft (fault_in result.0) (state S.Store conn) (state S.Store result.1) }
+    ensures stopped { Survives (state S.Store conn) (state S.Store result.1)
+        (AreMigrated (state S.Store conn)) }
+    ensures rest { result.1.in_transaction ≡ false }
+{
+    match migrate(alloc, conn) {
+        Ok(conn) => (printed(writer, b"MIGRATED VERSION 2\n"), conn),
+        Err((fault, conn)) => (Err(of_store(fault)), conn),
+    }
+}
+
+// Makes the store one of version 2.
+#[tactic(auto, using(crate::proofs::MigratingFacts::has_migrated))]
+fn migrate<S: Alter + Drop>(
+    alloc: Global,
+    conn: Connection<S>,
+) -> Result<Connection<S>, (StoreFault, Connection<S>)>
+    requires rest { conn.in_transaction ≡ false }
+    ensures migrated { IfOk result (λ made. HasMigrated (state S.Store conn) (state S.Store made)) }
+    ensures made_rest { IfOk result (λ made. made.in_transaction ≡ false) }
+    ensures survives { IfOk result (λ made. Survives (state S.Store conn) (state S.Store made)
+        (AreMigrated (state S.Store conn))) }
+    ensures stopped { IfErr result (λ refused. Survives (state S.Store conn) (state S.Store refused.1)
+        (AreMigrated (state S.Store conn))) }
+    ensures cause { IfErr result (λ refused. HasCleanDisk (state S.Store refused.1)
+        → IsNotEarlier (state S.Store conn) refused.0) }
+    ensures kept { IfErr result (λ refused. HasCleanDisk (state S.Store refused.1)
+        → KeepsCommit (state S.Store conn) (state S.Store refused.1)) }
+    ensures untouched { IfErr result (λ refused. refused.0 ≢ Device
+        → IsUntouched (state S.Store conn) (state S.Store refused.1)) }
+    ensures rest { IfErr result (λ refused. refused.1.in_transaction ≡ false) }
+{
+    match SqlStore::migrate(alloc, conn) {
+        Ok(store) => Ok(store.into_connection()),
+        Err(refused) => Err(refused),
+    }
+}
+
+/// The same of the store that a file has. A file that isn't there is not made.
+#[tactic(auto, using(crate::proofs::MigratingFacts::not_connected, crate::proofs::MigratingFacts::database_unknown))]
+pub fn migrate_file<S: Surroundings, W: Write, E: Write>(
+    surroundings: &S,
+    alloc: Global,
+    store: &str,
+    writer: &mut W,
+    errors: &mut E,
+) -> u8
+    ensures { IsMigrateRun (λ outcome. Unit {0}) (W.contents writer.old) (W.contents writer.new)
+        (E.contents errors.old) (E.contents errors.new) result }
+{
+    match surroundings.connect(store, false) {
+        Ok(conn) => {
+            let (status, conn) = run_migrate(alloc, conn, writer, errors);
+            close(conn);
+            status
+        }
+        Err(fault) => told(errors, Err(of_store(fault))),
+    }
+}

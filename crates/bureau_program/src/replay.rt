@@ -1,0 +1,172 @@
+//! `replay`: from the callers and the bytes of connections to the bytes of their replies.
+ghost use Rattle.std.specs.Prelude.{◌≡◌, false, map, IfErr, IfOk, OnOk, OnErr};
+ghost use Rattle.std.specs.Io.KnownBytes.{Appends};
+ghost use Rattle.bureau.specs.Joint.{IsRun};
+ghost use Rattle.bureau_http.specs.List.{AreServed};
+ghost use Rattle.bureau_http.specs.Replay.{IsReplayed};
+ghost use Rattle.bureau_program.specs.Holds.{fault_in};
+ghost use Rattle.bureau_program.specs.Replay.{IsAlwaysClean, IsNotReplayed, IsNotServed, IsReplayOutput, IsReplayRun, joined};
+ghost use Rattle.bureau_store.specs.Tables.{opened};
+ghost use Rattle.catalogue.specs.Content.{Content};
+ghost use Rattle.chain_cache.specs.Cache.{IsRightFor};
+ghost use Rattle.transfer.specs.Transfer.{AppendsFront};
+
+use crate::cache::cache_of;
+use crate::desk::{callers_in, of_store};
+use crate::fault::{ProgramFault, exit_status, report};
+use bureau::Bureau;
+use bureau_http::serve_list;
+use bureau_sql::SqlStore;
+use bureau_store::{CallerRow, Store, StoreFault};
+use chain_cache::ChainCache;
+use faults::AnyFault;
+use sqlite::{Alter, Connection, FileStore, Files, Options};
+use sqlite_disk::Memory;
+use std::alloc::Global;
+use std::hash::RandomState;
+use std::io::Write;
+use transfer::{RETRIES, write_whole};
+
+// How many pages are kept besides those in the files, which stand in memory too: one mebibyte of them.
+const PAGES: usize = 256;
+
+/// Serves connections one after the other over a store in memory that has these callers and nothing else, and
+/// prints what is written to each. Returns the exit status.
+///
+/// A fault is told on `errors` alone, as `FAULT`, its number and its place; only where a write fails has `writer`
+/// a front part of the replies. `cache` is how many frames are kept, and `keys` those by which they are looked up; no
+/// reply shows either.
+pub fn run_replay<W: Write, E: Write>(
+    alloc: Global,
+    callers: &[u8],
+    files: Vec<Vec<u8>>,
+    cache: u32,
+    keys: RandomState,
+    writer: &mut W,
+    errors: &mut E,
+) -> u8
+    ensures { IsReplayRun callers.now (map (λ file. file.items) files.items)
+        (W.contents writer.old) (W.contents writer.new)
+        (E.contents errors.old) (E.contents errors.new) result }
+{
+    match print_replies(alloc, callers, files, cache, keys, writer) {
+        Ok(()) => 0,
+        Err(fault) => {
+            let _ = report(errors, fault);
+            exit_status(fault)
+        }
+    }
+}
+
+// Prints what is written to connections.
+fn print_replies<W: Write>(
+    alloc: Global,
+    callers: &[u8],
+    files: Vec<Vec<u8>>,
+    cache: u32,
+    keys: RandomState,
+    writer: &mut W,
+) -> Result<(), AnyFault>
+    ensures { IsReplayOutput (fault_in result) callers.now (map (λ file. file.items) files.items)
+        (W.contents writer.old) (W.contents writer.new) }
+{
+    match replies(alloc, callers, files, cache, keys) {
+        Ok(written) => Ok(write_texts(writer, written.as_slice())?),
+        Err(fault) => Err(fault),
+    }
+}
+
+// What is written to connections that are served with the callers of a file.
+fn replies(
+    alloc: Global,
+    callers: &[u8],
+    files: Vec<Vec<u8>>,
+    cache: u32,
+    keys: RandomState,
+) -> Result<Vec<Vec<u8>>, AnyFault>
+    ensures replayed { IfOk result (λ written.
+        IsReplayed callers.now (map (λ file. file.items) files.items)
+        (map (λ text. text.items) written.items)) }
+    ensures fault { IfErr result (IsNotReplayed callers.now) }
+{
+    let rows = callers_in(alloc, callers)?;
+    serve_rows(alloc, rows.as_slice(), files, cache, keys)
+}
+
+// What is written to connections that are served with these callers.
+fn serve_rows(
+    alloc: Global,
+    rows: &[CallerRow],
+    files: Vec<Vec<u8>>,
+    cache: u32,
+    keys: RandomState,
+) -> Result<Vec<Vec<u8>>, AnyFault>
+    ensures served { IfOk result (λ written. AreServed IsRun (opened rows.now)
+        (map (λ file. file.items) files.items) (map (λ text. text.items) written.items)) }
+    ensures fault { IfErr result IsNotServed }
+{
+    let conn = database_in_memory(alloc)?;
+    let judge = cache_of(alloc, cache, keys)?;
+    serve_over(alloc, conn, judge, rows, files)
+}
+
+// The same over an empty database, where its files return what was written to them.
+fn serve_over<S: Alter + Drop>(
+    alloc: Global,
+    conn: Connection<S>,
+    judge: ChainCache,
+    rows: &[CallerRow],
+    files: Vec<Vec<u8>>,
+) -> Result<Vec<Vec<u8>>, AnyFault>
+    requires rest { conn.in_transaction ≡ false }
+    ensures served { IsAlwaysClean S.Store → ((content : Content) → IsRightFor judge content)
+        → IfOk result (λ written. AreServed IsRun (opened rows.now)
+        (map (λ file. file.items) files.items) (map (λ text. text.items) written.items)) }
+    ensures fault { IfErr result IsNotServed }
+{
+    let store = match SqlStore::init(alloc, conn, rows) {
+        Ok(store) => store,
+        Err((fault, _)) => return Err(of_store(fault)),
+    };
+    let mut bureau = Bureau::new(alloc, store, judge);
+    let served = serve_list(alloc, &mut bureau, files);
+    if bureau.store().device_failed() {
+        return Err(of_store(StoreFault::Device));
+    }
+    match served {
+        Ok(written) => Ok(written),
+        Err((fault, _)) => Err(AnyFault::from(fault)),
+    }
+}
+
+// A database in memory, made of the same pages as one in a file.
+fn database_in_memory(alloc: Global) -> Result<Connection<FileStore<Memory>>, StoreFault>
+    ensures rest { IfOk result (λ conn. conn.in_transaction ≡ false) }
+{
+    let log = Memory::new(alloc);
+    let db = Memory::new(alloc);
+    let mut options = Options::new(1);
+    options.cache_pages = PAGES;
+    match Connection::open_files(alloc, Files { log, db }, options) {
+        Ok(conn) => Ok(conn),
+        Err(_) => Err(StoreFault::Memory),
+    }
+}
+
+// Writes whole texts, one after the other.
+fn write_texts<W: Write>(writer: &mut W, texts: &[Vec<u8>]) -> Result<(), ProgramFault>
+    ensures ok { OnOk result (Appends (W.contents writer.old) (W.contents writer.new)
+        (joined (map (λ text. text.items) texts.now))) }
+    ensures fault { IfErr result (λ fault. fault ≡ ProgramFault.NotWritten) }
+    ensures err { OnErr result (AppendsFront (W.contents writer.old) (W.contents writer.new)
+        (joined (map (λ text. text.items) texts.now))) }
+{
+    let mut retries = RETRIES;
+    for text in texts {
+        match write_whole(writer, text.as_slice(), &mut retries) {
+            Ok(()) => {}
+            Err(_) => return Err(ProgramFault::NotWritten),
+        }
+    }
+    Ok(())
+}

@@ -1,0 +1,73 @@
+//! What surrounds a run: the words of its command line, files by their names, ports, and random keys.
+ghost use Rattle.std.specs.Prelude.{◌≡◌, ℕ, List, Option, None, false, map, string_bytes, IfOk, IfErr, IfSome};
+ghost use Rattle.faults.specs.Refusal.{IsRefusal};
+ghost use Rattle.bureau_program.specs.Surroundings.{KnownFile, IsNotOpened, IsOpened};
+
+use crate::line::LineFault;
+use bureau_store::StoreFault;
+use sqlite::{Connection, FileStore};
+use std::alloc::Global;
+use std::hash::RandomState;
+use std::io::{self, Read};
+use std::net::TcpListener;
+
+/// What the file of a store is kept on, as the system has it.
+pub type StoreFile = FileStore<sqlite::File>;
+
+/// The words of a command line, and the files that they may name.
+///
+/// Those of a system tell nothing of what they have. Others, as lists of words and of files, can tell all of it. So what
+/// is proved of every `Surroundings` says which words and which files a run reads.
+pub trait Surroundings {
+    type File: Read + Drop;
+
+    /// The words after the program's name, where they are known.
+    ghost known_words: { Self → Option (List (List ℕ)) };
+
+    /// What a file of a name is known to be.
+    ghost known_file: { Self → List ℕ → KnownFile };
+
+    /// The words after the program's name.
+    ///
+    /// # Errors
+    ///
+    /// A word is no text, or memory ran out.
+    fn words(&self, alloc: Global) -> Result<Vec<String>, LineFault>
+        ensures words { IfOk result (λ words. IfSome (known_words self.now)
+            (λ known. map string_bytes words.items ≡ known)) }
+        ensures fault { IfErr result (IsRefusal LineFault.Memory (λ _. known_words self.now ≡ None)) };
+
+    /// A reader of the file of this name, at its front.
+    ///
+    /// # Errors
+    ///
+    /// The file isn't there, or may not be read.
+    fn open(&self, name: &str) -> io::Result<Self::File>
+        ensures file { IfOk result
+            (λ file. IsOpened (known_file self.now name.now) (Self.File.remaining file)) }
+        ensures fault { IfErr result (λ _. IsNotOpened (known_file self.now name.now)) };
+
+    /// A connection to the database in the file of this name, at rest. A file that isn't there is made, where that is
+    /// asked for.
+    ///
+    /// # Errors
+    ///
+    /// `Shape` where the file isn't there and isn't to be made; `Memory` where memory ran out; `Device` where the name
+    /// is no file's, where the file may not be opened or another has it open, or where it is no database.
+    fn connect(&self, name: &str, makes: bool) -> Result<Connection<StoreFile>, StoreFault>
+        ensures rest { IfOk result (λ conn. conn.in_transaction ≡ false) };
+
+    /// Listens on a port of 127.0.0.1.
+    ///
+    /// # Errors
+    ///
+    /// The port is in use, or may not be listened on.
+    fn listen(&self, port: u16) -> io::Result<TcpListener>;
+
+    /// Random keys for a hasher, which no client can know.
+    ///
+    /// # Errors
+    ///
+    /// The system gives no random bytes.
+    fn random_keys(&self) -> io::Result<RandomState>;
+}

@@ -1,0 +1,54 @@
+//! A run of three callers, and what comes after it.
+use super::asked::{
+    ALPHA, BASE_ACCEPTED, BETA, BOTH, Checked, FUNCTION, PUBLISHER, Row, chain, id, joined,
+    publish, put_patterns, put_received, put_zone, report,
+};
+use bureau::Call;
+use std::alloc::Global;
+use testing::{BASE, LONG_PLAN, ONE_RECEIVED, ONE_RESOLVER, SHORT_PLAN, TWO_RESOLVERS};
+
+pub(crate) const SUPERSEDING: &[u8] = b"++PTF(UA10005).\n++VER(Z038) FMID(HBB7790) SUP(UA10002).\n";
+
+pub(crate) const ONE_ACCEPTED: &str = "ACCEPTED SYSMODS 1 HOLDS 0 RELEASES 0\n";
+
+/// Two publications, a zone of the same name of each of two clients, and what they ask.
+pub(crate) fn run_of_three(alloc: Global) -> Checked<Vec<Row>> {
+    let (zone, sysmod) = (id(b"TGT1")?, id(b"UA10002")?);
+    let rows: [Row; 10] = [
+        (PUBLISHER, publish(1, BASE), 200, BASE_ACCEPTED),
+        (ALPHA, put_zone(1, zone, BOTH), 200, "ZONE TGT1 ROWS 2\n"),
+        (BETA, put_zone(1, zone, FUNCTION), 200, "ZONE TGT1 ROWS 1\n"),
+        (ALPHA, chain(zone, sysmod), 200, SHORT_PLAN),
+        (BETA, chain(zone, sysmod), 200, LONG_PLAN),
+        (ALPHA, report(zone), 200, ONE_RESOLVER),
+        (PUBLISHER, publish(2, SUPERSEDING), 200, ONE_ACCEPTED),
+        (BETA, put_zone(2, zone, BOTH), 200, "ZONE TGT1 ROWS 2\n"),
+        (ALPHA, report(zone), 200, TWO_RESOLVERS),
+        (ALPHA, chain(zone, sysmod), 200, SHORT_PLAN),
+    ];
+    Vec::from_slice(alloc, rows.as_slice()).ok().ok_or("memory")
+}
+
+/// What comes after it: what is received is its client's alone.
+pub(crate) fn received(alloc: Global) -> Checked<Vec<Row>> {
+    let zone = id(b"TGT1")?;
+    let patterns = b"CATEGORY\nibm.device.*\n";
+    let rows: [Row; 5] = [
+        (
+            ALPHA,
+            put_received(2, b"SYSMOD\nUA10002\n"),
+            200,
+            "RECEIVED ROWS 1\n",
+        ),
+        (ALPHA, report(zone), 200, ONE_RECEIVED),
+        (BETA, report(zone), 200, TWO_RESOLVERS),
+        (
+            ALPHA,
+            put_patterns(3, zone, patterns),
+            200,
+            "ZONE TGT1 PATTERNS 1\n",
+        ),
+        (BETA, Call::Counts, 200, "PUBLISHED SYSMODS 4 HOLDS 1\n"),
+    ];
+    joined(alloc, run_of_three(alloc)?.as_slice(), rows.as_slice())
+}

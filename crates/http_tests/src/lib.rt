@@ -1,0 +1,8 @@
+//! Tests of connections to a desk, of its lists, of its sockets and of its patience, over a desk that knows the publisher
+//! alone and over the bureau.
+//!
+//! They stand in a crate of their own, since a crate with tests is proved twice by the gate.
+#![tactic(auto)]
+
+#[cfg(test)]
+mod tests;

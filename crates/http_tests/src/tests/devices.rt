@@ -1,0 +1,172 @@
+//! Readers and writers that fail or are interrupted in mid-stream, and when they are asked.
+use super::echo::{Echo, TOKEN, request, served};
+use bureau_http::{ConnFault, serve_one};
+use std::alloc::Global;
+use std::cell::Cell;
+use std::io::{self, ErrorKind, Read, Write};
+use std::test::Fail;
+use testing::{Failures, Pieces, Slow, assert_equal, assert_equal_at};
+
+// What the client has sent and got so far.
+#[derive(Drop)]
+struct Waiting {
+    sent: Cell<u32>,
+    got: Cell<u32>,
+}
+
+// A client that sends each request whole, and the next one only when the reply to it is there: a read before that
+// fails. Each request comes after so many interruptions.
+#[derive(Drop)]
+struct Patient<'a> {
+    request: &'a [u8],
+    left: u32,
+    interruptions: u32,
+    due: u32,
+    seen: &'a Waiting,
+}
+
+impl Read for Patient<'_> {
+    fn read(&mut self, buf: &mut [u8]) -> io::Result<usize> {
+        if self.seen.sent.get() != self.seen.got.get() {
+            return Err(io::Error::from(ErrorKind::TimedOut));
+        }
+        if self.left == 0 {
+            return Ok(0);
+        }
+        if self.due > 0 {
+            self.due -= 1;
+            return Err(io::Error::from(ErrorKind::Interrupted));
+        }
+        let count = self.request.len().min(buf.len());
+        buf[..count].copy_from_slice(&self.request[..count]);
+        self.left -= 1;
+        self.due = self.interruptions;
+        self.seen.sent.set(self.seen.sent.get().saturating_add(1));
+        Ok(count)
+    }
+}
+
+// Takes each reply in one write.
+#[derive(Drop)]
+struct Taking<'a> {
+    taken: Vec<u8>,
+    seen: &'a Waiting,
+}
+
+impl Write for Taking<'_> {
+    fn write(&mut self, buf: &[u8]) -> io::Result<usize> {
+        self.taken.extend_from_slice(buf)?;
+        self.seen.got.set(self.seen.got.get().saturating_add(1));
+        Ok(buf.len())
+    }
+
+    fn flush(&mut self) -> io::Result<()> {
+        Ok(())
+    }
+}
+
+// How a connection ends that asks so often, each time after so many interruptions, and the bytes that it gets.
+fn asked_patiently(
+    alloc: Global,
+    text: &[u8],
+    times: u32,
+    interruptions: u32,
+) -> (Vec<u8>, Result<u64, ConnFault>) {
+    let seen = Waiting {
+        sent: Cell::new(0),
+        got: Cell::new(0),
+    };
+    let mut desk = Echo::desk(alloc);
+    let mut reader = Patient {
+        request: text,
+        left: times,
+        interruptions,
+        due: interruptions,
+        seen: &seen,
+    };
+    let mut writer = Taking {
+        taken: Vec::new(alloc),
+        seen: &seen,
+    };
+    let ended = serve_one(alloc, &mut desk, &mut reader, &mut writer);
+    (writer.taken, ended.map(|served| served.requests))
+}
+
+#[test]
+fn a_reply_goes_out_before_the_next_read(rt: HostRuntime) -> Result<(), Fail> {
+    let text = request(rt.alloc(), b"GET /published", TOKEN, b"")?;
+    let (written, ended) = asked_patiently(rt.alloc(), text.as_slice(), 3, 0);
+    assert_equal((written.len(), ended), (3 * 93, Ok(3)))
+}
+
+#[test]
+fn interruptions_are_counted_over_the_connection(rt: HostRuntime) -> Result<(), Fail> {
+    let text = request(rt.alloc(), b"GET /published", TOKEN, b"")?;
+    let (written, ended) = asked_patiently(rt.alloc(), text.as_slice(), 2, 32);
+    assert_equal((written.len(), ended), (2 * 93, Ok(2)))?;
+    let (written, ended) = asked_patiently(rt.alloc(), text.as_slice(), 3, 32);
+    assert_equal((written.len(), ended), (2 * 93, Err(ConnFault::Read)))?;
+    let (written, ended) = asked_patiently(rt.alloc(), text.as_slice(), 2, 33);
+    assert_equal((written.len(), ended), (93, Err(ConnFault::Read)))
+}
+
+#[test]
+fn a_read_fails_at_each_place(rt: HostRuntime) -> Result<(), Fail> {
+    let one = request(rt.alloc(), b"GET /published", TOKEN, b"")?;
+    let mut text = one.clone()?;
+    text.extend_from_slice(one.as_slice())?;
+    let (whole, _) = served(rt.alloc(), false, text.as_slice())?;
+    for until_failure in 0..=u32::try_from(text.len().div_ceil(7))? {
+        let mut desk = Echo::desk(rt.alloc());
+        let failures = Failures::after(until_failure, ErrorKind::ConnectionReset);
+        let mut reader = Pieces::new(text.as_slice(), 7, failures);
+        let mut writer = Vec::new(rt.alloc());
+        let ended = serve_one(rt.alloc(), &mut desk, &mut reader, &mut writer);
+        assert_equal_at(
+            until_failure,
+            ended.map(|served| served.requests),
+            Err(ConnFault::Read),
+        )?;
+        // each request that came whole has its reply
+        let came = text.len().saturating_sub(reader.rest.len());
+        assert!(rt; whole.starts_with(writer.as_slice()), "{until_failure:?}");
+        let replies = if came < one.len() {
+            0
+        } else if came < text.len() {
+            1
+        } else {
+            2
+        };
+        assert_equal_at(until_failure, writer.len(), replies * 93)?;
+    }
+    Ok(())
+}
+
+#[test]
+fn a_write_fails_at_each_place(rt: HostRuntime) -> Result<(), Fail> {
+    let one = request(rt.alloc(), b"GET /published", TOKEN, b"")?;
+    let mut text = one.clone()?;
+    text.extend_from_slice(one.as_slice())?;
+    let (whole, _) = served(rt.alloc(), false, text.as_slice())?;
+    // a reply of 93 bytes takes 14 writes
+    for until_failure in 0..28u32 {
+        let mut desk = Echo::desk(rt.alloc());
+        let mut reader = text.as_slice();
+        let failures = Failures::after(until_failure, ErrorKind::BrokenPipe);
+        let mut writer = Slow::new(rt.alloc(), 7, usize::MAX, failures);
+        let ended = serve_one(rt.alloc(), &mut desk, &mut reader, &mut writer);
+        assert_equal_at(
+            until_failure,
+            ended.map(|served| served.requests),
+            Err(ConnFault::Write),
+        )?;
+        let count = until_failure as usize;
+        let taken = count / 14 * 93 + count % 14 * 7;
+        assert!(rt;
+            whole.starts_with(writer.taken.as_slice()),
+            "{until_failure:?}"
+        );
+        assert_equal_at(until_failure, writer.taken.len(), taken)?;
+    }
+    Ok(())
+}

@@ -1,0 +1,101 @@
+//! Connections to a desk that knows the publisher alone and answers each call with its own name, and to the bureau.
+use super::tableless::{Answering, Tableless};
+use bureau::{Body, Bureau, Call, Reply};
+use bureau_http::{ConnFault, serve_one};
+use bureau_store::{Caller, ListStore, StoreFault, callers};
+use chains::Whole;
+use faults::NoMemory;
+use std::alloc::Global;
+use std::test::Fail;
+
+/// What answers each call of the publisher with what it sends, and fails where it is closed.
+#[derive(Drop)]
+pub(crate) struct Echo {
+    alloc: Global,
+    is_closed: bool,
+}
+
+impl Echo {
+    pub(crate) fn new(alloc: Global) -> Echo {
+        let is_closed = false;
+        Echo { alloc, is_closed }
+    }
+
+    /// The desk with nothing else.
+    pub(crate) fn desk(alloc: Global) -> Tableless<Echo> {
+        let answering = Echo::new(alloc);
+        Tableless { answering }
+    }
+}
+
+impl Answering for Echo {
+    fn found(&mut self, token: &[u8]) -> Result<Option<Caller>, StoreFault> {
+        if self.is_closed {
+            return Err(StoreFault::Memory);
+        }
+        if token == b"publisher-token".as_slice() {
+            return Ok(Some(Caller::Publisher));
+        }
+        Ok(None)
+    }
+
+    fn told(&mut self, _caller: &Caller, call: &Call<'_>) -> Reply {
+        let (status, text) = match *call {
+            Call::Publish { number: None, .. } => (400, b"BAD NUMBER\n".as_slice()),
+            Call::Publish { body, .. } => (200, body),
+            Call::Counts => (200, b"PUBLISHED SYSMODS 0 HOLDS 0\n".as_slice()),
+            _ => (403, b"NOT ALLOWED\n".as_slice()),
+        };
+        match Vec::from_slice(self.alloc, text) {
+            Ok(bytes) => Reply {
+                status,
+                json: false,
+                body: Body::from_vec(bytes),
+            },
+            Err(_) => Reply::no_room(self.alloc),
+        }
+    }
+}
+
+/// What is written to a connection, and how it ends.
+pub(crate) fn served(
+    alloc: Global,
+    is_closed: bool,
+    bytes: &[u8],
+) -> Result<(Vec<u8>, Result<u64, ConnFault>), NoMemory> {
+    let answering = Echo { alloc, is_closed };
+    let mut desk = Tableless { answering };
+    let mut reader = bytes;
+    let mut writer = Vec::new(alloc);
+    let ended = serve_one(alloc, &mut desk, &mut reader, &mut writer);
+    Ok((writer, ended.map(|served| served.requests)))
+}
+
+/// The bureau over a store in memory that begins with the callers of a file and nothing else.
+pub(crate) fn bureau_of(alloc: Global, text: &[u8]) -> Result<Bureau<ListStore, Whole>, Fail> {
+    let Ok(rows) = callers(alloc, text) else {
+        return Err("no callers".into());
+    };
+    let Ok(store) = ListStore::new(alloc, rows.as_slice()) else {
+        return Err("no store".into());
+    };
+    Ok(Bureau::new(alloc, store, Whole::new()))
+}
+
+/// The head line of the one caller that the desk knows.
+pub(crate) const TOKEN: &[u8] = b"bureau-token: publisher-token\r\n";
+
+/// A request with these lines and this body.
+pub(crate) fn request(
+    alloc: Global,
+    first: &[u8],
+    lines: &[u8],
+    body: &[u8],
+) -> Result<Vec<u8>, NoMemory> {
+    let mut text = Vec::from_slice(alloc, first)?;
+    text.extend_from_slice(b" HTTP/1.1\r\n")?;
+    text.extend_from_slice(lines)?;
+    text.extend_from_slice(b"\r\n")?;
+    text.extend_from_slice(body)?;
+    Ok(text)
+}

@@ -1,0 +1,28 @@
+//! Connections in memory, one after the other.
+use super::echo::{Echo, request};
+use bureau_http::serve_list;
+use std::test::Fail;
+use testing::assert_equal;
+
+#[test]
+fn a_list_of_connections(rt: HostRuntime) -> Result<(), Fail> {
+    let one = request(
+        rt.alloc(),
+        b"GET /published",
+        b"bureau-token: publisher-token\r\n",
+        b"",
+    )?;
+    let mut connections = Vec::new(rt.alloc());
+    connections.push(one.clone()?)?;
+    connections.push(Vec::from_slice(rt.alloc(), b"GET /publ")?)?;
+    connections.push(one)?;
+    let mut desk = Echo::desk(rt.alloc());
+    match serve_list(rt.alloc(), &mut desk, connections) {
+        Ok(written) => {
+            assert_equal(written.len(), 3)?;
+            assert_equal(written[0].as_slice(), written[2].as_slice())?;
+            assert_equal((written[0].len(), written[1].len()), (93, 0))
+        }
+        Err(_) => Err("no memory".into()),
+    }
+}

@@ -1,0 +1,51 @@
+//! Desks that hold no tables.
+use bureau::{Call, Reply};
+use bureau_http::Desk;
+use bureau_store::{Caller, StoreFault};
+
+/// What answers in place of a bureau.
+pub(crate) trait Answering {
+    /// Who has this token, where somebody has it.
+    fn found(&mut self, token: &[u8]) -> Result<Option<Caller>, StoreFault>;
+
+    /// The answer to a call.
+    fn told(&mut self, caller: &Caller, call: &Call<'_>) -> Reply;
+}
+
+/// A desk that holds no tables, so that nothing is said of its answers.
+#[derive(Drop)]
+pub(crate) struct Tableless<A: Drop> {
+    pub(crate) answering: A,
+}
+
+impl<A: Answering + Drop> Desk for Tableless<A> {
+    ghost use Rattle.std.proofs.Common.{arith};
+
+    ghost tables_view = { record {
+      stands = λ _ _. ⊥;
+      is_clean = λ _. Unit {0};
+      is_ours = λ _. Unit {0};
+      failures = λ _. 0;
+      may_leave = λ _ _. ⊥;
+      keeps = λ _ _. Unit {0};
+    } };
+
+    ghost tables_lawful = { record {
+      keeps = λ old new kept. record {
+        goes = record { clean = λ clean. clean; ours = λ _ _. tt; failures_rise = omega arith };
+        stays = λ ours clean this stands. stands;
+        leaves = λ ours clean this left. left;
+      };
+      itself = λ desk. tt;
+      on = λ first second third sooner later. tt;
+      one = λ desk is_open this other first second. absurd first;
+    } };
+
+    fn caller_of(&mut self, token: &[u8]) -> Result<Option<Caller>, StoreFault> {
+        self.answering.found(token)
+    }
+
+    fn answer(&mut self, caller: &Caller, call: &Call<'_>) -> Reply {
+        self.answering.told(caller, call)
+    }
+}

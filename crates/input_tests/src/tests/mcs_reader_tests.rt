@@ -1,0 +1,334 @@
+use mcs_reader::{Id, McsFault, Operand, Statement, Statements, Verb, read};
+use std::process::Abort;
+use std::test::Fail;
+use testing::{assert_equal, assert_equal_at};
+
+/// A statement in one line: its line, its subject, and each operand with its values.
+fn shown<R: AllocGlobal>(rt: &R, statement: &Statement) -> Result<String, Fail> {
+    let mut text = format!(in rt.alloc(); "{}", statement.line)?;
+    if let Some(id) = statement.subject {
+        text.push_str(" ")?;
+        text.push_str(id.text())?;
+    }
+    for operand in statement.operands.as_slice() {
+        text.push_str(" ")?;
+        push_operand(&mut text, operand)?;
+    }
+    Ok(text)
+}
+
+fn push_operand(text: &mut String, operand: &Operand) -> Result<(), Fail> {
+    push_bytes(text, operand.name)?;
+    for value in operand.values.as_slice() {
+        text.push_str("=")?;
+        push_bytes(text, value)?;
+    }
+    Ok(())
+}
+
+fn push_bytes(text: &mut String, bytes: &[u8]) -> Result<(), Fail> {
+    for b in bytes {
+        text.push(char::from(*b))?;
+    }
+    Ok(())
+}
+
+fn assert_reads<R: Abort + AllocGlobal>(
+    rt: &R,
+    source: &[u8],
+    expected: &[&str],
+) -> Result<(), Fail> {
+    let statements = read(rt.alloc(), source)?;
+    let row = if let [first, ..] = expected {
+        first
+    } else {
+        "none"
+    };
+    assert_equal_at(row, statements.len(), expected.len())?;
+    for (statement, line) in statements.iter().zip(expected) {
+        assert_equal_at(line, statement.verb, Verb::Hold)?;
+        let text = shown(rt, statement)?;
+        assert_equal(text.as_str(), *line)?;
+    }
+    Ok(())
+}
+
+fn assert_refused<R: Abort + AllocGlobal>(
+    rt: &R,
+    source: &[u8],
+    fault: McsFault,
+    row: &str,
+) -> Result<(), Fail> {
+    match read(rt.alloc(), source) {
+        Ok(_) => assert!(rt; false, "{:?}", ("read, and not refused", row)),
+        Err(other) => assert_equal_at(row, other, fault)?,
+    }
+    Ok(())
+}
+
+#[test]
+fn statements_are_read(rt: HostRuntime) -> Result<(), Fail> {
+    assert_reads(&rt, b"", &[])?;
+    let numbered =
+        b"++HOLD(UA10001) ERROR FMID(HBB7790)                                     00010000\n REASON(AA20002) CLASS(PE) DATE(12045).                                 00020000\n";
+    assert_reads(
+        &rt,
+        numbered,
+        &["1 UA10001 ERROR FMID=HBB7790 REASON=AA20002 CLASS=PE DATE=12045"],
+    )?;
+    // Verbs are compared without regard to case, and a statement with another one is skipped.
+    assert_reads(
+        &rt,
+        b"between\r\n++JCLIN(UA1)\r\n( ;\r\n++ hold\t(A)\r\n,USER . ( ) ++\r\n++HOLD(B).\r\n",
+        &["4 A USER", "6 B"],
+    )?;
+    // A list in a list, a list over lines, and ++ in a list.
+    assert_reads(
+        &rt,
+        b"++HOLD(A) X((B,C D)E) Y (\n++HOLD(\n)) Z.",
+        &["1 A X=B=C=D=E Y=++HOLD Z"],
+    )?;
+    // A list of COMMENT is passed over by its parentheses, and nothing of it is a value.
+    assert_reads(
+        &rt,
+        b"++HOLD(A) comment /*)*/ ((a) /* b,\n++HOLD(C).) COMMENTS(D).",
+        &["1 A comment COMMENTS=D"],
+    )
+}
+
+#[test]
+fn comments_are_passed_over(rt: HostRuntime) -> Result<(), Fail> {
+    let table: [(&[u8], &str); 6] = [
+        (b"++HOLD(A) X(/*B*/).", "1 A X"),
+        (b"++HOLD(A)/**/ERROR/*/*/USER.", "1 A ERROR USER"),
+        (b"++HOLD(A) X(B/*,*/C D/E*F G/).", "1 A X=B=C=D/E*F=G/"),
+        (b"++HOLD/* (\n++HOLD(B).\n .*/(A) X/* ) */(C).", "1 A X=C"),
+        (b"++HOLD(/* A */B/***/) /* * / . */.", "1 B"),
+        (b"++HOLD(A) . /*\nbetween", "1 A"),
+    ];
+    for (source, text) in table {
+        assert_reads(&rt, source, &[text])?;
+    }
+    Ok(())
+}
+
+#[test]
+fn each_verb_is_read(rt: HostRuntime) -> Result<(), Fail> {
+    let source: &[u8] =
+        b"++FUNCTION(A).\n++Ptf(A).\n++APAR(A).\n++usermod(A).\n++VER(Z038 Z\xFF).\n++if FMID(A).\n\
+         ++HOLD(A).\n++RELEASE(A) ERROR.";
+    let verbs = [
+        Verb::Func,
+        Verb::Ptf,
+        Verb::Apar,
+        Verb::Usermod,
+        Verb::Ver,
+        Verb::Cond,
+        Verb::Hold,
+        Verb::Release,
+    ];
+    let statements = read(rt.alloc(), source)?;
+    assert_equal(statements.len(), verbs.len())?;
+    for (statement, verb) in statements.iter().zip(verbs) {
+        assert_equal(statement.verb, verb)?;
+        let is_without = matches!(verb, Verb::Ver | Verb::Cond);
+        assert_equal_at(verb, statement.subject.is_none(), is_without)?;
+    }
+    Ok(())
+}
+
+#[test]
+fn the_first_fault_is_told(rt: HostRuntime) -> Result<(), Fail> {
+    let table: [(&[u8], McsFault); 27] = [
+        (
+            b"++HOLD(UA10001) ERROR REASON(AA20002)",
+            McsFault::NoPeriod(1),
+        ),
+        (b"\n++HOLD(A) ERROR\n++HOLD(B).", McsFault::NoPeriod(2)),
+        (
+            b"++HOLD UA10001 ERROR REASON(AA1).",
+            McsFault::BadVerbSubject(1),
+        ),
+        (b"++HOLD.", McsFault::BadVerbSubject(1)),
+        (b"++IF(A) REQ(B).", McsFault::BadVerbSubject(1)),
+        (b"++IF FMID(A)", McsFault::NoPeriod(1)),
+        (b"++HOLD().", McsFault::BadVerbSubject(1)),
+        (b"++HOLD(A,B).", McsFault::BadVerbSubject(1)),
+        (b"++HOLD(a).", McsFault::BadVerbSubject(1)),
+        (b"++HOLD(UA100012).", McsFault::BadVerbSubject(1)),
+        (b"++HOLD(UA10001 ERROR.", McsFault::Unbalanced(1)),
+        (b"++HOLD(A)).", McsFault::Unbalanced(1)),
+        (b"++HOLD(A) X(()\n.", McsFault::Unbalanced(1)),
+        (
+            b"++HOLD(UA10001) ERROR REASON(AA20002) ; .",
+            McsFault::BadByte(1),
+        ),
+        (b"++HOLD(A)(B).", McsFault::BadByte(1)),
+        (b"++HOLD(A) / ERROR .", McsFault::BadByte(1)),
+        // A comment that doesn't end, outside a list and in one, and `/*/`, which ends none.
+        (b"++HOLD(A) /* ERROR", McsFault::Unbalanced(1)),
+        (b"++HOLD(A) X(B /* ) .", McsFault::Unbalanced(1)),
+        (b"\n++HOLD(A)\n/*/ .", McsFault::Unbalanced(2)),
+        (b"++HOLD(A) /* * / .", McsFault::Unbalanced(1)),
+        // In a list of COMMENT parentheses alone count.
+        (b"++HOLD(A) COMMENT(/*)", McsFault::NoPeriod(1)),
+        (
+            b"++HOLD(A) COMMENT( ( .\n++HOLD(B).",
+            McsFault::Unbalanced(1),
+        ),
+        (b"++VER.", McsFault::BadVerbSubject(1)),
+        (b"++PTF(UA10001)", McsFault::NoPeriod(1)),
+        (b"++RELEASE(A B) ERROR.", McsFault::BadVerbSubject(1)),
+        (b"++HOLD(A) ++HOLD(B).", McsFault::BadByte(1)),
+        // The subject's fault comes after the others, and the first statement's before the second's.
+        (b"++HOLD() X ;.\n++HOLD(A)", McsFault::BadByte(1)),
+    ];
+    for (source, fault) in table {
+        let mut row = String::new(rt.alloc());
+        push_bytes(&mut row, source)?;
+        assert_refused(&rt, source, fault, row.as_str())?;
+    }
+    Ok(())
+}
+
+#[test]
+fn statements_come_one_at_a_time(rt: HostRuntime) -> Result<(), Fail> {
+    let source: &[u8] = b"++HOLD(A) X(B C).\n++HOLD(B).\n between\n++HOLD(C) ;.\n++HOLD(D).";
+    let mut statements = Statements::new(rt.alloc(), source)?;
+    for text in ["1 A X=B=C", "2 B"] {
+        let statement = statements.next()?.ok_or("a statement")?;
+        assert_equal(shown(&rt, &statement)?.as_str(), text)?;
+    }
+    assert_equal(statements.next().err(), Some(McsFault::BadByte(4)))?;
+    let all = Statements::new(rt.alloc(), source)?;
+    assert_equal(all.finish(), Err(McsFault::BadByte(4)))?;
+
+    let mut last = Statements::new(rt.alloc(), b"++HOLD(A).")?;
+    assert!(rt; last.next()?.is_some());
+    assert!(rt; last.next()?.is_none() && last.next()?.is_none());
+    assert_equal(last.finish(), Ok(()))
+}
+
+// More values than are copied, and a short list after the long one.
+#[test]
+fn operands_that_nobody_asks_for_are_passed_over(rt: HostRuntime) -> Result<(), Fail> {
+    let source =
+        b"++HOLD(A) ERROR reason(B,(C) D) OTHER(X (REASON(Y)))\n COMMENT(FMID( . /* )) FMID.\n\
+         ++HOLD(B) Q /* REASON(C) */ Reason(D)\n REASON.\n++PTF(C) REWORK(1).\n\
+         ++HOLD(D) OTHER(A. REASON(B).";
+    let cases: [(&[&[u8]], [&str; 3]); 3] = [
+        (
+            &[b"REASON", b"fmid"],
+            ["1 A reason=B=C=D FMID", "3 B Reason=D REASON", "5 C"],
+        ),
+        (&[b"OTHER"], ["1 A OTHER=X=REASON=Y", "3 B", "5 C"]),
+        (&[], ["1 A", "3 B", "5 C"]),
+    ];
+    for (names, texts) in cases {
+        let mut statements = Statements::asking(rt.alloc(), source, names)?;
+        for text in texts {
+            let statement = statements.next()?.ok_or("a statement")?;
+            assert_equal(shown(&rt, &statement)?.as_str(), text)?;
+        }
+        let count = names.len();
+        assert_equal_at(
+            ("names", count),
+            statements.next().err(),
+            Some(McsFault::Unbalanced(6)),
+        )?;
+    }
+    Ok(())
+}
+
+#[test]
+fn a_list_may_be_long(rt: HostRuntime) -> Result<(), Fail> {
+    let mut text = b"++HOLD(A) LONG(\n".to_vec(rt.alloc())?;
+    for _ in 0..100 {
+        text.extend_from_slice(b"B\n")?;
+    }
+    text.extend_from_slice(b") NONE() ONE(C) TWO(D E).")?;
+    let mut lens = Vec::new(rt.alloc());
+    for statement in read(rt.alloc(), &text)? {
+        for operand in statement.operands.as_slice() {
+            lens.push(operand.values.as_slice().len())?;
+        }
+    }
+    assert!(rt; lens.as_slice() == [100, 0, 1, 2].as_slice());
+    Ok(())
+}
+
+#[test]
+fn a_source_has_at_most_64_mebibytes(rt: HostRuntime) -> Result<(), Fail> {
+    let source = vec![in rt.alloc(); b' '; 67_108_865]?;
+    assert_refused(&rt, &source, McsFault::TooLong, "67,108,865 bytes")?;
+    let (most, _) = source.as_slice().split_at(67_108_864);
+    let statements = read(rt.alloc(), most)?;
+    assert_equal(statements.len(), 0)
+}
+
+/// `++HOLD(A) X`, a unit many times, and a period.
+fn repeated<R: AllocGlobal>(rt: &R, unit: &[u8], times: u32, end: &[u8]) -> Result<Vec<u8>, Fail> {
+    let mut source = b"++HOLD(A) X".to_vec(rt.alloc())?;
+    for _ in 0..times {
+        source.extend_from_slice(unit)?;
+    }
+    source.extend_from_slice(end)?;
+    Ok(source)
+}
+
+#[test]
+fn depth_and_length_cost_no_stack(rt: HostRuntime) -> Result<(), Fail> {
+    let deep = repeated(&rt, b"\n(", 20_000, b"B")?;
+    assert_refused(&rt, &deep, McsFault::Unbalanced(1), "20,000 deep")?;
+    let mut closed = repeated(&rt, b"\n(", 20_000, b"B")?;
+    for _ in 0..20_000 {
+        closed.extend_from_slice(b"\n)")?;
+    }
+    closed.extend_from_slice(b".")?;
+    assert_reads(&rt, &closed, &["1 A X=B"])?;
+    let many = repeated(&rt, b" ()\nX", 20_000, b".")?;
+    let statements = read(rt.alloc(), &many)?;
+    assert_equal(statements.len(), 1)
+}
+
+#[test]
+fn faults_have_numbers_and_lines(_rt: HostRuntime) -> Result<(), Fail> {
+    let table = [
+        (McsFault::NoPeriod(7), 1, Some(7)),
+        (McsFault::BadVerbSubject(7), 2, Some(7)),
+        (McsFault::Unbalanced(7), 3, Some(7)),
+        (McsFault::BadByte(7), 4, Some(7)),
+        (McsFault::TooLong, 5, None),
+        (McsFault::Memory, 6, None),
+    ];
+    for (fault, number, line) in table {
+        assert_equal(fault.number(), number)?;
+        assert_equal_at(number, fault.line(), line)?;
+    }
+    Ok(())
+}
+
+#[test]
+fn ids_have_one_to_seven_allowed_characters(rt: HostRuntime) {
+    for text in ["A", "UA10001", "HBB7790", "@#$", "0", "Z9"] {
+        assert!(rt; Id::new(text.as_bytes()).is_some(), "{text:?}");
+    }
+    for text in ["", "UA100012", "ua10001", "UA 1", "UA1 ", "A.B", "*", "Ä"] {
+        assert!(rt; Id::new(text.as_bytes()).is_none(), "{text:?}");
+    }
+}
+
+#[test]
+fn an_id_keeps_its_text_and_its_order(rt: HostRuntime) -> Result<(), Fail> {
+    let short = Id::new(b"UA1").ok_or("an id")?;
+    let long = Id::new(b"UA10001").ok_or("an id")?;
+    assert_equal(short.text(), "UA1")?;
+    assert_equal(long.text(), "UA10001")?;
+    assert!(rt; short < long);
+    assert!(rt; long == Id::new(b"UA10001").ok_or("an id")?);
+    let mut ids = vec![in rt.alloc(); long, short]?;
+    ids.sort()?;
+    assert!(rt; ids.as_slice() == [short, long].as_slice());
+    let line = format!(in rt.alloc(); "{short:<8}|{long}")?;
+    assert_equal(line.as_str(), "UA1     |UA10001")
+}

@@ -1,0 +1,205 @@
+//! Readers and writers that give and take a piece at a time, are interrupted, or fail.
+use faults::NoMemory;
+use std::alloc::Global;
+use std::io::{self, ErrorKind, Write};
+use std::test::Fail;
+use testing::{Failures, Pieces, Slow, assert_equal_at};
+use transfer::{Intake, RETRIES, TransferFault, read_source, write_whole};
+
+// 70,000 bytes, more than are read at once, no two neighbours the same.
+fn long_text(alloc: Global) -> Result<Vec<u8>, NoMemory> {
+    let mut text = Vec::new(alloc);
+    let mut byte = 0u8;
+    for _ in 0..70_000u32 {
+        byte = byte.wrapping_add(7);
+        text.push(byte)?;
+    }
+    Ok(text)
+}
+
+#[test]
+fn sources(rt: HostRuntime) -> Result<(), Fail> {
+    let text = long_text(rt.alloc())?;
+    let interrupted = ErrorKind::Interrupted;
+    // piece, limit, failures, their kind, bytes read, retries left
+    let rows: [(usize, usize, u32, ErrorKind, Option<usize>, u32); 8] = [
+        (100_000, 100_000, 0, interrupted, Some(70_000), 64),
+        (999, 100_000, 0, interrupted, Some(70_000), 64),
+        (100_000, 69_999, 0, interrupted, Some(69_999), 64),
+        (100_000, 0, 1, interrupted, Some(0), 64),
+        (100_000, 100_000, 64, interrupted, Some(70_000), 0),
+        (100_000, 100_000, 65, interrupted, None, 0),
+        (100_000, 100_000, 1, ErrorKind::TimedOut, None, 64),
+        (100_000, 100_000, 1, ErrorKind::WouldBlock, None, 64),
+    ];
+    for (piece, limit, failures, kind, count, left) in rows {
+        let mut retries = RETRIES;
+        let mut reader = Pieces::new(text.as_slice(), piece, Failures::first(failures, kind));
+        let read = match read_source(rt.alloc(), &mut reader, limit, &mut retries) {
+            Ok(source) => {
+                assert!(rt;
+                    text.starts_with(source.as_slice()),
+                    "{:?}",
+                    (piece, limit, failures)
+                );
+                Some(source.len())
+            }
+            Err(TransferFault::Read(_)) => None,
+            Err(TransferFault::Memory) => return Err("no memory".into()),
+        };
+        assert_equal_at((piece, limit, failures), read, count)?;
+        assert_equal_at((piece, limit, failures), retries, left)?;
+    }
+    Ok(())
+}
+
+#[test]
+fn bytes_are_taken_off_while_more_come_in(rt: HostRuntime) -> Result<(), Fail> {
+    let text = long_text(rt.alloc())?;
+    let mut reader = text.as_slice();
+    let mut intake = Intake::new(rt.alloc());
+    let mut taken = 0usize;
+    for count in [1usize, 10, 4000, 65_000, 30_000] {
+        let read = intake.read_more(&mut reader, count, &mut { RETRIES })?;
+        assert!(rt; read <= count && 0 < read, "{count:?}");
+        assert!(rt;
+            text[taken.min(text.len())..].starts_with(intake.bytes()),
+            "{count:?}"
+        );
+        let off = intake.len() / 2 + 1;
+        assert!(rt; off <= intake.len(), "{count:?}");
+        intake.take_off(off);
+        taken = taken.saturating_add(off);
+    }
+    let rest = intake.into_vec();
+    assert!(rt; text[taken.min(text.len())..].starts_with(rest.as_slice()));
+    Ok(())
+}
+
+// Some bytes are always left, so the room is never empty, and yet no longer than what is left at once.
+#[test]
+fn the_room_stays_small_while_bytes_come_and_go(rt: HostRuntime) -> Result<(), Fail> {
+    let text = long_text(rt.alloc())?;
+    let mut intake = Intake::new(rt.alloc());
+    for _ in 0..3u32 {
+        let mut reader = text.as_slice();
+        for _ in 0..70u32 {
+            intake.read_more(&mut reader, 1_000, &mut { RETRIES })?;
+            let off = intake.len().saturating_sub(1_000);
+            assert!(rt; off <= intake.len());
+            intake.take_off(off);
+        }
+    }
+    let room = intake.into_vec().capacity();
+    assert!(rt; room <= 131_072, "{room:?}");
+    Ok(())
+}
+
+#[test]
+fn texts(rt: HostRuntime) -> Result<(), Fail> {
+    let text = b"EXCEPTION SYSMOD REPORT";
+    let interrupted = ErrorKind::Interrupted;
+    let (full, reset) = (ErrorKind::StorageFull, ErrorKind::ConnectionReset);
+    // piece, room, writes and flushes that fail, their kind, bytes taken, whether all is well, retries left
+    let rows: [(usize, usize, u32, u32, ErrorKind, usize, bool, u32); 13] = [
+        (100, 100, 0, 0, interrupted, 23, true, 64),
+        (2, 100, 0, 64, interrupted, 23, true, 0),
+        (2, 100, 0, 65, interrupted, 23, false, 0),
+        (2, 100, 64, 0, interrupted, 23, true, 0),
+        (2, 100, 65, 0, interrupted, 0, false, 0),
+        (2, 100, 40, 23, interrupted, 23, true, 1),
+        (2, 100, 40, 25, interrupted, 23, false, 0),
+        (2, 100, 1, 0, full, 0, false, 64),
+        (2, 100, 1, 0, reset, 0, false, 64),
+        (2, 100, 0, 1, full, 23, false, 64),
+        (2, 100, 0, 1, reset, 23, false, 64),
+        (2, 5, 0, 0, interrupted, 5, false, 64),
+        (0, 100, 0, 0, interrupted, 0, false, 64),
+    ];
+    for (piece, room, write_failures, flush_failures, kind, count, is_written, left) in rows {
+        let row = (piece, room, write_failures, flush_failures, kind);
+        let mut retries = RETRIES;
+        let failures = Failures::first(write_failures, kind);
+        let mut writer = Slow::new(rt.alloc(), piece, room, failures);
+        writer.flushes = Failures::first(flush_failures, kind);
+        let written = write_whole(&mut writer, text, &mut retries);
+        assert_equal_at(row, written.is_ok(), is_written)?;
+        assert_equal_at(row, writer.taken.len(), count)?;
+        assert!(rt; text.starts_with(writer.taken.as_slice()), "{row:?}");
+        assert_equal_at(row, retries, left)?;
+    }
+    Ok(())
+}
+
+// Every other way in which a call of the system fails at once.
+const OTHER_KINDS: [ErrorKind; 12] = [
+    ErrorKind::BrokenPipe,
+    ErrorKind::ConnectionAborted,
+    ErrorKind::ConnectionReset,
+    ErrorKind::InProgress,
+    ErrorKind::IsADirectory,
+    ErrorKind::NotConnected,
+    ErrorKind::Other,
+    ErrorKind::OutOfMemory,
+    ErrorKind::StorageFull,
+    ErrorKind::TimedOut,
+    ErrorKind::WouldBlock,
+    ErrorKind::WriteZero,
+];
+
+#[test]
+fn another_failure_ends_a_transfer_at_once(rt: HostRuntime) -> Result<(), Fail> {
+    for kind in OTHER_KINDS {
+        for (failed_reads, failed_writes, failed_flushes) in [
+            (1u32, 0u32, 0u32),
+            (0, 1, 0),
+            (0, 0, 1),
+        ] {
+            let mut retries = RETRIES;
+            let mut reader = Pieces::new(b"text", 4, Failures::first(failed_reads, kind));
+            let mut writer = Slow::new(rt.alloc(), 4, 4, Failures::first(failed_writes, kind));
+            writer.flushes = Failures::first(failed_flushes, kind);
+            let is_read = read_source(rt.alloc(), &mut reader, 4, &mut retries).is_ok();
+            let is_written = write_whole(&mut writer, b"text", &mut retries).is_ok();
+            assert_equal_at(kind, is_read, failed_reads == 0)?;
+            assert_equal_at(kind, is_written, failed_writes == 0 && failed_flushes == 0)?;
+            assert_equal_at(kind, retries, RETRIES)?;
+        }
+    }
+    Ok(())
+}
+
+// A writer that keeps what it takes until it is flushed.
+#[derive(Drop)]
+struct Buffering {
+    kept: Vec<u8>,
+    flushed: Vec<u8>,
+}
+
+impl Write for Buffering {
+    fn write(&mut self, buf: &[u8]) -> io::Result<usize> {
+        self.kept.extend_from_slice(buf)?;
+        Ok(buf.len())
+    }
+
+    fn flush(&mut self) -> io::Result<()> {
+        self.flushed.extend_from_slice(self.kept.as_slice())?;
+        self.kept.clear();
+        Ok(())
+    }
+}
+
+#[test]
+fn every_text_is_flushed(rt: HostRuntime) -> Result<(), Fail> {
+    let text = long_text(rt.alloc())?;
+    for len in [1usize, 2, 9, 64, 1_024, 4_096, 65_537, 70_000] {
+        let front = &text[..len.min(text.len())];
+        let mut writer = Buffering {
+            kept: Vec::new(rt.alloc()),
+            flushed: Vec::new(rt.alloc()),
+        };
+        write_whole(&mut writer, front, &mut { RETRIES })?;
+        assert!(rt; writer.flushed.as_slice() == front, "{len:?}");
+    }
+    Ok(())
+}

@@ -1,0 +1,312 @@
+//! Lists and patterns, as tables.
+use faults::{NoMemory, fault_text};
+use mcs_reader::Id;
+use std::alloc::Global;
+use std::test::Fail;
+use testing::{assert_equal, assert_equal_at};
+use zone_lists::{ListFault, Pattern, ZoneRow, ZoneState, patterns, received_rows, zone_rows};
+
+// A header and the same record so many times.
+fn repeated(alloc: Global, header: &[u8], record: &[u8], times: u32) -> Result<Vec<u8>, NoMemory> {
+    let mut text = Vec::from_slice(alloc, header)?;
+    for _ in 0..times {
+        text.extend_from_slice(record)?;
+    }
+    Ok(text)
+}
+
+fn row(sysmod: &[u8], state: ZoneState) -> Result<ZoneRow, Fail> {
+    let sysmod = Id::new(sysmod).ok_or("an id")?;
+    Ok(ZoneRow { sysmod, state })
+}
+
+// The three lists that are read.
+#[derive(Clone, Copy, Debug)]
+enum List {
+    Zone,
+    Received,
+    Patterns,
+}
+
+// How many a list has.
+fn count_of(alloc: Global, list: List, text: &[u8]) -> Result<usize, ListFault> {
+    match list {
+        List::Zone => Ok(zone_rows(alloc, text)?.len()),
+        List::Received => Ok(received_rows(alloc, text)?.len()),
+        List::Patterns => Ok(patterns(alloc, text)?.len()),
+    }
+}
+
+#[test]
+fn a_zone_lists_its_sysmods_in_order(rt: HostRuntime) -> Result<(), Fail> {
+    let function = row(b"HBB7790", ZoneState::Applied)?;
+    let fix = row(b"UA10001", ZoneState::Applied)?;
+    let base = b"SYSMOD,STATE\nUA10001,APPLIED\nHBB7790,APPLIED\n";
+    assert!(rt; zone_rows(rt.alloc(), base)?.as_slice() == [function, fix].as_slice());
+
+    let one_row: [&[u8]; 6] = [
+        b"\xEF\xBB\xBF SYSMOD ,STATE\nUA10001 , APPLIED\n",
+        b"SYSMOD,STATE\r\nUA10001,APPLIED\r\n",
+        b"SYSMOD,STATE\nUA10001,APPLIED",
+        b"\"SYSMOD\",\"STATE\"\n\"UA10001\",\" APPLIED\t\"\n",
+        b"\n\nSYSMOD,STATE\n\n\nUA10001,APPLIED\n\n",
+        b"SYSMOD,STATE\nUA10001,APPLIED\nUA10001,APPLIED\n",
+    ];
+    for text in one_row {
+        assert!(rt;
+            zone_rows(rt.alloc(), text)?.as_slice() == [fix].as_slice(),
+            "{text:?}"
+        );
+    }
+    assert!(rt; zone_rows(rt.alloc(), b"SYSMOD,STATE\n")?.is_empty());
+
+    // An id may begin with `#`, which begins no comment.
+    let states = b"SYSMOD,STATE\nA,SUPERSEDED\nB,ACCEPTED\n@,APPLIED\n#1,APPLIED\n";
+    let sign = row(b"#1", ZoneState::Applied)?;
+    let at = row(b"@", ZoneState::Applied)?;
+    let a = row(b"A", ZoneState::Superseded)?;
+    let b = row(b"B", ZoneState::Accepted)?;
+    assert!(rt; zone_rows(rt.alloc(), states)?.as_slice() == [sign, at, a, b].as_slice());
+    Ok(())
+}
+
+#[test]
+fn a_list_has_its_first_fault(rt: HostRuntime) {
+    let (zone, received, patterns) = (List::Zone, List::Received, List::Patterns);
+    let faulty: [(List, &[u8], ListFault); 22] = [
+        (zone, b"", ListFault::Header),
+        (zone, b"\n \n", ListFault::Header),
+        (zone, b"sysmod,state\n", ListFault::Header),
+        (zone, b"SYSMOD\n", ListFault::Header),
+        (
+            zone,
+            b"\xEF\xBB\xBF\xEF\xBB\xBFSYSMOD,STATE\n",
+            ListFault::Header,
+        ),
+        (
+            zone,
+            b"SYSMOD,STATE\nUA10001,APPLIED,X\n",
+            ListFault::BadRecord(1),
+        ),
+        (zone, b"SYSMOD,STATE\nua10001\n", ListFault::BadRecord(1)),
+        (
+            zone,
+            b"SYSMOD,STATE\nUA10001,APPLIED\n \t\n",
+            ListFault::BadRecord(2),
+        ),
+        (
+            zone,
+            b"SYSMOD,STATE\n\nua10001,APPLIED\n",
+            ListFault::BadId(1),
+        ),
+        (zone, b"SYSMOD,STATE\nUA100012,WRONG\n", ListFault::BadId(1)),
+        (zone, b"SYSMOD,STATE\n,APPLIED\n", ListFault::BadId(1)),
+        (
+            zone,
+            b"SYSMOD,STATE\nUA10001,applied\n",
+            ListFault::BadState(1),
+        ),
+        (
+            zone,
+            b"SYSMOD,STATE\nUA10001,APPLIED\nUA10001,SUPERSEDED\n",
+            ListFault::Repeated(2),
+        ),
+        (
+            zone,
+            b"SYSMOD,STATE\nA,APPLIED\nB,ACCEPTED\nA,APPLIED\nB,APPLIED\nc,APPLIED\n",
+            ListFault::Repeated(4),
+        ),
+        (received, b"SYSMOD,STATE\n", ListFault::Header),
+        (
+            received,
+            b"SYSMOD\nUA10001\nUA10002,\n",
+            ListFault::BadRecord(2),
+        ),
+        (received, b"SYSMOD\nUA 1\n", ListFault::BadId(1)),
+        (patterns, b"category\n", ListFault::Header),
+        (patterns, b"CATEGORY\nA,B\n", ListFault::BadRecord(1)),
+        (
+            patterns,
+            b"CATEGORY\nA\nIBM.*.X\n",
+            ListFault::BadPattern(2),
+        ),
+        (patterns, b"CATEGORY\nA'B\n", ListFault::BadPattern(1)),
+        (patterns, b"CATEGORY\n\"\"\n", ListFault::BadPattern(1)),
+    ];
+    for (list, text, fault) in faulty {
+        assert!(rt;
+            count_of(rt.alloc(), list, text) == Err(fault),
+            "{:?}",
+            (list, text, fault)
+        );
+    }
+}
+
+#[test]
+fn received_sysmods_ascend(rt: HostRuntime) -> Result<(), Fail> {
+    let first = Id::new(b"UA10001").ok_or("an id")?;
+    let second = Id::new(b"UA10002").ok_or("an id")?;
+    let text = b"SYSMOD\nUA10002\nUA10001\nUA10002\n";
+    assert!(rt; received_rows(rt.alloc(), text)?.as_slice() == [first, second].as_slice());
+    Ok(())
+}
+
+#[test]
+fn patterns_ascend_by_their_bytes(rt: HostRuntime) -> Result<(), Fail> {
+    let text = b"CATEGORY\nibm.device.*\n\"A\"\"B\"\nIBM.Device\nibm.device.*\n";
+    let found = patterns(rt.alloc(), text)?;
+    let texts: [&[u8]; 3] = [b"A\"B", b"IBM.Device", b"ibm.device.*"];
+    assert_equal(found.len(), 3)?;
+    for (pattern, text) in found.iter().zip(texts) {
+        assert!(rt; pattern.text() == text, "{text:?}");
+    }
+    Ok(())
+}
+
+#[test]
+fn lists_are_long_up_to_their_limits(rt: HostRuntime) -> Result<(), Fail> {
+    // header, record, and how many there are at the most
+    let rows: [(List, &[u8], &[u8], u32); 3] = [
+        (List::Zone, b"SYSMOD,STATE\n", b"UA10001,APPLIED\n", 40_000),
+        (List::Received, b"SYSMOD\n", b"UA10001\n", 20_000),
+        (List::Patterns, b"CATEGORY\n", b"IBM.Device.*\n", 64),
+    ];
+    for (list, header, record, most) in rows {
+        let mut text = repeated(rt.alloc(), header, record, most)?;
+        assert_equal_at(list, count_of(rt.alloc(), list, &text), Ok(1))?;
+        text.extend_from_slice(record)?;
+        assert_equal_at(
+            list,
+            count_of(rt.alloc(), list, &text),
+            Err(ListFault::TooMany),
+        )?;
+    }
+    Ok(())
+}
+
+// The id with this number: U000000, U000001, ..
+fn numbered(alloc: Global, number: u32) -> Result<String, NoMemory> {
+    Ok(format!(in alloc; "U{number:06}")?)
+}
+
+// A header and so many records, each id once, out of order.
+fn shuffled(alloc: Global, header: &str, rest: &str, records: u16) -> Result<Vec<u8>, NoMemory> {
+    let mut text = Vec::from_slice(alloc, header.as_bytes())?;
+    let records = u32::from(records);
+    for n in 0..records {
+        text.extend_from_slice(numbered(alloc, n * 7_919 % records)?.as_str().as_bytes())?;
+        text.extend_from_slice(rest.as_bytes())?;
+    }
+    Ok(text)
+}
+
+#[test]
+fn the_longest_lists_are_put_in_order(rt: HostRuntime) -> Result<(), Fail> {
+    let alloc = rt.alloc();
+    let zone = zone_rows(
+        alloc,
+        &shuffled(alloc, "SYSMOD,STATE\n", ",ACCEPTED\n", 40_000)?,
+    )?;
+    let received = received_rows(alloc, &shuffled(alloc, "SYSMOD\n", "\n", 20_000)?)?;
+    assert_equal(zone.len(), 40_000)?;
+    assert_equal(received.len(), 20_000)?;
+    for (n, row) in (0..40_000u32).zip(zone.iter()) {
+        let id = numbered(alloc, n)?;
+        assert!(rt; row.sysmod.as_bytes() == id.as_str().as_bytes(), "{n:?}");
+        assert!(rt; row.state == ZoneState::Accepted, "{n:?}");
+    }
+    for (n, sysmod) in (0..20_000u32).zip(received.iter()) {
+        assert!(rt;
+            sysmod.as_bytes() == numbered(alloc, n)?.as_str().as_bytes(),
+            "{n:?}"
+        );
+    }
+    Ok(())
+}
+
+// A long list with one fault at its end.
+#[test]
+fn the_last_of_40000_records_is_read(rt: HostRuntime) -> Result<(), Fail> {
+    let mut zone = Vec::from_slice(rt.alloc(), b"SYSMOD,STATE\n")?;
+    for n in 0..39_999u32 {
+        zone.extend_from_slice(numbered(rt.alloc(), n)?.as_str().as_bytes())?;
+        zone.extend_from_slice(b",APPLIED\n")?;
+    }
+    zone.extend_from_slice(b"U000000,ACCEPTED\n")?;
+    assert!(rt; zone_rows(rt.alloc(), &zone) == Err(ListFault::Repeated(40_000)));
+    Ok(())
+}
+
+#[test]
+fn a_list_of_64_patterns(rt: HostRuntime) -> Result<(), Fail> {
+    let mut text = Vec::from_slice(rt.alloc(), b"CATEGORY\n")?;
+    for n in 0..64u32 {
+        let pattern = format!(in rt.alloc(); "IBM.{:02}.*\n", 63 - n)?;
+        text.extend_from_slice(pattern.as_str().as_bytes())?;
+    }
+    let found = patterns(rt.alloc(), &text)?;
+    assert_equal(found.len(), 64)?;
+    for (n, pattern) in (0..64u32).zip(found.iter()) {
+        let wanted = format!(in rt.alloc(); "IBM.{n:02}.*")?;
+        assert!(rt; pattern.text() == wanted.as_str().as_bytes(), "{n:?}");
+    }
+    Ok(())
+}
+
+#[test]
+fn a_pattern_keeps_its_text(rt: HostRuntime) -> Result<(), Fail> {
+    let pattern = Pattern::new(rt.alloc(), b"IBM.*")?.ok_or("a pattern")?;
+    assert!(rt; pattern.text() == b"IBM.*".as_slice());
+    let copy = pattern.copy()?;
+    assert!(rt; copy == pattern);
+    let refused: [&[u8]; 5] = [b"", b"A*B", b"**", b"A B", b"\x7F"];
+    for text in refused {
+        assert!(rt; Pattern::new(rt.alloc(), text)?.is_none(), "{text:?}");
+    }
+    for (length, is_one) in [(1, true), (64, true), (65, false)] {
+        let text = repeated(rt.alloc(), b"", b"A", length)?;
+        assert_equal_at(length, Pattern::new(rt.alloc(), &text)?.is_some(), is_one)?;
+    }
+    Ok(())
+}
+
+#[test]
+fn a_pattern_matches_without_regard_to_case(rt: HostRuntime) -> Result<(), Fail> {
+    let matches: [(&str, &str, bool); 8] = [
+        ("ibm.device.*", "IBM.Device.Server", true),
+        ("ibm.device.*", "IBM.Device", false),
+        ("ibm.device.*", "IBM.Device.", true),
+        ("IBM.Device", "ibm.device", true),
+        ("IBM.Device", "IBM.Device.Server", false),
+        ("IBM.Device", "IBM", false),
+        ("*", "IBM.Device", true),
+        ("[A]", "{a}", false),
+    ];
+    for (text, category, does) in matches {
+        let pattern = Pattern::new(rt.alloc(), text.as_bytes())?.ok_or("a pattern")?;
+        assert_equal_at((text, category), pattern.matches(category.as_bytes()), does)?;
+    }
+    Ok(())
+}
+
+#[test]
+fn faults_have_their_numbers(rt: HostRuntime) -> Result<(), Fail> {
+    let rows = [
+        (ListFault::Header, "FAULT 31\n"),
+        (ListFault::BadRecord(1), "FAULT 32 1\n"),
+        (ListFault::BadId(20_000), "FAULT 33 20000\n"),
+        (ListFault::BadState(3), "FAULT 34 3\n"),
+        (ListFault::BadPattern(64), "FAULT 35 64\n"),
+        (ListFault::Repeated(2), "FAULT 36 2\n"),
+        (ListFault::TooMany, "FAULT 37\n"),
+        (ListFault::Memory, "FAULT 38\n"),
+    ];
+    for (fault, line) in rows {
+        assert_equal_at(fault, fault_text(fault).as_str(), line)?;
+    }
+    let words = format!(in rt.alloc(); "{}", ListFault::Repeated(2))?;
+    assert_equal(
+        words.as_str(),
+        "record 2: the SYSMOD came before with another state",
+    )
+}

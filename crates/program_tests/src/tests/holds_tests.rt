@@ -1,0 +1,271 @@
+//! Worked sources through `run_holds`, and readers and writers that fail.
+use bureau_program::run_holds;
+use std::alloc::Global;
+use std::io::{ErrorKind, Read};
+use std::str;
+use std::test::Fail;
+use testing::{Failures, Pieces, Slow, assert_equal, assert_equal_at};
+
+const HEADING: &str = "SYSMOD   KIND    REASON   FMID     CLASS    DATE   RESOLVER CATEGORY\n";
+
+const SOURCE: &str =
+    "++HOLD(UA10001) ERROR FMID(HBB7790)                                     00010000
+ REASON(AA20002) CLASS(PE) DATE(12045).                                 00020000
+";
+
+const ROW: &str = "UA10001  ERROR   AA20002  HBB7790  PE       12045  -        -\n";
+
+// What a run gives: the status, standard output and standard error.
+#[derive(Drop)]
+struct Run {
+    status: u8,
+    output: Vec<u8>,
+    errors: Vec<u8>,
+}
+
+fn run_of<R: Read>(alloc: Global, reader: &mut R) -> Run {
+    let (mut output, mut errors) = (Vec::new(alloc), Vec::new(alloc));
+    let status = run_holds(alloc, reader, &mut output, &mut errors);
+    Run {
+        status,
+        output,
+        errors,
+    }
+}
+
+#[test]
+fn worked_sources(rt: HostRuntime) -> Result<(), Fail> {
+    let empty = format!(in rt.alloc(); "{HEADING}ROWS 0\n")?;
+    let one = format!(in rt.alloc(); "{HEADING}{ROW}ROWS 1\n")?;
+    let classless = format!(in rt.alloc();
+        "{HEADING}UA10001  ERROR   AA20002  -        -        12366  -        -\nROWS 1\n"
+    )?;
+    let rows: [(&str, u8, &str, &str); 11] = [
+        ("", 0, empty.as_str(), ""),
+        (SOURCE, 0, one.as_str(), ""),
+        (
+            "++HOLD(UA10001) ERROR REASON(AA20002) DATE(12366).",
+            0,
+            classless.as_str(),
+            "",
+        ),
+        (
+            "++HOLD(UA10001) ERROR REASON(AA20002)",
+            1,
+            "",
+            "FAULT 1 1\n",
+        ),
+        ("++HOLD(UA10001) REASON(AA20002).", 1, "", "FAULT 11 1\n"),
+        (
+            "++HOLD(UA10001) ERROR SYSTEM REASON(AA20002).",
+            1,
+            "",
+            "FAULT 12 1\n",
+        ),
+        ("++HOLD(UA10001) ERROR.", 1, "", "FAULT 13 1\n"),
+        (
+            "\n++HOLD(UA10001) ERROR REASON(AA20002)\n DATE(12367).",
+            1,
+            "",
+            "FAULT 15 2\n",
+        ),
+        ("++HOLD(UA10001 ERROR.", 1, "", "FAULT 3 1\n"),
+        // A fault of the text comes before those of its holds, and of the latter the first.
+        (
+            "++HOLD(UA10001) ERROR.\n++HOLD(UA10002) ERROR",
+            1,
+            "",
+            "FAULT 1 2\n",
+        ),
+        (
+            "++HOLD(UA10001) ERROR.\n++HOLD(UA10002) REASON(A).",
+            1,
+            "",
+            "FAULT 13 1\n",
+        ),
+    ];
+    for (source, status, output, errors) in rows {
+        let run = run_of(rt.alloc(), &mut source.as_bytes());
+        assert_equal_at(source, run.status, status)?;
+        assert!(rt; run.output.as_slice() == output.as_bytes(), "{source:?}");
+        assert!(rt; run.errors.as_slice() == errors.as_bytes(), "{source:?}");
+    }
+    Ok(())
+}
+
+// What is passed over, and where that ends: headers, comments, lists of COMMENT, and what is after a period.
+#[test]
+fn what_is_passed_over(rt: HostRuntime) -> Result<(), Fail> {
+    let empty = format!(in rt.alloc(); "{HEADING}ROWS 0\n")?;
+    let one = format!(in rt.alloc();
+        "{HEADING}UA10001  ERROR   AA20002  -        -        -      -        -\nROWS 1\n"
+    )?;
+    let rows: [(&str, u8, &str, &str); 7] = [
+        ("++PTF(UA10001)", 1, "", "FAULT 1 1\n"),
+        ("++VER(Z038).", 0, empty.as_str(), ""),
+        (
+            "++HOLD(UA10001) ERROR REASON(AA20002) ; .",
+            1,
+            "",
+            "FAULT 4 1\n",
+        ),
+        ("++HOLD(UA10001) /* ERROR", 1, "", "FAULT 3 1\n"),
+        (
+            "++HOLD(UA10001) ERROR REASON(AA20002).)))",
+            0,
+            one.as_str(),
+            "",
+        ),
+        (
+            "++HOLD(UA10001) ERROR REASON(AA20002) COMMENT(\n++PTF(X)\n).",
+            0,
+            one.as_str(),
+            "",
+        ),
+        // A comment begins on one line: `/` in column 72 and `*` in column 1 of the next line begin none.
+        (
+            "++HOLD(UA10001) ERROR REASON(AA20002)                                  /\n* */ .",
+            1,
+            "",
+            "FAULT 4 1\n",
+        ),
+    ];
+    for (source, status, output, errors) in rows {
+        let run = run_of(rt.alloc(), &mut source.as_bytes());
+        assert_equal_at(source, run.status, status)?;
+        assert!(rt; run.output.as_slice() == output.as_bytes(), "{source:?}");
+        assert!(rt; run.errors.as_slice() == errors.as_bytes(), "{source:?}");
+    }
+    let deep = comment_of(rt.alloc(), 2_000)?;
+    let run = run_of(rt.alloc(), &mut deep.as_slice());
+    assert!(rt; run.status == 0 && run.output.as_slice() == one.as_bytes());
+    Ok(())
+}
+
+// A hold with a COMMENT over so many lines of 50 parentheses that open, and as many that close.
+fn comment_of(alloc: Global, lines: u32) -> Result<Vec<u8>, Fail> {
+    let mut source = b"++HOLD(UA10001) ERROR REASON(AA20002) COMMENT(\n".to_vec(alloc)?;
+    for parenthesis in [b'(', b')'] {
+        for _ in 0..lines {
+            source.extend_from_slice(vec![in alloc; parenthesis; 50]?.as_slice())?;
+            source.push(b'\n')?;
+        }
+    }
+    source.extend_from_slice(b").")?;
+    Ok(source)
+}
+
+// Many holds, each put twice, so that the last put is in force, and a release of one of them.
+#[test]
+fn many_holds_each_put_twice(rt: HostRuntime) -> Result<(), Fail> {
+    let mut source = Vec::new(rt.alloc());
+    for class in ["PE", "HIPER"] {
+        for number in 0..70_000 {
+            let text = format!(in rt.alloc();
+                "++HOLD(A{number}) USER REASON(R) CLASS({class}).\n"
+            )?;
+            source.extend_from_slice(text.as_bytes())?;
+        }
+    }
+    source.extend_from_slice(b"++RELEASE(A7) USER REASON(R).\n")?;
+    let run = run_of(rt.alloc(), &mut source.as_slice());
+    assert_equal(run.status, 0)?;
+    let text = str::from_utf8(run.output.as_slice()).ok().ok_or("a text")?;
+    assert!(rt; text.ends_with("\nROWS 69999\n"));
+    assert!(rt; !text.contains(" PE ") && !text.contains("\nA7 "));
+    assert!(rt; text.contains("\nA69999   USER    R        -        HIPER    -      -        -\n"));
+    Ok(())
+}
+
+#[test]
+fn a_source_that_is_too_long_has_a_fault_of_the_text(rt: HostRuntime) -> Result<(), Fail> {
+    let blanks = vec![in rt.alloc(); b' '; 67_108_865]?;
+    let run = run_of(rt.alloc(), &mut blanks.as_slice());
+    assert_equal(run.status, 1)?;
+    assert!(rt; run.output.is_empty() && run.errors.as_slice() == b"FAULT 5\n".as_slice());
+    Ok(())
+}
+
+// A reader of the source, which is interrupted so often first, and fails at the end where it isn't whole.
+fn reader_of(piece: usize, interruptions: u32, is_whole: bool) -> Pieces<'static> {
+    let failures = Failures::interruptions(interruptions);
+    let mut reader = Pieces::new(SOURCE.as_bytes(), piece, failures);
+    if !is_whole {
+        reader.end = Some(ErrorKind::TimedOut);
+    }
+    reader
+}
+
+#[test]
+fn readers_that_are_interrupted_or_fail(rt: HostRuntime) -> Result<(), Fail> {
+    let whole = format!(in rt.alloc(); "{HEADING}{ROW}ROWS 1\n")?;
+    let rows: [(usize, u32, bool, u8, &str, &str); 5] = [
+        (7, 0, true, 0, whole.as_str(), ""),
+        (1000, 64, true, 0, whole.as_str(), ""),
+        (1000, 65, true, 3, "", "FAULT 71\n"),
+        (1000, 0, false, 3, "", "FAULT 71\n"),
+        (7, 3, false, 3, "", "FAULT 71\n"),
+    ];
+    for (piece, interruptions, is_whole, status, output, errors) in rows {
+        let run = run_of(rt.alloc(), &mut reader_of(piece, interruptions, is_whole));
+        assert_equal_at((piece, interruptions), run.status, status)?;
+        assert!(rt;
+            run.output.as_slice() == output.as_bytes(),
+            "{:?}",
+            (piece, interruptions)
+        );
+        assert!(rt;
+            run.errors.as_slice() == errors.as_bytes(),
+            "{:?}",
+            (piece, interruptions)
+        );
+    }
+    Ok(())
+}
+
+#[test]
+fn writers_that_are_interrupted_or_fail(rt: HostRuntime) -> Result<(), Fail> {
+    let whole = format!(in rt.alloc(); "{HEADING}{ROW}ROWS 1\n")?;
+    let rows: [(usize, u32, usize, bool, u8, usize, &str); 6] = [
+        (1, 0, 1000, true, 0, 138, ""),
+        (1000, 64, 1000, true, 0, 138, ""),
+        (1000, 65, 1000, true, 3, 0, "FAULT 72\n"),
+        (10, 0, 25, true, 3, 25, "FAULT 72\n"),
+        (10, 0, 25, false, 3, 25, "FAULT 72\n"),
+        (0, 0, 1000, false, 3, 0, "FAULT 72\n"),
+    ];
+    for (piece, interruptions, room, is_failing, status, taken, errors) in rows {
+        let failures = Failures::interruptions(interruptions);
+        let mut writer = Slow::new(rt.alloc(), piece, room, failures);
+        if is_failing {
+            writer.full = Some(ErrorKind::StorageFull);
+        }
+        let mut told = Vec::new(rt.alloc());
+        let got = run_holds(rt.alloc(), &mut SOURCE.as_bytes(), &mut writer, &mut told);
+        assert_equal_at((piece, interruptions, room), got, status)?;
+        assert!(rt;
+            whole.as_bytes().starts_with(writer.taken.as_slice()),
+            "{:?}",
+            (piece, room)
+        );
+        assert_equal_at((piece, interruptions, room), writer.taken.len(), taken)?;
+        assert!(rt;
+            told.as_slice() == errors.as_bytes(),
+            "{:?}",
+            (piece, interruptions, room)
+        );
+    }
+    Ok(())
+}
+
+#[test]
+fn standard_error_that_fails_changes_nothing(rt: HostRuntime) -> Result<(), Fail> {
+    let mut errors = Slow::new(rt.alloc(), 4, 6, Failures::none());
+    errors.full = Some(ErrorKind::StorageFull);
+    let mut output = Vec::new(rt.alloc());
+    let source = "++HOLD(UA10001) ERROR.";
+    let status = run_holds(rt.alloc(), &mut source.as_bytes(), &mut output, &mut errors);
+    assert_equal(status, 1)?;
+    assert!(rt; output.is_empty() && errors.taken.as_slice() == b"FAULT ".as_slice());
+    Ok(())
+}

@@ -1,0 +1,7 @@
+//! The parts of the tests.
+mod damage_tests;
+mod desk;
+mod device_tests;
+mod files;
+mod migrate_tests;
+mod script;

@@ -1,0 +1,131 @@
+//! Lists and rows are read where there is memory, and what was never written is none.
+use catalogue::{CondNeed, CondNeeds, Ids};
+use mcs_reader::Id;
+use sql_tables::{
+    NoMemory, change_in, cond_in, count_in, hold_in, id_row_in, ids_in, ids_row_in, joined_ids,
+    joined_patterns, patterns_in, patterns_row_in, sysmod_in, zone_row_in,
+};
+use sqlite::types::ValueRef;
+use sqlite::{Connection, Error, MemStore, Row};
+use std::alloc::Global;
+use std::test::Fail;
+use testing::{assert_equal, assert_equal_at};
+
+// A row of these values.
+fn row_of(conn: &mut Connection<MemStore>, select: &str) -> Result<Row, Error> {
+    conn.query_row(select, &[])
+}
+
+fn is_hold(alloc: Global, row: &Row) -> Result<bool, NoMemory> {
+    Ok(hold_in(alloc, row)?.is_some())
+}
+
+fn is_sysmod(alloc: Global, row: &Row) -> Result<bool, NoMemory> {
+    let (conds, sup) = (CondNeeds::new(alloc), Ids::new(alloc));
+    Ok(sysmod_in(alloc, row, conds, sup)?.is_some())
+}
+
+#[test]
+fn lists_are_read_as_they_are_written(rt: HostRuntime) -> Result<(), Fail> {
+    let alloc = rt.alloc();
+    for text in ["", "HBB7790", "HBB7790,UA1,UA10001"] {
+        let value = ValueRef::Text(text.as_bytes());
+        let ids = ids_in(alloc, value)?.ok_or("ids")?;
+        let joined = joined_ids(alloc, ids.as_slice())?;
+        assert!(rt; joined.as_slice() == text.as_bytes(), "{text:?}");
+        let patterns = patterns_in(alloc, value)?.ok_or("patterns")?;
+        let joined = joined_patterns(alloc, patterns.as_slice())?;
+        assert!(rt; joined.as_slice() == text.as_bytes(), "{text:?}");
+    }
+    for text in [",", "HBB7790,", "hbb7790", "HBB7790 "] {
+        assert!(rt;
+            ids_in(alloc, ValueRef::Text(text.as_bytes()))?.is_none(),
+            "{text:?}"
+        );
+    }
+    Ok(())
+}
+
+#[test]
+fn holds_are_read_and_nothing_else(rt: HostRuntime) -> Result<(), Fail> {
+    let alloc = rt.alloc();
+    let mut conn = Connection::open_in_memory(alloc)?;
+    let rows = [
+        (
+            "SELECT 'UA1', 0, 'AA2', 'HBB7790', 'PE', 12045, '', ''",
+            true,
+        ),
+        (
+            "SELECT 'UA1', 3, 'AA2', '', '', -1, 'UA3', 'IBM.A,IBM.B'",
+            true,
+        ),
+        ("SELECT 'UA1', 4, 'AA2', '', '', -1, '', ''", false),
+        ("SELECT 'ua1', 0, 'AA2', '', '', -1, '', ''", false),
+        ("SELECT 'UA1', 0, '', '', '', -1, '', ''", false),
+        ("SELECT 'UA1', 0, 'AA2', NULL, '', -1, '', ''", false),
+        ("SELECT 'UA1', 0, 'AA2', '', '', 12000, '', ''", false),
+        ("SELECT 'UA1', 0, 'AA2', '', '', -2, '', ''", false),
+        (
+            "SELECT 'UA1', 0, 'AA2', '', '', -1, '', 'IBM.B,IBM.A'",
+            false,
+        ),
+        ("SELECT 'UA1', 0, 'AA2', '', '', -1, ''", false),
+    ];
+    for (select, is) in rows {
+        let row = row_of(&mut conn, select)?;
+        assert_equal_at(select, is_hold(alloc, &row)?, is)?;
+    }
+    Ok(())
+}
+
+#[test]
+fn records_are_read_and_nothing_else(rt: HostRuntime) -> Result<(), Fail> {
+    let alloc = rt.alloc();
+    let mut conn = Connection::open_in_memory(alloc)?;
+    let rows = [
+        ("SELECT 'UA1', 1, 'HBB7790,HBB7791', '', 'UA2'", true),
+        ("SELECT 'UA1', 1, 'HBB7791,HBB7790', '', ''", false),
+        ("SELECT 'UA1', 4, '', '', ''", false),
+        ("SELECT 'UA1', 1, '', 'UA2,', ''", false),
+    ];
+    for (select, is) in rows {
+        let row = row_of(&mut conn, select)?;
+        assert_equal_at(select, is_sysmod(alloc, &row)?, is)?;
+    }
+    Ok(())
+}
+
+#[test]
+fn requisites_under_a_condition_are_read(rt: HostRuntime) -> Result<(), Fail> {
+    let mut conn = Connection::open_in_memory(rt.alloc())?;
+    let fmid = Id::new(b"HXX0001").ok_or("a function")?;
+    let need = Id::new(b"UA2").ok_or("a SYSMOD")?;
+    let rows = [
+        ("SELECT 'HXX0001', 'UA2'", Some(CondNeed { fmid, need })),
+        ("SELECT 'HXX0001', ''", None),
+        ("SELECT 'hxx0001', 'UA2'", None),
+        ("SELECT 'HXX0001'", None),
+    ];
+    for (select, found) in rows {
+        let row = row_of(&mut conn, select)?;
+        assert_equal_at(select, cond_in(&row), found)?;
+    }
+    Ok(())
+}
+
+#[test]
+fn other_rows_are_read(rt: HostRuntime) -> Result<(), Fail> {
+    let alloc = rt.alloc();
+    let mut conn = Connection::open_in_memory(alloc)?;
+    let row = row_of(&mut conn, "SELECT 'UA1', 2, x'4F4B'")?;
+    assert_equal(id_row_in(&row), Id::new(b"UA1"))?;
+    assert!(rt; zone_row_in(&row).is_some());
+    assert!(rt; ids_row_in(alloc, &row)?.is_some());
+    assert!(rt; patterns_row_in(alloc, &row)?.is_some());
+    let row = row_of(&mut conn, "SELECT 7, x'4F4B'")?;
+    assert_equal(count_in(&row), Some(7))?;
+    let (number, reply) = change_in(alloc, &row)?.ok_or("a change")?;
+    assert_equal(number, 7)?;
+    assert!(rt; reply.as_slice() == b"OK".as_slice());
+    Ok(())
+}

@@ -1,0 +1,42 @@
+//! Comparisons, in place of the macros of `std`.
+
+ghost use Rattle.std.specs.Prelude.{◌≡◌, true, OnOk, OnErr, false};
+
+use std::fmt::Debug;
+use std::test::Fail;
+
+/// Whether `got` equals `wanted`.
+///
+/// # Errors
+///
+/// A failure that says both, where they differ.
+pub fn assert_equal<T: PartialEq + Debug + Drop>(got: T, wanted: T) -> Result<(), Fail>
+    ensures equal { OnOk result (T.eq got wanted ≡ true) }
+    ensures told { OnErr result (T.eq got wanted ≡ false) }
+{
+    if got == wanted {
+        Ok(())
+    } else {
+        Err(Fail::new(format_args!("{got:?} in place of {wanted:?}")))
+    }
+}
+
+/// Whether `got` equals `wanted`, at a place such as the row of a table.
+///
+/// # Errors
+///
+/// A failure that says the place and both, where they differ.
+pub fn assert_equal_at<T: PartialEq + Debug + Drop, P: Debug + Drop>(
+    place: P,
+    got: T,
+    wanted: T,
+) -> Result<(), Fail>
+    ensures equal { OnOk result (T.eq got wanted ≡ true) }
+    ensures told { OnErr result (T.eq got wanted ≡ false) }
+{
+    if got == wanted {
+        Ok(())
+    } else {
+        Err(Fail::new(format_args!("{place:?}: {got:?} in place of {wanted:?}")))
+    }
+}

@@ -1,0 +1,34 @@
+//! What tests of several crates share: comparisons, readers and writers that fail, numbers that are drawn, and a worked case.
+//!
+//! Where what a test sees differs from what it wants, the test fails and says both. The comparisons are functions, where
+//! `std` has macros: a macro's text is proved anew at each of its uses, and takes most of the time of a test's proof. A
+//! condition is asserted by `std`'s `assert!`, which costs little.
+//!
+//! - [`assert_equal`]: of two values
+//! - [`assert_equal_at`]: the same, and what is said has the place too, such as the row of a table
+//! - [`Pieces`] and [`Slow`]: a reader and a writer of a piece at a time, whose calls fail as [`Failures`] says
+//! - [`Draws`]: numbers that are drawn, the same at each run
+//! - [`BASE`]: statements that publish three SYSMODs and a hold, and what is told of them
+//!
+//! ```
+//! use testing::{assert_equal, assert_equal_at};
+//! assert_equal("UA10001".len(), 7)?;
+//! for (text, length) in [("", 0), ("UA10001", 7)] {
+//!     assert_equal_at(text, text.len(), length)?;
+//! }
+//! ```
+#![tactic(auto)]
+
+mod comparing;
+mod draws;
+mod failures;
+mod reader;
+mod sample;
+mod writer;
+
+pub use comparing::{assert_equal, assert_equal_at};
+pub use draws::Draws;
+pub use failures::Failures;
+pub use reader::Pieces;
+pub use sample::{BASE, LONG_PLAN, ONE_RECEIVED, ONE_RESOLVER, SHORT_PLAN, TWO_RESOLVERS};
+pub use writer::Slow;

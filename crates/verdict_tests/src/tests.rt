@@ -1,0 +1,8 @@
+//! The parts of the tests.
+mod catalogue_tests;
+mod chain_cache_tests;
+mod chains_tests;
+mod print;
+mod reports_tests;
+mod requisites_tests;
+mod supersede_tests;

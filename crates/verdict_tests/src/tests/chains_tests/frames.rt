@@ -1,0 +1,196 @@
+//! Frames: worked ones, and verdicts from a frame beside those over the whole catalogue.
+use super::rows::CONDITIONAL;
+use super::{is_as_whole, published};
+use crate::tests::print::{id_of, zone_of};
+use catalogue::{CondNeed, Ids, ListPublished};
+use chains::{Frame, frame, touches};
+use mcs_reader::Id;
+use std::alloc::Global;
+use std::fmt::Write;
+use std::test::Fail;
+use testing::{BASE, assert_equal, assert_equal_at};
+
+const ZONE: &[u8] = b"SYSMOD,STATE\nHBB7790,APPLIED\n";
+
+fn put_ids(text: &mut String, ids: &Ids) -> Result<(), Fail> {
+    text.push(' ')?;
+    if ids.as_slice().is_empty() {
+        text.push('-')?;
+    }
+    for id in ids.as_slice() {
+        text.push_str(id.text())?;
+        text.push(',')?;
+    }
+    Ok(())
+}
+
+fn put_conds(text: &mut String, conds: &[CondNeed]) -> Result<(), Fail> {
+    text.push(' ')?;
+    if conds.is_empty() {
+        text.push('-')?;
+    }
+    for cond in conds {
+        write!(text, "{}:{},", cond.fmid, cond.need)?;
+    }
+    Ok(())
+}
+
+// A frame in print: a line for each node.
+fn frame_text(alloc: Global, frame: &Frame) -> Result<String, Fail> {
+    let mut text = String::new(alloc);
+    for node in frame.nodes() {
+        let catalogued = if node.catalogued { "yes" } else { "no" };
+        write!(text, "{} {catalogued}", node.id)?;
+        put_ids(&mut text, &node.fmids)?;
+        put_ids(&mut text, &node.needs)?;
+        put_conds(&mut text, node.conds.as_slice())?;
+        put_ids(&mut text, &node.givers)?;
+        text.push('\n')?;
+    }
+    Ok(text)
+}
+
+fn frame_of(alloc: Global, lists: &mut ListPublished, id: &[u8]) -> Result<Frame, Fail> {
+    Ok(frame(alloc, lists, &id_of(id)?)?)
+}
+
+// What is published after the base, the id, and its frame.
+const FRAMES: [(&[u8], &[u8], &str); 6] = [
+    (
+        b"",
+        b"UA10002",
+        "AA20002 no - - - UA10002,\n\
+UA10001 yes HBB7790, AA20002, - UA10001,\n\
+UA10002 yes HBB7790, UA10001, - UA10002,\n",
+    ),
+    (
+        b"++PTF(UA10005).\n++VER(Z038) FMID(HBB7790) SUP(UA10002).\n",
+        b"UA10002",
+        "AA20002 no - - - UA10002,UA10005,\n\
+UA10001 yes HBB7790, AA20002, - UA10001,\n\
+UA10002 yes HBB7790, UA10001, - UA10002,UA10005,\n\
+UA10005 yes HBB7790, - - UA10005,\n",
+    ),
+    (b"", b"HBB7790", "HBB7790 yes - - - HBB7790,\n"),
+    (b"", b"UA99999", "UA99999 no - - - -\n"),
+    (
+        CONDITIONAL,
+        b"UA10020",
+        "UA10020 yes HBB7790, - HXX0001:UA10021, UA10020,\n\
+UA10021 no - - - -\n",
+    ),
+    (
+        b"++PTF(UA10021).\n++VER(Z038) FMID(HBB7790) REQ(UA10020).\n++IF FMID(HXX0002) REQ(UA10020).\n\
+++IF FMID(HXX0001) REQ(UA10022,UA10003).\n++PTF(UA10022).\n++VER(Z038) FMID(HXX0001) SUP(UA10003).\n",
+        b"UA10021",
+        "UA10003 no - - - UA10022,\n\
+UA10020 no - - - -\n\
+UA10021 yes HBB7790, UA10020, HXX0001:UA10003,HXX0001:UA10022,HXX0002:UA10020, UA10021,\n\
+UA10022 yes HXX0001, - - UA10022,\n",
+    ),
+];
+
+#[test]
+fn worked_frames(rt: HostRuntime) -> Result<(), Fail> {
+    let alloc = rt.alloc();
+    for (more, id, text) in FRAMES {
+        let mut source = Vec::from_slice(alloc, BASE)?;
+        source.extend_from_slice(more)?;
+        let mut lists = published(alloc, &source)?;
+        let frame = frame_of(alloc, &mut lists, id)?;
+        assert_equal(frame_text(alloc, &frame)?.as_str(), text)?;
+    }
+    Ok(())
+}
+
+fn ids_of(alloc: Global, texts: &[&[u8]]) -> Result<Vec<Id>, Fail> {
+    let mut ids: Vec<Id> = Vec::new(alloc);
+    for text in texts {
+        ids.push(id_of(text)?)?;
+    }
+    Ok(ids)
+}
+
+#[test]
+fn a_frame_is_touched_by_what_it_has(rt: HostRuntime) -> Result<(), Fail> {
+    let alloc = rt.alloc();
+    let mut lists = published(alloc, BASE)?;
+    let frame = frame_of(alloc, &mut lists, b"UA10002")?;
+    let rows: [(&[&[u8]], bool); 4] = [
+        (&[], false),
+        (&[b"UA10003", b"UA10009"], false),
+        (&[b"AA20002", b"UA10009"], true),
+        (&[b"AA10001", b"UA10001", b"UA10009"], true),
+    ];
+    for (texts, touched) in rows {
+        let ids = ids_of(alloc, texts)?;
+        assert_equal(touches(&frame, &ids, false), touched)?;
+    }
+    Ok(())
+}
+
+// SYSMODs by number, each of which names the next by an operand, the last one another.
+fn row(alloc: Global, operand: &str, count: u32, last: u32) -> Result<String, Fail> {
+    let mut text = String::new(alloc);
+    for n in 0..count {
+        let next = if n.saturating_add(1) < count {
+            n.saturating_add(1)
+        } else {
+            last
+        };
+        write!(
+            text,
+            "++PTF(N{n:05}).\n++VER(Z038) FMID(HBB7790) {operand}(N{next:05}).\n"
+        )?;
+    }
+    Ok(text)
+}
+
+// SYSMODs by number, each of which needs the next where a function is installed.
+fn conditional_row(alloc: Global, count: u32) -> Result<String, Fail> {
+    let mut text = String::new(alloc);
+    for n in 0..count {
+        let next = n.saturating_add(1);
+        write!(
+            text,
+            "++PTF(N{n:05}).\n++VER(Z038) FMID(HBB7790).\n++IF FMID(HXX0001) REQ(N{next:05}).\n"
+        )?;
+    }
+    Ok(text)
+}
+
+#[test]
+fn a_frame_goes_on_where_no_function_is_installed(rt: HostRuntime) -> Result<(), Fail> {
+    let alloc = rt.alloc();
+    let mut lists = published(alloc, conditional_row(alloc, 10_000)?.as_bytes())?;
+    let frame = frame_of(alloc, &mut lists, b"N00000")?;
+    assert_equal(frame.nodes().len(), 10_001)
+}
+
+#[test]
+fn long_frames(rt: HostRuntime) -> Result<(), Fail> {
+    let alloc = rt.alloc();
+    let rows = [
+        ("PRE", 10_000, 99_999, "N00000", 10_001),
+        ("REQ", 2_000, 0, "N01000", 2_000),
+        ("SUP", 100, 0, "N00050", 100),
+        ("SUP", 100, 99_999, "N99999", 101),
+    ];
+    for (operand, count, last, id, nodes) in rows {
+        let mut lists = published(alloc, row(alloc, operand, count, last)?.as_bytes())?;
+        let frame = frame_of(alloc, &mut lists, id.as_bytes())?;
+        assert_equal_at((operand, id), frame.nodes().len(), nodes)?;
+    }
+    Ok(())
+}
+
+#[test]
+fn verdicts_on_a_row_of_superseding(rt: HostRuntime) -> Result<(), Fail> {
+    let alloc = rt.alloc();
+    let mut text = row(alloc, "SUP", 20, 99_999)?;
+    text.push_str("++PTF(N20000).\n++VER(Z038) FMID(HBB7790) PRE(N99999).\n")?;
+    let mut lists = published(alloc, text.as_bytes())?;
+    let zone = zone_of(alloc, ZONE)?;
+    assert!(rt; is_as_whole(alloc, &mut lists, &zone, &id_of(b"N20000")?)?);
+    Ok(())
+}
