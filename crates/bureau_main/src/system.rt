@@ -37,6 +37,7 @@ impl Clock for System<'_> {
 
 impl Surroundings for System<'_> {
     ghost use Rattle.bureau_program.specs.Surroundings.{Unknown};
+    ghost use Rattle.std.specs.Prelude.{None};
 
     type File = File;
 
