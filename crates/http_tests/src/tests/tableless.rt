@@ -1,12 +1,16 @@
 //! Desks that hold no tables.
+ghost use Rattle.std.specs.Prelude.{IfOk, IfSome};
+ghost use Rattle.bureau_store.specs.Caller.{IsProper};
+
 use bureau::{Call, Reply};
 use bureau_http::Desk;
 use bureau_store::{Caller, StoreFault};
 
 /// What answers in place of a bureau.
 pub(crate) trait Answering {
-    /// Who has this token, where somebody has it.
-    fn found(&mut self, token: &[u8]) -> Result<Option<Caller>, StoreFault>;
+    /// Who has this token, where somebody has it. It fails for want of memory alone.
+    fn found(&mut self, token: &[u8]) -> Result<Option<Caller>, StoreFault>
+        ensures { IfOk result (λ found. IfSome found IsProper) };
 
     /// The answer to a call.
     fn told(&mut self, caller: &Caller, call: &Call<'_>) -> Reply;
@@ -42,7 +46,10 @@ impl<A: Answering + Drop> Desk for Tableless<A> {
     } };
 
     fn caller_of(&mut self, token: &[u8]) -> Result<Option<Caller>, StoreFault> {
-        self.answering.found(token)
+        match self.answering.found(token) {
+            Ok(found) => Ok(found),
+            Err(_) => Err(StoreFault::Memory),
+        }
     }
 
     fn answer(&mut self, caller: &Caller, call: &Call<'_>) -> Reply {
