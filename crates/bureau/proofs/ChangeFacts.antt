@@ -9,7 +9,7 @@ use Rattle.faults.specs.Refusal.{IsRefusal}
 use Rattle.faults.specs.declared.any.AnyFault.{AnyFault}
 use Rattle.faults.specs.declared.fault.Cause.{Cause}
 use Rattle.faults.specs.declared.fault.Cause.TheVariants.{Input, Machine}
-use Rattle.zone_lists.specs.ListFault.{fault_cause, fault_number, fault_place}
+use Rattle.zone_lists.specs.ListFault as list_fault
 use Rattle.zone_lists.specs.declared.fault.ListFault.{ListFault}
 use Rattle.zone_lists.specs.declared.fault.ListFault.TheVariants as list
 use Rattle.bureau.specs.Bodies.{list_said}
@@ -75,7 +75,7 @@ pub said_so : {A : Type 0} (says : Result A (List ℕ)) (answer : A → Outcome)
 said_so {A = A} says answer what is = ap (λ (result : Result A (List ℕ)). said result answer) is
 
 pub said_not : {A : Type 0} (says : Result A (List ℕ)) (answer : A → Outcome) (fault : AnyFault) (reply : Reply) → IsTold says fault → fault.cause ≡ Input
-    → reply_as reply ≡ plain 422 (text_of fault.number fault.place) → said says answer ≡ answered (reply_as reply)
+    → reply_as reply ≡ plain 422 (text_of fault) → said says answer ≡ answered (reply_as reply)
 said_not {A = A} says answer fault reply told input is = by told
   where
     by : IsTold says fault → said says answer ≡ answered (reply_as reply)
@@ -87,10 +87,10 @@ said_not {A = A} says answer fault reply told input is = by told
 
 -- the fault of a list, as it is told
 pub told_of_list : {A : Type 0} (says : Result A ListFault) (fault : ListFault) → IsRefusal list.Memory (λ (f : ListFault). says ≡ Err f) fault
-    → IsTold (list_said says) (record { number = fault_number fault; place = fault_place fault; cause = fault_cause fault })
-told_of_list {A = A} says fault (inl memory) = inl (ap fault_cause memory)
-told_of_list {A = A} says fault (inr is) = by (fault_cause fault) refl
+    → IsTold (list_said says) (list_fault.told fault)
+told_of_list {A = A} says fault (inl memory) = inl (ap (λ f. (list_fault.told f).cause) memory)
+told_of_list {A = A} says fault (inr is) = by (list_fault.told fault).cause refl
   where
-    by : (cause : Cause) → fault_cause fault ≡ cause → IsTold (list_said says) (record { number = fault_number fault; place = fault_place fault; cause = fault_cause fault })
+    by : (cause : Cause) → (list_fault.told fault).cause ≡ cause → IsTold (list_said says) (list_fault.told fault)
     by Machine e = inl e
     by Input e = inr (e, ap list_said is)

@@ -22,7 +22,7 @@ use Rattle.bureau.specs.Faults.{IsTold}
 -- what is published where this much was read, and this is left
 abbrev pub published_from : Begun → Read → Result (List Change) (List ℕ)
 published_from begun (Ok statements) = unless (first_fault (is_some begun.open_record) statements) (changes_in (fold with_statement begun statements))
-published_from begun (Err fault) = Err (text_of (mcs.fault_number fault) (mcs.fault_line fault))
+published_from begun (Err fault) = Err (text_of (mcs.told fault))
 
 -- a whole body, with statements one at a time
 pub published_whole : (read : Read) → published_from nothing_begun read ≡ published_by read
@@ -51,19 +51,15 @@ published_next begun new statement before (Ok rest) first now none =
     ∙ ap (published_from begun) (sym first)
 published_next begun new statement before (Err fault) first now none = ap (published_from begun) (sym first)
 
--- what is told of a fault of reading
-abbrev pub of_source : McsFault → AnyFault
-of_source fault = record { number = mcs.fault_number fault; place = mcs.fault_line fault; cause = mcs.fault_cause fault }
-
 -- what is left has a fault of reading
 pub told_of_source : (begun : Begun) (whole : Result (List Change) (List ℕ)) (before : Read) (fault : McsFault) → published_from begun before ≡ whole
-    → IsRefusal mcs_fault.Memory (λ (told : McsFault). before ≡ Err told) fault → IsTold whole (of_source fault)
+    → IsRefusal mcs_fault.Memory (λ (told : McsFault). before ≡ Err told) fault → IsTold whole (mcs.told fault)
 told_of_source begun whole before fault is refusal = elim refusal [
-  | inl memory ↦ inl (ap mcs.fault_cause memory)
-  | inr refused ↦ by (mcs.fault_cause fault) refl (sym is ∙ ap (published_from begun) refused)
+  | inl memory ↦ inl (ap (λ f. (mcs.told f).cause) memory)
+  | inr refused ↦ by (mcs.told fault).cause refl (sym is ∙ ap (published_from begun) refused)
 ]
   where
-    by : (cause : Cause) → mcs.fault_cause fault ≡ cause → whole ≡ Err (text_of (mcs.fault_number fault) (mcs.fault_line fault)) → IsTold whole (of_source fault)
+    by : (cause : Cause) → (mcs.told fault).cause ≡ cause → whole ≡ Err (text_of (mcs.told fault)) → IsTold whole (mcs.told fault)
     by Machine e told = inl e
     by Input e told = inr (e, told)
 

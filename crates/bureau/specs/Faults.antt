@@ -6,4 +6,4 @@ use Rattle.faults.specs.declared.fault.Cause.TheVariants.{Input, Machine}
 
 -- the machine is at fault, or the body, which says nothing but the line of this fault
 abbrev pub IsTold : {A : Type 0} → Result A (List ℕ) → AnyFault → Type 0
-IsTold said fault = (fault.cause ≡ Machine) ⊎ ((fault.cause ≡ Input) × (said ≡ Err (text_of fault.number fault.place)))
+IsTold said fault = (fault.cause ≡ Machine) ⊎ ((fault.cause ≡ Input) × (said ≡ Err (text_of fault)))

@@ -220,7 +220,7 @@ fn in_turn<S: Store>(
 // The answer to a body that has this fault.
 fn refusal(alloc: Global, fault: AnyFault) -> Result<Reply, NoRoom>
     ensures input { IfOk result (λ reply. fault.cause ≡ Input) }
-    ensures reply { IfOk result (λ reply. reply_as reply ≡ plain 422 (text_of fault.number fault.place)) }
+    ensures reply { IfOk result (λ reply. reply_as reply ≡ plain 422 (text_of fault)) }
 {
     match fault.cause {
         Cause::Machine => Err(NoRoom),

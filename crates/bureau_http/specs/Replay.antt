@@ -1,13 +1,17 @@
 -- What a callers file and the bytes of connections make, over a store in memory that begins empty.
-use Rattle.std.specs.Prelude.{◌≡◌, ◌⊎◌, ℕ, List, Some, None, Ok, Err}
+use Rattle.std.specs.Prelude.{◌≡◌, ◌⊎◌, ℕ, List, Ok, Err}
 use Rattle.faults.specs.declared.any.AnyFault.{AnyFault}
-use Rattle.faults.specs.declared.fault.Cause.TheVariants.{Input, Machine}
+use Rattle.bureau_store.specs.CallerFault as callers_fault
 use Rattle.bureau_store.specs.Callers.{callers_of}
+use Rattle.bureau_store.specs.StoreFault as store_fault
 use Rattle.bureau_store.specs.Tables.{opened}
 use Rattle.bureau_store.specs.declared.caller.CallerRow.{CallerRow}
 use Rattle.bureau_store.specs.declared.fault.CallerFault.{CallerFault}
-use Rattle.bureau_store.specs.declared.fault.CallerFault.TheVariants.{CallerHeader, BadCaller, NoPublisher, Memory}
+use Rattle.bureau_store.specs.declared.fault.CallerFault.TheVariants as callers
+use Rattle.bureau_store.specs.declared.fault.StoreFault.TheVariants as store
 use Rattle.bureau.specs.Joint.{IsRun}
+use Rattle.bureau_http.specs.ConnFault.{run_told}
+use Rattle.bureau_http.specs.declared.fault.RunFault.TheVariants as run
 use Rattle.bureau_http.specs.Isolated.{AreIsolated, joined}
 use Rattle.bureau_http.specs.List.{AreServed}
 
@@ -20,21 +24,11 @@ pub record IsReplayed (callers : List ℕ) (connections written : List (List ℕ
   -- the tables are in order at the beginning, so each caller is answered as if alone
   pub isolated : AreIsolated (opened rows) (joined served.exchanges)
 
--- what is told of a fault of the callers file
-abbrev pub of_callers : CallerFault → AnyFault
-of_callers CallerHeader = record { number = 46; place = None; cause = Input }
-of_callers (BadCaller n) = record { number = 47; place = Some n; cause = Input }
-of_callers NoPublisher = record { number = 48; place = None; cause = Input }
-of_callers Memory = record { number = 49; place = None; cause = Machine }
-
 -- memory ran out: as the callers file was read, as the store was made, or as connections were served
 abbrev pub IsOutOfMemory : AnyFault → Type 0
-IsOutOfMemory fault =
-    (fault ≡ record { number = 49; place = None; cause = Machine })
-    ⊎ (fault ≡ record { number = 41; place = None; cause = Machine })
-    ⊎ (fault ≡ record { number = 54; place = None; cause = Machine })
+IsOutOfMemory fault = (fault ≡ callers_fault.told callers.Memory) ⊎ (fault ≡ store_fault.told store.Memory) ⊎ (fault ≡ run_told run.Memory)
 
 -- memory ran out, or the callers file has this fault
 abbrev pub IsReplayFault : List ℕ → AnyFault → Type 0
 IsReplayFault callers fault =
-    IsOutOfMemory fault ⊎ ((refused : CallerFault) × (callers_of callers ≡ Err refused) × (fault ≡ of_callers refused))
+    IsOutOfMemory fault ⊎ ((refused : CallerFault) × (callers_of callers ≡ Err refused) × (fault ≡ callers_fault.told refused))

@@ -1,8 +1,8 @@
 //! Why a connection isn't served to its end.
 ghost use Rattle.std.specs.Prelude.{◌≡◌};
-ghost use Rattle.bureau_http.specs.ConnFault.{conn_number, of_transfer};
+ghost use Rattle.bureau_http.specs.ConnFault.{conn_told, of_transfer, run_told};
 
-use faults::{Cause, Fault, NoMemory};
+use faults::{AnyFault, Fault, NoMemory};
 use std::io;
 use thiserror::Error;
 use transfer::TransferFault;
@@ -26,41 +26,15 @@ pub enum ConnFault {
 }
 
 impl Fault for ConnFault {
-    ghost use Rattle.std.specs.Prelude.{None};
-    ghost use Rattle.std.proofs.Common.{rules};
-    ghost use Rattle.faults.specs.declared.fault.Cause.TheVariants.{Input, Machine};
-    ghost use Rattle.bureau_http.specs.declared.fault.ConnFault.TheVariants.{Read, Write, EndInside, Memory};
+    ghost told = { conn_told };
 
-    ghost number = { conn_number };
-
-    ghost place = { λ _. None };
-
-    ghost cause = { elim [ Read ↦ Machine | Write ↦ Machine | EndInside ↦ Input | Memory ↦ Machine ] };
-
-    ghost numbers = { elim [
-      | Read ↦ Prim.search rules
-      | Write ↦ Prim.search rules
-      | EndInside ↦ Prim.search rules
-      | Memory ↦ Prim.search rules
-    ] };
-
-    fn number(self) -> u8 {
+    /// Its number is from 51 to 54. It has no place.
+    fn told(self) -> AnyFault {
         match self {
-            ConnFault::Read => 51,
-            ConnFault::Write => 52,
-            ConnFault::EndInside => 53,
-            ConnFault::Memory => 54,
-        }
-    }
-
-    fn place(self) -> Option<u32> {
-        None
-    }
-
-    fn cause(self) -> Cause {
-        match self {
-            ConnFault::EndInside => Cause::Input,
-            ConnFault::Read | ConnFault::Write | ConnFault::Memory => Cause::Machine,
+            ConnFault::Read => AnyFault::of_machine(51),
+            ConnFault::Write => AnyFault::of_machine(52),
+            ConnFault::EndInside => AnyFault::of_input(53),
+            ConnFault::Memory => AnyFault::of_machine(54),
         }
     }
 }
@@ -95,29 +69,11 @@ pub enum RunFault {
 }
 
 impl Fault for RunFault {
-    ghost use Rattle.std.specs.Prelude.{None};
-    ghost use Rattle.std.proofs.Common.{rules};
-    ghost use Rattle.faults.specs.declared.fault.Cause.TheVariants.{Machine};
-    ghost use Rattle.bureau_http.specs.declared.fault.RunFault.TheVariants.{Memory};
+    ghost told = { run_told };
 
-    ghost number = { λ _. 54 };
-
-    ghost place = { λ _. None };
-
-    ghost cause = { λ _. Machine };
-
-    ghost numbers = { elim [ Memory ↦ Prim.search rules ] };
-
-    fn number(self) -> u8 {
-        54
-    }
-
-    fn place(self) -> Option<u32> {
-        None
-    }
-
-    fn cause(self) -> Cause {
-        Cause::Machine
+    /// Its number is 54. It has no place.
+    fn told(self) -> AnyFault {
+        AnyFault::of_machine(54)
     }
 }
 

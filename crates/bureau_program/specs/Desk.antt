@@ -2,15 +2,15 @@
 use Rattle.std.specs.Prelude.{◌≡◌, ◌⊎◌, ◌++◌, ℕ, List, codes, decimal, length, Option, Some, None, Ok, Err}
 use Rattle.std.specs.Io.KnownBytes.{Appends, Keeps}
 use Rattle.faults.specs.declared.any.AnyFault.{AnyFault}
-use Rattle.faults.specs.declared.fault.Cause.TheVariants.{Input, Machine}
 use Rattle.transfer.specs.Transfer.{AppendsFront}
+use Rattle.bureau_store.specs.CallerFault as callers_fault
 use Rattle.bureau_store.specs.Callers.{callers_of}
+use Rattle.bureau_store.specs.StoreFault as store_fault
 use Rattle.bureau_store.specs.declared.caller.CallerRow.{CallerRow}
 use Rattle.bureau_store.specs.declared.fault.CallerFault.{CallerFault}
 use Rattle.bureau_store.specs.declared.fault.CallerFault.TheVariants as callers
 use Rattle.bureau_store.specs.declared.fault.StoreFault.{StoreFault}
 use Rattle.bureau_store.specs.declared.fault.StoreFault.TheVariants as store
-use Rattle.bureau_http.specs.Replay.{of_callers}
 use Rattle.bureau_sql.specs.Founded.{AreFounded, IsNotMade}
 use Rattle.sqlite.specs.State.{HasCleanDisk, KeepsCommit, State, Survives}
 use Rattle.sql_writes.specs.Making.{IsOpened}
@@ -20,11 +20,7 @@ use Rattle.bureau_program.specs.declared.fault.ProgramFault.TheVariants.{NotList
 
 -- what is told of a fault of the store
 abbrev pub of_store : StoreFault → AnyFault
-of_store store.Memory = record { number = 41; place = None; cause = Machine }
-of_store store.Device = record { number = 42; place = None; cause = Machine }
-of_store store.Size = record { number = 43; place = None; cause = Machine }
-of_store store.Shape = record { number = 44; place = None; cause = Input }
-of_store store.Version = record { number = 45; place = None; cause = Input }
+of_store fault = store_fault.told fault
 
 -- ---- init
 
@@ -35,8 +31,8 @@ init_text rows = codes "CALLERS " ++ decimal (length rows) ++ codes "\n"
 -- the callers file has this fault, or memory ran out
 abbrev pub IsCallersFault : List ℕ → AnyFault → Type 0
 IsCallersFault source fault =
-    ((refused : CallerFault) × (callers_of source ≡ Err refused) × (fault ≡ of_callers refused))
-    ⊎ (fault ≡ of_callers callers.Memory)
+    ((refused : CallerFault) × (callers_of source ≡ Err refused) × (fault ≡ callers_fault.told refused))
+    ⊎ (fault ≡ callers_fault.told callers.Memory)
     ⊎ (fault ≡ of_program Memory)
 
 -- that, or the store can't be made

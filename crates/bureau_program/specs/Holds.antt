@@ -26,11 +26,11 @@ most_read = 67108865
 
 -- what is told of a source that isn't read as statements
 abbrev pub of_source : McsFault → AnyFault
-of_source fault = record { number = mcs.fault_number fault; place = mcs.fault_line fault; cause = mcs.fault_cause fault }
+of_source fault = mcs.told fault
 
 -- what is told of statements that make no hold changes
 abbrev pub of_holds : HoldFault → AnyFault
-of_holds fault = record { number = hold.fault_number fault; place = hold.fault_line fault; cause = hold.fault_cause fault }
+of_holds fault = hold.told fault
 
 -- what statements make, whose first fault is this one, if they have one: the print of the hold book that they leave
 abbrev pub book_print : Option HoldFault → List Statement → Result (List ℕ) AnyFault
@@ -85,7 +85,7 @@ pub record IsPrinted (input old new : Option (List ℕ)) (outcome : Option AnyFa
 -- What standard error gets: nothing, or the line that tells the fault, as far as it takes it.
 abbrev pub IsTold : Option AnyFault → Option (List ℕ) → Option (List ℕ) → Type 0
 IsTold None old new = Keeps old new
-IsTold (Some fault) old new = AppendsFront old new (fault_text.text_of fault.number fault.place)
+IsTold (Some fault) old new = AppendsFront old new (fault_text.text_of fault)
 
 abbrev pub run_status : Option AnyFault → ℕ
 run_status None = 0

@@ -1,5 +1,6 @@
 -- Why the program itself can't do what it is asked, and with which status a fault ends a run.
-use Rattle.std.specs.Prelude.{ℕ, None}
+use Rattle.std.specs.Prelude.{ℕ}
+use Rattle.faults.specs.Told.{of_machine}
 use Rattle.faults.specs.declared.any.AnyFault.{AnyFault}
 use Rattle.faults.specs.declared.fault.Cause.{Cause}
 use Rattle.faults.specs.declared.fault.Cause.TheVariants.{Input, Machine}
@@ -8,16 +9,12 @@ use Rattle.transfer.specs.declared.fault.TransferFault.TheVariants as transfer
 use Rattle.bureau_program.specs.declared.fault.ProgramFault.{ProgramFault}
 use Rattle.bureau_program.specs.declared.fault.ProgramFault.TheVariants.{NotRead, NotWritten, NotListening, Memory}
 
--- the number that is printed
-abbrev pub program_number : ProgramFault → ℕ
-program_number NotRead = 71
-program_number NotWritten = 72
-program_number NotListening = 73
-program_number Memory = 74
-
--- what is told of the program's own faults
+-- what is told of the program's own faults: the number that is printed, and that the machine is at fault
 abbrev pub of_program : ProgramFault → AnyFault
-of_program fault = record { number = program_number fault; place = None; cause = Machine }
+of_program NotRead = of_machine 71
+of_program NotWritten = of_machine 72
+of_program NotListening = of_machine 73
+of_program Memory = of_machine 74
 
 -- what the program makes of a source that isn't there
 abbrev pub of_transfer : TransferFault → ProgramFault

@@ -3,8 +3,9 @@ use Rattle.std.specs.Prelude.{◌≡◌, ◌⊎◌, ℕ, List, Option, Some, Non
 use Rattle.std.specs.Io.KnownBytes.{Appends, Keeps}
 use Rattle.std.specs.List.{flat_map}
 use Rattle.faults.specs.declared.any.AnyFault.{AnyFault}
-use Rattle.faults.specs.declared.fault.Cause.TheVariants.{Machine}
+use Rattle.bureau_http.specs.ConnFault.{run_told}
 use Rattle.bureau_http.specs.Replay.{IsReplayed}
+use Rattle.bureau_http.specs.declared.fault.RunFault.TheVariants as run
 use Rattle.bureau_store.specs.declared.fault.StoreFault.{StoreFault}
 use Rattle.bureau_program.specs.Desk.{IsCallersFault, of_store}
 use Rattle.transfer.specs.Transfer.{AppendsFront}
@@ -30,7 +31,7 @@ IsReplayCutShort fault callers connections old new =
 abbrev pub IsNotServed : AnyFault → Type 0
 IsNotServed fault =
     ((refused : StoreFault) × (fault ≡ of_store refused)) ⊎ (fault ≡ of_program Memory)
-    ⊎ (fault ≡ record { number = 54; place = None; cause = Machine })
+    ⊎ (fault ≡ run_told run.Memory)
 
 -- the same, or the callers file has a fault
 abbrev pub IsNotReplayed : List ℕ → AnyFault → Type 0

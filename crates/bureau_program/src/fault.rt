@@ -2,7 +2,7 @@
 ghost use Rattle.std.specs.Prelude.{◌≡◌, None, OnOk};
 ghost use Rattle.std.specs.Io.KnownBytes.{Appends};
 ghost use Rattle.faults.specs.FaultText.{text_of};
-ghost use Rattle.bureau_program.specs.ProgramFault.{program_number, status_of};
+ghost use Rattle.bureau_program.specs.ProgramFault.{of_program, status_of};
 ghost use Rattle.transfer.specs.Transfer.{AppendsFront};
 
 use faults::{AnyFault, Cause, Fault, NoMemory};
@@ -29,33 +29,16 @@ pub enum ProgramFault {
 }
 
 impl Fault for ProgramFault {
-    ghost use Rattle.std.proofs.Common.{rules};
-    ghost use Rattle.faults.specs.declared.fault.Cause.TheVariants.{Machine};
-    ghost use Rattle.bureau_program.specs.declared.fault.ProgramFault.TheVariants.{NotRead, NotWritten, NotListening, Memory};
+    ghost told = { of_program };
 
-    ghost number = { program_number };
-
-    ghost place = { λ _. None };
-
-    ghost cause = { λ _. Machine };
-
-    ghost numbers = { elim [ NotRead ↦ Prim.search rules | NotWritten ↦ Prim.search rules | NotListening ↦ Prim.search rules | Memory ↦ Prim.search rules ] };
-
-    fn number(self) -> u8 {
+    /// Its number is from 71 to 74. It has no place.
+    fn told(self) -> AnyFault {
         match self {
-            ProgramFault::NotRead => 71,
-            ProgramFault::NotWritten => 72,
-            ProgramFault::NotListening => 73,
-            ProgramFault::Memory => 74,
+            ProgramFault::NotRead => AnyFault::of_machine(71),
+            ProgramFault::NotWritten => AnyFault::of_machine(72),
+            ProgramFault::NotListening => AnyFault::of_machine(73),
+            ProgramFault::Memory => AnyFault::of_machine(74),
         }
-    }
-
-    fn place(self) -> Option<u32> {
-        None
-    }
-
-    fn cause(self) -> Cause {
-        Cause::Machine
     }
 }
 
@@ -109,9 +92,9 @@ pub fn exit_status(fault: AnyFault) -> u8
 /// The writer's own. It has a front part of the line then.
 pub fn report<E: Write>(errors: &mut E, fault: AnyFault) -> io::Result<()>
     ensures whole { OnOk result (Appends (E.contents errors.old) (E.contents errors.new)
-        (text_of fault.number fault.place)) }
+        (text_of fault)) }
     ensures front { AppendsFront (E.contents errors.old) (E.contents errors.new)
-        (text_of fault.number fault.place) }
+        (text_of fault) }
 {
     tell(errors, fault.text().as_str().as_bytes())
 }

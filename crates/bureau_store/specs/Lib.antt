@@ -1,4 +1,5 @@
 pub mod Caller
+pub mod CallerFault
 pub mod Callers
 pub mod Effect
 pub mod Gathered
@@ -6,4 +7,5 @@ pub mod Held
 pub mod Kept
 pub mod Lists
 pub mod Store
+pub mod StoreFault
 pub mod Tables

@@ -1,5 +1,8 @@
 //! Why calls are refused.
-use faults::{Cause, Fault, NoMemory};
+ghost use Rattle.bureau_store.specs.CallerFault as callers;
+ghost use Rattle.bureau_store.specs.StoreFault as store;
+
+use faults::{AnyFault, Fault, NoMemory};
 use std::alloc::AllocFailed;
 use thiserror::Error;
 use zone_lists::ListFault;
@@ -25,43 +28,16 @@ pub enum StoreFault {
 }
 
 impl Fault for StoreFault {
-    ghost use Rattle.std.specs.Prelude.{None};
-    ghost use Rattle.std.proofs.Common.{rules};
-    ghost use Rattle.faults.specs.declared.fault.Cause.TheVariants.{Input, Machine};
-    ghost use Rattle.bureau_store.specs.declared.fault.StoreFault.TheVariants.{Memory, Device, Size, Shape, Version};
+    ghost told = { store.told };
 
-    ghost number = { elim [ Memory ↦ 41 | Device ↦ 42 | Size ↦ 43 | Shape ↦ 44 | Version ↦ 45 ] };
-
-    ghost place = { λ _. None };
-
-    ghost cause = { elim [ Memory ↦ Machine | Device ↦ Machine | Size ↦ Machine | Shape ↦ Input | Version ↦ Input ] };
-
-    ghost numbers = { elim [
-      | Memory ↦ Prim.search rules
-      | Device ↦ Prim.search rules
-      | Size ↦ Prim.search rules
-      | Shape ↦ Prim.search rules
-      | Version ↦ Prim.search rules
-    ] };
-
-    fn number(self) -> u8 {
+    /// Its number is from 41 to 45. It has no place.
+    fn told(self) -> AnyFault {
         match self {
-            StoreFault::Memory => 41,
-            StoreFault::Device => 42,
-            StoreFault::Size => 43,
-            StoreFault::Shape => 44,
-            StoreFault::Version => 45,
-        }
-    }
-
-    fn place(self) -> Option<u32> {
-        None
-    }
-
-    fn cause(self) -> Cause {
-        match self {
-            StoreFault::Memory | StoreFault::Device | StoreFault::Size => Cause::Machine,
-            StoreFault::Shape | StoreFault::Version => Cause::Input,
+            StoreFault::Memory => AnyFault::of_machine(41),
+            StoreFault::Device => AnyFault::of_machine(42),
+            StoreFault::Size => AnyFault::of_machine(43),
+            StoreFault::Shape => AnyFault::of_input(44),
+            StoreFault::Version => AnyFault::of_input(45),
         }
     }
 }
@@ -106,44 +82,15 @@ pub enum CallerFault {
 }
 
 impl Fault for CallerFault {
-    ghost use Rattle.std.specs.Prelude.{Some, None};
-    ghost use Rattle.std.proofs.Common.{rules};
-    ghost use Rattle.faults.specs.declared.fault.Cause.TheVariants.{Input, Machine};
-    ghost use Rattle.bureau_store.specs.declared.fault.CallerFault.TheVariants.{CallerHeader, BadCaller, NoPublisher, Memory};
+    ghost told = { callers.told };
 
-    ghost number = { elim [ CallerHeader ↦ 46 | BadCaller _ ↦ 47 | NoPublisher ↦ 48 | Memory ↦ 49 ] };
-
-    ghost place = { elim [ CallerHeader ↦ None | BadCaller n ↦ Some n | NoPublisher ↦ None | Memory ↦ None ] };
-
-    ghost cause = { elim [ CallerHeader ↦ Input | BadCaller _ ↦ Input | NoPublisher ↦ Input | Memory ↦ Machine ] };
-
-    ghost numbers = { elim [
-      | CallerHeader ↦ Prim.search rules
-      | BadCaller _ ↦ Prim.search rules
-      | NoPublisher ↦ Prim.search rules
-      | Memory ↦ Prim.search rules
-    ] };
-
-    fn number(self) -> u8 {
+    /// Its number is from 46 to 49, and its place the number of the record that is no caller.
+    fn told(self) -> AnyFault {
         match self {
-            CallerFault::CallerHeader => 46,
-            CallerFault::BadCaller(_) => 47,
-            CallerFault::NoPublisher => 48,
-            CallerFault::Memory => 49,
-        }
-    }
-
-    fn place(self) -> Option<u32> {
-        match self {
-            CallerFault::BadCaller(n) => Some(n),
-            CallerFault::CallerHeader | CallerFault::NoPublisher | CallerFault::Memory => None,
-        }
-    }
-
-    fn cause(self) -> Cause {
-        match self {
-            CallerFault::Memory => Cause::Machine,
-            _ => Cause::Input,
+            CallerFault::CallerHeader => AnyFault::of_input(46),
+            CallerFault::BadCaller(n) => AnyFault::at_place(47, n),
+            CallerFault::NoPublisher => AnyFault::of_input(48),
+            CallerFault::Memory => AnyFault::of_machine(49),
         }
     }
 }

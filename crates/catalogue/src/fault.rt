@@ -1,11 +1,12 @@
 //! Why calls are refused.
 ghost use Rattle.std.specs.Prelude.{◌≡◌};
-ghost use Rattle.catalogue.specs.SourceFault.{source_fault_number};
-ghost use Rattle.catalogue.specs.CatFault.{cat_fault_number, cat_fault_line, cat_fault_of};
+ghost use Rattle.catalogue.specs.CatFault.{cat_fault_of};
 ghost use Rattle.catalogue.specs.declared.fault.CatFault.TheVariants as cat;
 ghost use Rattle.catalogue.specs.declared.fault.SourceFault.TheVariants as source;
+ghost use Rattle.catalogue.specs.CatFault as cat_fault;
+ghost use Rattle.catalogue.specs.SourceFault as source_fault;
 
-use faults::{Cause, Fault, NoMemory};
+use faults::{AnyFault, Fault, NoMemory};
 use holddata::HoldFault;
 use std::alloc::AllocFailed;
 use thiserror::Error;
@@ -34,99 +35,20 @@ pub enum CatFault {
     Memory,
 }
 
-impl CatFault {
-    /// The fault's number in print: 21, 22, 24, 27, 28, and of a hold or a release its own.
-    pub fn number(self) -> u8
-        ensures { result ≡ cat_fault_number self }
-    {
-        match self {
-            CatFault::VerOutside(_) => 21,
-            CatFault::BadId(_) => 22,
-            CatFault::IfOutside(_) => 27,
-            CatFault::IfFmid(_) => 28,
-            CatFault::Held(fault) => fault.number(),
-            CatFault::Memory => 24,
-        }
-    }
-
-    /// The line on which the statement with the fault begins. Want of memory has none.
-    pub fn line(self) -> Option<u32>
-        ensures { result ≡ cat_fault_line self }
-    {
-        match self {
-            CatFault::VerOutside(line)
-            | CatFault::BadId(line)
-            | CatFault::IfOutside(line)
-            | CatFault::IfFmid(line) => Some(line),
-            CatFault::Held(fault) => fault.line(),
-            CatFault::Memory => None,
-        }
-    }
-}
-
 impl Fault for CatFault {
-    ghost use Rattle.std.proofs.Common.{rules};
-    ghost use Rattle.catalogue.specs.CatFault.{cat_fault_cause, cat_fault_line, cat_fault_number, numbers_of_holds};
-    ghost use Rattle.catalogue.specs.declared.fault.CatFault.TheVariants.{VerOutside, IfOutside, IfFmid, BadId, Held, Memory};
+    ghost told = { cat_fault.told };
 
-    ghost number = { cat_fault_number };
-
-    ghost place = { cat_fault_line };
-
-    ghost cause = { cat_fault_cause };
-
-    ghost numbers = { elim [
-      | VerOutside _ ↦ Prim.search rules
-      | BadId _ ↦ Prim.search rules
-      | IfOutside _ ↦ Prim.search rules
-      | IfFmid _ ↦ Prim.search rules
-      | Held fault ↦ numbers_of_holds fault
-      | Memory ↦ Prim.search rules
-    ] };
-
-    fn number(self) -> u8 {
-        self.number()
-    }
-
-    fn place(self) -> Option<u32> {
-        self.line()
-    }
-
-    fn cause(self) -> Cause {
+    /// Its number is 21, 22, 24, 27 or 28, and its place the line on which the statement with the fault begins. A hold's
+    /// fault is told as its own. Want of memory has no line.
+    fn told(self) -> AnyFault {
         match self {
-            CatFault::VerOutside(_)
-            | CatFault::BadId(_)
-            | CatFault::IfOutside(_)
-            | CatFault::IfFmid(_) => Cause::Input,
-            CatFault::Held(fault) => fault.cause(),
-            CatFault::Memory => Cause::Machine,
+            CatFault::VerOutside(line) => AnyFault::at_place(21, line),
+            CatFault::BadId(line) => AnyFault::at_place(22, line),
+            CatFault::IfOutside(line) => AnyFault::at_place(27, line),
+            CatFault::IfFmid(line) => AnyFault::at_place(28, line),
+            CatFault::Held(fault) => fault.told(),
+            CatFault::Memory => AnyFault::of_machine(24),
         }
-    }
-}
-
-impl Fault for SourceFault {
-    ghost use Rattle.std.proofs.Common.{rules};
-    ghost use Rattle.catalogue.specs.SourceFault.{source_fault_cause, source_fault_number, source_fault_place};
-    ghost use Rattle.catalogue.specs.declared.fault.SourceFault.TheVariants.{Memory, Device};
-
-    ghost number = { source_fault_number };
-
-    ghost place = { source_fault_place };
-
-    ghost cause = { source_fault_cause };
-
-    ghost numbers = { elim [ Memory ↦ Prim.search rules | Device ↦ Prim.search rules ] };
-
-    fn number(self) -> u8 {
-        self.number()
-    }
-
-    fn place(self) -> Option<u32> {
-        None
-    }
-
-    fn cause(self) -> Cause {
-        Cause::Machine
     }
 }
 
@@ -168,14 +90,14 @@ pub enum SourceFault {
     Device,
 }
 
-impl SourceFault {
-    /// The fault's number in print, 25 or 26.
-    pub fn number(self) -> u8
-        ensures { result ≡ source_fault_number self }
-    {
+impl Fault for SourceFault {
+    ghost told = { source_fault.told };
+
+    /// Its number is 25 or 26. It has no place.
+    fn told(self) -> AnyFault {
         match self {
-            SourceFault::Memory => 25,
-            SourceFault::Device => 26,
+            SourceFault::Memory => AnyFault::of_machine(25),
+            SourceFault::Device => AnyFault::of_machine(26),
         }
     }
 }

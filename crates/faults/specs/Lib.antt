@@ -1,2 +1,3 @@
 pub mod FaultText
 pub mod Refusal
+pub mod Told

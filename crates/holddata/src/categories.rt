@@ -89,7 +89,7 @@ impl Categories {
         ensures { IfOk result (λ categories. categories ≡ bytes_of_each texts.now) }
     {
         Ok(Categories {
-            joined: join(alloc, texts)?,
+            joined: join_with_commas(alloc, texts)?,
         })
     }
 
@@ -139,9 +139,13 @@ impl Categories {
     }
 }
 
-// The texts with commas between.
+/// The texts with commas between.
+///
+/// # Errors
+///
+/// Memory ran out.
 #[tactic(auto, using(crate::proofs::TextFacts::join_is))]
-fn join(alloc: Global, texts: &[&[u8]]) -> Result<Vec<u8>, NoMemory>
+pub fn join_with_commas(alloc: Global, texts: &[&[u8]]) -> Result<Vec<u8>, NoMemory>
     ensures { IfOk result (λ joined. joined.items ≡ join_with_byte 44 (bytes_of_each texts.now)) }
 {
     let mut joined = Vec::new(alloc);

@@ -1,9 +1,9 @@
 //! Why statements give no changes.
 ghost use Rattle.std.specs.Prelude.{◌≡◌};
-ghost use Rattle.holddata.specs.HoldFault.{fault_number, fault_line};
 ghost use Rattle.holddata.specs.declared.fault.HoldFault.TheVariants.{Memory};
+ghost use Rattle.holddata.specs.HoldFault as hold;
 
-use faults::{Cause, Fault, NoMemory};
+use faults::{AnyFault, Fault, NoMemory};
 use std::alloc::AllocFailed;
 use thiserror::Error;
 
@@ -34,76 +34,20 @@ pub enum HoldFault {
     Memory,
 }
 
-impl HoldFault {
-    /// The fault's number in print, 11 to 17.
-    pub fn number(self) -> u8
-        ensures { result ≡ fault_number self }
-    {
-        match self {
-            HoldFault::NoKind(_) => 11,
-            HoldFault::TwoKinds(_) => 12,
-            HoldFault::NoReason(_) => 13,
-            HoldFault::BadId(_) => 14,
-            HoldFault::BadDate(_) => 15,
-            HoldFault::BadCategory(_) => 16,
-            HoldFault::Memory => 17,
-        }
-    }
-
-    /// The line on which the statement with the fault begins. Want of memory has none.
-    pub fn line(self) -> Option<u32>
-        ensures { result ≡ fault_line self }
-    {
-        match self {
-            HoldFault::NoKind(line)
-            | HoldFault::TwoKinds(line)
-            | HoldFault::NoReason(line)
-            | HoldFault::BadId(line)
-            | HoldFault::BadDate(line)
-            | HoldFault::BadCategory(line) => Some(line),
-            HoldFault::Memory => None,
-        }
-    }
-}
-
 impl Fault for HoldFault {
-    ghost use Rattle.holddata.specs.HoldFault.{fault_cause, fault_line, fault_number};
-    ghost use Rattle.std.proofs.Common.{rules};
-    ghost use Rattle.holddata.specs.declared.fault.HoldFault.TheVariants.{NoKind, TwoKinds, NoReason, BadId, BadDate, BadCategory, Memory};
+    ghost told = { hold.told };
 
-    ghost number = { fault_number };
-
-    ghost place = { fault_line };
-
-    ghost cause = { fault_cause };
-
-    ghost numbers = { elim [
-      | NoKind _ ↦ Prim.search rules
-      | TwoKinds _ ↦ Prim.search rules
-      | NoReason _ ↦ Prim.search rules
-      | BadId _ ↦ Prim.search rules
-      | BadDate _ ↦ Prim.search rules
-      | BadCategory _ ↦ Prim.search rules
-      | Memory ↦ Prim.search rules
-    ] };
-
-    fn number(self) -> u8 {
-        self.number()
-    }
-
-    fn place(self) -> Option<u32> {
-        self.line()
-    }
-
-    fn cause(self) -> Cause {
+    /// Its number is from 11 to 17, and its place the line on which the statement with the fault begins. Want of memory
+    /// has none.
+    fn told(self) -> AnyFault {
         match self {
-            HoldFault::NoKind(_)
-            | HoldFault::TwoKinds(_)
-            | HoldFault::NoReason(_)
-            | HoldFault::BadId(_)
-            | HoldFault::BadDate(_)
-            | HoldFault::BadCategory(_) => Cause::Input,
-            HoldFault::Memory => Cause::Machine,
+            HoldFault::NoKind(line) => AnyFault::at_place(11, line),
+            HoldFault::TwoKinds(line) => AnyFault::at_place(12, line),
+            HoldFault::NoReason(line) => AnyFault::at_place(13, line),
+            HoldFault::BadId(line) => AnyFault::at_place(14, line),
+            HoldFault::BadDate(line) => AnyFault::at_place(15, line),
+            HoldFault::BadCategory(line) => AnyFault::at_place(16, line),
+            HoldFault::Memory => AnyFault::of_machine(17),
         }
     }
 }

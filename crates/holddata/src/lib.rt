@@ -8,7 +8,8 @@
 //! - [`HoldBook`]: takes changes one by one or many at a time, and gives its holds by key, by SYSMOD, in key order,
 //!   and as text; [`BookPlace`]: its order
 //! - [`book_left`]: the book that a list of changes leaves; [`book_text_left`]: its text
-//! - [`Hold`], [`HoldKey`]: a hold, and what it is known by; [`Kind`], [`Date`], [`Categories`]: parts of it
+//! - [`Hold`], [`HoldKey`]: a hold, and what it is known by; [`Kind`], [`Date`], [`Categories`]: parts of it;
+//!   [`join_with_commas`]: texts with commas between
 //! - [`NoMemory`]: memory ran out
 //!
 //! `specs/` says what each is: begin with its `HoldBook`.
@@ -42,7 +43,7 @@ mod reading;
 
 pub use asked::hold_operands;
 pub use book::{HoldBook, book_left};
-pub use categories::Categories;
+pub use categories::{Categories, join_with_commas};
 pub use date::Date;
 pub use fault::HoldFault;
 pub use faults::NoMemory;

@@ -1,8 +1,9 @@
 ghost use Rattle.std.specs.Prelude.{◌≡◌};
 ghost use Rattle.mcs_reader.specs.declared.fault.McsFault.TheVariants.{Memory};
+ghost use Rattle.mcs_reader.specs.McsFault as mcs;
 
 pub use faults::NoMemory;
-use faults::{Cause, Fault};
+use faults::{AnyFault, Fault};
 use std::alloc::{AllocError, AllocFailed};
 use thiserror::Error;
 
@@ -33,74 +34,19 @@ pub enum McsFault {
     Memory,
 }
 
-impl McsFault {
-    ghost use Rattle.mcs_reader.specs.McsFault.{fault_line, fault_number};
-
-    /// The fault's number in print, 1 to 6.
-    pub fn number(self) -> u8
-        ensures { result ≡ fault_number self }
-    {
-        match self {
-            McsFault::NoPeriod(_) => 1,
-            McsFault::BadVerbSubject(_) => 2,
-            McsFault::Unbalanced(_) => 3,
-            McsFault::BadByte(_) => 4,
-            McsFault::TooLong => 5,
-            McsFault::Memory => 6,
-        }
-    }
-
-    /// The line on which the statement with the fault begins. A source that is too long and want of
-    /// memory have none.
-    pub fn line(self) -> Option<u32>
-        ensures { result ≡ fault_line self }
-    {
-        match self {
-            McsFault::NoPeriod(line)
-            | McsFault::BadVerbSubject(line)
-            | McsFault::Unbalanced(line)
-            | McsFault::BadByte(line) => Some(line),
-            McsFault::TooLong | McsFault::Memory => None,
-        }
-    }
-}
-
 impl Fault for McsFault {
-    ghost use Rattle.mcs_reader.specs.McsFault.{fault_cause, fault_line, fault_number};
-    ghost use Rattle.std.proofs.Common.{rules};
-    ghost use Rattle.mcs_reader.specs.declared.fault.McsFault.TheVariants.{NoPeriod, BadVerbSubject, Unbalanced, BadByte, TooLong, Memory};
+    ghost told = { mcs.told };
 
-    ghost number = { fault_number };
-
-    ghost place = { fault_line };
-
-    ghost cause = { fault_cause };
-
-    ghost numbers = { elim [
-      | NoPeriod _ ↦ Prim.search rules
-      | BadVerbSubject _ ↦ Prim.search rules
-      | Unbalanced _ ↦ Prim.search rules
-      | BadByte _ ↦ Prim.search rules
-      | TooLong ↦ Prim.search rules
-      | Memory ↦ Prim.search rules
-    ] };
-
-    fn number(self) -> u8 {
-        self.number()
-    }
-
-    fn place(self) -> Option<u32> {
-        self.line()
-    }
-
-    fn cause(self) -> Cause {
+    /// Its number is from 1 to 6, and its place the line on which the statement with the fault begins. A source that is
+    /// too long and want of memory have none.
+    fn told(self) -> AnyFault {
         match self {
-            McsFault::NoPeriod(_)
-            | McsFault::BadVerbSubject(_)
-            | McsFault::Unbalanced(_)
-            | McsFault::BadByte(_)
-            | McsFault::TooLong => Cause::Input,
-            McsFault::Memory => Cause::Machine,
+            McsFault::NoPeriod(line) => AnyFault::at_place(1, line),
+            McsFault::BadVerbSubject(line) => AnyFault::at_place(2, line),
+            McsFault::Unbalanced(line) => AnyFault::at_place(3, line),
+            McsFault::BadByte(line) => AnyFault::at_place(4, line),
+            McsFault::TooLong => AnyFault::of_input(5),
+            McsFault::Memory => AnyFault::of_machine(6),
         }
     }
 }

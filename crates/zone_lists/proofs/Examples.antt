@@ -1,112 +1,91 @@
 -- Worked examples of the definitions: what lists stand for, and their first faults.
-use Rattle.std.proofs.Common.{◌≡◌, true, false, [], ◌∷◌, Ok, Err, codes, refl}
+use Rattle.std.proofs.Common.{◌≡◌, ℕ, true, false, List, [], ◌∷◌, Result, Ok, Err, codes, map, refl}
 use Rattle.csv.proofs.OnLiterals.{csv_on_literals}
 use Rattle.zone_lists.specs.Gathered.{row_of}
 use Rattle.zone_lists.specs.PatternList.{patterns_of}
 use Rattle.zone_lists.specs.ReceivedList.{received_rows_of}
 use Rattle.zone_lists.specs.ZoneList.{zone_rows_of}
 use Rattle.zone_lists.specs.Pattern.{does_match, is_pattern}
+use Rattle.zone_lists.specs.declared.fault.ListFault.{ListFault}
 use Rattle.zone_lists.specs.declared.fault.ListFault.TheVariants.{Header, BadRecord, BadId, BadState, BadPattern, Repeated}
+use Rattle.zone_lists.specs.declared.zones.ZoneRow.{ZoneRow}
 use Rattle.zone_lists.specs.declared.zones.ZoneState.TheVariants.{Applied, Superseded}
+
+-- texts, each with what it stands for
+abbrev Worked : Type 0 → Type 0
+Worked Row = List (List ℕ × Result (List Row) ListFault)
+
+-- each text of these stands for what is said beside it
+abbrev AreRight : {Row : Type 0} → (List ℕ → Result (List Row) ListFault) → Worked Row → Type 0
+AreRight read worked = map (λ example. read example.0) worked ≡ map (λ example. example.1) worked
 
 -- ---- zones
 
-a_zone : zone_rows_of (codes "SYSMOD,STATE\nUA10001,APPLIED\nHBB7790,APPLIED\n") ≡ Ok (row_of (codes "HBB7790", Applied) ∷ row_of (codes "UA10001", Applied) ∷ [])
+abbrev zones_taken : Worked ZoneRow
+zones_taken =
+    -- a zone
+    (codes "SYSMOD,STATE\nUA10001,APPLIED\nHBB7790,APPLIED\n", Ok (row_of (codes "HBB7790", Applied) ∷ row_of (codes "UA10001", Applied) ∷ []))
+    -- with a byte order mark, and blanks around
+    ∷ (0xEF ∷ 0xBB ∷ 0xBF ∷ codes " SYSMOD ,STATE\r\n\tUA1 , APPLIED\t\r\n", Ok (row_of (codes "UA1    ", Applied) ∷ []))
+    -- quoted fields
+    ∷ (codes "\"SYSMOD\",\" STATE \"\n\"UA10001\",\" SUPERSEDED\"\n", Ok (row_of (codes "UA10001", Superseded) ∷ []))
+    -- no rows
+    ∷ (codes "SYSMOD,STATE", Ok [])
+    -- the same twice
+    ∷ (codes "SYSMOD,STATE\nUA10001,APPLIED\nUA10001,APPLIED\n", Ok (row_of (codes "UA10001", Applied) ∷ []))
+    ∷ []
+
+zones : AreRight zone_rows_of zones_taken
 unfolding csv_on_literals
-a_zone = refl
+zones = refl
 
-marked_and_blank : zone_rows_of (0xEF ∷ 0xBB ∷ 0xBF ∷ codes " SYSMOD ,STATE\r\n\tUA1 , APPLIED\t\r\n") ≡ Ok (row_of (codes "UA1    ", Applied) ∷ [])
+abbrev zones_refused : Worked ZoneRow
+zones_refused =
+    -- nothing, and a header in small letters
+    ([], Err Header)
+    ∷ (codes "sysmod,state\n", Err Header)
+    -- three fields, and a line of blanks
+    ∷ (codes "SYSMOD,STATE\nUA10001,APPLIED,X\n", Err (BadRecord 1))
+    ∷ (codes "SYSMOD,STATE\n  \n", Err (BadRecord 1))
+    -- an empty line counts for nothing
+    ∷ (codes "SYSMOD,STATE\n\nua10001,APPLIED\n", Err (BadId 1))
+    -- a state in small letters, and another one than before
+    ∷ (codes "SYSMOD,STATE\nUA10001,applied\n", Err (BadState 1))
+    ∷ (codes "SYSMOD,STATE\nUA10001,APPLIED\nUA10001,SUPERSEDED\n", Err (Repeated 2))
+    -- the first fault decides
+    ∷ (codes "SYSMOD,STATE\nUA10001,APPLIED\nUA1\nua10001,X,Y\n", Err (BadRecord 2))
+    ∷ []
+
+no_zones : AreRight zone_rows_of zones_refused
 unfolding csv_on_literals
-marked_and_blank = refl
+no_zones = refl
 
-quoted_fields : zone_rows_of (codes "\"SYSMOD\",\" STATE \"\n\"UA10001\",\" SUPERSEDED\"\n") ≡ Ok (row_of (codes "UA10001", Superseded) ∷ [])
-unfolding csv_on_literals
-quoted_fields = refl
+-- ---- received SYSMODs and patterns
 
-no_rows : zone_rows_of (codes "SYSMOD,STATE") ≡ Ok []
-unfolding csv_on_literals
-no_rows = refl
-
-the_same_twice : zone_rows_of (codes "SYSMOD,STATE\nUA10001,APPLIED\nUA10001,APPLIED\n") ≡ Ok (row_of (codes "UA10001", Applied) ∷ [])
-unfolding csv_on_literals
-the_same_twice = refl
-
-nothing : zone_rows_of [] ≡ Err Header
-unfolding csv_on_literals
-nothing = refl
-
-small_header : zone_rows_of (codes "sysmod,state\n") ≡ Err Header
-unfolding csv_on_literals
-small_header = refl
-
-three_fields : zone_rows_of (codes "SYSMOD,STATE\nUA10001,APPLIED,X\n") ≡ Err (BadRecord 1)
-unfolding csv_on_literals
-three_fields = refl
-
-after_an_empty_line : zone_rows_of (codes "SYSMOD,STATE\n\nua10001,APPLIED\n") ≡ Err (BadId 1)
-unfolding csv_on_literals
-after_an_empty_line = refl
-
-small_state : zone_rows_of (codes "SYSMOD,STATE\nUA10001,applied\n") ≡ Err (BadState 1)
-unfolding csv_on_literals
-small_state = refl
-
-another_state : zone_rows_of (codes "SYSMOD,STATE\nUA10001,APPLIED\nUA10001,SUPERSEDED\n") ≡ Err (Repeated 2)
-unfolding csv_on_literals
-another_state = refl
-
-the_first_fault : zone_rows_of (codes "SYSMOD,STATE\nUA10001,APPLIED\nUA1\nua10001,X,Y\n") ≡ Err (BadRecord 2)
-unfolding csv_on_literals
-the_first_fault = refl
-
-a_line_of_blanks : zone_rows_of (codes "SYSMOD,STATE\n  \n") ≡ Err (BadRecord 1)
-unfolding csv_on_literals
-a_line_of_blanks = refl
-
--- ---- received SYSMODs
-
-received : received_rows_of (codes "SYSMOD\nUA10002\nUA10001\nUA10002\n") ≡ Ok (codes "UA10001" ∷ codes "UA10002" ∷ [])
+received : AreRight received_rows_of (
+    (codes "SYSMOD\nUA10002\nUA10001\nUA10002\n", Ok (codes "UA10001" ∷ codes "UA10002" ∷ []))
+    ∷ (codes "SYSMOD\nUA10002,APPLIED\n", Err (BadRecord 1))
+    ∷ [])
 unfolding csv_on_literals
 received = refl
 
-received_state : received_rows_of (codes "SYSMOD\nUA10002,APPLIED\n") ≡ Err (BadRecord 1)
+patterns : AreRight patterns_of (
+    (codes "CATEGORY\n*\n", Ok (codes "*" ∷ []))
+    ∷ (codes "CATEGORY\n\"A\"\"B\"\n", Ok (codes "A\"B" ∷ []))
+    ∷ (codes "CATEGORY\nIBM.*.X\n", Err (BadPattern 1))
+    ∷ [])
 unfolding csv_on_literals
-received_state = refl
+patterns = refl
 
--- ---- patterns
+-- a star stands at the end alone, and once
+which_are_patterns : map is_pattern ([] ∷ codes "A*B" ∷ codes "A**" ∷ codes "IBM.*" ∷ []) ≡ false ∷ false ∷ false ∷ true ∷ []
+which_are_patterns = refl
 
-any_category : patterns_of (codes "CATEGORY\n*\n") ≡ Ok (codes "*" ∷ [])
-unfolding csv_on_literals
-any_category = refl
-
-star_inside : patterns_of (codes "CATEGORY\nIBM.*.X\n") ≡ Err (BadPattern 1)
-unfolding csv_on_literals
-star_inside = refl
-
-doubled_quote : patterns_of (codes "CATEGORY\n\"A\"\"B\"\n") ≡ Ok (codes "A\"B" ∷ [])
-unfolding csv_on_literals
-doubled_quote = refl
-
-empty_pattern : is_pattern [] ≡ false
-empty_pattern = refl
-
-star_before_the_end : is_pattern (codes "A*B") ≡ false
-star_before_the_end = refl
-
-two_stars : is_pattern (codes "A**") ≡ false
-two_stars = refl
-
-open_pattern : is_pattern (codes "IBM.*") ≡ true
-open_pattern = refl
-
-below_a_beginning : does_match (codes "ibm.device.*") (codes "IBM.Device.Server") ≡ true
-below_a_beginning = refl
-
-short_of_a_beginning : does_match (codes "ibm.device.*") (codes "IBM.Device") ≡ false
-short_of_a_beginning = refl
-
-whole_alone : does_match (codes "IBM.Device") (codes "ibm.device.server") ≡ false
-whole_alone = refl
-
-every_one : does_match (codes "*") (codes "IBM.Device") ≡ true
-every_one = refl
+-- whatever begins so, the whole text alone, or every one; letters have no case
+which_match : map (λ (pair : List ℕ × List ℕ). does_match pair.0 pair.1) (
+    (codes "ibm.device.*", codes "IBM.Device.Server")
+    ∷ (codes "ibm.device.*", codes "IBM.Device")
+    ∷ (codes "IBM.Device", codes "ibm.device.server")
+    ∷ (codes "*", codes "IBM.Device")
+    ∷ []) ≡ true ∷ false ∷ false ∷ true ∷ []
+which_match = refl

@@ -1,5 +1,7 @@
 //! What is wrong with a list.
-use faults::{Cause, Fault, NoMemory};
+ghost use Rattle.zone_lists.specs.ListFault as list;
+
+use faults::{AnyFault, Fault, NoMemory};
 use std::alloc::AllocFailed;
 use thiserror::Error;
 
@@ -33,55 +35,20 @@ pub enum ListFault {
 }
 
 impl Fault for ListFault {
-    ghost use Rattle.std.proofs.Common.{rules};
-    ghost use Rattle.zone_lists.specs.ListFault.{fault_cause, fault_number, fault_place};
-    ghost use Rattle.zone_lists.specs.declared.fault.ListFault.TheVariants.{Header, BadRecord, BadId, BadState, BadPattern, Repeated, TooMany, Memory};
+    ghost told = { list.told };
 
-    ghost number = { fault_number };
-
-    ghost place = { fault_place };
-
-    ghost cause = { fault_cause };
-
-    ghost numbers = { elim [
-      | Header ↦ Prim.search rules
-      | BadRecord _ ↦ Prim.search rules
-      | BadId _ ↦ Prim.search rules
-      | BadState _ ↦ Prim.search rules
-      | BadPattern _ ↦ Prim.search rules
-      | Repeated _ ↦ Prim.search rules
-      | TooMany ↦ Prim.search rules
-      | Memory ↦ Prim.search rules
-    ] };
-
-    fn number(self) -> u8 {
+    /// Its number is from 31 to 38, and its place the number of the record with the fault. A header, a list that is too
+    /// long and want of memory have none.
+    fn told(self) -> AnyFault {
         match self {
-            ListFault::Header => 31,
-            ListFault::BadRecord(_) => 32,
-            ListFault::BadId(_) => 33,
-            ListFault::BadState(_) => 34,
-            ListFault::BadPattern(_) => 35,
-            ListFault::Repeated(_) => 36,
-            ListFault::TooMany => 37,
-            ListFault::Memory => 38,
-        }
-    }
-
-    fn place(self) -> Option<u32> {
-        match self {
-            ListFault::BadRecord(n)
-            | ListFault::BadId(n)
-            | ListFault::BadState(n)
-            | ListFault::BadPattern(n)
-            | ListFault::Repeated(n) => Some(n),
-            ListFault::Header | ListFault::TooMany | ListFault::Memory => None,
-        }
-    }
-
-    fn cause(self) -> Cause {
-        match self {
-            ListFault::Memory => Cause::Machine,
-            _ => Cause::Input,
+            ListFault::Header => AnyFault::of_input(31),
+            ListFault::BadRecord(n) => AnyFault::at_place(32, n),
+            ListFault::BadId(n) => AnyFault::at_place(33, n),
+            ListFault::BadState(n) => AnyFault::at_place(34, n),
+            ListFault::BadPattern(n) => AnyFault::at_place(35, n),
+            ListFault::Repeated(n) => AnyFault::at_place(36, n),
+            ListFault::TooMany => AnyFault::of_input(37),
+            ListFault::Memory => AnyFault::of_machine(38),
         }
     }
 }

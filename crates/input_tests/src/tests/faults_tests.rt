@@ -10,37 +10,15 @@ enum Sample {
 }
 
 impl Fault for Sample {
-    ghost use Rattle.std.specs.Prelude.{Some, None};
-    ghost use Rattle.std.proofs.Common.{rules};
-    ghost use Rattle.faults.specs.declared.fault.Cause.TheVariants.{Input, Machine};
+    ghost use Rattle.faults.specs.Told.{at_place, of_machine};
     ghost use Rattle.input_tests.specs.declared.tests.faults_tests.Sample.TheVariants.{At, Memory};
 
-    ghost number = { elim [ At _ ↦ 99 | Memory ↦ 1 ] };
+    ghost told = { elim [ At line ↦ at_place 99 line | Memory ↦ of_machine 1 ] };
 
-    ghost place = { elim [ At line ↦ Some line | Memory ↦ None ] };
-
-    ghost cause = { elim [ At _ ↦ Input | Memory ↦ Machine ] };
-
-    ghost numbers = { elim [ At _ ↦ Prim.search rules | Memory ↦ Prim.search rules ] };
-
-    fn number(self) -> u8 {
+    fn told(self) -> AnyFault {
         match self {
-            Sample::At(_) => 99,
-            Sample::Memory => 1,
-        }
-    }
-
-    fn place(self) -> Option<u32> {
-        match self {
-            Sample::At(line) => Some(line),
-            Sample::Memory => None,
-        }
-    }
-
-    fn cause(self) -> Cause {
-        match self {
-            Sample::At(_) => Cause::Input,
-            Sample::Memory => Cause::Machine,
+            Sample::At(line) => AnyFault::at_place(99, line),
+            Sample::Memory => AnyFault::of_machine(1),
         }
     }
 }
@@ -57,4 +35,12 @@ fn lines_of_faults(_rt: HostRuntime) -> Result<(), Fail> {
         assert_equal(AnyFault::from(fault).text().as_str(), text)?;
     }
     Ok(())
+}
+
+#[test]
+fn whose_fault_is_told(_rt: HostRuntime) -> Result<(), Fail> {
+    assert_equal(Sample::At(2).told().cause, Cause::Input)?;
+    assert_equal(Sample::Memory.told().cause, Cause::Machine)?;
+    assert_equal(AnyFault::of_input(5).cause, Cause::Input)?;
+    assert_equal(AnyFault::of_input(5).place, None)
 }

@@ -1,3 +1,4 @@
+use faults::{AnyFault, Fault};
 use holddata::{
     Categories, Date, Hold, HoldBook, HoldChange, HoldFault, HoldKey, Kind, book_left,
     book_text_left, changes,
@@ -95,8 +96,7 @@ fn a_fault_has_a_text(rt: HostRuntime) -> Result<(), Fail> {
     let alloc = rt.alloc();
     let text = format!(in alloc; "{}", HoldFault::NoKind(3))?;
     assert_equal(text.as_str(), "line 3: the hold has no kind")?;
-    assert_equal(HoldFault::Memory.number(), 17)?;
-    assert_equal(HoldFault::Memory.line(), None)
+    assert_equal(HoldFault::Memory.told(), AnyFault::of_machine(17))
 }
 
 #[test]
@@ -139,7 +139,7 @@ fn print_of(alloc: Global, source: &[u8]) -> Result<Result<Vec<u8>, (u8, Option<
     let statements = statements_in(alloc, source)?;
     match changes(alloc, &statements) {
         Ok(changes) => Ok(Ok(text_of(&book_left(alloc, changes)?)?)),
-        Err(fault) => Ok(Err((fault.number(), fault.line()))),
+        Err(fault) => Ok(Err((fault.told().number, fault.told().place))),
     }
 }
 

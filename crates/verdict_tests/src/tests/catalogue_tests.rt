@@ -4,6 +4,7 @@ use catalogue::{
     Change, ChangeReader, CondNeed, CondNeeds, Ids, ListPublished, Published, Sysmod, SysmodKind,
     read_changes, touched,
 };
+use faults::{AnyFault, Fault};
 use holddata::{HoldChange, HoldKey};
 use mcs_reader::{Id, read};
 use std::alloc::Global;
@@ -192,8 +193,7 @@ fn the_first_statement_with_a_fault_is_told(rt: HostRuntime) -> Result<(), Fail>
         let Err(fault) = read_changes(alloc, &read(alloc, source)?) else {
             return Err(Fail::from("a fault is missed"));
         };
-        assert_equal(fault.number(), number)?;
-        assert_equal_at(number, fault.line(), Some(line))?;
+        assert_equal(fault.told(), AnyFault::at_place(number, line))?;
     }
     Ok(())
 }

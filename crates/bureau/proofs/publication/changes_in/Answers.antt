@@ -1,17 +1,18 @@
 use Rattle.std.proofs.Common.{◌≡◌, false, [], Ok, ◌∙◌, ap, sym, refl, subst, IsTrue}
 use Rattle.bureau.specs.Bodies as Bodies
+use Rattle.mcs_reader.specs.McsFault as mcs
 use Rattle.mcs_reader.specs.ReadingOf.{reading_of}
 use Rattle.mcs_reader.specs.Bytes.{bytes_of_each}
 use Rattle.holddata.specs.Asked.{are_among}
 use Rattle.catalogue.specs.Asked.{publication_operands}
 use Rattle.catalogue.specs.Reading.{nothing_begun}
-use Rattle.bureau.proofs.PublicationFacts.{ended_with, of_source, passed_on, published_asking, published_from, published_next, published_whole, refused_before, told_of_source, where_none}
+use Rattle.bureau.proofs.PublicationFacts.{ended_with, passed_on, published_asking, published_from, published_next, published_whole, refused_before, told_of_source, where_none}
 use Rattle.bureau.proofs.publication.changes_in.Goals as goal
 
 pub returns-in_err-finish-in-Err-clause-fault : goal.returns-in_err-finish-in-Err-clause-fault
 returns-in_err-finish-in-Err-clause-fault c =
     let gives = rw c.in-Some.is at c.in_ok-statement.ensures.next in
-    passed_on c.from_residual-in_err-finish-in-Err.result (Bodies.changes_in c.args.body.now) (of_source c.in_err-finish-in-Err.field-0.0)
+    passed_on c.from_residual-in_err-finish-in-Err.result (Bodies.changes_in c.args.body.now) (mcs.told c.in_err-finish-in-Err.field-0.0)
     c.from_residual-in_err-finish-in-Err.ensures.1
     (told_of_source c.statements.reader (Bodies.changes_in c.args.body.now) c.statements.statements.reading c.in_err-finish-in-Err.field-0.0
     (c.statements.invariant ∙ published_whole (reading_of c.args.body.now))

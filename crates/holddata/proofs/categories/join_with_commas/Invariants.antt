@@ -2,7 +2,7 @@ use Rattle.std.proofs.Common.{◌≡◌, ◌++◌, drop}
 use Rattle.std.specs.List.{join_with_byte}
 use Rattle.mcs_reader.specs.Bytes.{bytes_of_each}
 use Rattle.holddata.proofs.TextFacts.{each_after_comma}
-use Rattle.holddata.proofs.categories.join.Given as goal
+use Rattle.holddata.proofs.categories.join_with_commas.Given as goal
 
 -- the text so far, with the texts to come after commas, is the whole
 abbrev pub invariant-loop-text : goal.invariant-loop-text
