@@ -27,7 +27,7 @@ use Rattle.sql_tables.specs.InTrees.{columns_of, stored_in}
 use Rattle.sql_tables.specs.Rows.{Beside, sysmod_found, with}
 use Rattle.sql_tables.specs.Stored.{beside_of, is_named, is_of, sup_of, sysmod_with, sysmods_of, tables_of}
 use Rattle.sql_tables.specs.Values.{id_in, ids_in, sysmod_kind_in}
-use Rattle.sql_tables.specs.Whole.{IsMember, IsWhole, Member, member_row}
+use Rattle.sql_tables.specs.Whole.{IsMember, IsWhole, Listed, member_row}
 use Rattle.sql_tables.proofs.ContentFacts.{content_in_order, sysmod_own}
 use Rattle.sql_tables.proofs.MemberFacts.{found_in}
 use Rattle.sql_tables.proofs.OrderFacts.{in_order_same}
@@ -102,7 +102,7 @@ module _ (trees : Trees) (id : List ℕ) (is : IsId id) (whole : IsWhole (stored
   tests = read.same (col 2 1) (col 1 1) ∷ read.is_given 2 0 ∷ []
 
   -- which rows pass together
-  together : (p s : Row) (member : Member) → IsMember member → drop 1 p ≡ member_row member
+  together : (p s : Row) (member : Listed (List ℕ)) → IsMember member → drop 1 p ≡ member_row member
       → passes_with params tests p s ≡ (is_named member.id (column (drop 1 s) 0) && (is_named id (column (drop 1 p) 1) && true))
   together p s member fit same =
       ap (λ v. is_true (binary (Compare Eq Binary) (column s 1) v) && (is_true (binary (Compare Eq Binary) (column p 2) (Text (text_of id))) && true))
@@ -161,7 +161,7 @@ module _ (trees : Trees) (id : List ℕ) (is : IsId id) (whole : IsWhole (stored
       let made = made_from (λ second. eval_all (col 1 1 ∷ []) (params ∷ p.0 ∷ second ∷ [])) (filter (passes_with params tests p.0) (trees 6)) row.0 p.2 in
       let s = filtered (passes_with params tests p.0) (trees 6) made.0 made.1 in
       let there : Contains sups (drop 1 p.0) = made_to (drop 1) (trees 8) p.0 p.1 in
-      let m = all_of (λ r. (m : Member) × IsMember m × (r ≡ member_row m)) sups (drop 1 p.0) whole.sups there in
+      let m = all_of (λ r. (m : Listed (List ℕ)) × IsMember m × (r ≡ member_row m)) sups (drop 1 p.0) whole.sups there in
       let tests_pass = both _ _ (sym (together p.0 made.0 m.0 m.1 m.2) ∙ s.1) in
       let names = both _ _ tests_pass.1 in
       let own : id_in (column (drop 1 p.0) 0) ≡ Some m.0.id = ap (λ r. id_in (column r 0)) m.2 ∙ id_again m.0.id m.1.0 in
@@ -170,14 +170,14 @@ module _ (trees : Trees) (id : List ℕ) (is : IsId id) (whole : IsWhole (stored
       let same : m.0.id ≡ x = cc in
       let c = row_record (drop 1 made.0) m.0.id (made_to (drop 1) (trees 6) made.0 s.0) (named_is m.0.id (column (drop 1 made.0) 0) tests_pass.0) in
       let its = record_row c.0 c.1 in
-      let second : id_in (column (drop 1 p.0) 1) ≡ Some m.0.member = ap (λ r. id_in (column r 1)) m.2 ∙ id_again m.0.member m.1.1 in
-      let is_member : Some m.0.member ≡ Some id = sym second ∙ named_is id (column (drop 1 p.0) 1) names.0 in
-      let member : m.0.member ≡ id = cc in
+      let second : id_in (column (drop 1 p.0) 1) ≡ Some m.0.one = ap (λ r. id_in (column r 1)) m.2 ∙ id_again m.0.one m.1.1 in
+      let is_member : Some m.0.one ≡ Some id = sym second ∙ named_is id (column (drop 1 p.0) 1) names.0 in
+      let member : m.0.one ≡ id = cc in
       let of_c : is_of c.0.id (drop 1 p.0) ≡ true = is_named_so c.0.id (column (drop 1 p.0) 0) (own ∙ ap Some (sym c.2)) in
-      let listed : Contains (filter_map (λ r. id_in (column r 1)) (filter (is_of c.0.id) sups)) m.0.member =
-      read_to (λ r. id_in (column r 1)) (filter (is_of c.0.id) sups) (drop 1 p.0) m.0.member (passed (is_of c.0.id) sups (drop 1 p.0) there of_c) second in
+      let listed : Contains (filter_map (λ r. id_in (column r 1)) (filter (is_of c.0.id) sups)) m.0.one =
+      read_to (λ r. id_in (column r 1)) (filter (is_of c.0.id) sups) (drop 1 p.0) m.0.one (passed (is_of c.0.id) sups (drop 1 p.0) there of_c) second in
       let superseding : sup_names id c.0 ≡ true =
-      ap (list_any (same_id id)) its.3 ∙ names_any c.0.id ∙ any_to (same_id id) (filter_map (λ r. id_in (column r 1)) (filter (is_of c.0.id) sups)) m.0.member listed (ap (same_id id) member ∙ itself id) in
+      ap (list_any (same_id id)) its.3 ∙ names_any c.0.id ∙ any_to (same_id id) (filter_map (λ r. id_in (column r 1)) (filter (is_of c.0.id) sups)) m.0.one listed (ap (same_id id) member ∙ itself id) in
       subst (Contains (superseders (tables_of (stored_in trees)).content id)) (c.2 ∙ same)
       (made_to (λ (s : Sysmod). s.id) (filter (sup_names id) (catalogue_of all)) c.0 (passed (sup_names id) (catalogue_of all) c.0 c.1 superseding))
 
@@ -191,7 +191,7 @@ module _ (trees : Trees) (id : List ℕ) (is : IsId id) (whole : IsWhole (stored
       let p = filtered (is_of c.0.id) sups row.0 row.1 in
       let p_there = made_from (drop 1) (trees 8) row.0 p.0 in
       let s_there = made_from (drop 1) (trees 6) its.0 its.1 in
-      let m = all_of (λ r. (m : Member) × IsMember m × (r ≡ member_row m)) sups row.0 whole.sups p.0 in
+      let m = all_of (λ r. (m : Listed (List ℕ)) × IsMember m × (r ≡ member_row m)) sups row.0 whole.sups p.0 in
       let own : id_in (column row.0 0) ≡ Some m.0.id = ap (λ r. id_in (column r 0)) m.2 ∙ id_again m.0.id m.1.0 in
       let e : Some m.0.id ≡ Some c.0.id = sym own ∙ named_is c.0.id (column row.0 0) p.1 in
       let same : m.0.id ≡ c.0.id = cc in

@@ -3,14 +3,15 @@ use Rattle.std.proofs.Common.{◌≡◌, ℕ, Bool, true, false, cond, ◌||◌,
 use Rattle.std.specs.Prelude.{find, map, option_map, Option, Some, None}
 use Rattle.std.specs.BTreeMap.{insert_entry}
 use Rattle.std.specs.BTreeSet.{insert_key}
-use Rattle.std.specs.List.{AllByRecursion, filter_map, cons_option, list_any}
+use Rattle.std.specs.List.{AllByRecursion, filter_map, list_any}
 use Rattle.std.specs.List.Sorted.{IsStrictlySortedBy}
 use Rattle.std.specs.Map.{lookup, remove_entry}
 use Rattle.std.specs.Ordering.{match_ordering}
 use Rattle.std.specs.declared.cmp.Ordering.{Ordering}
 use Rattle.std.specs.declared.cmp.Ordering.TheVariants.{Less, Equal, Greater}
 use Rattle.catalogue.specs.Ids.{id_cmp, same_id, Ascend, in_order}
-use Rattle.catalogue.proofs.IdFacts.{all_below, apart, apart_back, exact_ids, in_order_any, in_order_ascends, insert_ascends, itself, one_id, same_back, turned}
+use Rattle.catalogue.proofs.IdFacts.{apart, exact_ids, id_order, in_order_any, in_order_ascends, insert_ascends, itself, one_id, same_back, turned}
+use Rattle.holddata.proofs.FoundFacts as found
 
 module _ {X : Type 0} (key : X → List ℕ) where
   abbrev pub with_key : List X → List ℕ → Option X
@@ -19,94 +20,18 @@ module _ {X : Type 0} (key : X → List ℕ) where
   abbrev pub KeysAscend : List X → Type 0
   KeysAscend xs = Ascend (map key xs)
 
-  pub none_with : (id : List ℕ) (xs : List X) → AllByRecursion (λ y. id_cmp id y ≡ Less) (map key xs) → with_key xs id ≡ None
-  none_with id [] h = refl
-  none_with id (x ∷ xs) h = ap (λ b. cond b (Some x) (with_key xs id)) (apart_back id (key x) h.0) ∙ none_with id xs h.1
-
-  pub head_with : (x : X) (xs : List X) → with_key (x ∷ xs) (key x) ≡ Some x
-  head_with x xs = ap (λ b. cond b (Some x) (with_key xs (key x))) (itself (key x))
+  none_with : (id : List ℕ) (xs : List X) → AllByRecursion (λ y. id_cmp id y ≡ Less) (map key xs) → with_key xs id ≡ None
+  none_with = found.none_found key id_order
 
   -- two such lists in which each id is found alike are the same
   pub same_by_key : (a b : List X) → KeysAscend a → KeysAscend b → ((id : List ℕ) → with_key a id ≡ with_key b id) → a ≡ b
-  unfolding IsStrictlySortedBy
-  same_by_key [] [] s t h = refl
-  same_by_key [] (y ∷ b) s t h = let e : None ≡ Some y = h (key y) ∙ head_with y b in cc
-  same_by_key (x ∷ a) [] s t h = let e : Some x ≡ None = sym (head_with x a) ∙ h (key x) in cc
-  same_by_key (x ∷ a) (y ∷ b) s t h = by (id_cmp (key x) (key y)) refl (same_by_key a b s.1 t.1)
-    where
-      below : (u v : X) (us vs : List X) → id_cmp (key u) (key v) ≡ Less → AllByRecursion (λ k. id_cmp (key v) k ≡ Less) (map key vs) → with_key (u ∷ us) (key u) ≡ with_key (v ∷ vs) (key u) → ⊥
-      below u v us vs less rest e =
-          let none : with_key (v ∷ vs) (key u) ≡ None = none_with (key u) (v ∷ vs) (less, all_below (key u) (key v) (map key vs) less rest) in
-          let some : with_key (u ∷ us) (key u) ≡ Some u = head_with u us in
-          let f : Some u ≡ None = sym some ∙ e ∙ none in cc
-
-      heads : key x ≡ key y → x ≡ y
-      heads e =
-          let f : Some x ≡ Some y = sym (head_with x a) ∙ h (key x) ∙ ap (with_key (y ∷ b)) e ∙ head_with y b in cc
-
-      tails : x ≡ y → (id : List ℕ) (o : Bool) → same_id (key x) id ≡ o → with_key a id ≡ with_key b id
-      tails e id true at =
-          let k : key x ≡ id = one_id (key x) id at in
-          ap (with_key a) (sym k) ∙ none_with (key x) a s.0 ∙ sym (ap (with_key b) (sym k ∙ ap key e) ∙ none_with (key y) b t.0)
-      tails e id false at =
-          ap (λ o. cond o (Some x) (with_key a id)) (sym at) ∙ h id
-          ∙ ap (λ o. cond o (Some y) (with_key b id)) (ap (λ z. same_id (key z) id) (sym e) ∙ at)
-
-      by : (o : Ordering) → id_cmp (key x) (key y) ≡ o → (((id : List ℕ) → with_key a id ≡ with_key b id) → a ≡ b) → x ∷ a ≡ y ∷ b
-      by Less is rest = absurd (below x y a b is t.0 (h (key x)))
-      by Greater is rest = absurd (below y x b a (turned (key x) (key y) is) s.0 (sym (h (key y))))
-      by Equal is rest =
-          let e : x ≡ y = heads (exact_ids (key x) (key y) is) in
-          let f : a ≡ b = rest (λ id. tails e id (same_id (key x) id) refl) in cc
-
--- ---- what is found for each of some ids
-
-module _ {X : Type 0} (key : X → List ℕ) (f : List ℕ → Option X) (own : (id : List ℕ) (x : X) → f id ≡ Some x → key x ≡ id) where
-  all_kept : (P : List ℕ → Type 0) (ks : List (List ℕ)) → AllByRecursion P ks → AllByRecursion P (map key (filter_map f ks))
-  all_kept P [] h = tt
-  all_kept P (k ∷ ks) h = by (all_kept P ks h.1) (f k) refl
-    where
-      by : AllByRecursion P (map key (filter_map f ks)) → (o : Option X) → f k ≡ o → AllByRecursion P (map key (cons_option o (filter_map f ks)))
-      by rest None is = rest
-      by rest (Some x) is = (subst P (sym (own k x is)) h.0, rest)
-
-  pub kept_ascend : (ks : List (List ℕ)) → Ascend ks → KeysAscend key (filter_map f ks)
-  unfolding IsStrictlySortedBy
-  kept_ascend [] h = tt
-  kept_ascend (k ∷ ks) h = by (kept_ascend ks h.1) (f k) refl
-    where
-      by : KeysAscend key (filter_map f ks) → (o : Option X) → f k ≡ o → KeysAscend key (cons_option o (filter_map f ks))
-      by rest None is = rest
-      by rest (Some x) is =
-          (subst (λ i. AllByRecursion (λ y. id_cmp i y ≡ Less) (map key (filter_map f ks))) (sym (own k x is)) (all_kept (λ y. id_cmp k y ≡ Less) ks h.0), rest)
-
-  pub kept_with : (ks : List (List ℕ)) (id : List ℕ) → with_key key (filter_map f ks) id ≡ cond (list_any (λ k. same_id k id) ks) (f id) None
-  kept_with [] id = refl
-  kept_with (k ∷ ks) id = by (kept_with ks id) (f k) refl (same_id k id) refl
-    where
-      by : with_key key (filter_map f ks) id ≡ cond (list_any (λ k. same_id k id) ks) (f id) None → (o : Option X) → f k ≡ o → (b : Bool) → same_id k id ≡ b
-          → with_key key (cons_option o (filter_map f ks)) id ≡ cond (b || list_any (λ k. same_id k id) ks) (f id) None
-      by rest None is true at = rest ∙ none (list_any (λ k. same_id k id) ks) (ap f (sym (one_id k id at)) ∙ is)
-        where
-          none : (b : Bool) → f id ≡ None → cond b (f id) None ≡ f id
-          none true h = refl
-          none false h = sym h
-      by rest None is false at = rest
-      by rest (Some x) is true at =
-          ap (λ b. cond b (Some x) (with_key key (filter_map f ks) id)) (ap (λ i. same_id i id) (own k x is) ∙ at) ∙ sym (ap f (sym (one_id k id at)) ∙ is)
-      by rest (Some x) is false at =
-          ap (λ b. cond b (Some x) (with_key key (filter_map f ks) id)) (ap (λ i. same_id i id) (own k x is) ∙ at) ∙ rest
+  same_by_key = found.same_by_key key id_order
 
 -- ---- a list put in order by its key
 
 module _ {X : Type 0} (key : X → List ℕ) (xs : List X) where
   with_own : (ys : List X) (id : List ℕ) (x : X) → with_key key ys id ≡ Some x → key x ≡ id
-  with_own [] id x h = cc
-  with_own (y ∷ ys) id x h = by (with_own ys id x) (same_id (key y) id) refl h
-    where
-      by : (with_key key ys id ≡ Some x → key x ≡ id) → (b : Bool) → same_id (key y) id ≡ b → cond b (Some y) (with_key key ys id) ≡ Some x → key x ≡ id
-      by rest true at e = (let f : y ≡ x = cc in ap key (sym f)) ∙ one_id (key y) id at
-      by rest false at e = rest e
+  with_own = found.found_own key id_order
 
   none_any : (ys : List X) (id : List ℕ) → list_any (λ k. same_id k id) (map key ys) ≡ false → with_key key ys id ≡ None
   none_any [] id h = refl
@@ -120,12 +45,12 @@ module _ {X : Type 0} (key : X → List ℕ) (xs : List X) where
   by_key = filter_map (with_key key xs) (in_order (map key xs))
 
   pub by_key_ascends : KeysAscend key by_key
-  by_key_ascends = kept_ascend key (with_key key xs) (with_own xs) (in_order (map key xs)) (in_order_ascends (map key xs))
+  by_key_ascends = found.kept_ascend key id_order (with_key key xs) (with_own xs) (in_order (map key xs)) (in_order_ascends (map key xs))
 
   -- the first with each key is found
   pub by_key_with : (id : List ℕ) → with_key key by_key id ≡ with_key key xs id
   by_key_with id =
-      kept_with key (with_key key xs) (with_own xs) (in_order (map key xs)) id
+      found.kept_found key id_order (with_key key xs) (with_own xs) (in_order (map key xs)) id
       ∙ ap (λ b. cond b (with_key key xs id) None) (in_order_any (λ k. same_id k id) (map key xs))
       ∙ by (list_any (λ k. same_id k id) (map key xs)) refl
     where

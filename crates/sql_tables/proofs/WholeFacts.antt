@@ -133,15 +133,32 @@ by_hold key a b same =
 
 -- ---- a publication
 
+-- the holds under a key go, and others under it come
+holds_written : (key : HoldKey) (news : List Row) (stored : Stored) → AreRowsOf hold_row IsHold news → AllByRecursion (λ row. is_under key row ≡ true) news → HaveOwnKeys 3 news
+    → IsWhole stored → IsWhole (record stored { holds = replaced (is_under key) news stored.holds })
+holds_written key news stored fit under own whole = record {
+  callers = whole.callers;
+  sysmods = whole.sysmods;
+  sysmod_keys = whole.sysmod_keys;
+  sups = whole.sups;
+  conds = whole.conds;
+  holds = written_again hold_row IsHold (is_under key) news stored.holds whole.holds fit;
+  hold_keys = own_replaced 3 (is_under key) (by_hold key) news stored.holds under own whole.hold_keys;
+  heads = whole.heads;
+  head_keys = whole.head_keys;
+  rows = whole.rows;
+  row_keys = whole.row_keys;
+}
+
 one_whole : (change : Change) (stored : Stored) → IsFitChange change → IsWhole stored → IsWhole (published stored change)
 one_whole (Whole x) stored fit whole = record {
   callers = whole.callers;
   sysmods = written_again sysmod_row IsRecord (is_of x.id) (sysmod_row x ∷ []) stored.sysmods whole.sysmods ((x, fit, refl), tt);
   sysmod_keys = own_replaced 1 (is_of x.id) (by_id x.id) (sysmod_row x ∷ []) stored.sysmods (named_itself x.id fit.id, tt) (tt, tt) whole.sysmod_keys;
   sups = written_again member_row IsMember (is_of x.id) (map (sup_row x.id) x.sup) stored.sups whole.sups
-      (listed member_row IsMember IsId (λ member. record { id = x.id; member = member }) (λ member is. (fit.id, is)) x.sup fit.sup);
+      (listed member_row IsMember IsId (λ member. record { id = x.id; one = member }) (λ member is. (fit.id, is)) x.sup fit.sup);
   conds = written_again condition_row IsCondition (is_of x.id) (map (cond_row x.id) x.conds) stored.conds whole.conds
-      (listed condition_row IsCondition IsCond (λ cond. record { id = x.id; cond = cond }) (λ cond is. (fit.id, is)) x.conds fit.conds);
+      (listed condition_row IsCondition IsCond (λ cond. record { id = x.id; one = cond }) (λ cond is. (fit.id, is)) x.conds fit.conds);
   holds = whole.holds;
   hold_keys = whole.hold_keys;
   heads = whole.heads;
@@ -154,32 +171,9 @@ one_whole (Whole x) stored fit whole = record {
         → AreRowsOf row_of Fits (map (λ x. row_of (make x)) xs)
     listed row_of Fits Is make fits [] all = tt
     listed row_of Fits Is make fits (x ∷ xs) all = ((make x, fits x all.0, refl), listed row_of Fits Is make fits xs all.1)
-one_whole (OfHold (Put hold)) stored fit whole = record {
-  callers = whole.callers;
-  sysmods = whole.sysmods;
-  sysmod_keys = whole.sysmod_keys;
-  sups = whole.sups;
-  conds = whole.conds;
-  holds = written_again hold_row IsHold (is_under hold.key) (hold_row hold ∷ []) stored.holds whole.holds ((hold, fit, refl), tt);
-  hold_keys = own_replaced 3 (is_under hold.key) (by_hold hold.key) (hold_row hold ∷ []) stored.holds (row_under hold fit hold.key ∙ key_itself hold.key, tt) (tt, tt) whole.hold_keys;
-  heads = whole.heads;
-  head_keys = whole.head_keys;
-  rows = whole.rows;
-  row_keys = whole.row_keys;
-}
-one_whole (OfHold (Release key)) stored fit whole = record {
-  callers = whole.callers;
-  sysmods = whole.sysmods;
-  sysmod_keys = whole.sysmod_keys;
-  sups = whole.sups;
-  conds = whole.conds;
-  holds = written_again hold_row IsHold (is_under key) [] stored.holds whole.holds tt;
-  hold_keys = own_replaced 3 (is_under key) (by_hold key) [] stored.holds tt tt whole.hold_keys;
-  heads = whole.heads;
-  head_keys = whole.head_keys;
-  rows = whole.rows;
-  row_keys = whole.row_keys;
-}
+one_whole (OfHold (Put hold)) stored fit whole =
+    holds_written hold.key (hold_row hold ∷ []) stored ((hold, fit, refl), tt) (row_under hold fit hold.key ∙ key_itself hold.key, tt) (tt, tt) whole
+one_whole (OfHold (Release key)) stored fit whole = holds_written key [] stored tt tt tt whole
 
 all_whole : (changes : List Change) (stored : Stored) → AllByRecursion IsFitChange changes → IsWhole stored → IsWhole (fold published stored changes)
 all_whole [] stored fit whole = whole

@@ -118,6 +118,11 @@ categories_in value = option_and_then categories_of (texts_in value)
 
 -- ---- kinds, states and dates
 
+-- what bears a number
+abbrev pub with_number : {X : Type 0} → List (ℕ × X) → ℕ → Option X
+with_number [] number = None
+with_number (entry ∷ entries) number = if number == entry.0 then Some entry.1 else with_number entries number
+
 -- 0 for a function, 1 for a PTF, 2 for an APAR, 3 for a USERMOD
 abbrev pub sysmod_kind_place : SysmodKind → ℕ
 sysmod_kind_place Func = 0
@@ -125,31 +130,18 @@ sysmod_kind_place Ptf = 1
 sysmod_kind_place Apar = 2
 sysmod_kind_place Usermod = 3
 
-abbrev pub sysmod_kind_at : ℕ → Option SysmodKind
-sysmod_kind_at place =
-    if place == 0 then Some Func
-    else if place == 1 then Some Ptf
-    else if place == 2 then Some Apar
-    else if place == 3 then Some Usermod
-    else None
-
 abbrev pub sysmod_kind_in : Value → Option SysmodKind
-sysmod_kind_in value = option_and_then sysmod_kind_at (number_in value)
+sysmod_kind_in value =
+    option_and_then (with_number ((0, Func) ∷ (1, Ptf) ∷ (2, Apar) ∷ (3, Usermod) ∷ [])) (number_in value)
 
 abbrev pub sysmod_kind_value : SysmodKind → Value
 sysmod_kind_value kind = Int (pos (sysmod_kind_place kind))
 
 -- 0 for ERROR, 1 for SYSTEM, 2 for USER, 3 for FIXCAT: the places in the order of kinds
-abbrev pub hold_kind_at : ℕ → Option Kind
-hold_kind_at place =
-    if place == 0 then Some ErrorHold
-    else if place == 1 then Some SystemHold
-    else if place == 2 then Some UserHold
-    else if place == 3 then Some FixcatHold
-    else None
-
 abbrev pub hold_kind_in : Value → Option Kind
-hold_kind_in value = option_and_then hold_kind_at (number_in value)
+hold_kind_in value =
+    option_and_then (with_number ((0, ErrorHold) ∷ (1, SystemHold) ∷ (2, UserHold) ∷ (3, FixcatHold) ∷ []))
+    (number_in value)
 
 abbrev pub hold_kind_value : Kind → Value
 hold_kind_value kind = Int (pos (kind_place kind))
@@ -160,15 +152,9 @@ state_place Applied = 0
 state_place Accepted = 1
 state_place Superseded = 2
 
-abbrev pub state_at : ℕ → Option ZoneState
-state_at place =
-    if place == 0 then Some Applied
-    else if place == 1 then Some Accepted
-    else if place == 2 then Some Superseded
-    else None
-
 abbrev pub state_in : Value → Option ZoneState
-state_in value = option_and_then state_at (number_in value)
+state_in value =
+    option_and_then (with_number ((0, Applied) ∷ (1, Accepted) ∷ (2, Superseded) ∷ [])) (number_in value)
 
 abbrev pub state_value : ZoneState → Value
 state_value state = Int (pos (state_place state))

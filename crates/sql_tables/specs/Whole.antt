@@ -22,27 +22,24 @@ HaveOwnKeys columns [] = Unit {0}
 HaveOwnKeys columns (row ∷ rows) =
     AllByRecursion (λ other. take columns row ≢ take columns other) rows × HaveOwnKeys columns rows
 
--- what a record supersedes: its id and the other's
-pub record Member : Type 0 where
+-- one of those that a record lists, with the id of the record
+pub record Listed (X : Type 0) : Type 0 where
   pub id : List ℕ
-  pub member : List ℕ
+  pub one : X
 
-abbrev pub member_row : Member → Row
-member_row member = sup_row member.id member.member
+-- one that it supersedes
+abbrev pub member_row : Listed (List ℕ) → Row
+member_row member = sup_row member.id member.one
 
-abbrev pub IsMember : Member → Type 0
-IsMember member = IsId member.id × IsId member.member
+abbrev pub IsMember : Listed (List ℕ) → Type 0
+IsMember member = IsId member.id × IsId member.one
 
--- what a record requires under a condition: its id with the function and the other's
-pub record Condition : Type 0 where
-  pub id : List ℕ
-  pub cond : CondNeed
+-- one that it requires under a condition
+abbrev pub condition_row : Listed CondNeed → Row
+condition_row condition = cond_row condition.id condition.one
 
-abbrev pub condition_row : Condition → Row
-condition_row condition = cond_row condition.id condition.cond
-
-abbrev pub IsCondition : Condition → Type 0
-IsCondition condition = IsId condition.id × IsCond condition.cond
+abbrev pub IsCondition : Listed CondNeed → Type 0
+IsCondition condition = IsId condition.id × IsCond condition.one
 
 -- a zone of a client, with the patterns that are asked for
 pub record Head : Type 0 where

@@ -7,7 +7,95 @@ ghost use Rattle.sqlite.specs.Schema.{Schema};
 ghost use Rattle.sql_texts.specs.Meaning.{Means};
 ghost use Rattle.sql_texts.specs.Reads.{is_given};
 ghost use Rattle.sql_texts.specs.Schema.{bureau};
-ghost use Rattle.sql_texts.specs.Writes.{delete_of, insert_given, this_version};
+ghost use Rattle.sql_texts.specs.Writes.{by_id, by_zone, delete_of, insert_given, this_version};
+
+/// A table that says of an id what stands in its rows. The id is the first column.
+#[derive(Clone, Copy)]
+pub enum TableById {
+    /// The last change of a caller: its name, the number and the reply.
+    LastChange,
+    /// A record, without what it supersedes and what it requires under a condition: the SYSMOD, its kind, its
+    /// functions, its PRE and its REQ.
+    Sysmod,
+    /// What a record supersedes: the SYSMOD, and one that it supersedes.
+    SysmodSup,
+    /// What a record requires under a condition: the SYSMOD, the function, and what is required where that is
+    /// installed.
+    SysmodCond,
+    /// What a client has received: the client, and a list of SYSMODs.
+    ReceivedList,
+}
+
+impl TableById {
+    /// The text by which a row comes, with the columns from ?1 on in the order of the table.
+    pub fn insertion(self) -> &'static str
+        ensures { Means bureau result.now (insert_given (by_id self).place (by_id self).columns) (by_id self).columns }
+    {
+        match self {
+            TableById::LastChange => {
+                "INSERT INTO last_change (caller, number, body) VALUES (?1, ?2, ?3)"
+            }
+            TableById::Sysmod => {
+                "INSERT INTO sysmod (id, kind, fmids, pre, req) VALUES (?1, ?2, ?3, ?4, ?5)"
+            }
+            TableById::SysmodSup => "INSERT INTO sysmod_sup (id, member) VALUES (?1, ?2)",
+            TableById::SysmodCond => {
+                "INSERT INTO sysmod_cond (id, fmid, member) VALUES (?1, ?2, ?3)"
+            }
+            TableById::ReceivedList => "INSERT INTO received_list (client, ids) VALUES (?1, ?2)",
+        }
+    }
+
+    /// The text by which the rows of the id ?1 go.
+    pub fn deletion(self) -> &'static str
+        ensures { Means bureau result.now (delete_of (by_id self).place (by_id self).tree (is_given 1 0 ∷ [])) 1 }
+    {
+        match self {
+            TableById::LastChange => "DELETE FROM last_change WHERE caller = ?1",
+            TableById::Sysmod => "DELETE FROM sysmod WHERE id = ?1",
+            TableById::SysmodSup => "DELETE FROM sysmod_sup WHERE id = ?1",
+            TableById::SysmodCond => "DELETE FROM sysmod_cond WHERE id = ?1",
+            TableById::ReceivedList => "DELETE FROM received_list WHERE client = ?1",
+        }
+    }
+}
+
+/// A table that says of a client's zone what stands in its rows. The client and the zone are the first columns.
+#[derive(Clone, Copy)]
+pub enum TableByZone {
+    /// That the zone is there: the client, the zone, and the patterns that are asked for.
+    ZoneHead,
+    /// What is in the zone: the client, the zone, a SYSMOD and its state.
+    ZoneRow,
+}
+
+impl TableByZone {
+    /// The text by which a row comes, with the columns from ?1 on in the order of the table.
+    pub fn insertion(self) -> &'static str
+        ensures { Means bureau result.now (insert_given (by_zone self).place (by_zone self).columns)
+            (by_zone self).columns }
+    {
+        match self {
+            TableByZone::ZoneHead => {
+                "INSERT INTO zone_head (client, zone, patterns) VALUES (?1, ?2, ?3)"
+            }
+            TableByZone::ZoneRow => {
+                "INSERT INTO zone_row (client, zone, sysmod, state) VALUES (?1, ?2, ?3, ?4)"
+            }
+        }
+    }
+
+    /// The text by which the rows of the zone ?2 of the client ?1 go.
+    pub fn deletion(self) -> &'static str
+        ensures { Means bureau result.now
+            (delete_of (by_zone self).place (by_zone self).tree (is_given 1 0 ∷ is_given 2 1 ∷ [])) 2 }
+    {
+        match self {
+            TableByZone::ZoneHead => "DELETE FROM zone_head WHERE client = ?1 AND zone = ?2",
+            TableByZone::ZoneRow => "DELETE FROM zone_row WHERE client = ?1 AND zone = ?2",
+        }
+    }
+}
 
 /// The version of these tables, 2.
 pub fn insert_version() -> &'static str
@@ -23,63 +111,12 @@ pub fn insert_caller() -> &'static str
     "INSERT INTO caller (name, token) VALUES (?1, ?2)"
 }
 
-/// The last change of a caller, with the columns ?1 to ?3 in the order of the table.
-pub fn insert_last_change() -> &'static str
-    ensures { Means bureau result.now (insert_given 2 3) 3 }
-{
-    "INSERT INTO last_change (caller, number, body) VALUES (?1, ?2, ?3)"
-}
-
-/// A record, without what it supersedes and what it requires under a condition, with the columns ?1 to ?5 in the
-/// order of the table.
-pub fn insert_sysmod() -> &'static str
-    ensures { Means bureau result.now (insert_given 3 5) 5 }
-{
-    "INSERT INTO sysmod (id, kind, fmids, pre, req) VALUES (?1, ?2, ?3, ?4, ?5)"
-}
-
-/// One SYSMOD that a record supersedes, with the columns ?1 to ?2 in the order of the table.
-pub fn insert_sysmod_sup() -> &'static str
-    ensures { Means bureau result.now (insert_given 4 2) 2 }
-{
-    "INSERT INTO sysmod_sup (id, member) VALUES (?1, ?2)"
-}
-
-/// One SYSMOD that a record requires where a function is installed, with the columns ?1 to ?3 in the
-/// order of the table.
-pub fn insert_sysmod_cond() -> &'static str
-    ensures { Means bureau result.now (insert_given 9 3) 3 }
-{
-    "INSERT INTO sysmod_cond (id, fmid, member) VALUES (?1, ?2, ?3)"
-}
-
 /// A hold, with the columns ?1 to ?8 in the order of the table.
 pub fn insert_hold_row() -> &'static str
     ensures { Means bureau result.now (insert_given 5 8) 8 }
 {
     "INSERT INTO hold_row (sysmod, kind, reason, fmid, class, dated, resolver, categories) \
      VALUES (?1, ?2, ?3, ?4, ?5, ?6, ?7, ?8)"
-}
-
-/// A zone of a client, with the columns ?1 to ?3 in the order of the table.
-pub fn insert_zone_head() -> &'static str
-    ensures { Means bureau result.now (insert_given 6 3) 3 }
-{
-    "INSERT INTO zone_head (client, zone, patterns) VALUES (?1, ?2, ?3)"
-}
-
-/// A SYSMOD of a client's zone, with the columns ?1 to ?4 in the order of the table.
-pub fn insert_zone_row() -> &'static str
-    ensures { Means bureau result.now (insert_given 7 4) 4 }
-{
-    "INSERT INTO zone_row (client, zone, sysmod, state) VALUES (?1, ?2, ?3, ?4)"
-}
-
-/// What a client has received, with the columns ?1 to ?2 in the order of the table.
-pub fn insert_received_list() -> &'static str
-    ensures { Means bureau result.now (insert_given 8 2) 2 }
-{
-    "INSERT INTO received_list (client, ids) VALUES (?1, ?2)"
 }
 
 /// The version of the tables goes.
@@ -89,60 +126,11 @@ pub fn delete_version() -> &'static str
     "DELETE FROM bureau_version"
 }
 
-/// The last change of the caller ?1 goes.
-pub fn delete_last_change() -> &'static str
-    ensures { Means bureau result.now (delete_of 2 4 (is_given 1 0 ∷ [])) 1 }
-{
-    "DELETE FROM last_change WHERE caller = ?1"
-}
-
-/// The record of the SYSMOD ?1 goes.
-pub fn delete_sysmod() -> &'static str
-    ensures { Means bureau result.now (delete_of 3 6 (is_given 1 0 ∷ [])) 1 }
-{
-    "DELETE FROM sysmod WHERE id = ?1"
-}
-
-/// What the SYSMOD ?1 supersedes goes.
-pub fn delete_superseded() -> &'static str
-    ensures { Means bureau result.now (delete_of 4 8 (is_given 1 0 ∷ [])) 1 }
-{
-    "DELETE FROM sysmod_sup WHERE id = ?1"
-}
-
-/// What the SYSMOD ?1 requires under a condition goes.
-pub fn delete_conditional() -> &'static str
-    ensures { Means bureau result.now (delete_of 9 19 (is_given 1 0 ∷ [])) 1 }
-{
-    "DELETE FROM sysmod_cond WHERE id = ?1"
-}
-
 /// The hold with the SYSMOD ?1, the kind ?2 and the reason ?3 goes.
 pub fn delete_hold() -> &'static str
     ensures { Means bureau result.now (delete_of 5 11 (is_given 1 0 ∷ is_given 2 1 ∷ is_given 3 2 ∷ [])) 3 }
 {
     "DELETE FROM hold_row WHERE sysmod = ?1 AND kind = ?2 AND reason = ?3"
-}
-
-/// The zone ?2 of the client ?1 goes, without its rows.
-pub fn delete_zone_head() -> &'static str
-    ensures { Means bureau result.now (delete_of 6 13 (is_given 1 0 ∷ is_given 2 1 ∷ [])) 2 }
-{
-    "DELETE FROM zone_head WHERE client = ?1 AND zone = ?2"
-}
-
-/// The rows of the zone ?2 of the client ?1 go.
-pub fn delete_zone_rows() -> &'static str
-    ensures { Means bureau result.now (delete_of 7 15 (is_given 1 0 ∷ is_given 2 1 ∷ [])) 2 }
-{
-    "DELETE FROM zone_row WHERE client = ?1 AND zone = ?2"
-}
-
-/// What the client ?1 has received goes.
-pub fn delete_received() -> &'static str
-    ensures { Means bureau result.now (delete_of 8 17 (is_given 1 0 ∷ [])) 1 }
-{
-    "DELETE FROM received_list WHERE client = ?1"
 }
 
 /// What a probe runs where no transaction is open: an open connection refuses it, and nothing

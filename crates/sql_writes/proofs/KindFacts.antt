@@ -24,13 +24,13 @@ use Rattle.sql_texts.specs.Reads.{is_given}
 use Rattle.sql_texts.specs.Schema as schema
 use Rattle.sql_tables.proofs.TreeFacts.{column_after}
 use Rattle.sql_tables.specs.Changes.{is_kind, is_under}
-use Rattle.sql_tables.specs.Values.{hold_kind_at, hold_kind_value, id_value}
+use Rattle.sql_tables.specs.Values.{hold_kind_in, hold_kind_value, id_value}
 use Rattle.sql_state.proofs.TextFacts.{text_given}
 
 -- ---- which kind a number is
 
 abbrev IsSo : Kind → ℕ → Type 0
-IsSo kind m = (m == kind_place kind) ≡ unwrap_or (option_map (λ found. is_same_kind found kind) (hold_kind_at m)) false
+IsSo kind m = (m == kind_place kind) ≡ unwrap_or (option_map (λ found. is_same_kind found kind) (hold_kind_in (Int (pos m)))) false
 
 at_0 : (kind : Kind) → IsSo kind 0
 at_0 = elim [ ErrorHold ↦ refl | SystemHold ↦ refl | UserHold ↦ refl | FixcatHold ↦ refl ]
