@@ -4,11 +4,11 @@ use Rattle.std.specs.Prelude.{◌↔◌}
 use Rattle.std.specs.List.{Contains}
 use Rattle.std.proofs.lemmas.Bool.{cases_eq}
 use Rattle.std.proofs.lemmas.List.{append-nil, get_or-set_other, get_or-set_same, length-set, take_all, take_more}
-use Rattle.std.proofs.lemmas.List.Elements.{Contains-append_cases, Contains-append_left, Contains-append_right, Contains-push, Contains-push_cases}
+use Rattle.std.proofs.lemmas.List.Elements.{Contains-append_cases, Contains-append_left, Contains-push}
 use Rattle.requisites.specs.Leads.{Leads}
 use Rattle.requisites.specs.Nodes.{Links, row}
 use Rattle.requisites.proofs.LeadsFacts.{leads_closed, leads_itself, leads_more}
-use Rattle.requisites.proofs.OrderFacts.{order_front, order_grows, order_keeps}
+use Rattle.requisites.proofs.OrderFacts.{Takes, drawn_both, takes}
 use Rattle.chains.specs.Climbs.{AreTaken, IsWalking}
 use Rattle.chains.proofs.SearchFacts.{first_inside, inside_cases, none_inside}
 
@@ -75,10 +75,7 @@ taken_more turn listed i place a b c x y z below at first second =
     subst T (sym front) (record {
       more = first.more ++ second.more;
       goes_on = second.goes_on ∙ ap (λ l. l ++ second.more) first.goes_on ∙ append_assoc x first.more second.more;
-      drawn = λ q inside. elim (Contains-append_cases first.more second.more q inside) [
-        | inl before ↦ Contains-append_left (take i listed) (place ∷ []) q (first.drawn q before)
-        | inr now ↦ Contains-append_right (take i listed) (place ∷ []) q (second.drawn q now)
-      ];
+      drawn = drawn_both first.more second.more (take i listed) (place ∷ []) first.drawn second.drawn;
       placed = λ q inside. elim (Contains-append_cases first.more second.more q inside) [
         | inl before ↦ first.placed q before
         | inr now ↦ (let within = second.placed q now in omega (arith, within, first.len))
@@ -118,39 +115,31 @@ module _ (rows : List (List ℕ)) (n start turn : ℕ) where
   pub walk_goes_on : (seen seen' order order' own : List ℕ) (at next : ℕ) → at < length order → next ≡ get_or order at next → own ≡ row rows next → AreTaken turn own seen seen' order order'
       → IsWalking rows n start turn seen order at → IsWalking rows n start turn seen' order' (at + 1)
   walk_goes_on seen seen' order order' own at next below is own_is taken was = record {
-    begun = kept start was.begun;
-    marked = marked;
-    closed = λ p q inside link. (
-        let P : List ℕ → Type 0 = λ l. Contains l p in
-        elim (Contains-push_cases (take at order) next p (subst P (order_front order order' taken.more taken.goes_on at next below is) inside)) [
-          | inl before ↦ kept q (was.closed p q before link)
-          | inr same ↦
-              let R : ℕ → Type 0 = λ k. Contains (row rows k) q in
-              let L : List ℕ → Type 0 = λ l. Contains l q in
-              let listed : Contains own q = subst L (sym own_is) (subst R (sym same) link.listed) in
-              let place = link.place in
-              marked q (taken.whole q listed (omega (arith, place, was.len)))
-        ]);
+    begun = on.kept start was.begun;
+    marked = taken.marked was.marked;
+    closed = λ p q inside link. elim (on.taken p inside) [
+      | inl before ↦ on.kept q (was.closed p q before link)
+      | inr same ↦
+          let R : ℕ → Type 0 = λ k. Contains (row rows k) q in
+          let L : List ℕ → Type 0 = λ l. Contains l q in
+          let listed : Contains own q = subst L (sym own_is) (subst R (sym same) link.listed) in
+          let place = link.place in
+          taken.marked was.marked q (taken.whole q listed (omega (arith, place, was.len)))
+    ];
     reached = λ q inside. (
         let L : List ℕ → Type 0 = λ l. Contains l q in
         elim (Contains-append_cases order taken.more q (subst L taken.goes_on inside)) [
           | inl before ↦ was.reached q before
           | inr now ↦
               let place = taken.placed q now in
-              leads_more (was.reached next here) (record { listed = subst L own_is (taken.drawn q now); place = omega (arith, place, was.len) })
+              leads_more (was.reached next on.here) (record { listed = subst L own_is (taken.drawn q now); place = omega (arith, place, was.len) })
         ]);
     bound = taken.bound was.bound;
-    within = (let longer = order_grows order order' taken.more taken.goes_on in omega (arith, below, longer));
+    within = on.within;
     len = taken.len ∙ was.len;
   } where
-    marked : (q : ℕ) → get_or seen' q 0 ≡ turn → Contains order' q
-    marked = taken.marked was.marked
-
-    kept : (q : ℕ) → Contains order q → Contains order' q
-    kept = order_keeps order order' taken.more taken.goes_on
-
-    here : Contains order next
-    here = (at, below, sym is)
+    on : Takes order order' at next
+    on = takes order order' taken.more taken.goes_on at next below is
 
   pub walk_ends : (seen order : List ℕ) (at : ℕ) → length order ≤ at → IsWalking rows n start turn seen order at → (q : ℕ) → Contains order q ↔ Leads (Links rows n) start q
   walk_ends seen order at whole was q = (

@@ -1,8 +1,8 @@
 //! What supersedes some SYSMODs, directly or through others, read once.
-ghost use Rattle.std.specs.Prelude.{◌≡◌, ◌++◌, ◌<◌, ℕ, List, Contains, IfOk, OnOk, length, map};
-ghost use Rattle.std.specs.BTreeMap.{insert_entry, keys, values};
+ghost use Rattle.std.specs.Prelude.{◌≡◌, ◌<◌, ℕ, List, Contains, IfOk, length, map};
+ghost use Rattle.std.specs.BTreeMap.{keys, values};
 ghost use Rattle.catalogue.specs.Content.{superseders};
-ghost use Rattle.catalogue.specs.Ids.{Ascend, id_cmp};
+ghost use Rattle.catalogue.specs.Ids.{Ascend};
 ghost use Rattle.catalogue.specs.View.{IsOpen, MayAsk, Tells};
 ghost use Rattle.catalogue.specs.declared.fault.SourceFault.TheVariants.{Device};
 ghost use Rattle.requisites.specs.Nodes.{AreReversed};
@@ -68,26 +68,13 @@ fn superseders_of<P: Published>(
     let mut at = 0;
     while at < order.len() {
         let id = order[at];
-        let above = source.superseders(&id)?;
-        add(&mut found, &mut order, id, ascending(above))?;
+        let read = source.superseders(&id)?;
+        let above = ascending(read);
+        order.extend_from_slice(above.as_slice())?;
+        found.insert(id, above)?;
         at = next_unread(&found, &order, at + 1);
     }
     Ok(found)
-}
-
-// Puts what supersedes an id among what was found, and at the end of the order.
-fn add(
-    found: &mut BTreeMap<Id, Ids>,
-    order: &mut Vec<Id>,
-    id: Id,
-    above: Ids,
-) -> Result<(), NoMemory>
-    ensures found { OnOk result (found.new.entries ≡ insert_entry id_cmp found.old.entries id above) }
-    ensures order { OnOk result (order.new.items ≡ order.old.items ++ above) }
-{
-    order.extend_from_slice(above.as_slice())?;
-    found.insert(id, above)?;
-    Ok(())
 }
 
 fn by_places(alloc: Global, found: BTreeMap<Id, Ids>) -> Result<Climb, NoMemory>

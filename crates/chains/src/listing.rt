@@ -127,26 +127,11 @@ pub fn listing_of<P: Published>(alloc: Global, source: &mut P) -> Result<Listing
         (λ content. IsListing content listing)) }
 {
     let ids = source.ids()?;
-    let entries = entries_of(alloc, source, &ids)?;
-    Ok(Listing { ids, entries })
-}
-
-// What the source says of each of the SYSMODs, in their order.
-fn entries_of<P: Published>(
-    alloc: Global,
-    source: &mut P,
-    ids: &[Id],
-) -> Result<Vec<Entry>, SourceFault>
-    ensures asks { MayAsk P.content_view Device source.old source.new result }
-    ensures entries { IfOk result (λ entries. Tells P.content_view source.old source.new
-        (λ content. entries.items ≡ map (sight_of content) ids.now)) }
-    ensures len { IfOk result (λ entries. length entries.items ≡ length ids.now) }
-{
     let mut entries = Vec::with_capacity(alloc, ids.len())?;
-    for id in ids {
+    for id in &ids {
         entries.push(entry_of(alloc, source, id)?)?;
     }
-    Ok(entries)
+    Ok(Listing { ids, entries })
 }
 
 fn entry_of<P: Published>(alloc: Global, source: &mut P, id: &Id) -> Result<Entry, SourceFault>

@@ -5,14 +5,14 @@ use Rattle.std.specs.List.Sorted.{IsStrictlyIncreasing}
 use Rattle.std.proofs.lemmas.Bool.{cases_eq, cases_lt}
 use Rattle.std.proofs.lemmas.Grind.{common_steps}
 use Rattle.std.proofs.lemmas.List.{append-nil, append_assoc, get_or-replicate, get_or-set_other, get_or-set_same, get_or_append_left, get_or_past, get_or_push, length-append, length-set, take_all, take_more}
-use Rattle.std.proofs.lemmas.List.Elements.{Contains-append_cases, Contains-append_left, Contains-append_right, Contains-get_or, Contains-push, Contains-push_cases}
+use Rattle.std.proofs.lemmas.List.Elements.{Contains-append_cases, Contains-append_left, Contains-get_or, Contains-push, Contains-push_cases}
 use Rattle.requisites.specs.Marking.{AreChosenMarks, AreMarked, IsPicking}
 use Rattle.requisites.specs.Nodes.{IsMarked, mark_of, world}
 use Rattle.requisites.specs.Picks.{ArePicksFor}
 use Rattle.requisites.specs.World.{IsChosen, IsChosenPlan, IsGood, PicksFor}
 use Rattle.requisites.specs.declared.nodes.Nodes.{Nodes}
 use Rattle.requisites.proofs.LeadsFacts.{leads_closed, leads_itself, leads_more}
-use Rattle.requisites.proofs.OrderFacts.{order_front, order_grows, order_keeps}
+use Rattle.requisites.proofs.OrderFacts.{Takes, drawn_both, takes}
 use Rattle.requisites.proofs.VerdictFacts.{good_inside, good_of_pick}
 
 none_inside : (x : ℕ) → Contains [] x → ⊥
@@ -98,10 +98,7 @@ marked_more listed i place a b c x y z below at first second =
     subst T (sym front) (record {
       more = first.more ++ second.more;
       goes_on = second.goes_on ∙ ap (λ l. l ++ second.more) first.goes_on ∙ append_assoc x first.more second.more;
-      drawn = λ q inside. elim (Contains-append_cases first.more second.more q inside) [
-        | inl before ↦ Contains-append_left (take i listed) (place ∷ []) q (first.drawn q before)
-        | inr now ↦ Contains-append_right (take i listed) (place ∷ []) q (second.drawn q now)
-      ];
+      drawn = drawn_both first.more second.more (take i listed) (place ∷ []) first.drawn second.drawn;
       put = λ were. second.put (first.put were);
       marked = λ were. second.marked (first.marked were);
       whole = λ q inside within. elim (Contains-append_cases (take i listed) (place ∷ []) q inside) [
@@ -144,35 +141,30 @@ module _ (nodes : Nodes) (x : ℕ) where
   pub picking_goes_on : (marks marks' : List Bool) (order order' own : List ℕ) (at next : ℕ) → at < length order → next ≡ get_or order at next
       → ArePicksFor nodes next own → AreMarked own marks marks' order order' → IsPicking nodes x marks order at → IsPicking nodes x marks' order' (at + 1)
   picking_goes_on marks marks' order order' own at next below is picks now was = record {
-    begun = kept x was.begun;
+    begun = on.kept x was.begun;
     put = put;
     marked = now.marked was.marked;
-    followed = λ p z inside picks_for. (
-        let P : List ℕ → Type 0 = λ l. Contains l p in
-        elim (Contains-push_cases (take at order) next p (subst P (order_front order order' now.more now.goes_on at next below is) inside)) [
-          | inl before ↦ kept z (was.followed p z before picks_for)
-          | inr same ↦
-              let R : ℕ → Type 0 = λ k. PicksFor (world nodes) k z in
-              let place = good_inside nodes z (good_of_pick nodes picks_for.need z picks_for.pick) in
-              put z (now.whole z (picks.whole z (subst R (sym same) picks_for)) (omega (arith, place, was.len)))
-        ]);
+    followed = λ p z inside picks_for. elim (on.taken p inside) [
+      | inl before ↦ on.kept z (was.followed p z before picks_for)
+      | inr same ↦
+          let R : ℕ → Type 0 = λ k. PicksFor (world nodes) k z in
+          let place = good_inside nodes z (good_of_pick nodes picks_for.need z picks_for.pick) in
+          put z (now.whole z (picks.whole z (subst R (sym same) picks_for)) (omega (arith, place, was.len)))
+    ];
     chosen = λ q inside. (
         let L : List ℕ → Type 0 = λ l. Contains l q in
         elim (Contains-append_cases order now.more q (subst L now.goes_on inside)) [
           | inl before ↦ was.chosen q before
-          | inr later ↦ leads_more (was.chosen next here) (picks.picked q (now.drawn q later))
+          | inr later ↦ leads_more (was.chosen next on.here) (picks.picked q (now.drawn q later))
         ]);
-    within = (let longer = order_grows order order' now.more now.goes_on in omega (arith, below, longer));
+    within = on.within;
     len = now.len ∙ was.len;
   } where
     put : (q : ℕ) → IsMarked marks' q → Contains order' q
     put = now.put was.put
 
-    kept : (q : ℕ) → Contains order q → Contains order' q
-    kept = order_keeps order order' now.more now.goes_on
-
-    here : Contains order next
-    here = (at, below, sym is)
+    on : Takes order order' at next
+    on = takes order order' now.more now.goes_on at next below is
 
   pub picking_ends : (marks : List Bool) (order : List ℕ) (at : ℕ) → length order ≤ at → IsPicking nodes x marks order at → AreChosenMarks nodes x marks
   picking_ends marks order at whole was = record {

@@ -1,4 +1,4 @@
-use Rattle.std.proofs.Common.{◌≡◌, ◌∙◌, ◌+◌, ◌<◌, ℕ, List, length, get_or, subst, rules}
+use Rattle.std.proofs.Common.{◌≡◌, ◌∙◌, ◌++◌, ◌+◌, ◌<◌, ℕ, List, length, get_or, ap, subst, rules}
 use Rattle.std.specs.BTreeMap.{keys, values}
 use Rattle.catalogue.specs.Content.{superseders}
 use Rattle.catalogue.proofs.SourceFacts.{no_fault}
@@ -16,18 +16,19 @@ loop-at-preserved g c =
     let below : c.loop-at.at < length order = search rules in
     let is : id ≡ get_or order c.loop-at.at id = search rules in
     let old = c.loop-at.found.entries in
-    let new = c.add.new.found.entries in
-    let v = c.ascending.result in
-    let order' = c.add.new.order.items in
-    let N : List (List ℕ) → Type 0 = λ l. AreRead (keys c.add.new.found) l (c.loop-at.at + 1) → AreRead (keys c.add.new.found) l c.next_unread-at.result in
-    let open_now = c.in_ok-above.ensures.asks.is_open (no_fault _) in
+    let new = c.insert.new.self.entries in
+    let v = c.ascending-above.result in
+    let order' = c.extend_from_slice.new.self.items in
+    let grows = c.in_ok-extend_from_slice.ensures.items ∙ ap (λ more. order ++ more) c.as_slice.ensures.value in
+    let N : List (List ℕ) → Type 0 = λ l. AreRead (keys c.insert.new.self) l (c.loop-at.at + 1) → AreRead (keys c.insert.new.self) l c.next_unread-at.result in
+    let open_now = c.in_ok-read.ensures.asks.is_open (no_fault _) in
     record {
-      has_told = tells_on g.met.P.Published.lawful was.has_told c.in_ok-above.ensures.asks.keeps (λ standing. open_now) c.in_ok-above.ensures.superseders (λ content so_far told.
-          above_now old new id v c.in_ok-add.ensures.found (superseders content) (c.ascending.ensures ∙ told) so_far);
+      has_told = tells_on g.met.P.Published.lawful was.has_told c.in_ok-read.ensures.asks.keeps (λ standing. open_now) c.in_ok-read.ensures.superseders (λ content so_far told.
+          above_now old new id v c.in_ok-insert.ensures.entries (superseders content) (c.ascending-above.ensures ∙ told) so_far);
       standing = λ y inside. open_now;
-      begun = starts_stay c.args.starts.now order order' v c.in_ok-add.ensures.order was.begun;
-      asked = subst N c.deref.ensures.value c.next_unread-at.ensures.read (asked_now old new id v c.in_ok-add.ensures.found order order' c.loop-at.at below is c.in_ok-add.ensures.order was.asked);
-      listed = listed_now old new id v c.in_ok-add.ensures.found order order' c.in_ok-add.ensures.order was.listed;
+      begun = starts_stay c.args.starts.now order order' v grows was.begun;
+      asked = subst N c.deref.ensures.value c.next_unread-at.ensures.read (asked_now old new id v c.in_ok-insert.ensures.entries order order' c.loop-at.at below is grows was.asked);
+      listed = listed_now old new id v c.in_ok-insert.ensures.entries order order' grows was.listed;
     }
 
 pub returns-clause-listed : goal.returns-clause-listed
