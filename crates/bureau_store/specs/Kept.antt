@@ -1,6 +1,6 @@
 -- No part of what is promised: private contracts cite it. How a client's tables are kept.
 use Rattle.std.specs.Prelude.{◌≡◌, ℕ, List}
-use Rattle.std.specs.BTreeMap.{is_at}
+use Rattle.std.specs.BTreeMap.{insert_entry, is_at}
 use Rattle.std.specs.Cmp.Lexicographic.{slice_cmp}
 use Rattle.std.specs.Map.{lookup}
 use Rattle.std.specs.Ordering.{nat_cmp}
@@ -8,7 +8,8 @@ use Rattle.zone_lists.specs.ZoneList.{RowsAscend}
 use Rattle.zone_lists.specs.declared.zones.ZoneRow.{ZoneRow}
 use Rattle.catalogue.specs.Ids.{Ascend}
 use Rattle.bureau_store.specs.Effect.{Effect, zone_put, zone_dropped, received_put, patterns_put}
-use Rattle.bureau_store.specs.Tables.{PatternsAscend, Zones, patterns_of, rows_of, zone_named}
+use Rattle.bureau_store.specs.Lists.{ClientTable}
+use Rattle.bureau_store.specs.Tables.{LastChange, PatternsAscend, ZoneTable, Zones, name_order, patterns_of, rows_of, zone_named}
 use Rattle.bureau_store.specs.Caller.{caller_with}
 use Rattle.bureau_store.specs.declared.caller.Caller.{Caller}
 use Rattle.bureau_store.specs.declared.caller.CallerRow.{CallerRow}
@@ -35,6 +36,10 @@ rows_at zone zones = rows_of (zone_named zone zones)
 
 abbrev pub patterns_at : List ℕ → Zones → List (List ℕ)
 patterns_at zone zones = patterns_of (zone_named zone zones)
+
+-- what is kept for a client after a change that puts all that a zone has
+abbrev pub with_zone : List ℕ → ZoneTable → LastChange → ClientTable → ClientTable
+with_zone name zone last client = record client { last = last; zones = insert_entry name_order client.zones name zone }
 
 -- a map finds under each token the first of these rows that has it
 abbrev pub KnowsTokens : {Text : Type 0} → (Text → List ℕ) → List (Text × Caller) → List CallerRow → Type 0

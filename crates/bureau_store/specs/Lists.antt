@@ -1,5 +1,5 @@
 -- What a store in lists keeps. Its tables, which contracts speak of, are `tables_of`.
-use Rattle.std.specs.Prelude.{◌≡◌, ℕ, List, [], unwrap_or, refl}
+use Rattle.std.specs.Prelude.{◌≡◌, ℕ, List, [], Result, IfErr, unwrap_or, refl}
 use Rattle.std.proofs.Common.{◌∙◌, arith, ap, subst, sym}
 use Rattle.std.specs.Map.{lookup}
 use Rattle.std.specs.Str.{bytes_eq}
@@ -58,6 +58,12 @@ client_after effect last client = record {
 
 pub record IsOurs (lists : Lists) : Type 0 where
   pub in_order : AreInOrder (tables_of lists)
+
+-- What a read of lists keeps to: they stay as they are, and are in order; and it is refused for want of memory alone.
+pub record ReadsLists {Answer Fault : Type 0} (Memory : Fault) (old new : Lists) (answer : Result Answer Fault) : Type 0 where
+  pub same : new ≡ old
+  pub ours : IsOurs old
+  pub memory : IfErr answer (λ fault. fault ≡ Memory)
 
 abbrev pub lists_view : View Lists Tables
 lists_view = record {

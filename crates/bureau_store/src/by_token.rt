@@ -17,7 +17,10 @@ pub(crate) fn copy_rows(alloc: Global, rows: &[CallerRow]) -> Result<Vec<CallerR
 {
     let mut copy = Vec::with_capacity(alloc, rows.len())?;
     for row in rows {
-        copy.push(row.copy()?)?;
+        copy.push(CallerRow {
+            name: row.name,
+            token: row.token.copy()?,
+        })?;
     }
     Ok(copy)
 }

@@ -67,15 +67,3 @@ pub struct CallerRow {
     /// The token. No two rows of a callers file have the same one.
     pub token: Token,
 }
-
-impl CallerRow {
-    /// The same row once more.
-    pub fn copy(&self) -> Result<CallerRow, NoMemory>
-        ensures { IfOk result (λ copy. copy ≡ self.now) }
-    {
-        Ok(CallerRow {
-            name: self.name,
-            token: self.token.copy()?,
-        })
-    }
-}

@@ -4,7 +4,7 @@ ghost use Rattle.std.specs.Map.{keys_of};
 ghost use Rattle.zone_lists.specs.ZoneList.{RowsAscend};
 ghost use Rattle.catalogue.specs.Ids.{Ascend};
 ghost use Rattle.bureau_store.specs.Effect.{zone_put, zone_dropped, received_put, patterns_put};
-ghost use Rattle.bureau_store.specs.Kept.{IsFit, effect_of, rows_at, patterns_at};
+ghost use Rattle.bureau_store.specs.Kept.{IsFit, effect_of, rows_at, patterns_at, with_zone};
 ghost use Rattle.bureau_store.specs.Lists.{client_after, nothing_sent};
 ghost use Rattle.bureau_store.specs.Tables.{NamesAscend, PatternsAscend, zone_named};
 
@@ -208,9 +208,7 @@ impl Client {
         ensures ascend { NamesAscend (keys_of self.new.zones) }
     {
         let patterns = patterns_kept(self.alloc, &self.zones, &zone)?;
-        self.zones.insert(zone, Zone::new(rows, patterns))?;
-        self.last = last;
-        Ok(())
+        self.put_table(zone, Zone::new(rows, patterns), last)
     }
 
     fn drop_zone(&mut self, zone: &Id, last: Last)
@@ -238,7 +236,16 @@ impl Client {
         ensures ascend { NamesAscend (keys_of self.new.zones) }
     {
         let rows = rows_kept(self.alloc, &self.zones, &zone)?;
-        self.zones.insert(zone, Zone::new(rows, patterns))?;
+        self.put_table(zone, Zone::new(rows, patterns), last)
+    }
+
+    // Puts all that a zone has.
+    fn put_table(&mut self, name: Id, zone: Zone, last: Last) -> Result<(), NoMemory>
+        ensures done { OnOk result (self.new ≡ with_zone name zone last self.old) }
+        ensures err { OnErr result (self.new ≡ self.old) }
+        ensures ascend { NamesAscend (keys_of self.new.zones) }
+    {
+        self.zones.insert(name, zone)?;
         self.last = last;
         Ok(())
     }

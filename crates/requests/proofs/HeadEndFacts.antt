@@ -3,8 +3,9 @@ use Rattle.std.proofs.Common.{◌≡◌, ◌⊎◌, ℕ, ◌+◌, ◌==◌, ◌&
 use Rattle.std.proofs.lemmas.Bool.Decides.{nat_tests}
 use Rattle.std.specs.Option.{option_map}
 use Rattle.std.specs.Result.{result_ok}
-use Rattle.requests.specs.HeadEnd.{begins_with_feed, line_end_len, empty_lines_len, head_len, whole_len, line_feed, carriage_return}
+use Rattle.requests.specs.HeadEnd.{line_end_len, empty_lines_len, head_len, whole_len, line_feed, carriage_return}
 use Rattle.requests.specs.Search.{search, after, go_on, counted, ends_clean}
+use Rattle.requests.specs.Text.{begins_with}
 use Rattle.requests.specs.declared.head_end.Place.{Place}
 use Rattle.requests.specs.declared.head_end.Place.TheVariants.{EmptyLines, EmptyLinesReturn, Line, Feed, FeedReturn}
 
@@ -19,15 +20,15 @@ one_more o = option_map (λ n. 1 + n) o
 
 abbrev found : Place → List ℕ → Option ℕ
 found EmptyLines bytes = whole_len bytes
-found EmptyLinesReturn bytes = if begins_with_feed bytes then whole_len bytes else head_len bytes
+found EmptyLinesReturn bytes = if begins_with line_feed bytes then whole_len bytes else head_len bytes
 found Line bytes = head_len bytes
 found Feed bytes = if nat_lt 0 (line_end_len bytes) then Some (line_end_len bytes) else head_len bytes
-found FeedReturn bytes = if begins_with_feed bytes then Some 1 else head_len bytes
+found FeedReturn bytes = if begins_with line_feed bytes then Some 1 else head_len bytes
 
 -- whether only empty lines are there after a place
 abbrev clean : Place → List ℕ → Bool
 clean EmptyLines bytes = empty_lines_len bytes == length bytes
-clean EmptyLinesReturn bytes = begins_with_feed bytes && (empty_lines_len bytes == length bytes)
+clean EmptyLinesReturn bytes = begins_with line_feed bytes && (empty_lines_len bytes == length bytes)
 clean Line bytes = false
 clean Feed bytes = false
 clean FeedReturn bytes = false
@@ -115,7 +116,7 @@ step_empty b rest e = elim (test (b == line_feed)) [
   | inr h ↦ elim (test (b == carriage_return)) [
     | inl k ↦
         let (finds, cleans) = further EmptyLinesReturn rest e in
-        rw (h, k) (finds ∙ return_choice (begins_with_feed rest) b rest h, cleans ∙ return_clean (begins_with_feed rest) (empty_lines_len rest) (length rest))
+        rw (h, k) (finds ∙ return_choice (begins_with line_feed rest) b rest h, cleans ∙ return_clean (begins_with line_feed rest) (empty_lines_len rest) (length rest))
     | inr k ↦
         let (finds, cleans) = further Line rest e in
         rw (h, k) (finds ∙ sym (after_none b rest h), cleans ∙ none_of_more (length rest))
@@ -144,7 +145,7 @@ step_feed b rest e = elim (test (b == line_feed)) [
   | inr h ↦ elim (test (b == carriage_return)) [
     | inl k ↦
         let (finds, cleans) = further FeedReturn rest e in
-        rw (h, k) (finds ∙ feed_choice (begins_with_feed rest) rest, cleans)
+        rw (h, k) (finds ∙ feed_choice (begins_with line_feed rest) rest, cleans)
     | inr k ↦ rw (h, k) (further Line rest e)
   ]
 ]

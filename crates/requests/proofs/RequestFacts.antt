@@ -10,8 +10,8 @@ use Rattle.std.specs.List.{list_all}
 use Rattle.std.specs.Str.{IsAscii}
 use Rattle.std.specs.Str.Parse.{AllDigits, digits_value}
 use Rattle.requests.specs.Headers.{Pair, has, is_named, sole, values}
-use Rattle.requests.specs.Text.{is_number}
-use Rattle.requests.specs.Request.{begins_with_slash, change_number, is_path, length_by, length_told, length_untold, longest_body, path_of}
+use Rattle.requests.specs.Text.{begins_with, is_number}
+use Rattle.requests.specs.Request.{change_number, is_path, length_by, length_told, length_untold, longest_body, path_of, slash}
 use Rattle.requests.specs.declared.refusal.Refusal.TheVariants.{BadRequest, TooLarge}
 
 both : (x y : Bool) → (x && y) ≡ true → (x ≡ true) × (y ≡ true)
@@ -128,7 +128,7 @@ all_ascii (b ∷ text) h =
 
 pub path_ascii : (target path : List ℕ) → is_path target ≡ true → path ≡ path_of target → IsAscii path
 path_ascii target path h is =
-    let parts = both (begins_with_slash target) (list_all (λ b. nat_lt b 128) target) h in
+    let parts = both (begins_with slash target) (list_all (λ b. nat_lt b 128) target) h in
     rw is (IsAscii-take target _ (all_ascii target parts.1))
 
 pub number_read : (text : List ℕ) (n : ℕ) → is_number text ≡ true → length text ≤ 19 → n ≡ digits_value 10 text → Some n ≡ change_number text

@@ -1,5 +1,6 @@
 -- Where the head of a request ends in the bytes of a connection (RFC 9112, sections 2.1 and 2.2).
-use Rattle.std.specs.Prelude.{ℕ, ◌≤◌, ◌+◌, ◌-◌, ◌==◌, ◌&&◌, ◌||◌, Bool, false, List, [], ◌∷◌, length, filter, take, drop, nat_lt, nat_le, Option, Some, None, option_map, if◌then◌else◌}
+use Rattle.std.specs.Prelude.{ℕ, ◌≤◌, ◌+◌, ◌-◌, ◌==◌, ◌&&◌, ◌||◌, Bool, List, [], ◌∷◌, length, filter, take, drop, nat_lt, nat_le, Option, Some, None, option_map, if◌then◌else◌}
+use Rattle.requests.specs.Text.{begins_with}
 use Rattle.requests.specs.declared.front.Front.{Front}
 use Rattle.requests.specs.declared.front.Front.TheVariants.{Head, CleanEnd, EndInside, TooLarge}
 
@@ -10,20 +11,15 @@ line_feed = 10
 abbrev pub carriage_return : ℕ
 carriage_return = 13
 
--- the bytes begin with LF
-abbrev pub begins_with_feed : List ℕ → Bool
-begins_with_feed [] = false
-begins_with_feed (b ∷ bytes) = b == line_feed
-
 -- how many bytes the line end has that the bytes begin with: LF or CRLF, and 0 where there is none
 abbrev pub line_end_len : List ℕ → ℕ
 line_end_len [] = 0
 line_end_len (b ∷ bytes) =
-    if b == line_feed then 1 else if b == carriage_return && begins_with_feed bytes then 2 else 0
+    if b == line_feed then 1 else if b == carriage_return && begins_with line_feed bytes then 2 else 0
 
 -- a byte is one of an empty line, with these bytes after it: LF, or CR before LF
 abbrev pub is_in_empty_line : ℕ → List ℕ → Bool
-is_in_empty_line b after = b == line_feed || (b == carriage_return && begins_with_feed after)
+is_in_empty_line b after = b == line_feed || (b == carriage_return && begins_with line_feed after)
 
 -- how many bytes the empty lines take that the bytes begin with
 abbrev pub empty_lines_len : List ℕ → ℕ

@@ -1,5 +1,5 @@
 -- What a request asks for: what of it its bytes alone decide (RFC 9112, sections 3, 6 and 9).
-use Rattle.std.specs.Prelude.{ℕ, ◌==◌, ◌&&◌, ◌||◌, not, Bool, false, List, [], ◌∷◌, length, map, codes, nat_le, nat_lt, Option, Some, None, Result, Ok, Err, option_map, if◌then◌else◌}
+use Rattle.std.specs.Prelude.{ℕ, ◌==◌, ◌&&◌, ◌||◌, not, Bool, List, [], ◌∷◌, length, map, codes, nat_le, nat_lt, Option, Some, None, Result, Ok, Err, option_map, if◌then◌else◌}
 use Rattle.std.specs.List.{list_all, list_any}
 use Rattle.std.specs.Option.{option_zip}
 use Rattle.std.specs.Str.{bytes_eq}
@@ -10,7 +10,7 @@ use Rattle.mcs_reader.specs.Id.{id_of}
 use Rattle.percent_encoding.specs.Percent.{percent_decode}
 use Rattle.requests.specs.Headers.{Pair, asks_to_close, has, sole, values}
 use Rattle.requests.specs.Routes.{resource_at, operation_of}
-use Rattle.requests.specs.Text.{before, after, is_number}
+use Rattle.requests.specs.Text.{before, after, begins_with, is_number}
 use Rattle.requests.specs.declared.action.Action.{Action}
 use Rattle.requests.specs.declared.refusal.Refusal.{Refusal}
 use Rattle.requests.specs.declared.refusal.Refusal.TheVariants.{BadRequest, NotFound, MethodNotAllowed, LengthRequired, TooLarge}
@@ -41,13 +41,9 @@ slash = 47
 abbrev pub question_mark : ℕ
 question_mark = 63
 
-abbrev pub begins_with_slash : List ℕ → Bool
-begins_with_slash [] = false
-begins_with_slash (b ∷ rest) = b == slash
-
 -- a target in the form of a path, in ASCII
 abbrev pub is_path : List ℕ → Bool
-is_path target = begins_with_slash target && list_all (λ b. nat_lt b 128) target
+is_path target = begins_with slash target && list_all (λ b. nat_lt b 128) target
 
 -- the path: what stands before the first `?`
 abbrev pub path_of : List ℕ → List ℕ

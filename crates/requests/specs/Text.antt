@@ -1,8 +1,13 @@
 -- Texts of a head: cut at a byte, trimmed, listed, and read as numbers (RFC 9110, section 5.6).
-use Rattle.std.specs.Prelude.{ℕ, ◌+◌, ◌-◌, ◌==◌, ◌&&◌, ◌||◌, not, Bool, List, [], ◌∷◌, length, take, drop, nat_lt, if◌then◌else◌}
+use Rattle.std.specs.Prelude.{ℕ, ◌+◌, ◌-◌, ◌==◌, ◌&&◌, ◌||◌, not, Bool, false, List, [], ◌∷◌, length, take, drop, nat_lt, if◌then◌else◌}
 use Rattle.std.specs.Char.{is_ascii_digit}
 use Rattle.std.specs.List.{list_all, list_any, prefix_len, suffix_len}
 use Rattle.std.specs.Str.{str_eq_ignore_ascii_case}
+
+-- the bytes begin with this one
+abbrev pub begins_with : ℕ → List ℕ → Bool
+begins_with byte [] = false
+begins_with byte (b ∷ bytes) = b == byte
 
 -- how many bytes stand before the first of this kind
 abbrev pub before_len : ℕ → List ℕ → ℕ

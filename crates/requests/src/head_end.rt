@@ -3,6 +3,8 @@ ghost use Rattle.std.specs.Prelude.{◌≡◌, ◌≤◌, length, IfOk};
 ghost use Rattle.requests.specs.HeadEnd as HeadEnd;
 ghost use Rattle.requests.specs.Search.{search, after};
 
+use crate::text::begins_with;
+
 /// What stands before the next byte of a connection, as far as the end of a head is concerned.
 #[derive(Clone, Copy, Debug, PartialEq, Eq)]
 pub(crate) enum Place {
@@ -84,14 +86,5 @@ fn empty_lines_len(bytes: &[u8]) -> usize
 fn is_in_empty_line(byte: u8, after: &[u8]) -> bool
     ensures { result ≡ HeadEnd.is_in_empty_line byte after.now }
 {
-    byte == b'\n' || (byte == b'\r' && begins_with_feed(after))
-}
-
-fn begins_with_feed(bytes: &[u8]) -> bool
-    ensures { result ≡ HeadEnd.begins_with_feed bytes.now }
-{
-    match bytes.split_first() {
-        Some((first, _)) => *first == b'\n',
-        None => false,
-    }
+    byte == b'\n' || (byte == b'\r' && begins_with(after, b'\n'))
 }

@@ -1,5 +1,5 @@
 //! What a head asks for.
-ghost use Rattle.std.specs.Prelude.{◌≡◌, ◌≤◌, true, IfErr, IfOk, nat_lt, codes, option_map, IsAscii};
+ghost use Rattle.std.specs.Prelude.{◌≡◌, ◌≤◌, true, IfErr, IfOk, nat_lt, codes, option_map};
 ghost use Rattle.std.specs.List.{list_all};
 ghost use Rattle.requests.specs.Head.{LiesIn, parts_at};
 ghost use Rattle.requests.specs.Headers.{AreWithin, pairs_at, values};
@@ -11,7 +11,7 @@ use crate::head::Head;
 use crate::headers::{asks_to_close, has, sole};
 use crate::refusal::Refusal;
 use crate::routes::Routes;
-use crate::text::{cut, is_number, number_up_to};
+use crate::text::{begins_with, cut, is_number, number_up_to};
 use httparse::spans::HeaderSpan;
 use std::str;
 
@@ -66,7 +66,10 @@ impl Head {
         ensures refused { IfErr result IsOfTarget }
     {
         let (path, _) = cut(self.target.of(bytes), b'?');
-        action_by(routes, self.method.of(bytes), ascii_str(path))
+        match str::from_utf8(path) {
+            Ok(path) => action_by(routes, self.method.of(bytes), path),
+            Err(_) => unreachable!(),
+        }
     }
 }
 
@@ -74,16 +77,7 @@ impl Head {
 fn is_path(target: &[u8]) -> bool
     ensures { result ≡ Spec.is_path target.now }
 {
-    begins_with_slash(target) && are_ascii(target)
-}
-
-fn begins_with_slash(target: &[u8]) -> bool
-    ensures { result ≡ Spec.begins_with_slash target.now }
-{
-    match target.split_first() {
-        Some((first, _)) => *first == b'/',
-        None => false,
-    }
+    begins_with(target, b'/') && are_ascii(target)
 }
 
 fn are_ascii(text: &[u8]) -> bool
@@ -157,14 +151,4 @@ fn action_by(routes: &Routes, method: &[u8], path: &str) -> Result<Action, Refus
         return Err(Refusal::MethodNotAllowed(resource));
     };
     action_at(operation, path.as_bytes()).ok_or(Refusal::NotFound)
-}
-
-fn ascii_str(bytes: &[u8]) -> &str
-    requires { IsAscii bytes.now }
-    ensures { result.now ≡ bytes.now }
-{
-    match str::from_utf8(bytes) {
-        Ok(text) => text,
-        Err(_) => unreachable!(),
-    }
 }

@@ -5,6 +5,16 @@ ghost use Rattle.std.specs.List.{list_all, prefix_len, suffix_len};
 ghost use Rattle.std.specs.Str.Parse.{digits_value};
 ghost use Rattle.requests.specs.Text as Spec;
 
+// Whether a text begins with this byte.
+pub(crate) fn begins_with(text: &[u8], byte: u8) -> bool
+    ensures { result ≡ Spec.begins_with byte text.now }
+{
+    match text.split_first() {
+        Some((first, _)) => *first == byte,
+        None => false,
+    }
+}
+
 // What stands before the first of these bytes, and what after it.
 #[tactic(auto, using(crate::proofs::TextFacts::cut_fits))]
 pub(crate) fn cut(text: &[u8], byte: u8) -> (&[u8], &[u8])

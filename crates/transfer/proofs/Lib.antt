@@ -1,2 +1,3 @@
 pub mod FrontFacts
 pub mod IntakeFacts
+mod RetryFacts

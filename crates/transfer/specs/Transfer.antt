@@ -1,7 +1,8 @@
 -- What a transfer leaves where it fails.
-use Rattle.std.specs.Prelude.{◌≡◌, ℕ, ◌≤◌, List, ◌++◌, length, take, Option}
+use Rattle.std.specs.Prelude.{◌≡◌, ℕ, ◌≤◌, List, ◌++◌, length, take, Option, Result, IfErr}
 use Rattle.std.specs.Io.KnownBytes.{Appends, Consumes}
 use Rattle.std.specs.IoError.{error_kind}
+use Rattle.std.specs.declared.io.Error.{Error}
 use Rattle.std.specs.declared.io.ErrorKind.TheVariants.{Interrupted}
 use Rattle.transfer.specs.declared.fault.TransferFault.{TransferFault}
 use Rattle.transfer.specs.declared.fault.TransferFault.TheVariants.{Read, Memory}
@@ -25,3 +26,8 @@ pub record TakesIn (old new : List ℕ) (before after : Option (List ℕ)) (n : 
   pub count : length bytes ≡ n
   pub grown : new ≡ old ++ bytes
   pub consumed : Consumes before after bytes
+
+-- Serves private contracts alone: retries are spent at most, and an interruption is told only where none is left.
+pub record SpendsRetries {T : Type 0} (result : Result T Error) (old new : ℕ) : Type 0 where
+  pub given_up : IfErr result (λ error. error_kind error ≡ Interrupted → new ≡ 0)
+  pub counted : new ≤ old

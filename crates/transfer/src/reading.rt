@@ -5,7 +5,7 @@ ghost use Rattle.std.specs.Io.KnownBytes.{Keeps, Consumes, IsAtEnd};
 ghost use Rattle.std.specs.IoError.{error_kind};
 ghost use Rattle.transfer.specs.Transfer.{IsGivenUp, ConsumesUpTo};
 
-use crate::retrying::is_made_again;
+use crate::retrying::spend_retry;
 use crate::{Intake, TransferFault};
 use std::alloc::Global;
 use std::io::{self, ErrorKind, Read};
@@ -62,11 +62,7 @@ pub fn read_some<R: Read>(reader: &mut R, buf: &mut [u8], retries: &mut u32) -> 
     loop {
         match reader.read(buf) {
             Ok(count) => return Ok(count),
-            Err(error) => {
-                if !is_made_again(&error, retries) {
-                    return Err(error);
-                }
-            }
+            Err(error) => spend_retry(error, retries)?,
         }
     }
 }

@@ -1,19 +1,22 @@
 //! Which calls are made again.
-ghost use Rattle.std.specs.Prelude.{◌≡◌, ◌↔◌, ◌+◌, ◌<◌, IsTrue};
-ghost use Rattle.std.specs.Bool.{OnFalse, OnTrue};
+ghost use Rattle.std.specs.Prelude.{◌≡◌, ◌+◌, IfErr, OnOk};
 ghost use Rattle.std.specs.IoError.{error_kind};
 
 use std::io::{self, ErrorKind};
 
-/// Whether a call that failed so is made again: it was interrupted, and a retry is left, which is spent then.
-pub fn is_made_again(error: &io::Error, retries: &mut u32) -> bool
-    ensures again { IsTrue result ↔ ((error_kind error.now ≡ ErrorKind.Interrupted) × (0 < retries.old)) }
-    ensures spent { OnTrue result (retries.new + 1 ≡ retries.old) }
-    ensures kept { OnFalse result (retries.new ≡ retries.old) }
+/// Spends a retry on a call that was interrupted, so that it is made again.
+///
+/// # Errors
+///
+/// The call's own, where it failed in another way or no retry is left. No retry is spent then.
+pub fn spend_retry(error: io::Error, retries: &mut u32) -> io::Result<()>
+    ensures spent { OnOk result (retries.new + 1 ≡ retries.old) }
+    ensures given_up { IfErr result (λ error. error_kind error ≡ ErrorKind.Interrupted → retries.new ≡ 0) }
+    ensures err { IfErr result (λ refused. (refused ≡ error) × (retries.new ≡ retries.old)) }
 {
     if error.kind() != ErrorKind::Interrupted || *retries == 0 {
-        return false;
+        return Err(error);
     }
     *retries -= 1;
-    true
+    Ok(())
 }

@@ -3,9 +3,9 @@ ghost use Rattle.std.specs.Prelude.{◌≡◌, ◌<◌, ◌≤◌, take, IfOk, I
 ghost use Rattle.std.specs.Io.{WritesAtMost};
 ghost use Rattle.std.specs.Io.KnownBytes.{Keeps, Appends};
 ghost use Rattle.std.specs.IoError.{error_kind};
-ghost use Rattle.transfer.specs.Transfer.{AppendsFront};
+ghost use Rattle.transfer.specs.Transfer.{AppendsFront, SpendsRetries};
 
-use crate::retrying::is_made_again;
+use crate::retrying::spend_retry;
 use std::io::{self, ErrorKind, Write};
 
 /// Writes the whole text, and flushes the writer.
@@ -37,17 +37,12 @@ fn write_some<W: Write>(writer: &mut W, text: &[u8], retries: &mut u32) -> io::R
     ensures bytes { IfOk result (λ n.
         Appends (W.contents writer.old) (W.contents writer.new) (take n text.now)) }
     ensures err { OnErr result (Keeps (W.contents writer.old) (W.contents writer.new)) }
-    ensures given_up { IfErr result (λ error. error_kind error ≡ ErrorKind.Interrupted → retries.new ≡ 0) }
-    ensures counted { retries.new ≤ retries.old }
+    ensures retries { SpendsRetries result retries.old retries.new }
 {
     loop {
         match writer.write(text) {
             Ok(count) => return Ok(count),
-            Err(error) => {
-                if !is_made_again(&error, retries) {
-                    return Err(error);
-                }
-            }
+            Err(error) => spend_retry(error, retries)?,
         }
     }
 }
@@ -55,17 +50,12 @@ fn write_some<W: Write>(writer: &mut W, text: &[u8], retries: &mut u32) -> io::R
 // One flush that isn't interrupted. It fails where one fails in another way, or no retry is left.
 fn flush<W: Write>(writer: &mut W, retries: &mut u32) -> io::Result<()>
     ensures bytes { Keeps (W.contents writer.old) (W.contents writer.new) }
-    ensures given_up { IfErr result (λ error. error_kind error ≡ ErrorKind.Interrupted → retries.new ≡ 0) }
-    ensures counted { retries.new ≤ retries.old }
+    ensures retries { SpendsRetries result retries.old retries.new }
 {
     loop {
         match writer.flush() {
             Ok(()) => return Ok(()),
-            Err(error) => {
-                if !is_made_again(&error, retries) {
-                    return Err(error);
-                }
-            }
+            Err(error) => spend_retry(error, retries)?,
         }
     }
 }

@@ -44,7 +44,7 @@ fn a_callers_file_names_its_callers(rt: HostRuntime) -> Result<(), Fail> {
     let rows = callers(rt.alloc(), CALLERS)?;
     assert_equal(names_of(rt.alloc(), &rows)?.as_str(), " ALPHA BETA PUBLISH")?;
     assert_equal(
-        rows.first().ok_or("a row")?.copy()?.token.as_bytes(),
+        rows.first().ok_or("a row")?.token.copy()?.as_bytes(),
         b"alpha-token".as_slice(),
     )
 }

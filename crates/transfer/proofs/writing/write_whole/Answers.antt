@@ -19,5 +19,5 @@ loop-written-preserved g c =
       front =
           subst (Appends _ _) (longer_front _ _ _) (Appends-trans _ _ _ _ _ c.loop-written.invariant.front write.bytes);
       within = omega (arith, write.bound, ap length rest, length-drop {A = ℕ});
-      counted = omega (arith, write.counted);
+      counted = omega (arith, write.retries.counted);
     }
