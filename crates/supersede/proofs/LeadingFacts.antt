@@ -6,34 +6,16 @@ use Rattle.std.specs.Str.{bytes_eq}
 use Rattle.std.proofs.Math.Bool.{or-true}
 use Rattle.std.proofs.lemmas.Bool.{cases_Bool}
 use Rattle.std.proofs.lemmas.List.{length-map}
-use Rattle.std.proofs.lemmas.List.Elements.{Contains-append_cases, Contains-append_left, Contains-append_right, Contains-push, Contains-push_cases}
 use Rattle.std.proofs.lemmas.Slice.Eq.{bytes_eq-Decides}
 use Rattle.zone_lists.specs.Installed.{is_installed_state, is_listed}
 use Rattle.zone_lists.specs.declared.zones.ZoneRow.{ZoneRow}
+use Rattle.zone_lists.proofs.EachFacts.{contains_from_in, in_from_contains}
 use Rattle.catalogue.specs.Content.{Content, Supersedes, ids_in, ids_of, is_of, record_of}
 use Rattle.catalogue.specs.declared.sysmod.Sysmod.{Sysmod}
 use Rattle.supersede.specs.Giving.{gives, is_there, sup_of, supersedes_within}
 use Rattle.supersede.specs.Leading.{Gives, IsThere, IsWay}
 use Rattle.supersede.proofs.GivingFacts.{In, any_found, any_has, both, catalogued, same_self}
 use Rattle.supersede.proofs.PathFacts.{AllSources, shorten}
-
--- ---- lists
-
-none_in_nil : {X : Type 0} → (x : X) → Contains [] x → ⊥
-none_in_nil x h = omega (arith, h.1)
-
-in_from_contains : {X : Type 0} → (xs : List X) (x : X) → Contains xs x → In xs x
-in_from_contains [] x h = none_in_nil x h
-in_from_contains (y ∷ ys) x h =
-    elim (Contains-append_cases (y ∷ []) ys x h) [
-      | inl first ↦ elim (Contains-push_cases [] y x first) [ inl none ↦ absurd (none_in_nil x none) | inr same ↦ inl same ]
-      | inr later ↦ inr (in_from_contains ys x later)
-    ]
-
-contains_from_in : {X : Type 0} → (xs : List X) (x : X) → In xs x → Contains xs x
-contains_from_in (y ∷ ys) x (inl same) = rw same (Contains-append_left (x ∷ []) ys x (Contains-push [] x))
-contains_from_in (y ∷ ys) x (inr later) = Contains-append_right (y ∷ []) ys x (contains_from_in ys x later)
-contains_from_in [] x none = absurd none
 
 module _ (content : Content) where
   -- ---- one step

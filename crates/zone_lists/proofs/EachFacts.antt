@@ -13,14 +13,14 @@ use Rattle.zone_lists.specs.declared.fault.ListFault.{ListFault}
 use Rattle.zone_lists.proofs.ListFacts.{answer_after, answer_read, after, go_on, in_order_more, next_entry}
 
 -- an element of a list, element by element
-abbrev In : {X : Type 0} → List X → X → Type 0
+abbrev pub In : {X : Type 0} → List X → X → Type 0
 In [] x = ⊥
 In (y ∷ ys) x = (y ≡ x) ⊎ In ys x
 
 none_in_nil : {X : Type 0} → (x : X) → Contains [] x → ⊥
 none_in_nil x h = omega (arith, h.1)
 
-in_from_contains : {X : Type 0} → (xs : List X) (x : X) → Contains xs x → In xs x
+pub in_from_contains : {X : Type 0} → (xs : List X) (x : X) → Contains xs x → In xs x
 in_from_contains [] x h = none_in_nil x h
 in_from_contains (y ∷ ys) x h =
     elim (Contains-append_cases (y ∷ []) ys x h) [
@@ -28,7 +28,7 @@ in_from_contains (y ∷ ys) x h =
       | inr later ↦ inr (in_from_contains ys x later)
     ]
 
-contains_from_in : {X : Type 0} → (xs : List X) (x : X) → In xs x → Contains xs x
+pub contains_from_in : {X : Type 0} → (xs : List X) (x : X) → In xs x → Contains xs x
 contains_from_in (y ∷ ys) x (inl same) = rw same (Contains-append_left (x ∷ []) ys x (Contains-push [] x))
 contains_from_in (y ∷ ys) x (inr later) = Contains-append_right (y ∷ []) ys x (contains_from_in ys x later)
 contains_from_in [] x none = absurd none

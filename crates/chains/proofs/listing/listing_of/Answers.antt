@@ -22,9 +22,10 @@ loop-id-preserved g c =
     record {
       len = ap length c.in_ok-push.ensures.items ∙ length-push c.loop-id.entries.items c.in_ok-entry_of.field-0 ∙ ap (λ k. k + 1) was.len;
       has_told = tells_on g.met.P.Published.lawful was.has_told asks.keeps (asks.stays_open (no_fault _)) c.in_ok-entry_of.ensures.entry (λ content so_far entry. (
-          so_far.0,
-          made_more (sight_of content) c.deref-id-items.result.now c.loop-id.id-index c.id-item.result c.in_ok-entry_of.field-0 c.loop-id.entries.items c.push.new.self.items
-          c.loop-id-test.true c.id-item.is so_far.1 c.in_ok-push.ensures.items entry));
+        so_far.0,
+        made_more (sight_of content) c.deref-id-items.result.now c.loop-id.id-index c.id-item.result c.in_ok-entry_of.field-0 c.loop-id.entries.items c.push.new.self.items
+            c.loop-id-test.true c.id-item.is so_far.1 c.in_ok-push.ensures.items entry,
+      ));
     }
 
 pub returns-clause-listing : goal.returns-clause-listing
