@@ -2,7 +2,6 @@ pub mod CallerFacts
 pub mod ChangeFacts
 pub mod ClientFacts
 pub mod ContentFacts
-pub mod JoinFacts
 pub mod ListFacts
 pub mod ListValueFacts
 pub mod MemberFacts

@@ -1,6 +1,6 @@
 //! Lists that stand in one column, with commas between.
 ghost use Rattle.std.specs.Prelude.{◌≡◌, map, option_map, IfOk};
-ghost use Rattle.std.specs.List.{join_with_byte, slice_split};
+ghost use Rattle.std.specs.List.{slice_split};
 ghost use Rattle.mcs_reader.specs.Bytes.{bytes_of_each};
 ghost use Rattle.mcs_reader.specs.Id.{text_of};
 ghost use Rattle.sqlite_value.specs.Value.{owned};
@@ -8,7 +8,7 @@ ghost use Rattle.sqlite_value.specs.declared.value.Value.TheVariants.{Text};
 ghost use Rattle.sql_tables.specs.Values as spec;
 
 use crate::NoMemory;
-use holddata::Categories;
+use holddata::{Categories, join_with_commas};
 use mcs_reader::Id;
 use sqlite::types::ValueRef;
 use std::alloc::Global;
@@ -19,7 +19,7 @@ pub fn joined_ids(alloc: Global, ids: &[Id]) -> Result<Vec<u8>, NoMemory>
     ensures { IfOk result (λ joined. Text joined.items ≡ spec.ids_value ids.now) }
 {
     let texts = texts_of(alloc, ids)?;
-    join(alloc, texts.as_slice())
+    join_with_commas(alloc, texts.as_slice())
 }
 
 fn texts_of(alloc: Global, ids: &[Id]) -> Result<Vec<&[u8]>, NoMemory>
@@ -37,7 +37,7 @@ pub fn joined_patterns(alloc: Global, patterns: &[Pattern]) -> Result<Vec<u8>, N
     ensures { IfOk result (λ joined. Text joined.items ≡ spec.texts_value patterns.now) }
 {
     let texts = texts_of_patterns(alloc, patterns)?;
-    join(alloc, texts.as_slice())
+    join_with_commas(alloc, texts.as_slice())
 }
 
 fn texts_of_patterns(alloc: Global, patterns: &[Pattern]) -> Result<Vec<&[u8]>, NoMemory>
@@ -55,23 +55,6 @@ pub fn categories_value(categories: &Categories) -> ValueRef<'_>
     ensures { owned result ≡ spec.texts_value categories.now }
 {
     ValueRef::Text(categories.joined())
-}
-
-// The texts with commas between.
-#[tactic(auto, using(crate::proofs::JoinFacts::join_is))]
-fn join(alloc: Global, texts: &[&[u8]]) -> Result<Vec<u8>, NoMemory>
-    ensures { IfOk result (λ joined. joined.items ≡ join_with_byte 0x2C (bytes_of_each texts.now)) }
-{
-    let mut joined = Vec::new(alloc);
-    let Some((first, rest)) = texts.split_first() else {
-        return Ok(joined);
-    };
-    joined.extend_from_slice(first)?;
-    for text in rest {
-        joined.push(b',')?;
-        joined.extend_from_slice(text)?;
-    }
-    Ok(joined)
 }
 
 // The texts between the commas of a text, or `None` where the value is none.
