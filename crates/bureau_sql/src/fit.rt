@@ -9,13 +9,14 @@ ghost use Rattle.bureau_store.specs.Caller.{IsProper};
 ghost use Rattle.bureau_store.specs.Effect.{publication, zone_put, zone_dropped, received_put, patterns_put};
 ghost use Rattle.bureau_store.specs.declared.caller.Caller.TheVariants.{Client, Publisher};
 ghost use Rattle.sql_tables.specs.Fit.{CanBeWritten, IsCond, IsFitChange, IsHold, IsRecord};
-ghost use Rattle.bureau_sql.specs.Effects.{IsFitEffect, effect_as, maker_of};
+ghost use Rattle.sql_writes.specs.Effects.{effect_as, maker_of};
+ghost use Rattle.bureau_sql.specs.Effects.{IsFitEffect};
 
-use crate::effect::Effect;
 use bureau_store::CallerRow;
 use catalogue::{Change, CondNeed, Sysmod};
 use holddata::{Hold, HoldChange};
 use mcs_reader::Id;
+use sql_writes::Effect;
 use zone_lists::{Pattern, ZoneRow};
 
 // The bytes of an id are those of one.

@@ -25,7 +25,6 @@
 
 mod changes;
 mod commit;
-mod effect;
 mod fit;
 mod init;
 mod migrate;

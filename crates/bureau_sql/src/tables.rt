@@ -5,12 +5,12 @@ ghost use Rattle.bureau_sql.specs.Effects.{IsFitEffect, update};
 ghost use Rattle.bureau_sql.specs.Outgrown.{HasNoRoom};
 ghost use Rattle.bureau_sql.specs.SqlView.{sql_view};
 
-use crate::effect::Effect;
 use crate::{SqlStore, changes, fit};
 use bureau_store::{Caller, Store, StoreFault};
 use catalogue::Change;
 use holddata::{Hold, Kind};
 use mcs_reader::Id;
+use sql_writes::Effect;
 use sqlite_trees::store::Alter;
 use zone_lists::{Pattern, ZoneRow};
 

@@ -29,7 +29,8 @@ pub enum TableById {
 impl TableById {
     /// The text by which a row comes, with the columns from ?1 on in the order of the table.
     pub fn insertion(self) -> &'static str
-        ensures { Means bureau result.now (insert_given (by_id self).place (by_id self).columns) (by_id self).columns }
+        ensures { Means bureau result.now (insert_given (by_id self).place (by_id self).columns)
+            (by_id self).columns }
     {
         match self {
             TableById::LastChange => {
@@ -48,7 +49,8 @@ impl TableById {
 
     /// The text by which the rows of the id ?1 go.
     pub fn deletion(self) -> &'static str
-        ensures { Means bureau result.now (delete_of (by_id self).place (by_id self).tree (is_given 1 0 ∷ [])) 1 }
+        ensures { Means bureau result.now
+            (delete_of (by_id self).place (by_id self).tree (is_given 1 0 ∷ [])) 1 }
     {
         match self {
             TableById::LastChange => "DELETE FROM last_change WHERE caller = ?1",

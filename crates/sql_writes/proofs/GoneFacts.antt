@@ -18,7 +18,11 @@ use Rattle.sql_texts.specs.Meaning.{Means}
 use Rattle.sql_texts.specs.Reads.{is_given}
 use Rattle.sql_texts.specs.Schema as schema
 use Rattle.sql_texts.specs.Schema.{bureau, tables}
-use Rattle.sql_texts.specs.Writes.{delete_of}
+use Rattle.sql_texts.specs.Writes.{by_id, by_zone, delete_of}
+use Rattle.sql_texts.specs.declared.write.TableById.{TableById}
+use Rattle.sql_texts.specs.declared.write.TableById.TheVariants.{LastChange, ReceivedList, Sysmod, SysmodCond, SysmodSup}
+use Rattle.sql_texts.specs.declared.write.TableByZone.{TableByZone}
+use Rattle.sql_texts.specs.declared.write.TableByZone.TheVariants.{ZoneHead, ZoneRow}
 use Rattle.sql_tables.specs.Changes.{is_under, replaced}
 use Rattle.sql_tables.specs.InTrees.{columns_of, stored_in}
 use Rattle.sql_tables.specs.Stored.{Stored, is_of, is_of_both}
@@ -26,7 +30,7 @@ use Rattle.sql_tables.specs.Values.{hold_kind_value, id_value}
 use Rattle.sql_state.specs.Numbered.{AreNumbered, IsNumbered}
 use Rattle.sql_state.specs.Ours.{held_by}
 use Rattle.sql_state.specs.Writing.{Changes}
-use Rattle.sql_writes.specs.Parts.{without_conds, without_head, without_hold, without_last, without_received, without_rows, without_sups, without_sysmod}
+use Rattle.sql_writes.specs.Parts.{without_conds, without_head, without_hold, without_id, without_last, without_received, without_rows, without_sups, without_sysmod, without_zone}
 use Rattle.sql_writes.specs.Running.{Ran}
 use Rattle.sql_writes.proofs.ChangeFacts.{changed_by}
 use Rattle.sql_writes.proofs.KindFacts.{key_given}
@@ -60,20 +64,12 @@ module _ {A F : Type 0} (old new : State) (text : List ℕ) (result : Result A F
         set.others.0 other,
       ))
 
-  pub changes_go : IdGoes 2 4 without_last
-  changes_go = id_goes 2 schema.last_change without_last refl (λ numbered. numbered.1.1.0) (λ e. omega (arith, e)) (λ id left same. ap (λ rows. record (held_by old.now) { changes = rows }) same)
-
-  pub sysmods_go : IdGoes 3 6 without_sysmod
-  sysmods_go = id_goes 3 schema.sysmod without_sysmod refl (λ numbered. numbered.1.1.1.0) (λ e. omega (arith, e)) (λ id left same. ap (λ rows. record (held_by old.now) { sysmods = rows }) same)
-
-  pub sups_go : IdGoes 4 8 without_sups
-  sups_go = id_goes 4 schema.sysmod_sup without_sups refl (λ numbered. numbered.1.1.1.1.0) (λ e. omega (arith, e)) (λ id left same. ap (λ rows. record (held_by old.now) { sups = rows }) same)
-
-  pub conds_go : IdGoes 9 19 without_conds
-  conds_go = id_goes 9 schema.sysmod_cond without_conds refl (λ numbered. numbered.1.1.1.1.1.1.1.1.1.0) (λ e. omega (arith, e)) (λ id left same. ap (λ rows. record (held_by old.now) { conds = rows }) same)
-
-  pub received_go : IdGoes 8 17 without_received
-  received_go = id_goes 8 schema.received_list without_received refl (λ numbered. numbered.1.1.1.1.1.1.1.1.0) (λ e. omega (arith, e)) (λ id left same. ap (λ rows. record (held_by old.now) { received = rows }) same)
+  pub ids_go : (table : TableById) → IdGoes (by_id table).place (by_id table).tree (without_id table)
+  ids_go LastChange = id_goes 2 schema.last_change without_last refl (λ numbered. numbered.1.1.0) (λ e. omega (arith, e)) (λ id left same. ap (λ rows. record (held_by old.now) { changes = rows }) same)
+  ids_go Sysmod = id_goes 3 schema.sysmod without_sysmod refl (λ numbered. numbered.1.1.1.0) (λ e. omega (arith, e)) (λ id left same. ap (λ rows. record (held_by old.now) { sysmods = rows }) same)
+  ids_go SysmodSup = id_goes 4 schema.sysmod_sup without_sups refl (λ numbered. numbered.1.1.1.1.0) (λ e. omega (arith, e)) (λ id left same. ap (λ rows. record (held_by old.now) { sups = rows }) same)
+  ids_go SysmodCond = id_goes 9 schema.sysmod_cond without_conds refl (λ numbered. numbered.1.1.1.1.1.1.1.1.1.0) (λ e. omega (arith, e)) (λ id left same. ap (λ rows. record (held_by old.now) { conds = rows }) same)
+  ids_go ReceivedList = id_goes 8 schema.received_list without_received refl (λ numbered. numbered.1.1.1.1.1.1.1.1.0) (λ e. omega (arith, e)) (λ id left same. ap (λ rows. record (held_by old.now) { received = rows }) same)
 
   -- the rows of a client's zone leave a table
   zone_goes : (place : ℕ) (table : Table) (without : List ℕ → List ℕ → Stored → Stored) → slice_get tables place ≡ Some table → (AreNumbered old.now.trees → IsNumbered (old.now.trees table.tree)) → 0 ≢ table.tree
@@ -91,11 +87,9 @@ module _ {A F : Type 0} (old new : State) (text : List ℕ) (result : Result A F
         set.others.0 other,
       ))
 
-  pub heads_go : ZoneGoes 6 13 without_head
-  heads_go = zone_goes 6 schema.zone_head without_head refl (λ numbered. numbered.1.1.1.1.1.1.0) (λ e. omega (arith, e)) (λ client zone left same. ap (λ rows. record (held_by old.now) { heads = rows }) same)
-
-  pub rows_go : ZoneGoes 7 15 without_rows
-  rows_go = zone_goes 7 schema.zone_row without_rows refl (λ numbered. numbered.1.1.1.1.1.1.1.0) (λ e. omega (arith, e)) (λ client zone left same. ap (λ rows. record (held_by old.now) { rows = rows }) same)
+  pub zones_go : (table : TableByZone) → ZoneGoes (by_zone table).place (by_zone table).tree (without_zone table)
+  zones_go ZoneHead = zone_goes 6 schema.zone_head without_head refl (λ numbered. numbered.1.1.1.1.1.1.0) (λ e. omega (arith, e)) (λ client zone left same. ap (λ rows. record (held_by old.now) { heads = rows }) same)
+  zones_go ZoneRow = zone_goes 7 schema.zone_row without_rows refl (λ numbered. numbered.1.1.1.1.1.1.1.0) (λ e. omega (arith, e)) (λ client zone left same. ap (λ rows. record (held_by old.now) { rows = rows }) same)
 
   -- The kinds of holds are whole numbers by the rules of their table.
   pub holds_go : (key : HoldKey) (a b c : ValueRef) → IsId key.sysmod → IsId key.reason

@@ -1,33 +1,34 @@
--- A caller's last change after the rest of its change.
-use Rattle.std.proofs.Common.{◌≡◌, ◌≢◌, ℕ, false, List, [], ◌∷◌, Result, Ok, ap, sym}
-use Rattle.std.specs.Prelude.{Some, None, if◌then◌else◌}
-use Rattle.std.proofs.lemmas.Bool.{false_from_ne_true}
-use Rattle.catalogue.proofs.IdFacts.{one_id}
-use Rattle.bureau_store.specs.Caller.{IsProper, is_publisher, publisher_name}
-use Rattle.bureau_store.specs.Effect.{Effect}
+-- A change by its effect, and then its number and its reply.
+use Rattle.std.proofs.Common.{◌≡◌, ℕ, List, [], ◌∷◌, Result, Ok, ap, subst, sym, ◌∙◌}
+use Rattle.std.specs.Prelude.{Option, Some}
+use Rattle.bureau_store.specs.Effect as store
 use Rattle.bureau_store.specs.Tables.{LastChange}
-use Rattle.bureau_store.specs.declared.caller.Caller.TheVariants.{Client}
-use Rattle.sqlite.specs.Order.{Row}
+use Rattle.bureau_store.specs.declared.caller.Caller.{Caller}
 use Rattle.sqlite.specs.State.{State}
-use Rattle.sql_tables.specs.Changes.{changed, replaced, stored_after, with_last}
+use Rattle.sql_tables.specs.Changes as change
+use Rattle.sql_tables.specs.Changes.{changed, stored_after}
 use Rattle.sql_tables.specs.Rows.{change_row}
 use Rattle.sql_tables.specs.Stored.{is_of, name_of}
 use Rattle.sql_state.specs.Writing.{Changes}
-use Rattle.sql_writes.proofs.ChangeFacts.{both}
+use Rattle.sql_writes.specs.Effects.{effect_as, maker_of}
+use Rattle.sql_writes.specs.Parts.{with_last, without_last}
+use Rattle.sql_writes.specs.declared.effect.Effect.{Effect}
+use Rattle.sql_writes.proofs.ChangeFacts.{both, changes_then}
+use Rattle.sql_writes.proofs.StoredFacts.{replaced_then}
 
--- a client that hasn't the publisher's name stands under its own
-named : (client : List ℕ) (last : LastChange) (rows : List Row) → client ≢ publisher_name
-    → replaced (is_of client) (change_row client last ∷ []) rows ≡ with_last (name_of (Client client)) last rows
-named client last rows proper =
-    let other : is_publisher client ≡ false = false_from_ne_true (is_publisher client) (λ same. proper (one_id client publisher_name same)) in
-    ap (λ b. with_last (if b then None else Some client) last rows) (sym other)
+-- what an effect changes, told of the same effect
+pub by_effect : {A F : Type 0} (old new : State) (result : Result A F) (effect same : Effect) → effect ≡ same
+    → Changes old new result (changed (maker_of same) (effect_as same)) → Changes old new result (changed (maker_of effect) (effect_as effect))
+by_effect old new result effect same is = subst (λ it. Changes old new result (changed (maker_of it) (effect_as it))) (sym is)
 
--- a client's change, and then its number and its reply
-pub client_last : {A B E F : Type 0} (old mid new : State) (a : A) (result : Result B F) (client : List ℕ) (effect : Effect) (last : LastChange) → IsProper (Client client)
-    → Changes {Fault = E} old mid (Ok a) (changed (Client client) effect)
-    → Changes mid new result (λ stored. record stored { changes = replaced (is_of client) (change_row client last ∷ []) stored.changes })
-    → Changes old new result (stored_after (Client client) effect last)
-client_last old mid new a result client effect last proper one two =
-    let first = changed (Client client) effect in
-    both old mid new a result first (λ stored. record stored { changes = replaced (is_of client) (change_row client last ∷ []) stored.changes }) (stored_after (Client client) effect last)
-    (λ stored. ap (λ rows. record (first stored) { changes = rows }) (named client last stored.changes proper)) one two
+-- a change, and then its number and its reply under the name of whoever makes it
+pub last_after : {A B C E F G : Type 0} (old mid between new : State) (a : A) (b : B) (result : Result C G) (caller : Caller) (effect : store.Effect) (name : List ℕ) (last : LastChange)
+    → name_of caller ≡ Some name → Changes {Fault = E} old mid (Ok a) (changed caller effect) → Changes {Fault = F} mid between (Ok b) (without_last name)
+    → Changes between new result (with_last name last) → Changes old new result (stored_after caller effect last)
+last_after old mid between new a b result caller effect name last is one two three =
+    let first = changed caller effect in
+    both old between new b result (λ stored. without_last name (first stored)) (with_last name last) (stored_after caller effect last)
+    (λ stored. ap (λ rows. record (first stored) { changes = rows })
+    (replaced_then (is_of name) (change_row name last ∷ []) (first stored).changes
+    ∙ ap (λ (named : Option (List ℕ)). change.with_last named last (first stored).changes) (sym is)))
+    (changes_then old mid between a (Ok b) first (without_last name) one two) three

@@ -1,4 +1,5 @@
 pub mod Altering
+pub mod Effects
 pub mod Making
 pub mod Migrating
 pub mod Parts

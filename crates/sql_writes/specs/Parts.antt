@@ -7,6 +7,10 @@ use Rattle.catalogue.specs.declared.sysmod.Sysmod.{Sysmod}
 use Rattle.zone_lists.specs.declared.zones.ZoneRow.{ZoneRow}
 use Rattle.bureau_store.specs.Tables.{LastChange}
 use Rattle.bureau_store.specs.declared.caller.CallerRow.{CallerRow}
+use Rattle.sql_texts.specs.declared.write.TableById.{TableById}
+use Rattle.sql_texts.specs.declared.write.TableById.TheVariants as by_id
+use Rattle.sql_texts.specs.declared.write.TableByZone.{TableByZone}
+use Rattle.sql_texts.specs.declared.write.TableByZone.TheVariants as by_zone
 use Rattle.sql_tables.specs.Changes.{is_under, replaced}
 use Rattle.sql_tables.specs.Rows.{caller_row, change_row, cond_row, head_row, hold_row, received_row, sup_row, sysmod_row, zone_row}
 use Rattle.sql_tables.specs.Stored.{Stored, is_of, is_of_both}
@@ -36,6 +40,19 @@ without_rows client zone stored = record stored { rows = replaced (is_of_both cl
 
 abbrev pub without_received : List ℕ → Stored → Stored
 without_received client stored = record stored { received = replaced (is_of client) [] stored.received }
+
+-- the rows of an id leave a table
+abbrev pub without_id : TableById → List ℕ → Stored → Stored
+without_id by_id.LastChange = without_last
+without_id by_id.Sysmod = without_sysmod
+without_id by_id.SysmodSup = without_sups
+without_id by_id.SysmodCond = without_conds
+without_id by_id.ReceivedList = without_received
+
+-- the rows of a client's zone leave a table
+abbrev pub without_zone : TableByZone → List ℕ → List ℕ → Stored → Stored
+without_zone by_zone.ZoneHead = without_head
+without_zone by_zone.ZoneRow = without_rows
 
 -- ---- what comes
 

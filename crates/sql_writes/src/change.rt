@@ -1,41 +1,57 @@
-//! The five changes, each with its number and the reply that is kept for it.
-ghost use Rattle.std.specs.Prelude.{◌≡◌, ◌≤◌, [], ◌∷◌};
+//! A change, with its number and the reply that is kept for it.
+ghost use Rattle.std.specs.Prelude.{◌≡◌, ◌≤◌, Some};
 ghost use Rattle.bureau_store.specs.Caller.{IsProper, publisher_name};
-ghost use Rattle.bureau_store.specs.Effect.{patterns_put, publication, received_put, zone_dropped, zone_put};
 ghost use Rattle.bureau_store.specs.Store.{greatest_number};
-ghost use Rattle.bureau_store.specs.declared.caller.Caller.TheVariants.{Client, Publisher};
-ghost use Rattle.sql_tables.specs.Changes.{replaced, stored_after};
-ghost use Rattle.sql_tables.specs.Rows.{change_row};
-ghost use Rattle.sql_tables.specs.Stored.{is_of};
+ghost use Rattle.sql_tables.specs.Changes.{changed};
+ghost use Rattle.sql_tables.specs.Stored.{name_of};
 ghost use Rattle.sql_writes.specs.Altering.{Alters};
+ghost use Rattle.sql_writes.specs.Effects.{effect_as, maker_of, stored_by};
 
 use crate::publication::put_changes;
-use crate::{delete, insert, zone as zones};
-use catalogue::Change;
+use crate::zone::keep_head;
+use crate::{Effect, delete, insert, load};
 use mcs_reader::Id;
+use sql_texts::write::{TableById, TableByZone};
 use sqlite::{Alter, Error, Transaction};
 use std::alloc::Global;
-use zone_lists::{Pattern, ZoneRow};
 
-/// The last change of the caller of this name is this one.
-fn put_last<S: Alter>(
+/// What a change makes of the rows, before its number is kept. A zone that is put keeps its patterns where it was there
+/// before.
+fn change<S: Alter>(
+    alloc: Global,
     tx: &mut Transaction<'_, S>,
-    name: &Id,
-    number: u64,
-    reply: &[u8],
+    effect: &Effect<'_>,
 ) -> Result<(), Error>
-    requires { number ≤ greatest_number }
     ensures same { tx.new.conn.ghost_name ≡ tx.old.conn.ghost_name }
-    ensures changes { Alters S.Store tx.old.conn.now tx.new.conn.now result (λ stored. record stored {
-      changes = replaced (is_of name.now)
-          (change_row name.now (record { number = number; reply = reply.now }) ∷ []) stored.changes;
-    }) }
+    ensures changes { Alters S.Store tx.old.conn.now tx.new.conn.now result
+        (changed (maker_of effect.now) (effect_as effect.now)) }
 {
-    delete::last_change(tx, name)?;
-    insert::last_change(tx, name, number, reply)
+    match *effect {
+        Effect::Publication { changes } => put_changes(alloc, tx, changes),
+        Effect::ZonePut { client, zone, rows } => {
+            keep_head(alloc, tx, client, zone)?;
+            load::zone_rows(tx, client, zone, rows)
+        }
+        Effect::ZoneDropped { client, zone } => {
+            delete::by_zone(tx, TableByZone::ZoneHead, client, zone)?;
+            delete::by_zone(tx, TableByZone::ZoneRow, client, zone)
+        }
+        Effect::ReceivedPut { client, ids } => {
+            delete::by_id(tx, TableById::ReceivedList, client)?;
+            insert::received(alloc, tx, client, ids)
+        }
+        Effect::PatternsPut {
+            client,
+            zone,
+            patterns,
+        } => {
+            delete::by_zone(tx, TableByZone::ZoneHead, client, zone)?;
+            insert::head(alloc, tx, client, zone, patterns)
+        }
+    }
 }
 
-pub(crate) fn publisher() -> Id
+fn publisher() -> Id
     ensures { result ≡ publisher_name }
 {
     match Id::new(b"PUBLISH") {
@@ -44,100 +60,36 @@ pub(crate) fn publisher() -> Id
     }
 }
 
-/// Publishes these changes, as the publisher's change with this number and reply.
-pub fn publish<S: Alter>(
+/// The name under which the last change of whoever makes this one stands.
+fn name(effect: &Effect<'_>) -> Id
+    requires { IsProper (maker_of effect.now) }
+    ensures { name_of (maker_of effect.now) ≡ Some result }
+{
+    match *effect {
+        Effect::Publication { .. } => publisher(),
+        Effect::ZonePut { client, .. }
+        | Effect::ZoneDropped { client, .. }
+        | Effect::ReceivedPut { client, .. }
+        | Effect::PatternsPut { client, .. } => *client,
+    }
+}
+
+/// Makes a change, with this number and with the reply that is kept for it.
+pub fn write<S: Alter>(
     alloc: Global,
     tx: &mut Transaction<'_, S>,
     number: u64,
     reply: &[u8],
-    changes: &[Change],
+    effect: &Effect<'_>,
 ) -> Result<(), Error>
-    requires { number ≤ greatest_number }
-    ensures same { tx.new.conn.ghost_name ≡ tx.old.conn.ghost_name }
-    ensures changes { Alters S.Store tx.old.conn.now tx.new.conn.now result
-        (stored_after Publisher (publication changes.now) (record { number = number; reply = reply.now })) }
-{
-    put_changes(alloc, tx, changes)?;
-    put_last(tx, &publisher(), number, reply)
-}
-
-/// Puts a client's zone, which keeps its patterns where it was there before.
-pub fn put_zone<S: Alter>(
-    alloc: Global,
-    tx: &mut Transaction<'_, S>,
-    client: &Id,
-    number: u64,
-    reply: &[u8],
-    zone: &Id,
-    rows: &[ZoneRow],
-) -> Result<(), Error>
-    requires client { IsProper (Client client.now) }
+    requires maker { IsProper (maker_of effect.now) }
     requires number { number ≤ greatest_number }
     ensures same { tx.new.conn.ghost_name ≡ tx.old.conn.ghost_name }
     ensures changes { Alters S.Store tx.old.conn.now tx.new.conn.now result
-        (stored_after (Client client.now) (zone_put zone.now rows.now)
-        (record { number = number; reply = reply.now })) }
+        (stored_by effect.now number reply.now) }
 {
-    zones::put(alloc, tx, client, zone, rows)?;
-    put_last(tx, client, number, reply)
-}
-
-/// Drops a client's zone with its rows and its patterns.
-pub fn drop_zone<S: Alter>(
-    tx: &mut Transaction<'_, S>,
-    client: &Id,
-    number: u64,
-    reply: &[u8],
-    zone: &Id,
-) -> Result<(), Error>
-    requires client { IsProper (Client client.now) }
-    requires number { number ≤ greatest_number }
-    ensures same { tx.new.conn.ghost_name ≡ tx.old.conn.ghost_name }
-    ensures changes { Alters S.Store tx.old.conn.now tx.new.conn.now result
-        (stored_after (Client client.now) (zone_dropped zone.now)
-        (record { number = number; reply = reply.now })) }
-{
-    zones::drop_zone(tx, client, zone)?;
-    put_last(tx, client, number, reply)
-}
-
-/// Puts the list of SYSMODs that a client has received.
-pub fn put_received<S: Alter>(
-    alloc: Global,
-    tx: &mut Transaction<'_, S>,
-    client: &Id,
-    number: u64,
-    reply: &[u8],
-    ids: &[Id],
-) -> Result<(), Error>
-    requires client { IsProper (Client client.now) }
-    requires number { number ≤ greatest_number }
-    ensures same { tx.new.conn.ghost_name ≡ tx.old.conn.ghost_name }
-    ensures changes { Alters S.Store tx.old.conn.now tx.new.conn.now result
-        (stored_after (Client client.now) (received_put ids.now)
-        (record { number = number; reply = reply.now })) }
-{
-    zones::put_received(alloc, tx, client, ids)?;
-    put_last(tx, client, number, reply)
-}
-
-/// Puts the patterns of the fix categories that a client asks for in a zone.
-pub fn put_patterns<S: Alter>(
-    alloc: Global,
-    tx: &mut Transaction<'_, S>,
-    client: &Id,
-    number: u64,
-    reply: &[u8],
-    zone: &Id,
-    patterns: &[Pattern],
-) -> Result<(), Error>
-    requires client { IsProper (Client client.now) }
-    requires number { number ≤ greatest_number }
-    ensures same { tx.new.conn.ghost_name ≡ tx.old.conn.ghost_name }
-    ensures changes { Alters S.Store tx.old.conn.now tx.new.conn.now result
-        (stored_after (Client client.now) (patterns_put zone.now patterns.now)
-        (record { number = number; reply = reply.now })) }
-{
-    zones::put_patterns(alloc, tx, client, zone, patterns)?;
-    put_last(tx, client, number, reply)
+    change(alloc, tx, effect)?;
+    let name = name(effect);
+    delete::by_id(tx, TableById::LastChange, &name)?;
+    insert::last_change(tx, &name, number, reply)
 }

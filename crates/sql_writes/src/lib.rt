@@ -1,6 +1,6 @@
 //! What the bureau's changes write into a store's file, each in a transaction that is lent. Nothing is committed here.
 //!
-//! - [`put_zone`], [`drop_zone`], [`put_received`], [`put_patterns`]: a client's changes; [`publish`]: the publisher's
+//! - [`write`]: a change of a client or of the publisher, with its number and its reply; [`Effect`]: what it does
 //! - [`create`]: the tables of version 2 with the callers, in an empty database
 //! - [`migrate`]: the tables of version 1 become those of version 2, with the rows that they hold
 //!
@@ -11,6 +11,7 @@
 
 mod change;
 mod delete;
+mod effect;
 mod insert;
 mod load;
 mod migration;
@@ -20,6 +21,7 @@ mod tables;
 mod values;
 mod zone;
 
-pub use change::{drop_zone, publish, put_patterns, put_received, put_zone};
+pub use change::write;
+pub use effect::Effect;
 pub use migration::migrate;
 pub use tables::create;

@@ -1,18 +1,22 @@
 //! Lists of rows that come, each list by one prepared statement.
 ghost use Rattle.std.specs.Prelude.{◌≡◌};
 ghost use Rattle.sql_writes.specs.Altering.{Alters, Inserts};
-ghost use Rattle.sql_writes.specs.Parts.{with_callers, with_conds, with_rows, with_sups, without_conds, without_sups};
+ghost use Rattle.sql_writes.specs.Parts.{with_callers, with_conds, with_rows, with_sups, without_conds, without_rows, without_sups};
 
-use crate::run::prepare;
-use crate::{delete, insert};
+use crate::delete;
+use crate::run::{prepare, run_prepared};
+use crate::values::id_of;
 use bureau_store::CallerRow;
 use catalogue::CondNeed;
 use mcs_reader::Id;
+use sql_tables::state_value;
 use sql_texts::write;
+use sql_texts::write::{TableById, TableByZone};
+use sqlite::types::ValueRef;
 use sqlite::{Alter, Error, Statement, Transaction};
 use zone_lists::ZoneRow;
 
-/// The rows of a client's zone.
+/// The rows of a client's zone, in place of those that stand there.
 pub(crate) fn zone_rows<S: Alter>(
     tx: &mut Transaction<'_, S>,
     client: &Id,
@@ -21,16 +25,23 @@ pub(crate) fn zone_rows<S: Alter>(
 ) -> Result<(), Error>
     ensures same { tx.new.conn.ghost_name ≡ tx.old.conn.ghost_name }
     ensures changes { Alters S.Store tx.old.conn.now tx.new.conn.now result
-        (with_rows client.now zone.now rows.now) }
+        (λ stored. with_rows client.now zone.now rows.now (without_rows client.now zone.now stored)) }
 {
-    let statement = prepare(tx, write::insert_zone_row())?;
+    delete::by_zone(tx, TableByZone::ZoneRow, client, zone)?;
+    let statement = prepare(tx, TableByZone::ZoneRow.insertion())?;
     for row in rows {
-        insert::zone_row(tx, &statement, client, zone, row)?;
+        let params = [
+            id_of(client),
+            id_of(zone),
+            id_of(&row.sysmod),
+            state_value(row.state),
+        ];
+        run_prepared(tx, &statement, &params)?;
     }
     Ok(())
 }
 
-/// What a record supersedes, in place of what stands there, by the statement of `write::insert_sysmod_sup`.
+/// What a record supersedes, in place of what stands there, by the statement that inserts into `SysmodSup`.
 pub(crate) fn superseded<S: Alter>(
     tx: &mut Transaction<'_, S>,
     statement: &Statement,
@@ -42,15 +53,15 @@ pub(crate) fn superseded<S: Alter>(
     ensures changes { Alters S.Store tx.old.conn.now tx.new.conn.now result
         (λ stored. with_sups id.now members.now (without_sups id.now stored)) }
 {
-    delete::superseded(tx, id)?;
+    delete::by_id(tx, TableById::SysmodSup, id)?;
     for member in members {
-        insert::sup_row(tx, statement, id, member)?;
+        run_prepared(tx, statement, &[id_of(id), id_of(member)])?;
     }
     Ok(())
 }
 
-/// What a record requires under a condition, in place of what stands there, by the statement of
-/// `write::insert_sysmod_cond`.
+/// What a record requires under a condition, in place of what stands there, by the statement that inserts into
+/// `SysmodCond`.
 pub(crate) fn conditional<S: Alter>(
     tx: &mut Transaction<'_, S>,
     statement: &Statement,
@@ -62,9 +73,10 @@ pub(crate) fn conditional<S: Alter>(
     ensures changes { Alters S.Store tx.old.conn.now tx.new.conn.now result
         (λ stored. with_conds id.now conds.now (without_conds id.now stored)) }
 {
-    delete::conditional(tx, id)?;
+    delete::by_id(tx, TableById::SysmodCond, id)?;
     for cond in conds {
-        insert::cond_row(tx, statement, id, cond)?;
+        let params = [id_of(id), id_of(&cond.fmid), id_of(&cond.need)];
+        run_prepared(tx, statement, &params)?;
     }
     Ok(())
 }
@@ -79,7 +91,8 @@ pub(crate) fn callers<S: Alter>(
 {
     let statement = prepare(tx, write::insert_caller())?;
     for row in rows {
-        insert::caller(tx, &statement, row)?;
+        let params = [id_of(&row.name), ValueRef::Text(row.token.as_bytes())];
+        run_prepared(tx, &statement, &params)?;
     }
     Ok(())
 }

@@ -11,6 +11,7 @@ use sql_reads::{
     sysmod, version, zone, zone_count, zones,
 };
 use sql_texts::write;
+use sql_texts::write::{TableById, TableByZone};
 use sqlite::types::ValueRef;
 use sqlite::{Connection, Error, MemStore};
 use std::alloc::Global;
@@ -33,10 +34,10 @@ fn put(
 // A PTF that supersedes an APAR and requires two under a condition, with an ERROR and a FIXCAT hold.
 fn publish(conn: &mut Connection<MemStore>) -> Result<(), Error> {
     let record = [FIX, ONE, BASE, NOTHING, NOTHING];
-    put(conn, write::insert_sysmod(), &record)?;
-    put(conn, write::insert_sysmod_sup(), &[FIX, FIXED])?;
-    put(conn, write::insert_sysmod_cond(), &[FIX, BASE, OTHER])?;
-    put(conn, write::insert_sysmod_cond(), &[FIX, BASE, FIXED])?;
+    put(conn, TableById::Sysmod.insertion(), &record)?;
+    put(conn, TableById::SysmodSup.insertion(), &[FIX, FIXED])?;
+    put(conn, TableById::SysmodCond.insertion(), &[FIX, BASE, OTHER])?;
+    put(conn, TableById::SysmodCond.insertion(), &[FIX, BASE, FIXED])?;
     for kind in [0, 3] {
         let kind = ValueRef::Int(kind);
         let hold = [FIX, kind, FIXED, BASE, NOTHING, NO_DATE, NOTHING, NOTHING];
@@ -56,11 +57,23 @@ fn fill(conn: &mut Connection<MemStore>) -> Result<(), Error> {
     let change = [ALPHA, ValueRef::Int(7), ValueRef::Blob(b"OK")];
     put(conn, write::insert_caller(), &[ALPHA, token])?;
     put(conn, write::insert_caller(), &[publisher, other])?;
-    put(conn, write::insert_last_change(), &change)?;
-    put(conn, write::insert_zone_head(), &[ALPHA, ZONE, category])?;
-    put(conn, write::insert_zone_head(), &[ALPHA, empty, NOTHING])?;
-    put(conn, write::insert_zone_row(), &[ALPHA, ZONE, FIX, ZERO])?;
-    put(conn, write::insert_received_list(), &[ALPHA, ids])
+    put(conn, TableById::LastChange.insertion(), &change)?;
+    put(
+        conn,
+        TableByZone::ZoneHead.insertion(),
+        &[ALPHA, ZONE, category],
+    )?;
+    put(
+        conn,
+        TableByZone::ZoneHead.insertion(),
+        &[ALPHA, empty, NOTHING],
+    )?;
+    put(
+        conn,
+        TableByZone::ZoneRow.insertion(),
+        &[ALPHA, ZONE, FIX, ZERO],
+    )?;
+    put(conn, TableById::ReceivedList.insertion(), &[ALPHA, ids])
 }
 
 // The connection, with no transaction open, as each read asks.
@@ -275,7 +288,11 @@ fn requisites_under_a_condition_are_found_in_order(rt: HostRuntime) -> Result<()
     assert!(rt; found.as_slice() == pairs.as_slice());
     assert!(rt; conditional(alloc, &mut conn, &id(b"UA10003")?)?.is_none());
     let small = ValueRef::Text(b"hbb7790");
-    put(&mut conn, write::insert_sysmod_cond(), &[FIX, small, FIXED])?;
+    put(
+        &mut conn,
+        TableById::SysmodCond.insertion(),
+        &[FIX, small, FIXED],
+    )?;
     assert!(rt; is_device(conditional(alloc, &mut conn, &id(b"UA10002")?)));
     Ok(())
 }
@@ -294,18 +311,22 @@ fn rows_that_the_bureau_never_wrote_are_a_fault(rt: HostRuntime) -> Result<(), F
     let mut conn = of_version_2(alloc)?;
     let (alpha, fix) = (id(b"ALPHA")?, id(b"UA10002")?);
     let falling = ValueRef::Text(b"UA10003,UA10002");
-    put(&mut conn, write::insert_received_list(), &[ALPHA, falling])?;
+    put(
+        &mut conn,
+        TableById::ReceivedList.insertion(),
+        &[ALPHA, falling],
+    )?;
     assert!(rt; is_device(received_ids(alloc, &mut conn, &alpha)));
     let small = ValueRef::Text(b"ua10002");
     put(
         &mut conn,
-        write::insert_sysmod(),
+        TableById::Sysmod.insertion(),
         &[small, ONE, BASE, NOTHING, NOTHING],
     )?;
     assert!(rt; is_device(all_ids(alloc, &mut conn)));
     put(
         &mut conn,
-        write::insert_zone_head(),
+        TableByZone::ZoneHead.insertion(),
         &[ALPHA, small, NOTHING],
     )?;
     assert!(rt; is_device(zone_names(alloc, &mut conn, &alpha)));

@@ -1,5 +1,6 @@
 //! A database in memory takes each text, and each finds its row.
 use super::tables::{ALPHA, BASE, FIX, FIXED, NOTHING, ONE, ZERO, ZONE, of_version_2};
+use sql_texts::write::{TableById, TableByZone};
 use sql_texts::{read, write};
 use sqlite::types::ValueRef;
 use sqlite::{Connection, Error, MemStore};
@@ -42,16 +43,20 @@ fn fill(conn: &mut Connection<MemStore>) -> Result<(), Fail> {
     write_each(conn, &[write::insert_caller()], &[ALPHA, TOKEN])?;
     write_each(
         conn,
-        &[write::insert_last_change()],
+        &[TableById::LastChange.insertion()],
         &[ALPHA, ONE, ValueRef::Blob(b"OK")],
     )?;
     write_each(
         conn,
-        &[write::insert_sysmod()],
+        &[TableById::Sysmod.insertion()],
         &[FIX, ONE, BASE, NOTHING, NOTHING],
     )?;
-    write_each(conn, &[write::insert_sysmod_sup()], &[FIX, FIXED])?;
-    write_each(conn, &[write::insert_sysmod_cond()], &[FIX, BASE, FIXED])?;
+    write_each(conn, &[TableById::SysmodSup.insertion()], &[FIX, FIXED])?;
+    write_each(
+        conn,
+        &[TableById::SysmodCond.insertion()],
+        &[FIX, BASE, FIXED],
+    )?;
     let hold = [
         FIX,
         ZERO,
@@ -63,9 +68,17 @@ fn fill(conn: &mut Connection<MemStore>) -> Result<(), Fail> {
         NOTHING,
     ];
     write_each(conn, &[write::insert_hold_row()], &hold)?;
-    write_each(conn, &[write::insert_zone_head()], &[ALPHA, ZONE, NOTHING])?;
-    write_each(conn, &[write::insert_zone_row()], &[ALPHA, ZONE, FIX, ZERO])?;
-    write_each(conn, &[write::insert_received_list()], &[ALPHA, FIX])
+    write_each(
+        conn,
+        &[TableByZone::ZoneHead.insertion()],
+        &[ALPHA, ZONE, NOTHING],
+    )?;
+    write_each(
+        conn,
+        &[TableByZone::ZoneRow.insertion()],
+        &[ALPHA, ZONE, FIX, ZERO],
+    )?;
+    write_each(conn, &[TableById::ReceivedList.insertion()], &[ALPHA, FIX])
 }
 
 fn look(conn: &mut Connection<MemStore>) -> Result<(), Fail> {
@@ -104,21 +117,27 @@ fn clear(conn: &mut Connection<MemStore>) -> Result<(), Fail> {
     write_each(
         conn,
         &[
-            write::delete_sysmod(),
-            write::delete_superseded(),
-            write::delete_conditional(),
+            TableById::Sysmod.deletion(),
+            TableById::SysmodSup.deletion(),
+            TableById::SysmodCond.deletion(),
         ],
         &[FIX],
     )?;
     write_each(conn, &[write::delete_hold()], &[FIX, ZERO, FIXED])?;
     write_each(
         conn,
-        &[write::delete_zone_head(), write::delete_zone_rows()],
+        &[
+            TableByZone::ZoneHead.deletion(),
+            TableByZone::ZoneRow.deletion(),
+        ],
         &[ALPHA, ZONE],
     )?;
     write_each(
         conn,
-        &[write::delete_last_change(), write::delete_received()],
+        &[
+            TableById::LastChange.deletion(),
+            TableById::ReceivedList.deletion(),
+        ],
         &[ALPHA],
     )
 }

@@ -2,12 +2,13 @@
 ghost use Rattle.std.specs.Prelude.{◌≡◌, IfOk};
 ghost use Rattle.bureau_store.specs.Caller.{IsProper, publisher_name};
 ghost use Rattle.bureau_store.specs.declared.caller.Caller.TheVariants.{Client};
+ghost use Rattle.sql_writes.specs.Effects.{maker_of};
 
 use super::tables::of_version_1;
 use bureau_store::callers;
 use catalogue::read_changes;
 use mcs_reader::{Id, read};
-use sql_writes::{create, drop_zone, migrate, publish, put_patterns, put_received, put_zone};
+use sql_writes::{Effect, create, migrate, write};
 use sqlite::{Connection, MemStore, Transaction};
 use std::alloc::Global;
 use std::test::Fail;
@@ -68,77 +69,21 @@ enum Put<'a> {
     Publication(&'a [u8]),
 }
 
+// Makes a change of this effect, with a number and a reply.
+fn kept(
+    alloc: Global,
+    tx: &mut Transaction<'_, MemStore>,
+    number: u32,
+    effect: &Effect<'_>,
+) -> Result<(), Fail>
+    requires { IsProper (maker_of effect.now) }
+{
+    write(alloc, tx, u64::from(number), b"OK", effect)?;
+    Ok(())
+}
+
 fn zone_name() -> Result<Id, Fail> {
     Ok(Id::new(b"TGT1").ok_or("a zone")?)
-}
-
-fn zone_is_put(
-    alloc: Global,
-    tx: &mut Transaction<'_, MemStore>,
-    number: u32,
-    text: &[u8],
-) -> Result<(), Fail> {
-    let (alpha, zone) = (client(b"ALPHA")?, zone_name()?);
-    let rows = zone_rows(alloc, text)?;
-    put_zone(
-        alloc,
-        tx,
-        &alpha,
-        u64::from(number),
-        b"OK",
-        &zone,
-        rows.as_slice(),
-    )?;
-    Ok(())
-}
-
-fn zone_is_dropped(tx: &mut Transaction<'_, MemStore>, number: u32) -> Result<(), Fail> {
-    let (alpha, zone) = (client(b"ALPHA")?, zone_name()?);
-    drop_zone(tx, &alpha, u64::from(number), b"OK", &zone)?;
-    Ok(())
-}
-
-fn list_is_put(
-    alloc: Global,
-    tx: &mut Transaction<'_, MemStore>,
-    number: u32,
-    text: &[u8],
-) -> Result<(), Fail> {
-    let alpha = client(b"ALPHA")?;
-    let ids = received_rows(alloc, text)?;
-    put_received(alloc, tx, &alpha, u64::from(number), b"OK", ids.as_slice())?;
-    Ok(())
-}
-
-fn patterns_are_put(
-    alloc: Global,
-    tx: &mut Transaction<'_, MemStore>,
-    number: u32,
-    text: &[u8],
-) -> Result<(), Fail> {
-    let (alpha, zone) = (client(b"ALPHA")?, zone_name()?);
-    let asked = patterns(alloc, text)?;
-    put_patterns(
-        alloc,
-        tx,
-        &alpha,
-        u64::from(number),
-        b"OK",
-        &zone,
-        asked.as_slice(),
-    )?;
-    Ok(())
-}
-
-fn is_published(
-    alloc: Global,
-    tx: &mut Transaction<'_, MemStore>,
-    number: u32,
-    text: &[u8],
-) -> Result<(), Fail> {
-    let changes = read_changes(alloc, &read(alloc, text)?)?;
-    publish(alloc, tx, u64::from(number), b"OK", changes.as_slice())?;
-    Ok(())
 }
 
 fn make(
@@ -147,12 +92,35 @@ fn make(
     number: u32,
     put: &Put<'_>,
 ) -> Result<(), Fail> {
+    let (alpha, target) = (client(b"ALPHA")?, zone_name()?);
+    let (client, zone) = (&alpha, &target);
     match put {
-        Put::Zone(text) => zone_is_put(alloc, tx, number, text),
-        Put::Drop => zone_is_dropped(tx, number),
-        Put::Received(text) => list_is_put(alloc, tx, number, text),
-        Put::Patterns(text) => patterns_are_put(alloc, tx, number, text),
-        Put::Publication(text) => is_published(alloc, tx, number, text),
+        Put::Zone(text) => {
+            let rows = zone_rows(alloc, text)?;
+            let rows = rows.as_slice();
+            kept(alloc, tx, number, &Effect::ZonePut { client, zone, rows })
+        }
+        Put::Drop => kept(alloc, tx, number, &Effect::ZoneDropped { client, zone }),
+        Put::Received(text) => {
+            let ids = received_rows(alloc, text)?;
+            let ids = ids.as_slice();
+            kept(alloc, tx, number, &Effect::ReceivedPut { client, ids })
+        }
+        Put::Patterns(text) => {
+            let asked = patterns(alloc, text)?;
+            let patterns = asked.as_slice();
+            let effect = Effect::PatternsPut {
+                client,
+                zone,
+                patterns,
+            };
+            kept(alloc, tx, number, &effect)
+        }
+        Put::Publication(text) => {
+            let changes = read_changes(alloc, &read(alloc, text)?)?;
+            let changes = changes.as_slice();
+            kept(alloc, tx, number, &Effect::Publication { changes })
+        }
     }
 }
 

@@ -6,4 +6,4 @@ use Rattle.sql_writes.proofs.insert.head.Goals as goal
 
 pub returns-clause-changes : goal.returns-clause-changes
 returns-clause-changes g c =
-    heads_come _ _ _ _ c.args.client.now c.args.zone.now c.args.patterns.now c.id_of.result c.id_of-2.result (lent.Text c.as_slice.result) c.id_of.ensures.value c.id_of-2.ensures.value (ap Text c.as_slice.ensures.value ∙ c.in_ok-joined.ensures) (λ _. c.insert_zone_head.ensures) c.run.ensures.ran
+    heads_come _ _ _ _ c.args.client.now c.args.zone.now c.args.patterns.now c.id_of.result c.id_of-2.result (lent.Text c.as_slice.result) c.id_of.ensures.value c.id_of-2.ensures.value (ap Text c.as_slice.ensures.value ∙ c.in_ok-joined.ensures) (λ _. c.insertion.ensures) c.run.ensures.ran

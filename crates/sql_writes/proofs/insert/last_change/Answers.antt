@@ -5,4 +5,4 @@ use Rattle.sql_writes.proofs.insert.last_change.Goals as goal
 
 pub returns-clause-changes : goal.returns-clause-changes
 returns-clause-changes g c =
-    changes_come _ _ _ _ c.args.name.now (record { number = c.args.number; reply = c.args.reply.now }) c.id_of.result c.number_of.result (lent.Blob c.args.reply) c.id_of.ensures.value c.number_of.ensures refl (λ _. c.insert_last_change.ensures) c.run.ensures.ran
+    changes_come _ _ _ _ c.args.name.now (record { number = c.args.number; reply = c.args.reply.now }) c.id_of.result c.number_of.result (lent.Blob c.args.reply) c.id_of.ensures.value c.number_of.ensures refl (λ _. c.insertion.ensures) c.run.ensures.ran

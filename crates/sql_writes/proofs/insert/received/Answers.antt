@@ -6,4 +6,4 @@ use Rattle.sql_writes.proofs.insert.received.Goals as goal
 
 pub returns-clause-changes : goal.returns-clause-changes
 returns-clause-changes g c =
-    received_come _ _ _ _ c.args.client.now c.args.ids.now c.id_of.result (lent.Text c.as_slice.result) c.id_of.ensures.value (ap Text c.as_slice.ensures.value ∙ c.in_ok-joined.ensures) (λ _. c.insert_received_list.ensures) c.run.ensures.ran
+    received_come _ _ _ _ c.args.client.now c.args.ids.now c.id_of.result (lent.Text c.as_slice.result) c.id_of.ensures.value (ap Text c.as_slice.ensures.value ∙ c.in_ok-joined.ensures) (λ _. c.insertion.ensures) c.run.ensures.ran

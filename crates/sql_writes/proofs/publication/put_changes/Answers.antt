@@ -21,8 +21,8 @@ pub put_change-requires : goal.put_change-requires
 put_change-requires g c = record {
   sups = λ clean.
       let before = was_clean _ _ _ c.in_ok-conds.ensures.changes.survives (c.loop-change.invariant.clean clean) in
-      subst (λ text. Means bureau text (insert_given 4 2) 2) (sym (c.in_ok-sups.ensures.text before)) c.insert_sysmod_sup.ensures;
-  conds = λ clean. subst (λ text. Means bureau text (insert_given 9 3) 3) (sym (c.in_ok-conds.ensures.text (c.loop-change.invariant.clean clean))) c.insert_sysmod_cond.ensures;
+      subst (λ text. Means bureau text (insert_given 4 2) 2) (sym (c.in_ok-sups.ensures.text before)) c.insertion.ensures;
+  conds = λ clean. subst (λ text. Means bureau text (insert_given 9 3) 3) (sym (c.in_ok-conds.ensures.text (c.loop-change.invariant.clean clean))) c.insertion-2.ensures;
 }
 
 pub returns-in_err-put_change-clause-changes : goal.returns-in_err-put_change-clause-changes

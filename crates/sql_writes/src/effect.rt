@@ -5,7 +5,7 @@ use zone_lists::{Pattern, ZoneRow};
 
 /// What a change does to the tables, in the caller's own lists.
 #[derive(Clone, Copy)]
-pub(crate) enum Effect<'a> {
+pub enum Effect<'a> {
     /// The publisher publishes these changes.
     Publication {
         changes: &'a [Change],

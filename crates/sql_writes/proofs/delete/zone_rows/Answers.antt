@@ -1,7 +1,0 @@
-use Rattle.sql_writes.proofs.GoneFacts.{rows_go}
-use Rattle.sql_writes.proofs.delete.zone_rows.Goals as goal
-
-pub returns-clause-changes : goal.returns-clause-changes
-returns-clause-changes g c =
-    rows_go _ _ _ _ c.args.client.now c.args.zone.now c.id_of.result c.id_of-2.result c.id_of.ensures.is_id c.id_of-2.ensures.is_id c.id_of.ensures.value c.id_of-2.ensures.value
-    c.delete_zone_rows.ensures c.run.ensures.ran
