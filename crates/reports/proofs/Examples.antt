@@ -5,11 +5,10 @@ use Rattle.mcs_reader.specs.Id.{padded}
 use Rattle.holddata.specs.declared.hold.Hold.{Hold}
 use Rattle.holddata.specs.declared.key.Kind.{Kind}
 use Rattle.holddata.specs.declared.key.Kind.TheVariants.{ErrorHold, FixcatHold, SystemHold}
-use Rattle.zone_lists.specs.declared.zones.ZoneRow.{ZoneRow}
-use Rattle.zone_lists.specs.declared.zones.ZoneState.TheVariants.{Applied}
 use Rattle.catalogue.specs.Content.{Content}
 use Rattle.catalogue.specs.declared.sysmod.Sysmod.{Sysmod}
 use Rattle.catalogue.specs.declared.sysmod.SysmodKind.TheVariants.{Func, Ptf}
+use Rattle.supersede.proofs.Examples.{apar, first, function, second, third, zone}
 use Rattle.chains.specs.Verdicts.{verdict_of}
 use Rattle.chains.specs.declared.verdict.Status.{Status}
 use Rattle.chains.specs.declared.verdict.Status.TheVariants.{Good, Held, Lack}
@@ -18,23 +17,8 @@ use Rattle.reports.specs.ErrRows.{err_rows_of}
 use Rattle.reports.specs.MissingRows.{missing_rows_of}
 use Rattle.reports.specs.declared.rows.ErrRow.{ErrRow}
 
-abbrev function : List ℕ
-function = padded (codes "HBB7790")
-
-abbrev first : List ℕ
-first = padded (codes "UA10001")
-
-abbrev second : List ℕ
-second = padded (codes "UA10002")
-
-abbrev third : List ℕ
-third = padded (codes "UA10005")
-
 abbrev stranger : List ℕ
 stranger = padded (codes "UA10008")
-
-abbrev apar : List ℕ
-apar = padded (codes "AA20002")
 
 abbrev other_apar : List ℕ
 other_apar = padded (codes "AA20009")
@@ -57,10 +41,6 @@ base = record { id = function; kind = Func; fmids = []; pre = []; req = []; cond
 
 abbrev error : Hold
 error = hold first ErrorHold apar None []
-
--- a zone with the function and the first PTF
-abbrev zone : List ZoneRow
-zone = record { sysmod = function; state = Applied } ∷ record { sysmod = first; state = Applied } ∷ []
 
 abbrev row : List ℕ → Option (List ℕ) → Option Status → ErrRow
 row reason resolver status = record { fmid = Some function; sysmod = first; reason = reason; resolver = resolver; status = status; received = Some false; class = None }

@@ -1,7 +1,7 @@
 -- The rows of the missing fix report, one category of a hold at a time.
-use Rattle.std.proofs.Common.{◌≡◌, ◌∙◌, ℕ, ◌+◌, ◌<◌, ◌≤◌, ◌||◌, Bool, true, false, not, List, [], ◌∷◌, ◌++◌, Option, Some, None, filter, get_or, length, map, option_map, take, if◌then◌else◌, refl, sym, ap, inl, inr, arith}
+use Rattle.std.proofs.Common.{◌≡◌, ◌∙◌, ℕ, ◌+◌, ◌<◌, ◌||◌, Bool, true, false, not, List, [], ◌∷◌, ◌++◌, Option, Some, None, filter, get_or, length, map, option_map, take, if◌then◌else◌, refl, sym, ap, inl, inr}
 use Rattle.std.specs.BTreeSet.{insert_key}
-use Rattle.std.specs.List.{AllByRecursion, cons_option, flat_map, fold, list_any}
+use Rattle.std.specs.List.{cons_option, flat_map, fold, list_any}
 use Rattle.std.specs.Option.{IfSome}
 use Rattle.std.proofs.lemmas.Bool.{cases_Bool}
 use Rattle.std.proofs.lemmas.List.{map-append, take_more}
@@ -13,17 +13,17 @@ use Rattle.holddata.specs.declared.hold.Hold.{Hold}
 use Rattle.zone_lists.specs.Pattern.{does_match}
 use Rattle.zone_lists.specs.declared.zones.ZoneRow.{ZoneRow}
 use Rattle.catalogue.specs.Content.{Content}
-use Rattle.catalogue.specs.Ids.{in_order, same_id}
-use Rattle.catalogue.proofs.IdFacts.{in_order_any, itself}
+use Rattle.catalogue.specs.Ids.{same_id}
+use Rattle.catalogue.proofs.IdFacts.{itself}
 use Rattle.supersede.specs.Giving.{is_there}
 use Rattle.supersede.specs.Reach.{has}
-use Rattle.reports.specs.MissingFound.{both_of, held_cmp, held_in_order, missing_held, named_by, put_held, resolver_listed, resolvers_in, row_found, row_told, rows_by, rows_each, rows_found, rows_of, rows_with, unless_resolver_there, unless_there}
+use Rattle.reports.specs.MissingFound.{both_of, held_cmp, held_in_order, missing_held, missing_resolved, missing_told, named_by, put_held, row_found, rows_found, unless_resolver_there}
 use Rattle.reports.specs.MissingRows.{Missing, by_category, categories_asked, is_missing, is_resolver_there, missing_rows_of, missing_rows_of_category, resolvers_by, resolvers_of}
-use Rattle.reports.specs.Resolvers.{candidates_for, each_or_none, status_in}
+use Rattle.reports.specs.Resolvers.{AreAmong, candidates_for, each_or_none, found_by, status_in, unless_there}
 use Rattle.reports.specs.declared.missing.MissingHeld.{MissingHeld}
 use Rattle.reports.specs.declared.rows.MissingRow.{MissingRow}
-use Rattle.reports.proofs.ErrorFacts.{has_more, map_fold, map_map, or_right}
-use Rattle.reports.proofs.ResolverFacts.{if_some, names_has}
+use Rattle.reports.proofs.ErrorFacts.{map_fold, map_map, or_right}
+use Rattle.reports.proofs.ResolverFacts.{if_some}
 
 -- ---- the categories that patterns match
 
@@ -59,53 +59,12 @@ asked_more patterns hold texts i text keys old new b below at was is now =
     by true h = rw h refl
     by false h = rw h refl
 
--- ---- what was asked
-
-abbrev pub AllAsked : List (List ℕ) → List MissingRow → Type 0
-AllAsked asked rows = AllByRecursion (λ row. IfSome row.resolver (λ resolver. has asked resolver ≡ true)) rows
-
-pub asked_front : (asked : List (List ℕ)) (rows : List MissingRow) (row : MissingRow) → AllAsked asked (rows ++ row ∷ []) → AllAsked asked rows
-asked_front asked [] row all = tt
-asked_front asked (x ∷ xs) row all = (all.0, asked_front asked xs row all.1)
-
-pub asked_last : (asked : List (List ℕ)) (rows : List MissingRow) (row : MissingRow) → AllAsked asked (rows ++ row ∷ []) → IfSome row.resolver (λ resolver. has asked resolver ≡ true)
-asked_last asked [] row all = all.0
-asked_last asked (x ∷ xs) row all = asked_last asked xs row all.1
-
-some_first : (asked : List (List ℕ)) (o : Option (List ℕ)) (ids : List (List ℕ)) → ((id : List ℕ) → has (cons_option o ids) id ≡ true → has asked id ≡ true) → IfSome o (λ resolver. has asked resolver ≡ true)
-some_first asked None ids stands = tt
-some_first asked (Some r) ids stands = stands r (rw (itself r) refl)
-
-all_asked : (asked : List (List ℕ)) (rows : List MissingRow) → ((id : List ℕ) → has (resolvers_in rows) id ≡ true → has asked id ≡ true) → AllAsked asked rows
-all_asked asked [] stands = tt
-all_asked asked (row ∷ rows) stands =
-    (some_first asked row.resolver (resolvers_in rows) stands, all_asked asked rows (λ id h. stands id (has_more row.resolver (resolvers_in rows) id h)))
-
-pub all_in_order : (asked : List (List ℕ)) (rows : List MissingRow) → asked ≡ in_order (resolvers_in rows) → AllAsked asked rows
-all_in_order asked rows are = all_asked asked rows (λ id h. ap (λ ids. has ids id) are ∙ in_order_any (same_id id) (resolvers_in rows) ∙ h)
-
-pub each_is : (held : MissingHeld) (resolvers : List (List ℕ)) → 1 ≤ length resolvers → rows_each held resolvers ≡ rows_with held resolvers
-each_is held [] some = absurd (omega (arith, some))
-each_is held (first ∷ more) some = sym (map_map (row_found held) Some (first ∷ more))
-
 -- ---- what was answered
 
--- what a hold names was asked for
-named_asked : (helds : List MissingHeld) (i : ℕ) (held : MissingHeld) (asked : List (List ℕ)) (id : List ℕ) → i < length helds → held ≡ get_or helds i held → asked ≡ in_order (flat_map named_by helds)
-    → has (named_by held) id ≡ true → has asked id ≡ true
-named_asked helds i held asked id below at are h =
-    ap (λ ids. has ids id) are ∙ in_order_any (same_id id) (flat_map named_by helds)
-    ∙ names_has named_by helds i held id below (ap (λ one. has (named_by one) id) (sym at) ∙ h)
-
-pub reason_asked : (helds : List MissingHeld) (i : ℕ) (held : MissingHeld) (asked : List (List ℕ)) → i < length helds → held ≡ get_or helds i held → asked ≡ in_order (flat_map named_by helds)
-    → has asked held.reason ≡ true
-reason_asked helds i held asked below at are = named_asked helds i held asked held.reason below at are (rw (itself held.reason) refl)
-
-pub resolver_asked : (helds : List MissingHeld) (i : ℕ) (held : MissingHeld) (asked : List (List ℕ)) → i < length helds → held ≡ get_or helds i held → asked ≡ in_order (flat_map named_by helds)
-    → IfSome held.resolver (λ resolver. has asked resolver ≡ true)
-resolver_asked helds i held asked below at are = if_some (λ resolver. has asked resolver ≡ true) held.resolver (λ id is.
-    let last : has (resolver_listed held.resolver) id ≡ true = ap (λ o. has (resolver_listed o) id) is ∙ rw (itself id) refl in
-    named_asked helds i held asked id below at are (or_right (same_id id held.reason) (has (resolver_listed held.resolver) id) last))
+pub resolver_among : (held : MissingHeld) (asked : List (List ℕ)) → AreAmong (named_by held) asked → IfSome held.resolver (λ resolver. has asked resolver ≡ true)
+resolver_among held asked among = if_some (λ resolver. has asked resolver ≡ true) held.resolver (λ id is.
+    let last : has (cons_option held.resolver []) id ≡ true = ap (λ o. has (cons_option o []) id) is ∙ rw (itself id) refl in
+    among id (or_right (same_id id held.reason) (has (cons_option held.resolver []) id) last))
 
 -- the candidates that were found, and the resolver
 pub with_resolver : {X : Type 0} (f : X → List (List ℕ)) (found : Option X) (id : List ℕ) (there : Bool) (candidates : List (List ℕ)) → option_map f found ≡ (if there then None else Some candidates)
@@ -138,27 +97,27 @@ both_are content rows hold = by (is_there content rows hold.key.reason) (is_reso
     by false false = refl
 
 rows_by_hold : (content : Content) (rows : List ZoneRow) (received : List (List ℕ)) (missing : List Missing)
-    → map (row_told (status_in content rows) received) (rows_found content rows (map missing_held missing))
+    → map (missing_told (status_in content rows) received) (rows_found content rows (map missing_held missing))
     ≡ flat_map (missing_rows_of_category content rows received) (filter (λ one. is_missing content rows one.hold) missing)
 rows_by_hold content rows received [] = refl
 rows_by_hold content rows received (one ∷ more) =
-    map-append (row_told (status_in content rows) received) (rows_of content rows (missing_held one)) (rows_found content rows (map missing_held more))
-    ∙ ap (λ rest. map (row_told (status_in content rows) received) (rows_of content rows (missing_held one)) ++ rest) (rows_by_hold content rows received more)
-    ∙ ap (λ resolvers. map (row_told (status_in content rows) received) (rows_by (missing_held one) resolvers) ++ later) (both_are content rows one.hold)
+    map-append (missing_told (status_in content rows) received) (found_by (row_found (missing_held one)) (missing_resolved content rows (missing_held one))) (rows_found content rows (map missing_held more))
+    ∙ ap (λ rest. map (missing_told (status_in content rows) received) (found_by (row_found (missing_held one)) (missing_resolved content rows (missing_held one))) ++ rest) (rows_by_hold content rows received more)
+    ∙ ap (λ resolvers. map (missing_told (status_in content rows) received) (found_by (row_found (missing_held one)) resolvers) ++ later) (both_are content rows one.hold)
     ∙ elim (cases_Bool (is_missing content rows one.hold)) [
       | inr there ↦ rw there refl
       | inl absent ↦
           rw absent (ap (λ first. first ++ later)
-          (map_map (row_told (status_in content rows) received) (row_found (missing_held one)) (each_or_none (resolvers_of content rows one.hold))))
+          (map_map (missing_told (status_in content rows) received) (row_found (missing_held one)) (each_or_none (resolvers_of content rows one.hold))))
     ]
   where
     later : List MissingRow
     later = flat_map (missing_rows_of_category content rows received) (filter (λ m. is_missing content rows m.hold) more)
 
-pub rows_are : (content : Content) (rows : List ZoneRow) (received patterns : List (List ℕ)) (holds : List Hold) (helds : List MissingHeld) (founds told : List MissingRow)
-    → helds ≡ held_in_order patterns holds → founds ≡ rows_found content rows helds → told ≡ map (row_told (status_in content rows) received) founds
+pub rows_are : (content : Content) (rows : List ZoneRow) (received patterns : List (List ℕ)) (holds : List Hold) (helds : List MissingHeld) (told : List MissingRow)
+    → helds ≡ held_in_order patterns holds → told ≡ map (missing_told (status_in content rows) received) (rows_found content rows helds)
     → told ≡ missing_rows_of content rows received patterns holds
-rows_are content rows received patterns holds helds founds told held found is =
+rows_are content rows received patterns holds helds told held is =
     is
-    ∙ ap (map (row_told (status_in content rows) received)) (found ∙ ap (rows_found content rows) (held ∙ held_are patterns holds))
+    ∙ ap (λ ordered. map (missing_told (status_in content rows) received) (rows_found content rows ordered)) (held ∙ held_are patterns holds)
     ∙ rows_by_hold content rows received (by_category (flat_map (categories_asked patterns) holds))

@@ -1,8 +1,8 @@
 -- No part of what is promised: private contracts cite it. How the rows of the missing fix report are found.
-use Rattle.std.specs.Prelude.{ℕ, List, [], ◌∷◌, ◌++◌, Option, Some, None, filter_map, map, option_map, if◌then◌else◌}
+use Rattle.std.specs.Prelude.{ℕ, Bool, List, [], ◌∷◌, ◌++◌, Option, Some, None, map, if◌then◌else◌}
 use Rattle.std.specs.BTreeSet.{insert_key}
 use Rattle.std.specs.Cmp.Lexicographic.{slice_cmp}
-use Rattle.std.specs.List.{flat_map, fold}
+use Rattle.std.specs.List.{cons_option, flat_map, fold}
 use Rattle.std.specs.Option.{option_cmp}
 use Rattle.std.specs.Ordering.{nat_cmp, ordering_then}
 use Rattle.std.specs.declared.cmp.Ordering.{Ordering}
@@ -10,10 +10,9 @@ use Rattle.holddata.specs.declared.hold.Hold.{Hold}
 use Rattle.zone_lists.specs.declared.zones.ZoneRow.{ZoneRow}
 use Rattle.catalogue.specs.Content.{Content}
 use Rattle.catalogue.specs.Ids.{id_cmp, in_order}
-use Rattle.supersede.specs.Giving.{is_there}
 use Rattle.chains.specs.declared.verdict.Status.{Status}
 use Rattle.reports.specs.MissingRows.{Missing, categories_asked, is_resolver_there, resolvers_by}
-use Rattle.reports.specs.Resolvers.{candidates_for, each_or_none, is_received}
+use Rattle.reports.specs.Resolvers.{all_found, row_by, unless_there}
 use Rattle.reports.specs.declared.missing.MissingHeld.{MissingHeld}
 use Rattle.reports.specs.declared.rows.MissingRow.{MissingRow}
 
@@ -38,12 +37,8 @@ abbrev pub held_in_order : List (List ℕ) → List Hold → List MissingHeld
 held_in_order patterns holds = put_held [] (flat_map (categories_asked patterns) holds)
 
 -- what a hold names: its reason, and its resolver where it has one
-abbrev pub resolver_listed : Option (List ℕ) → List (List ℕ)
-resolver_listed None = []
-resolver_listed (Some resolver) = resolver ∷ []
-
 abbrev pub named_by : MissingHeld → List (List ℕ)
-named_by held = held.reason ∷ resolver_listed held.resolver
+named_by held = held.reason ∷ cons_option held.resolver []
 
 -- what is known of the candidates for a reason, and of the SYSMODs by a resolver, unless one is there
 abbrev pub both_of : Option (List (List ℕ)) → Option (List (List ℕ)) → Option (List (List ℕ))
@@ -51,12 +46,12 @@ both_of None by_resolver = None
 both_of (Some by_reason) None = None
 both_of (Some by_reason) (Some by_resolver) = Some (in_order (by_reason ++ by_resolver))
 
-abbrev pub unless_there : Content → List ZoneRow → List ℕ → Option (List (List ℕ))
-unless_there content rows id = if is_there content rows id then None else Some (candidates_for content rows id)
-
 abbrev pub unless_resolver_there : Content → List ZoneRow → Option (List ℕ) → Option (List (List ℕ))
 unless_resolver_there content rows resolver =
     if is_resolver_there content rows resolver then None else Some (resolvers_by content rows resolver)
+
+abbrev pub missing_resolved : Content → List ZoneRow → MissingHeld → Option (List (List ℕ))
+missing_resolved content rows held = both_of (unless_there content rows held.reason) (unless_resolver_there content rows held.resolver)
 
 -- the row of a category of a hold, before it is known what is said of the resolver
 abbrev pub row_found : MissingHeld → Option (List ℕ) → MissingRow
@@ -69,32 +64,19 @@ row_found held resolver = record {
   received = None;
 }
 
-abbrev pub rows_each : MissingHeld → List (List ℕ) → List MissingRow
-rows_each held resolvers = map (λ resolver. row_found held (Some resolver)) resolvers
-
-abbrev pub rows_with : MissingHeld → List (List ℕ) → List MissingRow
-rows_with held resolvers = map (row_found held) (each_or_none resolvers)
-
-abbrev pub rows_by : MissingHeld → Option (List (List ℕ)) → List MissingRow
-rows_by held None = []
-rows_by held (Some resolvers) = rows_with held resolvers
-
-abbrev pub rows_of : Content → List ZoneRow → MissingHeld → List MissingRow
-rows_of content rows held = rows_by held (both_of (unless_there content rows held.reason) (unless_resolver_there content rows held.resolver))
-
 abbrev pub rows_found : Content → List ZoneRow → List MissingHeld → List MissingRow
-rows_found content rows helds = flat_map (rows_of content rows) helds
+rows_found content rows helds = all_found row_found (missing_resolved content rows) helds
 
-abbrev pub resolvers_in : List MissingRow → List (List ℕ)
-resolvers_in rows = filter_map (λ row. row.resolver) rows
-
--- a row with what is said of its resolver
-abbrev pub row_told : (List ℕ → Status) → List (List ℕ) → MissingRow → MissingRow
-row_told status received row = record {
+-- a row with what is said of its resolver and whether that was received
+abbrev pub row_told : MissingRow → Option Status → Option Bool → MissingRow
+row_told row status received = record {
   category = row.category;
   sysmod = row.sysmod;
   reason = row.reason;
   resolver = row.resolver;
-  status = option_map status row.resolver;
-  received = option_map (is_received received) row.resolver;
+  status = status;
+  received = received;
 }
+
+abbrev pub missing_told : (List ℕ → Status) → List (List ℕ) → MissingRow → MissingRow
+missing_told = row_by (λ (row : MissingRow). row.resolver) row_told

@@ -1,10 +1,14 @@
 -- What a report says of the SYSMODs that resolve a hold.
-use Rattle.std.specs.Prelude.{ℕ, Bool, List, [], ◌∷◌, Option, Some, None, filter, map}
-use Rattle.std.specs.List.{AllByRecursion, list_any}
+use Rattle.std.specs.Prelude.{◌≡◌, ℕ, Bool, true, List, [], ◌∷◌, Option, Some, None, filter, map, option_map, if◌then◌else◌}
+use Rattle.std.specs.Global.{Vec}
+use Rattle.std.specs.List.{AllByRecursion, flat_map, list_any}
+use Rattle.mcs_reader.specs.declared.id.Id.{Id}
 use Rattle.zone_lists.specs.declared.zones.ZoneRow.{ZoneRow}
 use Rattle.catalogue.specs.Content.{Content, ids_of}
 use Rattle.catalogue.specs.Ids.{same_id}
-use Rattle.supersede.specs.Giving.{gives, is_candidate}
+use Rattle.supersede.specs.Giving.{gives, is_candidate, is_there}
+use Rattle.supersede.specs.Reach.{has}
+use Rattle.chains.specs.Candidates.{candidates_unless_there}
 use Rattle.chains.specs.Judge.{status_of}
 use Rattle.chains.specs.Verdicts.{verdict_of}
 use Rattle.chains.specs.declared.verdict.Status.{Status}
@@ -26,6 +30,31 @@ candidates_for content rows id =
 abbrev pub each_or_none : List (List ℕ) → List (Option (List ℕ))
 each_or_none [] = None ∷ []
 each_or_none (first ∷ more) = map Some (first ∷ more)
+
+-- the candidates that give an id, unless it is there
+abbrev pub unless_there : Content → List ZoneRow → List ℕ → Option (List (List ℕ))
+unless_there content rows id = if is_there content rows id then None else Some (candidates_for content rows id)
+
+-- each of some ids stands among others
+abbrev pub AreAmong : List (List ℕ) → List (List ℕ) → Type 0
+AreAmong ids others = (id : List ℕ) → has ids id ≡ true → has others id ≡ true
+
+-- what was answered for the ids that were asked for
+abbrev pub AreAnswers : Content → List ZoneRow → List (List ℕ) → List (Option (Vec Id)) → Type 0
+AreAnswers content rows asked answers = map (option_map (λ ids. ids.items)) answers ≡ map (candidates_unless_there content rows) asked
+
+-- what is found for a hold, with each of its resolvers or with none; nothing where it is resolved already
+abbrev pub found_by : {Found : Type 0} → (Option (List ℕ) → Found) → Option (List (List ℕ)) → List Found
+found_by found None = []
+found_by found (Some resolvers) = map found (each_or_none resolvers)
+
+-- what is found for all that is held, by what resolves each
+abbrev pub all_found : {Held Found : Type 0} → (Held → Option (List ℕ) → Found) → (Held → Option (List (List ℕ))) → List Held → List Found
+all_found found resolved helds = flat_map (λ held. found_by (found held) (resolved held)) helds
+
+-- the row of what is found, by what is said of its resolver and whether that was received
+abbrev pub row_by : {Found Row : Type 0} → (Found → Option (List ℕ)) → (Found → Option Status → Option Bool → Row) → (List ℕ → Status) → List (List ℕ) → Found → Row
+row_by resolver row status received found = row found (option_map status (resolver found)) (option_map (is_received received) (resolver found))
 
 -- each row stands before those after it
 abbrev pub StandInOrder : {Row : Type 0} → (Row → Row → Type 0) → List Row → Type 0

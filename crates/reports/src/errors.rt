@@ -1,20 +1,15 @@
 //! The rows of the exception SYSMOD report.
-ghost use Rattle.std.specs.Prelude.{◌≡◌, ◌++◌, true, ℕ, List, map, option_map, IfOk, IfSome, OnOk};
-ghost use Rattle.zone_lists.specs.declared.zones.ZoneRow.{ZoneRow};
-ghost use Rattle.catalogue.specs.Content.{Content};
-ghost use Rattle.catalogue.specs.Ids.{Ascend, in_order};
+ghost use Rattle.std.specs.Prelude.{◌≡◌, IfOk};
+ghost use Rattle.catalogue.specs.Ids.{Ascend};
 ghost use Rattle.catalogue.specs.View.{MayAsk, Tells};
 ghost use Rattle.catalogue.specs.declared.fault.SourceFault.TheVariants.{Device};
-ghost use Rattle.supersede.specs.Reach.{has};
-ghost use Rattle.chains.specs.Candidates.{candidates_unless_there};
-ghost use Rattle.chains.specs.declared.verdict.Status.{Status};
 ghost use Rattle.reports.specs.ErrRows.{ErrRowsAscend, err_rows_of};
-ghost use Rattle.reports.specs.Found.{error_row, errors_by, errors_each, errors_found, errors_with, held_in_order, resolvers_in};
+ghost use Rattle.reports.specs.Found.{error_found, error_named, error_resolved, error_row, held_in_order};
 
-use crate::resolvers::{answer_among, is_among, status_among};
+use crate::resolvers::{Answer, Reported, Resolved, answer_among, copied, rows_of};
 use crate::{ErrRow, Status};
 use catalogue::{Published, SourceFault};
-use chains::{Judge, candidates_for};
+use chains::Judge;
 use faults::NoMemory;
 use holddata::Hold;
 use mcs_reader::Id;
@@ -68,10 +63,7 @@ pub fn err_rows<P: Published, J: Judge<P>>(
     ensures order { ErrRowsAscend }
 {
     let held = in_report_order(alloc, holds)?;
-    let found = errors_of(alloc, source, zone, &held)?;
-    let asked = resolvers_in(alloc, &found)?;
-    let statuses = judge.statuses(alloc, source, zone, &asked)?;
-    Ok(rows_told(alloc, &found, &asked, &statuses, received)?)
+    rows_of(alloc, source, judge, zone, received, &held)
 }
 
 // What the report shows of the holds, in its order.
@@ -90,154 +82,50 @@ fn in_report_order(alloc: Global, holds: &[Hold]) -> Result<Vec<ErrorHeld>, NoMe
     held.into_iter().collect(alloc)
 }
 
-// The holds whose reasons aren't there, each with what resolves it.
-fn errors_of<P: Published>(
-    alloc: Global,
-    source: &mut P,
-    zone: &Zone,
-    held: &[ErrorHeld],
-) -> Result<Vec<ErrorFound>, SourceFault>
-    ensures asks { MayAsk P.content_view Device source.old source.new result }
-    ensures found { IfOk result (λ found. Tells P.content_view source.old source.new
-        (λ content. found.items ≡ errors_found content zone.now held.now)) }
-{
-    let reasons = reasons_in(alloc, held)?;
-    let answers = candidates_for(alloc, source, zone, &reasons)?;
-    Ok(errors_answered(alloc, held, &reasons, &answers)?)
-}
+impl Reported<ErrorFound> for ErrorHeld {
+    ghost named_by = { error_named };
 
-// The reasons of the holds, ascending, each once.
-fn reasons_in(alloc: Global, held: &[ErrorHeld]) -> Result<Vec<Id>, NoMemory>
-    ensures reasons { IfOk result (λ ids. ids.items ≡ in_order (map (λ one. one.reason) held.now)) }
-    ensures ascend { IfOk result (λ ids. Ascend ids.items) }
-{
-    let mut ids = BTreeSet::new(alloc);
-    for one in held {
-        ids.insert(one.reason)?;
+    ghost resolved_by = { error_resolved };
+
+    ghost found_with = { error_found };
+
+    fn put_named(&self, ids: &mut BTreeSet<Id>) -> Result<(), NoMemory> {
+        ids.insert(self.reason)?;
+        Ok(())
     }
-    ids.into_iter().collect(alloc)
-}
 
-// What is found for the holds, by what was answered for each reason.
-fn errors_answered(
-    alloc: Global,
-    held: &[ErrorHeld],
-    reasons: &[Id],
-    answers: &[Option<Vec<Id>>],
-) -> Result<Vec<ErrorFound>, NoMemory>
-    requires { Ascend reasons.now }
-    ensures { IfOk result (λ found. (content : Content) (rows : List ZoneRow)
-        → map (option_map (λ ids. ids.items)) answers.now
-        ≡ map (candidates_unless_there content rows) reasons.now
-        → reasons.now ≡ in_order (map (λ one. one.reason) held.now)
-        → found.items ≡ errors_found content rows held.now) }
-{
-    let mut found = Vec::new(alloc);
-    let other = None;
-    for one in held {
-        let resolvers = answer_among(reasons, answers, &other, &one.reason);
-        put_found(&mut found, one, resolvers)?;
+    fn answer(&self, _alloc: Global, asked: &[Id], answers: &[Answer]) -> Result<Answer, NoMemory> {
+        let none = None;
+        copied(answer_among(asked, answers, &none, &self.reason))
     }
-    Ok(found)
-}
 
-// Adds what is found for a hold, unless its reason is there.
-fn put_found(
-    found: &mut Vec<ErrorFound>,
-    held: &ErrorHeld,
-    resolvers: &Option<Vec<Id>>,
-) -> Result<(), NoMemory>
-    ensures { OnOk result (found.new.items
-        ≡ found.old.items ++ errors_by held.now (option_map (λ ids. ids.items) resolvers.now)) }
-{
-    match resolvers {
-        Some(resolvers) => put_each_or_none(found, held, resolvers),
-        None => Ok(()),
+    fn found(&self, _alloc: Global, resolver: Option<Id>) -> Result<ErrorFound, NoMemory> {
+        Ok(ErrorFound {
+            held: *self,
+            resolver,
+        })
     }
 }
 
-fn put_each_or_none(
-    found: &mut Vec<ErrorFound>,
-    held: &ErrorHeld,
-    resolvers: &[Id],
-) -> Result<(), NoMemory>
-    ensures { OnOk result (found.new.items ≡ found.old.items ++ errors_with held.now resolvers.now) }
-{
-    match resolvers {
-        [] => Ok(found.push(ErrorFound {
-            held: *held,
-            resolver: None,
-        })?),
-        _ => put_each(found, held, resolvers),
-    }
-}
+impl Resolved<ErrRow> for ErrorFound {
+    ghost resolver_of = { λ found. found.resolver };
 
-fn put_each(found: &mut Vec<ErrorFound>, held: &ErrorHeld, resolvers: &[Id]) -> Result<(), NoMemory>
-    ensures { OnOk result (found.new.items ≡ found.old.items ++ errors_each held.now resolvers.now) }
-{
-    for resolver in resolvers {
-        found.push(ErrorFound {
-            held: *held,
-            resolver: Some(*resolver),
-        })?;
-    }
-    Ok(())
-}
+    ghost row_of = { error_row };
 
-// The resolvers that were found, ascending, each once.
-fn resolvers_in(alloc: Global, found: &[ErrorFound]) -> Result<Vec<Id>, NoMemory>
-    ensures resolvers { IfOk result (λ ids. ids.items ≡ in_order (resolvers_in found.now)) }
-    ensures ascend { IfOk result (λ ids. Ascend ids.items) }
-{
-    let mut ids = BTreeSet::new(alloc);
-    for one in found {
-        if let Some(resolver) = one.resolver {
-            ids.insert(resolver)?;
+    fn resolver(&self) -> Option<Id> {
+        self.resolver
+    }
+
+    fn into_row(self, status: Option<Status>, received: Option<bool>) -> ErrRow {
+        let held = self.held;
+        ErrRow {
+            fmid: held.fmid,
+            sysmod: held.sysmod,
+            reason: held.reason,
+            resolver: self.resolver,
+            status,
+            received,
+            class: held.class,
         }
     }
-    ids.into_iter().collect(alloc)
-}
-
-// The rows, with what was answered for each resolver.
-fn rows_told(
-    alloc: Global,
-    found: &[ErrorFound],
-    asked: &[Id],
-    statuses: &[Status],
-    received: &[Id],
-) -> Result<Vec<ErrRow>, NoMemory>
-    requires asked { Ascend asked.now }
-    requires received { Ascend received.now }
-    ensures { IfOk result (λ rows. (f : List ℕ → Status) → statuses.now ≡ map f asked.now
-        → asked.now ≡ in_order (resolvers_in found.now)
-        → rows.items ≡ map (error_row f received.now) found.now) }
-{
-    let mut rows = Vec::with_capacity(alloc, found.len())?;
-    for one in found {
-        rows.push(row_told(one, asked, statuses, received))?;
-    }
-    Ok(rows)
-}
-
-fn row_told(found: &ErrorFound, asked: &[Id], statuses: &[Status], received: &[Id]) -> ErrRow
-    requires asked { Ascend asked.now }
-    requires received { Ascend received.now }
-    ensures { (f : List ℕ → Status) → statuses.now ≡ map f asked.now
-        → IfSome found.now.resolver (λ resolver. has asked.now resolver ≡ true)
-        → result ≡ error_row f received.now found.now }
-{
-    let mut row = ErrRow {
-        fmid: found.held.fmid,
-        sysmod: found.held.sysmod,
-        reason: found.held.reason,
-        resolver: found.resolver,
-        status: None,
-        received: None,
-        class: found.held.class,
-    };
-    if let Some(resolver) = &found.resolver {
-        row.status = Some(status_among(asked, statuses, resolver));
-        row.received = Some(is_among(received, resolver));
-    }
-    row
 }

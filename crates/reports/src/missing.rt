@@ -1,6 +1,6 @@
 //! The rows of the missing fix report.
-ghost use Rattle.std.specs.Prelude.{◌≡◌, ◌++◌, ◌∷◌, [], true, ℕ, List, Some, map, option_map, IfOk, IfSome, OnOk};
-ghost use Rattle.std.specs.List.{flat_map, list_any};
+ghost use Rattle.std.specs.Prelude.{◌≡◌, ◌++◌, ◌∷◌, [], true, List, Some, map, option_map, IfOk, IfSome, OnOk};
+ghost use Rattle.std.specs.List.{list_any};
 ghost use Rattle.zone_lists.specs.Pattern.{does_match};
 ghost use Rattle.zone_lists.specs.declared.zones.ZoneRow.{ZoneRow};
 ghost use Rattle.catalogue.specs.Content.{Content};
@@ -8,15 +8,14 @@ ghost use Rattle.catalogue.specs.Ids.{Ascend, in_order, put_among};
 ghost use Rattle.catalogue.specs.View.{MayAsk, Tells};
 ghost use Rattle.catalogue.specs.declared.fault.SourceFault.TheVariants.{Device};
 ghost use Rattle.supersede.specs.Reach.{has};
-ghost use Rattle.chains.specs.Candidates.{candidates_unless_there};
-ghost use Rattle.chains.specs.declared.verdict.Status.{Status};
 ghost use Rattle.reports.specs.MissingRows.{MissingRowsAscend, categories_asked, missing_rows_of};
-ghost use Rattle.reports.specs.MissingFound.{both_of, held_in_order, missing_held, named_by, put_held, resolvers_in, row_found, row_told, rows_by, rows_each, rows_found, rows_with, unless_resolver_there};
+ghost use Rattle.reports.specs.Resolvers.{AreAnswers};
+ghost use Rattle.reports.specs.MissingFound.{both_of, held_in_order, missing_held, missing_resolved, named_by, put_held, row_found, row_told, unless_resolver_there};
 
-use crate::resolvers::{answer_among, is_among, status_among};
+use crate::resolvers::{Answer, Reported, Resolved, answer_among, put_any, rows_of};
 use crate::{MissingCategory, MissingRow, Status};
 use catalogue::{Published, SourceFault};
-use chains::{Judge, candidates_for};
+use chains::Judge;
 use faults::NoMemory;
 use holddata::Hold;
 use mcs_reader::Id;
@@ -66,10 +65,7 @@ pub fn missing_rows<P: Published, J: Judge<P>>(
     ensures order { MissingRowsAscend }
 {
     let held = in_report_order(alloc, patterns, holds)?;
-    let rows = rows_of(alloc, source, zone, &held)?;
-    let asked = resolvers_in(alloc, &rows)?;
-    let statuses = judge.statuses(alloc, source, zone, &asked)?;
-    Ok(rows_told(alloc, rows, &asked, &statuses, received)?)
+    rows_of(alloc, source, judge, zone, received, &held)
 }
 
 // What the report shows of the categories that patterns match, in its order.
@@ -116,87 +112,23 @@ fn held_of(alloc: Global, category: &[u8], hold: &Hold) -> Result<MissingHeld, N
         (λ held. held ≡ missing_held (record { category = category.now; hold = hold.now })) }
 {
     Ok(MissingHeld {
-        category: MissingCategory::copied(alloc, category)?,
+        category: MissingCategory::copy_of(alloc, category)?,
         sysmod: hold.key.sysmod,
         reason: hold.key.reason,
         resolver: hold.resolver,
     })
 }
 
-// The rows, without what is said of each resolver.
-fn rows_of<P: Published>(
-    alloc: Global,
-    source: &mut P,
-    zone: &Zone,
-    held: &[MissingHeld],
-) -> Result<Vec<MissingRow>, SourceFault>
-    ensures asks { MayAsk P.content_view Device source.old source.new result }
-    ensures rows { IfOk result (λ rows. Tells P.content_view source.old source.new
-        (λ content. rows.items ≡ rows_found content zone.now held.now)) }
-{
-    let asked = asked_in(alloc, held)?;
-    let answers = candidates_for(alloc, source, zone, &asked)?;
-    Ok(rows_answered(alloc, held, &asked, &answers)?)
-}
-
-// The reasons and the resolvers of the holds, ascending, each once.
-fn asked_in(alloc: Global, held: &[MissingHeld]) -> Result<Vec<Id>, NoMemory>
-    ensures asked { IfOk result (λ ids. ids.items ≡ in_order (flat_map named_by held.now)) }
-    ensures ascend { IfOk result (λ ids. Ascend ids.items) }
-{
-    let mut ids = BTreeSet::new(alloc);
-    for one in held {
-        put_named(&mut ids, one)?;
-    }
-    ids.into_iter().collect(alloc)
-}
-
-fn put_named(ids: &mut BTreeSet<Id>, held: &MissingHeld) -> Result<(), NoMemory>
-    ensures { OnOk result (ids.new.keys ≡ put_among ids.old.keys (named_by held.now)) }
-{
-    ids.insert(held.reason)?;
-    if let Some(resolver) = held.resolver {
-        ids.insert(resolver)?;
-    }
-    Ok(())
-}
-
-// The rows, by what was answered for each reason and resolver.
-fn rows_answered(
-    alloc: Global,
-    held: &[MissingHeld],
-    asked: &[Id],
-    answers: &[Option<Vec<Id>>],
-) -> Result<Vec<MissingRow>, NoMemory>
-    requires { Ascend asked.now }
-    ensures { IfOk result (λ found. (content : Content) (rows : List ZoneRow)
-        → map (option_map (λ ids. ids.items)) answers.now
-        ≡ map (candidates_unless_there content rows) asked.now
-        → asked.now ≡ in_order (flat_map named_by held.now)
-        → found.items ≡ rows_found content rows held.now) }
-{
-    let mut rows = Vec::new(alloc);
-    let other = None;
-    for one in held {
-        let by_reason = answer_among(asked, answers, &other, &one.reason);
-        let by_resolver = unless_resolver_there(alloc, asked, answers, &one.resolver)?;
-        let resolvers = both_of(alloc, by_reason, &by_resolver)?;
-        put_rows(alloc, &mut rows, one, &resolvers)?;
-    }
-    Ok(rows)
-}
-
 // The resolver of a hold and the candidates that give it, unless it is there; none where a hold has none.
 fn unless_resolver_there(
     alloc: Global,
     asked: &[Id],
-    answers: &[Option<Vec<Id>>],
+    answers: &[Answer],
     resolver: &Option<Id>,
-) -> Result<Option<Vec<Id>>, NoMemory>
+) -> Result<Answer, NoMemory>
     requires { Ascend asked.now }
     ensures { IfOk result (λ found. (content : Content) (rows : List ZoneRow)
-        → map (option_map (λ ids. ids.items)) answers.now
-        ≡ map (candidates_unless_there content rows) asked.now
+        → AreAnswers content rows asked.now answers.now
         → IfSome resolver.now (λ resolver. has asked.now resolver ≡ true)
         → option_map (λ ids. ids.items) found ≡ unless_resolver_there content rows resolver.now) }
 {
@@ -208,7 +140,7 @@ fn unless_resolver_there(
 }
 
 // The candidates that give a resolver, and the resolver.
-fn with_itself(found: &Option<Vec<Id>>, resolver: &Id) -> Result<Option<Vec<Id>>, NoMemory>
+fn with_itself(found: &Answer, resolver: &Id) -> Result<Answer, NoMemory>
     ensures { IfOk result (λ all. option_map (λ ids. ids.items) all
         ≡ option_map (λ ids. ids.items ++ resolver.now ∷ []) found.now) }
 {
@@ -223,22 +155,18 @@ fn with_itself(found: &Option<Vec<Id>>, resolver: &Id) -> Result<Option<Vec<Id>>
 }
 
 // What resolves a hold by its reason and by its resolver, ascending, each once, unless one of them is there.
-fn both_of(
-    alloc: Global,
-    by_reason: &Option<Vec<Id>>,
-    by_resolver: &Option<Vec<Id>>,
-) -> Result<Option<Vec<Id>>, NoMemory>
+fn both_of(alloc: Global, by_reason: &Answer, by_resolver: &Answer) -> Result<Answer, NoMemory>
     ensures { IfOk result (λ all. option_map (λ ids. ids.items) all
         ≡ both_of (option_map (λ ids. ids.items) by_reason.now)
         (option_map (λ ids. ids.items) by_resolver.now)) }
 {
     match (by_reason, by_resolver) {
-        (Some(by_reason), Some(by_resolver)) => Ok(Some(joined(alloc, by_reason, by_resolver)?)),
+        (Some(by_reason), Some(by_resolver)) => Ok(Some(union(alloc, by_reason, by_resolver)?)),
         _ => Ok(None),
     }
 }
 
-fn joined(alloc: Global, ids: &[Id], more: &[Id]) -> Result<Vec<Id>, NoMemory>
+fn union(alloc: Global, ids: &[Id], more: &[Id]) -> Result<Vec<Id>, NoMemory>
     ensures { IfOk result (λ all. all.items ≡ in_order (ids.now ++ more.now)) }
 {
     let mut all = BTreeSet::new(alloc);
@@ -256,115 +184,50 @@ fn put_all(all: &mut BTreeSet<Id>, ids: &[Id]) -> Result<(), NoMemory>
     Ok(())
 }
 
-// Adds the rows of a category of a hold, unless its reason or its resolver is there.
-fn put_rows(
-    alloc: Global,
-    rows: &mut Vec<MissingRow>,
-    held: &MissingHeld,
-    resolvers: &Option<Vec<Id>>,
-) -> Result<(), NoMemory>
-    ensures { OnOk result (rows.new.items
-        ≡ rows.old.items ++ rows_by held.now (option_map (λ ids. ids.items) resolvers.now)) }
-{
-    match resolvers {
-        Some(resolvers) => put_each_or_none(alloc, rows, held, resolvers),
-        None => Ok(()),
+impl Reported<MissingRow> for MissingHeld {
+    ghost named_by = { named_by };
+
+    ghost resolved_by = { missing_resolved };
+
+    ghost found_with = { row_found };
+
+    fn put_named(&self, ids: &mut BTreeSet<Id>) -> Result<(), NoMemory> {
+        ids.insert(self.reason)?;
+        put_any(ids, self.resolver)
+    }
+
+    fn answer(&self, alloc: Global, asked: &[Id], answers: &[Answer]) -> Result<Answer, NoMemory> {
+        let none = None;
+        let by_reason = answer_among(asked, answers, &none, &self.reason);
+        let by_resolver = unless_resolver_there(alloc, asked, answers, &self.resolver)?;
+        both_of(alloc, by_reason, &by_resolver)
+    }
+
+    fn found(&self, alloc: Global, resolver: Option<Id>) -> Result<MissingRow, NoMemory> {
+        Ok(MissingRow {
+            category: MissingCategory::copy_of(alloc, self.category.as_bytes())?,
+            sysmod: self.sysmod,
+            reason: self.reason,
+            resolver,
+            status: None,
+            received: None,
+        })
     }
 }
 
-fn put_each_or_none(
-    alloc: Global,
-    rows: &mut Vec<MissingRow>,
-    held: &MissingHeld,
-    resolvers: &[Id],
-) -> Result<(), NoMemory>
-    ensures { OnOk result (rows.new.items ≡ rows.old.items ++ rows_with held.now resolvers.now) }
-{
-    match resolvers {
-        [] => Ok(rows.push(row_found(alloc, held, None)?)?),
-        _ => put_each(alloc, rows, held, resolvers),
-    }
-}
+impl Resolved<MissingRow> for MissingRow {
+    ghost resolver_of = { λ row. row.resolver };
 
-fn put_each(
-    alloc: Global,
-    rows: &mut Vec<MissingRow>,
-    held: &MissingHeld,
-    resolvers: &[Id],
-) -> Result<(), NoMemory>
-    ensures { OnOk result (rows.new.items ≡ rows.old.items ++ rows_each held.now resolvers.now) }
-{
-    for resolver in resolvers {
-        rows.push(row_found(alloc, held, Some(*resolver))?)?;
-    }
-    Ok(())
-}
+    ghost row_of = { row_told };
 
-fn row_found(
-    alloc: Global,
-    held: &MissingHeld,
-    resolver: Option<Id>,
-) -> Result<MissingRow, NoMemory>
-    ensures { IfOk result (λ row. row ≡ row_found held.now resolver) }
-{
-    Ok(MissingRow {
-        category: MissingCategory::copied(alloc, held.category.as_bytes())?,
-        sysmod: held.sysmod,
-        reason: held.reason,
-        resolver,
-        status: None,
-        received: None,
-    })
-}
-
-// The resolvers that were found, ascending, each once.
-fn resolvers_in(alloc: Global, rows: &[MissingRow]) -> Result<Vec<Id>, NoMemory>
-    ensures resolvers { IfOk result (λ ids. ids.items ≡ in_order (resolvers_in rows.now)) }
-    ensures ascend { IfOk result (λ ids. Ascend ids.items) }
-{
-    let mut ids = BTreeSet::new(alloc);
-    for row in rows {
-        if let Some(resolver) = row.resolver {
-            ids.insert(resolver)?;
-        }
+    fn resolver(&self) -> Option<Id> {
+        self.resolver
     }
-    ids.into_iter().collect(alloc)
-}
 
-// The rows, with what was answered for each resolver.
-fn rows_told(
-    alloc: Global,
-    rows: Vec<MissingRow>,
-    asked: &[Id],
-    statuses: &[Status],
-    received: &[Id],
-) -> Result<Vec<MissingRow>, NoMemory>
-    requires asked { Ascend asked.now }
-    requires received { Ascend received.now }
-    ensures { IfOk result (λ told. (f : List ℕ → Status) → statuses.now ≡ map f asked.now
-        → asked.now ≡ in_order (resolvers_in rows.items)
-        → told.items ≡ map (row_told f received.now) rows.items) }
-{
-    let mut told = Vec::with_capacity(alloc, rows.len())?;
-    for row in rows {
-        told.push(row_told(row, asked, statuses, received))?;
+    fn into_row(self, status: Option<Status>, received: Option<bool>) -> MissingRow {
+        let mut row = self;
+        row.status = status;
+        row.received = received;
+        row
     }
-    Ok(told)
-}
-
-fn row_told(row: MissingRow, asked: &[Id], statuses: &[Status], received: &[Id]) -> MissingRow
-    requires asked { Ascend asked.now }
-    requires received { Ascend received.now }
-    ensures { (f : List ℕ → Status) → statuses.now ≡ map f asked.now
-        → IfSome row.resolver (λ resolver. has asked.now resolver ≡ true)
-        → result ≡ row_told f received.now row }
-{
-    let mut row = row;
-    row.status = None;
-    row.received = None;
-    if let Some(resolver) = row.resolver {
-        row.status = Some(status_among(asked, statuses, &resolver));
-        row.received = Some(is_among(received, &resolver));
-    }
-    row
 }

@@ -68,7 +68,7 @@ impl MissingCategory {
     }
 
     /// The category of a copy of these bytes.
-    pub(crate) fn copied(alloc: Global, bytes: &[u8]) -> Result<MissingCategory, NoMemory>
+    pub(crate) fn copy_of(alloc: Global, bytes: &[u8]) -> Result<MissingCategory, NoMemory>
         ensures { IfOk result (λ category. category ≡ bytes.now) }
     {
         let bytes = Vec::from_slice(alloc, bytes)?;
