@@ -11,6 +11,7 @@ use Rattle.std.proofs.lemmas.List.Elements.{filter-append}
 use Rattle.bureau_store.specs.Caller.{is_caller}
 use Rattle.catalogue.specs.Content.{Content, IsInOrder}
 use Rattle.catalogue.specs.Publication.{after}
+use Rattle.catalogue.specs.declared.change.Change.{Change}
 use Rattle.catalogue.proofs.PublicationFacts.{after_only}
 use Rattle.bureau_store.specs.Effect.{Effect, publication, zone_put, zone_dropped, received_put, patterns_put, at_client, content_after, received_after, tables_after, zones_after}
 use Rattle.bureau_store.specs.Tables.{AreInOrder, LastChange, Tables, ZoneTable, Zones, name_order, patterns_of, zone_named}
@@ -86,26 +87,22 @@ module _ (viewer : Caller) (opening : Opening) (changes : List Accepted) (now : 
     kept = kept_more opening (record { caller = Publisher; effect = effect; reply = text }) changes agrees.kept (of_zone effect possible);
   }
     where
+      -- a publication is all that the publisher makes
+      of_publisher : (P : Effect → Type 0) → ((more : List Change) → P (publication more)) → (e : Effect) → IsPossible [] Publisher e → P e
+      of_publisher P published (publication more) h = published more
+      of_publisher P published (zone_put name rows) h = absurd h
+      of_publisher P published (zone_dropped name) h = absurd h
+      of_publisher P published (received_put ids) h = absurd h
+      of_publisher P published (patterns_put name patterns) h = absurd h
+
       of_zone : (e : Effect) → IsPossible [] Publisher e → IsOfZone (zones_left opening changes) e
-      of_zone (publication more) h = tt
-      of_zone (zone_put name rows) h = tt
-      of_zone (zone_dropped name) h = tt
-      of_zone (received_put ids) h = tt
-      of_zone (patterns_put name patterns) h = absurd h
+      of_zone = of_publisher (IsOfZone (zones_left opening changes)) (λ more. tt)
 
       same_zones : (e : Effect) → IsPossible [] Publisher e → zones_after e (zones_left opening changes) ≡ zones_left opening changes
-      same_zones (publication more) h = refl
-      same_zones (zone_put name rows) h = absurd h
-      same_zones (zone_dropped name) h = absurd h
-      same_zones (received_put ids) h = absurd h
-      same_zones (patterns_put name patterns) h = absurd h
+      same_zones = of_publisher (λ e. zones_after e (zones_left opening changes) ≡ zones_left opening changes) (λ more. refl)
 
       same_received : (e : Effect) → IsPossible [] Publisher e → received_after e (received_left opening changes) ≡ received_left opening changes
-      same_received (publication more) h = refl
-      same_received (zone_put name rows) h = absurd h
-      same_received (zone_dropped name) h = absurd h
-      same_received (received_put ids) h = absurd h
-      same_received (patterns_put name patterns) h = absurd h
+      same_received = of_publisher (λ e. received_after e (received_left opening changes) ≡ received_left opening changes) (λ more. refl)
 
   -- by the viewer, a client
   by_client : (client : List ℕ) → viewer ≡ Client client → Agrees viewer opening changes now → IsPossible (now.zones client) (Client client) effect

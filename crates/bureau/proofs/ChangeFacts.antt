@@ -1,7 +1,8 @@
 -- What comes of a change, from what is read on the way.
 use Rattle.std.proofs.Common.{◌≡◌, inl, inr, ℕ, Bool, true, false, nat_lt, List, length, refl, sym, ◌∙◌, ap, subst}
 use Rattle.std.specs.Prelude.{Option, Some, None, Result, Ok, Err, is_some, if◌then◌else◌}
-use Rattle.catalogue.specs.View.{Tells, View}
+use Rattle.catalogue.proofs.SourceFacts.{told_later, told_so, told_sooner}
+use Rattle.catalogue.specs.View.{IsLawful, Tells, View}
 use Rattle.bureau_store.specs.Tables.{Tables, ZoneTable, Zones, zone_named}
 use Rattle.bureau_store.specs.declared.caller.Caller.{Caller}
 use Rattle.faults.specs.FaultText.{text_of}
@@ -59,6 +60,25 @@ module _ {Source : Type 0} {view : View Source Tables} where
         let both = asked.told ours clean this stands in
         (sym (comes this ∙ timely.1 (decided this) ∙ both.0), (timely.0, maker, both.1));
   }
+
+  -- the same where what is read after the number decides
+  pub answered_after : {a b c : Source} {Found : Tables → Type 0} → IsLawful view → (caller : Caller) (call : Call) (number : Option ℕ) (turn : Result ℕ Reply) (next : ℕ) (reply : Reply) (decided : Tables → Outcome)
+      → ((this : Tables) → outcome (view_of caller this) call ≡ in_turn (this.last caller) number (decided this))
+      → view.keeps a b → view.keeps b c → Tells view a b (λ this. IsInTurn (this.last caller) number turn) → turn ≡ Ok next
+      → Tells view b c Found → ((this : Tables) → Found this → decided this ≡ answered (reply_as reply))
+      → Tells view a c (λ this. IsOutcome caller call this (Answered reply))
+  answered_after law caller call number turn next reply decided comes first second tells is found so =
+      let later = law.keeps _ _ second in
+      answered_in_turn caller call number turn next reply decided comes (told_sooner tells later) is (told_so (told_later (law.keeps _ _ first) later found) so)
+
+  pub accepted_after : {a b c : Source} {Found : Tables → Type 0} → IsLawful view → (caller : Caller) (call : Call) (number : Option ℕ) (turn : Result ℕ Reply) (change : AcceptedChange) (decided : Tables → Outcome)
+      → ((this : Tables) → outcome (view_of caller this) call ≡ in_turn (this.last caller) number (decided this))
+      → view.keeps a b → view.keeps b c → Tells view a b (λ this. IsInTurn (this.last caller) number turn) → turn ≡ Ok change.number → maker_of change.effect ≡ caller
+      → Tells view b c Found → ((this : Tables) → Found this → (decided this ≡ accepted (effect_as change.effect) change.reply.items) × Suits change.effect this)
+      → Tells view a c (λ this. IsOutcome caller call this (Accepted change))
+  accepted_after law caller call number turn change decided comes first second tells is maker found so =
+      let later = law.keeps _ _ second in
+      accepted_in_turn caller call number turn change decided comes (told_sooner tells later) is maker (told_so (told_later (law.keeps _ _ first) later found) so)
 
 -- what asks for a zone that isn't there
 pub zone_missing : (found : Option ZoneTable) (answer : ZoneTable → Outcome) → is_some found ≡ false → of_zone found answer ≡ answered not_found

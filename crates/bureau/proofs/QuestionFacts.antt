@@ -9,17 +9,15 @@ use Rattle.zone_lists.specs.declared.zones.ZoneRow.{ZoneRow}
 use Rattle.catalogue.specs.Content.{Content}
 use Rattle.catalogue.specs.View.{Keeps, Tells, View}
 use Rattle.catalogue.proofs.SourceFacts.{told_sooner, told_later, told_both}
-use Rattle.reports.specs.ChainText.{chain_text_of}
 use Rattle.reports.specs.ErrRows.{err_rows_of}
 use Rattle.reports.specs.MissingRows.{missing_rows_of}
 use Rattle.reports.specs.ReportText.{err_text_of, missing_text_of}
-use Rattle.chains.specs.Verdicts.{verdict_of}
 use Rattle.bureau_store.specs.Held.{held_in}
 use Rattle.bureau_store.specs.Tables.{ZoneTable, Zones, patterns_of, rows_of}
 use Rattle.bureau.specs.Outcomes.{counted_as}
 use Rattle.bureau.specs.Outcome.{Outcome, answered, as_json, not_found, of_zone, plain, told}
 use Rattle.bureau.specs.Replies.{reply_as}
-use Rattle.bureau.specs.Texts.{chain_text, err_report, missing_report, zone_fields, zones_text, zone_columns}
+use Rattle.bureau.specs.Texts.{chain_text, chain_text_from, err_report, err_report_from, missing_report, missing_report_from, zone_fields, zones_text, zone_columns}
 use Rattle.bureau.specs.declared.reply.Reply.{Reply}
 use Rattle.columns.specs.Columns.{text_of as text_in}
 
@@ -55,7 +53,7 @@ no_rows (Some table) answer reply missing is = absurd (cc)
 -- the exception SYSMOD report, from its parts
 pub err_reported : (content : Content) (zone : List ℕ) (found : Option ZoneTable) (received known : List (List ℕ)) (rows installed : List ZoneRow) (holds : List Hold) (reply : Reply)
     → Some rows ≡ option_map (λ (table : ZoneTable). table.rows) found → received ≡ known → holds ≡ held_in content (rows_of found) ErrorHold → installed ≡ rows
-    → reply_as reply ≡ plain 200 (err_text_of zone (err_rows_of content installed received holds))
+    → reply_as reply ≡ plain 200 (err_report_from content zone installed received holds)
     → answered (reply_as reply) ≡ of_zone found (λ table. told (err_report content zone table known))
 err_reported content zone None received known rows installed holds reply there has held same is = absurd (cc)
 err_reported content zone (Some table) received known rows installed holds reply there has held same is =
@@ -66,7 +64,7 @@ err_reported content zone (Some table) received known rows installed holds reply
 -- the missing fix report, from its parts
 pub missing_reported : (content : Content) (zone : List ℕ) (found : Option ZoneTable) (received known patterns : List (List ℕ)) (rows installed : List ZoneRow) (holds : List Hold) (reply : Reply)
     → Some rows ≡ option_map (λ (table : ZoneTable). table.rows) found → received ≡ known → patterns ≡ patterns_of found → holds ≡ held_in content (rows_of found) FixcatHold → installed ≡ rows
-    → reply_as reply ≡ plain 200 (missing_text_of zone (missing_rows_of content installed received patterns holds))
+    → reply_as reply ≡ plain 200 (missing_report_from content zone installed received patterns holds)
     → answered (reply_as reply) ≡ of_zone found (λ table. told (missing_report content zone table known))
 missing_reported content zone None received known patterns rows installed holds reply there has asked held same is = absurd (cc)
 missing_reported content zone (Some table) received known patterns rows installed holds reply there has asked held same is =
@@ -78,8 +76,8 @@ missing_reported content zone (Some table) received known patterns rows installe
 -- the verdict, from its parts
 pub chain_told : (content : Content) (zone sysmod : List ℕ) (found : Option ZoneTable) (rows installed : List ZoneRow) (reply : Reply)
     → Some rows ≡ option_map (λ (table : ZoneTable). table.rows) found → installed ≡ rows
-    → reply_as reply ≡ as_json (chain_text_of content zone sysmod (verdict_of content installed sysmod))
+    → reply_as reply ≡ as_json (chain_text_from content zone installed sysmod)
     → answered (reply_as reply) ≡ of_zone found (λ table. answered (as_json (chain_text content zone table sysmod)))
 chain_told content zone sysmod None rows installed reply there same is = absurd (cc)
 chain_told content zone sysmod (Some table) rows installed reply there same is =
-    ap answered (is ∙ ap (λ rows. as_json (chain_text_of content zone sysmod (verdict_of content rows sysmod))) (same ∙ ap rows_in there))
+    ap answered (is ∙ ap (λ rows. as_json (chain_text_from content zone rows sysmod)) (same ∙ ap rows_in there))

@@ -2,6 +2,7 @@
 use Rattle.std.specs.Prelude.{ℕ, ◌++◌, Bool, true, false, List, [], ◌∷◌, codes, count_by, decimal, length, map, None}
 use Rattle.columns.specs.Columns.{text_of as text_in}
 use Rattle.mcs_reader.specs.Id.{text_of}
+use Rattle.holddata.specs.declared.hold.Hold.{Hold}
 use Rattle.holddata.specs.declared.hold.HoldChange.TheVariants.{Put, Release}
 use Rattle.holddata.specs.declared.key.Kind.TheVariants.{ErrorHold, FixcatHold}
 use Rattle.zone_lists.specs.declared.zones.ZoneRow.{ZoneRow}
@@ -66,16 +67,29 @@ zone_fields zone = text_of zone.0 ∷ decimal zone.1 ∷ []
 abbrev pub zones_text : Zones → List ℕ
 zones_text zones = text_in zone_columns None (map (λ zone. zone_fields (zone.0, length zone.1.rows)) zones)
 
+-- the exception SYSMOD report on a zone, from its rows and the holds that are read for it
+abbrev pub err_report_from : Content → List ℕ → List ZoneRow → List (List ℕ) → List Hold → List ℕ
+err_report_from content zone rows received holds = err_text_of zone (err_rows_of content rows received holds)
+
 -- the exception SYSMOD report on a zone
 abbrev pub err_report : Content → List ℕ → ZoneTable → List (List ℕ) → List ℕ
 err_report content zone table received =
-    err_text_of zone (err_rows_of content table.rows received (held_in content table.rows ErrorHold))
+    err_report_from content zone table.rows received (held_in content table.rows ErrorHold)
+
+-- the missing fix report on a zone, from its rows and patterns and the holds that are read for it
+abbrev pub missing_report_from : Content → List ℕ → List ZoneRow → List (List ℕ) → List (List ℕ) → List Hold → List ℕ
+missing_report_from content zone rows received patterns holds =
+    missing_text_of zone (missing_rows_of content rows received patterns holds)
 
 -- the missing fix report on a zone
 abbrev pub missing_report : Content → List ℕ → ZoneTable → List (List ℕ) → List ℕ
 missing_report content zone table received =
-    missing_text_of zone (missing_rows_of content table.rows received table.patterns (held_in content table.rows FixcatHold))
+    missing_report_from content zone table.rows received table.patterns (held_in content table.rows FixcatHold)
+
+-- the verdict on a SYSMOD in a zone, from its rows
+abbrev pub chain_text_from : Content → List ℕ → List ZoneRow → List ℕ → List ℕ
+chain_text_from content zone rows sysmod = chain_text_of content zone sysmod (verdict_of content rows sysmod)
 
 -- the verdict on a SYSMOD in a zone
 abbrev pub chain_text : Content → List ℕ → ZoneTable → List ℕ → List ℕ
-chain_text content zone table sysmod = chain_text_of content zone sysmod (verdict_of content table.rows sysmod)
+chain_text content zone table sysmod = chain_text_from content zone table.rows sysmod

@@ -2,11 +2,6 @@
 ghost use Rattle.std.specs.Prelude.{◌≡◌, IfOk};
 ghost use Rattle.catalogue.specs.View.{Tells};
 ghost use Rattle.catalogue.specs.Ids.{Ascend};
-ghost use Rattle.chains.specs.Verdicts.{verdict_of};
-ghost use Rattle.reports.specs.ChainText.{chain_text_of};
-ghost use Rattle.reports.specs.ErrRows.{err_rows_of};
-ghost use Rattle.reports.specs.MissingRows.{missing_rows_of};
-ghost use Rattle.reports.specs.ReportText.{err_text_of, missing_text_of};
 ghost use Rattle.bureau_store.specs.Caller.{IsProper};
 ghost use Rattle.bureau_store.specs.declared.caller.Caller.TheVariants.{Client};
 ghost use Rattle.bureau.specs.Call as call;
@@ -14,7 +9,7 @@ ghost use Rattle.bureau.specs.Outcome.{as_json, plain};
 ghost use Rattle.bureau.specs.Outcomes.{IsReplyTo};
 ghost use Rattle.bureau.specs.Reading.{HasRead, MayRead};
 ghost use Rattle.bureau.specs.Replies.{reply_as};
-ghost use Rattle.bureau.specs.Texts.{counts_text};
+ghost use Rattle.bureau.specs.Texts.{chain_text_from, counts_text, err_report_from, missing_report_from};
 
 use crate::Reply;
 use crate::outcome::NoRoom;
@@ -145,7 +140,7 @@ fn err_reply<P: Published, J: Judge<P>>(
     ensures reads { MayRead P.content_view source.old source.new result }
     ensures reply { IfOk result (λ reply. Tells P.content_view source.old source.new
         (λ content. J.is_right judge.old content → reply_as reply
-        ≡ plain 200 (err_text_of zone.now (err_rows_of content installed.now received.now holds.now)))) }
+        ≡ plain 200 (err_report_from content zone.now installed.now received.now holds.now))) }
     ensures right { Tells P.content_view source.old source.new
         (λ content. J.is_right judge.old content → J.is_right judge.new content) }
 {
@@ -168,8 +163,8 @@ fn missing_reply<P: Published, J: Judge<P>>(
     ensures reads { MayRead P.content_view source.old source.new result }
     ensures reply { IfOk result (λ reply. Tells P.content_view source.old source.new
         (λ content. J.is_right judge.old content → reply_as reply
-        ≡ plain 200 (missing_text_of zone.now
-        (missing_rows_of content installed.now received.now patterns.now holds.now)))) }
+        ≡ plain 200
+        (missing_report_from content zone.now installed.now received.now patterns.now holds.now))) }
     ensures right { Tells P.content_view source.old source.new
         (λ content. J.is_right judge.old content → J.is_right judge.new content) }
 {
@@ -189,8 +184,7 @@ fn chain_reply<P: Published, J: Judge<P>>(
     ensures reads { MayRead P.content_view source.old source.new result }
     ensures reply { IfOk result (λ reply. Tells P.content_view source.old source.new
         (λ content. J.is_right judge.old content → reply_as reply
-        ≡ as_json (chain_text_of content zone.now sysmod.now
-        (verdict_of content installed.now sysmod.now)))) }
+        ≡ as_json (chain_text_from content zone.now installed.now sysmod.now))) }
     ensures right { Tells P.content_view source.old source.new
         (λ content. J.is_right judge.old content → J.is_right judge.new content) }
 {

@@ -1,5 +1,4 @@
 use Rattle.std.proofs.Common.{refl, sym, ◌∙◌, ap}
-use Rattle.catalogue.proofs.SourceFacts.{told_sooner, told_later, told_so}
 use Rattle.bureau_store.specs.Tables.{zone_named}
 use Rattle.bureau_store.specs.Effect.{zone_dropped}
 use Rattle.bureau_store.specs.declared.caller.Caller.TheVariants.{Client}
@@ -7,7 +6,7 @@ use Rattle.bureau.specs.Call as call
 use Rattle.bureau.specs.Outcome.{answered, accepted, of_zone}
 use Rattle.bureau.specs.declared.outcome.Effect.TheVariants.{ZoneDropped}
 use Rattle.bureau.specs.Texts.{zone_dropped_text}
-use Rattle.bureau.proofs.ChangeFacts.{out_of_turn, answered_in_turn, accepted_in_turn, zone_missing, zone_there}
+use Rattle.bureau.proofs.ChangeFacts.{out_of_turn, answered_after, accepted_after, zone_missing, zone_there}
 use Rattle.bureau.proofs.changes.drop_zone.Goals as goal
 
 pub returns-in-Err-clause-outcome : goal.returns-in-Err-clause-outcome
@@ -18,23 +17,15 @@ returns-in-Err-clause-outcome g c =
 
 pub returns-then-not-branch-clause-outcome : goal.returns-then-not-branch-clause-outcome
 returns-then-not-branch-clause-outcome g c =
-    let law = g.met.S.Store in
-    let sooner = law.tables_lawful.keeps _ _ c.in_ok-number.ensures.reads.keeps in
-    let later = law.tables_lawful.keeps _ _ c.in_ok-is_zone.ensures.reads.keeps in
-    answered_in_turn (Client c.args.client.now) (call.drop_zone c.args.number c.args.zone.now) c.args.number c.in_ok-number.field-0 c.in-Ok.number c.in_ok-not_found.field-0
+    answered_after g.met.S.Store.tables_lawful (Client c.args.client.now) (call.drop_zone c.args.number c.args.zone.now) c.args.number c.in_ok-number.field-0 c.in-Ok.number c.in_ok-not_found.field-0
     (λ this. of_zone (zone_named c.args.zone.now (this.zones c.args.client.now)) (λ table. accepted (zone_dropped c.args.zone.now) (zone_dropped_text c.args.zone.now)))
-    (λ this. refl) (told_sooner c.in_ok-number.ensures.turn later) c.in-Ok.is
-    (told_so (told_later sooner later c.in_ok-is_zone.ensures.there) (λ this there. zone_missing (zone_named c.args.zone.now (this.zones c.args.client.now)) _ (sym there ∙ c.if-not-branch.true) ∙ ap answered (sym c.in_ok-not_found.ensures)))
+    (λ this. refl) c.in_ok-number.ensures.reads.keeps c.in_ok-is_zone.ensures.reads.keeps c.in_ok-number.ensures.turn c.in-Ok.is c.in_ok-is_zone.ensures.there (λ this there. zone_missing (zone_named c.args.zone.now (this.zones c.args.client.now)) _ (sym there ∙ c.if-not-branch.true) ∙ ap answered (sym c.in_ok-not_found.ensures))
 
 pub returns-clause-outcome : goal.returns-clause-outcome
 returns-clause-outcome g c =
-    let law = g.met.S.Store in
-    let sooner = law.tables_lawful.keeps _ _ c.in_ok-number.ensures.reads.keeps in
-    let later = law.tables_lawful.keeps _ _ c.in_ok-is_zone.ensures.reads.keeps in
-    accepted_in_turn (Client c.args.client.now) (call.drop_zone c.args.number c.args.zone.now) c.args.number c.in_ok-number.field-0 (record { number = c.in-Ok.number; reply = c.in_ok-reply.reply; effect = ZoneDropped c.args.client.now c.args.zone.now })
+    accepted_after g.met.S.Store.tables_lawful (Client c.args.client.now) (call.drop_zone c.args.number c.args.zone.now) c.args.number c.in_ok-number.field-0 (record { number = c.in-Ok.number; reply = c.in_ok-reply.reply; effect = ZoneDropped c.args.client.now c.args.zone.now })
     (λ this. of_zone (zone_named c.args.zone.now (this.zones c.args.client.now)) (λ table. accepted (zone_dropped c.args.zone.now) (zone_dropped_text c.args.zone.now)))
-    (λ this. refl) (told_sooner c.in_ok-number.ensures.turn later) c.in-Ok.is refl
-    (told_so (told_later sooner later c.in_ok-is_zone.ensures.there) (λ this there. (
+    (λ this. refl) c.in_ok-number.ensures.reads.keeps c.in_ok-is_zone.ensures.reads.keeps c.in_ok-number.ensures.turn c.in-Ok.is refl c.in_ok-is_zone.ensures.there (λ this there. (
       zone_there (zone_named c.args.zone.now (this.zones c.args.client.now)) _ (sym there ∙ c.if-not-branch.false) ∙ ap (λ text. accepted (zone_dropped c.args.zone.now) text) (sym c.in_ok-reply.ensures),
       (sym there ∙ c.if-not-branch.false, λ order. tt),
-    )))
+    ))

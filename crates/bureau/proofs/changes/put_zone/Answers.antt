@@ -1,6 +1,5 @@
 use Rattle.std.proofs.Common.{refl, sym, ◌∙◌, ap, subst}
 use Rattle.std.specs.Prelude.{codes, if◌then◌else◌}
-use Rattle.catalogue.proofs.SourceFacts.{told_sooner, told_later, told_so}
 use Rattle.zone_lists.specs.ZoneList.{zone_rows_of}
 use Rattle.bureau_store.specs.Effect.{zone_put}
 use Rattle.bureau_store.specs.declared.caller.Caller.TheVariants.{Client}
@@ -10,7 +9,7 @@ use Rattle.bureau.specs.Bodies.{list_said, rows_in}
 use Rattle.bureau.specs.Faults.{IsTold}
 use Rattle.bureau.specs.Texts.{zone_put_text}
 use Rattle.bureau.specs.declared.outcome.Effect.TheVariants.{ZonePut}
-use Rattle.bureau.proofs.ChangeFacts.{out_of_turn, answered_in_turn, accepted_in_turn, said_so, said_not, told_of_list}
+use Rattle.bureau.proofs.ChangeFacts.{out_of_turn, answered_in_turn, answered_after, accepted_after, said_so, said_not, told_of_list}
 use Rattle.bureau.proofs.changes.put_zone.Goals as goal
 
 pub returns-in-Err-clause-outcome : goal.returns-in-Err-clause-outcome
@@ -30,32 +29,24 @@ returns-in-Err-zone_rows-clause-outcome g c =
 
 pub returns-then-not-branch-clause-outcome : goal.returns-then-not-branch-clause-outcome
 returns-then-not-branch-clause-outcome g c =
-    let law = g.met.S.Store in
-    let sooner = law.tables_lawful.keeps _ _ c.in_ok-number.ensures.reads.keeps in
-    let later = law.tables_lawful.keeps _ _ c.in_ok-has_room_for.ensures.reads.keeps in
     let rows = c.in-Ok-zone_rows.rows.items in
     let zone = c.args.zone.now in
-    answered_in_turn (Client c.args.client.now) (call.put_zone c.args.number c.args.zone.now c.args.body.now) c.args.number c.in_ok-number.field-0 c.in-Ok.number c.in_ok-plain.field-0
+    answered_after g.met.S.Store.tables_lawful (Client c.args.client.now) (call.put_zone c.args.number c.args.zone.now c.args.body.now) c.args.number c.in_ok-number.field-0 c.in-Ok.number c.in_ok-plain.field-0
     (λ this. put_of_zone (this.zones c.args.client.now) c.args.zone.now c.args.body.now)
-    (λ this. refl) (told_sooner c.in_ok-number.ensures.turn later) c.in-Ok.is
-    (told_so (told_later sooner later c.in_ok-has_room_for.ensures.room) (λ this room.
+    (λ this. refl) c.in_ok-number.ensures.reads.keeps c.in_ok-has_room_for.ensures.reads.keeps c.in_ok-number.ensures.turn c.in-Ok.is c.in_ok-has_room_for.ensures.room (λ this room.
     said_so (rows_in c.args.body.now) _ rows (ap list_said c.in-Ok-zone_rows.ensures.rows)
     ∙ ap (λ b. if b then accepted (zone_put zone rows) (zone_put_text zone rows) else refused (codes "FAULT 61\n")) (sym room ∙ c.if-not-branch.true)
-    ∙ ap answered (sym c.in_ok-plain.ensures)))
+    ∙ ap answered (sym c.in_ok-plain.ensures))
 
 pub returns-clause-outcome : goal.returns-clause-outcome
 returns-clause-outcome g c =
-    let law = g.met.S.Store in
-    let sooner = law.tables_lawful.keeps _ _ c.in_ok-number.ensures.reads.keeps in
-    let later = law.tables_lawful.keeps _ _ c.in_ok-has_room_for.ensures.reads.keeps in
     let rows = c.in-Ok-zone_rows.rows.items in
     let zone = c.args.zone.now in
-    accepted_in_turn (Client c.args.client.now) (call.put_zone c.args.number c.args.zone.now c.args.body.now) c.args.number c.in_ok-number.field-0 (record { number = c.in-Ok.number; reply = c.in_ok-reply.reply; effect = ZonePut c.args.client.now c.args.zone.now c.in-Ok-zone_rows.rows })
+    accepted_after g.met.S.Store.tables_lawful (Client c.args.client.now) (call.put_zone c.args.number c.args.zone.now c.args.body.now) c.args.number c.in_ok-number.field-0 (record { number = c.in-Ok.number; reply = c.in_ok-reply.reply; effect = ZonePut c.args.client.now c.args.zone.now c.in-Ok-zone_rows.rows })
     (λ this. put_of_zone (this.zones c.args.client.now) c.args.zone.now c.args.body.now)
-    (λ this. refl) (told_sooner c.in_ok-number.ensures.turn later) c.in-Ok.is refl
-    (told_so (told_later sooner later c.in_ok-has_room_for.ensures.room) (λ this room. (
+    (λ this. refl) c.in_ok-number.ensures.reads.keeps c.in_ok-has_room_for.ensures.reads.keeps c.in_ok-number.ensures.turn c.in-Ok.is refl c.in_ok-has_room_for.ensures.room (λ this room. (
       said_so (rows_in c.args.body.now) _ rows (ap list_said c.in-Ok-zone_rows.ensures.rows)
           ∙ ap (λ b. if b then accepted (zone_put zone rows) (zone_put_text zone rows) else refused (codes "FAULT 61\n")) (sym room ∙ c.if-not-branch.false)
           ∙ ap (λ text. accepted (zone_put zone rows) text) (sym (c.in_ok-reply.ensures ∙ ap (zone_put_text zone) c.deref.ensures.value)),
       (tt, λ order. tt),
-    )))
+    ))
