@@ -154,7 +154,7 @@ fn a_store_of_version_1_is_migrated_once(rt: HostRuntime) -> Result<(), Fail> {
     assert_equal(told.as_str(), "1 FAULT 44\n")
 }
 
-// What `serve` tells over a new store in this file, where so many connections are served.
+// What `serve` tells on standard output alone, over a new store in this file, where so many connections are served.
 fn served<S: Alter + Drop>(
     around: &Around<'_>,
     alloc: Global,
@@ -171,6 +171,7 @@ fn served<S: Alter + Drop>(
     };
     let (mut output, mut errors) = (Vec::new(alloc), Vec::new(alloc));
     let (status, _) = open_and_serve(around, alloc, service, conn, &mut output, &mut errors);
+    assert_equal(errors.as_slice(), b"".as_slice())?;
     told(alloc, status, &output, &errors)
 }
 
