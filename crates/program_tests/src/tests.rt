@@ -4,3 +4,4 @@ mod holds_tests;
 mod line_tests;
 mod program_tests;
 mod store_tests;
+mod surroundings;

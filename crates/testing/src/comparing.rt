@@ -2,7 +2,7 @@
 
 ghost use Rattle.std.specs.Prelude.{◌≡◌, true, OnOk, OnErr, false};
 
-use std::fmt::Debug;
+use std::fmt::{Debug, Display};
 use std::test::Fail;
 
 /// Whether `got` equals `wanted`.
@@ -14,11 +14,10 @@ pub fn assert_equal<T: PartialEq + Debug + Drop>(got: T, wanted: T) -> Result<()
     ensures equal { OnOk result (T.eq got wanted ≡ true) }
     ensures told { OnErr result (T.eq got wanted ≡ false) }
 {
-    if got == wanted {
-        Ok(())
-    } else {
-        Err(Fail::new(format_args!("{got:?} in place of {wanted:?}")))
-    }
+    assert_so(
+        got == wanted,
+        format_args!("{got:?} in place of {wanted:?}"),
+    )
 }
 
 /// Whether `got` equals `wanted`, at a place such as the row of a table.
@@ -34,9 +33,16 @@ pub fn assert_equal_at<T: PartialEq + Debug + Drop, P: Debug + Drop>(
     ensures equal { OnOk result (T.eq got wanted ≡ true) }
     ensures told { OnErr result (T.eq got wanted ≡ false) }
 {
-    if got == wanted {
-        Ok(())
-    } else {
-        Err(Fail::new(format_args!("{place:?}: {got:?} in place of {wanted:?}")))
-    }
+    assert_so(
+        got == wanted,
+        format_args!("{place:?}: {got:?} in place of {wanted:?}"),
+    )
+}
+
+// Nothing where it is so, and else a failure that says this.
+fn assert_so<D: Display + Drop>(is_so: bool, said: D) -> Result<(), Fail>
+    ensures so { OnOk result (is_so ≡ true) }
+    ensures told { OnErr result (is_so ≡ false) }
+{
+    if is_so { Ok(()) } else { Err(Fail::new(said)) }
 }

@@ -1,4 +1,5 @@
-//! What tests of several crates share: comparisons, readers and writers that fail, numbers that are drawn, and a worked case.
+//! What tests of several crates share: comparisons, readers and writers that fail, a clock that is set, numbers that are drawn,
+//! texts of requests and replies, and a worked case.
 //!
 //! Where what a test sees differs from what it wants, the test fails and says both. The comparisons are functions, where
 //! `std` has macros: a macro's text is proved anew at each of its uses, and takes most of the time of a test's proof. A
@@ -7,6 +8,8 @@
 //! - [`assert_equal`]: of two values
 //! - [`assert_equal_at`]: the same, and what is said has the place too, such as the row of a table
 //! - [`Pieces`] and [`Slow`]: a reader and a writer of a piece at a time, whose calls fail as [`Failures`] says
+//! - [`Ticking`]: a clock by which the same time passes before each look
+//! - [`Exchange`]: a request with its reply, of which [`request_text`] and [`reply_text`] make the bytes
 //! - [`Draws`]: numbers that are drawn, the same at each run
 //! - [`BASE`]: statements that publish three SYSMODs and a hold, and what is told of them
 //! - [`with_base`]: these statements, and more after them
@@ -21,16 +24,22 @@
 #![tactic(auto)]
 
 mod base;
+mod clock;
 mod comparing;
 mod draws;
+mod exchanges;
 mod failures;
 mod reader;
 mod sample;
 mod writer;
 
 pub use base::with_base;
+pub use clock::Ticking;
 pub use comparing::{assert_equal, assert_equal_at};
 pub use draws::Draws;
+pub use exchanges::{
+    ALPHA, Asked, BETA, Exchange, FIRST, OK, PUBLISHER, SECOND, Told, reply_text, request_text,
+};
 pub use failures::Failures;
 pub use reader::Pieces;
 pub use sample::{BASE, LONG_PLAN, ONE_RECEIVED, ONE_RESOLVER, SHORT_PLAN, TWO_RESOLVERS};

@@ -5,7 +5,7 @@ use super::conditional::{
     ALONE_IN_TGT2, BLOCKED, BOTH_FUNCTIONS, REQUIRING, REQUIRING_NOTHING, SUPERSEDED_FUNCTION,
     WITH_REQUIRED,
 };
-use super::desks::{assert_script, assert_script_by, cache, fresh};
+use super::desks::{Bench, fresh};
 use super::stores::{Lists, Place};
 use super::trial::Trial;
 use super::worked::SUPERSEDING;
@@ -14,7 +14,6 @@ use bureau_store::Store;
 use chains::{Judge, Whole};
 use mcs_reader::Id;
 use std::alloc::Global;
-use std::hash::RandomState;
 use std::str;
 use std::test::Fail;
 use testing::{BASE, Draws, assert_equal};
@@ -213,11 +212,7 @@ struct Calls {
 }
 
 impl Script for Calls {
-    fn assert_answers<S: Store, J: Judge<S>>(
-        &self,
-        _alloc: Global,
-        bureau: &mut Bureau<S, J>,
-    ) -> Result<(), Fail> {
+    fn assert_answers<S: Store, J: Judge<S>>(&self, bureau: &mut Bureau<S, J>) -> Result<(), Fail> {
         for (drawn, reply) in &self.all {
             let caller = drawn.caller;
             if caller == 0 || caller == self.only.unwrap_or(caller) {
@@ -232,14 +227,9 @@ impl Script for Calls {
 pub(crate) struct OverEachJudge;
 
 impl Trial for OverEachJudge {
-    fn assert_in<P: Place>(
-        &self,
-        alloc: Global,
-        keys: RandomState,
-        place: &mut P,
-    ) -> Result<(), Fail> {
-        let (all, only) = (all_drawn(alloc)?, None);
-        assert_script(alloc, keys, place, &Calls { all, only })
+    fn assert_in<P: Place>(&self, bench: &mut Bench<P>) -> Result<(), Fail> {
+        let (all, only) = (all_drawn(bench.alloc)?, None);
+        bench.assert_script(&Calls { all, only })
     }
 }
 
@@ -247,16 +237,11 @@ impl Trial for OverEachJudge {
 pub(crate) struct Alone;
 
 impl Trial for Alone {
-    fn assert_in<P: Place>(
-        &self,
-        alloc: Global,
-        keys: RandomState,
-        place: &mut P,
-    ) -> Result<(), Fail> {
+    fn assert_in<P: Place>(&self, bench: &mut Bench<P>) -> Result<(), Fail> {
         for caller in 0..4usize {
-            let (all, only) = (all_drawn(alloc)?, Some(caller));
-            let judge = cache(alloc, 2, keys)?;
-            assert_script_by(alloc, place, judge, &Calls { all, only })?;
+            let (all, only) = (all_drawn(bench.alloc)?, Some(caller));
+            let judge = bench.cache(2)?;
+            bench.assert_script_by(judge, &Calls { all, only })?;
         }
         Ok(())
     }

@@ -118,19 +118,11 @@ pub(crate) fn assert_told(reply: &Reply, status: u16, text: &str) -> Result<(), 
 /// What is asked, and how it is answered.
 pub(crate) trait Script {
     /// This is asked one after the other, and each answer is as it should be.
-    fn assert_answers<S: Store, J: Judge<S>>(
-        &self,
-        alloc: Global,
-        bureau: &mut Bureau<S, J>,
-    ) -> Result<(), Fail>;
+    fn assert_answers<S: Store, J: Judge<S>>(&self, bureau: &mut Bureau<S, J>) -> Result<(), Fail>;
 }
 
 impl Script for Vec<Row> {
-    fn assert_answers<S: Store, J: Judge<S>>(
-        &self,
-        _alloc: Global,
-        bureau: &mut Bureau<S, J>,
-    ) -> Result<(), Fail> {
+    fn assert_answers<S: Store, J: Judge<S>>(&self, bureau: &mut Bureau<S, J>) -> Result<(), Fail> {
         assert_rows(bureau, self.as_slice())
     }
 }

@@ -8,7 +8,7 @@ use super::conditional::{
     ALONE_IN_TGT1, ALONE_IN_TGT2, BOTH_FUNCTIONS, REQUIRED, REQUIRING, REQUIRING_NOTHING,
     WITH_REQUIRED,
 };
-use super::desks::{cache, fresh};
+use super::desks::Bench;
 use super::stores::{Lists, Place};
 use super::trial::Trial;
 use super::verdicts::{HOLD_ACCEPTED, RESTART, RESTART_PLAN};
@@ -17,7 +17,7 @@ use bureau::{Bureau, Call};
 use bureau_store::{Caller, Store};
 use chain_cache::ChainCache;
 use failing_store::FailingStore;
-use std::alloc::Global;
+use mcs_reader::Id;
 use std::hash::RandomState;
 use std::test::Fail;
 use testing::{
@@ -42,13 +42,11 @@ ROWS 3
 
 // A bureau there in which nothing is published yet, with room for so many frames.
 fn with_room<P: Place>(
-    alloc: Global,
+    bench: &mut Bench<P>,
     capacity: u32,
-    keys: RandomState,
-    place: &mut P,
 ) -> Checked<Bureau<P::Kept, ChainCache>> {
-    let store = fresh(alloc, place)?;
-    Ok(Bureau::new(alloc, store, cache(alloc, capacity, keys)?))
+    let cache = bench.cache(capacity)?;
+    bench.bureau(cache)
 }
 
 // Who asks what, what is answered, and how many frames were built until then.
@@ -65,12 +63,8 @@ fn assert_built<S: Store>(bureau: &mut Bureau<S, ChainCache>, rows: &[Built]) ->
 
 // Two publications, of which the second supersedes what the first gives, a zone of ALPHA, and a chain whose
 // frame is kept from then on.
-fn with_frame<P: Place>(
-    alloc: Global,
-    keys: RandomState,
-    place: &mut P,
-) -> Result<Bureau<P::Kept, ChainCache>, Fail> {
-    let mut bureau = with_room(alloc, 16, keys, place)?;
+fn with_frame<P: Place>(bench: &mut Bench<P>) -> Result<Bureau<P::Kept, ChainCache>, Fail> {
+    let mut bureau = with_room(bench, 16)?;
     let (zone, sysmod) = (id(b"TGT1")?, id(b"UA10002")?);
     let rows: [Built; 4] = [
         (PUBLISHER, publish(1, BASE), BASE_ACCEPTED, 0),
@@ -86,12 +80,7 @@ fn with_frame<P: Place>(
 pub(crate) struct Shared;
 
 impl Trial for Shared {
-    fn assert_in<P: Place>(
-        &self,
-        alloc: Global,
-        keys: RandomState,
-        place: &mut P,
-    ) -> Result<(), Fail> {
+    fn assert_in<P: Place>(&self, bench: &mut Bench<P>) -> Result<(), Fail> {
         let (zone, sysmod) = (id(b"TGT1")?, id(b"UA10002")?);
         let rows: [Built; 6] = [
             (PUBLISHER, publish(1, BASE), BASE_ACCEPTED, 0),
@@ -101,43 +90,50 @@ impl Trial for Shared {
             (BETA, chain(zone, sysmod), LONG_PLAN, 1),
             (ALPHA, chain(zone, sysmod), SHORT_PLAN, 1),
         ];
-        assert_built(&mut with_room(alloc, 1, keys, place)?, &rows)?;
-        let mut bureau = with_room(alloc, 16, keys, place)?;
-        assert_rows(&mut bureau, run_of_three(alloc)?.as_slice())?;
+        assert_built(&mut with_room(bench, 1)?, &rows)?;
+        let mut bureau = with_room(bench, 16)?;
+        assert_rows(&mut bureau, run_of_three(bench.alloc)?.as_slice())?;
         assert_equal(bureau.judge().built(), 3)
     }
+}
+
+// A publication that has nothing to do with a kept frame, and then one that touches it.
+fn apart(zone: Id, sysmod: Id) -> [Built; 5] {
+    [
+        (PUBLISHER, publish(3, APART), ONE_ACCEPTED, 1),
+        (ALPHA, chain(zone, sysmod), SHORT_PLAN, 1),
+        (PUBLISHER, publish(4, THIRD), ONE_ACCEPTED, 1),
+        (ALPHA, chain(zone, sysmod), SHORT_PLAN, 2),
+        (ALPHA, report(zone), THREE_RESOLVERS, 4),
+    ]
+}
+
+// A hold that the installer has to heed touches no frame.
+fn restart(zone: Id, sysmod: Id) -> [Built; 2] {
+    [
+        (PUBLISHER, publish(3, RESTART), HOLD_ACCEPTED, 1),
+        (ALPHA, chain(zone, sysmod), RESTART_PLAN, 1),
+    ]
+}
+
+// What gave the SYSMOD of the frame gives it no longer.
+fn no_giver(zone: Id, sysmod: Id) -> [Built; 3] {
+    [
+        (PUBLISHER, publish(3, NO_GIVER), ONE_ACCEPTED, 1),
+        (ALPHA, chain(zone, sysmod), SHORT_PLAN, 2),
+        (ALPHA, report(zone), ONE_RESOLVER, 2),
+    ]
 }
 
 /// A publication drops the frames that it touches, and no others.
 pub(crate) struct Dropped;
 
 impl Trial for Dropped {
-    fn assert_in<P: Place>(
-        &self,
-        alloc: Global,
-        keys: RandomState,
-        place: &mut P,
-    ) -> Result<(), Fail> {
+    fn assert_in<P: Place>(&self, bench: &mut Bench<P>) -> Result<(), Fail> {
         let (zone, sysmod) = (id(b"TGT1")?, id(b"UA10002")?);
-        let apart: [Built; 5] = [
-            (PUBLISHER, publish(3, APART), ONE_ACCEPTED, 1),
-            (ALPHA, chain(zone, sysmod), SHORT_PLAN, 1),
-            (PUBLISHER, publish(4, THIRD), ONE_ACCEPTED, 1),
-            (ALPHA, chain(zone, sysmod), SHORT_PLAN, 2),
-            (ALPHA, report(zone), THREE_RESOLVERS, 4),
-        ];
-        let restart: [Built; 2] = [
-            (PUBLISHER, publish(3, RESTART), HOLD_ACCEPTED, 1),
-            (ALPHA, chain(zone, sysmod), RESTART_PLAN, 1),
-        ];
-        let no_giver: [Built; 3] = [
-            (PUBLISHER, publish(3, NO_GIVER), ONE_ACCEPTED, 1),
-            (ALPHA, chain(zone, sysmod), SHORT_PLAN, 2),
-            (ALPHA, report(zone), ONE_RESOLVER, 2),
-        ];
-        assert_built(&mut with_frame(alloc, keys, place)?, &apart)?;
-        assert_built(&mut with_frame(alloc, keys, place)?, &restart)?;
-        assert_built(&mut with_frame(alloc, keys, place)?, &no_giver)
+        assert_built(&mut with_frame(bench)?, &apart(zone, sysmod))?;
+        assert_built(&mut with_frame(bench)?, &restart(zone, sysmod))?;
+        assert_built(&mut with_frame(bench)?, &no_giver(zone, sysmod))
     }
 }
 
@@ -146,12 +142,7 @@ impl Trial for Dropped {
 pub(crate) struct Conditional;
 
 impl Trial for Conditional {
-    fn assert_in<P: Place>(
-        &self,
-        alloc: Global,
-        keys: RandomState,
-        place: &mut P,
-    ) -> Result<(), Fail> {
+    fn assert_in<P: Place>(&self, bench: &mut Bench<P>) -> Result<(), Fail> {
         let (one, two, sysmod) = (id(b"TGT1")?, id(b"TGT2")?, id(b"UA10020")?);
         let rows: [Built; 9] = [
             (PUBLISHER, publish(1, BASE), BASE_ACCEPTED, 0),
@@ -169,7 +160,7 @@ impl Trial for Conditional {
             (PUBLISHER, publish(4, REQUIRING_NOTHING), ONE_ACCEPTED, 1),
             (ALPHA, chain(two, sysmod), ALONE_IN_TGT2, 2),
         ];
-        assert_built(&mut with_room(alloc, 16, keys, place)?, &rows)
+        assert_built(&mut with_room(bench, 16)?, &rows)
     }
 }
 
@@ -177,8 +168,9 @@ impl Trial for Conditional {
 
 // A publication that is refused since the store fails at the call after so many: whether the frame was
 // dropped; or `None` where it isn't refused. Nothing has changed then, and chains are right.
-fn dropped_at(alloc: Global, keys: RandomState, calls: u64) -> Result<Option<bool>, Fail> {
-    let (lists, cache) = with_frame(alloc, keys, &mut Lists)?.into_parts();
+fn dropped_at(bench: &mut Bench<Lists>, calls: u64) -> Result<Option<bool>, Fail> {
+    let alloc = bench.alloc;
+    let (lists, cache) = with_frame(bench)?.into_parts();
     let mut bureau = Bureau::new(alloc, FailingStore::new(lists, calls), cache);
     let reply = bureau.answer(&Caller::Publisher, &publish(3, NO_GIVER));
     if reply.status == 200 {
@@ -200,10 +192,14 @@ fn dropped_at(alloc: Global, keys: RandomState, calls: u64) -> Result<Option<boo
 
 #[test]
 fn a_store_that_fails_leaves_chains_right(rt: HostRuntime) -> Result<(), Fail> {
-    let keys = RandomState::new(&rt)?;
+    let mut bench = Bench {
+        alloc: rt.alloc(),
+        keys: RandomState::new(&rt)?,
+        place: Lists,
+    };
     let mut is_dropped = false;
     for calls in 0..64u64 {
-        match dropped_at(rt.alloc(), keys, calls)? {
+        match dropped_at(&mut bench, calls)? {
             Some(now) => is_dropped = now,
             None => {
                 // the frame goes before the store is asked to publish

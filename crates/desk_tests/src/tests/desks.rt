@@ -23,66 +23,74 @@ pub(crate) fn fresh<P: Place>(alloc: Global, place: &mut P) -> Checked<P::Kept> 
     place.new_store(alloc, callers.as_slice())
 }
 
-/// A cache that keeps nothing yet, of at least one frame and at most 65,536.
-pub(crate) fn cache(alloc: Global, capacity: u32, keys: RandomState) -> Checked<ChainCache> {
-    ChainCache::new(alloc, capacity.clamp(1, 65_536), keys)
-        .ok()
-        .ok_or("memory")
+/// Where stores are made, and what else a bureau over one is made of.
+#[derive(Drop)]
+pub(crate) struct Bench<P> {
+    pub(crate) alloc: Global,
+    pub(crate) keys: RandomState,
+    pub(crate) place: P,
 }
 
-/// As `assert_script`, by one judge.
-pub(crate) fn assert_script_by<P: Place, J: Judge<P::Kept> + Drop, T: Script>(
-    alloc: Global,
-    place: &mut P,
-    judge: J,
-    script: &T,
-) -> Result<(), Fail> {
-    let mut bureau = Bureau::new(alloc, fresh(alloc, place)?, judge);
-    script.assert_answers(alloc, &mut bureau)
-}
-
-/// The script is answered as it says by each judge, over a store there in which nothing is published yet.
-pub(crate) fn assert_script<P: Place, T: Script>(
-    alloc: Global,
-    keys: RandomState,
-    place: &mut P,
-    script: &T,
-) -> Result<(), Fail> {
-    assert_script_by(alloc, place, Whole::new(), script)?;
-    for capacity in CAPACITIES {
-        let judge = cache(alloc, capacity, keys)?;
-        assert_script_by(alloc, place, judge, script)?;
+impl<P: Place> Bench<P> {
+    /// A bureau over a store in which nothing is published yet.
+    pub(crate) fn bureau<J: Judge<P::Kept> + Drop>(
+        &mut self,
+        judge: J,
+    ) -> Checked<Bureau<P::Kept, J>> {
+        let store = fresh(self.alloc, &mut self.place)?;
+        Ok(Bureau::new(self.alloc, store, judge))
     }
-    Ok(())
-}
 
-// As `assert_opened_again`, by one judge.
-fn assert_opened_again_by<P: Place, J: Judge<P::Kept> + Drop>(
-    alloc: Global,
-    place: &mut P,
-    judge: J,
-    rows: &[Row],
-) -> Result<(), Fail> {
-    let (mut store, mut judge) = (fresh(alloc, place)?, judge);
-    for row in rows {
-        let mut bureau = Bureau::new(alloc, place.opened_again(alloc, store)?, judge);
-        assert_rows(&mut bureau, slice::from_ref(row))?;
-        (store, judge) = bureau.into_parts();
+    /// A cache that keeps nothing yet, of at least one frame and at most 65,536.
+    pub(crate) fn cache(&self, capacity: u32) -> Checked<ChainCache> {
+        ChainCache::new(self.alloc, capacity.clamp(1, 65_536), self.keys)
+            .ok()
+            .ok_or("memory")
     }
-    Ok(())
-}
 
-/// The rows are answered as they say by each judge, where the store is closed and opened again before each.
-pub(crate) fn assert_opened_again<P: Place>(
-    alloc: Global,
-    keys: RandomState,
-    place: &mut P,
-    rows: &[Row],
-) -> Result<(), Fail> {
-    assert_opened_again_by(alloc, place, Whole::new(), rows)?;
-    for capacity in CAPACITIES {
-        let judge = cache(alloc, capacity, keys)?;
-        assert_opened_again_by(alloc, place, judge, rows)?;
+    /// As `assert_script`, by one judge.
+    pub(crate) fn assert_script_by<J: Judge<P::Kept> + Drop, T: Script>(
+        &mut self,
+        judge: J,
+        script: &T,
+    ) -> Result<(), Fail> {
+        let mut bureau = self.bureau(judge)?;
+        script.assert_answers(&mut bureau)
     }
-    Ok(())
+
+    /// The script is answered as it says by each judge, over a store in which nothing is published yet.
+    pub(crate) fn assert_script<T: Script>(&mut self, script: &T) -> Result<(), Fail> {
+        self.assert_script_by(Whole::new(), script)?;
+        for capacity in CAPACITIES {
+            let judge = self.cache(capacity)?;
+            self.assert_script_by(judge, script)?;
+        }
+        Ok(())
+    }
+
+    // As `assert_opened_again`, by one judge.
+    fn assert_opened_again_by<J: Judge<P::Kept> + Drop>(
+        &mut self,
+        judge: J,
+        rows: &[Row],
+    ) -> Result<(), Fail> {
+        let (mut store, mut judge) = (fresh(self.alloc, &mut self.place)?, judge);
+        for row in rows {
+            let opened = self.place.opened_again(self.alloc, store)?;
+            let mut bureau = Bureau::new(self.alloc, opened, judge);
+            assert_rows(&mut bureau, slice::from_ref(row))?;
+            (store, judge) = bureau.into_parts();
+        }
+        Ok(())
+    }
+
+    /// The rows are answered as they say by each judge, where the store is closed and opened again before each.
+    pub(crate) fn assert_opened_again(&mut self, rows: &[Row]) -> Result<(), Fail> {
+        self.assert_opened_again_by(Whole::new(), rows)?;
+        for capacity in CAPACITIES {
+            let judge = self.cache(capacity)?;
+            self.assert_opened_again_by(judge, rows)?;
+        }
+        Ok(())
+    }
 }

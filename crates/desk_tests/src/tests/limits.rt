@@ -2,14 +2,13 @@
 use super::asked::{
     ALPHA, BETA, Checked, FUNCTION, Row, Script, asked, assert_rows, assert_told, id, put_zone,
 };
-use super::desks::assert_script;
+use super::desks::Bench;
 use super::stores::Place;
 use super::trial::Trial;
 use bureau::{Bureau, Call};
 use bureau_store::Store;
 use chains::Judge;
 use std::alloc::Global;
-use std::hash::RandomState;
 use std::test::Fail;
 
 // A client puts 64 zones.
@@ -43,17 +42,16 @@ fn put_more(alloc: Global) -> Checked<Vec<Row>> {
 }
 
 // Two clients put 64 zones each, and then one more.
-struct Zones;
+#[derive(Drop)]
+struct Zones {
+    alloc: Global,
+}
 
 impl Script for Zones {
-    fn assert_answers<S: Store, J: Judge<S>>(
-        &self,
-        alloc: Global,
-        bureau: &mut Bureau<S, J>,
-    ) -> Result<(), Fail> {
-        put_most(alloc, bureau, ALPHA)?;
-        put_most(alloc, bureau, BETA)?;
-        assert_rows(bureau, put_more(alloc)?.as_slice())
+    fn assert_answers<S: Store, J: Judge<S>>(&self, bureau: &mut Bureau<S, J>) -> Result<(), Fail> {
+        put_most(self.alloc, bureau, ALPHA)?;
+        put_most(self.alloc, bureau, BETA)?;
+        assert_rows(bureau, put_more(self.alloc)?.as_slice())
     }
 }
 
@@ -69,19 +67,18 @@ fn zone_text(alloc: Global, rows: u32) -> Result<Vec<u8>, Fail> {
 const FULL_ZONE: &str = "ZONE     SYSMODS\nTGT1     40000\nROWS 1\n";
 
 // A zone with too many SYSMODs, and then with the most, which is listed with all of them.
-struct FullZone;
+#[derive(Drop)]
+struct FullZone {
+    alloc: Global,
+}
 
 impl Script for FullZone {
-    fn assert_answers<S: Store, J: Judge<S>>(
-        &self,
-        alloc: Global,
-        bureau: &mut Bureau<S, J>,
-    ) -> Result<(), Fail> {
+    fn assert_answers<S: Store, J: Judge<S>>(&self, bureau: &mut Bureau<S, J>) -> Result<(), Fail> {
         let zone = id(b"TGT1")?;
-        let more = zone_text(alloc, 40_001)?;
+        let more = zone_text(self.alloc, 40_001)?;
         let refused = asked(bureau, ALPHA, &put_zone(1, zone, &more))?;
         assert_told(&refused, 422, "FAULT 37\n")?;
-        let full = zone_text(alloc, 40_000)?;
+        let full = zone_text(self.alloc, 40_000)?;
         let put = asked(bureau, ALPHA, &put_zone(1, zone, &full))?;
         assert_told(&put, 200, "ZONE TGT1 ROWS 40000\n")?;
         let listed = asked(bureau, ALPHA, &Call::ListZones)?;
@@ -93,13 +90,9 @@ impl Script for FullZone {
 pub(crate) struct Limits;
 
 impl Trial for Limits {
-    fn assert_in<P: Place>(
-        &self,
-        alloc: Global,
-        keys: RandomState,
-        place: &mut P,
-    ) -> Result<(), Fail> {
-        assert_script(alloc, keys, place, &Zones)?;
-        assert_script(alloc, keys, place, &FullZone)
+    fn assert_in<P: Place>(&self, bench: &mut Bench<P>) -> Result<(), Fail> {
+        let alloc = bench.alloc;
+        bench.assert_script(&Zones { alloc })?;
+        bench.assert_script(&FullZone { alloc })
     }
 }

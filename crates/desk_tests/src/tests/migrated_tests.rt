@@ -3,7 +3,7 @@ use super::asked::{
     ALPHA, BETA, BOTH, Checked, FUNCTION, PUBLISHER, Row, id, joined, publish, put_zone,
 };
 use super::conditional::conditional;
-use super::desks::{assert_opened_again, assert_script};
+use super::desks::Bench;
 use super::earlier::Earlier;
 use super::stores::{Place, in_files, in_memory};
 use super::trial::Trial;
@@ -48,16 +48,12 @@ fn is_kept(alloc: Global) -> Checked<Vec<Row>> {
 struct Migrated;
 
 impl Trial for Migrated {
-    fn assert_in<P: Place>(
-        &self,
-        alloc: Global,
-        keys: RandomState,
-        place: &mut P,
-    ) -> Result<(), Fail> {
-        assert_script(alloc, keys, place, &goes_on(alloc)?)?;
-        assert_script(alloc, keys, place, &is_kept(alloc)?)?;
-        assert_script(alloc, keys, place, &conditional(alloc)?)?;
-        assert_opened_again(alloc, keys, place, goes_on(alloc)?.as_slice())
+    fn assert_in<P: Place>(&self, bench: &mut Bench<P>) -> Result<(), Fail> {
+        let rows = goes_on(bench.alloc)?;
+        bench.assert_script(&rows)?;
+        bench.assert_opened_again(rows.as_slice())?;
+        bench.assert_script(&is_kept(bench.alloc)?)?;
+        bench.assert_script(&conditional(bench.alloc)?)
     }
 }
 
@@ -67,7 +63,8 @@ fn assert_migrated<S: Alter + Drop>(
     keys: RandomState,
     spare: Vec<Connection<S>>,
 ) -> Result<(), Fail> {
-    Migrated.assert_in(alloc, keys, &mut Earlier::new(spare))
+    let place = Earlier::new(spare);
+    Migrated.assert_in(&mut Bench { alloc, keys, place })
 }
 
 #[test]

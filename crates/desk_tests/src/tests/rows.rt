@@ -5,7 +5,7 @@ use super::asked::{
     ALPHA, BETA, BOTH, FUNCTION, PUBLISHER, assert_told, chain, id, publish, put_zone, report,
 };
 use super::conditional::conditional;
-use super::desks::{CAPACITIES, assert_opened_again, assert_script, cache, fresh};
+use super::desks::{Bench, CAPACITIES};
 use super::numbers::{lists, numbers, patterns, refusals};
 use super::stores::Place;
 use super::trial::Trial;
@@ -14,8 +14,6 @@ use super::worked::{SUPERSEDING, received, run_of_three};
 use bureau::{Bureau, Reply};
 use bureau_store::{Caller, Store};
 use chains::{Judge, Whole};
-use std::alloc::Global;
-use std::hash::RandomState;
 use std::test::Fail;
 use testing::{BASE, assert_equal, assert_equal_at};
 
@@ -25,20 +23,16 @@ use testing::{BASE, assert_equal, assert_equal_at};
 pub(crate) struct Worked;
 
 impl Trial for Worked {
-    fn assert_in<P: Place>(
-        &self,
-        alloc: Global,
-        keys: RandomState,
-        place: &mut P,
-    ) -> Result<(), Fail> {
-        assert_script(alloc, keys, place, &received(alloc)?)?;
-        assert_script(alloc, keys, place, &numbers(alloc)?)?;
-        assert_script(alloc, keys, place, &refusals(alloc)?)?;
-        assert_script(alloc, keys, place, &lists(alloc)?)?;
-        assert_script(alloc, keys, place, &patterns(alloc)?)?;
-        assert_script(alloc, keys, place, &verdicts(alloc)?)?;
-        assert_script(alloc, keys, place, &shared(alloc)?)?;
-        assert_script(alloc, keys, place, &conditional(alloc)?)
+    fn assert_in<P: Place>(&self, bench: &mut Bench<P>) -> Result<(), Fail> {
+        let alloc = bench.alloc;
+        bench.assert_script(&received(alloc)?)?;
+        bench.assert_script(&numbers(alloc)?)?;
+        bench.assert_script(&refusals(alloc)?)?;
+        bench.assert_script(&lists(alloc)?)?;
+        bench.assert_script(&patterns(alloc)?)?;
+        bench.assert_script(&verdicts(alloc)?)?;
+        bench.assert_script(&shared(alloc)?)?;
+        bench.assert_script(&conditional(alloc)?)
     }
 }
 
@@ -65,12 +59,11 @@ fn told_as_one<S: Store, J: Judge<S>>(bureau: &mut Bureau<S, J>) -> Result<Vec<R
 }
 
 fn assert_run_by<P: Place, J: Judge<P::Kept> + Drop>(
-    alloc: Global,
-    place: &mut P,
+    bench: &mut Bench<P>,
     judge: J,
 ) -> Result<(), Fail> {
-    let rows = run_of_three(alloc)?;
-    let mut bureau = Bureau::new(alloc, fresh(alloc, place)?, judge);
+    let rows = run_of_three(bench.alloc)?;
+    let mut bureau = bench.bureau(judge)?;
     let replies = told_as_one(&mut bureau)?;
     assert_equal(replies.len(), 10)?;
     for (reply, (_, _, status, text)) in replies.iter().zip(&rows) {
@@ -83,15 +76,11 @@ fn assert_run_by<P: Place, J: Judge<P::Kept> + Drop>(
 pub(crate) struct Run;
 
 impl Trial for Run {
-    fn assert_in<P: Place>(
-        &self,
-        alloc: Global,
-        keys: RandomState,
-        place: &mut P,
-    ) -> Result<(), Fail> {
-        assert_run_by(alloc, place, Whole::new())?;
+    fn assert_in<P: Place>(&self, bench: &mut Bench<P>) -> Result<(), Fail> {
+        assert_run_by(bench, Whole::new())?;
         for capacity in CAPACITIES {
-            assert_run_by(alloc, place, cache(alloc, capacity, keys)?)?;
+            let judge = bench.cache(capacity)?;
+            assert_run_by(bench, judge)?;
         }
         Ok(())
     }
@@ -103,24 +92,20 @@ impl Trial for Run {
 pub(crate) struct OpenedAgain;
 
 impl Trial for OpenedAgain {
-    fn assert_in<P: Place>(
-        &self,
-        alloc: Global,
-        keys: RandomState,
-        place: &mut P,
-    ) -> Result<(), Fail> {
-        assert_opened_again(alloc, keys, place, received(alloc)?.as_slice())?;
-        assert_opened_again(alloc, keys, place, numbers(alloc)?.as_slice())?;
-        assert_opened_again(alloc, keys, place, patterns(alloc)?.as_slice())?;
-        assert_opened_again(alloc, keys, place, verdicts(alloc)?.as_slice())?;
-        assert_opened_again(alloc, keys, place, conditional(alloc)?.as_slice())
+    fn assert_in<P: Place>(&self, bench: &mut Bench<P>) -> Result<(), Fail> {
+        let alloc = bench.alloc;
+        bench.assert_opened_again(received(alloc)?.as_slice())?;
+        bench.assert_opened_again(numbers(alloc)?.as_slice())?;
+        bench.assert_opened_again(patterns(alloc)?.as_slice())?;
+        bench.assert_opened_again(verdicts(alloc)?.as_slice())?;
+        bench.assert_opened_again(conditional(alloc)?.as_slice())
     }
 }
 
 // ---- tokens
 
 // Tokens, and whether somebody has them.
-const TOKENS: [(&[u8], bool); 7] = [
+static TOKENS: [(&[u8], bool); 7] = [
     (ALPHA, true),
     (PUBLISHER, true),
     (b"alpha-toke", false),
@@ -134,16 +119,11 @@ const TOKENS: [(&[u8], bool); 7] = [
 pub(crate) struct Tokens;
 
 impl Trial for Tokens {
-    fn assert_in<P: Place>(
-        &self,
-        alloc: Global,
-        _keys: RandomState,
-        place: &mut P,
-    ) -> Result<(), Fail> {
-        let mut bureau = Bureau::new(alloc, fresh(alloc, place)?, Whole::new());
-        for (token, is_known) in TOKENS {
+    fn assert_in<P: Place>(&self, bench: &mut Bench<P>) -> Result<(), Fail> {
+        let mut bureau = bench.bureau(Whole::new())?;
+        for (token, is_known) in &TOKENS {
             let found = bureau.caller_of(token)?;
-            assert_equal_at(token, found.is_some(), is_known)?;
+            assert_equal_at(token, found.is_some(), *is_known)?;
         }
         Ok(())
     }

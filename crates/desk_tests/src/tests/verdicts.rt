@@ -1,11 +1,11 @@
 //! Verdicts and reports, which stay right over publications.
 use super::asked::{
-    ALPHA, BASE_ACCEPTED, BETA, BOTH, Checked, FUNCTION, PUBLISHER, Row, chain, id, publish,
-    put_zone, report,
+    ALPHA, BASE_ACCEPTED, BOTH, Checked, PUBLISHER, Row, chain, id, joined, publish, put_zone,
+    report,
 };
-use super::worked::ONE_ACCEPTED;
+use super::worked::{ONE_ACCEPTED, two_zones};
 use std::alloc::Global;
-use testing::{BASE, LONG_PLAN, SHORT_PLAN};
+use testing::{BASE, SHORT_PLAN};
 
 const HELD_GIVER: &[u8] = b"++HOLD(UA10002) ERROR FMID(HBB7790) REASON(AA30003).
 ++PTF(UA10006).
@@ -77,15 +77,10 @@ pub(crate) fn verdicts(alloc: Global) -> Checked<Vec<Row>> {
 /// One SYSMOD in two zones, and the hold that its installer has to heed.
 pub(crate) fn shared(alloc: Global) -> Checked<Vec<Row>> {
     let (zone, sysmod) = (id(b"TGT1")?, id(b"UA10002")?);
-    let rows: [Row; 8] = [
-        (PUBLISHER, publish(1, BASE), 200, BASE_ACCEPTED),
-        (ALPHA, put_zone(1, zone, BOTH), 200, "ZONE TGT1 ROWS 2\n"),
-        (BETA, put_zone(1, zone, FUNCTION), 200, "ZONE TGT1 ROWS 1\n"),
-        (ALPHA, chain(zone, sysmod), 200, SHORT_PLAN),
-        (BETA, chain(zone, sysmod), 200, LONG_PLAN),
+    let rows: [Row; 3] = [
         (ALPHA, chain(zone, sysmod), 200, SHORT_PLAN),
         (PUBLISHER, publish(2, RESTART), 200, HOLD_ACCEPTED),
         (ALPHA, chain(zone, sysmod), 200, RESTART_PLAN),
     ];
-    Vec::from_slice(alloc, rows.as_slice()).ok().ok_or("memory")
+    joined(alloc, two_zones(alloc)?.as_slice(), rows.as_slice())
 }

@@ -1,15 +1,14 @@
 //! Connections as they come, one after the other.
-use super::echo::{Echo, TOKEN, request, served};
+use super::echo::{Echo, counts, echoed, last_counts, repeated_counts, serve, served};
 use super::listed::{Fails, Listed, Seen, Wanted};
-use bureau_http::{ConnFault, serve_listener, serve_one};
+use bureau_http::ConnFault;
 use std::test::Fail;
 use testing::assert_equal;
 
 #[test]
 fn each_is_served_and_closed_before_the_next_comes(rt: HostRuntime) -> Result<(), Fail> {
-    let one = request(rt.alloc(), b"GET /published", TOKEN, b"")?;
-    let mut two = one.clone()?;
-    two.extend_from_slice(one.as_slice())?;
+    let one = counts(rt.alloc())?;
+    let two = repeated_counts(rt.alloc(), 2)?;
     let mut part = one.clone()?;
     part.extend_from_slice(b"GET /publ")?;
     let (reply, _) = served(rt.alloc(), false, one.as_slice())?;
@@ -25,7 +24,7 @@ fn each_is_served_and_closed_before_the_next_comes(rt: HostRuntime) -> Result<()
     listed.add(b"", Fails::Accept)?;
     listed.add(two.as_slice(), Fails::Nothing)?;
     let mut desk = Echo::desk(rt.alloc());
-    serve_listener(rt.alloc(), &mut desk, &mut listed, 9);
+    serve(rt.alloc(), &mut desk, &mut listed, 9);
     let wanted = [
         Wanted::Came(two.as_slice()),
         Wanted::Closed(replies.as_slice(), Ok(2)),
@@ -52,20 +51,17 @@ fn each_is_served_and_closed_before_the_next_comes(rt: HostRuntime) -> Result<()
 
 #[test]
 fn no_more_is_read_of_a_client_that_was_served(rt: HostRuntime) -> Result<(), Fail> {
-    let lines = b"bureau-token: publisher-token\r\nconnection: close\r\n";
-    let mut text = request(rt.alloc(), b"GET /published", lines, b"")?;
+    let mut text = last_counts(rt.alloc())?;
     text.resize(1_000_000, b'x')?;
     // as much is left as where the connection is served alone
-    let mut desk = Echo::desk(rt.alloc());
     let mut alone = text.as_slice();
     let mut written = Vec::new(rt.alloc());
-    let ended = serve_one(rt.alloc(), &mut desk, &mut alone, &mut written);
-    assert_equal(ended.map(|served| served.requests), Ok(1))?;
+    assert_equal(echoed(rt.alloc(), &mut alone, &mut written), Ok(1))?;
     let left = alone.len();
     assert!(rt; left >= 900_000);
     let mut listed = Listed::new(rt.alloc());
     listed.add(text.as_slice(), Fails::Nothing)?;
-    serve_listener(rt.alloc(), &mut desk, &mut listed, 1);
+    serve(rt.alloc(), &mut Echo::desk(rt.alloc()), &mut listed, 1);
     let seen = listed.seen.take().ok_or("no memory")?;
     match seen.get(1) {
         Some(Seen::Closed(rest, _, _)) => assert_equal(rest.len(), left)?,

@@ -1,6 +1,6 @@
 //! Bytes that are cut anywhere, as they come in and as they go out.
-use super::echo::{Echo, TOKEN, request, served};
-use bureau_http::{ConnFault, serve_one};
+use super::echo::{TOKEN, echoed, request, served};
+use bureau_http::ConnFault;
 use std::test::Fail;
 use testing::{Failures, Pieces, Slow, assert_equal, assert_equal_at};
 
@@ -35,33 +35,23 @@ fn reads_and_writes_are_cut_anywhere(rt: HostRuntime) -> Result<(), Fail> {
         assert_equal_at(cut, written.is_empty(), count == 0)?;
     }
     for interruptions in [0u32, 64, 65] {
-        let mut desk = Echo::desk(rt.alloc());
         let failures = Failures::interruptions(interruptions);
         let mut reader = Pieces::new(text.as_slice(), 1, failures);
         let mut writer = Slow::new(rt.alloc(), 5, whole.len(), Failures::none());
-        let ended = serve_one(rt.alloc(), &mut desk, &mut reader, &mut writer);
+        let ended = echoed(rt.alloc(), &mut reader, &mut writer);
         if interruptions <= 64 {
-            assert_equal_at(interruptions, ended.map(|served| served.requests), Ok(2))?;
+            assert_equal_at(interruptions, ended, Ok(2))?;
             assert_equal_at(interruptions, writer.taken.as_slice(), whole.as_slice())?;
         } else {
-            assert_equal_at(
-                interruptions,
-                ended.map(|served| served.requests),
-                Err(ConnFault::Read),
-            )?;
+            assert_equal_at(interruptions, ended, Err(ConnFault::Read))?;
             assert!(rt; writer.taken.is_empty(), "{interruptions:?}");
         }
     }
     for room in [0usize, 1, 92, 93] {
-        let mut desk = Echo::desk(rt.alloc());
         let mut reader = text.as_slice();
         let mut writer = Slow::new(rt.alloc(), 5, room, Failures::none());
-        let ended = serve_one(rt.alloc(), &mut desk, &mut reader, &mut writer);
-        assert_equal_at(
-            room,
-            ended.map(|served| served.requests),
-            Err(ConnFault::Write),
-        )?;
+        let ended = echoed(rt.alloc(), &mut reader, &mut writer);
+        assert_equal_at(room, ended, Err(ConnFault::Write))?;
         assert!(rt; whole.starts_with(writer.taken.as_slice()), "{room:?}");
         assert_equal_at(room, writer.taken.len(), room)?;
     }

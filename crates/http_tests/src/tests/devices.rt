@@ -1,6 +1,6 @@
 //! Readers and writers that fail or are interrupted in mid-stream, and when they are asked.
-use super::echo::{Echo, TOKEN, request, served};
-use bureau_http::{ConnFault, serve_one};
+use super::echo::{counts, echoed, repeated_counts, served};
+use bureau_http::ConnFault;
 use std::alloc::Global;
 use std::cell::Cell;
 use std::io::{self, ErrorKind, Read, Write};
@@ -76,7 +76,6 @@ fn asked_patiently(
         sent: Cell::new(0),
         got: Cell::new(0),
     };
-    let mut desk = Echo::desk(alloc);
     let mut reader = Patient {
         request: text,
         left: times,
@@ -88,20 +87,20 @@ fn asked_patiently(
         taken: Vec::new(alloc),
         seen: &seen,
     };
-    let ended = serve_one(alloc, &mut desk, &mut reader, &mut writer);
-    (writer.taken, ended.map(|served| served.requests))
+    let ended = echoed(alloc, &mut reader, &mut writer);
+    (writer.taken, ended)
 }
 
 #[test]
 fn a_reply_goes_out_before_the_next_read(rt: HostRuntime) -> Result<(), Fail> {
-    let text = request(rt.alloc(), b"GET /published", TOKEN, b"")?;
+    let text = counts(rt.alloc())?;
     let (written, ended) = asked_patiently(rt.alloc(), text.as_slice(), 3, 0);
     assert_equal((written.len(), ended), (3 * 93, Ok(3)))
 }
 
 #[test]
 fn interruptions_are_counted_over_the_connection(rt: HostRuntime) -> Result<(), Fail> {
-    let text = request(rt.alloc(), b"GET /published", TOKEN, b"")?;
+    let text = counts(rt.alloc())?;
     let (written, ended) = asked_patiently(rt.alloc(), text.as_slice(), 2, 32);
     assert_equal((written.len(), ended), (2 * 93, Ok(2)))?;
     let (written, ended) = asked_patiently(rt.alloc(), text.as_slice(), 3, 32);
@@ -112,25 +111,18 @@ fn interruptions_are_counted_over_the_connection(rt: HostRuntime) -> Result<(), 
 
 #[test]
 fn a_read_fails_at_each_place(rt: HostRuntime) -> Result<(), Fail> {
-    let one = request(rt.alloc(), b"GET /published", TOKEN, b"")?;
-    let mut text = one.clone()?;
-    text.extend_from_slice(one.as_slice())?;
+    let text = repeated_counts(rt.alloc(), 2)?;
     let (whole, _) = served(rt.alloc(), false, text.as_slice())?;
     for until_failure in 0..=u32::try_from(text.len().div_ceil(7))? {
-        let mut desk = Echo::desk(rt.alloc());
         let failures = Failures::after(until_failure, ErrorKind::ConnectionReset);
         let mut reader = Pieces::new(text.as_slice(), 7, failures);
         let mut writer = Vec::new(rt.alloc());
-        let ended = serve_one(rt.alloc(), &mut desk, &mut reader, &mut writer);
-        assert_equal_at(
-            until_failure,
-            ended.map(|served| served.requests),
-            Err(ConnFault::Read),
-        )?;
+        let ended = echoed(rt.alloc(), &mut reader, &mut writer);
+        assert_equal_at(until_failure, ended, Err(ConnFault::Read))?;
         // each request that came whole has its reply
         let came = text.len().saturating_sub(reader.rest.len());
         assert!(rt; whole.starts_with(writer.as_slice()), "{until_failure:?}");
-        let replies = if came < one.len() {
+        let replies = if came < text.len() / 2 {
             0
         } else if came < text.len() {
             1
@@ -144,22 +136,15 @@ fn a_read_fails_at_each_place(rt: HostRuntime) -> Result<(), Fail> {
 
 #[test]
 fn a_write_fails_at_each_place(rt: HostRuntime) -> Result<(), Fail> {
-    let one = request(rt.alloc(), b"GET /published", TOKEN, b"")?;
-    let mut text = one.clone()?;
-    text.extend_from_slice(one.as_slice())?;
+    let text = repeated_counts(rt.alloc(), 2)?;
     let (whole, _) = served(rt.alloc(), false, text.as_slice())?;
     // a reply of 93 bytes takes 14 writes
     for until_failure in 0..28u32 {
-        let mut desk = Echo::desk(rt.alloc());
         let mut reader = text.as_slice();
         let failures = Failures::after(until_failure, ErrorKind::BrokenPipe);
         let mut writer = Slow::new(rt.alloc(), 7, usize::MAX, failures);
-        let ended = serve_one(rt.alloc(), &mut desk, &mut reader, &mut writer);
-        assert_equal_at(
-            until_failure,
-            ended.map(|served| served.requests),
-            Err(ConnFault::Write),
-        )?;
+        let ended = echoed(rt.alloc(), &mut reader, &mut writer);
+        assert_equal_at(until_failure, ended, Err(ConnFault::Write))?;
         let count = until_failure as usize;
         let taken = count / 14 * 93 + count % 14 * 7;
         assert!(rt;

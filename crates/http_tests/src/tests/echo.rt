@@ -1,11 +1,12 @@
 //! Connections to a desk that knows the publisher alone and answers each call with its own name, and to the bureau.
 use super::tableless::{Answering, Tableless};
 use bureau::{Body, Bureau, Call, Reply};
-use bureau_http::{ConnFault, serve_one};
+use bureau_http::{ConnFault, Desk, Listening, serve_listener, serve_one};
 use bureau_store::{Caller, ListStore, StoreFault, callers};
 use chains::Whole;
 use faults::NoMemory;
 use std::alloc::Global;
+use std::io::{Read, Write};
 use std::test::Fail;
 
 /// What answers each call of the publisher with what it sends, and fails where it is closed.
@@ -67,8 +68,40 @@ pub(crate) fn served(
     let mut desk = Tableless { answering };
     let mut reader = bytes;
     let mut writer = Vec::new(alloc);
-    let ended = serve_one(alloc, &mut desk, &mut reader, &mut writer);
-    Ok((writer, ended.map(|served| served.requests)))
+    let ended = served_by(alloc, &mut desk, &mut reader, &mut writer);
+    Ok((writer, ended))
+}
+
+/// How many requests of a connection this desk serves, or what ends it.
+pub(crate) fn served_by<D: Desk, R: Read, W: Write>(
+    alloc: Global,
+    desk: &mut D,
+    reader: &mut R,
+    writer: &mut W,
+) -> Result<u64, ConnFault> {
+    match serve_one(alloc, desk, reader, writer) {
+        Ok(served) => Ok(served.requests),
+        Err(fault) => Err(fault),
+    }
+}
+
+/// The same by the desk of the publisher alone.
+pub(crate) fn echoed<R: Read, W: Write>(
+    alloc: Global,
+    reader: &mut R,
+    writer: &mut W,
+) -> Result<u64, ConnFault> {
+    served_by(alloc, &mut Echo::desk(alloc), reader, writer)
+}
+
+/// Serves so many connections as they come, and promises nothing, so that no test carries along what is promised of that.
+pub(crate) fn serve<D: Desk, L: Listening>(
+    alloc: Global,
+    desk: &mut D,
+    listening: &mut L,
+    connections: u32,
+) {
+    serve_listener(alloc, desk, listening, connections);
 }
 
 /// The bureau over a store in memory that begins with the callers of a file and nothing else.
@@ -85,6 +118,9 @@ pub(crate) fn bureau_of(alloc: Global, text: &[u8]) -> Result<Bureau<ListStore, 
 /// The head line of the one caller that the desk knows.
 pub(crate) const TOKEN: &[u8] = b"bureau-token: publisher-token\r\n";
 
+/// The same, and the connection is closed after the request.
+pub(crate) const LAST: &[u8] = b"bureau-token: publisher-token\r\nconnection: close\r\n";
+
 /// A request with these lines and this body.
 pub(crate) fn request(
     alloc: Global,
@@ -98,4 +134,24 @@ pub(crate) fn request(
     text.extend_from_slice(b"\r\n")?;
     text.extend_from_slice(body)?;
     Ok(text)
+}
+
+/// A request of that caller that asks how much is published.
+pub(crate) fn counts(alloc: Global) -> Result<Vec<u8>, NoMemory> {
+    request(alloc, b"GET /published", TOKEN, b"")
+}
+
+/// The same so many times, one after the other.
+pub(crate) fn repeated_counts(alloc: Global, times: u32) -> Result<Vec<u8>, NoMemory> {
+    let one = counts(alloc)?;
+    let mut text = Vec::new(alloc);
+    for _ in 0..times {
+        text.extend_from_slice(one.as_slice())?;
+    }
+    Ok(text)
+}
+
+/// The same once, and its connection is closed after it.
+pub(crate) fn last_counts(alloc: Global) -> Result<Vec<u8>, NoMemory> {
+    request(alloc, b"GET /published", LAST, b"")
 }

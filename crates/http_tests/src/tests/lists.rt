@@ -1,17 +1,12 @@
 //! Connections in memory, one after the other.
-use super::echo::{Echo, request};
+use super::echo::{Echo, counts};
 use bureau_http::serve_list;
 use std::test::Fail;
 use testing::assert_equal;
 
 #[test]
 fn a_list_of_connections(rt: HostRuntime) -> Result<(), Fail> {
-    let one = request(
-        rt.alloc(),
-        b"GET /published",
-        b"bureau-token: publisher-token\r\n",
-        b"",
-    )?;
+    let one = counts(rt.alloc())?;
     let mut connections = Vec::new(rt.alloc());
     connections.push(one.clone()?)?;
     connections.push(Vec::from_slice(rt.alloc(), b"GET /publ")?)?;

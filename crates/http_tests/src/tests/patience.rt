@@ -1,8 +1,8 @@
 //! How long the desk waits, by clocks that tests set, and for a client that doesn't read.
-use super::echo::{Echo, TOKEN, request, served};
+use super::echo::{Echo, counts, last_counts, repeated_counts, serve, served};
 use super::tableless::{Answering, Tableless};
 use bureau::{Body, Call, Reply};
-use bureau_http::{Patience, Sockets, serve_listener};
+use bureau_http::{Patience, Sockets};
 use bureau_store::{Caller, StoreFault};
 use std::alloc::Global;
 use std::cell::Cell;
@@ -10,39 +10,7 @@ use std::io::{self, Read, Write};
 use std::net::{Shutdown, TcpListener, TcpStream};
 use std::test::Fail;
 use std::time::{Clock, Duration, Instant};
-use testing::{assert_equal, assert_equal_at};
-
-// A clock by which a second passes before each look, and none in a pause.
-#[derive(Drop)]
-struct Ticking {
-    looks: Cell<u64>,
-    paused: Cell<u128>,
-}
-
-impl Clock for Ticking {
-    fn monotonic(&self) -> io::Result<Duration> {
-        self.looks.set(self.looks.get().saturating_add(1));
-        Ok(Duration::from_secs(self.looks.get()))
-    }
-
-    fn since_1970(&self) -> io::Result<Duration> {
-        self.monotonic()
-    }
-
-    fn sleep(&self, duration: Duration) {
-        let paused = self.paused.get().saturating_add(duration.as_millis());
-        self.paused.set(paused);
-    }
-}
-
-impl Ticking {
-    fn new() -> Ticking {
-        Ticking {
-            looks: Cell::new(0),
-            paused: Cell::new(0),
-        }
-    }
-}
+use testing::{Ticking, assert_equal, assert_equal_at};
 
 // A clock that stands still. At each look a client reads all that it gets. It closes its side once it sees its end.
 #[derive(Drop)]
@@ -86,20 +54,19 @@ impl Clock for Watching<'_> {
 #[derive(Drop)]
 struct Dripping<'a> {
     client: &'a TcpStream,
-    looks: Cell<u64>,
+    clock: Ticking,
 }
 
 impl Clock for Dripping<'_> {
     fn monotonic(&self) -> io::Result<Duration> {
-        let looks = self.looks.get().saturating_add(1);
-        self.looks.set(looks);
+        let now = self.clock.monotonic()?;
         let mut client = self.client.try_clone()?;
-        if looks < 200 {
+        if self.clock.looks() < 200 {
             let _ = client.write(b"x");
         } else {
             let _ = client.shutdown(Shutdown::Write);
         }
-        Ok(Duration::from_secs(looks))
+        Ok(now)
     }
 
     fn since_1970(&self) -> io::Result<Duration> {
@@ -141,12 +108,8 @@ fn long() -> Duration {
 
 #[test]
 fn a_client_that_does_not_read_is_left_when_patience_ends(rt: HostRuntime) -> Result<(), Fail> {
-    let one = request(rt.alloc(), b"GET /published", TOKEN, b"")?;
     // the replies to so many requests find no room on their way
-    let mut text = Vec::new(rt.alloc());
-    for _ in 0..20u32 {
-        text.extend_from_slice(one.as_slice())?;
-    }
+    let text = repeated_counts(rt.alloc(), 20)?;
     for (each, whole) in [(short(), long()), (long(), short())] {
         let listener = TcpListener::bind(&rt, "127.0.0.1:0")?;
         let mut client = TcpStream::connect(&rt, listener.local_addr()?)?;
@@ -160,7 +123,7 @@ fn a_client_that_does_not_read_is_left_when_patience_ends(rt: HostRuntime) -> Re
         let mut desk = Tableless { answering };
         let begin = Instant::now(&rt)?;
         let mut sockets = Sockets::new(&listener, &rt, patience);
-        serve_listener(rt.alloc(), &mut desk, &mut sockets, 1);
+        serve(rt.alloc(), &mut desk, &mut sockets, 1);
         let took = begin.elapsed(&rt)?;
         assert!(rt; took < Duration::from_secs(20), "{took:?}");
     }
@@ -169,7 +132,7 @@ fn a_client_that_does_not_read_is_left_when_patience_ends(rt: HostRuntime) -> Re
 
 #[test]
 fn patience_with_a_connection_ends_in_reads_and_writes(rt: HostRuntime) -> Result<(), Fail> {
-    let text = request(rt.alloc(), b"GET /published", TOKEN, b"")?;
+    let text = counts(rt.alloc())?;
     let (written, _) = served(rt.alloc(), false, text.as_slice())?;
     // a second passes until the first read, one more until the reply, and one more until the end is read
     let rows: [(u64, &[u8]); 4] = [
@@ -188,10 +151,10 @@ fn patience_with_a_connection_ends_in_reads_and_writes(rt: HostRuntime) -> Resul
             whole: Duration::from_secs(seconds),
             closing: long(),
         };
-        let clock = Ticking::new();
+        let clock = Ticking::new(1);
         let mut desk = Echo::desk(rt.alloc());
         let mut sockets = Sockets::new(&listener, &clock, patience);
-        serve_listener(rt.alloc(), &mut desk, &mut sockets, 1);
+        serve(rt.alloc(), &mut desk, &mut sockets, 1);
         let mut got = Vec::new(rt.alloc());
         client.read_to_end(&mut got)?;
         assert_equal_at(seconds, got.as_slice(), wanted)?;
@@ -204,9 +167,9 @@ fn looks_at_a_client(rt: &HostRuntime, sent: &[u8]) -> Result<u64, Fail> {
     let listener = TcpListener::bind(rt, "127.0.0.1:0")?;
     let mut client = TcpStream::connect(rt, listener.local_addr()?)?;
     client.write_all(sent)?;
-    let clock = Dripping {
+    let dripping = Dripping {
         client: &client,
-        looks: Cell::new(0),
+        clock: Ticking::new(1),
     };
     let patience = Patience {
         each: long(),
@@ -214,9 +177,9 @@ fn looks_at_a_client(rt: &HostRuntime, sent: &[u8]) -> Result<u64, Fail> {
         closing: Duration::from_secs(5),
     };
     let mut desk = Echo::desk(rt.alloc());
-    let mut sockets = Sockets::new(&listener, &clock, patience);
-    serve_listener(rt.alloc(), &mut desk, &mut sockets, 1);
-    Ok(clock.looks.get())
+    let mut sockets = Sockets::new(&listener, &dripping, patience);
+    serve(rt.alloc(), &mut desk, &mut sockets, 1);
+    Ok(dripping.clock.looks())
 }
 
 #[test]
@@ -229,8 +192,7 @@ fn patience_ends_with_a_request_that_never_stands_whole(rt: HostRuntime) -> Resu
 
 #[test]
 fn patience_ends_with_a_client_that_sends_on(rt: HostRuntime) -> Result<(), Fail> {
-    let lines = b"bureau-token: publisher-token\r\nconnection: close\r\n";
-    let text = request(rt.alloc(), b"GET /published", lines, b"")?;
+    let text = last_counts(rt.alloc())?;
     // the reply is written at once, and what comes in the next 5 seconds is read before it is closed
     let looks = looks_at_a_client(&rt, text.as_slice())?;
     assert!(rt; (8..=12).contains(&looks), "{looks:?}");
@@ -239,8 +201,7 @@ fn patience_ends_with_a_client_that_sends_on(rt: HostRuntime) -> Result<(), Fail
 
 #[test]
 fn a_client_that_waits_for_its_end_sees_it(rt: HostRuntime) -> Result<(), Fail> {
-    let lines = b"bureau-token: publisher-token\r\nconnection: close\r\n";
-    let text = request(rt.alloc(), b"GET /published", lines, b"")?;
+    let text = last_counts(rt.alloc())?;
     let (written, _) = served(rt.alloc(), false, text.as_slice())?;
     let listener = TcpListener::bind(&rt, "127.0.0.1:0")?;
     let mut client = TcpStream::connect(&rt, listener.local_addr()?)?;
@@ -260,7 +221,7 @@ fn a_client_that_waits_for_its_end_sees_it(rt: HostRuntime) -> Result<(), Fail> 
     let mut desk = Echo::desk(rt.alloc());
     let begin = Instant::now(&rt)?;
     let mut sockets = Sockets::new(&listener, &clock, patience);
-    serve_listener(rt.alloc(), &mut desk, &mut sockets, 1);
+    serve(rt.alloc(), &mut desk, &mut sockets, 1);
     let took = begin.elapsed(&rt)?;
     assert!(rt; clock.saw_end.get());
     assert_equal(clock.got.get(), written.len())?;
@@ -273,11 +234,11 @@ fn the_desk_pauses_where_it_can_accept_no_connection(rt: HostRuntime) -> Result<
     let listener = TcpListener::bind(&rt, "127.0.0.1:0")?;
     // from now on an `accept` fails where nobody waits
     listener.set_nonblocking(true)?;
-    let clock = Ticking::new();
+    let clock = Ticking::new(1);
     let mut desk = Echo::desk(rt.alloc());
     let mut sockets = Sockets::new(&listener, &clock, Patience::usual());
-    serve_listener(rt.alloc(), &mut desk, &mut sockets, 3);
-    assert_equal(clock.paused.get(), 60)?;
+    serve(rt.alloc(), &mut desk, &mut sockets, 3);
+    assert_equal(clock.paused(), 60)?;
     // patience with a client doesn't begin before it comes
-    assert_equal(clock.looks.get(), 0)
+    assert_equal(clock.looks(), 0)
 }

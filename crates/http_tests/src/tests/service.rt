@@ -1,8 +1,8 @@
 //! A service over a store whose device fails at one of its calls.
-use super::echo::bureau_of;
+use super::echo::{bureau_of, served_by};
 use super::listed::{Fails, Listed, Seen, Wanted};
 use bureau::Bureau;
-use bureau_http::{serve_one, serve_while_open};
+use bureau_http::serve_while_open;
 use bureau_store::{ListStore, StoreFault};
 use chains::Whole;
 use failing_store::FailingStore;
@@ -22,7 +22,7 @@ const NO_ROOM: &[u8] =
 // A connection in which a change is sent, and then a question that is answered by [`ZONES`]; and the reply to the change.
 type Sent = (&'static [u8], &'static [u8]);
 
-const SENT: [Sent; 3] = [
+static SENT: [Sent; 3] = [
     (
         b"PUT /zones/TGT1 HTTP/1.1\r\nbureau-token: alpha-token\r\nbureau-number: 1\r\ncontent-length: 45\r\n\r\nSYSMOD,STATE\nHBB77E0,APPLIED\nUJ90101,APPLIED\nGET /zones HTTP/1.1\r\nbureau-token: alpha-token\r\n\r\n",
         b"HTTP/1.1 200 OK\r\ncontent-type: text/plain\r\ncontent-length: 17\r\n\r\nZONE TGT1 ROWS 2\n",
@@ -80,8 +80,8 @@ fn assert_accepted(alloc: Global, lists: ListStore, sent: &Sent) -> Result<(), F
     let mut bureau = Bureau::new(alloc, lists, Whole::new());
     let mut reader = sent.0;
     let mut written = Vec::new(alloc);
-    let served = serve_one(alloc, &mut bureau, &mut reader, &mut written);
-    assert_equal(served.map(|served| served.requests), Ok(2))?;
+    let served = served_by(alloc, &mut bureau, &mut reader, &mut written);
+    assert_equal(served, Ok(2))?;
     let both = replies(alloc, sent.1, ZONES)?;
     assert_equal(written.as_slice(), both.as_slice())
 }

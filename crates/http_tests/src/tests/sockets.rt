@@ -1,8 +1,8 @@
 //! Connections over a socket.
-use super::echo::{Echo, TOKEN, bureau_of, request, served};
+use super::echo::{Echo, bureau_of, counts, last_counts, repeated_counts, serve, served};
 use super::tableless::{Answering, Tableless};
 use bureau::{Call, Reply};
-use bureau_http::{Patience, Sockets, serve_listener};
+use bureau_http::{Patience, Sockets};
 use bureau_store::{Caller, StoreFault};
 use std::alloc::Global;
 use std::io::{Read, Write};
@@ -18,6 +18,39 @@ fn send(client: &mut TcpStream, text: &[u8]) -> Result<(), Fail> {
     Ok(())
 }
 
+// A client that is connected to this listener.
+fn connected(rt: &HostRuntime, listener: &TcpListener) -> Result<TcpStream, Fail> {
+    Ok(TcpStream::connect(rt, listener.local_addr()?)?)
+}
+
+// A client that has sent this, and nothing after it.
+fn sender(rt: &HostRuntime, listener: &TcpListener, text: &[u8]) -> Result<TcpStream, Fail> {
+    let mut client = connected(rt, listener)?;
+    send(&mut client, text)?;
+    Ok(client)
+}
+
+// A listener with two clients, each of which asks how much is published, and nothing after it.
+fn two_senders(rt: &HostRuntime) -> Result<(TcpListener, TcpStream, TcpStream), Fail> {
+    let text = counts(rt.alloc())?;
+    let listener = TcpListener::bind(rt, "127.0.0.1:0")?;
+    let first = sender(rt, &listener, text.as_slice())?;
+    let second = sender(rt, &listener, text.as_slice())?;
+    Ok((listener, first, second))
+}
+
+// What such a client gets.
+fn reply_to_one(alloc: Global) -> Result<Vec<u8>, Fail> {
+    let (reply, _) = served(alloc, false, counts(alloc)?.as_slice())?;
+    Ok(reply)
+}
+
+// A client gets this, and then its end.
+fn assert_received(alloc: Global, client: &mut TcpStream, wanted: &[u8]) -> Result<(), Fail> {
+    let got = received(alloc, client)?;
+    assert_equal(got.as_slice(), wanted)
+}
+
 // All that a client gets.
 fn received(alloc: Global, client: &mut TcpStream) -> Result<Vec<u8>, Fail> {
     let mut reply = Vec::new(alloc);
@@ -27,20 +60,13 @@ fn received(alloc: Global, client: &mut TcpStream) -> Result<Vec<u8>, Fail> {
 
 #[test]
 fn one_connection_after_the_other(rt: HostRuntime) -> Result<(), Fail> {
-    let listener = TcpListener::bind(&rt, "127.0.0.1:0")?;
-    let text = request(rt.alloc(), b"GET /published", TOKEN, b"")?;
-    let mut first = TcpStream::connect(&rt, listener.local_addr()?)?;
-    let mut second = TcpStream::connect(&rt, listener.local_addr()?)?;
-    send(&mut first, text.as_slice())?;
-    send(&mut second, text.as_slice())?;
+    let (listener, mut first, mut second) = two_senders(&rt)?;
     let mut desk = Echo::desk(rt.alloc());
     let mut sockets = Sockets::new(&listener, &rt, Patience::usual());
-    serve_listener(rt.alloc(), &mut desk, &mut sockets, 2);
-    let (written, _) = served(rt.alloc(), false, text.as_slice())?;
-    let to_first = received(rt.alloc(), &mut first)?;
-    let to_second = received(rt.alloc(), &mut second)?;
-    assert_equal(to_first.as_slice(), written.as_slice())?;
-    assert_equal(to_second.as_slice(), written.as_slice())
+    serve(rt.alloc(), &mut desk, &mut sockets, 2);
+    let reply = reply_to_one(rt.alloc())?;
+    assert_received(rt.alloc(), &mut first, reply.as_slice())?;
+    assert_received(rt.alloc(), &mut second, reply.as_slice())
 }
 
 const CALLERS: &[u8] = b"NAME,TOKEN\nPUBLISH,publisher-token\nALPHA,alpha-token\nBETA,beta-token\n";
@@ -70,13 +96,11 @@ fn clients_of_one_bureau(rt: HostRuntime) -> Result<(), Fail> {
     let listener = TcpListener::bind(&rt, "127.0.0.1:0")?;
     let mut clients = Vec::new(rt.alloc());
     for (sent, _) in rows {
-        let mut client = TcpStream::connect(&rt, listener.local_addr()?)?;
-        send(&mut client, sent)?;
-        clients.push(client)?;
+        clients.push(sender(&rt, &listener, sent)?)?;
     }
     let mut bureau = bureau_of(rt.alloc(), CALLERS)?;
     let mut sockets = Sockets::new(&listener, &rt, Patience::usual());
-    serve_listener(rt.alloc(), &mut bureau, &mut sockets, 4);
+    serve(rt.alloc(), &mut bureau, &mut sockets, 4);
     for (client, (sent, reply)) in clients.iter_mut().zip(rows) {
         let got = received(rt.alloc(), client)?;
         assert_equal_at(sent, got.as_slice(), reply)?;
@@ -138,62 +162,47 @@ impl Answering for Meddling {
 
 #[test]
 fn a_client_sees_its_end_before_the_next_is_served(rt: HostRuntime) -> Result<(), Fail> {
-    let listener = TcpListener::bind(&rt, "127.0.0.1:0")?;
-    let text = request(rt.alloc(), b"GET /published", TOKEN, b"")?;
-    let mut first = TcpStream::connect(&rt, listener.local_addr()?)?;
-    let mut second = TcpStream::connect(&rt, listener.local_addr()?)?;
-    send(&mut first, text.as_slice())?;
-    send(&mut second, text.as_slice())?;
+    let (listener, first, mut second) = two_senders(&rt)?;
     first.set_read_timeout(Some(Duration::from_secs(5)))?;
     // the second client's call lets the first one read up to its end
     let mut desk = Meddling::desk(rt.alloc(), 1, first, false);
     let mut sockets = Sockets::new(&listener, &rt, Patience::usual());
-    serve_listener(rt.alloc(), &mut desk, &mut sockets, 2);
-    let (written, _) = served(rt.alloc(), false, text.as_slice())?;
+    serve(rt.alloc(), &mut desk, &mut sockets, 2);
+    let reply = reply_to_one(rt.alloc())?;
     assert!(rt; desk.answering.saw_end);
-    assert_equal(desk.answering.got.as_slice(), written.as_slice())?;
-    let to_second = received(rt.alloc(), &mut second)?;
-    assert_equal(to_second.as_slice(), written.as_slice())
+    assert_equal(desk.answering.got.as_slice(), reply.as_slice())?;
+    assert_received(rt.alloc(), &mut second, reply.as_slice())
 }
 
 #[test]
 fn a_client_that_is_gone_does_not_end_the_desk(rt: HostRuntime) -> Result<(), Fail> {
     let listener = TcpListener::bind(&rt, "127.0.0.1:0")?;
-    let text = request(rt.alloc(), b"GET /published", TOKEN, b"")?;
-    let mut many = Vec::new(rt.alloc());
-    for _ in 0..9u32 {
-        many.extend_from_slice(text.as_slice())?;
-    }
-    let mut first = TcpStream::connect(&rt, listener.local_addr()?)?;
-    let mut second = TcpStream::connect(&rt, listener.local_addr()?)?;
-    first.write_all(many.as_slice())?;
-    send(&mut second, text.as_slice())?;
+    let mut first = connected(&rt, &listener)?;
+    first.write_all(repeated_counts(rt.alloc(), 9)?.as_slice())?;
+    let mut second = sender(&rt, &listener, counts(rt.alloc())?.as_slice())?;
     // it is gone at its third request, with two replies unread, so that a write or a read fails
     let mut desk = Meddling::desk(rt.alloc(), 2, first, true);
     let mut sockets = Sockets::new(&listener, &rt, Patience::usual());
-    serve_listener(rt.alloc(), &mut desk, &mut sockets, 2);
+    serve(rt.alloc(), &mut desk, &mut sockets, 2);
     assert!(rt; desk.answering.client.is_none());
-    let (written, _) = served(rt.alloc(), false, text.as_slice())?;
-    let to_second = received(rt.alloc(), &mut second)?;
-    assert_equal(to_second.as_slice(), written.as_slice())
+    let reply = reply_to_one(rt.alloc())?;
+    assert_received(rt.alloc(), &mut second, reply.as_slice())
 }
 
 #[test]
 fn no_reply_is_lost_where_a_client_sends_on(rt: HostRuntime) -> Result<(), Fail> {
     let listener = TcpListener::bind(&rt, "127.0.0.1:0")?;
-    let closing = b"bureau-token: publisher-token\r\nconnection: close\r\n";
-    let mut text = request(rt.alloc(), b"GET /published", closing, b"")?;
+    let mut text = last_counts(rt.alloc())?;
     let (written, _) = served(rt.alloc(), false, text.as_slice())?;
     text.resize(100_000, b'x')?;
-    let mut client = TcpStream::connect(&rt, listener.local_addr()?)?;
+    let mut client = connected(&rt, &listener)?;
     client.set_write_timeout(Some(Duration::from_secs(5)))?;
     send(&mut client, text.as_slice())?;
     let mut desk = Echo::desk(rt.alloc());
     let mut sockets = Sockets::new(&listener, &rt, Patience::usual());
-    serve_listener(rt.alloc(), &mut desk, &mut sockets, 1);
+    serve(rt.alloc(), &mut desk, &mut sockets, 1);
     // a client that was reset sees a failure in place of the end
-    let got = received(rt.alloc(), &mut client)?;
-    assert_equal(got.as_slice(), written.as_slice())
+    assert_received(rt.alloc(), &mut client, written.as_slice())
 }
 
 #[test]
@@ -212,27 +221,25 @@ fn a_silent_client_is_left_when_patience_ends(rt: HostRuntime) -> Result<(), Fai
             closing: short,
         },
     ];
-    let text = request(rt.alloc(), b"GET /published", TOKEN, b"")?;
-    let (written, _) = served(rt.alloc(), false, text.as_slice())?;
+    let text = counts(rt.alloc())?;
+    let reply = reply_to_one(rt.alloc())?;
     for patience in rows {
         let listener = TcpListener::bind(&rt, "127.0.0.1:0")?;
-        let mut first = TcpStream::connect(&rt, listener.local_addr()?)?;
-        let mut second = TcpStream::connect(&rt, listener.local_addr()?)?;
+        let mut first = connected(&rt, &listener)?;
+        let mut second = connected(&rt, &listener)?;
         // one request, and then silence; neither client closes its side
         first.write_all(text.as_slice())?;
         second.write_all(text.as_slice())?;
         let mut desk = Echo::desk(rt.alloc());
         let begin = Instant::now(&rt)?;
         let mut sockets = Sockets::new(&listener, &rt, patience);
-        serve_listener(rt.alloc(), &mut desk, &mut sockets, 2);
+        serve(rt.alloc(), &mut desk, &mut sockets, 2);
         let took = begin.elapsed(&rt)?;
         // twice 200 milliseconds of silence, and as many until each is closed
         assert!(rt; took >= Duration::from_millis(700), "{took:?}");
         assert!(rt; took < Duration::from_secs(20), "{took:?}");
-        let to_first = received(rt.alloc(), &mut first)?;
-        let to_second = received(rt.alloc(), &mut second)?;
-        assert_equal(to_first.as_slice(), written.as_slice())?;
-        assert_equal(to_second.as_slice(), written.as_slice())?;
+        assert_received(rt.alloc(), &mut first, reply.as_slice())?;
+        assert_received(rt.alloc(), &mut second, reply.as_slice())?;
     }
     Ok(())
 }
@@ -242,14 +249,11 @@ fn a_connection_that_cannot_be_accepted_does_not_end_the_desk(rt: HostRuntime) -
     let listener = TcpListener::bind(&rt, "127.0.0.1:0")?;
     // from now on an `accept` fails where nobody waits
     listener.set_nonblocking(true)?;
-    let text = request(rt.alloc(), b"GET /published", TOKEN, b"")?;
     let mut desk = Echo::desk(rt.alloc());
     let mut sockets = Sockets::new(&listener, &rt, Patience::usual());
-    serve_listener(rt.alloc(), &mut desk, &mut sockets, 3);
-    let mut client = TcpStream::connect(&rt, listener.local_addr()?)?;
-    send(&mut client, text.as_slice())?;
-    serve_listener(rt.alloc(), &mut desk, &mut sockets, 3);
-    let (written, _) = served(rt.alloc(), false, text.as_slice())?;
-    let got = received(rt.alloc(), &mut client)?;
-    assert_equal(got.as_slice(), written.as_slice())
+    serve(rt.alloc(), &mut desk, &mut sockets, 3);
+    let mut client = sender(&rt, &listener, counts(rt.alloc())?.as_slice())?;
+    serve(rt.alloc(), &mut desk, &mut sockets, 3);
+    let reply = reply_to_one(rt.alloc())?;
+    assert_received(rt.alloc(), &mut client, reply.as_slice())
 }

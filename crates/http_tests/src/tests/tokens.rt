@@ -1,6 +1,6 @@
 //! Callers by their tokens, and a change whose reply was lost.
-use super::echo::{bureau_of, request};
-use bureau_http::{ConnFault, replay, serve_one};
+use super::echo::{bureau_of, request, served_by};
+use bureau_http::{ConnFault, replay};
 use std::io::{self, ErrorKind, Write};
 use std::test::Fail;
 use testing::assert_equal;
@@ -8,30 +8,24 @@ use testing::assert_equal;
 const CALLERS: &[u8] =
     b"NAME,TOKEN\nPUBLISH,publisher-token\nALPHA,alpha-token\nBETA,alpha-token2\n";
 
+const FOUND: &[u8] = b"HTTP/1.1 200 OK\r\n";
+
+const UNKNOWN: &[u8] = b"HTTP/1.1 401 Unauthorized\r\n";
+
+// The line of a token, and how the reply to a request with it begins.
+static TOKENS: [(&[u8], &[u8]); 7] = [
+    (b"bureau-token: alpha-token\r\n", FOUND),
+    (b"bureau-token: \talpha-token2 \r\n", FOUND),
+    (b"bureau-token: alpha-toke\r\n", UNKNOWN),
+    (b"bureau-token: alpha-token22\r\n", UNKNOWN),
+    (b"bureau-token: Alpha-token\r\n", UNKNOWN),
+    (b"bureau-token: lpha-token\r\n", UNKNOWN),
+    (b"bureau-token: \r\n", UNKNOWN),
+];
+
 #[test]
 fn a_token_is_compared_whole(rt: HostRuntime) -> Result<(), Fail> {
-    let rows: [(&[u8], &[u8]); 7] = [
-        (b"bureau-token: alpha-token\r\n", b"HTTP/1.1 200 OK\r\n"),
-        (b"bureau-token: \talpha-token2 \r\n", b"HTTP/1.1 200 OK\r\n"),
-        (
-            b"bureau-token: alpha-toke\r\n",
-            b"HTTP/1.1 401 Unauthorized\r\n",
-        ),
-        (
-            b"bureau-token: alpha-token22\r\n",
-            b"HTTP/1.1 401 Unauthorized\r\n",
-        ),
-        (
-            b"bureau-token: Alpha-token\r\n",
-            b"HTTP/1.1 401 Unauthorized\r\n",
-        ),
-        (
-            b"bureau-token: lpha-token\r\n",
-            b"HTTP/1.1 401 Unauthorized\r\n",
-        ),
-        (b"bureau-token: \r\n", b"HTTP/1.1 401 Unauthorized\r\n"),
-    ];
-    for (token, status) in rows {
+    for (token, status) in &TOKENS {
         let mut connections = Vec::new(rt.alloc());
         connections.push(request(rt.alloc(), b"GET /zones", token, b"")?)?;
         match replay(rt.alloc(), CALLERS, connections) {
@@ -66,8 +60,8 @@ fn a_change_whose_reply_was_lost_counts_as_made(rt: HostRuntime) -> Result<(), F
         b"SYSMOD,STATE\nHBB7790,APPLIED\nUA10001,APPLIED\n",
     )?;
     let mut reader = put.as_slice();
-    let lost = serve_one(rt.alloc(), &mut bureau, &mut reader, &mut Closed);
-    assert_equal(lost.map(|served| served.requests), Err(ConnFault::Write))?;
+    let lost = served_by(rt.alloc(), &mut bureau, &mut reader, &mut Closed);
+    assert_equal(lost, Err(ConnFault::Write))?;
     let again = request(
         rt.alloc(),
         b"PUT /zones/TGT1",
@@ -76,9 +70,9 @@ fn a_change_whose_reply_was_lost_counts_as_made(rt: HostRuntime) -> Result<(), F
     )?;
     let mut reader = again.as_slice();
     let mut written = Vec::new(rt.alloc());
-    let told = serve_one(rt.alloc(), &mut bureau, &mut reader, &mut written);
-    assert_equal(told.map(|served| served.requests), Ok(1))?;
-    assert!(rt; written.starts_with(b"HTTP/1.1 200 OK\r\n"));
+    let told = served_by(rt.alloc(), &mut bureau, &mut reader, &mut written);
+    assert_equal(told, Ok(1))?;
+    assert!(rt; written.starts_with(FOUND));
     assert!(rt; written.ends_with(b"\r\n\r\nZONE TGT1 ROWS 2\n"));
     Ok(())
 }

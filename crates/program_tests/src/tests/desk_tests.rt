@@ -3,21 +3,17 @@
 use bureau_program::run_replay;
 use std::alloc::Global;
 use std::hash::RandomState;
-use std::io::ErrorKind;
-use std::process::Abort;
+use std::io::{ErrorKind, Write};
 use std::random::RandomSource;
 use std::str;
 use std::test::Fail;
-use testing::{Failures, Slow, assert_equal, assert_equal_at};
+use testing::{
+    ALPHA, BETA, Exchange, FIRST, Failures, OK, PUBLISHER, SECOND, Slow, Told, assert_equal,
+    assert_equal_at, reply_text, request_text,
+};
 
 pub const CALLERS: &[u8] =
     b"NAME,TOKEN\nPUBLISH,publisher-token\nALPHA,alpha-token\nBETA,beta-token\n";
-
-// What a caller sends: the token, the request's first words, its lines but for the token and the length, its body.
-pub type Asked = (&'static str, &'static str, &'static str, &'static str);
-
-// What is written for it: the status, the lines after the length, the body. No status: nothing is written.
-pub type Told = (&'static str, &'static str, &'static str);
 
 const BASE: &str =
     "++FUNCTION(HBB7790).\n++VER(Z038).\n++PTF(UA10001).\n++VER(Z038) FMID(HBB7790).\n++PTF(UA10002).\n++VER(Z038) FMID(HBB7790) PRE(UA10001) SUP(AA20002).\n++HOLD(UA10001) ERROR FMID(HBB7790)\n REASON(AA20002) CLASS(PE) DATE(12045).\n";
@@ -36,20 +32,10 @@ const PLAN_OF_ONE: &str =
 const PLAN_OF_TWO: &str =
     "{\"plan\":[{\"id\":\"UA10001\",\"system\":[],\"user\":[]},{\"id\":\"UA10002\",\"system\":[],\"user\":[]}],\"status\":\"GOOD\",\"sysmod\":\"UA10002\",\"zone\":\"TGT1\"}";
 
-const PUBLISHER: &str = "publisher-token";
-
-const ALPHA: &str = "alpha-token";
-
-const BETA: &str = "beta-token";
-
-const FIRST: &str = "bureau-number: 1\r\n";
-
-const SECOND: &str = "bureau-number: 2\r\n";
-
-const OK: &str = "200 OK";
+const FUNCTION: &str = "SYSMOD,STATE\nHBB7790,APPLIED\n";
 
 // A publication, zones, and what each client is told before and after the next publication.
-pub const SCRIPT: [(Asked, Told); 10] = [
+static SCRIPT: [Exchange; 10] = [
     (
         (PUBLISHER, "POST /publish", FIRST, BASE),
         (OK, "", "ACCEPTED SYSMODS 3 HOLDS 1 RELEASES 0\n"),
@@ -59,12 +45,7 @@ pub const SCRIPT: [(Asked, Told); 10] = [
         (OK, "", "ZONE TGT1 ROWS 2\n"),
     ),
     (
-        (
-            BETA,
-            "PUT /zones/TGT1",
-            FIRST,
-            "SYSMOD,STATE\nHBB7790,APPLIED\n",
-        ),
+        (BETA, "PUT /zones/TGT1", FIRST, FUNCTION),
         (OK, "", "ZONE TGT1 ROWS 1\n"),
     ),
     (
@@ -106,15 +87,16 @@ const NOT_FOUND: Told = ("404 Not Found", "", "NOT FOUND\n");
 
 const BAD_NUMBER: Told = ("400 Bad Request", "", "BAD NUMBER\n");
 
+const ONLY_GET: Told = (
+    "405 Method Not Allowed",
+    "allow: GET\r\n",
+    "METHOD NOT ALLOWED\n",
+);
+
 // What stands after the first two requests of the script, and after BETA's zone TGT2.
-const REQUESTS: [(Asked, Told); 15] = [
+static REQUESTS: [Exchange; 15] = [
     (
-        (
-            BETA,
-            "PUT /zones/TGT2",
-            FIRST,
-            "SYSMOD,STATE\nHBB7790,APPLIED\n",
-        ),
+        (BETA, "PUT /zones/TGT2", FIRST, FUNCTION),
         (OK, "", "ZONE TGT2 ROWS 1\n"),
     ),
     (
@@ -130,22 +112,8 @@ const REQUESTS: [(Asked, Told); 15] = [
             "UNKNOWN TOKEN\n",
         ),
     ),
-    (
-        (ALPHA, "DELETE /published", "", ""),
-        (
-            "405 Method Not Allowed",
-            "allow: GET\r\n",
-            "METHOD NOT ALLOWED\n",
-        ),
-    ),
-    (
-        (ALPHA, "HEAD /published", "", ""),
-        (
-            "405 Method Not Allowed",
-            "allow: GET\r\n",
-            "METHOD NOT ALLOWED\n",
-        ),
-    ),
+    ((ALPHA, "DELETE /published", "", ""), ONLY_GET),
+    ((ALPHA, "HEAD /published", "", ""), ONLY_GET),
     (
         (ALPHA, "GET /zones/TGT1", "", ""),
         (
@@ -184,89 +152,78 @@ const REQUESTS: [(Asked, Told); 15] = [
     ((ALPHA, "GET /published", "", ""), ("", "", "")),
 ];
 
-fn request(alloc: Global, asked: Asked) -> Result<String, Fail> {
-    let (token, first, lines, body) = asked;
-    Ok(format!(in alloc;
-        "{first} HTTP/1.1\r\nbureau-token: {token}\r\n{lines}content-length: {}\r\n\r\n{body}",
-        body.len()
-    )?)
-}
-
-fn reply(alloc: Global, asked: Asked, told: Told) -> Result<String, Fail> {
-    let (status, lines, body) = told;
-    if status.is_empty() {
-        return Ok(String::new(alloc));
+// A connection for each of the requests.
+fn connections(alloc: Global, exchanges: &[Exchange]) -> Result<Vec<Vec<u8>>, Fail> {
+    let mut files = Vec::new(alloc);
+    for (asked, _) in exchanges {
+        let text = request_text(alloc, *asked)?;
+        files.push(Vec::from_slice(alloc, text.as_bytes())?)?;
     }
-    let json = "application/json";
-    let kind = if body.starts_with("{") {
-        json
-    } else {
-        "text/plain"
-    };
-    let written = if asked.1.starts_with("HEAD") {
-        ""
-    } else {
-        body
-    };
-    Ok(format!(in alloc;
-        "HTTP/1.1 {status}\r\ncontent-type: {kind}\r\ncontent-length: {}\r\n{lines}\r\n{written}",
-        body.len()
-    )?)
+    Ok(files)
 }
 
 // The requests one after the other, and the replies so.
-pub fn texts(alloc: Global, exchanges: &[(Asked, Told)]) -> Result<(Vec<u8>, Vec<u8>), Fail> {
+fn texts(alloc: Global, exchanges: &[Exchange]) -> Result<(Vec<u8>, Vec<u8>), Fail> {
     let mut requests = Vec::new(alloc);
     let mut replies = Vec::new(alloc);
-    for (asked, told) in exchanges {
-        requests.extend_from_slice(request(alloc, *asked)?.as_str().as_bytes())?;
-        replies.extend_from_slice(reply(alloc, *asked, *told)?.as_str().as_bytes())?;
+    for exchange in exchanges {
+        requests.extend_from_slice(request_text(alloc, exchange.0)?.as_bytes())?;
+        replies.extend_from_slice(reply_text(alloc, *exchange)?.as_bytes())?;
     }
     Ok((requests, replies))
 }
 
-// What these connections have on standard output.
-fn replayed(alloc: Global, keys: RandomState, connections: &[&[u8]]) -> Result<Vec<u8>, Fail> {
-    let mut files = Vec::new(alloc);
-    for connection in connections {
-        files.push(Vec::from_slice(alloc, *connection)?)?;
-    }
-    let mut writer = Vec::new(alloc);
+// What a run over connections leaves: its status, and what it wrote.
+fn run_over<W: Write>(
+    alloc: Global,
+    keys: RandomState,
+    cache: u32,
+    callers: &[u8],
+    files: Vec<Vec<u8>>,
+    writer: &mut W,
+) -> (u8, Vec<u8>) {
     let mut errors = Vec::new(alloc);
-    let status = run_replay(alloc, CALLERS, files, 1024, keys, &mut writer, &mut errors);
-    if status != 0 || !errors.is_empty() {
-        return Err("status 0 and no error".into());
-    }
-    Ok(writer)
+    let status = run_replay(alloc, callers, files, cache, keys, writer, &mut errors);
+    (status, errors)
+}
+
+// These connections have this on standard output, and nothing fails.
+fn assert_replayed(
+    alloc: Global,
+    keys: RandomState,
+    cache: u32,
+    files: Vec<Vec<u8>>,
+    wanted: &[u8],
+) -> Result<(), Fail> {
+    let mut output = Vec::new(alloc);
+    let (status, errors) = run_over(alloc, keys, cache, CALLERS, files, &mut output);
+    assert_equal((status, errors.as_slice()), (0, b"".as_slice()))?;
+    assert_equal(str::from_utf8(output.as_slice()), str::from_utf8(wanted))
 }
 
 fn keys_of(rt: &impl RandomSource) -> Result<RandomState, Fail> {
     Ok(RandomState::new(rt).ok().ok_or("random keys")?)
 }
 
+// These as files.
+fn files_of(alloc: Global, texts: &[&[u8]]) -> Result<Vec<Vec<u8>>, Fail> {
+    let mut files = Vec::new(alloc);
+    for text in texts {
+        files.push(Vec::from_slice(alloc, *text)?)?;
+    }
+    Ok(files)
+}
+
 #[test]
 fn script_in_one_connection_and_in_ten(rt: HostRuntime) -> Result<(), Fail> {
     let alloc = rt.alloc();
-    let (requests, replies) = texts(alloc, SCRIPT.as_slice())?;
+    let (requests, replies) = texts(alloc, &SCRIPT)?;
     let keys = keys_of(&rt)?;
-    let one = replayed(alloc, keys, &[requests.as_slice()])?;
-    assert_equal(
-        str::from_utf8(one.as_slice()),
-        str::from_utf8(replies.as_slice()),
-    )?;
+    let one = files_of(alloc, &[requests.as_slice()])?;
+    assert_replayed(alloc, keys, 1_024, one, replies.as_slice())?;
     for cache in [1, 2, 65_536] {
-        let mut files = Vec::new(alloc);
-        for (asked, _) in SCRIPT.as_slice() {
-            files.push(Vec::from_slice(alloc, request(alloc, *asked)?.as_str().as_bytes())?)?;
-        }
-        let mut writer = Vec::new(alloc);
-        let mut errors = Vec::new(alloc);
-        let status = run_replay(alloc, CALLERS, files, cache, keys, &mut writer, &mut errors);
-        assert_equal(status, 0)?;
-        assert!(rt;
-            writer.as_slice() == replies.as_slice() && errors.is_empty(),
-            "{cache:?}"
-        );
+        let ten = connections(alloc, &SCRIPT)?;
+        assert_replayed(alloc, keys, cache, ten, replies.as_slice())?;
     }
     Ok(())
 }
@@ -275,41 +232,34 @@ fn script_in_one_connection_and_in_ten(rt: HostRuntime) -> Result<(), Fail> {
 fn cut_anywhere(
     alloc: Global,
     keys: RandomState,
-    before: &[(Asked, Told)],
-    exchanges: &[(Asked, Told)],
+    before: &[Exchange],
+    exchanges: &[Exchange],
 ) -> Result<(), Fail> {
     let (opening, mut wanted) = texts(alloc, before)?;
     let mut whole = Vec::new(alloc);
-    for (asked, told) in exchanges {
-        let text = request(alloc, *asked)?;
+    for exchange in exchanges {
+        let text = request_text(alloc, exchange.0)?;
         for cut in 0..text.len() {
             let mut part = whole.clone()?;
-            part.extend_from_slice(&text.as_str().as_bytes()[..cut])?;
-            let written = replayed(alloc, keys, &[opening.as_slice(), part.as_slice()])?;
-            assert_equal_at(
-                cut,
-                str::from_utf8(written.as_slice()),
-                str::from_utf8(wanted.as_slice()),
-            )?;
+            part.extend_from_slice(&text.as_bytes()[..cut])?;
+            let files = files_of(alloc, &[opening.as_slice(), part.as_slice()])?;
+            assert_replayed(alloc, keys, 1_024, files, wanted.as_slice())?;
         }
-        whole.extend_from_slice(text.as_str().as_bytes())?;
-        wanted.extend_from_slice(reply(alloc, *asked, *told)?.as_str().as_bytes())?;
+        whole.extend_from_slice(text.as_bytes())?;
+        wanted.extend_from_slice(reply_text(alloc, *exchange)?.as_bytes())?;
     }
-    let written = replayed(alloc, keys, &[opening.as_slice(), whole.as_slice()])?;
-    assert_equal(
-        str::from_utf8(written.as_slice()),
-        str::from_utf8(wanted.as_slice()),
-    )
+    let files = files_of(alloc, &[opening.as_slice(), whole.as_slice()])?;
+    assert_replayed(alloc, keys, 1_024, files, wanted.as_slice())
 }
 
 #[test]
 fn script_cut_after_every_byte(rt: HostRuntime) -> Result<(), Fail> {
-    cut_anywhere(rt.alloc(), keys_of(&rt)?, &[], SCRIPT.as_slice())
+    cut_anywhere(rt.alloc(), keys_of(&rt)?, &[], &SCRIPT)
 }
 
 #[test]
 fn requests_cut_after_every_byte(rt: HostRuntime) -> Result<(), Fail> {
-    cut_anywhere(rt.alloc(), keys_of(&rt)?, &SCRIPT[..2], REQUESTS.as_slice())
+    cut_anywhere(rt.alloc(), keys_of(&rt)?, &SCRIPT[..2], &REQUESTS)
 }
 
 #[test]
@@ -318,48 +268,41 @@ fn output_that_takes_a_part(rt: HostRuntime) -> Result<(), Fail> {
     let keys = keys_of(&rt)?;
     let (requests, replies) = texts(alloc, &SCRIPT[..4])?;
     for room in 0..replies.len() {
-        let mut files = Vec::new(alloc);
-        files.push(requests.clone()?)?;
+        let files = files_of(alloc, &[requests.as_slice()])?;
         let mut writer = Slow::new(alloc, usize::MAX, room, Failures::none());
         writer.full = Some(ErrorKind::StorageFull);
-        let mut errors = Vec::new(alloc);
-        let status = run_replay(alloc, CALLERS, files, 1024, keys, &mut writer, &mut errors);
+        let (status, errors) = run_over(alloc, keys, 1_024, CALLERS, files, &mut writer);
         assert_equal_at(room, status, 3)?;
-        assert!(rt; writer.taken.as_slice() == &replies[..room], "{room:?}");
-        assert!(rt; errors.as_slice() == b"FAULT 72\n".as_slice(), "{room:?}");
+        assert_equal_at(room, writer.taken.as_slice(), &replies[..room])?;
+        assert_equal_at(room, errors.as_slice(), b"FAULT 72\n".as_slice())?;
     }
     Ok(())
 }
 
+// A file of callers, and its fault.
+static REFUSED: [(&[u8], &[u8]); 4] = [
+    (b"NAME\n", b"FAULT 46\n"),
+    (
+        b"NAME,TOKEN\nPUBLISH,publisher-token\nALPHA,alpha-t\n",
+        b"FAULT 47 2\n",
+    ),
+    (
+        b"NAME,TOKEN\nPUBLISH,same-token\nALPHA,alpha-token\nBETA,same-token\n",
+        b"FAULT 47 3\n",
+    ),
+    (b"NAME,TOKEN\nALPHA,alpha-token\n", b"FAULT 48\n"),
+];
+
 #[test]
 fn a_callers_file_with_a_fault(rt: HostRuntime) -> Result<(), Fail> {
     let alloc = rt.alloc();
-    let rows: [(&[u8], &[u8]); 4] = [
-        (b"NAME\n", b"FAULT 46\n"),
-        (
-            b"NAME,TOKEN\nPUBLISH,publisher-token\nALPHA,alpha-t\n",
-            b"FAULT 47 2\n",
-        ),
-        (
-            b"NAME,TOKEN\nPUBLISH,same-token\nALPHA,alpha-token\nBETA,same-token\n",
-            b"FAULT 47 3\n",
-        ),
-        (b"NAME,TOKEN\nALPHA,alpha-token\n", b"FAULT 48\n"),
-    ];
-    for (callers, told) in rows {
-        let mut writer = Vec::new(alloc);
-        let mut errors = Vec::new(alloc);
-        let status = run_replay(
-            alloc,
-            callers,
-            Vec::new(alloc),
-            1024,
-            keys_of(&rt)?,
-            &mut writer,
-            &mut errors,
-        );
-        assert_equal(status, 1)?;
-        assert!(rt; writer.is_empty() && errors.as_slice() == told);
+    let keys = keys_of(&rt)?;
+    for (callers, told) in &REFUSED {
+        let mut output = Vec::new(alloc);
+        let files = Vec::new(alloc);
+        let (status, errors) = run_over(alloc, keys, 1_024, callers, files, &mut output);
+        assert_equal_at(told, status, 1)?;
+        assert!(rt; output.is_empty() && errors.as_slice() == *told);
     }
     Ok(())
 }

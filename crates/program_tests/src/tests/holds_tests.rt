@@ -13,7 +13,9 @@ const SOURCE: &str =
  REASON(AA20002) CLASS(PE) DATE(12045).                                 00020000
 ";
 
-const ROW: &str = "UA10001  ERROR   AA20002  HBB7790  PE       12045  -        -\n";
+const ONE_HOLD: &str = "UA10001  ERROR   AA20002  HBB7790  PE       12045  -        -\nROWS 1\n";
+
+const NO_HOLDS: &str = "ROWS 0\n";
 
 // What a run gives: the status, standard output and standard error.
 #[derive(Drop)]
@@ -33,109 +35,97 @@ fn run_of<R: Read>(alloc: Global, reader: &mut R) -> Run {
     }
 }
 
+// A source, and the lines that are printed of it after the heading; or none, and its fault.
+type Row = (&'static str, &'static str, &'static str);
+
+static WORKED: [Row; 11] = [
+    ("", NO_HOLDS, ""),
+    (SOURCE, ONE_HOLD, ""),
+    (
+        "++HOLD(UA10001) ERROR REASON(AA20002) DATE(12366).",
+        "UA10001  ERROR   AA20002  -        -        12366  -        -\nROWS 1\n",
+        "",
+    ),
+    ("++HOLD(UA10001) ERROR REASON(AA20002)", "", "FAULT 1 1\n"),
+    ("++HOLD(UA10001) REASON(AA20002).", "", "FAULT 11 1\n"),
+    (
+        "++HOLD(UA10001) ERROR SYSTEM REASON(AA20002).",
+        "",
+        "FAULT 12 1\n",
+    ),
+    ("++HOLD(UA10001) ERROR.", "", "FAULT 13 1\n"),
+    (
+        "\n++HOLD(UA10001) ERROR REASON(AA20002)\n DATE(12367).",
+        "",
+        "FAULT 15 2\n",
+    ),
+    ("++HOLD(UA10001 ERROR.", "", "FAULT 3 1\n"),
+    // A fault of the text comes before those of its holds, and of the latter the first.
+    (
+        "++HOLD(UA10001) ERROR.\n++HOLD(UA10002) ERROR",
+        "",
+        "FAULT 1 2\n",
+    ),
+    (
+        "++HOLD(UA10001) ERROR.\n++HOLD(UA10002) REASON(A).",
+        "",
+        "FAULT 13 1\n",
+    ),
+];
+
+// The source is printed so, or refused so with nothing printed.
+fn assert_printed(alloc: Global, row: &Row) -> Result<(), Fail> {
+    let (source, lines, fault) = *row;
+    let run = run_of(alloc, &mut source.as_bytes());
+    let status = if fault.is_empty() { 0 } else { 1 };
+    assert_equal_at(source, run.status, status)?;
+    let heading = if fault.is_empty() { HEADING } else { "" };
+    let wanted = format!(in alloc; "{heading}{lines}")?;
+    let output = str::from_utf8(run.output.as_slice());
+    assert_equal_at(source, output, Ok(wanted.as_str()))?;
+    assert_equal_at(source, str::from_utf8(run.errors.as_slice()), Ok(fault))
+}
+
 #[test]
 fn worked_sources(rt: HostRuntime) -> Result<(), Fail> {
-    let empty = format!(in rt.alloc(); "{HEADING}ROWS 0\n")?;
-    let one = format!(in rt.alloc(); "{HEADING}{ROW}ROWS 1\n")?;
-    let classless = format!(in rt.alloc();
-        "{HEADING}UA10001  ERROR   AA20002  -        -        12366  -        -\nROWS 1\n"
-    )?;
-    let rows: [(&str, u8, &str, &str); 11] = [
-        ("", 0, empty.as_str(), ""),
-        (SOURCE, 0, one.as_str(), ""),
-        (
-            "++HOLD(UA10001) ERROR REASON(AA20002) DATE(12366).",
-            0,
-            classless.as_str(),
-            "",
-        ),
-        (
-            "++HOLD(UA10001) ERROR REASON(AA20002)",
-            1,
-            "",
-            "FAULT 1 1\n",
-        ),
-        ("++HOLD(UA10001) REASON(AA20002).", 1, "", "FAULT 11 1\n"),
-        (
-            "++HOLD(UA10001) ERROR SYSTEM REASON(AA20002).",
-            1,
-            "",
-            "FAULT 12 1\n",
-        ),
-        ("++HOLD(UA10001) ERROR.", 1, "", "FAULT 13 1\n"),
-        (
-            "\n++HOLD(UA10001) ERROR REASON(AA20002)\n DATE(12367).",
-            1,
-            "",
-            "FAULT 15 2\n",
-        ),
-        ("++HOLD(UA10001 ERROR.", 1, "", "FAULT 3 1\n"),
-        // A fault of the text comes before those of its holds, and of the latter the first.
-        (
-            "++HOLD(UA10001) ERROR.\n++HOLD(UA10002) ERROR",
-            1,
-            "",
-            "FAULT 1 2\n",
-        ),
-        (
-            "++HOLD(UA10001) ERROR.\n++HOLD(UA10002) REASON(A).",
-            1,
-            "",
-            "FAULT 13 1\n",
-        ),
-    ];
-    for (source, status, output, errors) in rows {
-        let run = run_of(rt.alloc(), &mut source.as_bytes());
-        assert_equal_at(source, run.status, status)?;
-        assert!(rt; run.output.as_slice() == output.as_bytes(), "{source:?}");
-        assert!(rt; run.errors.as_slice() == errors.as_bytes(), "{source:?}");
+    for row in &WORKED {
+        assert_printed(rt.alloc(), row)?;
     }
     Ok(())
 }
 
+const NO_CLASS: &str = "UA10001  ERROR   AA20002  -        -        -      -        -\nROWS 1\n";
+
+static PASSED_OVER: [Row; 7] = [
+    ("++PTF(UA10001)", "", "FAULT 1 1\n"),
+    ("++VER(Z038).", NO_HOLDS, ""),
+    (
+        "++HOLD(UA10001) ERROR REASON(AA20002) ; .",
+        "",
+        "FAULT 4 1\n",
+    ),
+    ("++HOLD(UA10001) /* ERROR", "", "FAULT 3 1\n"),
+    ("++HOLD(UA10001) ERROR REASON(AA20002).)))", NO_CLASS, ""),
+    (
+        "++HOLD(UA10001) ERROR REASON(AA20002) COMMENT(\n++PTF(X)\n).",
+        NO_CLASS,
+        "",
+    ),
+    // A comment begins on one line: `/` in column 72 and `*` in column 1 of the next line begin none.
+    (
+        "++HOLD(UA10001) ERROR REASON(AA20002)                                  /\n* */ .",
+        "",
+        "FAULT 4 1\n",
+    ),
+];
+
 // What is passed over, and where that ends: headers, comments, lists of COMMENT, and what is after a period.
 #[test]
 fn what_is_passed_over(rt: HostRuntime) -> Result<(), Fail> {
-    let empty = format!(in rt.alloc(); "{HEADING}ROWS 0\n")?;
-    let one = format!(in rt.alloc();
-        "{HEADING}UA10001  ERROR   AA20002  -        -        -      -        -\nROWS 1\n"
-    )?;
-    let rows: [(&str, u8, &str, &str); 7] = [
-        ("++PTF(UA10001)", 1, "", "FAULT 1 1\n"),
-        ("++VER(Z038).", 0, empty.as_str(), ""),
-        (
-            "++HOLD(UA10001) ERROR REASON(AA20002) ; .",
-            1,
-            "",
-            "FAULT 4 1\n",
-        ),
-        ("++HOLD(UA10001) /* ERROR", 1, "", "FAULT 3 1\n"),
-        (
-            "++HOLD(UA10001) ERROR REASON(AA20002).)))",
-            0,
-            one.as_str(),
-            "",
-        ),
-        (
-            "++HOLD(UA10001) ERROR REASON(AA20002) COMMENT(\n++PTF(X)\n).",
-            0,
-            one.as_str(),
-            "",
-        ),
-        // A comment begins on one line: `/` in column 72 and `*` in column 1 of the next line begin none.
-        (
-            "++HOLD(UA10001) ERROR REASON(AA20002)                                  /\n* */ .",
-            1,
-            "",
-            "FAULT 4 1\n",
-        ),
-    ];
-    for (source, status, output, errors) in rows {
-        let run = run_of(rt.alloc(), &mut source.as_bytes());
-        assert_equal_at(source, run.status, status)?;
-        assert!(rt; run.output.as_slice() == output.as_bytes(), "{source:?}");
-        assert!(rt; run.errors.as_slice() == errors.as_bytes(), "{source:?}");
+    for row in &PASSED_OVER {
+        assert_printed(rt.alloc(), row)?;
     }
+    let one = format!(in rt.alloc(); "{HEADING}{NO_CLASS}")?;
     let deep = comment_of(rt.alloc(), 2_000)?;
     let run = run_of(rt.alloc(), &mut deep.as_slice());
     assert!(rt; run.status == 0 && run.output.as_slice() == one.as_bytes());
@@ -196,64 +186,60 @@ fn reader_of(piece: usize, interruptions: u32, is_whole: bool) -> Pieces<'static
     reader
 }
 
+// The piece, the interruptions, whether the source is whole, the status, and what is written to standard error.
+static READERS: [(usize, u32, bool, u8, &str); 5] = [
+    (7, 0, true, 0, ""),
+    (1000, 64, true, 0, ""),
+    (1000, 65, true, 3, "FAULT 71\n"),
+    (1000, 0, false, 3, "FAULT 71\n"),
+    (7, 3, false, 3, "FAULT 71\n"),
+];
+
 #[test]
 fn readers_that_are_interrupted_or_fail(rt: HostRuntime) -> Result<(), Fail> {
-    let whole = format!(in rt.alloc(); "{HEADING}{ROW}ROWS 1\n")?;
-    let rows: [(usize, u32, bool, u8, &str, &str); 5] = [
-        (7, 0, true, 0, whole.as_str(), ""),
-        (1000, 64, true, 0, whole.as_str(), ""),
-        (1000, 65, true, 3, "", "FAULT 71\n"),
-        (1000, 0, false, 3, "", "FAULT 71\n"),
-        (7, 3, false, 3, "", "FAULT 71\n"),
-    ];
-    for (piece, interruptions, is_whole, status, output, errors) in rows {
-        let run = run_of(rt.alloc(), &mut reader_of(piece, interruptions, is_whole));
-        assert_equal_at((piece, interruptions), run.status, status)?;
-        assert!(rt;
-            run.output.as_slice() == output.as_bytes(),
-            "{:?}",
-            (piece, interruptions)
-        );
-        assert!(rt;
-            run.errors.as_slice() == errors.as_bytes(),
-            "{:?}",
-            (piece, interruptions)
-        );
+    let whole = format!(in rt.alloc(); "{HEADING}{ONE_HOLD}")?;
+    for (piece, interruptions, is_whole, status, errors) in &READERS {
+        let mut reader = reader_of(*piece, *interruptions, *is_whole);
+        let run = run_of(rt.alloc(), &mut reader);
+        let place = (*piece, *interruptions);
+        let wanted = if *status == 0 { whole.as_str() } else { "" };
+        assert_equal_at(place, run.status, *status)?;
+        assert_equal_at(place, str::from_utf8(run.output.as_slice()), Ok(wanted))?;
+        assert_equal_at(place, str::from_utf8(run.errors.as_slice()), Ok(*errors))?;
     }
     Ok(())
 }
 
+// The piece, the interruptions, the room, whether a write fails where there is none, the status, how many bytes are taken, and
+// what is written to standard error.
+static WRITERS: [(usize, u32, usize, bool, u8, usize, &str); 6] = [
+    (1, 0, 1000, true, 0, 138, ""),
+    (1000, 64, 1000, true, 0, 138, ""),
+    (1000, 65, 1000, true, 3, 0, "FAULT 72\n"),
+    (10, 0, 25, true, 3, 25, "FAULT 72\n"),
+    (10, 0, 25, false, 3, 25, "FAULT 72\n"),
+    (0, 0, 1000, false, 3, 0, "FAULT 72\n"),
+];
+
 #[test]
 fn writers_that_are_interrupted_or_fail(rt: HostRuntime) -> Result<(), Fail> {
-    let whole = format!(in rt.alloc(); "{HEADING}{ROW}ROWS 1\n")?;
-    let rows: [(usize, u32, usize, bool, u8, usize, &str); 6] = [
-        (1, 0, 1000, true, 0, 138, ""),
-        (1000, 64, 1000, true, 0, 138, ""),
-        (1000, 65, 1000, true, 3, 0, "FAULT 72\n"),
-        (10, 0, 25, true, 3, 25, "FAULT 72\n"),
-        (10, 0, 25, false, 3, 25, "FAULT 72\n"),
-        (0, 0, 1000, false, 3, 0, "FAULT 72\n"),
-    ];
-    for (piece, interruptions, room, is_failing, status, taken, errors) in rows {
-        let failures = Failures::interruptions(interruptions);
-        let mut writer = Slow::new(rt.alloc(), piece, room, failures);
-        if is_failing {
+    let whole = format!(in rt.alloc(); "{HEADING}{ONE_HOLD}")?;
+    for (piece, interruptions, room, is_failing, status, taken, errors) in &WRITERS {
+        let failures = Failures::interruptions(*interruptions);
+        let mut writer = Slow::new(rt.alloc(), *piece, *room, failures);
+        if *is_failing {
             writer.full = Some(ErrorKind::StorageFull);
         }
         let mut told = Vec::new(rt.alloc());
         let got = run_holds(rt.alloc(), &mut SOURCE.as_bytes(), &mut writer, &mut told);
-        assert_equal_at((piece, interruptions, room), got, status)?;
+        let place = (*piece, *interruptions, *room);
+        assert_equal_at(place, got, *status)?;
+        assert_equal_at(place, writer.taken.len(), *taken)?;
         assert!(rt;
             whole.as_bytes().starts_with(writer.taken.as_slice()),
-            "{:?}",
-            (piece, room)
+            "{place:?}"
         );
-        assert_equal_at((piece, interruptions, room), writer.taken.len(), taken)?;
-        assert!(rt;
-            told.as_slice() == errors.as_bytes(),
-            "{:?}",
-            (piece, interruptions, room)
-        );
+        assert_equal_at(place, str::from_utf8(told.as_slice()), Ok(*errors))?;
     }
     Ok(())
 }

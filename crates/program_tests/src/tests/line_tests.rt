@@ -20,102 +20,112 @@ fn text_in(line: Result<Line, LineFault>) -> Option<String> {
     }
 }
 
+// Words, and what they ask for.
+static TAKEN: [(&[&str], &str); 9] = [
+    (&["holds", "-"], "Holds { file: \"-\" }"),
+    (&["init", "s", "c"], "Init { store: \"s\", callers: \"c\" }"),
+    (&["migrate", "s"], "Migrate { store: \"s\" }"),
+    (
+        &["serve", "s"],
+        "Serve { port: 8080, cache: 1024, connections: 1000000, store: \"s\" }",
+    ),
+    (
+        &[
+            "serve",
+            "--connections",
+            "1",
+            "--port=65535",
+            "--cache",
+            "2",
+            "s",
+        ],
+        "Serve { port: 65535, cache: 2, connections: 1, store: \"s\" }",
+    ),
+    (
+        &["replay", "c", "a"],
+        "Replay { cache: 1024, callers: \"c\", files: [\"a\"] }",
+    ),
+    (
+        &["replay", "--cache", "1", "c", "a", "b", "a"],
+        "Replay { cache: 1, callers: \"c\", files: [\"a\", \"b\", \"a\"] }",
+    ),
+    (
+        &["replay", "--cache=65536", "c", "-", "holds"],
+        "Replay { cache: 65536, callers: \"c\", files: [\"-\", \"holds\"] }",
+    ),
+    (
+        &["replay", "--", "--cache", "7"],
+        "Replay { cache: 1024, callers: \"--cache\", files: [\"7\"] }",
+    ),
+];
+
+// Words, and what is told of them.
+static REFUSED: [(&[&str], &str); 20] = [
+    (&["init", "s"], "Usage: bureau init <STORE> <CALLERS>"),
+    (&["serve"], "Usage: bureau serve <STORE>"),
+    (&["migrate"], "Usage: bureau migrate <STORE>"),
+    (&["migrate", "s", "t"], "unexpected argument 't'"),
+    (&["serve", "--port", "0", "s"], "0 is not in 1..=65535"),
+    (
+        &["serve", "--port", "65536", "s"],
+        "65536 is not in 1..=65535",
+    ),
+    (
+        &["serve", "--connections", "0", "s"],
+        "0 is not in 1..=1000000",
+    ),
+    (
+        &["serve", "--connections", "1000001", "s"],
+        "1000001 is not in 1..=1000000",
+    ),
+    (&["hold", "-"], "unrecognized subcommand 'hold'"),
+    (&[], "requires a subcommand"),
+    (&["holds"], "Usage: bureau holds <FILE>"),
+    (&["holds", "a", "b"], "unexpected argument 'b'"),
+    (&["replay", "c"], "Usage: bureau replay <CALLERS> <FILE>..."),
+    (
+        &["replay", "--cache", "0", "c", "a"],
+        "0 is not in 1..=65536",
+    ),
+    (
+        &["replay", "--cache", "65537", "c", "a"],
+        "65537 is not in 1..=65536",
+    ),
+    (
+        &["replay", "--cache", "x", "c", "a"],
+        "invalid digit found in string",
+    ),
+    (
+        &["replay", "--cache", "1", "--cache", "2", "c", "a"],
+        "cannot be used multiple times",
+    ),
+    (
+        &["replay", "--port", "1", "c", "a"],
+        "unexpected argument '--port'",
+    ),
+    (&["--help"], "Usage: bureau <COMMAND>"),
+    (&["--version"], "bureau 0.1.0"),
+];
+
 #[test]
-fn lines(rt: HostRuntime) -> Result<(), Fail> {
+fn words_that_ask_for_something(rt: HostRuntime) -> Result<(), Fail> {
     let alloc = rt.alloc();
-    let taken: [(&[&str], &str); 9] = [
-        (&["holds", "-"], "Holds { file: \"-\" }"),
-        (&["init", "s", "c"], "Init { store: \"s\", callers: \"c\" }"),
-        (&["migrate", "s"], "Migrate { store: \"s\" }"),
-        (
-            &["serve", "s"],
-            "Serve { port: 8080, cache: 1024, connections: 1000000, store: \"s\" }",
-        ),
-        (
-            &[
-                "serve",
-                "--connections",
-                "1",
-                "--port=65535",
-                "--cache",
-                "2",
-                "s",
-            ],
-            "Serve { port: 65535, cache: 2, connections: 1, store: \"s\" }",
-        ),
-        (
-            &["replay", "c", "a"],
-            "Replay { cache: 1024, callers: \"c\", files: [\"a\"] }",
-        ),
-        (
-            &["replay", "--cache", "1", "c", "a", "b", "a"],
-            "Replay { cache: 1, callers: \"c\", files: [\"a\", \"b\", \"a\"] }",
-        ),
-        (
-            &["replay", "--cache=65536", "c", "-", "holds"],
-            "Replay { cache: 65536, callers: \"c\", files: [\"-\", \"holds\"] }",
-        ),
-        (
-            &["replay", "--", "--cache", "7"],
-            "Replay { cache: 1024, callers: \"--cache\", files: [\"7\"] }",
-        ),
-    ];
-    for (texts, shown) in taken {
+    for (texts, shown) in &TAKEN {
         let words = words(alloc, texts)?;
         let line = line_of(alloc, words.as_slice()).ok().ok_or("a line")?;
         let text = format!(in alloc; "{line:?}")?;
-        assert_equal(text.as_str(), shown)?;
+        assert_equal(text.as_str(), *shown)?;
     }
-    let refused: [(&[&str], &str); 20] = [
-        (&["init", "s"], "Usage: bureau init <STORE> <CALLERS>"),
-        (&["serve"], "Usage: bureau serve <STORE>"),
-        (&["migrate"], "Usage: bureau migrate <STORE>"),
-        (&["migrate", "s", "t"], "unexpected argument 't'"),
-        (&["serve", "--port", "0", "s"], "0 is not in 1..=65535"),
-        (
-            &["serve", "--port", "65536", "s"],
-            "65536 is not in 1..=65535",
-        ),
-        (
-            &["serve", "--connections", "0", "s"],
-            "0 is not in 1..=1000000",
-        ),
-        (
-            &["serve", "--connections", "1000001", "s"],
-            "1000001 is not in 1..=1000000",
-        ),
-        (&["hold", "-"], "unrecognized subcommand 'hold'"),
-        (&[], "requires a subcommand"),
-        (&["holds"], "Usage: bureau holds <FILE>"),
-        (&["holds", "a", "b"], "unexpected argument 'b'"),
-        (&["replay", "c"], "Usage: bureau replay <CALLERS> <FILE>..."),
-        (
-            &["replay", "--cache", "0", "c", "a"],
-            "0 is not in 1..=65536",
-        ),
-        (
-            &["replay", "--cache", "65537", "c", "a"],
-            "65537 is not in 1..=65536",
-        ),
-        (
-            &["replay", "--cache", "x", "c", "a"],
-            "invalid digit found in string",
-        ),
-        (
-            &["replay", "--cache", "1", "--cache", "2", "c", "a"],
-            "cannot be used multiple times",
-        ),
-        (
-            &["replay", "--port", "1", "c", "a"],
-            "unexpected argument '--port'",
-        ),
-        (&["--help"], "Usage: bureau <COMMAND>"),
-        (&["--version"], "bureau 0.1.0"),
-    ];
-    for (texts, told) in refused {
+    Ok(())
+}
+
+#[test]
+fn words_that_are_refused(rt: HostRuntime) -> Result<(), Fail> {
+    let alloc = rt.alloc();
+    for (texts, told) in &REFUSED {
         let words = words(alloc, texts)?;
         let text = text_in(line_of(alloc, words.as_slice())).ok_or("no text")?;
-        assert!(rt; text.contains(told), "{:?}", text.as_str());
+        assert!(rt; text.contains(*told), "{:?}", text.as_str());
     }
     Ok(())
 }

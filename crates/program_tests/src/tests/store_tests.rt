@@ -3,27 +3,20 @@ ghost use Rattle.std.specs.Prelude.{◌≡◌, IfOk, IsTrue, false};
 ghost use Rattle.sqlite_disk.specs.Memory.{memory_is_usable};
 
 use super::desk_tests::CALLERS;
-use bureau_program::{
-    LineFault, Service, StoreFile, Surroundings, open_and_serve, run_init, run_migrate, run_open,
-};
-use bureau_store::StoreFault;
-use sqlite::{Connection, FileStore, Files, Options};
+use super::surroundings::Around;
+use bureau_program::{Service, open_and_serve, run_init, run_migrate, run_open};
+use sqlite::{Alter, Connection, FileStore, Files, Options};
 use sqlite_disk::Memory;
 use std::alloc::Global;
-use std::cell::Cell;
-use std::fs::File;
 use std::hash::RandomState;
-use std::io::{self, ErrorKind, Read, Write};
+use std::io::{Read, Write};
 use std::net::{TcpListener, TcpStream};
 use std::str;
 use std::test::Fail;
-use std::time::{Clock, Duration};
-use testing::assert_equal;
-
-type Disk = FileStore<Memory>;
+use testing::{assert_equal, assert_equal_at};
 
 // A connection to the file that is kept in memory, with an empty log.
-fn connected(alloc: Global, db: Memory) -> Result<Connection<Disk>, Fail>
+fn connected(alloc: Global, db: Memory) -> Result<Connection<FileStore<Memory>>, Fail>
     requires { IsTrue (memory_is_usable db) }
     ensures { IfOk result (λ conn. conn.in_transaction ≡ false) }
 {
@@ -34,74 +27,96 @@ fn connected(alloc: Global, db: Memory) -> Result<Connection<Disk>, Fail>
     }
 }
 
-// The status, standard output and standard error of `init`, and the connection.
-fn init(
-    alloc: Global,
-    conn: Connection<Disk>,
-    callers: &[u8],
-) -> Result<(String, Connection<Disk>), Fail>
+// A connection to a new file.
+fn fresh(alloc: Global) -> Result<Connection<FileStore<Memory>>, Fail>
+    ensures { IfOk result (λ conn. conn.in_transaction ≡ false) }
+{
+    connected(alloc, Memory::new(alloc))
+}
+
+// What a run tells, and the connection that it gives back.
+type Ran<S> = Result<(String, Connection<S>), Fail>;
+
+// A status, and what was written to standard output and standard error.
+fn told(alloc: Global, status: u8, output: &[u8], errors: &[u8]) -> Result<String, Fail> {
+    let output = str::from_utf8(output).ok().ok_or("a text")?;
+    let errors = str::from_utf8(errors).ok().ok_or("a text")?;
+    Ok(format!(in alloc; "{status} {output}{errors}")?)
+}
+
+// What `init` tells, and the connection.
+fn init<S: Alter + Drop>(alloc: Global, conn: Connection<S>, callers: &[u8]) -> Ran<S>
     requires { conn.in_transaction ≡ false }
     ensures { IfOk result (λ both. both.1.in_transaction ≡ false) }
 {
     let (mut output, mut errors) = (Vec::new(alloc), Vec::new(alloc));
     let (status, conn) = run_init(alloc, conn, callers, &mut output, &mut errors);
-    let output = str::from_utf8(output.as_slice()).ok().ok_or("a text")?;
-    let errors = str::from_utf8(errors.as_slice()).ok().ok_or("a text")?;
-    Ok((format!(in alloc; "{status} {output}{errors}")?, conn))
+    Ok((told(alloc, status, &output, &errors)?, conn))
 }
 
-// The status and standard error of an opening that is refused, and the connection.
-fn refused(alloc: Global, conn: Connection<Disk>) -> Result<(String, Connection<Disk>), Fail>
+// What is told of an opening that is refused, and the connection.
+fn refused<S: Alter + Drop>(alloc: Global, conn: Connection<S>) -> Ran<S>
     requires { conn.in_transaction ≡ false }
     ensures { IfOk result (λ both. both.1.in_transaction ≡ false) }
 {
     let mut errors = Vec::new(alloc);
-    let Err((status, conn)) = run_open(alloc, conn, &mut errors) else {
-        return Err("a refusal".into());
-    };
-    let errors = str::from_utf8(errors.as_slice()).ok().ok_or("a text")?;
-    Ok((format!(in alloc; "{status} {errors}")?, conn))
+    match run_open(alloc, conn, &mut errors) {
+        Ok(_) => Err("a refusal".into()),
+        Err((status, conn)) => Ok((told(alloc, status, b"", &errors)?, conn)),
+    }
+}
+
+// A file of callers, and what `init` tells of it.
+static REFUSED: [(&[u8], &str); 3] = [
+    (b"NAME\n", "1 FAULT 46\n"),
+    (
+        b"NAME,TOKEN\nPUBLISH,publisher-token\nALPHA,short\n",
+        "1 FAULT 47 2\n",
+    ),
+    (b"NAME,TOKEN\nALPHA,alpha-token\n", "1 FAULT 48\n"),
+];
+
+// These callers are refused so, and leave a new file without tables.
+fn assert_no_tables<S: Alter + Drop>(
+    alloc: Global,
+    conn: Connection<S>,
+    callers: &[u8],
+    wanted: &str,
+) -> Result<(), Fail>
+    requires { conn.in_transaction ≡ false }
+{
+    let (told, conn) = init(alloc, conn, callers)?;
+    assert_equal(told.as_str(), wanted)?;
+    let (told, conn) = refused(alloc, conn)?;
+    assert_equal_at(wanted, told.as_str(), "1 FAULT 44\n")?;
+    let (told, _) = init(alloc, conn, CALLERS)?;
+    assert_equal_at(wanted, told.as_str(), "0 CALLERS 3\n")
 }
 
 #[test]
 fn a_fault_of_the_callers_leaves_no_tables(rt: HostRuntime) -> Result<(), Fail> {
-    let alloc = rt.alloc();
-    let rows: [(&[u8], &str); 3] = [
-        (b"NAME\n", "1 FAULT 46\n"),
-        (
-            b"NAME,TOKEN\nPUBLISH,publisher-token\nALPHA,short\n",
-            "1 FAULT 47 2\n",
-        ),
-        (b"NAME,TOKEN\nALPHA,alpha-token\n", "1 FAULT 48\n"),
-    ];
-    for (callers, wanted) in rows {
-        let (told, conn) = init(alloc, connected(alloc, Memory::new(alloc))?, callers)?;
-        assert_equal(told.as_str(), wanted)?;
-        let (told, conn) = refused(alloc, conn)?;
-        assert_equal(told.as_str(), "1 FAULT 44\n")?;
-        let (told, _) = init(alloc, conn, CALLERS)?;
-        assert_equal(told.as_str(), "0 CALLERS 3\n")?;
+    for (callers, wanted) in &REFUSED {
+        assert_no_tables(rt.alloc(), fresh(rt.alloc())?, callers, wanted)?;
     }
     Ok(())
 }
 
-// The status, standard output and standard error of `migrate`, and the connection.
-fn migrate(alloc: Global, conn: Connection<Disk>) -> Result<(String, Connection<Disk>), Fail>
+// What `migrate` tells, and the connection.
+fn migrate<S: Alter + Drop>(alloc: Global, conn: Connection<S>) -> Ran<S>
     requires { conn.in_transaction ≡ false }
     ensures { IfOk result (λ both. both.1.in_transaction ≡ false) }
 {
     let (mut output, mut errors) = (Vec::new(alloc), Vec::new(alloc));
     let (status, conn) = run_migrate(alloc, conn, &mut output, &mut errors);
-    let output = str::from_utf8(output.as_slice()).ok().ok_or("a text")?;
-    let errors = str::from_utf8(errors.as_slice()).ok().ok_or("a text")?;
-    Ok((format!(in alloc; "{status} {output}{errors}")?, conn))
+    Ok((told(alloc, status, &output, &errors)?, conn))
 }
 
-// A store that has what version 1 had.
-fn earlier(alloc: Global) -> Result<Connection<Disk>, Fail>
+// A store in a new file that has what version 1 had.
+fn earlier<S: Alter + Drop>(alloc: Global, conn: Connection<S>) -> Result<Connection<S>, Fail>
+    requires { conn.in_transaction ≡ false }
     ensures { IfOk result (λ conn. conn.in_transaction ≡ false) }
 {
-    let (_, mut conn) = init(alloc, connected(alloc, Memory::new(alloc))?, CALLERS)?;
+    let (_, mut conn) = init(alloc, conn, CALLERS)?;
     for text in [
         "DROP TABLE sysmod_cond",
         "UPDATE bureau_version SET version = 1",
@@ -114,124 +129,68 @@ fn earlier(alloc: Global) -> Result<Connection<Disk>, Fail>
     Ok(conn)
 }
 
-#[test]
-fn a_store_of_version_1_is_migrated_once(rt: HostRuntime) -> Result<(), Fail> {
-    let alloc = rt.alloc();
-    let (told, conn) = refused(alloc, earlier(alloc)?)?;
+// A store of version 1 is refused, migrated, and then opened. It is not migrated again.
+fn assert_migrated_once<S: Alter + Drop>(alloc: Global, conn: Connection<S>) -> Result<(), Fail>
+    requires { conn.in_transaction ≡ false }
+{
+    let (told, conn) = refused(alloc, conn)?;
     assert_equal(told.as_str(), "1 FAULT 45\n")?;
     let (told, conn) = migrate(alloc, conn)?;
     assert_equal(told.as_str(), "0 MIGRATED VERSION 2\n")?;
     let (told, conn) = migrate(alloc, conn)?;
     assert_equal(told.as_str(), "1 FAULT 45\n")?;
     let mut errors = Vec::new(alloc);
-    assert!(rt; run_open(alloc, conn, &mut errors).is_ok());
-    let (told, _) = migrate(alloc, connected(alloc, Memory::new(alloc))?)?;
-    assert_equal(told.as_str(), "1 FAULT 44\n")
-}
-
-// Surroundings without words and files, which listen already. So many seconds pass before each look at the clock, and a
-// pause takes no time.
-#[derive(Drop)]
-struct Listening<'a> {
-    rt: &'a HostRuntime,
-    listener: &'a TcpListener,
-    // The port that was asked for.
-    port: Cell<u16>,
-    seconds: u64,
-    looks: Cell<u64>,
-    paused: Cell<u128>,
-}
-
-impl<'a> Listening<'a> {
-    fn new(rt: &'a HostRuntime, listener: &'a TcpListener, seconds: u64) -> Listening<'a> {
-        Listening {
-            rt,
-            listener,
-            port: Cell::new(0),
-            seconds,
-            looks: Cell::new(0),
-            paused: Cell::new(0),
-        }
-    }
-}
-
-impl Clock for Listening<'_> {
-    fn monotonic(&self) -> io::Result<Duration> {
-        let looks = self.looks.get().saturating_add(1);
-        self.looks.set(looks);
-        Ok(Duration::from_secs(looks.saturating_mul(self.seconds)))
-    }
-
-    fn since_1970(&self) -> io::Result<Duration> {
-        self.monotonic()
-    }
-
-    fn sleep(&self, duration: Duration) {
-        let paused = self.paused.get().saturating_add(duration.as_millis());
-        self.paused.set(paused);
-    }
-}
-
-impl Surroundings for Listening<'_> {
-    ghost use Rattle.bureau_program.specs.Surroundings.{Unknown};
-    ghost use Rattle.std.specs.Prelude.{None};
-
-    type File = File;
-
-    ghost known_words = { λ _. None };
-
-    ghost known_file = { λ _ _. Unknown };
-
-    fn words(&self, _alloc: Global) -> Result<Vec<String>, LineFault> {
-        Err(LineFault::Memory)
-    }
-
-    fn open(&self, _name: &str) -> io::Result<File> {
-        Err(io::Error::from(ErrorKind::NotFound))
-    }
-
-    fn connect(&self, _name: &str, _makes: bool) -> Result<Connection<StoreFile>, StoreFault> {
-        Err(StoreFault::Shape)
-    }
-
-    fn listen(&self, port: u16) -> io::Result<TcpListener> {
-        self.port.set(port);
-        self.listener.try_clone()
-    }
-
-    fn random_keys(&self) -> io::Result<RandomState> {
-        RandomState::new(self.rt)
+    match run_open(alloc, conn, &mut errors) {
+        Ok(_) => Ok(()),
+        Err(_) => Err("what is migrated is not opened".into()),
     }
 }
 
 #[test]
+fn a_store_of_version_1_is_migrated_once(rt: HostRuntime) -> Result<(), Fail> {
+    let alloc = rt.alloc();
+    assert_migrated_once(alloc, earlier(alloc, fresh(alloc)?)?)?;
+    let (told, _) = migrate(alloc, fresh(alloc)?)?;
+    assert_equal(told.as_str(), "1 FAULT 44\n")
+}
+
+// What `serve` tells on standard output alone, over a new store in this file, where so many connections are served.
+fn served<S: Alter + Drop>(
+    around: &Around<'_>,
+    alloc: Global,
+    conn: Connection<S>,
+    connections: u32,
+) -> Result<String, Fail>
+    requires { conn.in_transaction ≡ false }
+{
+    let (_, conn) = init(alloc, conn, CALLERS)?;
+    let service = Service {
+        port: 4_711,
+        cache: 1,
+        connections,
+    };
+    let (mut output, mut errors) = (Vec::new(alloc), Vec::new(alloc));
+    let (status, _) = open_and_serve(around, alloc, service, conn, &mut output, &mut errors);
+    assert_equal(errors.as_slice(), b"".as_slice())?;
+    told(alloc, status, &output, &errors)
+}
+
+const LISTENING: &str = "0 LISTENING 127.0.0.1:4711\n";
+
+#[test]
 fn a_desk_waits_as_often_as_it_is_asked_to(rt: HostRuntime) -> Result<(), Fail> {
     let alloc = rt.alloc();
+    let keys = RandomState::new(&rt)?;
+    // nobody connects, so that each wait for a connection ends at once
+    let listener = TcpListener::bind(&rt, "127.0.0.1:0")?;
+    listener.set_nonblocking(true)?;
     // most, and more than fit in 16 bits
     for connections in [0, 1, 65_537, 1_000_000] {
-        let (_, conn) = init(alloc, connected(alloc, Memory::new(alloc))?, CALLERS)?;
-        // nobody connects, so that each wait for a connection ends at once
-        let listener = TcpListener::bind(&rt, "127.0.0.1:0")?;
-        listener.set_nonblocking(true)?;
-        let deserted = Listening::new(&rt, &listener, 0);
-        let (mut output, mut errors) = (Vec::new(alloc), Vec::new(alloc));
-        let (status, _) = open_and_serve(
-            &deserted,
-            alloc,
-            Service {
-                port: 4_711,
-                cache: 1,
-                connections,
-            },
-            conn,
-            &mut output,
-            &mut errors,
-        );
-        assert_equal(status, 0)?;
-        assert_equal(output.as_slice(), b"LISTENING 127.0.0.1:4711\n".as_slice())?;
-        assert!(rt; errors.is_empty());
-        assert_equal(deserted.port.get(), 4_711)?;
-        assert_equal(deserted.paused.get(), 20 * u128::from(connections))?;
+        let deserted = Around::listening(&listener, 0, keys);
+        let told = served(&deserted, alloc, fresh(alloc)?, connections)?;
+        assert_equal_at(connections, told.as_str(), LISTENING)?;
+        assert_equal_at(connections, deserted.port(), 4_711)?;
+        assert_equal(deserted.paused(), 20 * u128::from(connections))?;
     }
     Ok(())
 }
@@ -254,17 +213,9 @@ fn a_desk_waits_ten_minutes_for_a_connection(rt: HostRuntime) -> Result<(), Fail
     let listener = TcpListener::bind(&rt, "127.0.0.1:0")?;
     let mut client = TcpStream::connect(&rt, listener.local_addr()?)?;
     client.write_all(sent.as_slice())?;
-    let (_, conn) = init(alloc, connected(alloc, Memory::new(alloc))?, CALLERS)?;
-    let hurried = Listening::new(&rt, &listener, 100);
-    let (mut output, mut errors) = (Vec::new(alloc), Vec::new(alloc));
-    let service = Service {
-        port: 4_711,
-        cache: 1,
-        connections: 1,
-    };
-    let (status, _) = open_and_serve(&hurried, alloc, service, conn, &mut output, &mut errors);
-    assert_equal(status, 0)?;
-    assert!(rt; errors.is_empty());
+    let hurried = Around::listening(&listener, 100, RandomState::new(&rt)?);
+    let told = served(&hurried, alloc, fresh(alloc)?, 1)?;
+    assert_equal(told.as_str(), LISTENING)?;
     let mut got = Vec::new(alloc);
     client.read_to_end(&mut got)?;
     assert_equal(

@@ -2,9 +2,9 @@
 //!
 //! The database refuses a read that finds the damage, but would commit what comes after it, and lose that at the next opening. So
 //! the store is closed from the first refusal on.
-use super::desk::{Script, in_lists, served_by, worked};
-use super::files::made;
-use super::script::Checked;
+use super::desk::{Trial, worked};
+use super::files::{Opening, store_in};
+use super::script::{Checked, REQUESTS};
 use sqlite::{Alter, Connection, Error, ErrorCode, Files};
 use sqlite_disk::{Disk, Memory, Rot};
 use std::alloc::Global;
@@ -33,36 +33,24 @@ fn damaged_files(alloc: Global, at: usize) -> Files<Rot<Memory>> {
 }
 
 // How many requests are answered over these files, and whether the connection would have committed more.
-fn served<D: Disk + Drop>(
-    alloc: Global,
-    keys: RandomState,
-    script: &Script,
-    files: Files<D>,
-) -> Checked<(usize, bool)> {
-    let mut known = in_lists(alloc, script.callers.as_slice())?;
-    let Ok(store) = made(alloc, script.callers.as_slice(), files, 2000) else {
+fn served<D: Disk + Drop>(trial: &mut Trial, files: Files<D>) -> Checked<(usize, bool)> {
+    let init = Opening::Init(trial.callers.as_slice());
+    let Ok(store) = store_in(trial.alloc, files, init, 2000) else {
         return Ok((0, false));
     };
-    let rows = script.script.as_slice();
-    let (answered, mut conn) = served_by(alloc, keys, store, &mut known, rows)?;
+    let (answered, mut conn) = trial.served_by(store, 0..REQUESTS)?;
     Ok((answered, would_commit(&mut conn)))
 }
 
 #[test]
 fn behind_damage_nothing_is_acknowledged(rt: HostRuntime) -> Result<(), Fail> {
-    let keys = RandomState::new(&rt)?;
-    let script = worked(rt.alloc())?;
+    let mut trial = worked(rt.alloc(), RandomState::new(&rt)?)?;
     let mut is_closed_alone = false;
     // a byte of each page that the log has, and of some that it doesn't
     for page in 0..70usize {
         let at = 32 + page * 4120 + 2000;
-        let (answered, would_commit) = served(
-            rt.alloc(),
-            keys,
-            &script,
-            damaged_files(rt.alloc(), at),
-        )?;
-        is_closed_alone |= 0 < answered && answered < 15 && would_commit;
+        let (answered, would_commit) = served(&mut trial, damaged_files(rt.alloc(), at))?;
+        is_closed_alone |= 0 < answered && answered < REQUESTS && would_commit;
     }
     assert!(rt; is_closed_alone);
     Ok(())

@@ -13,15 +13,27 @@ use chains::{Judge, Whole};
 use sqlite::{Alter, Connection};
 use std::alloc::Global;
 use std::hash::RandomState;
+use std::ops::Range;
 
-/// The callers, the script, the questions, and what is right.
+/// The callers, the script, the questions, what is right, and what desks are made of that are asked.
 #[derive(Drop)]
-pub(crate) struct Script {
+pub(crate) struct Trial {
+    pub(crate) alloc: Global,
+    keys: RandomState,
     pub(crate) callers: Vec<CallerRow>,
-    pub(crate) script: Vec<Told>,
-    pub(crate) questions: Vec<Asked>,
+    // The same callers in a store that has no device.
+    known: ListStore,
+    script: Vec<Told>,
+    questions: Vec<Asked>,
     /// What the questions are told before the first request of the script, and after each.
     pub(crate) after: Vec<Vec<Reply>>,
+}
+
+/// How far a script was served: so many of its requests were answered, and so many more may have been on their way.
+#[derive(Clone, Copy)]
+pub(crate) struct Stage {
+    pub(crate) answered: usize,
+    pub(crate) on_their_way: usize,
 }
 
 // Who has this token. It is looked up elsewhere than at the desk, so that a desk that is closed is asked too.
@@ -43,13 +55,13 @@ fn told<S: Store, J: Judge<S>>(
     Ok(bureau.answer(&caller, &asked.1))
 }
 
-/// The same callers in a store that has no device.
-pub(crate) fn in_lists(alloc: Global, callers: &[CallerRow]) -> Checked<ListStore> {
+// These callers in a store that has no device.
+fn in_lists(alloc: Global, callers: &[CallerRow]) -> Checked<ListStore> {
     ListStore::new(alloc, callers).ok().ok_or("memory")
 }
 
-/// What these are told one after the other.
-pub(crate) fn all_told<S: Store, J: Judge<S>>(
+// What these are told one after the other.
+fn all_told<S: Store, J: Judge<S>>(
     alloc: Global,
     known: &mut ListStore,
     bureau: &mut Bureau<S, J>,
@@ -102,7 +114,7 @@ fn known_callers(alloc: Global) -> Checked<Vec<CallerRow>> {
 }
 
 /// The script with what is right: what a desk over lists, which have no device, is asked after each request.
-pub(crate) fn worked(alloc: Global) -> Checked<Script> {
+pub(crate) fn worked(alloc: Global, keys: RandomState) -> Checked<Trial> {
     let (zone, sysmod) = named()?;
     let callers = known_callers(alloc)?;
     let mut known = in_lists(alloc, callers.as_slice())?;
@@ -111,17 +123,20 @@ pub(crate) fn worked(alloc: Global) -> Checked<Script> {
     let questions = questions(alloc, zone, sysmod)?;
     let (rows, asked) = (script.as_slice(), questions.as_slice());
     let after = stages(alloc, &mut known, &mut bureau, rows, asked)?;
-    Ok(Script {
+    Ok(Trial {
+        alloc,
+        keys,
         callers,
+        known,
         script,
         questions,
         after,
     })
 }
 
-/// Asks these one after the other until one is told that there is no room. Then all later ones are told so too. How many were
+// Asks these one after the other until one is told that there is no room. Then all later ones are told so too. How many were
 /// answered, each as it should be.
-pub(crate) fn served<S: Store, J: Judge<S>>(
+fn served<S: Store, J: Judge<S>>(
     known: &mut ListStore,
     bureau: &mut Bureau<S, J>,
     rows: &[Told],
@@ -143,31 +158,7 @@ pub(crate) fn served<S: Store, J: Judge<S>>(
     Ok(answered)
 }
 
-// A desk over this store, with a cache that keeps nothing yet.
-fn desk<S: Store + Drop>(
-    alloc: Global,
-    keys: RandomState,
-    store: S,
-) -> Checked<Bureau<S, ChainCache>> {
-    let cache = ChainCache::new(alloc, 16, keys).ok().ok_or("memory")?;
-    Ok(Bureau::new(alloc, store, cache))
-}
-
-// The same over this store, with a cache that keeps nothing yet. The store comes back.
-fn served_over<S: Store + Drop>(
-    alloc: Global,
-    keys: RandomState,
-    store: S,
-    known: &mut ListStore,
-    rows: &[Told],
-) -> Checked<(usize, S)> {
-    let mut bureau = desk(alloc, keys, store)?;
-    let answered = served(known, &mut bureau, rows)?;
-    let (store, _) = bureau.into_parts();
-    Ok((answered, store))
-}
-
-/// Whether the desk knows each caller by the token that is the caller's.
+// Whether the desk knows each caller by the token that is the caller's.
 fn knows_callers<S: Store, J: Judge<S>>(known: &mut ListStore, bureau: &mut Bureau<S, J>) -> bool {
     for token in [PUBLISHER, ALPHA, BETA] {
         let (Ok(Some(caller)), Ok(Some(found))) = (known.caller_of(token), bureau.caller_of(token))
@@ -181,63 +172,72 @@ fn knows_callers<S: Store, J: Judge<S>>(known: &mut ListStore, bureau: &mut Bure
     true
 }
 
-// Whether so is told after so many requests, or after one of so many that were on their way.
-fn is_right(script: &Script, answered: usize, on_their_way: usize, replies: &[Reply]) -> bool {
-    script
-        .after
-        .iter()
-        .skip(answered)
-        .take(on_their_way.saturating_add(1))
-        .any(|after| are_same(replies, after.as_slice()))
-}
-
-// Looks what a store has after so many requests were answered: what is right then, or after one of so many that were on their
-// way. Then all that is left of the script is asked, and has the answers that it has without a stop.
-fn goes_on<S: Store + Drop>(
-    alloc: Global,
-    keys: RandomState,
-    script: &Script,
-    known: &mut ListStore,
-    answered: usize,
-    on_their_way: usize,
-    store: S,
-) -> Checked<()> {
-    let mut bureau = desk(alloc, keys, store)?;
-    if !knows_callers(known, &mut bureau) {
-        return Err("a caller is lost");
+impl Trial {
+    // A desk over this store, with a cache that keeps nothing yet.
+    fn desk<S: Store + Drop>(&self, store: S) -> Checked<Bureau<S, ChainCache>> {
+        let cache = ChainCache::new(self.alloc, 16, self.keys)
+            .ok()
+            .ok_or("memory")?;
+        Ok(Bureau::new(self.alloc, store, cache))
     }
-    let replies = all_told(alloc, known, &mut bureau, script.questions.as_slice())?;
-    if !is_right(script, answered, on_their_way, replies.as_slice()) {
-        return Err("what is found was never right");
-    }
-    let rest = script.script.get(answered..).ok_or("too many answers")?;
-    if served(known, &mut bureau, rest)? < rest.len() {
-        return Err("the store that is found fails");
-    }
-    Ok(())
-}
 
-/// As `served_over`, over a store in a database. Its connection comes back.
-pub(crate) fn served_by<S: Alter + Drop>(
-    alloc: Global,
-    keys: RandomState,
-    store: SqlStore<S>,
-    known: &mut ListStore,
-    rows: &[Told],
-) -> Checked<(usize, Connection<S>)> {
-    let (answered, store) = served_over(alloc, keys, store, known, rows)?;
-    Ok((answered, store.into_connection()))
-}
+    // Asks these requests of the script at a desk over this store, as `served`. The store comes back.
+    fn served_over<S: Store + Drop>(
+        &mut self,
+        store: S,
+        requests: Range<usize>,
+    ) -> Checked<(usize, S)> {
+        let mut bureau = self.desk(store)?;
+        let rows = self.script.get(requests).ok_or("a part")?;
+        let answered = served(&mut self.known, &mut bureau, rows)?;
+        let (store, _) = bureau.into_parts();
+        Ok((answered, store))
+    }
 
-/// As `goes_on`, over a store in a database.
-pub(crate) fn goes_on_by<S: Alter + Drop>(
-    alloc: Global,
-    keys: RandomState,
-    script: &Script,
-    known: &mut ListStore,
-    answered: usize,
-    on_their_way: usize,
-    store: SqlStore<S>,
-) -> Checked<()> {
-    goes_on(alloc, keys, script, known, answered, on_their_way, store)
+    // Whether so is told at this stage.
+    fn is_right(&self, stage: Stage, replies: &[Reply]) -> bool {
+        self.after
+            .iter()
+            .skip(stage.answered)
+            .take(stage.on_their_way.saturating_add(1))
+            .any(|after| are_same(replies, after.as_slice()))
+    }
+
+    // Looks what a store has at this stage. Then all that is left of the script is asked, and has the answers that it has without
+    // a stop.
+    fn goes_on<S: Store + Drop>(&mut self, stage: Stage, store: S) -> Checked<()> {
+        let mut bureau = self.desk(store)?;
+        if !knows_callers(&mut self.known, &mut bureau) {
+            return Err("a caller is lost");
+        }
+        let questions = self.questions.as_slice();
+        let replies = all_told(self.alloc, &mut self.known, &mut bureau, questions)?;
+        if !self.is_right(stage, replies.as_slice()) {
+            return Err("what is found was never right");
+        }
+        let rest = self.script.get(stage.answered..).ok_or("too many answers")?;
+        if served(&mut self.known, &mut bureau, rest)? < rest.len() {
+            return Err("the store that is found fails");
+        }
+        Ok(())
+    }
+
+    /// As `served_over`, over a store in a database. Its connection comes back.
+    pub(crate) fn served_by<S: Alter + Drop>(
+        &mut self,
+        store: SqlStore<S>,
+        requests: Range<usize>,
+    ) -> Checked<(usize, Connection<S>)> {
+        let (answered, store) = self.served_over(store, requests)?;
+        Ok((answered, store.into_connection()))
+    }
+
+    /// As `goes_on`, over a store in a database.
+    pub(crate) fn goes_on_by<S: Alter + Drop>(
+        &mut self,
+        stage: Stage,
+        store: SqlStore<S>,
+    ) -> Checked<()> {
+        self.goes_on(stage, store)
+    }
 }

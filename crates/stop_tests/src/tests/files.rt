@@ -45,75 +45,43 @@ fn connected<D: Disk + Drop>(
     }
 }
 
-fn begun<S: Alter>(
-    alloc: Global,
-    conn: Connection<S>,
-    callers: &[CallerRow],
-) -> Result<SqlStore<S>, (StoreFault, Connection<S>)>
-    requires { conn.in_transaction ≡ false }
-{
-    SqlStore::init(alloc, conn, callers)
+/// What is done to files that are opened.
+#[derive(Clone, Copy)]
+pub(crate) enum Opening<'a> {
+    /// A store with these callers is made in them.
+    Init(&'a [CallerRow]),
+    /// The store is opened that is in them.
+    Open,
+    /// The store of version 1 that is in them is made one of version 2.
+    Migrate,
 }
 
 fn opened<S: Alter>(
     alloc: Global,
     conn: Connection<S>,
+    opening: Opening<'_>,
 ) -> Result<SqlStore<S>, (StoreFault, Connection<S>)>
     requires { conn.in_transaction ≡ false }
 {
-    SqlStore::open(alloc, conn)
-}
-
-fn brought<S: Alter>(
-    alloc: Global,
-    conn: Connection<S>,
-) -> Result<SqlStore<S>, (StoreFault, Connection<S>)>
-    requires { conn.in_transaction ≡ false }
-{
-    SqlStore::migrate(alloc, conn)
-}
-
-// Either the store, or the files with what was wrong.
-fn with_files<D: Disk + Drop>(
-    either: Result<InFiles<D>, (StoreFault, Connection<FileStore<D>>)>,
-) -> Result<InFiles<D>, (StoreFault, Files<D>)> {
-    match either {
-        Ok(store) => Ok(store),
-        Err((fault, conn)) => Err((fault, files_of(conn))),
+    match opening {
+        Opening::Init(callers) => SqlStore::init(alloc, conn, callers),
+        Opening::Open => SqlStore::open(alloc, conn),
+        Opening::Migrate => SqlStore::migrate(alloc, conn),
     }
 }
 
-/// A store with these callers in new files. The log is copied after so many pages. Refused, the files with what was wrong.
-pub(crate) fn made<D: Disk + Drop>(
+/// The store in these files. The log is copied after so many pages. Refused, the files with what was wrong.
+pub(crate) fn store_in<D: Disk + Drop>(
     alloc: Global,
-    callers: &[CallerRow],
     files: Files<D>,
+    opening: Opening<'_>,
     log_pages: usize,
 ) -> Result<InFiles<D>, (StoreFault, Files<D>)> {
     match connected(alloc, files, log_pages) {
-        Ok(conn) => with_files(begun(alloc, conn, callers)),
-        Err(files) => Err((StoreFault::Device, files)),
-    }
-}
-
-/// The store that is in these files, or the files with what was wrong.
-pub(crate) fn reopened<D: Disk + Drop>(
-    alloc: Global,
-    files: Files<D>,
-) -> Result<InFiles<D>, (StoreFault, Files<D>)> {
-    match connected(alloc, files, SHORT_LOG) {
-        Ok(conn) => with_files(opened(alloc, conn)),
-        Err(files) => Err((StoreFault::Device, files)),
-    }
-}
-
-/// The store of version 1 that is in these files, made one of version 2; or the files with what was wrong.
-pub(crate) fn migrated<D: Disk + Drop>(
-    alloc: Global,
-    files: Files<D>,
-) -> Result<InFiles<D>, (StoreFault, Files<D>)> {
-    match connected(alloc, files, SHORT_LOG) {
-        Ok(conn) => with_files(brought(alloc, conn)),
+        Ok(conn) => match opened(alloc, conn, opening) {
+            Ok(store) => Ok(store),
+            Err((fault, conn)) => Err((fault, files_of(conn))),
+        },
         Err(files) => Err((StoreFault::Device, files)),
     }
 }
@@ -137,21 +105,46 @@ pub(crate) fn found<D: Disk + Drop>(
     callers: &[CallerRow],
     files: Files<D>,
 ) -> Checked<(InFiles<D>, bool)> {
-    match reopened(alloc, files) {
+    match store_in(alloc, files, Opening::Open, SHORT_LOG) {
         Ok(store) => Ok((store, true)),
-        Err((StoreFault::Shape, files)) => match made(alloc, callers, files, SHORT_LOG) {
-            Ok(store) => Ok((store, false)),
-            Err(_) => Err("no store, and init is refused"),
-        },
+        Err((StoreFault::Shape, files)) => {
+            match store_in(alloc, files, Opening::Init(callers), SHORT_LOG) {
+                Ok(store) => Ok((store, false)),
+                Err(_) => Err("no store, and init is refused"),
+            }
+        }
         Err(_) => Err("open is refused for another reason"),
     }
 }
 
-/// New files, of which the log answers so many calls, and the database so many.
-pub(crate) fn new_files(alloc: Global, log: u64, db: u64) -> Files<Device> {
+/// How many calls the log answers, and how many the database.
+pub(crate) type Calls = (u64, u64);
+
+/// All calls of both files are answered.
+pub(crate) const ALL: Calls = (u64::MAX, u64::MAX);
+
+/// Which of the two files fails.
+#[derive(Clone, Copy)]
+pub(crate) enum Failing {
+    Log,
+    Database,
+}
+
+impl Failing {
+    /// This file answers so many calls, and the other one all.
+    pub(crate) fn after(self, calls: u64) -> Calls {
+        match self {
+            Failing::Log => (calls, u64::MAX),
+            Failing::Database => (u64::MAX, calls),
+        }
+    }
+}
+
+/// New files, which answer so many calls.
+pub(crate) fn new_files(alloc: Global, calls: Calls) -> Files<Device> {
     Files {
-        log: Fuse::new(Memory::new(alloc), log),
-        db: Fuse::new(Memory::new(alloc), db),
+        log: Fuse::new(Memory::new(alloc), calls.0),
+        db: Fuse::new(Memory::new(alloc), calls.1),
     }
 }
 
@@ -164,18 +157,13 @@ pub(crate) fn after_power_loss(mut files: Files<Device>) -> Files<Device> {
 
 /// What the files have after the program ended: all that was written.
 pub(crate) fn after_kill(alloc: Global, files: &Files<Device>) -> Checked<Files<Device>> {
-    copied(alloc, files, u64::MAX, u64::MAX)
+    copied(alloc, files, ALL)
 }
 
-/// Files with the same bytes, of which the log answers so many calls, and the database so many.
-pub(crate) fn copied(
-    alloc: Global,
-    files: &Files<Device>,
-    log: u64,
-    db: u64,
-) -> Checked<Files<Device>> {
-    let log = written(alloc, &files.log, log)?;
-    let db = written(alloc, &files.db, db)?;
+/// Files with the same bytes, which answer so many calls.
+pub(crate) fn copied(alloc: Global, files: &Files<Device>, calls: Calls) -> Checked<Files<Device>> {
+    let log = written(alloc, &files.log, calls.0)?;
+    let db = written(alloc, &files.db, calls.1)?;
     Ok(Files { log, db })
 }
 

@@ -2,10 +2,10 @@
 //!
 //! What is found after the stop is of version 1, and is migrated then, or of version 2. Either way it has all that it had, and the
 //! script goes on.
-use super::desk::{Script, goes_on_by, in_lists, served_by, worked};
+use super::desk::{Stage, Trial, worked};
 use super::files::{
-    Device, SHORT_LOG, after_kill, after_power_loss, closed, copied, files_of, made, migrated,
-    new_files, reopened,
+    ALL, Calls, Device, Failing, Opening, SHORT_LOG, after_kill, after_power_loss, closed, copied,
+    files_of, new_files, store_in,
 };
 use super::script::{Checked, OPENED_AGAIN};
 use bureau_store::StoreFault;
@@ -36,14 +36,12 @@ fn take_back<S: Alter>(conn: &mut Connection<S>) -> Checked<()> {
 }
 
 // Files with a store of version 1, over which the script was served up to where the files are closed.
-fn earlier_files(alloc: Global, keys: RandomState, script: &Script) -> Checked<Files<Device>> {
-    let mut known = in_lists(alloc, script.callers.as_slice())?;
-    let files = new_files(alloc, u64::MAX, u64::MAX);
-    let Ok(store) = made(alloc, script.callers.as_slice(), files, SHORT_LOG) else {
+fn earlier_files(trial: &mut Trial) -> Checked<Files<Device>> {
+    let init = Opening::Init(trial.callers.as_slice());
+    let Ok(store) = store_in(trial.alloc, new_files(trial.alloc, ALL), init, SHORT_LOG) else {
         return Err("a store");
     };
-    let rows = script.script.get(..OPENED_AGAIN).ok_or("a part")?;
-    let (answered, mut conn) = served_by(alloc, keys, store, &mut known, rows)?;
+    let (answered, mut conn) = trial.served_by(store, 0..OPENED_AGAIN)?;
     if answered < OPENED_AGAIN {
         return Err("the first part of the script");
     }
@@ -52,45 +50,44 @@ fn earlier_files(alloc: Global, keys: RandomState, script: &Script) -> Checked<F
 }
 
 // Nothing is lost in these files, which are of version 2 if that was acknowledged: which version they are of.
-fn look(
-    alloc: Global,
-    keys: RandomState,
-    script: &Script,
-    is_done: bool,
-    files: Files<Device>,
-) -> Checked<Found> {
-    let mut known = in_lists(alloc, script.callers.as_slice())?;
-    let (store, found) = match reopened(alloc, files) {
+fn look(trial: &mut Trial, is_done: bool, files: Files<Device>) -> Checked<Found> {
+    let (store, found) = match store_in(trial.alloc, files, Opening::Open, SHORT_LOG) {
         Ok(store) => (store, Found::Two),
-        Err((StoreFault::Version, files)) => match migrated(alloc, files) {
-            Ok(store) => (store, Found::One),
-            Err(_) => return Err("a store of version 1 is not migrated"),
-        },
+        Err((StoreFault::Version, files)) => {
+            match store_in(trial.alloc, files, Opening::Migrate, SHORT_LOG) {
+                Ok(store) => (store, Found::One),
+                Err(_) => return Err("a store of version 1 is not migrated"),
+            }
+        }
         Err(_) => return Err("open is refused for another reason"),
     };
     if is_done && found == Found::One {
         return Err("what was acknowledged is lost");
     }
-    goes_on_by(alloc, keys, script, &mut known, OPENED_AGAIN, 0, store)?;
+    let stage = Stage {
+        answered: OPENED_AGAIN,
+        on_their_way: 0,
+    };
+    trial.goes_on_by(stage, store)?;
     Ok(found)
 }
 
-// The log and the database of these files fail after so many calls: whether the store was migrated, and what is found after the
-// program ended and after a loss of power.
+// Copies of these files fail after so many calls: whether the store was migrated, and what is found after the program ended and
+// after a loss of power.
 fn stopped(
-    alloc: Global,
-    keys: RandomState,
-    script: &Script,
+    trial: &mut Trial,
     files: &Files<Device>,
-    calls: (u64, u64),
+    calls: Calls,
 ) -> Checked<(bool, Found, Found)> {
-    let (is_done, files) = match migrated(alloc, copied(alloc, files, calls.0, calls.1)?) {
+    let copied = copied(trial.alloc, files, calls)?;
+    let (is_done, files) = match store_in(trial.alloc, copied, Opening::Migrate, SHORT_LOG) {
         Ok(store) => (true, files_of(store.into_connection())),
         Err((StoreFault::Device, files)) => (false, files),
         Err(_) => return Err("migrate is refused for another reason"),
     };
-    let killed = look(alloc, keys, script, is_done, after_kill(alloc, &files)?)?;
-    let crashed = look(alloc, keys, script, is_done, after_power_loss(files))?;
+    let killed = after_kill(trial.alloc, &files)?;
+    let killed = look(trial, is_done, killed)?;
+    let crashed = look(trial, is_done, after_power_loss(files))?;
     Ok((is_done, killed, crashed))
 }
 
@@ -98,15 +95,13 @@ fn stopped(
 fn stops(
     alloc: Global,
     keys: RandomState,
-    is_log: bool,
+    failing: Failing,
 ) -> Result<Vec<(bool, Found, Found)>, Fail> {
-    let script = worked(alloc)?;
-    let files = earlier_files(alloc, keys, &script)?;
+    let mut trial = worked(alloc, keys)?;
+    let files = earlier_files(&mut trial)?;
     let mut stops = Vec::new(alloc);
     for calls in 0..10_000u64 {
-        let log = if is_log { calls } else { u64::MAX };
-        let db = if is_log { u64::MAX } else { calls };
-        match stopped(alloc, keys, &script, &files, (log, db)) {
+        match stopped(&mut trial, &files, failing.after(calls)) {
             Ok(stop) => stops.push(stop)?,
             Err(why) => return Err(Fail::new(format_args!("{why}, after {calls} calls"))),
         }
@@ -119,7 +114,7 @@ fn stops(
 
 #[test]
 fn a_migration_is_whole_or_nothing_where_the_log_fails(rt: HostRuntime) -> Result<(), Fail> {
-    let stops = stops(rt.alloc(), RandomState::new(&rt)?, true)?;
+    let stops = stops(rt.alloc(), RandomState::new(&rt)?, Failing::Log)?;
     assert!(rt; stops.contains(&(false, Found::One, Found::One)));
     assert!(rt; stops.contains(&(false, Found::Two, Found::One)));
     assert!(rt; stops.contains(&(true, Found::Two, Found::Two)));
@@ -128,7 +123,7 @@ fn a_migration_is_whole_or_nothing_where_the_log_fails(rt: HostRuntime) -> Resul
 
 #[test]
 fn a_migration_is_whole_or_nothing_where_the_database_fails(rt: HostRuntime) -> Result<(), Fail> {
-    let stops = stops(rt.alloc(), RandomState::new(&rt)?, false)?;
+    let stops = stops(rt.alloc(), RandomState::new(&rt)?, Failing::Database)?;
     assert!(rt; stops.contains(&(false, Found::One, Found::One)));
     assert!(rt; stops.contains(&(true, Found::Two, Found::Two)));
     Ok(())

@@ -42,21 +42,28 @@ const RECEIVED: &[u8] = b"SYSMOD\nUA10002\n";
 
 const PATTERNS: &[u8] = b"CATEGORY\nIBM*\n";
 
+/// How many requests the script has.
+pub(crate) const REQUESTS: usize = 15;
+
 /// Before this one the store's files are closed and opened again.
 pub(crate) const OPENED_AGAIN: usize = 7;
 
+// A zone and a SYSMOD with these names.
+fn both(zone: &[u8], sysmod: &[u8]) -> Checked<(Id, Id)> {
+    match (Id::new(zone), Id::new(sysmod)) {
+        (Some(zone), Some(sysmod)) => Ok((zone, sysmod)),
+        _ => Err("an id"),
+    }
+}
+
 /// A zone and a SYSMOD that is published.
 pub(crate) fn named() -> Checked<(Id, Id)> {
-    let zone = Id::new(b"TGT1").ok_or("an id")?;
-    let sysmod = Id::new(b"UA10002").ok_or("an id")?;
-    Ok((zone, sysmod))
+    both(b"TGT1", b"UA10002")
 }
 
 // A zone in which what is required under a condition is required, and the SYSMOD that requires it.
 fn conditional() -> Checked<(Id, Id)> {
-    let zone = Id::new(b"TGT2").ok_or("an id")?;
-    let sysmod = Id::new(b"UA10020").ok_or("an id")?;
-    Ok((zone, sysmod))
+    both(b"TGT2", b"UA10020")
 }
 
 fn publish(number: u64, body: &'static [u8]) -> Call<'static> {
