@@ -75,21 +75,10 @@ module _ {Desk : Type 0} (view : View Desk Tables) where
   }
   asks old new this visit (Some bytes) ran served = record {
     turns = turns_of served.exchanges;
-    closing = served.closing;
-    run = served.run.kept;
-    callers = served.callers;
-    asked = (
-      served.exchanges,
-      refl,
-      record {
-        answered = served.answered;
-        stop = served.stop;
-        connection = served.connection;
-        stops = served.stops;
-        unfinished = served.unfinished;
-        written = served.written;
-      },
-    );
+    closing = served.ran.closing;
+    run = served.ran.run.kept;
+    callers = served.ran.callers;
+    asked = (served.exchanges, refl, served.exchanged);
   }
 
   -- one visitor was served

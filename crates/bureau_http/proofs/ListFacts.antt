@@ -11,7 +11,7 @@ use Rattle.bureau_http.specs.Exchange.{Exchange, turns_of}
 use Rattle.bureau_http.specs.List.{AreServed, AreServedInPart, AreSoFar, AreWhole, IsInHand, IsOneCut, IsOneServed, IsWhole, turns_in}
 use Rattle.bureau_http.specs.Isolated.{joined}
 use Rattle.bureau_http.proofs.IsolatedFacts.{Alike, Alone, isolated, turns_joined, turns_with_hand}
-use Rattle.bureau_http.proofs.ServingFacts.{ActOnce, Join}
+use Rattle.bureau_http.proofs.ServingFacts.{ActOnce, Join, one_run}
 
 whole_on : (rows : List CallerRow) (cs ws : List (List ℕ)) (es : List (List Exchange)) (c w : List ℕ) (e : List Exchange) → AreWhole rows cs ws es
     → IsWhole rows c w e → AreWhole rows (cs ++ c ∷ []) (ws ++ w ∷ []) (es ++ e ∷ [])
@@ -74,11 +74,7 @@ IsPlain Runs = (this next : Tables) (turns : List Turn) → Runs this turns next
 pub all_served : (Runs : Tables → List Turn → Tables → Type 0) → IsPlain Runs → ActOnce Runs → (this : Tables) (cs ws : List (List ℕ)) → Alone → Alike → AreSoFar Runs this cs ws → AreServed Runs this cs ws
 all_served Runs plain once this cs ws alone alike so = record {
   exchanges = so.exchanges;
-  closing = so.now;
-  run = so.run;
-  once = (once this so.now (turns_in so.exchanges) so.run).0;
-  stale = (once this so.now (turns_in so.exchanges) so.run).1;
-  callers = so.callers;
+  ran = one_run Runs once this so.now (turns_in so.exchanges) so.run so.callers;
   whole = so.whole;
   isolated = λ in_order. isolated this so.now (joined so.exchanges) alone alike in_order
       (subst (λ ts. IsRun this ts so.now) (sym (turns_joined so.exchanges)) (plain this so.now (turns_in so.exchanges) so.run));
@@ -100,11 +96,7 @@ in_part f First Then Whole join plain once this cs ws i item so low is alone ali
     record {
       exchanges = so.exchanges;
       hand = one.exchanges;
-      closing = one.closing;
-      run = run;
-      once = (once this one.closing (turns_in so.exchanges ++ turns_of one.exchanges) run).0;
-      stale = (once this one.closing (turns_in so.exchanges ++ turns_of one.exchanges) run).1;
-      callers = one.callers ∙ so.callers;
+      ran = one_run Whole once this one.closing (turns_in so.exchanges ++ turns_of one.exchanges) run (one.callers ∙ so.callers);
       whole = subst (λ l. AreWhole this.callers l ws so.exchanges) front so.whole;
       in_hand = subst (λ l. IsInHand this.callers l one.exchanges) (sym rest)
           (one.answered, (one.stop, subst (λ rows. IsConnection rows (f item) (map (λ exchange. exchange.asked) one.exchanges) one.stop) so.callers one.connection));
@@ -121,11 +113,7 @@ pub nothing : (Runs : Tables → List Turn → Tables → Type 0) → IsPlain Ru
 nothing Runs plain once this all alone alike run = record {
   exchanges = [];
   hand = [];
-  closing = this;
-  run = run;
-  once = (once this this [] run).0;
-  stale = (once this this [] run).1;
-  callers = refl;
+  ran = one_run Runs once this this [] run refl;
   whole = tt;
   in_hand = none_in_hand this.callers all;
   isolated = λ in_order. isolated this this [] alone alike in_order (plain this this [] run);

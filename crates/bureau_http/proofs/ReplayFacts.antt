@@ -11,17 +11,14 @@ use Rattle.bureau.specs.Joint.{IsRun, Turn}
 use Rattle.bureau_http.specs.List.{AreServed, turns_in}
 use Rattle.bureau_http.specs.Replay.{IsReplayed}
 use Rattle.bureau_http.proofs.ListFacts.{IsPlain}
+use Rattle.bureau_http.proofs.ServingFacts.{same_run}
 
 -- whether the desk is open, and what it holds at the end, is not told
 pub untold : (Runs : Tables → List Turn → Tables → Type 0) → IsPlain Runs → (this : Tables) (connections written : List (List ℕ)) → AreServed Runs this connections written
     → AreServed IsRun this connections written
 untold Runs plain this connections written served = record {
   exchanges = served.exchanges;
-  closing = served.closing;
-  run = plain this served.closing (turns_in served.exchanges) served.run;
-  once = served.once;
-  stale = served.stale;
-  callers = served.callers;
+  ran = same_run Runs IsRun this (turns_in served.exchanges) (λ closing run. plain this closing (turns_in served.exchanges) run) served.ran;
   whole = served.whole;
   isolated = served.isolated;
 }

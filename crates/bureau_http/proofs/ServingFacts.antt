@@ -23,7 +23,7 @@ use Rattle.bureau_http.specs.Connection.{IsConnection, IsLast, IsRequest, ReadsT
 use Rattle.bureau_http.specs.Exchange.{Exchange, IsAnswered, exchange_text, refusal_answer, replies_text, turn_of, turns_of}
 use Rattle.bureau_http.specs.declared.serving.Served.{Served}
 use Rattle.bureau_http.specs.declared.serving.Step.TheVariants as step
-use Rattle.bureau_http.specs.Served.{AreWritten, IsAsked, IsCutOff, StopsBy, Exchanged, HasExchanged, HasRun, asked_as, IsExchanged, IsFailedWrite, IsServed, IsSoFar, IsUnfinishedOf, IsWritten, Serves, StopsUnfinished}
+use Rattle.bureau_http.specs.Served.{AreWritten, IsAsked, IsCutOff, StopsBy, Exchanged, HasExchanged, HasRun, asked_as, IsExchanged, IsFailedWrite, IsOneRun, IsServed, IsSoFar, IsUnfinishedOf, IsWritten, Serves, StopsUnfinished}
 use Rattle.bureau_http.specs.Told.{told_text}
 use Rattle.bureau_http.specs.declared.reply.Told.TheVariants.{Refused}
 use Rattle.bureau_http.proofs.ExchangeFacts.{has_exchanged, same_text}
@@ -104,6 +104,18 @@ run_same First Then Whole join this now turns first none = subst (λ ts. Whole t
 abbrev pub ActOnce : (Tables → List Turn → Tables → Type 0) → Type 0
 ActOnce Runs = (this next : Tables) (turns : List Turn) → Runs this turns next → ActsOnce this turns next × StaysStale this turns next
 
+pub one_run : (Runs : Tables → List Turn → Tables → Type 0) → ActOnce Runs → (this next : Tables) (turns : List Turn) → Runs this turns next
+    → next.callers ≡ this.callers → IsOneRun Runs this turns
+one_run Runs once this next turns run callers =
+    let repeats = once this next turns run in
+    record { closing = next; run = run; once = repeats.0; stale = repeats.1; callers = callers }
+
+-- one run, of which something else is known
+pub same_run : (Runs Other : Tables → List Turn → Tables → Type 0) (this : Tables) (turns : List Turn) → ((next : Tables) → Runs this turns next → Other this turns next)
+    → IsOneRun Runs this turns → IsOneRun Other this turns
+same_run Runs Other this turns also ran =
+    record { closing = ran.closing; run = also ran.closing ran.run; once = ran.once; stale = ran.stale; callers = ran.callers }
+
 -- ---- the loop
 
 module _ (First Then Whole : Tables → List Turn → Tables → Type 0) (join : Join First Then Whole) (once : ActOnce Whole) (this : Tables) (place : ℕ) (rest left old mid new : Option (List ℕ)) (bytes : List ℕ)
@@ -180,20 +192,17 @@ module _ (First Then Whole : Tables → List Turn → Tables → Type 0) (join :
       → StopsBy answer stop (length so.exchanges) → AreWritten answer old new so.exchanges → IsServed Whole this rest old new answer bytes
   unfolding connection_here
   without answer stop run stops unfinished by written =
-      let ran = run_same First Then Whole join this so.now (turns_of so.exchanges) so.run run in
-      let repeats = once this so.now (turns_of so.exchanges) ran in record {
+      let ran = run_same First Then Whole join this so.now (turns_of so.exchanges) so.run run in record {
         exchanges = so.exchanges;
-        closing = so.now;
-        run = ran;
-        once = repeats.0;
-        stale = repeats.1;
-        callers = so.callers;
-        answered = so.answered;
-        stop = stop;
-        connection = connection_here stop stops;
-        stops = by;
-        unfinished = unfinished;
-        written = written;
+        ran = one_run Whole once this so.now (turns_of so.exchanges) ran so.callers;
+        exchanged = record {
+          answered = so.answered;
+          stop = stop;
+          connection = connection_here stop stops;
+          stops = by;
+          unfinished = unfinished;
+          written = written;
+        };
       }
 
   with_one : (answer : Result Served ConnFault) (stop : Stop) (exchange : Exchange) → ((following : List ℕ) → StopsUnfinished answer rest following) → HasExchanged Then so.now exchange
@@ -202,19 +211,17 @@ module _ (First Then Whole : Tables → List Turn → Tables → Type 0) (join :
       → IsServed Whole this rest old new answer bytes
   with_one answer stop exchange unfinished has connection by written =
       let ran = run_more First Then Whole join this so.now has.next so.exchanges exchange so.run has.run in
-      let repeats = once this has.next (turns_of (so.exchanges ++ exchange ∷ [])) ran in record {
+      record {
         exchanges = so.exchanges ++ exchange ∷ [];
-        closing = has.next;
-        run = ran;
-        once = repeats.0;
-        stale = repeats.1;
-        callers = has.callers ∙ so.callers;
-        answered = all_on IsAnswered so.exchanges (exchange ∷ []) so.answered (has.answered, tt);
-        stop = stop;
-        connection = connection;
-        stops = by;
-        unfinished = unfinished connection.following;
-        written = written;
+        ran = one_run Whole once this has.next (turns_of (so.exchanges ++ exchange ∷ [])) ran (has.callers ∙ so.callers);
+        exchanged = record {
+          answered = all_on IsAnswered so.exchanges (exchange ∷ []) so.answered (has.answered, tt);
+          stop = stop;
+          connection = connection;
+          stops = by;
+          unfinished = unfinished connection.following;
+          written = written;
+        };
       }
 
 -- a last exchange, or none, by what serving the next request answers
@@ -270,17 +277,15 @@ pub nothing_served : (Runs : Tables → List Turn → Tables → Type 0) → Act
 unfolding head_limit
 nothing_served Runs once this left kept bytes run is_left = record {
   exchanges = [];
-  closing = this;
-  run = run;
-  once = (once this this [] run).0;
-  stale = (once this this [] run).1;
-  callers = refl;
-  answered = tt;
-  stop = cut;
-  connection = record { first = []; last = []; following = bytes; reads = refl; stops = refl; all = refl };
-  stops = refl;
-  unfinished = ([], (ap (λ known. prepend_known [] known) is_left, inl refl));
-  written = Appends-nil kept;
+  ran = one_run Runs once this this [] run refl;
+  exchanged = record {
+    answered = tt;
+    stop = cut;
+    connection = record { first = []; last = []; following = bytes; reads = refl; stops = refl; all = refl };
+    stops = refl;
+    unfinished = ([], (ap (λ known. prepend_known [] known) is_left, inl refl));
+    written = Appends-nil kept;
+  };
 }
 
 pub each_is : {A : Type 0} (P : A → Type 0) (o : Option A) → ((a : A) → o ≡ Some a → P a) → IfSome o P

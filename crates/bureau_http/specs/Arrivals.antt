@@ -1,14 +1,13 @@
 -- What a desk does that listens: one connection after the other comes, is served to its end, and is closed before the next
 -- one is accepted.
-use Rattle.std.specs.Prelude.{◌≡◌, ℕ, List, [], ◌∷◌, ◌++◌, length, map, option_map, Option, Some, Result, IfSome}
-use Rattle.std.specs.List.{AllByRecursion, flat_map}
+use Rattle.std.specs.Prelude.{◌≡◌, ℕ, List, [], ◌∷◌, ◌++◌, length, option_map, Option, Some, Result, IfSome}
+use Rattle.std.specs.List.{flat_map}
 use Rattle.catalogue.specs.View.{Tells, View}
 use Rattle.bureau_store.specs.Tables.{Tables}
 use Rattle.bureau_store.specs.declared.caller.CallerRow.{CallerRow}
 use Rattle.bureau.specs.Joint.{Turn}
-use Rattle.bureau_http.specs.Connection.{IsConnection, Stop}
-use Rattle.bureau_http.specs.Exchange.{Exchange, IsAnswered, turns_of}
-use Rattle.bureau_http.specs.Served.{AreWritten, StopsBy, StopsUnfinished}
+use Rattle.bureau_http.specs.Exchange.{Exchange, turns_of}
+use Rattle.bureau_http.specs.Served.{AreExchanged}
 use Rattle.bureau_http.specs.declared.fault.ConnFault.{ConnFault}
 use Rattle.bureau_http.specs.declared.serving.Served.{Served}
 
@@ -51,14 +50,9 @@ log_of arrivals = flat_map events_of arrivals
 
 -- ---- what is served
 
--- These bytes of a connection are requests and a stop. They are answered so, and the replies were written, in order.
-pub record IsVisited (rows : List CallerRow) (visit : Visit) (bytes : List ℕ) (exchanges : List Exchange) : Type 0 where
-  pub answered : AllByRecursion IsAnswered exchanges
-  pub stop : Stop
-  pub connection : IsConnection rows bytes (map (λ exchange. exchange.asked) exchanges) stop
-  pub stops : StopsBy visit.ended stop (length exchanges)
-  pub unfinished : StopsUnfinished visit.ended visit.left connection.following
-  pub written : AreWritten visit.ended visit.begun visit.written exchanges
+-- these bytes of a connection were exchanged for the replies to it
+abbrev pub IsVisited : List CallerRow → Visit → List ℕ → List Exchange → Type 0
+IsVisited rows visit = AreExchanged rows visit.left visit.begun visit.written visit.ended
 
 -- these turns of the bureau are the requests of a connection, where its bytes are known
 abbrev pub AreAskedBy : List CallerRow → Visit → List Turn → List ℕ → Type 0

@@ -1,13 +1,14 @@
 -- What serving a list of connections does, one after the other: one run of the bureau over all their requests.
-use Rattle.std.specs.Prelude.{◌≡◌, ℕ, List, [], ◌∷◌, ◌++◌, length, map, take, drop}
+use Rattle.std.specs.Prelude.{◌≡◌, ℕ, List, [], ◌∷◌, ◌++◌, length, map, take, drop, Result, Ok, Err}
+use Rattle.std.specs.Global.{Vec}
 use Rattle.std.specs.List.{AllByRecursion, flat_map}
 use Rattle.bureau_store.specs.Tables.{AreInOrder, Tables}
 use Rattle.bureau_store.specs.declared.caller.CallerRow.{CallerRow}
 use Rattle.bureau.specs.Joint.{Turn}
-use Rattle.bureau.specs.Repeat.{ActsOnce, StaysStale}
 use Rattle.bureau_http.specs.Connection.{IsConnection, IsOwn, Stop}
 use Rattle.bureau_http.specs.Exchange.{Exchange, IsAnswered, replies_text, turns_of}
 use Rattle.bureau_http.specs.Isolated.{AreIsolated, joined}
+use Rattle.bureau_http.specs.Served.{IsOneRun}
 
 -- a connection is these requests, up to a stop of its own; they are answered so, and the replies were written
 pub record IsWhole (rows : List CallerRow) (bytes written : List ℕ) (exchanges : List Exchange) : Type 0 where
@@ -34,11 +35,7 @@ turns_in connections = flat_map turns_of connections
 -- whichever of them it is sent, and each caller is answered, to the byte, as if alone.
 pub record AreServed (Runs : Tables → List Turn → Tables → Type 0) (this : Tables) (connections written : List (List ℕ)) : Type 0 where
   pub exchanges : List (List Exchange)
-  pub closing : Tables
-  pub run : Runs this (turns_in exchanges) closing
-  pub once : ActsOnce this (turns_in exchanges) closing
-  pub stale : StaysStale this (turns_in exchanges) closing
-  pub callers : closing.callers ≡ this.callers
+  pub ran : IsOneRun Runs this (turns_in exchanges)
   pub whole : AreWhole this.callers connections written exchanges
   pub isolated : AreInOrder this → AreIsolated this (joined exchanges)
 
@@ -51,16 +48,17 @@ IsInHand rows (bytes ∷ more) hand = AllByRecursion IsAnswered hand × ((stop :
 pub record AreServedInPart (Runs : Tables → List Turn → Tables → Type 0) (this : Tables) (connections written : List (List ℕ)) : Type 0 where
   pub exchanges : List (List Exchange)
   pub hand : List Exchange
-  pub closing : Tables
-  pub run : Runs this (turns_in exchanges ++ turns_of hand) closing
-  pub once : ActsOnce this (turns_in exchanges ++ turns_of hand) closing
-  pub stale : StaysStale this (turns_in exchanges ++ turns_of hand) closing
-  pub callers : closing.callers ≡ this.callers
+  pub ran : IsOneRun Runs this (turns_in exchanges ++ turns_of hand)
   pub whole : AreWhole this.callers (take (length written) connections) written exchanges
   pub in_hand : IsInHand this.callers (drop (length written) connections) hand
   pub isolated : AreInOrder this → AreIsolated this (joined exchanges ++ hand)
 
--- ---- private: one connection of a list
+-- ---- private: what serving a list answers, and one connection of it
+
+-- what was written to all connections, or where memory ran out, to the first of them
+abbrev pub AreServedAs : {Fault : Type 0} → (Tables → List Turn → Tables → Type 0) → Tables → List (List ℕ) → Result (Vec (Vec ℕ)) (Fault × Vec (Vec ℕ)) → Type 0
+AreServedAs Runs this connections (Ok written) = AreServed Runs this connections (map (λ text. text.items) written.items)
+AreServedAs Runs this connections (Err refused) = AreServedInPart Runs this connections (map (λ text. text.items) refused.1.items)
 
 pub record IsOneServed (Runs : Tables → List Turn → Tables → Type 0) (this : Tables) (bytes written : List ℕ) : Type 0 where
   pub exchanges : List Exchange

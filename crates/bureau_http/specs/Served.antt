@@ -81,22 +81,31 @@ AreWritten (Err Write) old new exchanges = IsCutOff old new exchanges
 AreWritten (Err EndInside) old new exchanges = Appends old new (replies_text exchanges)
 AreWritten (Err Memory) old new exchanges = Appends old new (replies_text exchanges)
 
+-- These turns are one run of the bureau from these tables, in which a change acts once, however often it is sent. The callers
+-- stay.
+pub record IsOneRun (Runs : Tables → List Turn → Tables → Type 0) (this : Tables) (turns : List Turn) : Type 0 where
+  pub closing : Tables
+  pub run : Runs this turns closing
+  pub once : ActsOnce this turns closing
+  pub stale : StaysStale this turns closing
+  pub callers : closing.callers ≡ this.callers
+
+-- These bytes of a connection are requests and a stop. They are answered so, and the replies were written, in order.
+pub record AreExchanged (rows : List CallerRow) (left old new : Option (List ℕ)) (answer : Result Served ConnFault) (bytes : List ℕ) (exchanges : List Exchange) : Type 0 where
+  pub answered : AllByRecursion IsAnswered exchanges
+  pub stop : Stop
+  pub connection : IsConnection rows bytes (map (λ exchange. exchange.asked) exchanges) stop
+  pub stops : StopsBy answer stop (length exchanges)
+  pub unfinished : StopsUnfinished answer left connection.following
+  pub written : AreWritten answer old new exchanges
+
 -- The bytes are requests and a stop. Those that make calls are a run of the bureau, in order, in which a change acts
 -- once, however often it is sent; the others are answered as the bytes and the callers alone decide. The replies are
 -- written, in order.
 pub record IsServed (Runs : Tables → List Turn → Tables → Type 0) (this : Tables) (left old new : Option (List ℕ)) (answer : Result Served ConnFault) (bytes : List ℕ) : Type 0 where
   pub exchanges : List Exchange
-  pub closing : Tables
-  pub run : Runs this (turns_of exchanges) closing
-  pub once : ActsOnce this (turns_of exchanges) closing
-  pub stale : StaysStale this (turns_of exchanges) closing
-  pub callers : closing.callers ≡ this.callers
-  pub answered : AllByRecursion IsAnswered exchanges
-  pub stop : Stop
-  pub connection : IsConnection this.callers bytes (map (λ exchange. exchange.asked) exchanges) stop
-  pub stops : StopsBy answer stop (length exchanges)
-  pub unfinished : StopsUnfinished answer left connection.following
-  pub written : AreWritten answer old new exchanges
+  pub ran : IsOneRun Runs this (turns_of exchanges)
+  pub exchanged : AreExchanged this.callers left old new answer bytes exchanges
 
 -- ---- a step of it, and what is so far: these serve private contracts alone
 

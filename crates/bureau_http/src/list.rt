@@ -1,6 +1,6 @@
 //! Connections in memory, one after the other.
 ghost use Rattle.std.specs.Prelude.{map, IfErr, IfOk, OnErr};
-ghost use Rattle.bureau_http.specs.List.{AreServed, AreServedInPart, IsOneCut, IsOneServed};
+ghost use Rattle.bureau_http.specs.List.{AreServed, AreServedAs, AreServedInPart, IsOneCut, IsOneServed};
 ghost use Rattle.bureau.specs.Kept.{IsKeptRun};
 ghost use Rattle.bureau.specs.Runs.{IsLawfulRun};
 ghost use Rattle.catalogue.specs.View.{Goes, Tells};
@@ -44,12 +44,9 @@ fn serve_each<D: Desk>(
     connections: &[Vec<u8>],
 ) -> Result<Vec<Vec<u8>>, (RunFault, Vec<Vec<u8>>)>
     ensures goes { Goes D.tables_view desk.old desk.new }
-    ensures served { IfOk result (λ written. Tells D.tables_view desk.old desk.new (λ this.
-        AreServed (IsKeptRun D.tables_view desk.old desk.new) this
-        (map (λ connection. connection.items) connections.now) (map (λ text. text.items) written.items))) }
-    ensures in_part { IfErr result (λ fault. Tells D.tables_view desk.old desk.new (λ this.
-        AreServedInPart (IsKeptRun D.tables_view desk.old desk.new) this
-        (map (λ connection. connection.items) connections.now) (map (λ text. text.items) fault.1.items))) }
+    ensures served { Tells D.tables_view desk.old desk.new (λ this.
+        AreServedAs (IsKeptRun D.tables_view desk.old desk.new) this
+        (map (λ connection. connection.items) connections.now) result) }
 {
     isolation();
     repeats();

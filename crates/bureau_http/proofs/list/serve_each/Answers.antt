@@ -9,8 +9,8 @@ use Rattle.bureau_http.proofs.ListFacts.{all_served, as_cut, nothing}
 use Rattle.bureau_http.proofs.NextFacts.{acts_once, cut_next, kept_once, kept_plain, served_next}
 use Rattle.bureau_http.proofs.list.serve_each.Goals as goal
 
-pub returns-in_default-clause-in_part : goal.returns-in_default-clause-in_part
-returns-in_default-clause-in_part g c = record {
+pub returns-in_default-clause-served : goal.returns-in_default-clause-served
+returns-in_default-clause-served g c = record {
   told = λ ours clean this stand.
       let view = g.D.Desk.tables_view in
       let desk = c.args.desk.now in
@@ -21,8 +21,8 @@ returns-in_default-clause-in_part g c = record {
       c.isolation.ensures.alone c.isolation.ensures.alike (refl, idle view desk this stand));
 }
 
-pub returns-in_default-replies_to-clause-in_part : goal.returns-in_default-replies_to-clause-in_part
-returns-in_default-replies_to-clause-in_part g c =
+pub returns-in_default-replies_to-clause-served : goal.returns-in_default-replies_to-clause-served
+returns-in_default-replies_to-clause-served g c =
     let view = g.D.Desk.tables_view in
     let between = c.loop-connection.desk in
     let after = c.replies_to.new.desk in
@@ -31,8 +31,8 @@ returns-in_default-replies_to-clause-in_part g c =
     (acts_once c.repeats.ensures.once c.repeats.ensures.stale) c.isolation.ensures.alone c.isolation.ensures.alike
     (subst (λ b. Tells view between after (λ this. IsOneCut (IsKeptRun view between after) this b)) c.as_slice.ensures.value c.in_default-replies_to.ensures.cut)
 
-pub returns-in-Err-clause-in_part : goal.returns-in-Err-clause-in_part
-returns-in-Err-clause-in_part g c =
+pub returns-in-Err-clause-served : goal.returns-in-Err-clause-served
+returns-in-Err-clause-served g c =
     let view = g.D.Desk.tables_view in
     let desk = c.args.desk.now in
     let between = c.loop-connection.desk in
