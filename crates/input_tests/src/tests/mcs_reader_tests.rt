@@ -137,56 +137,64 @@ fn each_verb_is_read(rt: HostRuntime) -> Result<(), Fail> {
     Ok(())
 }
 
+const WITHOUT_PERIOD: [&[u8]; 5] = [
+    b"++HOLD(UA10001) ERROR REASON(AA20002)",
+    b"++IF FMID(A)",
+    b"++PTF(UA10001)",
+    b"++VER(Z038) FMID(A)",
+    // In a list of COMMENT parentheses alone count.
+    b"++HOLD(A) COMMENT(/*)",
+];
+
+const WITH_BAD_SUBJECT: [&[u8]; 9] = [
+    b"++HOLD UA10001 ERROR REASON(AA1).",
+    b"++HOLD.",
+    b"++IF(A) REQ(B).",
+    b"++HOLD().",
+    b"++HOLD(A,B).",
+    b"++HOLD(a).",
+    b"++HOLD(UA100012).",
+    b"++VER.",
+    b"++RELEASE(A B) ERROR.",
+];
+
+const UNBALANCED: [&[u8]; 7] = [
+    b"++HOLD(UA10001 ERROR.",
+    b"++HOLD(A)).",
+    b"++HOLD(A) X(()\n.",
+    b"++HOLD(A) COMMENT( ( .\n++HOLD(B).",
+    // A comment that doesn't end, outside a list and in one.
+    b"++HOLD(A) /* ERROR",
+    b"++HOLD(A) X(B /* ) .",
+    b"++HOLD(A) /* * / .",
+];
+
+const WITH_BAD_BYTE: [&[u8]; 5] = [
+    b"++HOLD(UA10001) ERROR REASON(AA20002) ; .",
+    b"++HOLD(A)(B).",
+    b"++HOLD(A) / ERROR .",
+    b"++HOLD(A) ++HOLD(B).",
+    // The subject's fault comes after the others, and the first statement's before the second's.
+    b"++HOLD() X ;.\n++HOLD(A)",
+];
+
 #[test]
 fn the_first_fault_is_told(rt: HostRuntime) -> Result<(), Fail> {
-    let table: [(&[u8], McsFault); 27] = [
-        (
-            b"++HOLD(UA10001) ERROR REASON(AA20002)",
-            McsFault::NoPeriod(1),
-        ),
-        (b"\n++HOLD(A) ERROR\n++HOLD(B).", McsFault::NoPeriod(2)),
-        (
-            b"++HOLD UA10001 ERROR REASON(AA1).",
-            McsFault::BadVerbSubject(1),
-        ),
-        (b"++HOLD.", McsFault::BadVerbSubject(1)),
-        (b"++IF(A) REQ(B).", McsFault::BadVerbSubject(1)),
-        (b"++IF FMID(A)", McsFault::NoPeriod(1)),
-        (b"++HOLD().", McsFault::BadVerbSubject(1)),
-        (b"++HOLD(A,B).", McsFault::BadVerbSubject(1)),
-        (b"++HOLD(a).", McsFault::BadVerbSubject(1)),
-        (b"++HOLD(UA100012).", McsFault::BadVerbSubject(1)),
-        (b"++HOLD(UA10001 ERROR.", McsFault::Unbalanced(1)),
-        (b"++HOLD(A)).", McsFault::Unbalanced(1)),
-        (b"++HOLD(A) X(()\n.", McsFault::Unbalanced(1)),
-        (
-            b"++HOLD(UA10001) ERROR REASON(AA20002) ; .",
-            McsFault::BadByte(1),
-        ),
-        (b"++HOLD(A)(B).", McsFault::BadByte(1)),
-        (b"++HOLD(A) / ERROR .", McsFault::BadByte(1)),
-        // A comment that doesn't end, outside a list and in one, and `/*/`, which ends none.
-        (b"++HOLD(A) /* ERROR", McsFault::Unbalanced(1)),
-        (b"++HOLD(A) X(B /* ) .", McsFault::Unbalanced(1)),
-        (b"\n++HOLD(A)\n/*/ .", McsFault::Unbalanced(2)),
-        (b"++HOLD(A) /* * / .", McsFault::Unbalanced(1)),
-        // In a list of COMMENT parentheses alone count.
-        (b"++HOLD(A) COMMENT(/*)", McsFault::NoPeriod(1)),
-        (
-            b"++HOLD(A) COMMENT( ( .\n++HOLD(B).",
-            McsFault::Unbalanced(1),
-        ),
-        (b"++VER.", McsFault::BadVerbSubject(1)),
-        (b"++PTF(UA10001)", McsFault::NoPeriod(1)),
-        (b"++RELEASE(A B) ERROR.", McsFault::BadVerbSubject(1)),
-        (b"++HOLD(A) ++HOLD(B).", McsFault::BadByte(1)),
-        // The subject's fault comes after the others, and the first statement's before the second's.
-        (b"++HOLD() X ;.\n++HOLD(A)", McsFault::BadByte(1)),
+    let table: [(McsFault, &[&[u8]]); 6] = [
+        (McsFault::NoPeriod(1), &WITHOUT_PERIOD),
+        (McsFault::NoPeriod(2), &[b"\n++HOLD(A) ERROR\n++HOLD(B)."]),
+        (McsFault::BadVerbSubject(1), &WITH_BAD_SUBJECT),
+        (McsFault::Unbalanced(1), &UNBALANCED),
+        // `/*/` begins a comment, and ends none.
+        (McsFault::Unbalanced(2), &[b"\n++HOLD(A)\n/*/ ."]),
+        (McsFault::BadByte(1), &WITH_BAD_BYTE),
     ];
-    for (source, fault) in table {
-        let mut row = String::new(rt.alloc());
-        push_bytes(&mut row, source)?;
-        assert_refused(&rt, source, fault, row.as_str())?;
+    for (fault, sources) in table {
+        for source in sources {
+            let mut row = String::new(rt.alloc());
+            push_bytes(&mut row, source)?;
+            assert_refused(&rt, source, fault, row.as_str())?;
+        }
     }
     Ok(())
 }

@@ -95,38 +95,58 @@ fn the_room_stays_small_while_bytes_come_and_go(rt: HostRuntime) -> Result<(), F
     Ok(())
 }
 
+const TEXT: &[u8] = b"EXCEPTION SYSMOD REPORT";
+
+// What comes of writing the text, where a writer takes a piece at a time while it has room, and its writes and flushes
+// fail: whether all is well, how many bytes are taken, and how many retries are left.
+fn write_text(
+    alloc: Global,
+    piece: usize,
+    room: usize,
+    writes: Failures,
+    flushes: Failures,
+) -> Result<(bool, usize, u32), Fail> {
+    let mut retries = RETRIES;
+    let mut writer = Slow::new(alloc, piece, room, writes);
+    writer.flushes = flushes;
+    let written = write_whole(&mut writer, TEXT, &mut retries);
+    if !TEXT.starts_with(writer.taken.as_slice()) {
+        return Err("other bytes are taken".into());
+    }
+    Ok((written.is_ok(), writer.taken.len(), retries))
+}
+
 #[test]
-fn texts(rt: HostRuntime) -> Result<(), Fail> {
-    let text = b"EXCEPTION SYSMOD REPORT";
-    let interrupted = ErrorKind::Interrupted;
-    let (full, reset) = (ErrorKind::StorageFull, ErrorKind::ConnectionReset);
-    // piece, room, writes and flushes that fail, their kind, bytes taken, whether all is well, retries left
-    let rows: [(usize, usize, u32, u32, ErrorKind, usize, bool, u32); 13] = [
-        (100, 100, 0, 0, interrupted, 23, true, 64),
-        (2, 100, 0, 64, interrupted, 23, true, 0),
-        (2, 100, 0, 65, interrupted, 23, false, 0),
-        (2, 100, 64, 0, interrupted, 23, true, 0),
-        (2, 100, 65, 0, interrupted, 0, false, 0),
-        (2, 100, 40, 23, interrupted, 23, true, 1),
-        (2, 100, 40, 25, interrupted, 23, false, 0),
-        (2, 100, 1, 0, full, 0, false, 64),
-        (2, 100, 1, 0, reset, 0, false, 64),
-        (2, 100, 0, 1, full, 23, false, 64),
-        (2, 100, 0, 1, reset, 23, false, 64),
-        (2, 5, 0, 0, interrupted, 5, false, 64),
-        (0, 100, 0, 0, interrupted, 0, false, 64),
+fn texts_are_written_in_spite_of_interruptions(rt: HostRuntime) -> Result<(), Fail> {
+    // piece, room, writes and flushes that are interrupted, and what comes of it
+    let rows: [(usize, usize, u32, u32, (bool, usize, u32)); 9] = [
+        (100, 100, 0, 0, (true, 23, 64)),
+        (2, 100, 0, 64, (true, 23, 0)),
+        (2, 100, 0, 65, (false, 23, 0)),
+        (2, 100, 64, 0, (true, 23, 0)),
+        (2, 100, 65, 0, (false, 0, 0)),
+        (2, 100, 40, 23, (true, 23, 1)),
+        (2, 100, 40, 25, (false, 23, 0)),
+        (2, 5, 0, 0, (false, 5, 64)),
+        (0, 100, 0, 0, (false, 0, 64)),
     ];
-    for (piece, room, write_failures, flush_failures, kind, count, is_written, left) in rows {
-        let row = (piece, room, write_failures, flush_failures, kind);
-        let mut retries = RETRIES;
-        let failures = Failures::first(write_failures, kind);
-        let mut writer = Slow::new(rt.alloc(), piece, room, failures);
-        writer.flushes = Failures::first(flush_failures, kind);
-        let written = write_whole(&mut writer, text, &mut retries);
-        assert_equal_at(row, written.is_ok(), is_written)?;
-        assert_equal_at(row, writer.taken.len(), count)?;
-        assert!(rt; text.starts_with(writer.taken.as_slice()), "{row:?}");
-        assert_equal_at(row, retries, left)?;
+    for (piece, room, writes, flushes, told) in rows {
+        let failing_writes = Failures::interruptions(writes);
+        let failing_flushes = Failures::interruptions(flushes);
+        let written = write_text(rt.alloc(), piece, room, failing_writes, failing_flushes)?;
+        assert_equal_at((piece, room, writes, flushes), written, told)?;
+    }
+    Ok(())
+}
+
+#[test]
+fn a_write_or_a_flush_that_fails_ends_a_text(rt: HostRuntime) -> Result<(), Fail> {
+    for kind in [ErrorKind::StorageFull, ErrorKind::ConnectionReset] {
+        let (fails, none) = (Failures::first(1, kind), Failures::none());
+        let unwritten = write_text(rt.alloc(), 2, 100, fails, none)?;
+        assert_equal_at(kind, unwritten, (false, 0, 64))?;
+        let unflushed = write_text(rt.alloc(), 2, 100, none, fails)?;
+        assert_equal_at(kind, unflushed, (false, 23, 64))?;
     }
     Ok(())
 }

@@ -28,6 +28,15 @@ enum List {
     Patterns,
 }
 
+// The header that a list begins with.
+fn header(list: List) -> &'static [u8] {
+    match list {
+        List::Zone => b"SYSMOD,STATE\n",
+        List::Received => b"SYSMOD\n",
+        List::Patterns => b"CATEGORY\n",
+    }
+}
+
 // How many a list has.
 fn count_of(alloc: Global, list: List, text: &[u8]) -> Result<usize, ListFault> {
     match list {
@@ -71,75 +80,69 @@ fn a_zone_lists_its_sysmods_in_order(rt: HostRuntime) -> Result<(), Fail> {
 }
 
 #[test]
-fn a_list_has_its_first_fault(rt: HostRuntime) {
-    let (zone, received, patterns) = (List::Zone, List::Received, List::Patterns);
-    let faulty: [(List, &[u8], ListFault); 22] = [
-        (zone, b"", ListFault::Header),
-        (zone, b"\n \n", ListFault::Header),
-        (zone, b"sysmod,state\n", ListFault::Header),
-        (zone, b"SYSMOD\n", ListFault::Header),
-        (
-            zone,
-            b"\xEF\xBB\xBF\xEF\xBB\xBFSYSMOD,STATE\n",
-            ListFault::Header,
-        ),
-        (
-            zone,
-            b"SYSMOD,STATE\nUA10001,APPLIED,X\n",
-            ListFault::BadRecord(1),
-        ),
-        (zone, b"SYSMOD,STATE\nua10001\n", ListFault::BadRecord(1)),
-        (
-            zone,
-            b"SYSMOD,STATE\nUA10001,APPLIED\n \t\n",
-            ListFault::BadRecord(2),
-        ),
-        (
-            zone,
-            b"SYSMOD,STATE\n\nua10001,APPLIED\n",
-            ListFault::BadId(1),
-        ),
-        (zone, b"SYSMOD,STATE\nUA100012,WRONG\n", ListFault::BadId(1)),
-        (zone, b"SYSMOD,STATE\n,APPLIED\n", ListFault::BadId(1)),
-        (
-            zone,
-            b"SYSMOD,STATE\nUA10001,applied\n",
-            ListFault::BadState(1),
-        ),
-        (
-            zone,
-            b"SYSMOD,STATE\nUA10001,APPLIED\nUA10001,SUPERSEDED\n",
-            ListFault::Repeated(2),
-        ),
-        (
-            zone,
-            b"SYSMOD,STATE\nA,APPLIED\nB,ACCEPTED\nA,APPLIED\nB,APPLIED\nc,APPLIED\n",
-            ListFault::Repeated(4),
-        ),
-        (received, b"SYSMOD,STATE\n", ListFault::Header),
-        (
-            received,
-            b"SYSMOD\nUA10001\nUA10002,\n",
-            ListFault::BadRecord(2),
-        ),
-        (received, b"SYSMOD\nUA 1\n", ListFault::BadId(1)),
-        (patterns, b"category\n", ListFault::Header),
-        (patterns, b"CATEGORY\nA,B\n", ListFault::BadRecord(1)),
-        (
-            patterns,
-            b"CATEGORY\nA\nIBM.*.X\n",
-            ListFault::BadPattern(2),
-        ),
-        (patterns, b"CATEGORY\nA'B\n", ListFault::BadPattern(1)),
-        (patterns, b"CATEGORY\n\"\"\n", ListFault::BadPattern(1)),
+fn a_list_without_its_header_is_refused(rt: HostRuntime) -> Result<(), Fail> {
+    let others: [(List, &[u8]); 7] = [
+        (List::Zone, b""),
+        (List::Zone, b"\n \n"),
+        (List::Zone, b"sysmod,state\n"),
+        (List::Zone, b"SYSMOD\n"),
+        (List::Zone, b"\xEF\xBB\xBF\xEF\xBB\xBFSYSMOD,STATE\n"),
+        (List::Received, b"SYSMOD,STATE\n"),
+        (List::Patterns, b"category\n"),
     ];
-    for (list, text, fault) in faulty {
-        assert!(rt;
-            count_of(rt.alloc(), list, text) == Err(fault),
-            "{:?}",
-            (list, text, fault)
-        );
+    for (list, text) in others {
+        let told = count_of(rt.alloc(), list, text);
+        assert_equal_at((list, text), told, Err(ListFault::Header))?;
     }
+    Ok(())
+}
+
+// Records after the header of a zone, and their first fault.
+const FAULTY_ROWS: [(&[u8], ListFault); 9] = [
+    (b"UA10001,APPLIED,X\n", ListFault::BadRecord(1)),
+    (b"ua10001\n", ListFault::BadRecord(1)),
+    (b"UA10001,APPLIED\n \t\n", ListFault::BadRecord(2)),
+    (b"\nua10001,APPLIED\n", ListFault::BadId(1)),
+    (b"UA100012,WRONG\n", ListFault::BadId(1)),
+    (b",APPLIED\n", ListFault::BadId(1)),
+    (b"UA10001,applied\n", ListFault::BadState(1)),
+    (
+        b"UA10001,APPLIED\nUA10001,SUPERSEDED\n",
+        ListFault::Repeated(2),
+    ),
+    (
+        b"A,APPLIED\nB,ACCEPTED\nA,APPLIED\nB,APPLIED\nc,APPLIED\n",
+        ListFault::Repeated(4),
+    ),
+];
+
+const FAULTY_RECEIVED: [(&[u8], ListFault); 2] = [
+    (b"UA10001\nUA10002,\n", ListFault::BadRecord(2)),
+    (b"UA 1\n", ListFault::BadId(1)),
+];
+
+const FAULTY_PATTERNS: [(&[u8], ListFault); 4] = [
+    (b"A,B\n", ListFault::BadRecord(1)),
+    (b"A\nIBM.*.X\n", ListFault::BadPattern(2)),
+    (b"A'B\n", ListFault::BadPattern(1)),
+    (b"\"\"\n", ListFault::BadPattern(1)),
+];
+
+#[test]
+fn a_list_has_its_first_fault(rt: HostRuntime) -> Result<(), Fail> {
+    let faulty: [(List, &[(&[u8], ListFault)]); 3] = [
+        (List::Zone, &FAULTY_ROWS),
+        (List::Received, &FAULTY_RECEIVED),
+        (List::Patterns, &FAULTY_PATTERNS),
+    ];
+    for (list, rows) in faulty {
+        for (records, fault) in rows {
+            let text = repeated(rt.alloc(), header(list), records, 1)?;
+            let told = count_of(rt.alloc(), list, &text);
+            assert_equal_at((list, records), told, Err(*fault))?;
+        }
+    }
+    Ok(())
 }
 
 #[test]
@@ -165,14 +168,14 @@ fn patterns_ascend_by_their_bytes(rt: HostRuntime) -> Result<(), Fail> {
 
 #[test]
 fn lists_are_long_up_to_their_limits(rt: HostRuntime) -> Result<(), Fail> {
-    // header, record, and how many there are at the most
-    let rows: [(List, &[u8], &[u8], u32); 3] = [
-        (List::Zone, b"SYSMOD,STATE\n", b"UA10001,APPLIED\n", 40_000),
-        (List::Received, b"SYSMOD\n", b"UA10001\n", 20_000),
-        (List::Patterns, b"CATEGORY\n", b"IBM.Device.*\n", 64),
+    // a record, and how many there are at the most
+    let rows: [(List, &[u8], u32); 3] = [
+        (List::Zone, b"UA10001,APPLIED\n", 40_000),
+        (List::Received, b"UA10001\n", 20_000),
+        (List::Patterns, b"IBM.Device.*\n", 64),
     ];
-    for (list, header, record, most) in rows {
-        let mut text = repeated(rt.alloc(), header, record, most)?;
+    for (list, record, most) in rows {
+        let mut text = repeated(rt.alloc(), header(list), record, most)?;
         assert_equal_at(list, count_of(rt.alloc(), list, &text), Ok(1))?;
         text.extend_from_slice(record)?;
         assert_equal_at(
