@@ -2,6 +2,7 @@
 mod catalogue_tests;
 mod chain_cache_tests;
 mod chains_tests;
+mod content;
 mod print;
 mod reports_tests;
 mod requisites_tests;

@@ -1,5 +1,6 @@
 //! What statements publish, what a publication leaves and touches, and that each call succeeds where there is
 //! memory.
+use super::content::{changes_of, publish};
 use catalogue::{
     Change, ChangeReader, CondNeed, CondNeeds, Ids, ListPublished, Published, Sysmod, SysmodKind,
     read_changes, touched,
@@ -7,6 +8,7 @@ use catalogue::{
 use holddata::{HoldChange, HoldKey};
 use mcs_reader::{Id, read};
 use std::alloc::Global;
+use std::fmt::Write;
 use std::test::Fail;
 use testing::{BASE, assert_equal, assert_equal_at};
 
@@ -21,14 +23,10 @@ const AGAIN: &[u8] = b"++PTF(UA10002).\n++VER(Z038) FMID(HBB7790).\n";
 // The error of the first PTF is no more.
 const RELEASED: &[u8] = b"++RELEASE(UA10001) ERROR REASON(AA20002).\n";
 
-fn changes_of(alloc: Global, source: &[u8]) -> Result<Vec<Change>, Fail> {
-    Ok(read_changes(alloc, &read(alloc, source)?)?)
-}
-
 fn published(alloc: Global, sources: &[&[u8]]) -> Result<ListPublished, Fail> {
     let mut lists = ListPublished::new(alloc);
     for source in sources {
-        lists.publish(&changes_of(alloc, source)?)?;
+        publish(alloc, &mut lists, source)?;
     }
     Ok(lists)
 }
@@ -258,25 +256,22 @@ fn a_publication_touches_what_it_may_change(rt: HostRuntime) -> Result<(), Fail>
 #[test]
 fn ids_are_made_of_lists_that_ascend(rt: HostRuntime) -> Result<(), Fail> {
     let alloc = rt.alloc();
-    let a = Id::new(b"A").ok_or("an id")?;
-    let b = Id::new(b"B").ok_or("an id")?;
-    let rows: [(&[Id], bool); 5] = [
-        (&[], true),
-        (&[b], true),
-        (&[a, b], true),
-        (&[b, a], false),
-        (&[a, a], false),
-    ];
-    for (list, ascends) in rows {
-        let ids = Ids::from_ascending(Vec::from_slice(alloc, list)?);
-        assert_equal(ids.is_some(), ascends)?;
-        if let Some(ids) = ids {
-            assert_equal(ids.copy()?.as_slice(), list)?;
-            assert_equal(ids.into_vec().as_slice(), list)?;
-        }
+    let (a, b) = (Id::new(b"A").ok_or("an id")?, Id::new(b"B").ok_or("an id")?);
+    let ascending: [&[Id]; 3] = [&[], &[b], &[a, b]];
+    for list in ascending {
+        let ids = ids_from(alloc, list)?.ok_or("it ascends")?;
+        assert_equal(ids.copy()?.as_slice(), list)?;
+        assert_equal(ids.into_vec().as_slice(), list)?;
+    }
+    for list in [[b, a], [a, a]] {
+        assert!(rt; ids_from(alloc, &list)?.is_none());
     }
     assert!(rt; Ids::new(alloc).as_slice().is_empty());
     Ok(())
+}
+
+fn ids_from(alloc: Global, list: &[Id]) -> Result<Option<Ids>, Fail> {
+    Ok(Ids::from_ascending(Vec::from_slice(alloc, list)?))
 }
 
 #[test]
@@ -314,29 +309,38 @@ fn long_publications_are_read_and_published(rt: HostRuntime) -> Result<(), Fail>
 }
 
 fn vers_after_one_header(alloc: Global, rows: u32) -> Result<usize, Fail> {
-    let mut reader = taken(ChangeReader::new(alloc), alloc, b"++PTF(UA1).\n")?;
+    let mut source = String::from_str(alloc, "++PTF(UA1).\n")?;
     for i in 0..rows {
-        let ver = format!(in alloc; "++VER(Z038) PRE(P{i}) SUP(AA1).\n")?;
-        reader = taken(reader, alloc, ver.as_bytes())?;
+        write!(source, "++VER(Z038) PRE(P{i}) SUP(AA1).\n")?;
     }
-    let changes = reader.finish()?;
-    let Some(Change::Whole(sysmod)) = changes.first() else {
-        return Err(Fail::from("a record"));
-    };
-    Ok(sysmod.pre.as_slice().len())
+    Ok(one_record(alloc, source.as_bytes())?.pre.as_slice().len())
 }
 
 fn ifs_after_one_header(alloc: Global, rows: u32) -> Result<usize, Fail> {
-    let mut reader = taken(ChangeReader::new(alloc), alloc, b"++PTF(UA1).\n")?;
+    let mut source = String::from_str(alloc, "++PTF(UA1).\n")?;
     for i in 0..rows {
-        let condition = format!(in alloc; "++IF FMID(F{}) REQ(P{i}).\n", i % 7)?;
-        reader = taken(reader, alloc, condition.as_bytes())?;
+        write!(source, "++IF FMID(F{}) REQ(P{i}).\n", i % 7)?;
     }
-    let changes = reader.finish()?;
-    let Some(Change::Whole(sysmod)) = changes.first() else {
-        return Err(Fail::from("a record"));
-    };
-    Ok(sysmod.conds.as_slice().len())
+    Ok(one_record(alloc, source.as_bytes())?.conds.as_slice().len())
+}
+
+// The record that statements make, which are taken one at a time.
+fn one_record(alloc: Global, source: &[u8]) -> Result<Sysmod, Fail> {
+    let mut reader = ChangeReader::new(alloc);
+    for statement in &read(alloc, source)? {
+        reader = reader.take(statement)?;
+    }
+    match reader.finish()?.pop() {
+        Some(Change::Whole(sysmod)) => Ok(sysmod),
+        _ => Err("a record".into()),
+    }
+}
+
+// What such changes publish.
+fn published_by(alloc: Global, changes: &[Change]) -> Result<ListPublished, Fail> {
+    let mut lists = ListPublished::new(alloc);
+    lists.publish(changes)?;
+    Ok(lists)
 }
 
 fn one_again(alloc: Global, rows: u32) -> Result<String, Fail> {
@@ -344,8 +348,7 @@ fn one_again(alloc: Global, rows: u32) -> Result<String, Fail> {
     for i in 0..rows {
         changes.push(ptf(alloc, 1, rows - 1 - i)?)?;
     }
-    let mut lists = ListPublished::new(alloc);
-    lists.publish(&changes)?;
+    let mut lists = published_by(alloc, &changes)?;
     let sysmod = lists
         .sysmod(&Id::new(b"U1").ok_or("an id")?)?
         .ok_or("a record")?;
@@ -357,18 +360,9 @@ fn superseders_of_one(alloc: Global, rows: u32) -> Result<(usize, usize), Fail> 
     for i in 0..rows {
         changes.push(ptf(alloc, i, 1)?)?;
     }
-    let mut lists = ListPublished::new(alloc);
-    lists.publish(&changes)?;
+    let mut lists = published_by(alloc, &changes)?;
     let above = lists.superseders(&Id::new(b"S1").ok_or("an id")?)?.len();
     Ok((above, touched(alloc, &mut lists, &changes)?.len()))
-}
-
-fn taken(reader: ChangeReader, alloc: Global, source: &[u8]) -> Result<ChangeReader, Fail> {
-    let mut reader = reader;
-    for statement in &read(alloc, source)? {
-        reader = reader.take(statement)?;
-    }
-    Ok(reader)
 }
 
 // The PTF with one number, which supersedes that with another.
@@ -380,10 +374,7 @@ fn ptf(alloc: Global, number: u32, superseded: u32) -> Result<Change, Fail> {
         pre: Ids::new(alloc),
         req: Ids::new(alloc),
         conds: CondNeeds::new(alloc),
-        sup: Ids::from_ascending(Vec::from_slice(
-            alloc,
-            &[numbered(alloc, 'S', superseded)?],
-        )?).ok_or("it ascends")?,
+        sup: ids_from(alloc, &[numbered(alloc, 'S', superseded)?])?.ok_or("it ascends")?,
     }))
 }
 

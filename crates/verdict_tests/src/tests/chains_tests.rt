@@ -1,6 +1,6 @@
 //! Worked verdicts over lists, verdicts beside a plain slow body, and hard shapes at length.
 use super::print::verdict_text;
-use catalogue::{ListPublished, Published, SourceFault, read_changes};
+use catalogue::{ListPublished, SourceFault, read_changes};
 use chains::{Frame, Judge, Status, Verdict, Whole, frame, good, plan};
 use mcs_reader::{Id, read};
 use std::alloc::Global;
@@ -27,13 +27,13 @@ fn judged(alloc: Global, lists: &mut ListPublished, zone: &Zone, id: &Id) -> Res
 #[derive(Drop)]
 struct OneByOne;
 
-impl<P: Published> Judge<P> for OneByOne {
+impl Judge<ListPublished> for OneByOne {
     ghost is_right = { λ _ _. Unit {0} };
 
     fn verdict(
         &mut self,
         alloc: Global,
-        source: &mut P,
+        source: &mut ListPublished,
         zone: &Zone,
         id: &Id,
     ) -> Result<Verdict, SourceFault> {

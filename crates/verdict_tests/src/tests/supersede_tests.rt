@@ -1,20 +1,19 @@
 //! Look-ups in a zone, and what gives what.
-use catalogue::{ListPublished, read_changes};
-use mcs_reader::{Id, read};
+use super::content::published;
+use super::print::{id_of, zone_of};
+use mcs_reader::Id;
 use std::alloc::Global;
 use std::fmt::Write;
 use std::test::Fail;
-use supersede::{Zone, givers, there};
+use supersede::{givers, there};
 use testing::assert_equal_at;
-use zone_lists::zone_rows;
 
 mod largest;
 
 #[test]
 fn a_zone_tells_its_sysmods(rt: HostRuntime) -> Result<(), Fail> {
     let text = b"SYSMOD,STATE\nUA10001,APPLIED\nHBB7790,ACCEPTED\nUA10002,SUPERSEDED\n";
-    let rows = zone_rows(rt.alloc(), text)?;
-    let zone = Zone::new(rt.alloc(), &rows)?;
+    let zone = zone_of(rt.alloc(), text)?;
     let sysmods: [(&[u8], bool, bool); 5] = [
         (b"UA10001", true, true),
         (b"HBB7790", true, true),
@@ -23,52 +22,49 @@ fn a_zone_tells_its_sysmods(rt: HostRuntime) -> Result<(), Fail> {
         (b"A", false, false),
     ];
     for (id, listed, installed) in sysmods {
-        let id = Id::new(id).ok_or("an id")?;
+        let id = id_of(id)?;
         assert_equal_at(("listed", id), zone.listed(&id), listed)?;
         assert_equal_at(("installed", id), zone.installed(&id), installed)?;
     }
-    let none = zone_rows(rt.alloc(), b"SYSMOD,STATE\n")?;
-    let empty = Zone::new(rt.alloc(), &none)?;
-    assert!(rt; !empty.listed(&Id::new(b"UA10001").ok_or("an id")?));
+    let empty = zone_of(rt.alloc(), b"SYSMOD,STATE\n")?;
+    assert!(rt; !empty.listed(&id_of(b"UA10001")?));
     Ok(())
 }
 
 #[test]
 fn a_sysmod_is_there_by_itself_or_by_an_installed_giver(rt: HostRuntime) -> Result<(), Fail> {
-    let text = b"SYSMOD,STATE\nUA10001,APPLIED\nUA10002,SUPERSEDED\n";
-    let rows = zone_rows(rt.alloc(), text)?;
-    let zone = Zone::new(rt.alloc(), &rows)?;
-    let applied = Id::new(b"UA10001").ok_or("an id")?;
-    let superseded = Id::new(b"UA10002").ok_or("an id")?;
-    let reason = Id::new(b"AA20002").ok_or("an id")?;
-    assert!(rt;
-        there(&zone, &superseded, &[]),
-        "{:?}",
-        "listed, in any state"
-    );
-    assert!(rt;
-        !there(&zone, &reason, &[]),
-        "{:?}",
-        "neither listed nor given"
-    );
-    assert!(rt;
-        there(&zone, &reason, &[superseded, applied]),
-        "{:?}",
-        "given by one that is installed"
-    );
-    assert!(rt;
-        !there(&zone, &reason, &[superseded]),
-        "{:?}",
-        "given by one that is superseded"
-    );
+    let zone = zone_of(
+        rt.alloc(),
+        b"SYSMOD,STATE\nUA10001,APPLIED\nUA10002,SUPERSEDED\n",
+    )?;
+    let (applied, superseded) = (id_of(b"UA10001")?, id_of(b"UA10002")?);
+    let reason = id_of(b"AA20002")?;
+    let cases: [(&str, Id, &[Id], bool); 4] = [
+        ("listed, in any state", superseded, &[], true),
+        ("neither listed nor given", reason, &[], false),
+        (
+            "given by one that is installed",
+            reason,
+            &[superseded, applied],
+            true,
+        ),
+        (
+            "given by one that is superseded",
+            reason,
+            &[superseded],
+            false,
+        ),
+    ];
+    for (what, id, givers, is_there) in cases {
+        assert_equal_at(what, there(&zone, &id, givers), is_there)?;
+    }
     Ok(())
 }
 
 // The SYSMODs that give an id, in print.
 fn givers_of(alloc: Global, source: &[u8], id: &str) -> Result<String, Fail> {
-    let mut lists = ListPublished::new(alloc);
-    lists.publish(&read_changes(alloc, &read(alloc, source)?)?)?;
-    let id = Id::new(id.as_bytes()).ok_or("an id")?;
+    let mut lists = published(alloc, source)?;
+    let id = id_of(id.as_bytes())?;
     let mut text = String::new(alloc);
     for giver in givers(alloc, &mut lists, &id)? {
         text.push_str(giver.text())?;

@@ -1,0 +1,22 @@
+//! Content that statements publish.
+use catalogue::{Change, ListPublished, read_changes};
+use mcs_reader::read;
+use std::alloc::Global;
+use std::test::Fail;
+
+/// The changes that statements make.
+pub(crate) fn changes_of(alloc: Global, source: &[u8]) -> Result<Vec<Change>, Fail> {
+    Ok(read_changes(alloc, &read(alloc, source)?)?)
+}
+
+/// Publishes statements.
+pub(crate) fn publish(alloc: Global, lists: &mut ListPublished, source: &[u8]) -> Result<(), Fail> {
+    Ok(lists.publish(&changes_of(alloc, source)?)?)
+}
+
+/// What statements publish.
+pub(crate) fn published(alloc: Global, source: &[u8]) -> Result<ListPublished, Fail> {
+    let mut lists = ListPublished::new(alloc);
+    publish(alloc, &mut lists, source)?;
+    Ok(lists)
+}
