@@ -9,6 +9,7 @@
 //! - [`Pieces`] and [`Slow`]: a reader and a writer of a piece at a time, whose calls fail as [`Failures`] says
 //! - [`Draws`]: numbers that are drawn, the same at each run
 //! - [`BASE`]: statements that publish three SYSMODs and a hold, and what is told of them
+//! - [`with_base`]: these statements, and more after them
 //!
 //! ```
 //! use testing::{assert_equal, assert_equal_at};
@@ -19,6 +20,7 @@
 //! ```
 #![tactic(auto)]
 
+mod base;
 mod comparing;
 mod draws;
 mod failures;
@@ -26,6 +28,7 @@ mod reader;
 mod sample;
 mod writer;
 
+pub use base::with_base;
 pub use comparing::{assert_equal, assert_equal_at};
 pub use draws::Draws;
 pub use failures::Failures;

@@ -15,15 +15,12 @@ fn found_one(rows: usize, text: &'static str) -> Result<(), Fail> {
     None.ok_or(text)?
 }
 
-fn write_each(
+fn write_one(
     conn: &mut Connection<MemStore>,
-    texts: &[&'static str],
+    text: &'static str,
     values: &[ValueRef<'_>],
 ) -> Result<(), Fail> {
-    for text in texts {
-        found_one(conn.execute(text, values)?, text)?;
-    }
-    Ok(())
+    found_one(conn.execute(text, values)?, text)
 }
 
 fn read_each(
@@ -38,34 +35,23 @@ fn read_each(
 }
 
 fn fill(conn: &mut Connection<MemStore>) -> Result<(), Fail> {
-    write_each(conn, &[write::insert_version()], &[])?;
-    write_each(conn, &[write::insert_caller()], &[ALPHA, TOKEN])?;
-    write_each(
+    let reply = ValueRef::Blob(b"OK");
+    let no_date = ValueRef::Int(-1);
+    let hold = [FIX, ZERO, FIXED, BASE, NOTHING, no_date, NOTHING, NOTHING];
+    write_one(conn, write::insert_version(), &[])?;
+    write_one(conn, write::insert_caller(), &[ALPHA, TOKEN])?;
+    write_one(conn, write::insert_last_change(), &[ALPHA, ONE, reply])?;
+    write_one(
         conn,
-        &[write::insert_last_change()],
-        &[ALPHA, ONE, ValueRef::Blob(b"OK")],
-    )?;
-    write_each(
-        conn,
-        &[write::insert_sysmod()],
+        write::insert_sysmod(),
         &[FIX, ONE, BASE, NOTHING, NOTHING],
     )?;
-    write_each(conn, &[write::insert_sysmod_sup()], &[FIX, FIXED])?;
-    write_each(conn, &[write::insert_sysmod_cond()], &[FIX, BASE, FIXED])?;
-    let hold = [
-        FIX,
-        ZERO,
-        FIXED,
-        BASE,
-        NOTHING,
-        ValueRef::Int(-1),
-        NOTHING,
-        NOTHING,
-    ];
-    write_each(conn, &[write::insert_hold_row()], &hold)?;
-    write_each(conn, &[write::insert_zone_head()], &[ALPHA, ZONE, NOTHING])?;
-    write_each(conn, &[write::insert_zone_row()], &[ALPHA, ZONE, FIX, ZERO])?;
-    write_each(conn, &[write::insert_received_list()], &[ALPHA, FIX])
+    write_one(conn, write::insert_sysmod_sup(), &[FIX, FIXED])?;
+    write_one(conn, write::insert_sysmod_cond(), &[FIX, BASE, FIXED])?;
+    write_one(conn, write::insert_hold_row(), &hold)?;
+    write_one(conn, write::insert_zone_head(), &[ALPHA, ZONE, NOTHING])?;
+    write_one(conn, write::insert_zone_row(), &[ALPHA, ZONE, FIX, ZERO])?;
+    write_one(conn, write::insert_received_list(), &[ALPHA, FIX])
 }
 
 fn look(conn: &mut Connection<MemStore>) -> Result<(), Fail> {
@@ -100,27 +86,15 @@ fn look(conn: &mut Connection<MemStore>) -> Result<(), Fail> {
 }
 
 fn clear(conn: &mut Connection<MemStore>) -> Result<(), Fail> {
-    write_each(conn, &[write::delete_version()], &[])?;
-    write_each(
-        conn,
-        &[
-            write::delete_sysmod(),
-            write::delete_superseded(),
-            write::delete_conditional(),
-        ],
-        &[FIX],
-    )?;
-    write_each(conn, &[write::delete_hold()], &[FIX, ZERO, FIXED])?;
-    write_each(
-        conn,
-        &[write::delete_zone_head(), write::delete_zone_rows()],
-        &[ALPHA, ZONE],
-    )?;
-    write_each(
-        conn,
-        &[write::delete_last_change(), write::delete_received()],
-        &[ALPHA],
-    )
+    write_one(conn, write::delete_version(), &[])?;
+    write_one(conn, write::delete_sysmod(), &[FIX])?;
+    write_one(conn, write::delete_superseded(), &[FIX])?;
+    write_one(conn, write::delete_conditional(), &[FIX])?;
+    write_one(conn, write::delete_hold(), &[FIX, ZERO, FIXED])?;
+    write_one(conn, write::delete_zone_head(), &[ALPHA, ZONE])?;
+    write_one(conn, write::delete_zone_rows(), &[ALPHA, ZONE])?;
+    write_one(conn, write::delete_last_change(), &[ALPHA])?;
+    write_one(conn, write::delete_received(), &[ALPHA])
 }
 
 #[test]

@@ -72,88 +72,33 @@ fn zone_name() -> Result<Id, Fail> {
     Ok(Id::new(b"TGT1").ok_or("a zone")?)
 }
 
-fn zone_is_put(
-    alloc: Global,
-    tx: &mut Transaction<'_, MemStore>,
-    number: u32,
-    text: &[u8],
-) -> Result<(), Fail> {
-    let (alpha, zone) = (client(b"ALPHA")?, zone_name()?);
-    let rows = zone_rows(alloc, text)?;
-    put_zone(
-        alloc,
-        tx,
-        &alpha,
-        u64::from(number),
-        b"OK",
-        &zone,
-        rows.as_slice(),
-    )?;
-    Ok(())
-}
-
-fn zone_is_dropped(tx: &mut Transaction<'_, MemStore>, number: u32) -> Result<(), Fail> {
-    let (alpha, zone) = (client(b"ALPHA")?, zone_name()?);
-    drop_zone(tx, &alpha, u64::from(number), b"OK", &zone)?;
-    Ok(())
-}
-
-fn list_is_put(
-    alloc: Global,
-    tx: &mut Transaction<'_, MemStore>,
-    number: u32,
-    text: &[u8],
-) -> Result<(), Fail> {
-    let alpha = client(b"ALPHA")?;
-    let ids = received_rows(alloc, text)?;
-    put_received(alloc, tx, &alpha, u64::from(number), b"OK", ids.as_slice())?;
-    Ok(())
-}
-
-fn patterns_are_put(
-    alloc: Global,
-    tx: &mut Transaction<'_, MemStore>,
-    number: u32,
-    text: &[u8],
-) -> Result<(), Fail> {
-    let (alpha, zone) = (client(b"ALPHA")?, zone_name()?);
-    let asked = patterns(alloc, text)?;
-    put_patterns(
-        alloc,
-        tx,
-        &alpha,
-        u64::from(number),
-        b"OK",
-        &zone,
-        asked.as_slice(),
-    )?;
-    Ok(())
-}
-
-fn is_published(
-    alloc: Global,
-    tx: &mut Transaction<'_, MemStore>,
-    number: u32,
-    text: &[u8],
-) -> Result<(), Fail> {
-    let changes = read_changes(alloc, &read(alloc, text)?)?;
-    publish(alloc, tx, u64::from(number), b"OK", changes.as_slice())?;
-    Ok(())
-}
-
 fn make(
     alloc: Global,
     tx: &mut Transaction<'_, MemStore>,
     number: u32,
     put: &Put<'_>,
 ) -> Result<(), Fail> {
+    let (alpha, zone, number) = (client(b"ALPHA")?, zone_name()?, u64::from(number));
     match put {
-        Put::Zone(text) => zone_is_put(alloc, tx, number, text),
-        Put::Drop => zone_is_dropped(tx, number),
-        Put::Received(text) => list_is_put(alloc, tx, number, text),
-        Put::Patterns(text) => patterns_are_put(alloc, tx, number, text),
-        Put::Publication(text) => is_published(alloc, tx, number, text),
+        Put::Zone(text) => {
+            let rows = zone_rows(alloc, text)?;
+            put_zone(alloc, tx, &alpha, number, b"OK", &zone, &rows)?;
+        }
+        Put::Drop => drop_zone(tx, &alpha, number, b"OK", &zone)?,
+        Put::Received(text) => {
+            let ids = received_rows(alloc, text)?;
+            put_received(alloc, tx, &alpha, number, b"OK", &ids)?;
+        }
+        Put::Patterns(text) => {
+            let asked = patterns(alloc, text)?;
+            put_patterns(alloc, tx, &alpha, number, b"OK", &zone, &asked)?;
+        }
+        Put::Publication(text) => {
+            let changes = read_changes(alloc, &read(alloc, text)?)?;
+            publish(alloc, tx, number, b"OK", &changes)?;
+        }
     }
+    Ok(())
 }
 
 // A change, in a transaction of its own.
