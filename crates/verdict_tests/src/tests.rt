@@ -6,4 +6,5 @@ mod content;
 mod print;
 mod reports_tests;
 mod requisites_tests;
+mod sequence;
 mod supersede_tests;

@@ -6,19 +6,13 @@ use holddata::Kind;
 use mcs_reader::{Id, read};
 use std::alloc::Global;
 use std::test::Fail;
-use testing::{assert_equal, assert_equal_at};
+use testing::{assert_equal, assert_equal_at, with_base};
 use zone_lists::{patterns, received_rows, zone_rows};
 
 const CALLERS: &[u8] = b"NAME,TOKEN\nPUBLISH,publish-token\nBETA,beta-token\nALPHA,alpha-token\n";
 
-const BASE: &[u8] = b"++FUNCTION(HBB7790).\n\
-++VER(Z038).\n\
-++PTF(UA10001).\n\
-++VER(Z038) FMID(HBB7790).\n\
-++PTF(UA10002).\n\
-++VER(Z038) FMID(HBB7790) PRE(UA10001) SUP(AA20002).\n\
-++HOLD(UA10001) ERROR FMID(HBB7790) REASON(AA20002).\n\
-++HOLD(HBB7790) SYSTEM REASON(ACTION).\n";
+// What is published after the base.
+const SYSTEM_HOLD: &[u8] = b"++HOLD(HBB7790) SYSTEM REASON(ACTION).\n";
 
 fn id(text: &[u8]) -> Result<Id, Fail> {
     Ok(Id::new(text).ok_or("an id")?)
@@ -59,31 +53,35 @@ fn names_of(alloc: Global, rows: &[CallerRow]) -> Result<String, Fail> {
 
 #[test]
 fn a_callers_file_has_its_first_fault(rt: HostRuntime) -> Result<(), Fail> {
-    let faulty: [(&[u8], &str); 9] = [
-        (b"", "FAULT 46\n"),
-        (b"NAME\n", "FAULT 46\n"),
-        (b"NAME,TOKEN\n", "FAULT 48\n"),
-        (b"NAME,TOKEN\nALPHA,alpha-token\n", "FAULT 48\n"),
-        (b"NAME,TOKEN\nPUBLISH,1234567\n", "FAULT 47 1\n"),
+    let faulty: [(&str, &[&[u8]]); 4] = [
+        ("FAULT 46\n", &[b"", b"NAME\n"]),
         (
-            b"NAME,TOKEN\nPUBLISH,12345678\nalpha,alpha-token\n",
-            "FAULT 47 2\n",
+            "FAULT 48\n",
+            &[b"NAME,TOKEN\n", b"NAME,TOKEN\nALPHA,alpha-token\n"],
         ),
         (
-            b"NAME,TOKEN\nPUBLISH,12345678\nALPHA,12345678\n",
-            "FAULT 47 2\n",
+            "FAULT 47 1\n",
+            &[
+                b"NAME,TOKEN\nPUBLISH,1234567\n",
+                b"NAME,TOKEN\nPUBLISH,1234,5678\n",
+            ],
         ),
         (
-            b"NAME,TOKEN\nPUBLISH,12345678\nPUBLISH,123456789\n",
             "FAULT 47 2\n",
+            &[
+                b"NAME,TOKEN\nPUBLISH,12345678\nalpha,alpha-token\n",
+                b"NAME,TOKEN\nPUBLISH,12345678\nALPHA,12345678\n",
+                b"NAME,TOKEN\nPUBLISH,12345678\nPUBLISH,123456789\n",
+            ],
         ),
-        (b"NAME,TOKEN\nPUBLISH,1234,5678\n", "FAULT 47 1\n"),
     ];
-    for (text, told) in faulty {
-        let Err(fault) = callers(rt.alloc(), text) else {
-            return Err(Fail::from("a fault is missed"));
-        };
-        assert_equal_at(told, fault_text(fault).as_str(), told)?;
+    for (told, texts) in faulty {
+        for text in texts {
+            let Err(fault) = callers(rt.alloc(), text) else {
+                return Err(Fail::from("a fault is missed"));
+            };
+            assert_equal_at(text, fault_text(fault).as_str(), told)?;
+        }
     }
     Ok(())
 }
@@ -111,11 +109,11 @@ fn ten_thousand_callers_are_read_and_no_more(rt: HostRuntime) -> Result<(), Fail
 
 // A change of a client's.
 #[derive(Clone, Copy)]
-enum Step {
-    Rows(&'static [u8], &'static [u8]),
-    Drop(&'static [u8]),
-    Received(&'static [u8]),
-    Patterns(&'static [u8], &'static [u8]),
+enum Step<'a> {
+    Rows(&'a [u8], &'a [u8]),
+    Drop(&'a [u8]),
+    Received(&'a [u8]),
+    Patterns(&'a [u8], &'a [u8]),
 }
 
 fn make(
@@ -123,49 +121,24 @@ fn make(
     store: &mut ListStore,
     client: &Id,
     number: u64,
-    step: Step,
+    step: Step<'_>,
 ) -> Result<(), Fail> {
     match step {
-        Step::Rows(zone, text) => put_rows(alloc, store, client, number, &id(zone)?, text),
-        Step::Drop(zone) => Ok(store.drop_zone(client, number, b"dropped", &id(zone)?)?),
-        Step::Received(text) => put_received(alloc, store, client, number, text),
-        Step::Patterns(zone, text) => put_patterns(alloc, store, client, number, &id(zone)?, text),
+        Step::Rows(zone, text) => {
+            let rows = zone_rows(alloc, text)?;
+            store.put_zone(client, number, b"zone", &id(zone)?, &rows)?;
+        }
+        Step::Drop(zone) => store.drop_zone(client, number, b"dropped", &id(zone)?)?,
+        Step::Received(text) => {
+            let ids = received_rows(alloc, text)?;
+            store.put_received(client, number, b"received", &ids)?;
+        }
+        Step::Patterns(zone, text) => {
+            let wanted = patterns(alloc, text)?;
+            store.put_patterns(client, number, b"patterns", &id(zone)?, &wanted)?;
+        }
     }
-}
-
-fn put_rows(
-    alloc: Global,
-    store: &mut ListStore,
-    client: &Id,
-    number: u64,
-    zone: &Id,
-    text: &[u8],
-) -> Result<(), Fail> {
-    let rows = zone_rows(alloc, text)?;
-    Ok(store.put_zone(client, number, b"zone", zone, &rows)?)
-}
-
-fn put_received(
-    alloc: Global,
-    store: &mut ListStore,
-    client: &Id,
-    number: u64,
-    text: &[u8],
-) -> Result<(), Fail> {
-    let ids = received_rows(alloc, text)?;
-    Ok(store.put_received(client, number, b"received", &ids)?)
-}
-
-fn put_patterns(
-    alloc: Global,
-    store: &mut ListStore,
-    client: &Id,
-    number: u64,
-    zone: &Id,
-    text: &[u8],
-) -> Result<(), Fail> {
-    let wanted = patterns(alloc, text)?;
-    Ok(store.put_patterns(client, number, b"patterns", zone, &wanted)?)
+    Ok(())
 }
 
 // What the store tells of a client.
@@ -210,80 +183,54 @@ fn put_zone_text(
     Ok(())
 }
 
+// The changes of ALPHA, and after each what the store tells of it.
+const OF_ALPHA: [(Step<'static>, &str); 8] = [
+    (
+        Step::Rows(b"TGT1", b"SYSMOD,STATE\nUA10001,APPLIED\nHBB7790,APPLIED\n"),
+        "1 zone; TGT1 2: HBB7790 UA10001; received",
+    ),
+    (
+        Step::Patterns(b"TGT1", b"CATEGORY\nibm.device.*\n"),
+        "2 patterns; TGT1 2: HBB7790 UA10001 *ibm.device.*; received",
+    ),
+    (
+        Step::Rows(b"TGT1", b"SYSMOD,STATE\nUA10002,APPLIED\n"),
+        "3 zone; TGT1 1: UA10002 *ibm.device.*; received",
+    ),
+    (
+        Step::Received(b"SYSMOD\nUA2\nUA1\n"),
+        "4 received; TGT1 1: UA10002 *ibm.device.*; received UA1 UA2",
+    ),
+    (
+        Step::Rows(b"DLB1", b"SYSMOD,STATE\n"),
+        "5 zone; DLB1 0:; TGT1 1: UA10002 *ibm.device.*; received UA1 UA2",
+    ),
+    (Step::Drop(b"TGT1"), "6 dropped; DLB1 0:; received UA1 UA2"),
+    (
+        Step::Rows(b"TGT1", b"SYSMOD,STATE\n"),
+        "7 zone; DLB1 0:; TGT1 0:; received UA1 UA2",
+    ),
+    (
+        Step::Received(b"SYSMOD\n"),
+        "8 received; DLB1 0:; TGT1 0:; received",
+    ),
+];
+
 #[test]
 fn each_client_has_what_it_put(rt: HostRuntime) -> Result<(), Fail> {
     let alloc = rt.alloc();
     let mut store = opened(alloc)?;
-    let alpha = id(b"ALPHA")?;
-    let beta = id(b"BETA")?;
-    let steps: [(&Id, u64, Step, &str); 9] = [
-        (
-            &alpha,
-            1,
-            Step::Rows(b"TGT1", b"SYSMOD,STATE\nUA10001,APPLIED\nHBB7790,APPLIED\n"),
-            "1 zone; TGT1 2: HBB7790 UA10001; received",
-        ),
-        (
-            &beta,
-            1,
-            Step::Rows(b"TGT1", b"SYSMOD,STATE\nHBB7790,APPLIED\n"),
-            "1 zone; TGT1 1: HBB7790; received",
-        ),
-        (
-            &alpha,
-            2,
-            Step::Patterns(b"TGT1", b"CATEGORY\nibm.device.*\n"),
-            "2 patterns; TGT1 2: HBB7790 UA10001 *ibm.device.*; received",
-        ),
-        (
-            &alpha,
-            3,
-            Step::Rows(b"TGT1", b"SYSMOD,STATE\nUA10002,APPLIED\n"),
-            "3 zone; TGT1 1: UA10002 *ibm.device.*; received",
-        ),
-        (
-            &alpha,
-            4,
-            Step::Received(b"SYSMOD\nUA2\nUA1\n"),
-            "4 received; TGT1 1: UA10002 *ibm.device.*; received UA1 UA2",
-        ),
-        (
-            &alpha,
-            5,
-            Step::Rows(b"DLB1", b"SYSMOD,STATE\n"),
-            "5 zone; DLB1 0:; TGT1 1: UA10002 *ibm.device.*; received UA1 UA2",
-        ),
-        (
-            &alpha,
-            6,
-            Step::Drop(b"TGT1"),
-            "6 dropped; DLB1 0:; received UA1 UA2",
-        ),
-        (
-            &alpha,
-            7,
-            Step::Rows(b"TGT1", b"SYSMOD,STATE\n"),
-            "7 zone; DLB1 0:; TGT1 0:; received UA1 UA2",
-        ),
-        (
-            &alpha,
-            8,
-            Step::Received(b"SYSMOD\n"),
-            "8 received; DLB1 0:; TGT1 0:; received",
-        ),
-    ];
-    for (client, number, step, text) in steps {
-        make(alloc, &mut store, client, number, step)?;
-        assert_equal(told(alloc, &mut store, client)?.as_str(), text)?;
+    let (alpha, beta, gamma) = (id(b"ALPHA")?, id(b"BETA")?, id(b"GAMMA")?);
+    let step = Step::Rows(b"TGT1", b"SYSMOD,STATE\nHBB7790,APPLIED\n");
+    let of_beta = "1 zone; TGT1 1: HBB7790; received";
+    make(alloc, &mut store, &beta, 1, step)?;
+    assert_equal(told(alloc, &mut store, &beta)?.as_str(), of_beta)?;
+    for (number, (step, text)) in (1..9u64).zip(OF_ALPHA) {
+        make(alloc, &mut store, &alpha, number, step)?;
+        assert_equal(told(alloc, &mut store, &alpha)?.as_str(), text)?;
     }
-    assert_equal(
-        told(alloc, &mut store, &beta)?.as_str(),
-        "1 zone; TGT1 1: HBB7790; received",
-    )?;
-    assert_equal(
-        told(alloc, &mut store, &id(b"GAMMA")?)?.as_str(),
-        "0 ; received",
-    )
+    assert_equal(told(alloc, &mut store, &beta)?.as_str(), of_beta)?;
+    assert_equal(told(alloc, &mut store, &gamma)?.as_str(), "0 ; received")
 }
 
 // ---- many clients
@@ -299,9 +246,16 @@ fn client_at(alloc: Global, i: u32) -> Result<Id, Fail> {
 fn put_own(alloc: Global, store: &mut ListStore, i: u32) -> Result<(), Fail> {
     let client = client_at(alloc, i)?;
     let rows = format!(in alloc; "SYSMOD,STATE\nUA{i:05},APPLIED\n")?;
-    put_rows(alloc, store, &client, 1, &id(b"TGT1")?, rows.as_bytes())?;
+    let zone = Step::Rows(b"TGT1", rows.as_bytes());
+    make(alloc, store, &client, 1, zone)?;
     let received = format!(in alloc; "SYSMOD\nUB{i:05}\n")?;
-    put_received(alloc, store, &client, 2, received.as_bytes())
+    make(
+        alloc,
+        store,
+        &client,
+        2,
+        Step::Received(received.as_bytes()),
+    )
 }
 
 // Whether a client drops its zone.
@@ -354,9 +308,11 @@ fn callers_are_known_by_their_tokens(rt: HostRuntime) -> Result<(), Fail> {
     Ok(())
 }
 
-fn publish(alloc: Global, store: &mut ListStore, number: u64, source: &[u8]) -> Result<(), Fail> {
-    let changes = read_changes(alloc, &read(alloc, source)?)?;
-    Ok(store.publish(number, b"published", &changes)?)
+// Publishes the base, and a hold of the function.
+fn publish(alloc: Global, store: &mut ListStore) -> Result<(), Fail> {
+    let source = with_base(alloc, SYSTEM_HOLD)?;
+    let changes = read_changes(alloc, &read(alloc, &source)?)?;
+    Ok(store.publish(1, b"published", &changes)?)
 }
 
 // How many holds of a kind the reports on a zone begin with.
@@ -379,7 +335,7 @@ fn what_is_published_is_all_clients(rt: HostRuntime) -> Result<(), Fail> {
         ),
     )?;
     assert_equal(store.counts()?, (0, 0))?;
-    publish(alloc, &mut store, 1, BASE)?;
+    publish(alloc, &mut store)?;
     assert_equal(store.counts()?, (3, 2))?;
     let mut last = String::new(alloc);
     put_last(alloc, &mut last, &mut store, &Caller::Publisher)?;
@@ -397,7 +353,7 @@ fn what_is_published_is_all_clients(rt: HostRuntime) -> Result<(), Fail> {
 fn a_store_is_a_source_of_what_is_published(rt: HostRuntime) -> Result<(), Fail> {
     let alloc = rt.alloc();
     let mut store = opened(alloc)?;
-    publish(alloc, &mut store, 1, BASE)?;
+    publish(alloc, &mut store)?;
     let mut text = String::new(alloc);
     put_ids(&mut text, &store.ids()?)?;
     put_ids(&mut text, &store.superseders(&id(b"AA20002")?)?)?;

@@ -76,6 +76,20 @@ fn fill(conn: &mut Connection<MemStore>) -> Result<(), Error> {
     put(conn, TableById::ReceivedList.insertion(), &[ALPHA, ids])
 }
 
+// A database with the callers, and what ALPHA has.
+fn filled(alloc: Global) -> Result<Connection<MemStore>, Error> {
+    let mut conn = of_version_2(alloc)?;
+    fill(&mut conn)?;
+    Ok(conn)
+}
+
+// A database with what is published.
+fn published(alloc: Global) -> Result<Connection<MemStore>, Error> {
+    let mut conn = of_version_2(alloc)?;
+    publish(&mut conn)?;
+    Ok(conn)
+}
+
 // The connection, with no transaction open, as each read asks.
 fn at_rest(conn: &mut Connection<MemStore>) -> Result<&mut Connection<MemStore>, ReadFault>
     ensures { IfOk result (λ conn. conn.now.in_transaction ≡ false) }
@@ -200,8 +214,7 @@ fn is_device<T: Drop>(answer: Result<T, ReadFault>) -> bool {
 #[test]
 fn callers_are_found_by_their_tokens(rt: HostRuntime) -> Result<(), Fail> {
     let alloc = rt.alloc();
-    let mut conn = of_version_2(alloc)?;
-    fill(&mut conn)?;
+    let mut conn = filled(alloc)?;
     let rows = [
         (
             b"alpha-token".as_slice(),
@@ -226,8 +239,7 @@ fn callers_are_found_by_their_tokens(rt: HostRuntime) -> Result<(), Fail> {
 #[test]
 fn a_client_finds_what_it_has(rt: HostRuntime) -> Result<(), Fail> {
     let alloc = rt.alloc();
-    let mut conn = of_version_2(alloc)?;
-    fill(&mut conn)?;
+    let mut conn = filled(alloc)?;
     publish(&mut conn)?;
     let target = id(b"TGT1")?;
     let clients = [
@@ -251,8 +263,7 @@ fn a_client_finds_what_it_has(rt: HostRuntime) -> Result<(), Fail> {
 #[test]
 fn what_is_published_is_found(rt: HostRuntime) -> Result<(), Fail> {
     let alloc = rt.alloc();
-    let mut conn = of_version_2(alloc)?;
-    publish(&mut conn)?;
+    let mut conn = published(alloc)?;
     assert_equal(all_ids(alloc, &mut conn)?, 1)?;
     assert!(rt; totals(&mut conn)? == (1, 2));
     let rows = [
@@ -271,8 +282,7 @@ fn what_is_published_is_found(rt: HostRuntime) -> Result<(), Fail> {
 #[test]
 fn requisites_under_a_condition_are_found_in_order(rt: HostRuntime) -> Result<(), Fail> {
     let alloc = rt.alloc();
-    let mut conn = of_version_2(alloc)?;
-    publish(&mut conn)?;
+    let mut conn = published(alloc)?;
     let found = conditional(alloc, &mut conn, &id(b"UA10002")?)?.ok_or("a record")?;
     let fmid = id(b"HBB7790")?;
     let pairs = [

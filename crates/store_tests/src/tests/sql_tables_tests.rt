@@ -16,15 +16,6 @@ fn row_of(conn: &mut Connection<MemStore>, select: &str) -> Result<Row, Error> {
     conn.query_row(select, &[])
 }
 
-fn is_hold(alloc: Global, row: &Row) -> Result<bool, NoMemory> {
-    Ok(hold_in(alloc, row)?.is_some())
-}
-
-fn is_sysmod(alloc: Global, row: &Row) -> Result<bool, NoMemory> {
-    let (conds, sup) = (CondNeeds::new(alloc), Ids::new(alloc));
-    Ok(sysmod_in(alloc, row, conds, sup)?.is_some())
-}
-
 #[test]
 fn lists_are_read_as_they_are_written(rt: HostRuntime) -> Result<(), Fail> {
     let alloc = rt.alloc();
@@ -46,51 +37,63 @@ fn lists_are_read_as_they_are_written(rt: HostRuntime) -> Result<(), Fail> {
     Ok(())
 }
 
-#[test]
-fn holds_are_read_and_nothing_else(rt: HostRuntime) -> Result<(), Fail> {
-    let alloc = rt.alloc();
-    let mut conn = Connection::open_in_memory(alloc)?;
-    let rows = [
-        (
-            "SELECT 'UA1', 0, 'AA2', 'HBB7790', 'PE', 12045, '', ''",
-            true,
-        ),
-        (
-            "SELECT 'UA1', 3, 'AA2', '', '', -1, 'UA3', 'IBM.A,IBM.B'",
-            true,
-        ),
-        ("SELECT 'UA1', 4, 'AA2', '', '', -1, '', ''", false),
-        ("SELECT 'ua1', 0, 'AA2', '', '', -1, '', ''", false),
-        ("SELECT 'UA1', 0, '', '', '', -1, '', ''", false),
-        ("SELECT 'UA1', 0, 'AA2', NULL, '', -1, '', ''", false),
-        ("SELECT 'UA1', 0, 'AA2', '', '', 12000, '', ''", false),
-        ("SELECT 'UA1', 0, 'AA2', '', '', -2, '', ''", false),
-        (
-            "SELECT 'UA1', 0, 'AA2', '', '', -1, '', 'IBM.B,IBM.A'",
-            false,
-        ),
-        ("SELECT 'UA1', 0, 'AA2', '', '', -1, ''", false),
-    ];
-    for (select, is) in rows {
-        let row = row_of(&mut conn, select)?;
-        assert_equal_at(select, is_hold(alloc, &row)?, is)?;
-    }
-    Ok(())
+// What a row is of.
+#[derive(Clone, Copy)]
+enum Of {
+    Hold,
+    Record,
 }
 
+// Whether a row is read.
+fn is_read(alloc: Global, of: Of, row: &Row) -> Result<bool, NoMemory> {
+    match of {
+        Of::Hold => Ok(hold_in(alloc, row)?.is_some()),
+        Of::Record => {
+            let (conds, sup) = (CondNeeds::new(alloc), Ids::new(alloc));
+            Ok(sysmod_in(alloc, row, conds, sup)?.is_some())
+        }
+    }
+}
+
+const HOLDS: [(&str, bool); 10] = [
+    (
+        "SELECT 'UA1', 0, 'AA2', 'HBB7790', 'PE', 12045, '', ''",
+        true,
+    ),
+    (
+        "SELECT 'UA1', 3, 'AA2', '', '', -1, 'UA3', 'IBM.A,IBM.B'",
+        true,
+    ),
+    ("SELECT 'UA1', 4, 'AA2', '', '', -1, '', ''", false),
+    ("SELECT 'ua1', 0, 'AA2', '', '', -1, '', ''", false),
+    ("SELECT 'UA1', 0, '', '', '', -1, '', ''", false),
+    ("SELECT 'UA1', 0, 'AA2', NULL, '', -1, '', ''", false),
+    ("SELECT 'UA1', 0, 'AA2', '', '', 12000, '', ''", false),
+    ("SELECT 'UA1', 0, 'AA2', '', '', -2, '', ''", false),
+    (
+        "SELECT 'UA1', 0, 'AA2', '', '', -1, '', 'IBM.B,IBM.A'",
+        false,
+    ),
+    ("SELECT 'UA1', 0, 'AA2', '', '', -1, ''", false),
+];
+
+const RECORDS: [(&str, bool); 4] = [
+    ("SELECT 'UA1', 1, 'HBB7790,HBB7791', '', 'UA2'", true),
+    ("SELECT 'UA1', 1, 'HBB7791,HBB7790', '', ''", false),
+    ("SELECT 'UA1', 4, '', '', ''", false),
+    ("SELECT 'UA1', 1, '', 'UA2,', ''", false),
+];
+
 #[test]
-fn records_are_read_and_nothing_else(rt: HostRuntime) -> Result<(), Fail> {
+fn holds_and_records_are_read_and_nothing_else(rt: HostRuntime) -> Result<(), Fail> {
     let alloc = rt.alloc();
     let mut conn = Connection::open_in_memory(alloc)?;
-    let rows = [
-        ("SELECT 'UA1', 1, 'HBB7790,HBB7791', '', 'UA2'", true),
-        ("SELECT 'UA1', 1, 'HBB7791,HBB7790', '', ''", false),
-        ("SELECT 'UA1', 4, '', '', ''", false),
-        ("SELECT 'UA1', 1, '', 'UA2,', ''", false),
-    ];
-    for (select, is) in rows {
-        let row = row_of(&mut conn, select)?;
-        assert_equal_at(select, is_sysmod(alloc, &row)?, is)?;
+    let tables: [(Of, &[(&str, bool)]); 2] = [(Of::Hold, &HOLDS), (Of::Record, &RECORDS)];
+    for (of, rows) in tables {
+        for (select, is) in rows {
+            let row = row_of(&mut conn, select)?;
+            assert_equal_at(select, is_read(alloc, of, &row)?, *is)?;
+        }
     }
     Ok(())
 }

@@ -16,15 +16,12 @@ fn found_one(rows: usize, text: &'static str) -> Result<(), Fail> {
     None.ok_or(text)?
 }
 
-fn write_each(
+fn write_one(
     conn: &mut Connection<MemStore>,
-    texts: &[&'static str],
+    text: &'static str,
     values: &[ValueRef<'_>],
 ) -> Result<(), Fail> {
-    for text in texts {
-        found_one(conn.execute(text, values)?, text)?;
-    }
-    Ok(())
+    found_one(conn.execute(text, values)?, text)
 }
 
 fn read_each(
@@ -39,46 +36,39 @@ fn read_each(
 }
 
 fn fill(conn: &mut Connection<MemStore>) -> Result<(), Fail> {
-    write_each(conn, &[write::insert_version()], &[])?;
-    write_each(conn, &[write::insert_caller()], &[ALPHA, TOKEN])?;
-    write_each(
+    let reply = ValueRef::Blob(b"OK");
+    let no_date = ValueRef::Int(-1);
+    let hold = [FIX, ZERO, FIXED, BASE, NOTHING, no_date, NOTHING, NOTHING];
+    write_one(conn, write::insert_version(), &[])?;
+    write_one(conn, write::insert_caller(), &[ALPHA, TOKEN])?;
+    write_one(
         conn,
-        &[TableById::LastChange.insertion()],
-        &[ALPHA, ONE, ValueRef::Blob(b"OK")],
+        TableById::LastChange.insertion(),
+        &[ALPHA, ONE, reply],
     )?;
-    write_each(
+    write_one(
         conn,
-        &[TableById::Sysmod.insertion()],
+        TableById::Sysmod.insertion(),
         &[FIX, ONE, BASE, NOTHING, NOTHING],
     )?;
-    write_each(conn, &[TableById::SysmodSup.insertion()], &[FIX, FIXED])?;
-    write_each(
+    write_one(conn, TableById::SysmodSup.insertion(), &[FIX, FIXED])?;
+    write_one(
         conn,
-        &[TableById::SysmodCond.insertion()],
+        TableById::SysmodCond.insertion(),
         &[FIX, BASE, FIXED],
     )?;
-    let hold = [
-        FIX,
-        ZERO,
-        FIXED,
-        BASE,
-        NOTHING,
-        ValueRef::Int(-1),
-        NOTHING,
-        NOTHING,
-    ];
-    write_each(conn, &[write::insert_hold_row()], &hold)?;
-    write_each(
+    write_one(conn, write::insert_hold_row(), &hold)?;
+    write_one(
         conn,
-        &[TableByZone::ZoneHead.insertion()],
+        TableByZone::ZoneHead.insertion(),
         &[ALPHA, ZONE, NOTHING],
     )?;
-    write_each(
+    write_one(
         conn,
-        &[TableByZone::ZoneRow.insertion()],
+        TableByZone::ZoneRow.insertion(),
         &[ALPHA, ZONE, FIX, ZERO],
     )?;
-    write_each(conn, &[TableById::ReceivedList.insertion()], &[ALPHA, FIX])
+    write_one(conn, TableById::ReceivedList.insertion(), &[ALPHA, FIX])
 }
 
 fn look(conn: &mut Connection<MemStore>) -> Result<(), Fail> {
@@ -113,33 +103,15 @@ fn look(conn: &mut Connection<MemStore>) -> Result<(), Fail> {
 }
 
 fn clear(conn: &mut Connection<MemStore>) -> Result<(), Fail> {
-    write_each(conn, &[write::delete_version()], &[])?;
-    write_each(
-        conn,
-        &[
-            TableById::Sysmod.deletion(),
-            TableById::SysmodSup.deletion(),
-            TableById::SysmodCond.deletion(),
-        ],
-        &[FIX],
-    )?;
-    write_each(conn, &[write::delete_hold()], &[FIX, ZERO, FIXED])?;
-    write_each(
-        conn,
-        &[
-            TableByZone::ZoneHead.deletion(),
-            TableByZone::ZoneRow.deletion(),
-        ],
-        &[ALPHA, ZONE],
-    )?;
-    write_each(
-        conn,
-        &[
-            TableById::LastChange.deletion(),
-            TableById::ReceivedList.deletion(),
-        ],
-        &[ALPHA],
-    )
+    write_one(conn, write::delete_version(), &[])?;
+    write_one(conn, TableById::Sysmod.deletion(), &[FIX])?;
+    write_one(conn, TableById::SysmodSup.deletion(), &[FIX])?;
+    write_one(conn, TableById::SysmodCond.deletion(), &[FIX])?;
+    write_one(conn, write::delete_hold(), &[FIX, ZERO, FIXED])?;
+    write_one(conn, TableByZone::ZoneHead.deletion(), &[ALPHA, ZONE])?;
+    write_one(conn, TableByZone::ZoneRow.deletion(), &[ALPHA, ZONE])?;
+    write_one(conn, TableById::LastChange.deletion(), &[ALPHA])?;
+    write_one(conn, TableById::ReceivedList.deletion(), &[ALPHA])
 }
 
 #[test]

@@ -1,24 +1,25 @@
 //! Worked verdicts over lists, verdicts beside a plain slow body, and hard shapes at length.
 use super::print::verdict_text;
-use catalogue::{ListPublished, SourceFault, read_changes};
+use catalogue::{ListPublished, SourceFault};
 use chains::{Frame, Judge, Status, Verdict, Whole, frame, good, plan};
-use mcs_reader::{Id, read};
+use mcs_reader::Id;
 use std::alloc::Global;
 use std::test::Fail;
 use supersede::Zone;
+use testing::{assert_equal, assert_equal_at};
 
 mod frames;
 mod random;
 mod rows;
 mod shapes;
 
-fn published(alloc: Global, source: &[u8]) -> Result<ListPublished, Fail> {
-    let mut lists = ListPublished::new(alloc);
-    lists.publish(&read_changes(alloc, &read(alloc, source)?)?)?;
-    Ok(lists)
-}
-
-fn judged(alloc: Global, lists: &mut ListPublished, zone: &Zone, id: &Id) -> Result<String, Fail> {
+/// The verdict over the whole catalogue, in print.
+pub(crate) fn judged(
+    alloc: Global,
+    lists: &mut ListPublished,
+    zone: &Zone,
+    id: &Id,
+) -> Result<String, Fail> {
     let verdict = Whole::new().verdict(alloc, lists, zone, id)?;
     verdict_text(alloc, &verdict)
 }
@@ -44,60 +45,56 @@ impl Judge<ListPublished> for OneByOne {
 }
 
 // Whether the statuses of ids, asked for together, are those of their verdicts.
-fn are_statuses(
+fn assert_statuses(
     alloc: Global,
     lists: &mut ListPublished,
     zone: &Zone,
     ids: &[Id],
-) -> Result<bool, Fail> {
+) -> Result<(), Fail> {
     let together = Whole::new().statuses(alloc, lists, zone, ids)?;
     let each = OneByOne.statuses(alloc, lists, zone, ids)?;
-    Ok(together.as_slice() == each.as_slice())
+    assert_equal(together.as_slice(), each.as_slice())
 }
 
-// The status of an id over the whole catalogue, if the verdict from a frame alone is the same.
+// The status of an id, whose verdict from a frame alone is that over the whole catalogue.
 fn status_by_both(
     alloc: Global,
     lists: &mut ListPublished,
     frame: &Frame,
     zone: &Zone,
     id: &Id,
-) -> Result<Option<Status>, Fail> {
+) -> Result<Status, Fail> {
     let whole = Whole::new().verdict(alloc, lists, zone, id)?;
     let planned = plan(alloc, frame, zone, id)?;
-    let is_same = verdict_text(alloc, &whole)? == verdict_text(alloc, &planned)?;
-    Ok(if is_same { Some(whole.status()) } else { None })
+    let (wanted, text) = (verdict_text(alloc, &whole)?, verdict_text(alloc, &planned)?);
+    assert_equal_at(*id, text.as_str(), wanted.as_str())?;
+    Ok(whole.status())
 }
 
-// The good ones among all that a frame has, unless a verdict from it is another than that over the whole catalogue.
+// The good ones among all that a frame has.
 fn good_by_both(
     alloc: Global,
     lists: &mut ListPublished,
     frame: &Frame,
     zone: &Zone,
-) -> Result<Option<Vec<Id>>, Fail> {
+) -> Result<Vec<Id>, Fail> {
     let mut those: Vec<Id> = Vec::new(alloc);
     for node in frame.nodes() {
-        match status_by_both(alloc, lists, frame, zone, &node.id)? {
-            Some(Status::Good) => those.push(node.id)?,
-            Some(_) => {}
-            None => return Ok(None),
+        if status_by_both(alloc, lists, frame, zone, &node.id)? == Status::Good {
+            those.push(node.id)?;
         }
     }
-    Ok(Some(those))
+    Ok(those)
 }
 
 // Whether the verdicts on all that an id reaches, from its frame alone, are those over the whole catalogue.
-fn is_as_whole(
+fn assert_as_whole(
     alloc: Global,
     lists: &mut ListPublished,
     zone: &Zone,
     id: &Id,
-) -> Result<bool, Fail> {
+) -> Result<(), Fail> {
     let frame = frame(alloc, lists, id)?;
-    let good = good(alloc, &frame, zone)?;
-    match good_by_both(alloc, lists, &frame, zone)? {
-        Some(those) => Ok(good.as_slice() == those.as_slice()),
-        None => Ok(false),
-    }
+    let those = good_by_both(alloc, lists, &frame, zone)?;
+    assert_equal_at(*id, good(alloc, &frame, zone)?.as_slice(), those.as_slice())
 }

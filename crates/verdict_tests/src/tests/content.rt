@@ -3,6 +3,7 @@ use catalogue::{Change, ListPublished, read_changes};
 use mcs_reader::read;
 use std::alloc::Global;
 use std::test::Fail;
+use testing::with_base;
 
 /// The changes that statements make.
 pub(crate) fn changes_of(alloc: Global, source: &[u8]) -> Result<Vec<Change>, Fail> {
@@ -19,4 +20,9 @@ pub(crate) fn published(alloc: Global, source: &[u8]) -> Result<ListPublished, F
     let mut lists = ListPublished::new(alloc);
     publish(alloc, &mut lists, source)?;
     Ok(lists)
+}
+
+/// What the statements of the worked case publish, and more after them.
+pub(crate) fn published_with_base(alloc: Global, more: &[u8]) -> Result<ListPublished, Fail> {
+    published(alloc, &with_base(alloc, more)?)
 }

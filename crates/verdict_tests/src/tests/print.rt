@@ -34,3 +34,8 @@ pub(crate) fn verdict_text(alloc: Global, verdict: &Verdict) -> Result<String, F
     }
     Ok(text)
 }
+
+/// How many ids of the form `N00000` a verdict in print names.
+pub(crate) fn ids_in(verdict: &str) -> usize {
+    verdict.bytes().filter(|byte| *byte == b'N').count()
+}

@@ -2,6 +2,7 @@
 use mcs_reader::Id;
 use reports::{ErrRow, MissingCategory, MissingRow, Status, err_text, missing_text};
 use std::test::Fail;
+use testing::assert_equal_at;
 
 mod failing;
 mod long_row;
@@ -19,6 +20,12 @@ CATEGORY                                                          FMID     REASO
 
 fn id(text: &str) -> Result<Id, Fail> {
     Ok(Id::new(text.as_bytes()).ok_or("no id")?)
+}
+
+// Whether what is printed is as wanted.
+fn assert_text(what: &str, text: &[u8], wanted: &str) -> Result<(), Fail> {
+    let text = std::str::from_utf8(text).map_err(|_| "a text")?;
+    assert_equal_at(what, text, wanted)
 }
 
 // A row of UA10001, of which the reason, the resolver with what is said of it, and the class differ.

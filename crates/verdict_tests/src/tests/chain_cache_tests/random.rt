@@ -1,9 +1,9 @@
 //! Catalogues that are drawn at random, with publications between: what is kept is what would be built, and each
 //! verdict is that over the whole catalogue.
-use super::publish;
-use crate::tests::print::{id_of, verdict_text, zone_of};
-use catalogue::{Ids, ListPublished, Published};
-use chain_cache::ChainCache;
+use super::Cached;
+use crate::tests::chains_tests::judged;
+use crate::tests::print::{id_of, zone_of};
+use catalogue::{Ids, Published};
 use chains::{Frame, Judge, Whole, frame};
 use std::alloc::Global;
 use std::fmt::Write;
@@ -26,26 +26,11 @@ fn is_drawn(draws: &mut Draws) -> bool {
     draws.next() & 0x10 == 0
 }
 
-fn put_operand(text: &mut String, draws: &mut Draws, name: &str) -> Result<(), Fail> {
+// A list of two ids after its front, or nothing.
+fn put_list(text: &mut String, draws: &mut Draws, front: &str, end: &str) -> Result<(), Fail> {
     if is_drawn(draws) {
-        write!(
-            text,
-            " {name}(UA1000{},UA1000{})\n",
-            drawn_id(draws),
-            drawn_id(draws)
-        )?;
-    }
-    Ok(())
-}
-
-fn put_condition(text: &mut String, draws: &mut Draws, function: &str) -> Result<(), Fail> {
-    if is_drawn(draws) {
-        write!(
-            text,
-            "++IF FMID({function}) REQ(UA1000{},UA1000{}).\n",
-            drawn_id(draws),
-            drawn_id(draws)
-        )?;
+        let (id, other) = (drawn_id(draws), drawn_id(draws));
+        write!(text, "{front}(UA1000{id},UA1000{other}){end}\n")?;
     }
     Ok(())
 }
@@ -59,12 +44,12 @@ fn statements(alloc: Global, draws: &mut Draws) -> Result<String, Fail> {
             "++PTF(UA1000{}).\n++VER(Z038) FMID(HBB7790)\n",
             drawn_id(draws)
         )?;
-        for name in ["PRE", "REQ", "SUP"] {
-            put_operand(&mut text, draws, name)?;
+        for operand in [" PRE", " REQ", " SUP"] {
+            put_list(&mut text, draws, operand, "")?;
         }
         text.push_str(" .\n")?;
-        for function in ["HXX0001", "HXX0002"] {
-            put_condition(&mut text, draws, function)?;
+        for condition in ["++IF FMID(HXX0001) REQ", "++IF FMID(HXX0002) REQ"] {
+            put_list(&mut text, draws, condition, ".")?;
         }
     }
     for verb in ["HOLD", "RELEASE"] {
@@ -97,11 +82,8 @@ fn is_same_frame(frame: &Frame, other: &Frame) -> bool {
 }
 
 // Whether each frame that is kept is what would be built.
-fn are_as_built(
-    alloc: Global,
-    lists: &mut ListPublished,
-    cache: &ChainCache,
-) -> Result<bool, Fail> {
+fn are_as_built(alloc: Global, cached: &mut Cached) -> Result<bool, Fail> {
+    let Cached { lists, cache } = cached;
     for (id, kept) in cache.iter() {
         if !is_same_frame(kept, &frame(alloc, lists, id)?) {
             return Ok(false);
@@ -114,16 +96,14 @@ fn are_as_built(
 fn are_verdicts(
     alloc: Global,
     draws: &mut Draws,
-    lists: &mut ListPublished,
-    cache: &mut ChainCache,
+    cached: &mut Cached,
     zone: &Zone,
 ) -> Result<bool, Fail> {
     for _ in 0..4 {
         let name = format!(in alloc; "UA1000{}", drawn_id(draws))?;
         let id = id_of(name.as_bytes())?;
-        let given = cache.verdict(alloc, lists, zone, &id)?;
-        let whole = Whole::new().verdict(alloc, lists, zone, &id)?;
-        if verdict_text(alloc, &given)? != verdict_text(alloc, &whole)? {
+        let given = cached.verdict(alloc, zone, &id)?;
+        if given != judged(alloc, &mut cached.lists, zone, &id)? {
             return Ok(false);
         }
     }
@@ -131,15 +111,10 @@ fn are_verdicts(
 }
 
 // Whether the statuses of all that is catalogued are those over the whole catalogue.
-fn are_statuses(
-    alloc: Global,
-    lists: &mut ListPublished,
-    cache: &mut ChainCache,
-    zone: &Zone,
-) -> Result<bool, Fail> {
-    let ids = lists.ids()?;
-    let given = cache.statuses(alloc, lists, zone, ids.as_slice())?;
-    let whole = Whole::new().statuses(alloc, lists, zone, ids.as_slice())?;
+fn are_statuses(alloc: Global, cached: &mut Cached, zone: &Zone) -> Result<bool, Fail> {
+    let given = cached.statuses(alloc, zone)?;
+    let ids = cached.lists.ids()?;
+    let whole = Whole::new().statuses(alloc, &mut cached.lists, zone, &ids)?;
     Ok(given.as_slice() == whole.as_slice())
 }
 
@@ -147,21 +122,20 @@ fn are_statuses(
 fn is_as_whole_after(
     alloc: Global,
     draws: &mut Draws,
-    lists: &mut ListPublished,
-    cache: &mut ChainCache,
+    cached: &mut Cached,
     zones: &[Zone],
 ) -> Result<bool, Fail> {
     let source = statements(alloc, draws)?;
-    publish(alloc, lists, cache, source.as_bytes())?;
+    cached.publish(alloc, source.as_bytes())?;
     for zone in zones {
-        let is_right = are_as_built(alloc, lists, cache)?
-            && are_verdicts(alloc, draws, lists, cache, zone)?
-            && are_statuses(alloc, lists, cache, zone)?;
+        let is_right = are_as_built(alloc, cached)?
+            && are_verdicts(alloc, draws, cached, zone)?
+            && are_statuses(alloc, cached, zone)?;
         if !is_right {
             return Ok(false);
         }
     }
-    are_as_built(alloc, lists, cache)
+    are_as_built(alloc, cached)
 }
 
 // One function of the conditions is installed in one of the zones, and listed in another.
@@ -183,10 +157,9 @@ fn what_is_kept_is_what_would_be_built(rt: HostRuntime) -> Result<(), Fail> {
     let mut draws = Draws::new(20_261_124);
     let zones = zones(alloc)?;
     for run in 0..RUNS {
-        let mut lists = ListPublished::new(alloc);
-        let mut cache = ChainCache::new(alloc, 1 + (run & 7), RandomState::new(&rt)?)?;
+        let mut cached = Cached::new(alloc, 1 + (run & 7), RandomState::new(&rt)?)?;
         for _ in 0..PUBLICATIONS {
-            let is_right = is_as_whole_after(alloc, &mut draws, &mut lists, &mut cache, &zones)?;
+            let is_right = is_as_whole_after(alloc, &mut draws, &mut cached, &zones)?;
             assert!(rt; is_right, "{run:?}");
         }
     }

@@ -1,7 +1,9 @@
 //! Frames: worked ones, and verdicts from a frame beside those over the whole catalogue.
+use super::assert_as_whole;
 use super::rows::CONDITIONAL;
-use super::{is_as_whole, published};
+use crate::tests::content::{published, published_with_base};
 use crate::tests::print::{id_of, zone_of};
+use crate::tests::sequence::{conditional_sequence, put_ptf, sequence};
 use catalogue::{CondNeed, Ids, ListPublished};
 use chains::{Frame, frame, touches};
 use mcs_reader::Id;
@@ -94,9 +96,7 @@ UA10022 yes HXX0001, - - UA10022,\n",
 fn worked_frames(rt: HostRuntime) -> Result<(), Fail> {
     let alloc = rt.alloc();
     for (more, id, text) in FRAMES {
-        let mut source = Vec::from_slice(alloc, BASE)?;
-        source.extend_from_slice(more)?;
-        let mut lists = published(alloc, &source)?;
+        let mut lists = published_with_base(alloc, more)?;
         let frame = frame_of(alloc, &mut lists, id)?;
         assert_equal(frame_text(alloc, &frame)?.as_str(), text)?;
     }
@@ -129,40 +129,10 @@ fn a_frame_is_touched_by_what_it_has(rt: HostRuntime) -> Result<(), Fail> {
     Ok(())
 }
 
-// SYSMODs by number, each of which names the next by an operand, the last one another.
-fn row(alloc: Global, operand: &str, count: u32, last: u32) -> Result<String, Fail> {
-    let mut text = String::new(alloc);
-    for n in 0..count {
-        let next = if n.saturating_add(1) < count {
-            n.saturating_add(1)
-        } else {
-            last
-        };
-        write!(
-            text,
-            "++PTF(N{n:05}).\n++VER(Z038) FMID(HBB7790) {operand}(N{next:05}).\n"
-        )?;
-    }
-    Ok(text)
-}
-
-// SYSMODs by number, each of which needs the next where a function is installed.
-fn conditional_row(alloc: Global, count: u32) -> Result<String, Fail> {
-    let mut text = String::new(alloc);
-    for n in 0..count {
-        let next = n.saturating_add(1);
-        write!(
-            text,
-            "++PTF(N{n:05}).\n++VER(Z038) FMID(HBB7790).\n++IF FMID(HXX0001) REQ(N{next:05}).\n"
-        )?;
-    }
-    Ok(text)
-}
-
 #[test]
 fn a_frame_goes_on_where_no_function_is_installed(rt: HostRuntime) -> Result<(), Fail> {
     let alloc = rt.alloc();
-    let mut lists = published(alloc, conditional_row(alloc, 10_000)?.as_bytes())?;
+    let mut lists = published(alloc, conditional_sequence(alloc, 10_000)?.as_bytes())?;
     let frame = frame_of(alloc, &mut lists, b"N00000")?;
     assert_equal(frame.nodes().len(), 10_001)
 }
@@ -177,7 +147,8 @@ fn long_frames(rt: HostRuntime) -> Result<(), Fail> {
         ("SUP", 100, 99_999, "N99999", 101),
     ];
     for (operand, count, last, id, nodes) in rows {
-        let mut lists = published(alloc, row(alloc, operand, count, last)?.as_bytes())?;
+        let text = sequence(alloc, operand, count, last)?;
+        let mut lists = published(alloc, text.as_bytes())?;
         let frame = frame_of(alloc, &mut lists, id.as_bytes())?;
         assert_equal_at((operand, id), frame.nodes().len(), nodes)?;
     }
@@ -187,10 +158,9 @@ fn long_frames(rt: HostRuntime) -> Result<(), Fail> {
 #[test]
 fn verdicts_on_a_row_of_superseding(rt: HostRuntime) -> Result<(), Fail> {
     let alloc = rt.alloc();
-    let mut text = row(alloc, "SUP", 20, 99_999)?;
-    text.push_str("++PTF(N20000).\n++VER(Z038) FMID(HBB7790) PRE(N99999).\n")?;
+    let mut text = sequence(alloc, "SUP", 20, 99_999)?;
+    put_ptf(&mut text, 20_000, "PRE", 99_999)?;
     let mut lists = published(alloc, text.as_bytes())?;
     let zone = zone_of(alloc, ZONE)?;
-    assert!(rt; is_as_whole(alloc, &mut lists, &zone, &id_of(b"N20000")?)?);
-    Ok(())
+    assert_as_whole(alloc, &mut lists, &zone, &id_of(b"N20000")?)
 }

@@ -1,5 +1,6 @@
 //! Verdicts on small contents that are drawn at random, beside a plain slow body that tries every set of ids.
-use super::{are_statuses, is_as_whole, judged, published};
+use super::{assert_as_whole, assert_statuses, judged};
+use crate::tests::content::published;
 use crate::tests::print::{id_of, zone_of};
 use mcs_reader::Id;
 use std::alloc::Global;
@@ -274,12 +275,9 @@ fn verdicts_are_those_of_a_plain_slow_body(rt: HostRuntime) -> Result<(), Fail> 
             )?;
             ids.push(sysmod)?;
         }
-        assert!(rt;
-            are_statuses(alloc, &mut lists, &zone, &ids)?,
-            "{content:?}"
-        );
+        assert_statuses(alloc, &mut lists, &zone, &ids)?;
         let one = ids.get((content & 7) as usize).copied().ok_or("an id")?;
-        assert!(rt; is_as_whole(alloc, &mut lists, &zone, &one)?, "{content:?}");
+        assert_as_whole(alloc, &mut lists, &zone, &one)?;
     }
     Ok(())
 }

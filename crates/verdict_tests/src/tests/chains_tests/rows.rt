@@ -1,14 +1,17 @@
 //! Worked verdicts.
-use super::{are_statuses, is_as_whole, judged, published};
+use super::{assert_as_whole, assert_statuses, judged};
+use crate::tests::content::published_with_base;
 use crate::tests::print::{id_of, zone_of};
 use std::test::Fail;
-use testing::{BASE, assert_equal_at};
+use testing::assert_equal_at;
 
 const ALPHA: &[u8] = b"SYSMOD,STATE\nHBB7790,APPLIED\nUA10001,APPLIED\n";
 
 const BETA: &[u8] = b"SYSMOD,STATE\nHBB7790,APPLIED\n";
 
 const SUPERSEDED: &[u8] = b"SYSMOD,STATE\nHBB7790,APPLIED\nUA10001,APPLIED\nUA10002,SUPERSEDED\n";
+
+const NOTHING: &[u8] = b"";
 
 // An error of the second PTF too.
 const HELD: &[u8] = b"++HOLD(UA10002) ERROR FMID(HBB7790) REASON(AA30003).\n";
@@ -49,6 +52,8 @@ const BY_A_GIVER: &[u8] = b"++PTF(UA10020).\n++VER(Z038) FMID(HBB7790).\n\
 ++PTF(UA10021).\n++VER(Z038) FMID(HBB7790) SUP(AA20009).\n\
 ++PTF(UA10022).\n++VER(Z038) FMID(HBB7790) PRE(UA10020).\n";
 
+const RING_INSTALLED: &[u8] = b"SYSMOD,STATE\nHBB7790,APPLIED\nUA10016,APPLIED\n";
+
 const APPLIED: &[u8] = b"SYSMOD,STATE\nHBB7790,APPLIED\nHXX0001,APPLIED\n";
 
 const ACCEPTED: &[u8] = b"SYSMOD,STATE\nHBB7790,APPLIED\nHXX0001,ACCEPTED\n";
@@ -59,18 +64,18 @@ const BOTH_FUNCTIONS: &[u8] = b"SYSMOD,STATE\nHBB7790,APPLIED\nHXX0001,APPLIED\n
 
 // What is published after the base, the zone, the id, and its verdict.
 const ROWS: [(&[u8], &[u8], &[u8], &str); 34] = [
-    (b"", ALPHA, b"UA10002", "GOOD UA10002"),
-    (b"", BETA, b"UA10002", "GOOD UA10001 UA10002"),
-    (b"", BETA, b"UA10001", "GOOD UA10001 UA10002"),
+    (NOTHING, ALPHA, b"UA10002", "GOOD UA10002"),
+    (NOTHING, BETA, b"UA10002", "GOOD UA10001 UA10002"),
+    (NOTHING, BETA, b"UA10001", "GOOD UA10001 UA10002"),
     (MUTUAL, ALPHA, b"UA10006", "GOOD UA10006 UA10007"),
     (MUTUAL, ALPHA, b"UA10007", "GOOD UA10006 UA10007"),
     (FIXED, ALPHA, b"UA10002", "GOOD UA10002 UA10004"),
     (HELD, ALPHA, b"UA10002", "HELD AA30003"),
     (HELD, BETA, b"UA10001", "HELD AA20002"),
     (HELD, SUPERSEDED, b"UA10001", "HELD AA20002"),
-    (b"", ALPHA, b"UA99999", "LACK"),
-    (b"", ALPHA, b"HBB7790", "LACK"),
-    (b"", ALPHA, b"AA20002", "LACK"),
+    (NOTHING, ALPHA, b"UA99999", "LACK"),
+    (NOTHING, ALPHA, b"HBB7790", "LACK"),
+    (NOTHING, ALPHA, b"AA20002", "LACK"),
     (OTHERS, ALPHA, b"UA10009", "LACK"),
     (OTHERS, ALPHA, b"UA10008", "LACK"),
     (OTHERS, ALPHA, b"UA10013", "HELD UA88888"),
@@ -80,12 +85,7 @@ const ROWS: [(&[u8], &[u8], &[u8], &str); 34] = [
     (BY_ANOTHER, SUPERSEDED, b"UA10011", "GOOD UA10011"),
     (RING, ALPHA, b"UA10016", "GOOD UA10016"),
     (RING, ALPHA, b"UA10018", "GOOD UA10017 UA10018"),
-    (
-        RING,
-        b"SYSMOD,STATE\nHBB7790,APPLIED\nUA10016,APPLIED\n",
-        b"UA10018",
-        "GOOD UA10018",
-    ),
+    (RING, RING_INSTALLED, b"UA10018", "GOOD UA10018"),
     (BOTH, BETA, b"UA10020", "GOOD UA10020"),
     (BOTH, APPLIED, b"UA10020", "GOOD UA10020 UA10021"),
     (BOTH, ACCEPTED, b"UA10020", "GOOD UA10020 UA10021"),
@@ -109,14 +109,12 @@ const ROWS: [(&[u8], &[u8], &[u8], &str); 34] = [
 fn worked_verdicts(rt: HostRuntime) -> Result<(), Fail> {
     let alloc = rt.alloc();
     for (more, zone, id, text) in ROWS {
-        let mut source = Vec::from_slice(alloc, BASE)?;
-        source.extend_from_slice(more)?;
-        let mut lists = published(alloc, &source)?;
+        let mut lists = published_with_base(alloc, more)?;
         let zone = zone_of(alloc, zone)?;
         let id = id_of(id)?;
         assert_equal_at(id, judged(alloc, &mut lists, &zone, &id)?.as_str(), text)?;
-        assert!(rt; are_statuses(alloc, &mut lists, &zone, &[id])?, "{id:?}");
-        assert!(rt; is_as_whole(alloc, &mut lists, &zone, &id)?, "{id:?}");
+        assert_statuses(alloc, &mut lists, &zone, &[id])?;
+        assert_as_whole(alloc, &mut lists, &zone, &id)?;
     }
     Ok(())
 }

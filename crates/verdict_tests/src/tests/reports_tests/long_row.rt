@@ -1,6 +1,6 @@
 //! A report over a long row of superseding, in which the reasons of many holds stand.
-use super::failing::{Failing, reads_left};
-use super::worked::{held, published};
+use super::failing::failing;
+use super::worked::{Case, case};
 use catalogue::Ids;
 use chains::Whole;
 use holddata::Kind;
@@ -8,9 +8,7 @@ use reports::err_rows;
 use std::alloc::Global;
 use std::fmt::Write;
 use std::test::Fail;
-use supersede::Zone;
 use testing::assert_equal_at;
-use zone_lists::zone_rows;
 
 // Each of 300 SYSMODs supersedes the one before it, and the last alone applies to what is installed. The reasons of
 // the holds are what the first one supersedes, and each but the last.
@@ -36,12 +34,9 @@ const READS: u64 = 10_000;
 
 // How many rows the report on a zone has, and how many reads are left after it.
 fn rows_and_left(alloc: Global, zone: &[u8]) -> Result<(usize, u64), Fail> {
-    let source = row_and_holds(alloc)?;
-    let mut lists = published(alloc, source.as_str())?;
-    let rows = zone_rows(alloc, zone)?;
-    let holds = held(alloc, &mut lists, &rows, Kind::ErrorHold)?;
-    let zone = Zone::new(alloc, &rows)?;
-    let mut source = Failing::after(lists, READS);
+    let more = row_and_holds(alloc)?;
+    let Case { zone, holds, .. } = case(alloc, more.as_str(), zone, Kind::ErrorHold)?;
+    let mut source = failing(alloc, more.as_str(), READS)?;
     let none = Ids::new(alloc);
     let rows = err_rows(
         alloc,
@@ -51,7 +46,7 @@ fn rows_and_left(alloc: Global, zone: &[u8]) -> Result<(usize, u64), Fail> {
         none.as_slice(),
         &holds,
     )?;
-    Ok((rows.len(), reads_left(&source)))
+    Ok((rows.len(), source.left))
 }
 
 // The reasons and what supersedes them are 303 SYSMODs, and 303 are catalogued. The judge reads the ids, and of each

@@ -1,25 +1,19 @@
 //! Worked reports and chains, from statements and a client's lists to their bytes.
-use super::{ERR_FRONT, MISSING_FRONT, id};
-use catalogue::{ListPublished, Published, read_changes};
+use super::{ERR_FRONT, MISSING_FRONT, assert_text, id};
+use crate::tests::content::published_with_base;
+use crate::tests::print::zone_of;
+use crate::tests::sequence::sequence;
+use catalogue::{ListPublished, Published};
 use chains::{Judge, Whole};
 use holddata::{Hold, Kind};
-use mcs_reader::{Id, read};
+use mcs_reader::Id;
 use reports::{err_rows, err_text, missing_rows, missing_text, plan_json};
 use std::alloc::Global;
 use std::test::Fail;
 use supersede::Zone;
-use testing::BASE;
 use zone_lists::{ZoneRow, patterns, received_rows, zone_rows};
 
 pub(crate) const ALPHA: &[u8] = b"SYSMOD,STATE\nHBB7790,APPLIED\nUA10001,APPLIED\n";
-
-pub(crate) fn published(alloc: Global, more: &str) -> Result<ListPublished, Fail> {
-    let mut source = Vec::from_slice(alloc, BASE)?;
-    source.extend_from_slice(more.as_bytes())?;
-    let mut lists = ListPublished::new(alloc);
-    lists.publish(&read_changes(alloc, &read(alloc, &source)?)?)?;
-    Ok(lists)
-}
 
 // The holds of a kind on the SYSMODs that are installed, in the order of their keys.
 pub(crate) fn held(
@@ -41,20 +35,27 @@ pub(crate) fn held(
     Ok(held)
 }
 
-fn err_report(alloc: Global, more: &str, received: &[u8]) -> Result<Vec<u8>, Fail> {
-    let mut lists = published(alloc, more)?;
-    let rows = zone_rows(alloc, ALPHA)?;
+// What is published, a zone, and the holds of a kind on the SYSMODs that are installed there.
+#[derive(Drop)]
+pub(crate) struct Case {
+    pub lists: ListPublished,
+    pub zone: Zone,
+    pub holds: Vec<Hold>,
+}
+
+pub(crate) fn case(alloc: Global, more: &str, zone: &[u8], kind: Kind) -> Result<Case, Fail> {
+    let mut lists = published_with_base(alloc, more.as_bytes())?;
+    let rows = zone_rows(alloc, zone)?;
+    let holds = held(alloc, &mut lists, &rows, kind)?;
     let zone = Zone::new(alloc, &rows)?;
+    Ok(Case { lists, zone, holds })
+}
+
+fn err_report(alloc: Global, more: &str, received: &[u8]) -> Result<Vec<u8>, Fail> {
+    let mut case = case(alloc, more, ALPHA, Kind::ErrorHold)?;
+    let Case { lists, zone, holds } = &mut case;
     let received = received_rows(alloc, received)?;
-    let holds = held(alloc, &mut lists, &rows, Kind::ErrorHold)?;
-    let rows = err_rows(
-        alloc,
-        &mut lists,
-        &mut Whole::new(),
-        &zone,
-        &received,
-        &holds,
-    )?;
+    let rows = err_rows(alloc, lists, &mut Whole::new(), zone, &received, holds)?;
     Ok(err_text(alloc, &id("TGT1")?, &rows)?)
 }
 
@@ -64,103 +65,101 @@ fn missing_report(
     zone: &[u8],
     categories: &[u8],
 ) -> Result<Vec<u8>, Fail> {
-    let mut lists = published(alloc, more)?;
-    let rows = zone_rows(alloc, zone)?;
-    let zone = Zone::new(alloc, &rows)?;
+    let mut case = case(alloc, more, zone, Kind::FixcatHold)?;
+    let Case { lists, zone, holds } = &mut case;
     let received = received_rows(alloc, b"SYSMOD\nUA10009\n")?;
-    let patterns = patterns(alloc, categories)?;
-    let holds = held(alloc, &mut lists, &rows, Kind::FixcatHold)?;
     let rows = missing_rows(
         alloc,
-        &mut lists,
+        lists,
         &mut Whole::new(),
-        &zone,
+        zone,
         &received,
-        &patterns,
-        &holds,
+        &patterns(alloc, categories)?,
+        holds,
     )?;
     Ok(missing_text(alloc, &id("TGT1")?, &rows)?)
 }
 
 fn chain(alloc: Global, more: &str, sysmod: &Id) -> Result<Vec<u8>, Fail> {
-    let mut lists = published(alloc, more)?;
-    let rows = zone_rows(alloc, ALPHA)?;
-    let zone = Zone::new(alloc, &rows)?;
+    let mut lists = published_with_base(alloc, more.as_bytes())?;
+    let zone = zone_of(alloc, ALPHA)?;
     let verdict = Whole::new().verdict(alloc, &mut lists, &zone, sysmod)?;
     Ok(plan_json(alloc, &mut lists, &id("TGT1")?, sysmod, &verdict)?)
 }
 
+fn assert_err_report(
+    alloc: Global,
+    what: &str,
+    more: &str,
+    received: &[u8],
+    rows: &str,
+) -> Result<(), Fail> {
+    let text = err_report(alloc, more, received)?;
+    let wanted = format!(in alloc; "{ERR_FRONT}{rows}")?;
+    assert_text(what, &text, &wanted)
+}
+
 #[test]
 fn exception_sysmods_from_statements(rt: HostRuntime) -> Result<(), Fail> {
-    let cases: [(&str, &str, &[u8], &str); 9] = [
+    let cases: [(&str, &str, &str); 8] = [
         (
             "a requisite where a function is that isn't installed",
             "++PTF(UA10002).\n++VER(Z038) FMID(HBB7790) PRE(UA10001) SUP(AA20002).\n\
              ++IF FMID(HXX0001) REQ(UA10021).\n",
-            b"SYSMOD\n",
             "HBB7790  UA10001  AA20002  UA10002  GOOD   NO       PE\nROWS 1\n",
         ),
         (
             "a requisite where a function is that is installed",
             "++PTF(UA10002).\n++VER(Z038) FMID(HBB7790) PRE(UA10001) SUP(AA20002).\n\
              ++IF FMID(HBB7790) REQ(UA10021).\n",
-            b"SYSMOD\n",
             "HBB7790  UA10001  AA20002  UA10002  HELD   NO       PE\nROWS 1\n",
         ),
         (
             "each candidate that gives the reason",
             "++PTF(UA10005).\n++VER(Z038) FMID(HBB7790) SUP(UA10002).\n",
-            b"SYSMOD\n",
             "HBB7790  UA10001  AA20002  UA10002  GOOD   NO       PE\n\
              HBB7790  UA10001  AA20002  UA10005  GOOD   NO       PE\nROWS 2\n",
         ),
         (
             "a candidate that is held",
             "++HOLD(UA10002) ERROR FMID(HBB7790) REASON(AA30003).\n",
-            b"SYSMOD\n",
             "HBB7790  UA10001  AA20002  UA10002  HELD   NO       PE\nROWS 1\n",
         ),
         (
             "a resolver of another function",
             "++HOLD(UA10001) ERROR FMID(HBB7790) REASON(AA20009).\n\
              ++PTF(UA10008).\n++VER(Z038) FMID(HXX0001) SUP(AA20009).\n",
-            b"SYSMOD\n",
             "HBB7790  UA10001  AA20002  UA10002  GOOD   NO       PE\n\
              HBB7790  UA10001  AA20009  - NONE - -      -        -\nROWS 2\n",
         ),
         (
-            "a hold without FMID comes first, and what was received",
-            "++HOLD(UA10001) ERROR REASON(AA20009).\n",
-            b"SYSMOD\nUA10002\n",
-            "-        UA10001  AA20009  - NONE - -      -        -\n\
-             HBB7790  UA10001  AA20002  UA10002  GOOD   YES      PE\nROWS 2\n",
-        ),
-        (
             "the FMID of the hold comes before its SYSMOD",
             "++HOLD(HBB7790) ERROR FMID(HXX0001) REASON(AA20008).\n",
-            b"SYSMOD\n",
             "HBB7790  UA10001  AA20002  UA10002  GOOD   NO       PE\n\
              HXX0001  HBB7790  AA20008  - NONE - -      -        -\nROWS 2\n",
         ),
         (
             "a reason that an installed SYSMOD gives",
             "++HOLD(UA10001) ERROR FMID(HBB7790) REASON(UA10001).\n",
-            b"SYSMOD\n",
             "HBB7790  UA10001  AA20002  UA10002  GOOD   NO       PE\nROWS 1\n",
         ),
         (
             "a released hold",
             "++RELEASE(UA10001) ERROR REASON(AA20002).\n",
-            b"SYSMOD\n",
             "ROWS 0\n",
         ),
     ];
-    for (what, more, received, rows) in cases {
-        let text = err_report(rt.alloc(), more, received)?;
-        let wanted = format!(in rt.alloc(); "{ERR_FRONT}{rows}")?;
-        assert!(rt; text.as_slice() == wanted.as_bytes(), "{what:?}");
+    for (what, more, rows) in cases {
+        assert_err_report(rt.alloc(), what, more, b"SYSMOD\n", rows)?;
     }
-    Ok(())
+    assert_err_report(
+        rt.alloc(),
+        "a hold without FMID comes first, and what was received",
+        "++HOLD(UA10001) ERROR REASON(AA20009).\n",
+        b"SYSMOD\nUA10002\n",
+        "-        UA10001  AA20009  - NONE - -      -        -\n\
+         HBB7790  UA10001  AA20002  UA10002  GOOD   YES      PE\nROWS 2\n",
+    )
 }
 
 pub(crate) const FIXCAT: &str = "\
@@ -188,60 +187,78 @@ const SERVER: &str =
 const DEVICE: &str =
     "IBM.Device                                                        HBB7790  AA40001";
 
-#[test]
-fn a_resolver_that_is_not_catalogued(rt: HostRuntime) -> Result<(), Fail> {
-    let text = missing_report(rt.alloc(), FIXCAT, ALPHA, b"CATEGORY\nibm.device.*\n")?;
-    let wanted = format!(in rt.alloc(); "{MISSING_FRONT}{SERVER}  UA10009  LACK   YES\nROWS 1\n")?;
-    assert!(rt; text.as_slice() == wanted.as_bytes());
-    let none = missing_report(rt.alloc(), FIXCAT, ALPHA, b"CATEGORY\n")?;
-    let wanted = format!(in rt.alloc(); "{MISSING_FRONT}ROWS 0\n")?;
-    assert!(rt; none.as_slice() == wanted.as_bytes(), "{:?}", "no pattern");
-    Ok(())
+// A report's rows are given by what comes before the resolver, and the rest.
+fn assert_missing_report(
+    alloc: Global,
+    what: &str,
+    text: &[u8],
+    rows: &[(&str, &str)],
+) -> Result<(), Fail> {
+    let mut wanted = String::from_str(alloc, MISSING_FRONT)?;
+    for (front, resolver) in rows {
+        write!(wanted, "{front}  {resolver}\n")?;
+    }
+    write!(wanted, "ROWS {}\n", rows.len())?;
+    assert_text(what, text, &wanted)
 }
 
 #[test]
-fn both_categories_with_the_resolver_and_what_supersedes_it(rt: HostRuntime) -> Result<(), Fail> {
-    let source = format!(in rt.alloc(); "{FIXCAT}{RESOLVERS}")?;
-    let text = missing_report(rt.alloc(), source.as_str(), ALPHA, b"CATEGORY\n*\n")?;
-    let wanted = format!(in rt.alloc();
-        "{MISSING_FRONT}{DEVICE}  UA10009  GOOD   YES\n{DEVICE}  UA10011  GOOD   NO\n\
-         {SERVER}  UA10009  GOOD   YES\n{SERVER}  UA10011  GOOD   NO\nROWS 4\n"
-    )?;
-    assert!(rt; text.as_slice() == wanted.as_bytes());
-    let zone = b"SYSMOD,STATE\nHBB7790,APPLIED\nUA10011,ACCEPTED\n";
-    let there = missing_report(rt.alloc(), source.as_str(), zone, b"CATEGORY\n*\n")?;
-    let wanted = format!(in rt.alloc(); "{MISSING_FRONT}ROWS 0\n")?;
-    assert!(rt;
-        there.as_slice() == wanted.as_bytes(),
-        "{:?}",
-        "the resolver is superseded there"
-    );
-    Ok(())
-}
-
-#[test]
-fn nothing_resolves_a_fix(rt: HostRuntime) -> Result<(), Fail> {
-    let text = missing_report(rt.alloc(), UNRESOLVED, ALPHA, b"CATEGORY\nIBM.DEVICE\n")?;
-    let wanted = format!(in rt.alloc(); "{MISSING_FRONT}{DEVICE}  - NONE - -      -\nROWS 1\n")?;
-    assert!(rt; text.as_slice() == wanted.as_bytes());
-    Ok(())
-}
-
-#[test]
-fn a_resolver_that_is_held(rt: HostRuntime) -> Result<(), Fail> {
-    let source = format!(in rt.alloc();
-        "{FIXCAT}{RESOLVERS}++HOLD(UA10009) ERROR FMID(HBB7790) REASON(AA30003).\n"
-    )?;
-    let text = missing_report(
-        rt.alloc(),
-        source.as_str(),
-        ALPHA,
-        b"CATEGORY\nibm.device\n",
-    )?;
-    let wanted = format!(in rt.alloc();
-        "{MISSING_FRONT}{DEVICE}  UA10009  HELD   YES\n{DEVICE}  UA10011  GOOD   NO\nROWS 2\n"
-    )?;
-    assert!(rt; text.as_slice() == wanted.as_bytes());
+fn missing_fixes_from_statements(rt: HostRuntime) -> Result<(), Fail> {
+    let alloc = rt.alloc();
+    let hold = "++HOLD(UA10009) ERROR FMID(HBB7790) REASON(AA30003).\n";
+    let resolved = format!(in alloc; "{FIXCAT}{RESOLVERS}")?;
+    let held = format!(in alloc; "{resolved}{hold}")?;
+    let with_resolver = b"SYSMOD,STATE\nHBB7790,APPLIED\nUA10011,ACCEPTED\n";
+    let cases: [(&str, &str, &[u8], &[u8], &[(&str, &str)]); 6] = [
+        (
+            "a resolver that is not catalogued",
+            FIXCAT,
+            ALPHA,
+            b"CATEGORY\nibm.device.*\n",
+            &[(SERVER, "UA10009  LACK   YES")],
+        ),
+        ("no pattern", FIXCAT, ALPHA, b"CATEGORY\n", &[]),
+        (
+            "both categories with the resolver and what supersedes it",
+            resolved.as_str(),
+            ALPHA,
+            b"CATEGORY\n*\n",
+            &[
+                (DEVICE, "UA10009  GOOD   YES"),
+                (DEVICE, "UA10011  GOOD   NO"),
+                (SERVER, "UA10009  GOOD   YES"),
+                (SERVER, "UA10011  GOOD   NO"),
+            ],
+        ),
+        (
+            "the resolver is superseded there",
+            resolved.as_str(),
+            with_resolver,
+            b"CATEGORY\n*\n",
+            &[],
+        ),
+        (
+            "nothing resolves a fix",
+            UNRESOLVED,
+            ALPHA,
+            b"CATEGORY\nIBM.DEVICE\n",
+            &[(DEVICE, "- NONE - -      -")],
+        ),
+        (
+            "a resolver that is held",
+            held.as_str(),
+            ALPHA,
+            b"CATEGORY\nibm.device\n",
+            &[
+                (DEVICE, "UA10009  HELD   YES"),
+                (DEVICE, "UA10011  GOOD   NO"),
+            ],
+        ),
+    ];
+    for (what, more, zone, categories, rows) in cases {
+        let text = missing_report(alloc, more, zone, categories)?;
+        assert_missing_report(alloc, what, &text, rows)?;
+    }
     Ok(())
 }
 
@@ -269,22 +286,20 @@ fn a_report_of_1001_rows(rt: HostRuntime) -> Result<(), Fail> {
 
 #[test]
 fn a_chain_of_1000_members(rt: HostRuntime) -> Result<(), Fail> {
-    // each of them needs the one before it
-    let mut source = String::from_str(rt.alloc(), "++PTF(UB00000).\n++VER(Z038) FMID(HBB7790).\n")?;
-    let mut wanted = String::from_str(
-        rt.alloc(),
-        r#"{"plan":[{"id":"UB00000","system":[],"user":[]}"#,
-    )?;
-    for i in 1..1000u32 {
-        let before = i.saturating_sub(1);
-        writeln!(
-            source,
-            "++PTF(UB{i:05}).\n++VER(Z038) FMID(HBB7790) PRE(UB{before:05})."
+    let alloc = rt.alloc();
+    // each of them needs the next
+    let mut source = sequence(alloc, "PRE", 999, 999)?;
+    source.push_str("++PTF(N00999).\n++VER(Z038) FMID(HBB7790).\n")?;
+    let mut wanted = String::from_str(alloc, r#"{"plan":["#)?;
+    for number in 0..1000u32 {
+        let comma = if number > 0 { "," } else { "" };
+        write!(
+            wanted,
+            "{comma}{{\"id\":\"N{number:05}\",\"system\":[],\"user\":[]}}"
         )?;
-        write!(wanted, ",{{\"id\":\"UB{i:05}\",\"system\":[],\"user\":[]}}")?;
     }
-    wanted.push_str(r#"],"status":"GOOD","sysmod":"UB00999","zone":"TGT1"}"#)?;
-    let text = chain(rt.alloc(), source.as_str(), &id("UB00999")?)?;
+    wanted.push_str(r#"],"status":"GOOD","sysmod":"N00000","zone":"TGT1"}"#)?;
+    let text = chain(alloc, source.as_str(), &id("N00000")?)?;
     assert!(rt; text.as_slice() == wanted.as_bytes());
     Ok(())
 }
