@@ -239,7 +239,8 @@ impl ChainCache {
             (λ content. IsRightFor self.old content → IsRightFor self.new content) }
         ensures frames { KeepsFrames self.old self.new }
     {
-        let survey = self.surveys.survey(alloc, source, zone)?;
+        self.surveys.read_listing(alloc, source)?;
+        let survey = self.surveys.survey(alloc, zone)?;
         let verdict = survey.verdict(alloc, id)?;
         self.surveys.keep(zone, survey)?;
         Ok(verdict)
@@ -261,7 +262,8 @@ impl ChainCache {
             (λ content. IsRightFor self.old content → IsRightFor self.new content) }
         ensures frames { KeepsFrames self.old self.new }
     {
-        let survey = self.surveys.survey(alloc, source, zone)?;
+        self.surveys.read_listing(alloc, source)?;
+        let survey = self.surveys.survey(alloc, zone)?;
         let statuses = survey.statuses(alloc, ids)?;
         self.surveys.keep(zone, survey)?;
         Ok(statuses)

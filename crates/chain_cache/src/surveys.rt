@@ -84,28 +84,8 @@ impl Surveys {
         None
     }
 
-    /// Makes the survey of a zone, by what is catalogued. That is read where it isn't kept, and kept then.
-    pub(crate) fn survey<P: Published>(
-        &mut self,
-        alloc: Global,
-        source: &mut P,
-        zone: &Zone,
-    ) -> Result<Survey, SourceFault>
-        ensures asks { MayAsk P.content_view Device source.old source.new result }
-        ensures survey { IfOk result (λ survey. Tells P.content_view source.old source.new
-            (λ content. AreSurveys content self.old → IsSurvey content zone.now survey)) }
-        ensures right { Tells P.content_view source.old source.new
-            (λ content. AreSurveys content self.old → AreSurveys content self.new) }
-    {
-        self.read_listing(alloc, source)?;
-        match &self.listing {
-            Some(listing) => Ok(Survey::of(alloc, zone, listing)?),
-            None => unreachable!(),
-        }
-    }
-
-    // Reads what is catalogued, where it isn't kept.
-    fn read_listing<P: Published>(
+    /// Reads what is catalogued, where it isn't kept, and keeps it.
+    pub(crate) fn read_listing<P: Published>(
         &mut self,
         alloc: Global,
         source: &mut P,
@@ -120,6 +100,18 @@ impl Surveys {
             self.put_listing(listing);
         }
         Ok(())
+    }
+
+    /// Makes the survey of a zone, by what is catalogued.
+    pub(crate) fn survey(&self, alloc: Global, zone: &Zone) -> Result<Survey, NoMemory>
+        requires { IsSome self.now.listing }
+        ensures { IfOk result (λ survey. (content : Content) → AreSurveys content self.now
+            → IsSurvey content zone.now survey) }
+    {
+        match &self.listing {
+            Some(listing) => Survey::of(alloc, zone, listing),
+            None => unreachable!(),
+        }
     }
 
     fn put_listing(&mut self, listing: Listing)
