@@ -1,5 +1,5 @@
 //! Why the program can't do what it is asked, and what it tells of any fault.
-ghost use Rattle.std.specs.Prelude.{◌≡◌, None, OnOk};
+ghost use Rattle.std.specs.Prelude.{◌≡◌, OnOk};
 ghost use Rattle.std.specs.Io.KnownBytes.{Appends};
 ghost use Rattle.faults.specs.FaultText.{text_of};
 ghost use Rattle.bureau_program.specs.ProgramFault.{of_program, status_of};

@@ -1,5 +1,5 @@
 //! What a source says of all that is catalogued, read once.
-ghost use Rattle.std.specs.Prelude.{◌≡◌, ◌++◌, length, map, IfOk, OnOk};
+ghost use Rattle.std.specs.Prelude.{◌≡◌, ◌++◌, length, IfOk, OnOk};
 ghost use Rattle.std.specs.List.{list_any};
 ghost use Rattle.zone_lists.specs.Installed.{is_installed};
 ghost use Rattle.catalogue.specs.Ids.{Ascend};

@@ -1,5 +1,5 @@
 //! The rows of the missing fix report.
-ghost use Rattle.std.specs.Prelude.{◌≡◌, ◌++◌, ◌∷◌, [], true, List, Some, map, option_map, IfOk, IfSome, OnOk};
+ghost use Rattle.std.specs.Prelude.{◌≡◌, ◌++◌, ◌∷◌, [], true, List, Some, option_map, IfOk, IfSome, OnOk};
 ghost use Rattle.std.specs.List.{list_any};
 ghost use Rattle.zone_lists.specs.Pattern.{does_match};
 ghost use Rattle.zone_lists.specs.declared.zones.ZoneRow.{ZoneRow};
