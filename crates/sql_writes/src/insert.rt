@@ -1,24 +1,39 @@
 //! Rows that come, one by each statement, after those of their table.
-ghost use Rattle.std.specs.Prelude.{◌≡◌, ◌≤◌};
+ghost use Rattle.std.specs.Prelude.{◌≡◌, ◌≤◌, ◌∷◌, []};
 ghost use Rattle.bureau_store.specs.Store.{greatest_number};
-ghost use Rattle.sql_writes.specs.Altering.{Alters};
-ghost use Rattle.sql_writes.specs.Parts.{with_head, with_hold, with_last, with_received, with_sysmod};
+ghost use Rattle.sql_writes.specs.Altering.{Alters, Inserts};
+ghost use Rattle.sql_writes.specs.Parts.{with_callers, with_conds, with_head, with_hold, with_last, with_received, with_rows, with_sups, with_sysmod};
 
-use crate::run::run;
+use crate::run::{run, run_prepared};
 use crate::values::{id_of, number_of};
-use catalogue::Sysmod;
+use bureau_store::CallerRow;
+use catalogue::{CondNeed, Sysmod};
 use holddata::Hold;
 use mcs_reader::Id;
 use sql_tables::{
     categories_value, date_value, hold_kind_value, joined_ids, joined_patterns, optional_id_value,
-    sysmod_kind_value,
+    state_value, sysmod_kind_value,
 };
 use sql_texts::write;
 use sql_texts::write::{TableById, TableByZone};
 use sqlite::types::ValueRef;
-use sqlite::{Alter, Error, Transaction};
+use sqlite::{Alter, Error, Statement, Transaction};
 use std::alloc::Global;
-use zone_lists::Pattern;
+use zone_lists::{Pattern, ZoneRow};
+
+/// A caller with its token, by the statement of `write::insert_caller`.
+pub(crate) fn caller<S: Alter>(
+    tx: &mut Transaction<'_, S>,
+    statement: &Statement,
+    row: &CallerRow,
+) -> Result<(), Error>
+    requires means { Inserts S.Store tx.old.conn.now statement.now.text 1 2 }
+    ensures same { tx.new.conn.ghost_name ≡ tx.old.conn.ghost_name }
+    ensures changes { Alters S.Store tx.old.conn.now tx.new.conn.now result (with_callers (row.now ∷ [])) }
+{
+    let params = [id_of(&row.name), ValueRef::Text(row.token.as_bytes())];
+    run_prepared(tx, statement, &params)
+}
 
 /// The last change of the caller of this name: its number and the reply that is kept.
 pub(crate) fn last_change<S: Alter>(
@@ -58,6 +73,37 @@ pub(crate) fn sysmod<S: Alter>(
     run(tx, TableById::Sysmod.insertion(), &params)
 }
 
+/// One SYSMOD that a record supersedes, by the statement that inserts into `SysmodSup`.
+pub(crate) fn sup_row<S: Alter>(
+    tx: &mut Transaction<'_, S>,
+    statement: &Statement,
+    id: &Id,
+    member: &Id,
+) -> Result<(), Error>
+    requires means { Inserts S.Store tx.old.conn.now statement.now.text 4 2 }
+    ensures same { tx.new.conn.ghost_name ≡ tx.old.conn.ghost_name }
+    ensures changes { Alters S.Store tx.old.conn.now tx.new.conn.now result
+        (with_sups id.now (member.now ∷ [])) }
+{
+    run_prepared(tx, statement, &[id_of(id), id_of(member)])
+}
+
+/// What a record requires where a function is installed, by the statement that inserts into `SysmodCond`.
+pub(crate) fn cond_row<S: Alter>(
+    tx: &mut Transaction<'_, S>,
+    statement: &Statement,
+    id: &Id,
+    cond: &CondNeed,
+) -> Result<(), Error>
+    requires means { Inserts S.Store tx.old.conn.now statement.now.text 9 3 }
+    ensures same { tx.new.conn.ghost_name ≡ tx.old.conn.ghost_name }
+    ensures changes { Alters S.Store tx.old.conn.now tx.new.conn.now result
+        (with_conds id.now (cond.now ∷ [])) }
+{
+    let params = [id_of(id), id_of(&cond.fmid), id_of(&cond.need)];
+    run_prepared(tx, statement, &params)
+}
+
 /// A hold.
 pub(crate) fn hold<S: Alter>(tx: &mut Transaction<'_, S>, hold: &Hold) -> Result<(), Error>
     ensures same { tx.new.conn.ghost_name ≡ tx.old.conn.ghost_name }
@@ -95,6 +141,28 @@ pub(crate) fn head<S: Alter>(
         ValueRef::Text(joined.as_slice()),
     ];
     run(tx, TableByZone::ZoneHead.insertion(), &params)
+}
+
+/// A SYSMOD of a client's zone, by the statement that inserts into `ZoneRow`.
+pub(crate) fn zone_row<S: Alter>(
+    tx: &mut Transaction<'_, S>,
+    statement: &Statement,
+    client: &Id,
+    zone: &Id,
+    row: &ZoneRow,
+) -> Result<(), Error>
+    requires means { Inserts S.Store tx.old.conn.now statement.now.text 7 4 }
+    ensures same { tx.new.conn.ghost_name ≡ tx.old.conn.ghost_name }
+    ensures changes { Alters S.Store tx.old.conn.now tx.new.conn.now result
+        (with_rows client.now zone.now (row.now ∷ [])) }
+{
+    let params = [
+        id_of(client),
+        id_of(zone),
+        id_of(&row.sysmod),
+        state_value(row.state),
+    ];
+    run_prepared(tx, statement, &params)
 }
 
 /// What a client has received.

@@ -3,16 +3,13 @@ ghost use Rattle.std.specs.Prelude.{◌≡◌};
 ghost use Rattle.sql_writes.specs.Altering.{Alters, Inserts};
 ghost use Rattle.sql_writes.specs.Parts.{with_callers, with_conds, with_rows, with_sups, without_conds, without_rows, without_sups};
 
-use crate::delete;
-use crate::run::{prepare, run_prepared};
-use crate::values::id_of;
+use crate::run::prepare;
+use crate::{delete, insert};
 use bureau_store::CallerRow;
 use catalogue::CondNeed;
 use mcs_reader::Id;
-use sql_tables::state_value;
 use sql_texts::write;
 use sql_texts::write::{TableById, TableByZone};
-use sqlite::types::ValueRef;
 use sqlite::{Alter, Error, Statement, Transaction};
 use zone_lists::ZoneRow;
 
@@ -30,13 +27,7 @@ pub(crate) fn zone_rows<S: Alter>(
     delete::by_zone(tx, TableByZone::ZoneRow, client, zone)?;
     let statement = prepare(tx, TableByZone::ZoneRow.insertion())?;
     for row in rows {
-        let params = [
-            id_of(client),
-            id_of(zone),
-            id_of(&row.sysmod),
-            state_value(row.state),
-        ];
-        run_prepared(tx, &statement, &params)?;
+        insert::zone_row(tx, &statement, client, zone, row)?;
     }
     Ok(())
 }
@@ -55,7 +46,7 @@ pub(crate) fn superseded<S: Alter>(
 {
     delete::by_id(tx, TableById::SysmodSup, id)?;
     for member in members {
-        run_prepared(tx, statement, &[id_of(id), id_of(member)])?;
+        insert::sup_row(tx, statement, id, member)?;
     }
     Ok(())
 }
@@ -75,8 +66,7 @@ pub(crate) fn conditional<S: Alter>(
 {
     delete::by_id(tx, TableById::SysmodCond, id)?;
     for cond in conds {
-        let params = [id_of(id), id_of(&cond.fmid), id_of(&cond.need)];
-        run_prepared(tx, statement, &params)?;
+        insert::cond_row(tx, statement, id, cond)?;
     }
     Ok(())
 }
@@ -91,8 +81,7 @@ pub(crate) fn callers<S: Alter>(
 {
     let statement = prepare(tx, write::insert_caller())?;
     for row in rows {
-        let params = [id_of(&row.name), ValueRef::Text(row.token.as_bytes())];
-        run_prepared(tx, &statement, &params)?;
+        insert::caller(tx, &statement, row)?;
     }
     Ok(())
 }

@@ -10,6 +10,7 @@ use std::io::{self, ErrorKind};
 ///
 /// The call's own, where it failed in another way or no retry is left. No retry is spent then.
 pub fn spend_retry(error: io::Error, retries: &mut u32) -> io::Result<()>
+    ensures interrupted { OnOk result (error_kind error ≡ ErrorKind.Interrupted) }
     ensures spent { OnOk result (retries.new + 1 ≡ retries.old) }
     ensures given_up { IfErr result (λ error. error_kind error ≡ ErrorKind.Interrupted → retries.new ≡ 0) }
     ensures err { IfErr result (λ refused. (refused ≡ error) × (retries.new ≡ retries.old)) }

@@ -5,7 +5,6 @@ use Rattle.sql_texts.specs.Writes.{insert_given}
 use Rattle.sql_writes.specs.Parts.{with_rows, without_rows}
 use Rattle.sql_state.proofs.StopFacts.{was_clean}
 use Rattle.sql_writes.proofs.ChangeFacts.{changes_then, stopped}
-use Rattle.sql_writes.proofs.ComeFacts.{rows_come}
 use Rattle.sql_writes.proofs.LoadFacts.{begun, ended, more, rows_turn}
 use Rattle.sql_writes.proofs.load.zone_rows.Goals as goal
 
@@ -17,20 +16,21 @@ loop-row-init g c = record {
   clean = λ clean. clean;
 }
 
-pub returns-in_err-run_prepared-clause-changes : goal.returns-in_err-run_prepared-clause-changes
-returns-in_err-run_prepared-clause-changes g c =
-    stopped _ _ _ tt _ _ (λ stored. with_rows c.args.client.now c.args.zone.now (take c.loop-row.row-index c.args.rows.now) (without_rows c.args.client.now c.args.zone.now stored)) _ _ c.from_residual-in_err-run_prepared.ensures.0 c.loop-row.invariant.changes
-    (rows_come _ _ _ _ c.args.client.now c.args.zone.now c.row-item.result c.id_of.result c.id_of-in-loop-row.result c.id_of-in-loop-row-2.result c.state_value.result c.id_of.ensures.value c.id_of-in-loop-row.ensures.value c.id_of-in-loop-row-2.ensures.value c.state_value.ensures
-    (λ clean. subst (λ text. Means bureau text (insert_given 7 4) 4) (sym (c.in_ok-statement.ensures.text (c.loop-row.invariant.clean clean))) c.insertion.ensures) c.in_err-run_prepared.ensures.ran)
+pub zone_row-requires : goal.zone_row-requires
+zone_row-requires g c = record {
+  means = λ clean. subst (λ text. Means bureau text (insert_given 7 4) 4) (sym (c.in_ok-statement.ensures.text (c.loop-row.invariant.clean clean))) c.insertion.ensures;
+}
+
+pub returns-in_err-zone_row-clause-changes : goal.returns-in_err-zone_row-clause-changes
+returns-in_err-zone_row-clause-changes g c =
+    stopped _ _ _ tt _ _ (λ stored. with_rows c.args.client.now c.args.zone.now (take c.loop-row.row-index c.args.rows.now) (without_rows c.args.client.now c.args.zone.now stored)) _ _ c.from_residual-in_err-zone_row.ensures.0 c.loop-row.invariant.changes c.in_err-zone_row.ensures.changes
 
 pub loop-row-preserved : goal.loop-row-preserved
 loop-row-preserved g c = record {
-  same = c.run_prepared.ensures.same ∙ c.loop-row.invariant.same;
+  same = c.zone_row.ensures.same ∙ c.loop-row.invariant.same;
   changes = more _ _ (λ rows stored. with_rows c.args.client.now c.args.zone.now rows (without_rows c.args.client.now c.args.zone.now stored)) (rows_turn c.args.client.now c.args.zone.now) c.args.rows.now _ _ _ tt _ c.loop-row.row-index c.row-item.result c.loop-row-test.true c.row-item.is
-      c.loop-row.invariant.changes
-      (rows_come _ _ _ _ c.args.client.now c.args.zone.now c.row-item.result c.id_of.result c.id_of-in-loop-row.result c.id_of-in-loop-row-2.result c.state_value.result c.id_of.ensures.value c.id_of-in-loop-row.ensures.value c.id_of-in-loop-row-2.ensures.value c.state_value.ensures
-      (λ clean. subst (λ text. Means bureau text (insert_given 7 4) 4) (sym (c.in_ok-statement.ensures.text (c.loop-row.invariant.clean clean))) c.insertion.ensures) c.in_ok-run_prepared.ensures.ran);
-  clean = λ clean. c.loop-row.invariant.clean (was_clean _ _ _ c.run_prepared.ensures.ran.survives clean);
+      c.loop-row.invariant.changes c.in_ok-zone_row.ensures.changes;
+  clean = λ clean. c.loop-row.invariant.clean (was_clean _ _ _ c.zone_row.ensures.changes.survives clean);
 }
 
 pub returns-clause-changes : goal.returns-clause-changes

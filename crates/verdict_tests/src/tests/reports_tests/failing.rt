@@ -49,8 +49,8 @@ struct Asked {
 }
 
 fn what_is_asked(alloc: Global) -> Result<Asked, Fail> {
-    let errors = case(alloc, FIXCAT, ALPHA, Kind::ErrorHold)?;
-    let fixes = case(alloc, FIXCAT, ALPHA, Kind::FixcatHold)?;
+    let errors = case_of(alloc, FIXCAT, ALPHA, Kind::ErrorHold)?;
+    let fixes = case_of(alloc, FIXCAT, ALPHA, Kind::FixcatHold)?;
     Ok(Asked {
         zone: errors.zone,
         name: id("TGT1")?,
