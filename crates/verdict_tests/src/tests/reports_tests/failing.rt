@@ -1,6 +1,6 @@
 //! A source that fails: each call that reads it passes the failure on, whichever read it comes in.
 use super::id;
-use super::worked::{ALPHA, FIXCAT, case};
+use super::worked::{ALPHA, FIXCAT, case_of};
 use crate::tests::content::changes_of;
 use bureau_store::{ListStore, Store};
 use catalogue::{Change, Ids, Published, SourceFault, touched};
@@ -49,8 +49,8 @@ struct Asked {
 }
 
 fn what_is_asked(alloc: Global) -> Result<Asked, Fail> {
-    let errors = case(alloc, FIXCAT, ALPHA, Kind::ErrorHold)?;
-    let fixes = case(alloc, FIXCAT, ALPHA, Kind::FixcatHold)?;
+    let errors = case_of(alloc, FIXCAT, ALPHA, Kind::ErrorHold)?;
+    let fixes = case_of(alloc, FIXCAT, ALPHA, Kind::FixcatHold)?;
     Ok(Asked {
         zone: errors.zone,
         name: id("TGT1")?,

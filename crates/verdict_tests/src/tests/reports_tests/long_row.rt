@@ -1,6 +1,6 @@
 //! A report over a long row of superseding, in which the reasons of many holds stand.
 use super::failing::failing;
-use super::worked::{Case, case};
+use super::worked::{Case, case_of};
 use catalogue::Ids;
 use chains::Whole;
 use holddata::Kind;
@@ -35,7 +35,7 @@ const READS: u64 = 10_000;
 // How many rows the report on a zone has, and how many reads are left after it.
 fn rows_and_left(alloc: Global, zone: &[u8]) -> Result<(usize, u64), Fail> {
     let more = row_and_holds(alloc)?;
-    let Case { zone, holds, .. } = case(alloc, more.as_str(), zone, Kind::ErrorHold)?;
+    let Case { zone, holds, .. } = case_of(alloc, more.as_str(), zone, Kind::ErrorHold)?;
     let mut source = failing(alloc, more.as_str(), READS)?;
     let none = Ids::new(alloc);
     let rows = err_rows(

@@ -43,7 +43,7 @@ pub(crate) struct Case {
     pub holds: Vec<Hold>,
 }
 
-pub(crate) fn case(alloc: Global, more: &str, zone: &[u8], kind: Kind) -> Result<Case, Fail> {
+pub(crate) fn case_of(alloc: Global, more: &str, zone: &[u8], kind: Kind) -> Result<Case, Fail> {
     let mut lists = published_with_base(alloc, more.as_bytes())?;
     let rows = zone_rows(alloc, zone)?;
     let holds = held(alloc, &mut lists, &rows, kind)?;
@@ -52,7 +52,7 @@ pub(crate) fn case(alloc: Global, more: &str, zone: &[u8], kind: Kind) -> Result
 }
 
 fn err_report(alloc: Global, more: &str, received: &[u8]) -> Result<Vec<u8>, Fail> {
-    let mut case = case(alloc, more, ALPHA, Kind::ErrorHold)?;
+    let mut case = case_of(alloc, more, ALPHA, Kind::ErrorHold)?;
     let Case { lists, zone, holds } = &mut case;
     let received = received_rows(alloc, received)?;
     let rows = err_rows(alloc, lists, &mut Whole::new(), zone, &received, holds)?;
@@ -65,7 +65,7 @@ fn missing_report(
     zone: &[u8],
     categories: &[u8],
 ) -> Result<Vec<u8>, Fail> {
-    let mut case = case(alloc, more, zone, Kind::FixcatHold)?;
+    let mut case = case_of(alloc, more, zone, Kind::FixcatHold)?;
     let Case { lists, zone, holds } = &mut case;
     let received = received_rows(alloc, b"SYSMOD\nUA10009\n")?;
     let rows = missing_rows(
