@@ -3,7 +3,8 @@ use bureau_http::replay;
 use std::str;
 use std::test::Fail;
 use testing::{
-    ALPHA, Exchange, FIRST, OK, PUBLISHER, SECOND, assert_equal, reply_text, request_text,
+    ALPHA, Exchange, FIRST, OK, PUBLISHER, SECOND, assert_equal, assert_equal_at, reply_text,
+    request_text,
 };
 
 const CALLERS: &[u8] = b"NAME,TOKEN\nPUBLISH,publisher-token\nALPHA,alpha-token\n";
@@ -78,7 +79,8 @@ fn what_a_function_requires_is_in_its_chains(rt: HostRuntime) -> Result<(), Fail
     assert_equal(written.len(), 8)?;
     for (reply, exchange) in written.iter().zip(&EXCHANGES) {
         let wanted = reply_text(alloc, *exchange)?;
-        assert_equal(str::from_utf8(reply.as_slice()), Ok(wanted.as_str()))?;
+        let got = str::from_utf8(reply.as_slice());
+        assert_equal_at(exchange.0, got, Ok(wanted.as_str()))?;
     }
     Ok(())
 }

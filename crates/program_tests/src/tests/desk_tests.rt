@@ -2,14 +2,15 @@
 //! its reply, also where the connection is cut after any byte and where the output takes any part of the replies.
 use bureau_program::run_replay;
 use std::alloc::Global;
+use std::fmt::Debug;
 use std::hash::RandomState;
 use std::io::{ErrorKind, Write};
 use std::random::RandomSource;
 use std::str;
 use std::test::Fail;
 use testing::{
-    ALPHA, BETA, Exchange, FIRST, Failures, OK, PUBLISHER, SECOND, Slow, Told, assert_equal,
-    assert_equal_at, reply_text, request_text,
+    ALPHA, BETA, Exchange, FIRST, Failures, OK, PUBLISHER, SECOND, Slow, Told, assert_equal_at,
+    reply_text, request_text,
 };
 
 pub const CALLERS: &[u8] =
@@ -187,8 +188,9 @@ fn run_over<W: Write>(
     (status, errors)
 }
 
-// These connections have this on standard output, and nothing fails.
-fn assert_replayed(
+// These connections have this on standard output, and nothing fails. A failure says the place.
+fn assert_replayed<P: Debug + Copy + Drop>(
+    place: P,
     alloc: Global,
     keys: RandomState,
     cache: u32,
@@ -197,8 +199,9 @@ fn assert_replayed(
 ) -> Result<(), Fail> {
     let mut output = Vec::new(alloc);
     let (status, errors) = run_over(alloc, keys, cache, CALLERS, files, &mut output);
-    assert_equal((status, errors.as_slice()), (0, b"".as_slice()))?;
-    assert_equal(str::from_utf8(output.as_slice()), str::from_utf8(wanted))
+    assert_equal_at(place, (status, errors.as_slice()), (0, b"".as_slice()))?;
+    let written = str::from_utf8(output.as_slice());
+    assert_equal_at(place, written, str::from_utf8(wanted))
 }
 
 fn keys_of(rt: &impl RandomSource) -> Result<RandomState, Fail> {
@@ -220,10 +223,10 @@ fn script_in_one_connection_and_in_ten(rt: HostRuntime) -> Result<(), Fail> {
     let (requests, replies) = texts(alloc, &SCRIPT)?;
     let keys = keys_of(&rt)?;
     let one = files_of(alloc, &[requests.as_slice()])?;
-    assert_replayed(alloc, keys, 1_024, one, replies.as_slice())?;
+    assert_replayed("whole", alloc, keys, 1_024, one, replies.as_slice())?;
     for cache in [1, 2, 65_536] {
         let ten = connections(alloc, &SCRIPT)?;
-        assert_replayed(alloc, keys, cache, ten, replies.as_slice())?;
+        assert_replayed(cache, alloc, keys, cache, ten, replies.as_slice())?;
     }
     Ok(())
 }
@@ -238,18 +241,19 @@ fn cut_anywhere(
     let (opening, mut wanted) = texts(alloc, before)?;
     let mut whole = Vec::new(alloc);
     for exchange in exchanges {
+        let (_, first, ..) = exchange.0;
         let text = request_text(alloc, exchange.0)?;
         for cut in 0..text.len() {
             let mut part = whole.clone()?;
             part.extend_from_slice(&text.as_bytes()[..cut])?;
             let files = files_of(alloc, &[opening.as_slice(), part.as_slice()])?;
-            assert_replayed(alloc, keys, 1_024, files, wanted.as_slice())?;
+            assert_replayed((first, cut), alloc, keys, 1_024, files, wanted.as_slice())?;
         }
         whole.extend_from_slice(text.as_bytes())?;
         wanted.extend_from_slice(reply_text(alloc, *exchange)?.as_bytes())?;
     }
     let files = files_of(alloc, &[opening.as_slice(), whole.as_slice()])?;
-    assert_replayed(alloc, keys, 1_024, files, wanted.as_slice())
+    assert_replayed("whole", alloc, keys, 1_024, files, wanted.as_slice())
 }
 
 #[test]

@@ -135,7 +135,7 @@ pub(crate) fn worked(alloc: Global, keys: RandomState) -> Checked<Trial> {
 }
 
 // Asks these one after the other until one is told that there is no room. Then all later ones are told so too. How many were
-/// answered, each as it should be.
+// answered, each as it should be.
 fn served<S: Store, J: Judge<S>>(
     known: &mut ListStore,
     bureau: &mut Bureau<S, J>,

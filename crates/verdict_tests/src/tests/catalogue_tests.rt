@@ -324,13 +324,15 @@ fn ifs_after_one_header(alloc: Global, rows: u32) -> Result<usize, Fail> {
     Ok(one_record(alloc, source.as_bytes())?.conds.as_slice().len())
 }
 
-// The record that statements make, which are taken one at a time.
+// The record that statements make and nothing else, which are taken one at a time.
 fn one_record(alloc: Global, source: &[u8]) -> Result<Sysmod, Fail> {
     let mut reader = ChangeReader::new(alloc);
     for statement in &read(alloc, source)? {
         reader = reader.take(statement)?;
     }
-    match reader.finish()?.pop() {
+    let mut changes = reader.finish()?;
+    assert_equal(changes.len(), 1)?;
+    match changes.pop() {
         Some(Change::Whole(sysmod)) => Ok(sysmod),
         _ => Err("a record".into()),
     }

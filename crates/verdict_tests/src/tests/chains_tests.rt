@@ -4,9 +4,10 @@ use catalogue::{ListPublished, SourceFault};
 use chains::{Frame, Judge, Status, Verdict, Whole, frame, good, plan};
 use mcs_reader::Id;
 use std::alloc::Global;
+use std::fmt::Debug;
 use std::test::Fail;
 use supersede::Zone;
-use testing::{assert_equal, assert_equal_at};
+use testing::assert_equal_at;
 
 mod frames;
 mod random;
@@ -44,8 +45,9 @@ impl Judge<ListPublished> for OneByOne {
     fn drop_touched(&mut self, _ids: &[Id]) {}
 }
 
-// Whether the statuses of ids, asked for together, are those of their verdicts.
-fn assert_statuses(
+// Whether the statuses of ids, asked for together, are those of their verdicts, at a place.
+fn assert_statuses<P: Debug + Drop>(
+    place: P,
     alloc: Global,
     lists: &mut ListPublished,
     zone: &Zone,
@@ -53,11 +55,12 @@ fn assert_statuses(
 ) -> Result<(), Fail> {
     let together = Whole::new().statuses(alloc, lists, zone, ids)?;
     let each = OneByOne.statuses(alloc, lists, zone, ids)?;
-    assert_equal(together.as_slice(), each.as_slice())
+    assert_equal_at(place, together.as_slice(), each.as_slice())
 }
 
 // The status of an id, whose verdict from a frame alone is that over the whole catalogue.
-fn status_by_both(
+fn status_by_both<P: Debug + Copy + Drop>(
+    place: P,
     alloc: Global,
     lists: &mut ListPublished,
     frame: &Frame,
@@ -67,12 +70,13 @@ fn status_by_both(
     let whole = Whole::new().verdict(alloc, lists, zone, id)?;
     let planned = plan(alloc, frame, zone, id)?;
     let (wanted, text) = (verdict_text(alloc, &whole)?, verdict_text(alloc, &planned)?);
-    assert_equal_at(*id, text.as_str(), wanted.as_str())?;
+    assert_equal_at((place, *id), text.as_str(), wanted.as_str())?;
     Ok(whole.status())
 }
 
 // The good ones among all that a frame has.
-fn good_by_both(
+fn good_by_both<P: Debug + Copy + Drop>(
+    place: P,
     alloc: Global,
     lists: &mut ListPublished,
     frame: &Frame,
@@ -80,21 +84,23 @@ fn good_by_both(
 ) -> Result<Vec<Id>, Fail> {
     let mut those: Vec<Id> = Vec::new(alloc);
     for node in frame.nodes() {
-        if status_by_both(alloc, lists, frame, zone, &node.id)? == Status::Good {
+        if status_by_both(place, alloc, lists, frame, zone, &node.id)? == Status::Good {
             those.push(node.id)?;
         }
     }
     Ok(those)
 }
 
-// Whether the verdicts on all that an id reaches, from its frame alone, are those over the whole catalogue.
-fn assert_as_whole(
+// Whether the verdicts on all that an id reaches, from its frame alone, are those over the whole catalogue, at a place.
+fn assert_as_whole<P: Debug + Copy + Drop>(
+    place: P,
     alloc: Global,
     lists: &mut ListPublished,
     zone: &Zone,
     id: &Id,
 ) -> Result<(), Fail> {
     let frame = frame(alloc, lists, id)?;
-    let those = good_by_both(alloc, lists, &frame, zone)?;
-    assert_equal_at(*id, good(alloc, &frame, zone)?.as_slice(), those.as_slice())
+    let those = good_by_both(place, alloc, lists, &frame, zone)?;
+    let good = good(alloc, &frame, zone)?;
+    assert_equal_at((place, *id), good.as_slice(), those.as_slice())
 }

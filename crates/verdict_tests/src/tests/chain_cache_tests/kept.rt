@@ -95,8 +95,11 @@ fn a_frame_is_given_and_kept(rt: HostRuntime) -> Result<(), Fail> {
 }
 
 // A ring of so many SYSMODs is published, each of which needs the next.
-fn ring(alloc: Global, count: u32, keys: RandomState) -> Result<Cached, Fail> {
-    let mut cached = Cached::new(alloc, 16, keys)?;
+fn ring(alloc: Global, capacity: u32, count: u32, keys: RandomState) -> Result<Cached, Fail>
+    requires least { 1 ≤ capacity }
+    requires most { capacity ≤ 65536 }
+{
+    let mut cached = Cached::new(alloc, capacity, keys)?;
     cached.publish(alloc, sequence(alloc, "REQ", count, 0)?.as_bytes())?;
     Ok(cached)
 }
@@ -107,7 +110,7 @@ const RINGS: [(u32, u64); 4] = [(1, 1), (12, 12), (256, 1), (257, 0)];
 
 // How many frames are put for a report on a ring, in which each SYSMOD is good.
 fn built_for_a_report(alloc: Global, count: u32, keys: RandomState) -> Result<u64, Fail> {
-    let mut cached = ring(alloc, count, keys)?;
+    let mut cached = ring(alloc, 16, count, keys)?;
     let statuses = cached.statuses(alloc, &zone_of(alloc, ZONE)?)?;
     assert_equal(statuses.len(), count as usize)?;
     let are_good = statuses.iter().all(|status| *status == Status::Good);
@@ -133,10 +136,11 @@ fn a_chain_of_many_keeps_no_frame(rt: HostRuntime) -> Result<(), Fail> {
     let zone = zone_of(alloc, ZONE)?;
     let other = zone_of(alloc, b"SYSMOD,STATE\nHXX0001,APPLIED\n")?;
     for (count, built) in CHAINS {
-        let mut cached = ring(alloc, count, RandomState::new(&rt)?)?;
+        let mut cached = ring(alloc, 16, count, RandomState::new(&rt)?)?;
         for id in [b"N00007".as_slice(), b"N00003"] {
             let good = cached.verdict(alloc, &zone, &id_of(id)?)?;
-            assert_equal_at(count, ids_in(&good), count as usize)?;
+            let told = (good.as_str().starts_with("GOOD "), ids_in(&good));
+            assert_equal_at(count, told, (true, count as usize))?;
             let lack = cached.verdict(alloc, &other, &id_of(id)?)?;
             assert_equal_at(count, lack.as_str(), "LACK")?;
         }
@@ -172,7 +176,7 @@ fn put_needy(alloc: Global, cached: &mut Cached, count: u32) -> Result<(), Fail>
 #[test]
 fn each_zone_has_its_own_verdicts(rt: HostRuntime) -> Result<(), Fail> {
     let alloc = rt.alloc();
-    let mut cached = ring(alloc, 257, RandomState::new(&rt)?)?;
+    let mut cached = ring(alloc, 1, 257, RandomState::new(&rt)?)?;
     put_needy(alloc, &mut cached, 20)?;
     for zone in [
         0, 1, 19, 0, 7, 2, 3, 4, 5, 6, 8, 9, 10, 11, 12, 13, 14, 15, 0, 16, 1, 19,

@@ -162,5 +162,5 @@ fn verdicts_on_a_row_of_superseding(rt: HostRuntime) -> Result<(), Fail> {
     put_ptf(&mut text, 20_000, "PRE", 99_999)?;
     let mut lists = published(alloc, text.as_bytes())?;
     let zone = zone_of(alloc, ZONE)?;
-    assert_as_whole(alloc, &mut lists, &zone, &id_of(b"N20000")?)
+    assert_as_whole("SUP", alloc, &mut lists, &zone, &id_of(b"N20000")?)
 }

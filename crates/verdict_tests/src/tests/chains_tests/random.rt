@@ -275,9 +275,9 @@ fn verdicts_are_those_of_a_plain_slow_body(rt: HostRuntime) -> Result<(), Fail> 
             )?;
             ids.push(sysmod)?;
         }
-        assert_statuses(alloc, &mut lists, &zone, &ids)?;
+        assert_statuses(content, alloc, &mut lists, &zone, &ids)?;
         let one = ids.get((content & 7) as usize).copied().ok_or("an id")?;
-        assert_as_whole(alloc, &mut lists, &zone, &one)?;
+        assert_as_whole(content, alloc, &mut lists, &zone, &one)?;
     }
     Ok(())
 }

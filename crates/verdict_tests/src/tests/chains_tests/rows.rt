@@ -113,8 +113,8 @@ fn worked_verdicts(rt: HostRuntime) -> Result<(), Fail> {
         let zone = zone_of(alloc, zone)?;
         let id = id_of(id)?;
         assert_equal_at(id, judged(alloc, &mut lists, &zone, &id)?.as_str(), text)?;
-        assert_statuses(alloc, &mut lists, &zone, &[id])?;
-        assert_as_whole(alloc, &mut lists, &zone, &id)?;
+        assert_statuses(id, alloc, &mut lists, &zone, &[id])?;
+        assert_as_whole(id, alloc, &mut lists, &zone, &id)?;
     }
     Ok(())
 }

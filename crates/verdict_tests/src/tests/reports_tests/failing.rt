@@ -1,6 +1,6 @@
 //! A source that fails: each call that reads it passes the failure on, whichever read it comes in.
 use super::id;
-use super::worked::{ALPHA, FIXCAT, case};
+use super::worked::{ALPHA, FIXCAT, case_of};
 use crate::tests::content::changes_of;
 use bureau_store::{ListStore, Store};
 use catalogue::{Change, Ids, Published, SourceFault, touched};

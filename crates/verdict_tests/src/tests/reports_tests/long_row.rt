@@ -1,6 +1,6 @@
 //! A report over a long row of superseding, in which the reasons of many holds stand.
 use super::failing::failing;
-use super::worked::{Case, case};
+use super::worked::{Case, case_of};
 use catalogue::Ids;
 use chains::Whole;
 use holddata::Kind;
