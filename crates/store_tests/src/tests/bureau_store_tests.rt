@@ -230,6 +230,11 @@ fn each_client_has_what_it_put(rt: HostRuntime) -> Result<(), Fail> {
         assert_equal(told(alloc, &mut store, &alpha)?.as_str(), text)?;
     }
     assert_equal(told(alloc, &mut store, &beta)?.as_str(), of_beta)?;
+    // ALPHA has a zone of that name by now
+    make(alloc, &mut store, &beta, 2, step)?;
+    assert_equal(told(alloc, &mut store, &alpha)?.as_str(), OF_ALPHA[7].1)?;
+    let of_beta = "2 zone; TGT1 1: HBB7790; received";
+    assert_equal(told(alloc, &mut store, &beta)?.as_str(), of_beta)?;
     assert_equal(told(alloc, &mut store, &gamma)?.as_str(), "0 ; received")
 }
 
