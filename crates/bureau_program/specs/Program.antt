@@ -26,6 +26,15 @@ pub record Outputs : Type 0 where
   pub errors : Option (List ℕ)
   pub told : Option (List ℕ)
 
+-- the same, by how what a writer has is known
+abbrev pub outputs_of : {Output Errors : Type 0} → (Output → Option (List ℕ)) → (Errors → Option (List ℕ)) → Output → Output → Errors → Errors → Outputs
+outputs_of contents errors_contents output written errors told = record {
+  output = contents output;
+  written = contents written;
+  errors = errors_contents errors;
+  told = errors_contents told;
+}
+
 -- a run that ends before it makes anything: standard output stays, standard error has the fault's line, the status is 3
 abbrev pub IsEndedBy : ProgramFault → Outputs → ℕ → Type 0
 IsEndedBy fault outputs status =

@@ -2,7 +2,7 @@
 ghost use Rattle.std.specs.Prelude.{◌≡◌, ◌↔◌, codes, false, map, string_bytes, IfErr, IfOk, IsTrue, Some};
 ghost use Rattle.faults.specs.Refusal.{IsRefusal};
 ghost use Rattle.transfer.specs.Transfer.{AppendsFront};
-ghost use Rattle.bureau_program.specs.Program.{IsAnswered, IsHolds, IsInit, IsNotBegun, IsReplay, IsRun};
+ghost use Rattle.bureau_program.specs.Program.{IsAnswered, IsHolds, IsInit, IsNotBegun, IsReplay, IsRun, outputs_of};
 ghost use Rattle.bureau_program.specs.Holds.{IsTold};
 ghost use Rattle.bureau_program.specs.ProgramFault.{of_program};
 ghost use Rattle.bureau_program.specs.Surroundings.{AreContents, IsContent};
@@ -37,12 +37,7 @@ pub fn run<S: Surroundings + Clock, I: Read, O: Write, E: Write>(
 ) -> u8
     ensures { IsRun (S.known_words surroundings.now) (S.known_file surroundings.now)
         (I.remaining input.old) (I.remaining input.new)
-        (record {
-          output = O.contents output.old;
-          written = O.contents output.new;
-          errors = E.contents errors.old;
-          told = E.contents errors.new;
-        }) result }
+        (outputs_of O.contents E.contents output.old output.new errors.old errors.new) result }
 {
     let line = match surroundings.words(alloc) {
         Ok(words) => line_of(alloc, words.as_slice()),
@@ -62,12 +57,7 @@ fn answer<S: Surroundings + Clock, I: Read, O: Write, E: Write>(
 ) -> u8
     ensures { IsAnswered (S.known_file surroundings.now) line
         (I.remaining input.old) (I.remaining input.new)
-        (record {
-          output = O.contents output.old;
-          written = O.contents output.new;
-          errors = E.contents errors.old;
-          told = E.contents errors.new;
-        }) result }
+        (outputs_of O.contents E.contents output.old output.new errors.old errors.new) result }
 {
     match line {
         Ok(Line::Holds { file }) => {
@@ -120,12 +110,7 @@ fn do_holds<S: Surroundings, I: Read, O: Write, E: Write>(
 ) -> u8
     ensures { IsHolds (S.known_file surroundings.now) file.now
         (I.remaining input.old) (I.remaining input.new)
-        (record {
-          output = O.contents output.old;
-          written = O.contents output.new;
-          errors = E.contents errors.old;
-          told = E.contents errors.new;
-        }) result }
+        (outputs_of O.contents E.contents output.old output.new errors.old errors.new) result }
 {
     if is_standard_input(file) {
         return run_holds(alloc, input, output, errors);
@@ -154,12 +139,7 @@ fn do_replay<S: Surroundings, O: Write, E: Write>(
     errors: &mut E,
 ) -> u8
     ensures { IsReplay (S.known_file surroundings.now) callers.now (map string_bytes files.now)
-        (record {
-          output = O.contents output.old;
-          written = O.contents output.new;
-          errors = E.contents errors.old;
-          told = E.contents errors.new;
-        }) result }
+        (outputs_of O.contents E.contents output.old output.new errors.old errors.new) result }
 {
     let (callers, connections) = match read_files(surroundings, alloc, callers, files) {
         Ok(read) => read,
@@ -185,12 +165,7 @@ fn do_init<S: Surroundings, O: Write, E: Write>(
     errors: &mut E,
 ) -> u8
     ensures { IsInit (S.known_file surroundings.now) callers.now
-        (record {
-          output = O.contents output.old;
-          written = O.contents output.new;
-          errors = E.contents errors.old;
-          told = E.contents errors.new;
-        }) result }
+        (outputs_of O.contents E.contents output.old output.new errors.old errors.new) result }
 {
     match read_and_connect(surroundings, alloc, store, callers) {
         Ok((callers, conn)) => {

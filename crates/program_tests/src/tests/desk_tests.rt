@@ -9,8 +9,8 @@ use std::random::RandomSource;
 use std::str;
 use std::test::Fail;
 use testing::{
-    ALPHA, BETA, Exchange, FIRST, Failures, OK, PUBLISHER, SECOND, Slow, Told, assert_equal_at,
-    reply_text, request_text,
+    ALPHA, BETA, Exchange, FIRST, Failures, LONG_PLAN, OK, ONE_RESOLVER, PUBLISHER, SECOND,
+    SHORT_PLAN, Slow, TWO_RESOLVERS, Told, assert_equal_at, reply_text, request_text,
 };
 
 pub const CALLERS: &[u8] =
@@ -20,18 +20,6 @@ const BASE: &str =
     "++FUNCTION(HBB7790).\n++VER(Z038).\n++PTF(UA10001).\n++VER(Z038) FMID(HBB7790).\n++PTF(UA10002).\n++VER(Z038) FMID(HBB7790) PRE(UA10001) SUP(AA20002).\n++HOLD(UA10001) ERROR FMID(HBB7790)\n REASON(AA20002) CLASS(PE) DATE(12045).\n";
 
 const BOTH: &str = "SYSMOD,STATE\nHBB7790,APPLIED\nUA10001,APPLIED\n";
-
-const ONE_RESOLVER: &str =
-    "EXCEPTION SYSMOD REPORT FOR ZONE TGT1\nFMID     SYSMOD   REASON   RESOLVER STATUS RECEIVED CLASS\nHBB7790  UA10001  AA20002  UA10002  GOOD   NO       PE\nROWS 1\n";
-
-const TWO_RESOLVERS: &str =
-    "EXCEPTION SYSMOD REPORT FOR ZONE TGT1\nFMID     SYSMOD   REASON   RESOLVER STATUS RECEIVED CLASS\nHBB7790  UA10001  AA20002  UA10002  GOOD   NO       PE\nHBB7790  UA10001  AA20002  UA10005  GOOD   NO       PE\nROWS 2\n";
-
-const PLAN_OF_ONE: &str =
-    "{\"plan\":[{\"id\":\"UA10002\",\"system\":[],\"user\":[]}],\"status\":\"GOOD\",\"sysmod\":\"UA10002\",\"zone\":\"TGT1\"}";
-
-const PLAN_OF_TWO: &str =
-    "{\"plan\":[{\"id\":\"UA10001\",\"system\":[],\"user\":[]},{\"id\":\"UA10002\",\"system\":[],\"user\":[]}],\"status\":\"GOOD\",\"sysmod\":\"UA10002\",\"zone\":\"TGT1\"}";
 
 const FUNCTION: &str = "SYSMOD,STATE\nHBB7790,APPLIED\n";
 
@@ -51,11 +39,11 @@ static SCRIPT: [Exchange; 10] = [
     ),
     (
         (ALPHA, "GET /zones/TGT1/chains/UA10002", "", ""),
-        (OK, "", PLAN_OF_ONE),
+        (OK, "", SHORT_PLAN),
     ),
     (
         (BETA, "GET /zones/TGT1/chains/UA10002", "", ""),
-        (OK, "", PLAN_OF_TWO),
+        (OK, "", LONG_PLAN),
     ),
     (
         (ALPHA, "GET /zones/TGT1/errsysmods", "", ""),
@@ -80,7 +68,7 @@ static SCRIPT: [Exchange; 10] = [
     ),
     (
         (ALPHA, "GET /zones/TGT1/chains/UA10002", "", ""),
-        (OK, "", PLAN_OF_ONE),
+        (OK, "", SHORT_PLAN),
     ),
 ];
 

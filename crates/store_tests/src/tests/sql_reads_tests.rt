@@ -137,13 +137,16 @@ fn rows_in(
     Ok(zone(alloc, at_rest(conn)?, client, name)?.map(|rows| rows.len()))
 }
 
-fn patterns_in(
+// How many patterns are asked for in a client's zone, and how many ERROR holds are on what is installed there.
+fn asked_in(
     alloc: Global,
     conn: &mut Connection<MemStore>,
     client: &Id,
     name: &Id,
-) -> Result<usize, ReadFault> {
-    Ok(patterns(alloc, at_rest(conn)?, client, name)?.len())
+) -> Result<(usize, usize), ReadFault> {
+    let asked = patterns(alloc, at_rest(conn)?, client, name)?.len();
+    let errors = held_in(alloc, at_rest(conn)?, client, name, Kind::ErrorHold)?.len();
+    Ok((asked, errors))
 }
 
 fn received_ids(
@@ -152,15 +155,6 @@ fn received_ids(
     client: &Id,
 ) -> Result<usize, ReadFault> {
     Ok(received(alloc, at_rest(conn)?, client)?.len())
-}
-
-fn errors_in(
-    alloc: Global,
-    conn: &mut Connection<MemStore>,
-    client: &Id,
-    name: &Id,
-) -> Result<usize, ReadFault> {
-    Ok(held_in(alloc, at_rest(conn)?, client, name, Kind::ErrorHold)?.len())
 }
 
 fn all_ids(alloc: Global, conn: &mut Connection<MemStore>) -> Result<usize, ReadFault> {
@@ -250,9 +244,8 @@ fn a_client_finds_what_it_has(rt: HostRuntime) -> Result<(), Fail> {
         let client = id(client)?;
         assert_equal(zone_total(&mut conn, &client)?, named)?;
         assert_equal(rows_in(alloc, &mut conn, &client, &target)?, rows)?;
-        assert_equal(patterns_in(alloc, &mut conn, &client, &target)?, each)?;
+        assert_equal(asked_in(alloc, &mut conn, &client, &target)?, (each, each))?;
         assert_equal(received_ids(alloc, &mut conn, &client)?, 2 * each)?;
-        assert_equal(errors_in(alloc, &mut conn, &client, &target)?, each)?;
     }
     let found = zone_names(alloc, &mut conn, &id(b"ALPHA")?)?;
     assert!(rt; found.as_slice() == [(id(b"DLIB1")?, 0), (target, 1)].as_slice());
