@@ -16,14 +16,12 @@ fn found_one(rows: usize, text: &'static str) -> Result<(), Fail> {
     None.ok_or(text)?
 }
 
-// A text, and the values that it is given.
-type Given<'a> = (&'static str, &'a [ValueRef<'a>]);
-
-fn write_each(conn: &mut Connection<MemStore>, given: &[Given<'_>]) -> Result<(), Fail> {
-    for (text, values) in given {
-        found_one(conn.execute(text, values)?, text)?;
-    }
-    Ok(())
+fn write_one(
+    conn: &mut Connection<MemStore>,
+    text: &'static str,
+    values: &[ValueRef<'_>],
+) -> Result<(), Fail> {
+    found_one(conn.execute(text, values)?, text)
 }
 
 fn read_each(
@@ -38,28 +36,23 @@ fn read_each(
 }
 
 fn fill(conn: &mut Connection<MemStore>) -> Result<(), Fail> {
-    let reply = ValueRef::Blob(b"OK");
+    let change = [ALPHA, ONE, ValueRef::Blob(b"OK")];
+    let sysmod = [FIX, ONE, BASE, NOTHING, NOTHING];
     let no_date = ValueRef::Int(-1);
     let hold = [FIX, ZERO, FIXED, BASE, NOTHING, no_date, NOTHING, NOTHING];
-    let by_id: [Given<'_>; 5] = [
-        (TableById::LastChange.insertion(), &[ALPHA, ONE, reply]),
-        (
-            TableById::Sysmod.insertion(),
-            &[FIX, ONE, BASE, NOTHING, NOTHING],
-        ),
-        (TableById::SysmodSup.insertion(), &[FIX, FIXED]),
-        (TableById::SysmodCond.insertion(), &[FIX, BASE, FIXED]),
-        (TableById::ReceivedList.insertion(), &[ALPHA, FIX]),
-    ];
-    let by_zone: [Given<'_>; 2] = [
-        (TableByZone::ZoneHead.insertion(), &[ALPHA, ZONE, NOTHING]),
-        (TableByZone::ZoneRow.insertion(), &[ALPHA, ZONE, FIX, ZERO]),
-    ];
-    write_each(conn, &[(write::insert_version(), &[])])?;
-    write_each(conn, &[(write::insert_caller(), &[ALPHA, TOKEN])])?;
-    write_each(conn, &[(write::insert_hold_row(), &hold)])?;
-    write_each(conn, &by_id)?;
-    write_each(conn, &by_zone)
+    let head = [ALPHA, ZONE, NOTHING];
+    let row = [ALPHA, ZONE, FIX, ZERO];
+    let cond = [FIX, BASE, FIXED];
+    write_one(conn, write::insert_version(), &[])?;
+    write_one(conn, write::insert_caller(), &[ALPHA, TOKEN])?;
+    write_one(conn, write::insert_hold_row(), &hold)?;
+    write_one(conn, TableById::LastChange.insertion(), &change)?;
+    write_one(conn, TableById::Sysmod.insertion(), &sysmod)?;
+    write_one(conn, TableById::SysmodSup.insertion(), &[FIX, FIXED])?;
+    write_one(conn, TableById::SysmodCond.insertion(), &cond)?;
+    write_one(conn, TableById::ReceivedList.insertion(), &[ALPHA, FIX])?;
+    write_one(conn, TableByZone::ZoneHead.insertion(), &head)?;
+    write_one(conn, TableByZone::ZoneRow.insertion(), &row)
 }
 
 fn look(conn: &mut Connection<MemStore>) -> Result<(), Fail> {
@@ -94,21 +87,15 @@ fn look(conn: &mut Connection<MemStore>) -> Result<(), Fail> {
 }
 
 fn clear(conn: &mut Connection<MemStore>) -> Result<(), Fail> {
-    let by_id: [Given<'_>; 5] = [
-        (TableById::LastChange.deletion(), &[ALPHA]),
-        (TableById::Sysmod.deletion(), &[FIX]),
-        (TableById::SysmodSup.deletion(), &[FIX]),
-        (TableById::SysmodCond.deletion(), &[FIX]),
-        (TableById::ReceivedList.deletion(), &[ALPHA]),
-    ];
-    let by_zone: [Given<'_>; 2] = [
-        (TableByZone::ZoneHead.deletion(), &[ALPHA, ZONE]),
-        (TableByZone::ZoneRow.deletion(), &[ALPHA, ZONE]),
-    ];
-    write_each(conn, &[(write::delete_version(), &[])])?;
-    write_each(conn, &[(write::delete_hold(), &[FIX, ZERO, FIXED])])?;
-    write_each(conn, &by_id)?;
-    write_each(conn, &by_zone)
+    write_one(conn, write::delete_version(), &[])?;
+    write_one(conn, write::delete_hold(), &[FIX, ZERO, FIXED])?;
+    write_one(conn, TableById::LastChange.deletion(), &[ALPHA])?;
+    write_one(conn, TableById::Sysmod.deletion(), &[FIX])?;
+    write_one(conn, TableById::SysmodSup.deletion(), &[FIX])?;
+    write_one(conn, TableById::SysmodCond.deletion(), &[FIX])?;
+    write_one(conn, TableById::ReceivedList.deletion(), &[ALPHA])?;
+    write_one(conn, TableByZone::ZoneHead.deletion(), &[ALPHA, ZONE])?;
+    write_one(conn, TableByZone::ZoneRow.deletion(), &[ALPHA, ZONE])
 }
 
 #[test]
