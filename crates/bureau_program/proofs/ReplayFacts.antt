@@ -1,5 +1,5 @@
 -- What a writer gets of texts that are written one after the other, and why nothing is written.
-use Rattle.std.proofs.Common.{◌≡◌, inl, ℕ, ◌+◌, ◌<◌, List, [], ◌∷◌, ◌++◌, length, map, take, drop, get_or, Option, sym, ap, ◌∙◌, subst, append-nil, append_assoc, take-append-drop}
+use Rattle.std.proofs.Common.{◌≡◌, inl, inr, ℕ, ◌+◌, ◌<◌, List, [], ◌∷◌, ◌++◌, length, map, take, drop, get_or, Option, sym, ap, ◌∙◌, subst, append-nil, append_assoc, take-append-drop}
 use Rattle.std.proofs.KnownBytes.{Appends-trans}
 use Rattle.std.proofs.lemmas.Grind.{flat_map-append}
 use Rattle.std.proofs.lemmas.List.{map-append, take_more}
@@ -8,6 +8,9 @@ use Rattle.transfer.specs.Transfer.{AppendsFront}
 use Rattle.transfer.proofs.FrontFacts.{front_first, front_second}
 use Rattle.faults.specs.declared.any.AnyFault.{AnyFault}
 use Rattle.bureau_store.specs.declared.fault.StoreFault.TheVariants.{Device}
+use Rattle.bureau_http.specs.ConnFault.{run_told}
+use Rattle.bureau_http.specs.declared.fault.RunFault.{RunFault}
+use Rattle.bureau_http.specs.declared.fault.RunFault.TheVariants as run
 use Rattle.bureau_program.specs.Desk.{of_store}
 use Rattle.bureau_program.specs.Replay.{IsNotServed, joined}
 
@@ -43,3 +46,7 @@ module _ {V : Type 0} (f : V → List ℕ) (texts : List V) (i : ℕ) (item : V)
 -- the device of the store has failed
 pub device_not_served : (fault : AnyFault) → fault ≡ of_store Device → IsNotServed fault
 device_not_served fault is = inl (Device, is)
+
+-- memory ran out as connections were served
+pub memory_not_served : (refused : RunFault) (fault : AnyFault) → fault ≡ run_told refused → IsNotServed fault
+memory_not_served run.Memory fault is = inr (inr is)

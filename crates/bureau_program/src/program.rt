@@ -155,7 +155,6 @@ fn do_replay<S: Surroundings, O: Write, E: Write>(
 }
 
 // Makes a store in a file, with the callers of the callers file.
-#[tactic(auto, using(crate::proofs::DeskFacts::database_unknown))]
 fn do_init<S: Surroundings, O: Write, E: Write>(
     surroundings: &S,
     alloc: Global,

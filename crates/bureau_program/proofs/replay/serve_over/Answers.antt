@@ -4,7 +4,7 @@ use Rattle.bureau_store.specs.Tables.{opened}
 use Rattle.bureau_sql.specs.SqlView.{IsOurStore, sql_view}
 use Rattle.sqlite_trees.specs.View.{doubt}
 use Rattle.chain_cache.specs.Cache.{IsRightFor}
-use Rattle.bureau_program.proofs.ReplayFacts.{device_not_served}
+use Rattle.bureau_program.proofs.ReplayFacts.{device_not_served, memory_not_served}
 use Rattle.bureau_program.proofs.replay.serve_over.Goals as goal
 
 pub returns-in-Ok-served-clause-served : goal.returns-in-Ok-served-clause-served
@@ -23,3 +23,6 @@ returns-in-Ok-served-clause-served g c = λ always rights.
 
 pub returns-then-device_failed-clause-fault : goal.returns-then-device_failed-clause-fault
 returns-then-device_failed-clause-fault g c = device_not_served c.of_store-then-device_failed.result c.of_store-then-device_failed.ensures
+
+pub returns-clause-fault : goal.returns-clause-fault
+returns-clause-fault g c = memory_not_served c.in-Err-served.fault c.from.result c.from.ensures
