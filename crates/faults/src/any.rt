@@ -10,7 +10,7 @@ use itoa::Buffer;
 /// A fault of any kind, by what is told of it. `?` makes it of each [`Fault`].
 #[derive(Clone, Copy, Debug, PartialEq, Eq)]
 pub struct AnyFault {
-    /// The number in print, from 1 to 99.
+    /// The number in print. What `told` of a [`Fault`] gives is from 1 to 99.
     pub number: u8,
     /// Where the fault is: the line of a source on which the statement begins, or the number of a list's record,
     /// counted from 1. A fault of all that was given has no place, nor has one of the machine.

@@ -1,5 +1,5 @@
 //! Reasons to refuse something.
-ghost use Rattle.std.specs.Prelude.{◌≡◌, ℕ, ◌<◌};
+ghost use Rattle.std.specs.Prelude.{◌≡◌, ◌<◌};
 ghost use Rattle.faults.specs.declared.any.AnyFault.{AnyFault};
 
 use crate::AnyFault;

@@ -1,8 +1,8 @@
 //! Tests of what is read: tables in columns, lines of faults, bytes in and out, statements, lists, HOLDDATA and
 //! requests.
 //!
-//! Each NAME_tests file tests the public items of the crate that it is named after; `pieces` has the reader that two
-//! of them share. A crate with tests of its own is proved twice by the gate, so those of the lower crates stand here.
+//! Each NAME_tests file tests the public items of the crate that it is named after. A crate with tests of its own is
+//! proved twice by the gate, so those of the lower crates stand here.
 #![tactic(auto)]
 
 #[cfg(test)]
