@@ -12,6 +12,13 @@ use Rattle.bureau_store.specs.declared.fault.CallerFault.TheVariants as callers
 use Rattle.bureau_store.specs.declared.fault.StoreFault.{StoreFault}
 use Rattle.bureau_store.specs.declared.fault.StoreFault.TheVariants as store
 use Rattle.bureau_sql.specs.Founded.{AreFounded, IsNotMade}
+use Rattle.bureau_sql.specs.Opening.{HasConditions, HasTables, IsNoStore}
+use Rattle.bureau_sql.specs.SqlState.{SqlState}
+use Rattle.bureau_sql.specs.SqlView.{IsOurStore, shown}
+use Rattle.sql_reads.specs.Version.{HasVersion}
+use Rattle.sql_state.specs.Ours.{IsOurs}
+use Rattle.sql_state.specs.Reading.{OnlyReads}
+use Rattle.sqlite_trees.specs.declared.store.Store.{Ghosts}
 use Rattle.sqlite.specs.State.{HasCleanDisk, KeepsCommit, State, Survives}
 use Rattle.sql_writes.specs.Making.{IsOpened}
 use Rattle.bureau_program.specs.Holds.{IsTold, run_status}
@@ -23,6 +30,10 @@ abbrev pub of_store : StoreFault → AnyFault
 of_store fault = store_fault.told fault
 
 -- ---- init
+
+-- a callers file has these rows
+abbrev pub AreRowsOf : List ℕ → List CallerRow → Type 0
+AreRowsOf source rows = callers_of source ≡ Ok rows
 
 -- how many callers there are
 abbrev pub init_text : List CallerRow → List ℕ
@@ -48,16 +59,16 @@ IsInitRefused source before fault =
 -- a write failed: standard output has a front part of the line, and the store is made
 abbrev pub IsInitCutShort : AnyFault → List ℕ → Option (List ℕ) → Option (List ℕ) → Type 0
 IsInitCutShort fault source old new =
-    (fault ≡ of_program NotWritten) × ((rows : List CallerRow) × (callers_of source ≡ Ok rows) × AppendsFront old new (init_text rows))
+    (fault ≡ of_program NotWritten) × ((rows : List CallerRow) × AreRowsOf source rows × AppendsFront old new (init_text rows))
 
 -- What standard output gets: how many callers the file has; or nothing, where no store is made.
 abbrev pub IsInitOutput : Option AnyFault → List ℕ → Option (List ℕ) → Option (List ℕ) → Type 0
-IsInitOutput None source old new = (rows : List CallerRow) × (callers_of source ≡ Ok rows) × Appends old new (init_text rows)
+IsInitOutput None source old new = (rows : List CallerRow) × AreRowsOf source rows × Appends old new (init_text rows)
 IsInitOutput (Some fault) source old new = IsInitCutShort fault source old new ⊎ (IsInitFault source fault × Keeps old new)
 
 -- the database has the tables of a store with the file's callers, and no other row
 abbrev pub HasCallers : List ℕ → State → Type 0
-HasCallers source after = HasCleanDisk after → (rows : List CallerRow) × (callers_of source ≡ Ok rows) × IsOpened rows after.committed
+HasCallers source after = HasCleanDisk after → (rows : List CallerRow) × AreRowsOf source rows × IsOpened rows after.committed
 
 -- What is left of the database of a connection: the tables, also where only the line couldn't be written; else what was there.
 abbrev pub IsInitLeft : Option AnyFault → List ℕ → State → State → Type 0
@@ -68,7 +79,7 @@ IsInitLeft (Some fault) source before after =
 
 -- What a stop may leave: the trees of a store with the file's callers and no other row, and else what it might have left before.
 abbrev pub InitSurvives : List ℕ → State → State → Type 0
-InitSurvives source before after = (rows : List CallerRow) → callers_of source ≡ Ok rows → Survives before after (AreFounded before rows)
+InitSurvives source before after = (rows : List CallerRow) → AreRowsOf source rows → Survives before after (AreFounded before rows)
 
 -- A whole run: from a callers file to what is left of the database, what standard output and standard error get, and the exit
 -- status.
@@ -81,11 +92,25 @@ pub record IsInitRun (Leaves : Option AnyFault → Type 0) (source : List ℕ) (
 
 -- ---- a store that is opened
 
+-- No device has failed, and the database was only read. Where the disk returned what was written, it is of version 2, its
+-- tables and conditions are there, and a store that was ours is ours.
+pub record HasOpened {S : Type 0} (ghosts : Ghosts S) (before : State) (store : SqlState S) : Type 0 where
+  pub opened : store.failures ≡ 0
+  pub reads : OnlyReads before (shown ghosts store)
+  pub version : HasCleanDisk (shown ghosts store) → HasVersion (Some 2) before.committed
+  pub found : HasCleanDisk (shown ghosts store) → HasTables before.committed.schema × HasConditions before.committed.schema
+  pub ours : HasCleanDisk (shown ghosts store) → IsOurs before.committed → IsOurStore ghosts store
+
 -- it is refused for a reason that it has, and the reason is told
 abbrev pub IsOpenRefused : (StoreFault → Type 0) → Option (List ℕ) → Option (List ℕ) → ℕ → Type 0
 IsOpenRefused Has old_errors new_errors status =
     (refused : StoreFault) × Has refused × IsTold (Some (of_store refused)) old_errors new_errors
     × (status ≡ run_status (Some (of_store refused)))
+
+-- the database was only read, and why it is refused is told
+pub record IsNotOpened (before after : State) (old_errors new_errors : Option (List ℕ)) (status : ℕ) : Type 0 where
+  pub kept : OnlyReads before after
+  pub told : IsOpenRefused (λ fault. HasCleanDisk after → IsNoStore before fault) old_errors new_errors status
 
 -- ---- serve
 

@@ -14,6 +14,7 @@ use Rattle.holddata.specs.HoldBook.{book_of, IsLeft}
 use Rattle.holddata.specs.HoldFault as hold
 use Rattle.holddata.specs.Statements.{changes_of, first_fault}
 use Rattle.holddata.specs.declared.hold.Hold.{Hold}
+use Rattle.holddata.specs.declared.hold.HoldChange.{HoldChange}
 use Rattle.holddata.specs.declared.fault.HoldFault.{HoldFault}
 use Rattle.holddata.specs.declared.fault.HoldFault.TheVariants as hold_fault
 use Rattle.transfer.specs.Transfer.{AppendsFront, ConsumesUpTo}
@@ -32,9 +33,13 @@ of_source fault = mcs.told fault
 abbrev pub of_holds : HoldFault → AnyFault
 of_holds fault = hold.told fault
 
+-- the hold book that changes leave, in print
+abbrev pub print_left : List HoldChange → List ℕ
+print_left changes = book_text (book_of changes)
+
 -- what statements make, whose first fault is this one, if they have one: the print of the hold book that they leave
 abbrev pub book_print : Option HoldFault → List Statement → Result (List ℕ) AnyFault
-book_print None statements = Ok (book_text (book_of (changes_of statements)))
+book_print None statements = Ok (print_left (changes_of statements))
 book_print (Some fault) statements = Err (of_holds fault)
 
 -- the same of what a source is read as

@@ -7,6 +7,8 @@ use Rattle.bureau_http.specs.ConnFault.{run_told}
 use Rattle.bureau_http.specs.Replay.{IsReplayed}
 use Rattle.bureau_http.specs.declared.fault.RunFault.TheVariants as run
 use Rattle.bureau_store.specs.declared.fault.StoreFault.{StoreFault}
+use Rattle.catalogue.specs.Content.{Content}
+use Rattle.chain_cache.specs.Cache.{CacheLists, IsRightFor}
 use Rattle.bureau_program.specs.Desk.{IsCallersFault, of_store}
 use Rattle.transfer.specs.Transfer.{AppendsFront}
 use Rattle.bureau_program.specs.Holds.{IsTold, run_status}
@@ -17,6 +19,10 @@ use Rattle.sqlite_trees.specs.declared.store.Store.{Ghosts}
 -- files in which each byte that is read is the one that was written, whatever happens
 abbrev pub IsAlwaysClean : {S : Type 0} → Ghosts S → Type 0
 IsAlwaysClean {S} g = (store : S) → (g.view store).is_clean ≡ true
+
+-- a cache that is right for whatever is published
+abbrev pub IsAlwaysRight : CacheLists → Type 0
+IsAlwaysRight cache = (content : Content) → IsRightFor cache content
 
 -- what was written to each connection, in order
 abbrev pub joined : List (List ℕ) → List ℕ

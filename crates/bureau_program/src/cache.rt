@@ -1,7 +1,6 @@
 //! The cache of frames that all callers of a desk share.
 ghost use Rattle.std.specs.Prelude.{◌≡◌, IfErr, IfOk};
-ghost use Rattle.catalogue.specs.Content.{Content};
-ghost use Rattle.chain_cache.specs.Cache.{IsRightFor};
+ghost use Rattle.bureau_program.specs.Replay.{IsAlwaysRight};
 
 use crate::fault::ProgramFault;
 use chain_cache::ChainCache;
@@ -17,7 +16,7 @@ const CAPACITY_MOST: u32 = 65_536;
 ///
 /// `Memory` where memory ran out.
 pub fn cache_of(alloc: Global, capacity: u32, keys: RandomState) -> Result<ChainCache, ProgramFault>
-    ensures right { IfOk result (λ cache. (content : Content) → IsRightFor cache content) }
+    ensures right { IfOk result IsAlwaysRight }
     ensures fault { IfErr result (λ fault. fault ≡ ProgramFault.Memory) }
 {
     let capacity = capacity.clamp(1, CAPACITY_MOST);

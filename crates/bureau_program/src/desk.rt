@@ -1,20 +1,13 @@
 //! `init` and `serve`: a desk whose store is kept in a file.
-ghost use Rattle.std.specs.Prelude.{◌≡◌, ◌<◌, ◌⊎◌, ◌++◌, codes, decimal, false, IfErr, IfOk, OnErr, OnOk, Ok, Some};
+ghost use Rattle.std.specs.Prelude.{◌≡◌, ◌<◌, ◌⊎◌, ◌++◌, codes, decimal, false, IfErr, IfOk, OnErr, OnOk, Some};
 ghost use Rattle.std.specs.Io.KnownBytes.{Appends};
 ghost use Rattle.bureau.specs.Answering.{bureau_view};
 ghost use Rattle.bureau_http.specs.Service.{IsSound};
-ghost use Rattle.bureau_program.specs.Desk.{InitSurvives, IsCallersFault, IsInitLeft, IsInitOutput, IsInitRun, IsOpenRefused, IsServeFault, IsServeOutput, IsServeRun, init_text, listening_text, of_store};
+ghost use Rattle.bureau_program.specs.Desk.{AreRowsOf, HasOpened, InitSurvives, IsCallersFault, IsInitLeft, IsInitOutput, IsInitRun, IsNotOpened, IsServeFault, IsServeOutput, IsServeRun, init_text, listening_text, of_store};
 ghost use Rattle.bureau_program.specs.Holds.{IsTold, fault_in, run_status};
 ghost use Rattle.bureau_program.specs.ProgramFault.{of_program};
-ghost use Rattle.bureau_sql.specs.Opening.{HasConditions, HasTables, IsNoStore};
-ghost use Rattle.bureau_sql.specs.SqlView.{IsOurStore, shown};
-ghost use Rattle.bureau_store.specs.Callers.{callers_of};
-ghost use Rattle.catalogue.specs.Content.{Content};
+ghost use Rattle.bureau_program.specs.Replay.{IsAlwaysRight};
 ghost use Rattle.catalogue.specs.View.{Goes};
-ghost use Rattle.chain_cache.specs.Cache.{IsRightFor};
-ghost use Rattle.sql_reads.specs.Version.{HasVersion};
-ghost use Rattle.sql_state.specs.Ours.{IsOurs};
-ghost use Rattle.sql_state.specs.Reading.{OnlyReads};
 ghost use Rattle.sqlite.specs.Held.{state};
 ghost use Rattle.sqlite.specs.State.{HasCleanDisk, KeepsCommit, Survives};
 ghost use Rattle.bureau_sql.specs.Founded.{AreFounded, IsNotMade};
@@ -124,7 +117,7 @@ fn make<S: Alter + Drop>(
 
 // The callers of a file, and the line that tells how many they are.
 fn callers_and_line(alloc: Global, source: &[u8]) -> Result<(Vec<CallerRow>, Vec<u8>), AnyFault>
-    ensures rows { IfOk result (λ both. callers_of source.now ≡ Ok both.0.items) }
+    ensures rows { IfOk result (λ both. AreRowsOf source.now both.0.items) }
     ensures line { IfOk result (λ both. both.1.items ≡ init_text both.0.items) }
     ensures fault { IfErr result (IsCallersFault source.now) }
 {
@@ -139,7 +132,7 @@ fn callers_and_line(alloc: Global, source: &[u8]) -> Result<(Vec<CallerRow>, Vec
 ///
 /// The fault of the callers file, or memory ran out.
 pub fn callers_in(alloc: Global, source: &[u8]) -> Result<Vec<CallerRow>, AnyFault>
-    ensures rows { IfOk result (λ rows. callers_of source.now ≡ Ok rows.items) }
+    ensures rows { IfOk result (λ rows. AreRowsOf source.now rows.items) }
     ensures fault { IfErr result (IsCallersFault source.now) }
 {
     Ok(callers(alloc, source)?)
@@ -195,20 +188,10 @@ pub fn run_open<S: Alter + Drop, E: Write>(
     errors: &mut E,
 ) -> Result<SqlStore<S>, (u8, Connection<S>)>
     requires rest { conn.in_transaction ≡ false }
-    ensures opened { IfOk result (λ store. store.failures ≡ 0) }
-    ensures reads { IfOk result (λ store. OnlyReads (state S.Store conn) (shown S.Store store)) }
-    ensures version { IfOk result (λ store. HasCleanDisk (shown S.Store store)
-        → HasVersion (Some 2) (state S.Store conn).committed) }
-    ensures found { IfOk result (λ store. HasCleanDisk (shown S.Store store)
-        → HasTables (state S.Store conn).committed.schema
-        × HasConditions (state S.Store conn).committed.schema) }
-    ensures ours { IfOk result (λ store. HasCleanDisk (shown S.Store store)
-        → IsOurs (state S.Store conn).committed → IsOurStore S.Store store) }
+    ensures opened { IfOk result (HasOpened S.Store (state S.Store conn)) }
     ensures silent { OnOk result (errors.new ≡ errors.old) }
-    ensures told { IfErr result (λ refused. IsOpenRefused
-        (λ fault. HasCleanDisk (state S.Store refused.1) → IsNoStore (state S.Store conn) fault)
+    ensures refused { IfErr result (λ refused. IsNotOpened (state S.Store conn) (state S.Store refused.1)
         (E.contents errors.old) (E.contents errors.new) refused.0) }
-    ensures kept { IfErr result (λ refused. OnlyReads (state S.Store conn) (state S.Store refused.1)) }
     ensures rest { IfErr result (λ refused. refused.1.in_transaction ≡ false) }
 {
     match SqlStore::open(alloc, conn) {
@@ -301,7 +284,7 @@ fn new_cache<S: Surroundings>(
     alloc: Global,
     capacity: u32,
 ) -> Result<ChainCache, ProgramFault>
-    ensures right { IfOk result (λ cache. (content : Content) → IsRightFor cache content) }
+    ensures right { IfOk result IsAlwaysRight }
     ensures fault { IfErr result (λ fault. fault ≡ ProgramFault.Memory) }
 {
     match surroundings.random_keys() {

@@ -3,11 +3,10 @@ ghost use Rattle.std.specs.Prelude.{◌≡◌, ◌⊎◌, ◌++◌, take, Ok, Er
 ghost use Rattle.std.specs.Option.{option_to_list};
 ghost use Rattle.std.specs.Io.KnownBytes.{Appends};
 ghost use Rattle.faults.specs.Refusal.{IsRefusal};
-ghost use Rattle.holddata.specs.BookText.{book_text};
 ghost use Rattle.holddata.specs.HoldBook.{book_of, IsLeft};
 ghost use Rattle.mcs_reader.specs.ReadingOf.{reading_of};
 ghost use Rattle.mcs_reader.specs.Unread.{IsRead};
-ghost use Rattle.bureau_program.specs.Holds.{fault_in, most_read, print_of, print_of_read};
+ghost use Rattle.bureau_program.specs.Holds.{fault_in, most_read, print_left, print_of, print_of_read};
 ghost use Rattle.bureau_program.specs.Holds.{IsBookLeft, IsHoldsRun, IsMemory, IsPrinted};
 ghost use Rattle.transfer.specs.Transfer.{AppendsFront, ConsumesUpTo};
 
@@ -103,7 +102,7 @@ pub fn hold_book_text(alloc: Global, source: Vec<u8>) -> Result<Vec<u8>, AnyFaul
 
 // The book that changes leave, in print.
 fn text_left(changes: Vec<HoldChange>) -> Result<Vec<u8>, ProgramFault>
-    ensures text { IfOk result (λ text. text.items ≡ book_text (book_of changes.items)) }
+    ensures text { IfOk result (λ text. text.items ≡ print_left changes.items) }
     ensures left { IsLeft changes.items (book_of changes.items) }
     ensures fault { IfErr result (λ fault. fault ≡ ProgramFault.Memory) }
 {
@@ -114,7 +113,7 @@ fn text_left(changes: Vec<HoldChange>) -> Result<Vec<u8>, ProgramFault>
 // asked for.
 fn changes_in(alloc: Global, source: &[u8]) -> Result<Vec<HoldChange>, AnyFault>
     ensures changes { IfOk result
-        (λ changes. print_of source.now ≡ Ok (book_text (book_of changes.items))) }
+        (λ changes. print_of source.now ≡ Ok (print_left changes.items)) }
     ensures fault { IfErr result (λ fault. IsMemory fault ⊎ (print_of source.now ≡ Err fault)) }
     ensures reading { IsRead source.now (reading_of source.now) }
 {
@@ -126,7 +125,7 @@ fn changes_in(alloc: Global, source: &[u8]) -> Result<Vec<HoldChange>, AnyFault>
 // fault as a hold is read too, since a fault of the text itself comes before it.
 fn changes_by(alloc: Global, statements: Statements) -> Result<Vec<HoldChange>, AnyFault>
     ensures changes { IfOk result
-        (λ changes. print_of_read statements.entry.reading ≡ Ok (book_text (book_of changes.items))) }
+        (λ changes. print_of_read statements.entry.reading ≡ Ok (print_left changes.items)) }
     ensures fault { IfErr result
         (λ fault. IsMemory fault ⊎ (print_of_read statements.entry.reading ≡ Err fault)) }
 {

@@ -5,10 +5,8 @@ ghost use Rattle.bureau.specs.Joint.{IsRun};
 ghost use Rattle.bureau_http.specs.List.{AreServed};
 ghost use Rattle.bureau_http.specs.Replay.{IsReplayed};
 ghost use Rattle.bureau_program.specs.Holds.{fault_in};
-ghost use Rattle.bureau_program.specs.Replay.{IsAlwaysClean, IsNotReplayed, IsNotServed, IsReplayOutput, IsReplayRun, joined};
+ghost use Rattle.bureau_program.specs.Replay.{IsAlwaysClean, IsAlwaysRight, IsNotReplayed, IsNotServed, IsReplayOutput, IsReplayRun, joined};
 ghost use Rattle.bureau_store.specs.Tables.{opened};
-ghost use Rattle.catalogue.specs.Content.{Content};
-ghost use Rattle.chain_cache.specs.Cache.{IsRightFor};
 ghost use Rattle.transfer.specs.Transfer.{AppendsFront};
 
 use crate::cache::cache_of;
@@ -119,7 +117,7 @@ fn serve_over<S: Alter + Drop>(
     files: Vec<Vec<u8>>,
 ) -> Result<Vec<Vec<u8>>, AnyFault>
     requires rest { conn.in_transaction ≡ false }
-    ensures served { IsAlwaysClean S.Store → ((content : Content) → IsRightFor judge content)
+    ensures served { IsAlwaysClean S.Store → IsAlwaysRight judge
         → IfOk result (λ written. AreServed IsRun (opened rows.now)
         (map (λ file. file.items) files.items) (map (λ text. text.items) written.items)) }
     ensures fault { IfErr result IsNotServed }

@@ -19,6 +19,7 @@ use Rattle.sqlite_resolve.specs.declared.error.CompileError.{CompileError}
 use Rattle.sqlite_trees.specs.declared.error.StoreError.{StoreError}
 use Rattle.sqlite_trees.specs.declared.error.StoreError.TheVariants.{OutOfMemory, Io, Corrupt, Full, Broken, Unstorable}
 use Rattle.sqlite_trees.specs.declared.store.Store.{Ghosts}
+use Rattle.sql_state.specs.Earlier.{IsOfVersion1}
 use Rattle.sql_state.specs.Ours.{AreOurs, IsOurs, held_by}
 use Rattle.sql_state.specs.Reading.{OnlyReads}
 use Rattle.sql_tables.specs.Stored.{tables_of}
@@ -26,7 +27,7 @@ use Rattle.sql_texts.specs.Meaning.{MakesTable, Reads}
 use Rattle.sql_texts.specs.Reads as read
 use Rattle.sql_texts.specs.Schema.{bureau, bureau_1, sysmod_cond}
 use Rattle.sql_state.proofs.StopFacts.{no_read, read_on, was_clean}
-use Rattle.bureau_sql.specs.Opening.{CanMakeConditions, HasConditions, HasTables, IsNoStore, IsNone, IsNotEarlier, IsOfBureau, IsOther, IsSeen, IsUnderstood, LacksTables, TellsVersion}
+use Rattle.bureau_sql.specs.Opening.{CanMakeConditions, HasConditions, HasTables, IsNoStore, IsNone, IsNotEarlier, IsNotOf, IsOfBureau, IsOther, IsSeen, IsUnderstood, LacksTables, TellsVersion}
 use Rattle.bureau_sql.specs.SqlState.{SqlState}
 use Rattle.bureau_sql.specs.SqlView.{IsAtRest, IsOurStore, shown, sql_view}
 use Rattle.bureau_sql.proofs.FitFacts.{all_seen, all_so_far}
@@ -220,19 +221,25 @@ conditions_to_make text schema tables means makes = (tables, (text, makes, means
 
 -- ---- what is looked for by a store, and by what makes a file of version 1 one of version 2
 
+module _ (wanted : ℕ) (schema : Schema) (IsIt IsOtherOurs : Database → Type 0) (WantsRoom : Type 0) (text : List ℕ) (of_bureau : IsOfBureau schema) (means : IsUnderstood schema text)
+    (apart : (database : Database) → LacksTables wanted text database → IsOtherOurs database → ⊥)
+    (tells : (version : Option ℕ) (database : Database) → TellsVersion version database → IsIt database → version ≡ Some wanted) where
+  not_of : (at : State) (fault : StoreFault) → IsSeen (LacksTables wanted text) (IsOther wanted) at fault → IsNotOf wanted schema IsIt IsOtherOurs WantsRoom at fault
+  not_of at Memory it = tt
+  not_of at Device it = tt
+  not_of at Size it = absurd it
+  not_of at Shape it = (it.0, it.1.0 schema (of_bureau, means), apart at.committed it.1)
+  not_of at Version it = (it.0, λ is. it.1.1 (tells it.1.0 at.committed it.1.2 is), it.1.0, it.1.1, it.1.2.has)
+
 pub no_store : (text : List ℕ) (at : State) (fault : StoreFault) → IsUnderstood bureau text → IsSeen (LacksTables 2 text) (IsOther 2) at fault → IsNoStore at fault
-no_store text at Memory means it = tt
-no_store text at Device means it = tt
-no_store text at Size means it = it
-no_store text at Shape means it = (it.0, it.1.0 bureau (inl refl, means), λ earlier. omega (arith, ap (λ (o : Option ℕ). unwrap_or o 0) (it.1.2 earlier)))
-no_store text at Version means it = (it.0, λ ours. it.1.1 (it.1.2.ours ours), it.1.0, it.1.1, it.1.2.has)
+no_store text at fault means =
+    not_of 2 bureau IsOurs IsOfVersion1 ⊥ text (inl refl) means (λ database lacks earlier. omega (arith, ap (λ (o : Option ℕ). unwrap_or o 0) (lacks.2 earlier)))
+    (λ version database told. told.ours) at fault
 
 pub not_earlier : (text : List ℕ) (at : State) (fault : StoreFault) → IsUnderstood bureau_1 text → IsSeen (LacksTables 1 text) (IsOther 1) at fault → IsNotEarlier at fault
-not_earlier text at Memory means it = tt
-not_earlier text at Device means it = tt
-not_earlier text at Size means it = tt
-not_earlier text at Shape means it = (it.0, it.1.0 bureau_1 (inr refl, means), λ ours. omega (arith, ap (λ (o : Option ℕ). unwrap_or o 0) (it.1.1 ours)))
-not_earlier text at Version means it = (it.0, λ earlier. it.1.1 (it.1.2.earlier earlier), it.1.0, it.1.1, it.1.2.has)
+not_earlier text at fault means =
+    not_of 1 bureau_1 IsOfVersion1 IsOurs (Unit {0}) text (inr refl) means (λ database lacks ours. omega (arith, ap (λ (o : Option ℕ). unwrap_or o 0) (lacks.1 ours)))
+    (λ version database told. told.earlier) at fault
 
 -- ---- what is taken for a store
 

@@ -15,25 +15,25 @@ use Rattle.sql_texts.specs.Meaning.{MakesTable, Reads}
 use Rattle.sql_texts.specs.Reads as read
 use Rattle.sql_texts.specs.Schema.{bureau, bureau_1, hold_columns, sysmod_columns, sysmod_cond}
 
--- Its tables are other ones than the bureau's, and none of version 1 either; or they are of another version, which no
--- database of ours has; or memory ran out, or the device failed.
-abbrev pub IsNoStore : State → StoreFault → Type 0
-IsNoStore at Shape = IsTrue at.is_open × (at.committed.schema ≢ bureau) × (IsOfVersion1 at.committed → ⊥)
-IsNoStore at Version = IsTrue at.is_open × (IsOurs at.committed → ⊥)
-    × (version : Option ℕ) × (version ≢ Some 2) × HasVersion version at.committed
-IsNoStore at Memory = Unit {0}
-IsNoStore at Device = Unit {0}
-IsNoStore at Size = ⊥
+module _ (wanted : ℕ) (schema : Schema) (IsIt IsOtherOurs : Database → Type 0) (WantsRoom : Type 0) where
+  -- Its tables are other ones than those of a version, and none of ours of the other version either; or they are of
+  -- another version, which no database of ours of this one has; or memory ran out, or the device failed; or there is
+  -- no room, where some is wanted.
+  abbrev pub IsNotOf : State → StoreFault → Type 0
+  IsNotOf at Shape = IsTrue at.is_open × (at.committed.schema ≢ schema) × (IsOtherOurs at.committed → ⊥)
+  IsNotOf at Version = IsTrue at.is_open × (IsIt at.committed → ⊥)
+      × (version : Option ℕ) × (version ≢ Some wanted) × HasVersion version at.committed
+  IsNotOf at Memory = Unit {0}
+  IsNotOf at Device = Unit {0}
+  IsNotOf at Size = WantsRoom
 
--- The same of version 1: its tables are other ones, and none of ours of version 2 either; or they are of another version;
--- or memory or room ran out, or the device failed.
+-- it isn't of version 2, which takes no room to see
+abbrev pub IsNoStore : State → StoreFault → Type 0
+IsNoStore = IsNotOf 2 bureau IsOurs IsOfVersion1 ⊥
+
+-- it isn't of version 1, or it wasn't made one of version 2
 abbrev pub IsNotEarlier : State → StoreFault → Type 0
-IsNotEarlier at Shape = IsTrue at.is_open × (at.committed.schema ≢ bureau_1) × (IsOurs at.committed → ⊥)
-IsNotEarlier at Version = IsTrue at.is_open × (IsOfVersion1 at.committed → ⊥)
-    × (version : Option ℕ) × (version ≢ Some 1) × HasVersion version at.committed
-IsNotEarlier at Memory = Unit {0}
-IsNotEarlier at Device = Unit {0}
-IsNotEarlier at Size = Unit {0}
+IsNotEarlier = IsNotOf 1 bureau_1 IsOfVersion1 IsOurs (Unit {0})
 
 -- ---- what is there where a connection is taken
 

@@ -11,33 +11,25 @@ impl<S: Alter> Published for SqlStore<S> {
     ghost content_view = { sql_content_view S.Store };
 
     fn ids(&mut self) -> Result<Vec<Id>, SourceFault> {
-        if self.is_closed() {
-            return Err(SourceFault::Device);
-        }
+        self.check_open(SourceFault::Device)?;
         let found = sql_reads::ids(self.alloc, &mut self.conn);
         self.told(found)
     }
 
     fn sysmod(&mut self, id: &Id) -> Result<Option<Sysmod>, SourceFault> {
-        if self.is_closed() {
-            return Err(SourceFault::Device);
-        }
+        self.check_open(SourceFault::Device)?;
         let found = sql_reads::sysmod(self.alloc, &mut self.conn, id);
         self.told(found)
     }
 
     fn superseders(&mut self, id: &Id) -> Result<Vec<Id>, SourceFault> {
-        if self.is_closed() {
-            return Err(SourceFault::Device);
-        }
+        self.check_open(SourceFault::Device)?;
         let found = sql_reads::superseders(self.alloc, &mut self.conn, id);
         self.told(found)
     }
 
     fn holds_on(&mut self, id: &Id) -> Result<Vec<Hold>, SourceFault> {
-        if self.is_closed() {
-            return Err(SourceFault::Device);
-        }
+        self.check_open(SourceFault::Device)?;
         let found = sql_reads::holds_on(self.alloc, &mut self.conn, id);
         self.told(found)
     }

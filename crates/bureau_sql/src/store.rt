@@ -85,18 +85,18 @@ impl<S: Alter> SqlStore<S> {
 }
 
 impl<S: Alter> SqlStore<S> {
-    // Whether a failure has closed the store: then this call fails too.
-    pub(crate) fn is_closed(&mut self) -> bool
-        ensures closed { result ≡ true → (self.new.conn ≡ self.old.conn)
+    // Refuses a call with this fault where a failure has closed the store: then this call fails too.
+    pub(crate) fn check_open<F: Copy>(&mut self, closed: F) -> Result<(), F>
+        ensures closed { IfErr result (λ fault. (fault ≡ closed) × (self.new.conn ≡ self.old.conn)
             × (self.old.failures ≤ self.new.failures)
-            × (0 < self.new.failures) × HasFailed (sql_view S.Store) self.old self.new }
-        ensures open { result ≡ false → (self.new ≡ self.old) × (self.old.failures ≡ 0) }
+            × (0 < self.new.failures) × HasFailed (sql_view S.Store) self.old self.new) }
+        ensures open { OnOk result ((self.new ≡ self.old) × (self.old.failures ≡ 0)) }
     {
         if self.failures == 0 {
-            return false;
+            return Ok(());
         }
         self.fail();
-        true
+        Err(closed)
     }
 }
 

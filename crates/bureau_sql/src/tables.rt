@@ -22,9 +22,7 @@ impl<S: Alter> SqlStore<S> {
         ensures { Makes (sql_view S.Store) HasNoRoom (update effect.now number reply.now)
             self.old self.new result }
     {
-        if self.is_closed() {
-            return Err(StoreFault::Device);
-        }
+        self.check_open(StoreFault::Device)?;
         self.recent.forget();
         fit::effect(effect);
         let made = changes::make(self.alloc, &mut self.conn, number, reply, effect);
@@ -46,9 +44,7 @@ impl<S: Alter> Store for SqlStore<S> {
     }
 
     fn caller_of(&mut self, token: &[u8]) -> Result<Option<Caller>, StoreFault> {
-        if self.is_closed() {
-            return Err(StoreFault::Device);
-        }
+        self.check_open(StoreFault::Device)?;
         if let Some(caller) = self.recent.caller_of(token) {
             return Ok(Some(caller));
         }
@@ -58,25 +54,19 @@ impl<S: Alter> Store for SqlStore<S> {
     }
 
     fn last(&mut self, caller: &Caller) -> Result<(u64, Vec<u8>), StoreFault> {
-        if self.is_closed() {
-            return Err(StoreFault::Device);
-        }
+        self.check_open(StoreFault::Device)?;
         let found = sql_reads::last(self.alloc, &mut self.conn, caller);
         self.answered(found)
     }
 
     fn counts(&mut self) -> Result<(u64, u64), StoreFault> {
-        if self.is_closed() {
-            return Err(StoreFault::Device);
-        }
+        self.check_open(StoreFault::Device)?;
         let found = sql_reads::counts(&mut self.conn);
         self.answered(found)
     }
 
     fn zones(&mut self, client: &Id) -> Result<Vec<(Id, u64)>, StoreFault> {
-        if self.is_closed() {
-            return Err(StoreFault::Device);
-        }
+        self.check_open(StoreFault::Device)?;
         if let Some(zones) = self.recent.zones_of(self.alloc, client) {
             return Ok(zones);
         }
@@ -86,25 +76,19 @@ impl<S: Alter> Store for SqlStore<S> {
     }
 
     fn zone_count(&mut self, client: &Id) -> Result<u64, StoreFault> {
-        if self.is_closed() {
-            return Err(StoreFault::Device);
-        }
+        self.check_open(StoreFault::Device)?;
         let found = sql_reads::zone_count(&mut self.conn, client);
         self.answered(found)
     }
 
     fn has_zone(&mut self, client: &Id, zone: &Id) -> Result<bool, StoreFault> {
-        if self.is_closed() {
-            return Err(StoreFault::Device);
-        }
+        self.check_open(StoreFault::Device)?;
         let found = sql_reads::has_zone(&mut self.conn, client, zone);
         self.answered(found)
     }
 
     fn zone(&mut self, client: &Id, zone: &Id) -> Result<Option<Vec<ZoneRow>>, StoreFault> {
-        if self.is_closed() {
-            return Err(StoreFault::Device);
-        }
+        self.check_open(StoreFault::Device)?;
         if let Some(rows) = self.recent.rows_of(self.alloc, client, zone) {
             return Ok(Some(rows));
         }
@@ -114,25 +98,19 @@ impl<S: Alter> Store for SqlStore<S> {
     }
 
     fn received(&mut self, client: &Id) -> Result<Vec<Id>, StoreFault> {
-        if self.is_closed() {
-            return Err(StoreFault::Device);
-        }
+        self.check_open(StoreFault::Device)?;
         let found = sql_reads::received(self.alloc, &mut self.conn, client);
         self.answered(found)
     }
 
     fn patterns(&mut self, client: &Id, zone: &Id) -> Result<Vec<Pattern>, StoreFault> {
-        if self.is_closed() {
-            return Err(StoreFault::Device);
-        }
+        self.check_open(StoreFault::Device)?;
         let found = sql_reads::patterns(self.alloc, &mut self.conn, client, zone);
         self.answered(found)
     }
 
     fn held_in(&mut self, client: &Id, zone: &Id, kind: Kind) -> Result<Vec<Hold>, StoreFault> {
-        if self.is_closed() {
-            return Err(StoreFault::Device);
-        }
+        self.check_open(StoreFault::Device)?;
         let found = sql_reads::held_in(self.alloc, &mut self.conn, client, zone, kind);
         self.answered(found)
     }

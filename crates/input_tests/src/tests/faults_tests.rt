@@ -23,14 +23,15 @@ impl Fault for Sample {
     }
 }
 
+static LINES: [(Sample, &str); 3] = [
+    (Sample::At(1), "FAULT 99 1\n"),
+    (Sample::At(u32::MAX), "FAULT 99 4294967295\n"),
+    (Sample::Memory, "FAULT 1\n"),
+];
+
 #[test]
 fn lines_of_faults(_rt: HostRuntime) -> Result<(), Fail> {
-    let rows = [
-        (Sample::At(1), "FAULT 99 1\n"),
-        (Sample::At(u32::MAX), "FAULT 99 4294967295\n"),
-        (Sample::Memory, "FAULT 1\n"),
-    ];
-    for (fault, text) in rows {
+    for &(fault, text) in &LINES {
         assert_equal(fault_text(fault).as_str(), text)?;
         assert_equal(AnyFault::from(fault).text().as_str(), text)?;
     }

@@ -63,27 +63,28 @@ fn a_book_prints_its_rows(rt: HostRuntime) -> Result<(), Fail> {
     assert_equal(text_of(&one)?, print(alloc, row)?)
 }
 
+static FAULTY: [(&str, u8); 15] = [
+    ("REASON(AA20002)", 11),
+    ("ERROR SYSTEM REASON(AA20002)", 12),
+    ("ERROR", 13),
+    ("ERROR REASON FMID(hbb7790)", 13),
+    ("ERROR REASON() CATEGORY(A'B)", 13),
+    ("ERROR REASON(A) REASON(A)", 14),
+    ("ERROR REASON(A) FMID(HBB77901)", 14),
+    ("ERROR REASON(A) CLASS(P+E)", 14),
+    ("ERROR REASON(A) DATE(12367)", 15),
+    ("ERROR REASON(A) DATE(012366)", 15),
+    ("ERROR REASON(A) RESOLVER(ua1)", 14),
+    ("ERROR REASON(A) RESOLVER(UA1) RESOLVER(UA1)", 14),
+    ("ERROR REASON(A) CATEGORY(A'B)", 16),
+    ("ERROR REASON(A) CATEGORY(A'B) DATE(1)", 15),
+    ("ERROR REASON(A) CATEGORY(A'B) FMID(a)", 14),
+];
+
 #[test]
 fn a_statement_with_a_fault_is_refused(rt: HostRuntime) -> Result<(), Fail> {
     let alloc = rt.alloc();
-    let cases: [(&str, u8); 15] = [
-        ("REASON(AA20002)", 11),
-        ("ERROR SYSTEM REASON(AA20002)", 12),
-        ("ERROR", 13),
-        ("ERROR REASON FMID(hbb7790)", 13),
-        ("ERROR REASON() CATEGORY(A'B)", 13),
-        ("ERROR REASON(A) REASON(A)", 14),
-        ("ERROR REASON(A) FMID(HBB77901)", 14),
-        ("ERROR REASON(A) CLASS(P+E)", 14),
-        ("ERROR REASON(A) DATE(12367)", 15),
-        ("ERROR REASON(A) DATE(012366)", 15),
-        ("ERROR REASON(A) RESOLVER(ua1)", 14),
-        ("ERROR REASON(A) RESOLVER(UA1) RESOLVER(UA1)", 14),
-        ("ERROR REASON(A) CATEGORY(A'B)", 16),
-        ("ERROR REASON(A) CATEGORY(A'B) DATE(1)", 15),
-        ("ERROR REASON(A) CATEGORY(A'B) FMID(a)", 14),
-    ];
-    for (operands, number) in cases {
+    for &(operands, number) in &FAULTY {
         let source = format!(in alloc; "{IN_ERROR}++HOLD(UA10001) {operands}.\n")?;
         let told = print_of(alloc, source.as_bytes())?;
         assert_equal_at(operands, told, Err((number, Some(3))))?;
@@ -99,27 +100,28 @@ fn a_fault_has_a_text(rt: HostRuntime) -> Result<(), Fail> {
     assert_equal(HoldFault::Memory.told(), AnyFault::of_machine(17))
 }
 
+static SPELLINGS: [(&[u8], Kind, Option<u32>); 3] = [
+    (
+        b"++HOLD(UA10001) reason(AA20002) Err error(X).\n",
+        Kind::ErrorHold,
+        None,
+    ),
+    (
+        b"++HOLD(UA10001) SYS Date(12366) REASON(AA20002).\n",
+        Kind::SystemHold,
+        Some(12366),
+    ),
+    (
+        b"++HOLD(UA10001) FIXCAT REASON(AA20002) SMPTLIB(ua) COMMENT(A'B).\n",
+        Kind::FixcatHold,
+        None,
+    ),
+];
+
 #[test]
 fn other_spellings_are_accepted(rt: HostRuntime) -> Result<(), Fail> {
     let alloc = rt.alloc();
-    let cases: [(&[u8], Kind, Option<u32>); 3] = [
-        (
-            b"++HOLD(UA10001) reason(AA20002) Err error(X).\n",
-            Kind::ErrorHold,
-            None,
-        ),
-        (
-            b"++HOLD(UA10001) SYS Date(12366) REASON(AA20002).\n",
-            Kind::SystemHold,
-            Some(12366),
-        ),
-        (
-            b"++HOLD(UA10001) FIXCAT REASON(AA20002) SMPTLIB(ua) COMMENT(A'B).\n",
-            Kind::FixcatHold,
-            None,
-        ),
-    ];
-    for (source, kind, dated) in cases {
+    for &(source, kind, dated) in &SPELLINGS {
         let book = book_by(alloc, source)?;
         let hold = book.get(&key(kind)?).ok_or("a hold")?;
         assert_only_dated(&rt, hold, dated)?;
@@ -148,71 +150,73 @@ fn print_left(alloc: Global, source: &[u8]) -> Result<Vec<u8>, Fail> {
     Ok(book_text_left(changes_by(alloc, source)?)?)
 }
 
+static BOOKS: [(&[u8], &str); 8] = [
+    (
+        b"++HOLD(UA10001) ERR REASON(AA20002) CLASS(PE).\n++HOLD(UA10001) ERR REASON(AA20002).\n\
+         ++HOLD(UA10001) ERR REASON(AA20001).\n",
+        "UA10001  ERROR   AA20001  -        -        -      -        -\n\
+         UA10001  ERROR   AA20002  -        -        -      -        -\nROWS 2\n",
+    ),
+    (
+        b"++HOLD(HBB7790) FIXCAT FMID(HBB7790) REASON(AA40001)\n \
+         RESOLVER(UA10009) COMMENT(SEE (2.1). AND /* TOO)\n CATEGORY(IBM.Device.Server,IBM.Device).\n",
+        "HBB7790  FIXCAT  AA40001  HBB7790  -        -      UA10009  IBM.Device,IBM.Device.Server\nROWS 1\n",
+    ),
+    (
+        b"++HOLD(UA10001) ERR FMID(HBB7790) REASON(AA20002) CLASS(PE).\n\
+         ++RELEASE(UA10001) ERROR FMID(HXX0001) REASON(AA20002).\n\
+         ++ HOLD(UA10001) ERROR FMID(HBB7790) REASON(AA20002) CLASS(HIPER).\n",
+        "UA10001  ERROR   AA20002  HBB7790  HIPER    -      -        -\nROWS 1\n",
+    ),
+    (
+        b"++HOLD(UA10001) ERR REASON(AA20002).\n++RELEASE(UA10001) ERROR REASON(AA20002) RESOLVER(x y)\n \
+         CATEGORY(A'B) DATE(1) CLASS(a).\n",
+        "ROWS 0\n",
+    ),
+    (
+        b"++HOLD(UA10001) ERR REASON(AA20002).\n++RELEASE(UA10001) SYSTEM REASON(AA20002).\n\
+         ++RELEASE(UA10002) ERROR REASON(AA20002).\n",
+        "UA10001  ERROR   AA20002  -        -        -      -        -\nROWS 1\n",
+    ),
+    (
+        b"++HOLD(UA10001) USER REASON(A) CATEGORY(B,a B)\n RESOLVER(UA2) CATEGORY((C)B,A).\n",
+        "UA10001  USER    A        -        -        -      UA2      A,B,C,a\nROWS 1\n",
+    ),
+    (b"++VER(Z038).\n", "ROWS 0\n"),
+    (
+        b"++PTF(UA10001) REWORK(2012).\n++VER(Z038) PRE(a).\n",
+        "ROWS 0\n",
+    ),
+];
+
 #[test]
 fn sources_and_their_books(rt: HostRuntime) -> Result<(), Fail> {
     let alloc = rt.alloc();
-    let cases: [(&[u8], &str); 8] = [
-        (
-            b"++HOLD(UA10001) ERR REASON(AA20002) CLASS(PE).\n++HOLD(UA10001) ERR REASON(AA20002).\n\
-             ++HOLD(UA10001) ERR REASON(AA20001).\n",
-            "UA10001  ERROR   AA20001  -        -        -      -        -\n\
-             UA10001  ERROR   AA20002  -        -        -      -        -\nROWS 2\n",
-        ),
-        (
-            b"++HOLD(HBB7790) FIXCAT FMID(HBB7790) REASON(AA40001)\n \
-             RESOLVER(UA10009) COMMENT(SEE (2.1). AND /* TOO)\n CATEGORY(IBM.Device.Server,IBM.Device).\n",
-            "HBB7790  FIXCAT  AA40001  HBB7790  -        -      UA10009  IBM.Device,IBM.Device.Server\nROWS 1\n",
-        ),
-        (
-            b"++HOLD(UA10001) ERR FMID(HBB7790) REASON(AA20002) CLASS(PE).\n\
-             ++RELEASE(UA10001) ERROR FMID(HXX0001) REASON(AA20002).\n\
-             ++ HOLD(UA10001) ERROR FMID(HBB7790) REASON(AA20002) CLASS(HIPER).\n",
-            "UA10001  ERROR   AA20002  HBB7790  HIPER    -      -        -\nROWS 1\n",
-        ),
-        (
-            b"++HOLD(UA10001) ERR REASON(AA20002).\n++RELEASE(UA10001) ERROR REASON(AA20002) RESOLVER(x y)\n \
-             CATEGORY(A'B) DATE(1) CLASS(a).\n",
-            "ROWS 0\n",
-        ),
-        (
-            b"++HOLD(UA10001) ERR REASON(AA20002).\n++RELEASE(UA10001) SYSTEM REASON(AA20002).\n\
-             ++RELEASE(UA10002) ERROR REASON(AA20002).\n",
-            "UA10001  ERROR   AA20002  -        -        -      -        -\nROWS 1\n",
-        ),
-        (
-            b"++HOLD(UA10001) USER REASON(A) CATEGORY(B,a B)\n RESOLVER(UA2) CATEGORY((C)B,A).\n",
-            "UA10001  USER    A        -        -        -      UA2      A,B,C,a\nROWS 1\n",
-        ),
-        (b"++VER(Z038).\n", "ROWS 0\n"),
-        (
-            b"++PTF(UA10001) REWORK(2012).\n++VER(Z038) PRE(a).\n",
-            "ROWS 0\n",
-        ),
-    ];
-    for (source, rows) in cases {
+    for &(source, rows) in &BOOKS {
         assert_equal_at(rows, print_left(alloc, source)?, print(alloc, rows)?)?;
         assert_equal_at(rows, print_of(alloc, source)?, Ok(print(alloc, rows)?))?;
     }
     Ok(())
 }
 
+static FAULTY_SOURCES: [(&[u8], u8, u32); 4] = [
+    (
+        b"++HOLD(UA10001) ERROR REASON(AA20002)\n CATEGORY(A'B).\n",
+        16,
+        1,
+    ),
+    (
+        b"++RELEASE(UA10001) ERROR REASON(AA20002) FMID(a).\n",
+        14,
+        1,
+    ),
+    (b"\n++RELEASE(UA10001) REASON(AA20002).\n", 11, 2),
+    (b"++RELEASE(UA10001) ERROR CLASS(a b).\n", 13, 1),
+];
+
 #[test]
 fn sources_with_a_fault_of_a_hold(rt: HostRuntime) -> Result<(), Fail> {
-    let refused: [(&[u8], u8, u32); 4] = [
-        (
-            b"++HOLD(UA10001) ERROR REASON(AA20002)\n CATEGORY(A'B).\n",
-            16,
-            1,
-        ),
-        (
-            b"++RELEASE(UA10001) ERROR REASON(AA20002) FMID(a).\n",
-            14,
-            1,
-        ),
-        (b"\n++RELEASE(UA10001) REASON(AA20002).\n", 11, 2),
-        (b"++RELEASE(UA10001) ERROR CLASS(a b).\n", 13, 1),
-    ];
-    for (source, number, line) in refused {
+    for &(source, number, line) in &FAULTY_SOURCES {
         let told = print_of(rt.alloc(), source)?;
         assert_equal_at(source, told, Err((number, Some(line))))?;
     }

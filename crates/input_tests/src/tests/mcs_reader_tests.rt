@@ -97,17 +97,18 @@ fn statements_are_read(rt: HostRuntime) -> Result<(), Fail> {
     )
 }
 
+static COMMENTS: [(&[u8], &str); 6] = [
+    (b"++HOLD(A) X(/*B*/).", "1 A X"),
+    (b"++HOLD(A)/**/ERROR/*/*/USER.", "1 A ERROR USER"),
+    (b"++HOLD(A) X(B/*,*/C D/E*F G/).", "1 A X=B=C=D/E*F=G/"),
+    (b"++HOLD/* (\n++HOLD(B).\n .*/(A) X/* ) */(C).", "1 A X=C"),
+    (b"++HOLD(/* A */B/***/) /* * / . */.", "1 B"),
+    (b"++HOLD(A) . /*\nbetween", "1 A"),
+];
+
 #[test]
 fn comments_are_passed_over(rt: HostRuntime) -> Result<(), Fail> {
-    let table: [(&[u8], &str); 6] = [
-        (b"++HOLD(A) X(/*B*/).", "1 A X"),
-        (b"++HOLD(A)/**/ERROR/*/*/USER.", "1 A ERROR USER"),
-        (b"++HOLD(A) X(B/*,*/C D/E*F G/).", "1 A X=B=C=D/E*F=G/"),
-        (b"++HOLD/* (\n++HOLD(B).\n .*/(A) X/* ) */(C).", "1 A X=C"),
-        (b"++HOLD(/* A */B/***/) /* * / . */.", "1 B"),
-        (b"++HOLD(A) . /*\nbetween", "1 A"),
-    ];
-    for (source, text) in table {
+    for &(source, text) in &COMMENTS {
         assert_reads(&rt, source, &[text])?;
     }
     Ok(())
@@ -179,18 +180,19 @@ const WITH_BAD_BYTE: [&[u8]; 5] = [
     b"++HOLD() X ;.\n++HOLD(A)",
 ];
 
+static FIRST_FAULTS: [(McsFault, &[&[u8]]); 6] = [
+    (McsFault::NoPeriod(1), &WITHOUT_PERIOD),
+    (McsFault::NoPeriod(2), &[b"\n++HOLD(A) ERROR\n++HOLD(B)."]),
+    (McsFault::BadVerbSubject(1), &WITH_BAD_SUBJECT),
+    (McsFault::Unbalanced(1), &UNBALANCED),
+    // `/*/` begins a comment, and ends none.
+    (McsFault::Unbalanced(2), &[b"\n++HOLD(A)\n/*/ ."]),
+    (McsFault::BadByte(1), &WITH_BAD_BYTE),
+];
+
 #[test]
 fn the_first_fault_is_told(rt: HostRuntime) -> Result<(), Fail> {
-    let table: [(McsFault, &[&[u8]]); 6] = [
-        (McsFault::NoPeriod(1), &WITHOUT_PERIOD),
-        (McsFault::NoPeriod(2), &[b"\n++HOLD(A) ERROR\n++HOLD(B)."]),
-        (McsFault::BadVerbSubject(1), &WITH_BAD_SUBJECT),
-        (McsFault::Unbalanced(1), &UNBALANCED),
-        // `/*/` begins a comment, and ends none.
-        (McsFault::Unbalanced(2), &[b"\n++HOLD(A)\n/*/ ."]),
-        (McsFault::BadByte(1), &WITH_BAD_BYTE),
-    ];
-    for (fault, sources) in table {
+    for &(fault, sources) in &FIRST_FAULTS {
         for source in sources {
             let mut row = String::new(rt.alloc());
             push_bytes(&mut row, source)?;
@@ -219,21 +221,22 @@ fn statements_come_one_at_a_time(rt: HostRuntime) -> Result<(), Fail> {
 }
 
 // More values than are copied, and a short list after the long one.
+static ASKED: [(&[&[u8]], [&str; 3]); 3] = [
+    (
+        &[b"REASON", b"fmid"],
+        ["1 A reason=B=C=D FMID", "3 B Reason=D REASON", "5 C"],
+    ),
+    (&[b"OTHER"], ["1 A OTHER=X=REASON=Y", "3 B", "5 C"]),
+    (&[], ["1 A", "3 B", "5 C"]),
+];
+
 #[test]
 fn operands_that_nobody_asks_for_are_passed_over(rt: HostRuntime) -> Result<(), Fail> {
     let source =
         b"++HOLD(A) ERROR reason(B,(C) D) OTHER(X (REASON(Y)))\n COMMENT(FMID( . /* )) FMID.\n\
          ++HOLD(B) Q /* REASON(C) */ Reason(D)\n REASON.\n++PTF(C) REWORK(1).\n\
          ++HOLD(D) OTHER(A. REASON(B).";
-    let cases: [(&[&[u8]], [&str; 3]); 3] = [
-        (
-            &[b"REASON", b"fmid"],
-            ["1 A reason=B=C=D FMID", "3 B Reason=D REASON", "5 C"],
-        ),
-        (&[b"OTHER"], ["1 A OTHER=X=REASON=Y", "3 B", "5 C"]),
-        (&[], ["1 A", "3 B", "5 C"]),
-    ];
-    for (names, texts) in cases {
+    for &(names, texts) in &ASKED {
         let mut statements = Statements::asking(rt.alloc(), source, names)?;
         for text in texts {
             let statement = statements.next()?.ok_or("a statement")?;

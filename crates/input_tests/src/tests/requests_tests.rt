@@ -23,68 +23,70 @@ fn head(alloc: Global, first: &[u8], lines: &[u8]) -> Result<Vec<u8>, NoMemory> 
     Ok(text)
 }
 
+static LENGTHS: [(&[u8], &[u8], u64); 6] = [
+    (b"GET /zones", b"", 0),
+    (b"POST /publish", b"content-length: 0\r\n", 0),
+    (b"PUT /received", b"Content-Length:\t 0045 \r\n", 45),
+    (
+        b"PUT /received",
+        b"content-length: 67108864\r\n",
+        67_108_864,
+    ),
+    (b"GET /zones", b"content-length: 3\r\n", 3),
+    (b"HEAD /published", b"host: localhost\n", 0),
+];
+
+static REFUSED: [(&[u8], &[u8], Refusal); 12] = [
+    (b"POST /publish", b"", Refusal::LengthRequired),
+    (
+        b"PUT /received",
+        b"content-length: 67108865\r\n",
+        Refusal::TooLarge,
+    ),
+    (
+        b"PUT /received",
+        b"content-length: 99999999999999999999999999\r\n",
+        Refusal::TooLarge,
+    ),
+    (
+        b"PUT /received",
+        b"content-length: +5\r\n",
+        Refusal::BadRequest,
+    ),
+    (
+        b"PUT /received",
+        b"content-length: 1, 1\r\n",
+        Refusal::BadRequest,
+    ),
+    (
+        b"PUT /received",
+        b"content-length: \r\n",
+        Refusal::BadRequest,
+    ),
+    (
+        b"PUT /received",
+        b"content-length: 5\r\nCONTENT-LENGTH: 5\r\n",
+        Refusal::BadRequest,
+    ),
+    (
+        b"PUT /received",
+        b"transfer-encoding: chunked\r\n",
+        Refusal::LengthRequired,
+    ),
+    (b"GET http://localhost/zones", b"", Refusal::BadRequest),
+    (b"GET /\xC3\xA9", b"", Refusal::BadRequest),
+    (b"GET /zones", b"no colon\r\n", Refusal::BadRequest),
+    (b"GET", b"", Refusal::BadRequest),
+];
+
 #[test]
 fn bodies_have_a_length_or_the_request_is_refused(rt: HostRuntime) -> Result<(), Fail> {
-    let lengths: [(&[u8], &[u8], u64); 6] = [
-        (b"GET /zones", b"", 0),
-        (b"POST /publish", b"content-length: 0\r\n", 0),
-        (b"PUT /received", b"Content-Length:\t 0045 \r\n", 45),
-        (
-            b"PUT /received",
-            b"content-length: 67108864\r\n",
-            67_108_864,
-        ),
-        (b"GET /zones", b"content-length: 3\r\n", 3),
-        (b"HEAD /published", b"host: localhost\n", 0),
-    ];
-    for (first, lines, length) in lengths {
+    for &(first, lines, length) in &LENGTHS {
         let text = head(rt.alloc(), first, lines)?;
         let told = decide(&text).map(|ready| ready.1);
         assert_equal_at(first, told.ok(), Some(length))?;
     }
-    let refused: [(&[u8], &[u8], Refusal); 12] = [
-        (b"POST /publish", b"", Refusal::LengthRequired),
-        (
-            b"PUT /received",
-            b"content-length: 67108865\r\n",
-            Refusal::TooLarge,
-        ),
-        (
-            b"PUT /received",
-            b"content-length: 99999999999999999999999999\r\n",
-            Refusal::TooLarge,
-        ),
-        (
-            b"PUT /received",
-            b"content-length: +5\r\n",
-            Refusal::BadRequest,
-        ),
-        (
-            b"PUT /received",
-            b"content-length: 1, 1\r\n",
-            Refusal::BadRequest,
-        ),
-        (
-            b"PUT /received",
-            b"content-length: \r\n",
-            Refusal::BadRequest,
-        ),
-        (
-            b"PUT /received",
-            b"content-length: 5\r\nCONTENT-LENGTH: 5\r\n",
-            Refusal::BadRequest,
-        ),
-        (
-            b"PUT /received",
-            b"transfer-encoding: chunked\r\n",
-            Refusal::LengthRequired,
-        ),
-        (b"GET http://localhost/zones", b"", Refusal::BadRequest),
-        (b"GET /\xC3\xA9", b"", Refusal::BadRequest),
-        (b"GET /zones", b"no colon\r\n", Refusal::BadRequest),
-        (b"GET", b"", Refusal::BadRequest),
-    ];
-    for (first, lines, refusal) in refused {
+    for &(first, lines, refusal) in &REFUSED {
         let text = head(rt.alloc(), first, lines)?;
         let told = decide(&text).err().map(|refused| refused.refusal);
         assert_equal_at((first, lines), told, Some(refusal))?;
@@ -147,27 +149,28 @@ fn paths_are_matched_before_they_are_decoded(rt: HostRuntime) -> Result<(), Fail
     Ok(())
 }
 
+static LINES: [(&[u8], Option<u64>, bool); 8] = [
+    (b"bureau-number: 1\r\n", Some(1), false),
+    (
+        b"Bureau-Number: 9999999999999999999\r\nconnection: keep-alive\r\n",
+        Some(9_999_999_999_999_999_999),
+        false,
+    ),
+    (b"bureau-number: 10000000000000000000\r\n", None, false),
+    (b"bureau-number: 1\r\nbureau-number: 1\r\n", None, false),
+    (b"bureau-number: -1\r\nconnection: Close\r\n", None, true),
+    (b"connection: keep-alive , close\r\n", None, true),
+    (
+        b"connection: keep-alive\r\nconnection: \t,close\r\n",
+        None,
+        true,
+    ),
+    (b"connection: closed, not close\r\n", None, false),
+];
+
 #[test]
 fn callers_numbers_and_the_connection(rt: HostRuntime) -> Result<(), Fail> {
-    let rows: [(&[u8], Option<u64>, bool); 8] = [
-        (b"bureau-number: 1\r\n", Some(1), false),
-        (
-            b"Bureau-Number: 9999999999999999999\r\nconnection: keep-alive\r\n",
-            Some(9_999_999_999_999_999_999),
-            false,
-        ),
-        (b"bureau-number: 10000000000000000000\r\n", None, false),
-        (b"bureau-number: 1\r\nbureau-number: 1\r\n", None, false),
-        (b"bureau-number: -1\r\nconnection: Close\r\n", None, true),
-        (b"connection: keep-alive , close\r\n", None, true),
-        (
-            b"connection: keep-alive\r\nconnection: \t,close\r\n",
-            None,
-            true,
-        ),
-        (b"connection: closed, not close\r\n", None, false),
-    ];
-    for (lines, number, closes) in rows {
+    for &(lines, number, closes) in &LINES {
         let text = head(rt.alloc(), b"GET /zones", lines)?;
         match decide(&text) {
             Ok((head, _)) => {
@@ -180,38 +183,39 @@ fn callers_numbers_and_the_connection(rt: HostRuntime) -> Result<(), Fail> {
     Ok(())
 }
 
+// status, whether the body is JSON, its length, what is allowed, whether the connection closes, and the lines
+static REPLIES: [(Status, bool, u64, Option<Resource>, bool, &[u8]); 3] = [
+    (
+        Status::Success,
+        false,
+        35,
+        None,
+        false,
+        b"HTTP/1.1 200 OK\r\ncontent-type: text/plain\r\ncontent-length: 35\r\n\r\n",
+    ),
+    (
+        Status::MethodNotAllowed,
+        false,
+        19,
+        Some(Resource::Zone),
+        true,
+        b"HTTP/1.1 405 Method Not Allowed\r\ncontent-type: text/plain\r\ncontent-length: 19\r\n\
+        allow: DELETE, PUT\r\nconnection: close\r\n\r\n",
+    ),
+    (
+        Status::Unauthorized,
+        true,
+        14,
+        None,
+        false,
+        b"HTTP/1.1 401 Unauthorized\r\ncontent-type: application/json\r\ncontent-length: 14\r\n\
+        www-authenticate: Bureau\r\n\r\n",
+    ),
+];
+
 #[test]
 fn heads_of_replies_have_their_lines(_rt: HostRuntime) -> Result<(), Fail> {
-    // status, whether the body is JSON, its length, what is allowed, whether the connection closes, and the lines
-    let rows: [(Status, bool, u64, Option<Resource>, bool, &[u8]); 3] = [
-        (
-            Status::Success,
-            false,
-            35,
-            None,
-            false,
-            b"HTTP/1.1 200 OK\r\ncontent-type: text/plain\r\ncontent-length: 35\r\n\r\n",
-        ),
-        (
-            Status::MethodNotAllowed,
-            false,
-            19,
-            Some(Resource::Zone),
-            true,
-            b"HTTP/1.1 405 Method Not Allowed\r\ncontent-type: text/plain\r\ncontent-length: 19\r\n\
-            allow: DELETE, PUT\r\nconnection: close\r\n\r\n",
-        ),
-        (
-            Status::Unauthorized,
-            true,
-            14,
-            None,
-            false,
-            b"HTTP/1.1 401 Unauthorized\r\ncontent-type: application/json\r\ncontent-length: 14\r\n\
-            www-authenticate: Bureau\r\n\r\n",
-        ),
-    ];
-    for (status, is_json, length, allow, closes, lines) in rows {
+    for &(status, is_json, length, allow, closes, lines) in &REPLIES {
         let head = ReplyHead {
             status,
             is_json,

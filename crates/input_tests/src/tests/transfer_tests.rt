@@ -17,22 +17,24 @@ fn long_text(alloc: Global) -> Result<Vec<u8>, NoMemory> {
     Ok(text)
 }
 
+const INTERRUPTED: ErrorKind = ErrorKind::Interrupted;
+
+// piece, limit, failures, their kind, bytes read, retries left
+static SOURCES: [(usize, usize, u32, ErrorKind, Option<usize>, u32); 8] = [
+    (100_000, 100_000, 0, INTERRUPTED, Some(70_000), 64),
+    (999, 100_000, 0, INTERRUPTED, Some(70_000), 64),
+    (100_000, 69_999, 0, INTERRUPTED, Some(69_999), 64),
+    (100_000, 0, 1, INTERRUPTED, Some(0), 64),
+    (100_000, 100_000, 64, INTERRUPTED, Some(70_000), 0),
+    (100_000, 100_000, 65, INTERRUPTED, None, 0),
+    (100_000, 100_000, 1, ErrorKind::TimedOut, None, 64),
+    (100_000, 100_000, 1, ErrorKind::WouldBlock, None, 64),
+];
+
 #[test]
 fn sources(rt: HostRuntime) -> Result<(), Fail> {
     let text = long_text(rt.alloc())?;
-    let interrupted = ErrorKind::Interrupted;
-    // piece, limit, failures, their kind, bytes read, retries left
-    let rows: [(usize, usize, u32, ErrorKind, Option<usize>, u32); 8] = [
-        (100_000, 100_000, 0, interrupted, Some(70_000), 64),
-        (999, 100_000, 0, interrupted, Some(70_000), 64),
-        (100_000, 69_999, 0, interrupted, Some(69_999), 64),
-        (100_000, 0, 1, interrupted, Some(0), 64),
-        (100_000, 100_000, 64, interrupted, Some(70_000), 0),
-        (100_000, 100_000, 65, interrupted, None, 0),
-        (100_000, 100_000, 1, ErrorKind::TimedOut, None, 64),
-        (100_000, 100_000, 1, ErrorKind::WouldBlock, None, 64),
-    ];
-    for (piece, limit, failures, kind, count, left) in rows {
+    for &(piece, limit, failures, kind, count, left) in &SOURCES {
         let mut retries = RETRIES;
         let mut reader = Pieces::new(text.as_slice(), piece, Failures::first(failures, kind));
         let read = match read_source(rt.alloc(), &mut reader, limit, &mut retries) {
@@ -114,21 +116,22 @@ fn write_text(
     (is_written, taken.len(), retries, TEXT.starts_with(taken))
 }
 
+// piece, room, writes and flushes that are interrupted, and what comes of it
+static WRITES: [(usize, usize, u32, u32, (bool, usize, u32, bool)); 9] = [
+    (100, 100, 0, 0, (true, 23, 64, true)),
+    (2, 100, 0, 64, (true, 23, 0, true)),
+    (2, 100, 0, 65, (false, 23, 0, true)),
+    (2, 100, 64, 0, (true, 23, 0, true)),
+    (2, 100, 65, 0, (false, 0, 0, true)),
+    (2, 100, 40, 23, (true, 23, 1, true)),
+    (2, 100, 40, 25, (false, 23, 0, true)),
+    (2, 5, 0, 0, (false, 5, 64, true)),
+    (0, 100, 0, 0, (false, 0, 64, true)),
+];
+
 #[test]
 fn texts_are_written_in_spite_of_interruptions(rt: HostRuntime) -> Result<(), Fail> {
-    // piece, room, writes and flushes that are interrupted, and what comes of it
-    let rows: [(usize, usize, u32, u32, (bool, usize, u32, bool)); 9] = [
-        (100, 100, 0, 0, (true, 23, 64, true)),
-        (2, 100, 0, 64, (true, 23, 0, true)),
-        (2, 100, 0, 65, (false, 23, 0, true)),
-        (2, 100, 64, 0, (true, 23, 0, true)),
-        (2, 100, 65, 0, (false, 0, 0, true)),
-        (2, 100, 40, 23, (true, 23, 1, true)),
-        (2, 100, 40, 25, (false, 23, 0, true)),
-        (2, 5, 0, 0, (false, 5, 64, true)),
-        (0, 100, 0, 0, (false, 0, 64, true)),
-    ];
-    for (piece, room, writes, flushes, told) in rows {
+    for &(piece, room, writes, flushes, told) in &WRITES {
         let failing_writes = Failures::interruptions(writes);
         let failing_flushes = Failures::interruptions(flushes);
         let written = write_text(rt.alloc(), piece, room, failing_writes, failing_flushes);

@@ -46,6 +46,15 @@ fn count_of(alloc: Global, list: List, text: &[u8]) -> Result<usize, ListFault> 
     }
 }
 
+static OF_ONE_ROW: [&[u8]; 6] = [
+    b"\xEF\xBB\xBF SYSMOD ,STATE\nUA10001 , APPLIED\n",
+    b"SYSMOD,STATE\r\nUA10001,APPLIED\r\n",
+    b"SYSMOD,STATE\nUA10001,APPLIED",
+    b"\"SYSMOD\",\"STATE\"\n\"UA10001\",\" APPLIED\t\"\n",
+    b"\n\nSYSMOD,STATE\n\n\nUA10001,APPLIED\n\n",
+    b"SYSMOD,STATE\nUA10001,APPLIED\nUA10001,APPLIED\n",
+];
+
 #[test]
 fn a_zone_lists_its_sysmods_in_order(rt: HostRuntime) -> Result<(), Fail> {
     let function = row(b"HBB7790", ZoneState::Applied)?;
@@ -53,15 +62,7 @@ fn a_zone_lists_its_sysmods_in_order(rt: HostRuntime) -> Result<(), Fail> {
     let base = b"SYSMOD,STATE\nUA10001,APPLIED\nHBB7790,APPLIED\n";
     assert!(rt; zone_rows(rt.alloc(), base)?.as_slice() == [function, fix].as_slice());
 
-    let one_row: [&[u8]; 6] = [
-        b"\xEF\xBB\xBF SYSMOD ,STATE\nUA10001 , APPLIED\n",
-        b"SYSMOD,STATE\r\nUA10001,APPLIED\r\n",
-        b"SYSMOD,STATE\nUA10001,APPLIED",
-        b"\"SYSMOD\",\"STATE\"\n\"UA10001\",\" APPLIED\t\"\n",
-        b"\n\nSYSMOD,STATE\n\n\nUA10001,APPLIED\n\n",
-        b"SYSMOD,STATE\nUA10001,APPLIED\nUA10001,APPLIED\n",
-    ];
-    for text in one_row {
+    for &text in &OF_ONE_ROW {
         assert!(rt;
             zone_rows(rt.alloc(), text)?.as_slice() == [fix].as_slice(),
             "{text:?}"
@@ -79,18 +80,19 @@ fn a_zone_lists_its_sysmods_in_order(rt: HostRuntime) -> Result<(), Fail> {
     Ok(())
 }
 
+static WITHOUT_HEADER: [(List, &[u8]); 7] = [
+    (List::Zone, b""),
+    (List::Zone, b"\n \n"),
+    (List::Zone, b"sysmod,state\n"),
+    (List::Zone, b"SYSMOD\n"),
+    (List::Zone, b"\xEF\xBB\xBF\xEF\xBB\xBFSYSMOD,STATE\n"),
+    (List::Received, b"SYSMOD,STATE\n"),
+    (List::Patterns, b"category\n"),
+];
+
 #[test]
 fn a_list_without_its_header_is_refused(rt: HostRuntime) -> Result<(), Fail> {
-    let others: [(List, &[u8]); 7] = [
-        (List::Zone, b""),
-        (List::Zone, b"\n \n"),
-        (List::Zone, b"sysmod,state\n"),
-        (List::Zone, b"SYSMOD\n"),
-        (List::Zone, b"\xEF\xBB\xBF\xEF\xBB\xBFSYSMOD,STATE\n"),
-        (List::Received, b"SYSMOD,STATE\n"),
-        (List::Patterns, b"category\n"),
-    ];
-    for (list, text) in others {
+    for &(list, text) in &WITHOUT_HEADER {
         let told = count_of(rt.alloc(), list, text);
         assert_equal_at((list, text), told, Err(ListFault::Header))?;
     }
@@ -128,14 +130,15 @@ const FAULTY_PATTERNS: [(&[u8], ListFault); 4] = [
     (b"\"\"\n", ListFault::BadPattern(1)),
 ];
 
+static FAULTY: [(List, &[(&[u8], ListFault)]); 3] = [
+    (List::Zone, &FAULTY_ROWS),
+    (List::Received, &FAULTY_RECEIVED),
+    (List::Patterns, &FAULTY_PATTERNS),
+];
+
 #[test]
 fn a_list_has_its_first_fault(rt: HostRuntime) -> Result<(), Fail> {
-    let faulty: [(List, &[(&[u8], ListFault)]); 3] = [
-        (List::Zone, &FAULTY_ROWS),
-        (List::Received, &FAULTY_RECEIVED),
-        (List::Patterns, &FAULTY_PATTERNS),
-    ];
-    for (list, rows) in faulty {
+    for &(list, rows) in &FAULTY {
         for (records, fault) in rows {
             let text = repeated(rt.alloc(), header(list), records, 1)?;
             let told = count_of(rt.alloc(), list, &text);
@@ -166,15 +169,16 @@ fn patterns_ascend_by_their_bytes(rt: HostRuntime) -> Result<(), Fail> {
     Ok(())
 }
 
+// a record, and how many there are at the most
+static LIMITS: [(List, &[u8], u32); 3] = [
+    (List::Zone, b"UA10001,APPLIED\n", 40_000),
+    (List::Received, b"UA10001\n", 20_000),
+    (List::Patterns, b"IBM.Device.*\n", 64),
+];
+
 #[test]
 fn lists_are_long_up_to_their_limits(rt: HostRuntime) -> Result<(), Fail> {
-    // a record, and how many there are at the most
-    let rows: [(List, &[u8], u32); 3] = [
-        (List::Zone, b"UA10001,APPLIED\n", 40_000),
-        (List::Received, b"UA10001\n", 20_000),
-        (List::Patterns, b"IBM.Device.*\n", 64),
-    ];
-    for (list, record, most) in rows {
+    for &(list, record, most) in &LIMITS {
         let mut text = repeated(rt.alloc(), header(list), record, most)?;
         assert_equal_at(list, count_of(rt.alloc(), list, &text), Ok(1))?;
         text.extend_from_slice(record)?;
@@ -273,38 +277,40 @@ fn a_pattern_keeps_its_text(rt: HostRuntime) -> Result<(), Fail> {
     Ok(())
 }
 
+static MATCHES: [(&str, &str, bool); 8] = [
+    ("ibm.device.*", "IBM.Device.Server", true),
+    ("ibm.device.*", "IBM.Device", false),
+    ("ibm.device.*", "IBM.Device.", true),
+    ("IBM.Device", "ibm.device", true),
+    ("IBM.Device", "IBM.Device.Server", false),
+    ("IBM.Device", "IBM", false),
+    ("*", "IBM.Device", true),
+    ("[A]", "{a}", false),
+];
+
 #[test]
 fn a_pattern_matches_without_regard_to_case(rt: HostRuntime) -> Result<(), Fail> {
-    let matches: [(&str, &str, bool); 8] = [
-        ("ibm.device.*", "IBM.Device.Server", true),
-        ("ibm.device.*", "IBM.Device", false),
-        ("ibm.device.*", "IBM.Device.", true),
-        ("IBM.Device", "ibm.device", true),
-        ("IBM.Device", "IBM.Device.Server", false),
-        ("IBM.Device", "IBM", false),
-        ("*", "IBM.Device", true),
-        ("[A]", "{a}", false),
-    ];
-    for (text, category, does) in matches {
+    for &(text, category, does) in &MATCHES {
         let pattern = Pattern::new(rt.alloc(), text.as_bytes())?.ok_or("a pattern")?;
         assert_equal_at((text, category), pattern.matches(category.as_bytes()), does)?;
     }
     Ok(())
 }
 
+static NUMBERS: [(ListFault, &str); 8] = [
+    (ListFault::Header, "FAULT 31\n"),
+    (ListFault::BadRecord(1), "FAULT 32 1\n"),
+    (ListFault::BadId(20_000), "FAULT 33 20000\n"),
+    (ListFault::BadState(3), "FAULT 34 3\n"),
+    (ListFault::BadPattern(64), "FAULT 35 64\n"),
+    (ListFault::Repeated(2), "FAULT 36 2\n"),
+    (ListFault::TooMany, "FAULT 37\n"),
+    (ListFault::Memory, "FAULT 38\n"),
+];
+
 #[test]
 fn faults_have_their_numbers(rt: HostRuntime) -> Result<(), Fail> {
-    let rows = [
-        (ListFault::Header, "FAULT 31\n"),
-        (ListFault::BadRecord(1), "FAULT 32 1\n"),
-        (ListFault::BadId(20_000), "FAULT 33 20000\n"),
-        (ListFault::BadState(3), "FAULT 34 3\n"),
-        (ListFault::BadPattern(64), "FAULT 35 64\n"),
-        (ListFault::Repeated(2), "FAULT 36 2\n"),
-        (ListFault::TooMany, "FAULT 37\n"),
-        (ListFault::Memory, "FAULT 38\n"),
-    ];
-    for (fault, line) in rows {
+    for &(fault, line) in &NUMBERS {
         assert_equal_at(fault, fault_text(fault).as_str(), line)?;
     }
     let words = format!(in rt.alloc(); "{}", ListFault::Repeated(2))?;

@@ -51,39 +51,61 @@ fn names_of(alloc: Global, rows: &[CallerRow]) -> Result<String, Fail> {
     Ok(text)
 }
 
+// The lines that tell faults, each with callers files that have it first.
+static FAULTY: [(&str, &[&[u8]]); 4] = [
+    ("FAULT 46\n", &[b"", b"NAME\n"]),
+    (
+        "FAULT 48\n",
+        &[b"NAME,TOKEN\n", b"NAME,TOKEN\nALPHA,alpha-token\n"],
+    ),
+    (
+        "FAULT 47 1\n",
+        &[
+            b"NAME,TOKEN\nPUBLISH,1234567\n",
+            b"NAME,TOKEN\nPUBLISH,1234,5678\n",
+        ],
+    ),
+    (
+        "FAULT 47 2\n",
+        &[
+            b"NAME,TOKEN\nPUBLISH,12345678\nalpha,alpha-token\n",
+            b"NAME,TOKEN\nPUBLISH,12345678\nALPHA,12345678\n",
+            b"NAME,TOKEN\nPUBLISH,12345678\nPUBLISH,123456789\n",
+        ],
+    ),
+];
+
+fn assert_faulty(alloc: Global, text: &[u8], told: &str) -> Result<(), Fail> {
+    let Err(fault) = callers(alloc, text) else {
+        return Err(Fail::from("a fault is missed"));
+    };
+    assert_equal_at(text, fault_text(fault).as_str(), told)
+}
+
 #[test]
 fn a_callers_file_has_its_first_fault(rt: HostRuntime) -> Result<(), Fail> {
-    let faulty: [(&str, &[&[u8]]); 4] = [
-        ("FAULT 46\n", &[b"", b"NAME\n"]),
-        (
-            "FAULT 48\n",
-            &[b"NAME,TOKEN\n", b"NAME,TOKEN\nALPHA,alpha-token\n"],
-        ),
-        (
-            "FAULT 47 1\n",
-            &[
-                b"NAME,TOKEN\nPUBLISH,1234567\n",
-                b"NAME,TOKEN\nPUBLISH,1234,5678\n",
-            ],
-        ),
-        (
-            "FAULT 47 2\n",
-            &[
-                b"NAME,TOKEN\nPUBLISH,12345678\nalpha,alpha-token\n",
-                b"NAME,TOKEN\nPUBLISH,12345678\nALPHA,12345678\n",
-                b"NAME,TOKEN\nPUBLISH,12345678\nPUBLISH,123456789\n",
-            ],
-        ),
-    ];
-    for (told, texts) in faulty {
-        for text in texts {
-            let Err(fault) = callers(rt.alloc(), text) else {
-                return Err(Fail::from("a fault is missed"));
-            };
-            assert_equal_at(text, fault_text(fault).as_str(), told)?;
+    for (told, texts) in &FAULTY {
+        for text in *texts {
+            assert_faulty(rt.alloc(), text, told)?;
         }
     }
     Ok(())
+}
+
+// They are 10,000, and the last of them is known by its token.
+fn assert_last(alloc: Global, rows: &[CallerRow]) -> Result<(), Fail> {
+    assert_equal(rows.len(), 10_000)?;
+    let mut store = ListStore::new(alloc, rows)?;
+    assert_caller(
+        &mut store,
+        b"token-09999",
+        Some(Caller::Client(id(b"C9999")?)),
+    )
+}
+
+// Who has a token.
+fn assert_caller(store: &mut ListStore, token: &[u8], caller: Option<Caller>) -> Result<(), Fail> {
+    assert_equal_at(token, store.caller_of(token)?, caller)
 }
 
 #[test]
@@ -93,13 +115,7 @@ fn ten_thousand_callers_are_read_and_no_more(rt: HostRuntime) -> Result<(), Fail
     for i in 1..10_000 {
         text.extend_from_slice(format!(in alloc; "C{i},token-{i:05}\n")?.as_bytes())?;
     }
-    let rows = callers(alloc, &text)?;
-    assert_equal(rows.len(), 10_000)?;
-    let mut store = ListStore::new(alloc, &rows)?;
-    assert_equal(
-        store.caller_of(b"token-09999")?,
-        Some(Caller::Client(id(b"C9999")?)),
-    )?;
+    assert_last(alloc, &callers(alloc, &text)?)?;
     text.extend_from_slice(b"ONEMORE,one-more-token\n")?;
     assert!(rt; matches!(callers(alloc, &text), Err(CallerFault::BadCaller(10_001))));
     Ok(())
@@ -124,21 +140,50 @@ fn make(
     step: Step<'_>,
 ) -> Result<(), Fail> {
     match step {
-        Step::Rows(zone, text) => {
-            let rows = zone_rows(alloc, text)?;
-            store.put_zone(client, number, b"zone", &id(zone)?, &rows)?;
-        }
-        Step::Drop(zone) => store.drop_zone(client, number, b"dropped", &id(zone)?)?,
-        Step::Received(text) => {
-            let ids = received_rows(alloc, text)?;
-            store.put_received(client, number, b"received", &ids)?;
-        }
-        Step::Patterns(zone, text) => {
-            let wanted = patterns(alloc, text)?;
-            store.put_patterns(client, number, b"patterns", &id(zone)?, &wanted)?;
-        }
+        Step::Rows(zone, text) => put_rows(alloc, store, client, number, zone, text),
+        Step::Drop(zone) => drop_rows(store, client, number, zone),
+        Step::Received(text) => put_received(alloc, store, client, number, text),
+        Step::Patterns(zone, text) => put_patterns(alloc, store, client, number, zone, text),
     }
-    Ok(())
+}
+
+fn put_rows(
+    alloc: Global,
+    store: &mut ListStore,
+    client: &Id,
+    number: u64,
+    zone: &[u8],
+    text: &[u8],
+) -> Result<(), Fail> {
+    let (zone, rows) = (id(zone)?, zone_rows(alloc, text)?);
+    Ok(store.put_zone(client, number, b"zone", &zone, &rows)?)
+}
+
+fn drop_rows(store: &mut ListStore, client: &Id, number: u64, zone: &[u8]) -> Result<(), Fail> {
+    Ok(store.drop_zone(client, number, b"dropped", &id(zone)?)?)
+}
+
+fn put_received(
+    alloc: Global,
+    store: &mut ListStore,
+    client: &Id,
+    number: u64,
+    text: &[u8],
+) -> Result<(), Fail> {
+    let ids = received_rows(alloc, text)?;
+    Ok(store.put_received(client, number, b"received", &ids)?)
+}
+
+fn put_patterns(
+    alloc: Global,
+    store: &mut ListStore,
+    client: &Id,
+    number: u64,
+    zone: &[u8],
+    text: &[u8],
+) -> Result<(), Fail> {
+    let (zone, wanted) = (id(zone)?, patterns(alloc, text)?);
+    Ok(store.put_patterns(client, number, b"patterns", &zone, &wanted)?)
 }
 
 // What the store tells of a client.
@@ -183,59 +228,98 @@ fn put_zone_text(
     Ok(())
 }
 
-// The changes of ALPHA, and after each what the store tells of it.
-const OF_ALPHA: [(Step<'static>, &str); 8] = [
+// The changes of ALPHA with their numbers, and after each what the store tells of it.
+static OF_ALPHA: [(u64, Step<'static>, &str); 8] = [
     (
+        1,
         Step::Rows(b"TGT1", b"SYSMOD,STATE\nUA10001,APPLIED\nHBB7790,APPLIED\n"),
         "1 zone; TGT1 2: HBB7790 UA10001; received",
     ),
     (
+        2,
         Step::Patterns(b"TGT1", b"CATEGORY\nibm.device.*\n"),
         "2 patterns; TGT1 2: HBB7790 UA10001 *ibm.device.*; received",
     ),
     (
+        3,
         Step::Rows(b"TGT1", b"SYSMOD,STATE\nUA10002,APPLIED\n"),
         "3 zone; TGT1 1: UA10002 *ibm.device.*; received",
     ),
     (
+        4,
         Step::Received(b"SYSMOD\nUA2\nUA1\n"),
         "4 received; TGT1 1: UA10002 *ibm.device.*; received UA1 UA2",
     ),
     (
+        5,
         Step::Rows(b"DLB1", b"SYSMOD,STATE\n"),
         "5 zone; DLB1 0:; TGT1 1: UA10002 *ibm.device.*; received UA1 UA2",
     ),
-    (Step::Drop(b"TGT1"), "6 dropped; DLB1 0:; received UA1 UA2"),
     (
+        6,
+        Step::Drop(b"TGT1"),
+        "6 dropped; DLB1 0:; received UA1 UA2",
+    ),
+    (
+        7,
         Step::Rows(b"TGT1", b"SYSMOD,STATE\n"),
         "7 zone; DLB1 0:; TGT1 0:; received UA1 UA2",
     ),
-    (
-        Step::Received(b"SYSMOD\n"),
-        "8 received; DLB1 0:; TGT1 0:; received",
-    ),
+    (8, Step::Received(b"SYSMOD\n"), ALPHA_AT_LAST),
 ];
+
+// What the store tells of ALPHA after all its changes.
+const ALPHA_AT_LAST: &str = "8 received; DLB1 0:; TGT1 0:; received";
+
+fn assert_told(alloc: Global, store: &mut ListStore, client: &Id, text: &str) -> Result<(), Fail> {
+    assert_equal(told(alloc, store, client)?.as_str(), text)
+}
+
+// Makes a change of a client's, and looks at what the store tells of it then.
+fn assert_step(
+    alloc: Global,
+    store: &mut ListStore,
+    client: &Id,
+    number: u64,
+    step: Step<'_>,
+    text: &str,
+) -> Result<(), Fail> {
+    make(alloc, store, client, number, step)?;
+    assert_told(alloc, store, client, text)
+}
+
+// The changes of ALPHA, each in turn.
+fn assert_steps(alloc: Global, store: &mut ListStore, alpha: &Id) -> Result<(), Fail> {
+    for (number, step, text) in &OF_ALPHA {
+        assert_step(alloc, store, alpha, *number, *step, text)?;
+    }
+    Ok(())
+}
+
+// BETA puts a zone before ALPHA's changes, and again after them, when ALPHA has a zone of that name.
+fn assert_apart(alloc: Global, store: &mut ListStore) -> Result<(), Fail> {
+    let (alpha, beta) = (id(b"ALPHA")?, id(b"BETA")?);
+    let step = Step::Rows(b"TGT1", b"SYSMOD,STATE\nHBB7790,APPLIED\n");
+    let of_beta = "1 zone; TGT1 1: HBB7790; received";
+    assert_step(alloc, store, &beta, 1, step, of_beta)?;
+    assert_steps(alloc, store, &alpha)?;
+    assert_told(alloc, store, &beta, of_beta)?;
+    assert_step(
+        alloc,
+        store,
+        &beta,
+        2,
+        step,
+        "2 zone; TGT1 1: HBB7790; received",
+    )?;
+    assert_told(alloc, store, &alpha, ALPHA_AT_LAST)
+}
 
 #[test]
 fn each_client_has_what_it_put(rt: HostRuntime) -> Result<(), Fail> {
-    let alloc = rt.alloc();
-    let mut store = opened(alloc)?;
-    let (alpha, beta, gamma) = (id(b"ALPHA")?, id(b"BETA")?, id(b"GAMMA")?);
-    let step = Step::Rows(b"TGT1", b"SYSMOD,STATE\nHBB7790,APPLIED\n");
-    let of_beta = "1 zone; TGT1 1: HBB7790; received";
-    make(alloc, &mut store, &beta, 1, step)?;
-    assert_equal(told(alloc, &mut store, &beta)?.as_str(), of_beta)?;
-    for (number, (step, text)) in (1..9u64).zip(OF_ALPHA) {
-        make(alloc, &mut store, &alpha, number, step)?;
-        assert_equal(told(alloc, &mut store, &alpha)?.as_str(), text)?;
-    }
-    assert_equal(told(alloc, &mut store, &beta)?.as_str(), of_beta)?;
-    // ALPHA has a zone of that name by now
-    make(alloc, &mut store, &beta, 2, step)?;
-    assert_equal(told(alloc, &mut store, &alpha)?.as_str(), OF_ALPHA[7].1)?;
-    let of_beta = "2 zone; TGT1 1: HBB7790; received";
-    assert_equal(told(alloc, &mut store, &beta)?.as_str(), of_beta)?;
-    assert_equal(told(alloc, &mut store, &gamma)?.as_str(), "0 ; received")
+    let mut store = opened(rt.alloc())?;
+    assert_apart(rt.alloc(), &mut store)?;
+    assert_told(rt.alloc(), &mut store, &id(b"GAMMA")?, "0 ; received")
 }
 
 // ---- many clients
@@ -278,39 +362,45 @@ fn own(alloc: Global, i: u32) -> Result<String, Fail> {
     Ok(text)
 }
 
-#[test]
-fn each_of_200_clients_has_what_it_put(rt: HostRuntime) -> Result<(), Fail> {
-    let alloc = rt.alloc();
-    let mut store = opened(alloc)?;
-    // the last client comes first
+// All clients put what is their own, the last one first. Then some drop their zones.
+fn put_all(alloc: Global, store: &mut ListStore) -> Result<(), Fail> {
     for i in (0..CLIENTS).rev() {
-        put_own(alloc, &mut store, i)?;
+        put_own(alloc, store, i)?;
     }
     for i in 0..CLIENTS {
         if drops(i) {
-            store.drop_zone(&client_at(alloc, i)?, 3, b"dropped", &id(b"TGT1")?)?;
+            drop_rows(store, &client_at(alloc, i)?, 3, b"TGT1")?;
         }
     }
+    Ok(())
+}
+
+fn assert_own(alloc: Global, store: &mut ListStore, i: u32) -> Result<(), Fail> {
+    assert_told(alloc, store, &client_at(alloc, i)?, own(alloc, i)?.as_str())
+}
+
+#[test]
+fn each_of_200_clients_has_what_it_put(rt: HostRuntime) -> Result<(), Fail> {
+    let mut store = opened(rt.alloc())?;
+    put_all(rt.alloc(), &mut store)?;
     for i in 0..CLIENTS {
-        let text = told(alloc, &mut store, &client_at(alloc, i)?)?;
-        assert_equal(text.as_str(), own(alloc, i)?.as_str())?;
+        assert_own(rt.alloc(), &mut store, i)?;
     }
     Ok(())
+}
+
+fn assert_callers(store: &mut ListStore) -> Result<(), Fail> {
+    let alpha = Caller::Client(id(b"ALPHA")?);
+    assert_caller(store, b"publish-token", Some(Caller::Publisher))?;
+    assert_caller(store, b"alpha-token", Some(alpha))?;
+    assert_caller(store, b"alpha-toke", None)?;
+    assert_caller(store, b"", None)
 }
 
 #[test]
 fn callers_are_known_by_their_tokens(rt: HostRuntime) -> Result<(), Fail> {
     let mut store = opened(rt.alloc())?;
-    let rows: [(&[u8], Option<Caller>); 4] = [
-        (b"publish-token", Some(Caller::Publisher)),
-        (b"alpha-token", Some(Caller::Client(id(b"ALPHA")?))),
-        (b"alpha-toke", None),
-        (b"", None),
-    ];
-    for (token, caller) in rows {
-        assert_equal(store.caller_of(token)?, caller)?;
-    }
-    Ok(())
+    assert_callers(&mut store)
 }
 
 // Publishes the base, and a hold of the function.
@@ -320,50 +410,68 @@ fn publish(alloc: Global, store: &mut ListStore) -> Result<(), Fail> {
     Ok(store.publish(1, b"published", &changes)?)
 }
 
+fn assert_counts(store: &mut ListStore, counts: (u64, u64)) -> Result<(), Fail> {
+    assert_equal(store.counts()?, counts)
+}
+
 // How many holds of a kind the reports on a zone begin with.
-fn held(store: &mut ListStore, client: &[u8], kind: Kind) -> Result<usize, Fail> {
-    Ok(store.held_in(&id(client)?, &id(b"TGT1")?, kind)?.len())
+fn assert_held(store: &mut ListStore, client: &[u8], kind: Kind, count: usize) -> Result<(), Fail> {
+    let held = store.held_in(&id(client)?, &id(b"TGT1")?, kind)?;
+    assert_equal_at(client, held.len(), count)
+}
+
+// ALPHA has a PTF and a function that is superseded there.
+fn put_superseded(alloc: Global, store: &mut ListStore) -> Result<(), Fail> {
+    let rows = b"SYSMOD,STATE\nUA10001,ACCEPTED\nHBB7790,SUPERSEDED\n";
+    put_rows(alloc, store, &id(b"ALPHA")?, 1, b"TGT1", rows)
+}
+
+fn assert_published(alloc: Global, store: &mut ListStore) -> Result<(), Fail> {
+    assert_counts(store, (0, 0))?;
+    publish(alloc, store)?;
+    assert_counts(store, (3, 2))?;
+    let mut last = String::new(alloc);
+    put_last(alloc, &mut last, store, &Caller::Publisher)?;
+    assert_equal(last.as_str(), "1 published")
+}
+
+// What is superseded is not installed, and BETA has no zone.
+fn assert_each_held(store: &mut ListStore) -> Result<(), Fail> {
+    assert_held(store, b"ALPHA", Kind::ErrorHold, 1)?;
+    assert_held(store, b"ALPHA", Kind::SystemHold, 0)?;
+    assert_held(store, b"BETA", Kind::ErrorHold, 0)
 }
 
 #[test]
 fn what_is_published_is_all_clients(rt: HostRuntime) -> Result<(), Fail> {
-    let alloc = rt.alloc();
-    let mut store = opened(alloc)?;
-    make(
-        alloc,
-        &mut store,
-        &id(b"ALPHA")?,
-        1,
-        Step::Rows(
-            b"TGT1",
-            b"SYSMOD,STATE\nUA10001,ACCEPTED\nHBB7790,SUPERSEDED\n",
-        ),
-    )?;
-    assert_equal(store.counts()?, (0, 0))?;
-    publish(alloc, &mut store)?;
-    assert_equal(store.counts()?, (3, 2))?;
-    let mut last = String::new(alloc);
-    put_last(alloc, &mut last, &mut store, &Caller::Publisher)?;
-    assert_equal(last.as_str(), "1 published")?;
-    assert_equal(held(&mut store, b"ALPHA", Kind::ErrorHold)?, 1)?;
-    assert_equal_at(
-        "superseded is not installed",
-        held(&mut store, b"ALPHA", Kind::SystemHold)?,
-        0,
-    )?;
-    assert_equal(held(&mut store, b"BETA", Kind::ErrorHold)?, 0)
+    let mut store = opened(rt.alloc())?;
+    put_superseded(rt.alloc(), &mut store)?;
+    assert_published(rt.alloc(), &mut store)?;
+    assert_each_held(&mut store)
+}
+
+// What is catalogued, and then what supersedes an APAR.
+fn put_catalogued(text: &mut String, store: &mut ListStore) -> Result<(), Fail> {
+    put_ids(text, &store.ids()?)?;
+    put_ids(text, &store.superseders(&id(b"AA20002")?)?)
+}
+
+fn has_record(store: &mut ListStore, name: &[u8]) -> Result<bool, Fail> {
+    Ok(store.sysmod(&id(name)?)?.is_some())
+}
+
+fn assert_source(alloc: Global, store: &mut ListStore) -> Result<(), Fail> {
+    let mut text = String::new(alloc);
+    put_catalogued(&mut text, store)?;
+    assert_equal(text.as_str(), " HBB7790 UA10001 UA10002 UA10002")?;
+    assert_equal(has_record(store, b"UA10001")?, true)?;
+    assert_equal(has_record(store, b"AA20002")?, false)?;
+    assert_equal(store.holds_on(&id(b"UA10001")?)?.len(), 1)
 }
 
 #[test]
 fn a_store_is_a_source_of_what_is_published(rt: HostRuntime) -> Result<(), Fail> {
-    let alloc = rt.alloc();
-    let mut store = opened(alloc)?;
-    publish(alloc, &mut store)?;
-    let mut text = String::new(alloc);
-    put_ids(&mut text, &store.ids()?)?;
-    put_ids(&mut text, &store.superseders(&id(b"AA20002")?)?)?;
-    assert_equal(text.as_str(), " HBB7790 UA10001 UA10002 UA10002")?;
-    assert!(rt; store.sysmod(&id(b"UA10001")?)?.is_some());
-    assert!(rt; store.sysmod(&id(b"AA20002")?)?.is_none());
-    assert_equal(store.holds_on(&id(b"UA10001")?)?.len(), 1)
+    let mut store = opened(rt.alloc())?;
+    publish(rt.alloc(), &mut store)?;
+    assert_source(rt.alloc(), &mut store)
 }

@@ -16,11 +16,27 @@ use sqlite::types::ValueRef;
 use sqlite::{Connection, Error, MemStore};
 use std::alloc::Global;
 use std::test::Fail;
-use testing::assert_equal;
+use testing::{assert_equal, assert_equal_at};
 
 const OTHER: ValueRef<'static> = ValueRef::Text(b"UA10003");
 
 const NO_DATE: ValueRef<'static> = ValueRef::Int(-1);
+
+const FIXCAT: ValueRef<'static> = ValueRef::Int(3);
+
+const ALPHA_TOKEN: ValueRef<'static> = ValueRef::Text(b"alpha-token");
+
+const PUBLISHER: ValueRef<'static> = ValueRef::Text(b"PUBLISH");
+
+const PUBLISHER_TOKEN: ValueRef<'static> = ValueRef::Text(b"publisher-token");
+
+const EMPTY: ValueRef<'static> = ValueRef::Text(b"DLIB1");
+
+const ASKED: ValueRef<'static> = ValueRef::Text(b"IBM.*");
+
+const RECEIVED: ValueRef<'static> = ValueRef::Text(b"UA10002,UA10003");
+
+static SEVENTH: [ValueRef<'static>; 3] = [ALPHA, ValueRef::Int(7), ValueRef::Blob(b"OK")];
 
 fn put(
     conn: &mut Connection<MemStore>,
@@ -31,55 +47,67 @@ fn put(
     Ok(())
 }
 
-// A PTF that supersedes an APAR and requires two under a condition, with an ERROR and a FIXCAT hold.
-fn publish(conn: &mut Connection<MemStore>) -> Result<(), Error> {
-    let record = [FIX, ONE, BASE, NOTHING, NOTHING];
-    put(conn, TableById::Sysmod.insertion(), &record)?;
+static RECORD: [ValueRef<'static>; 5] = [FIX, ONE, BASE, NOTHING, NOTHING];
+
+static ERROR_HOLD: [ValueRef<'static>; 8] = [
+    FIX, ZERO, FIXED, BASE, NOTHING, NO_DATE, NOTHING, NOTHING,
+];
+
+static FIXCAT_HOLD: [ValueRef<'static>; 8] = [
+    FIX, FIXCAT, FIXED, BASE, NOTHING, NO_DATE, NOTHING, NOTHING,
+];
+
+// A PTF that supersedes an APAR and requires two under a condition.
+fn put_record(conn: &mut Connection<MemStore>) -> Result<(), Error> {
+    put(conn, TableById::Sysmod.insertion(), &RECORD)?;
     put(conn, TableById::SysmodSup.insertion(), &[FIX, FIXED])?;
     put(conn, TableById::SysmodCond.insertion(), &[FIX, BASE, OTHER])?;
-    put(conn, TableById::SysmodCond.insertion(), &[FIX, BASE, FIXED])?;
-    for kind in [0, 3] {
-        let kind = ValueRef::Int(kind);
-        let hold = [FIX, kind, FIXED, BASE, NOTHING, NO_DATE, NOTHING, NOTHING];
-        put(conn, write::insert_hold_row(), &hold)?;
-    }
-    Ok(())
+    put(conn, TableById::SysmodCond.insertion(), &[FIX, BASE, FIXED])
 }
 
-// The publisher, and the client ALPHA with its seventh change, a zone of one SYSMOD, an empty zone and a received list.
-fn fill(conn: &mut Connection<MemStore>) -> Result<(), Error> {
-    let token = ValueRef::Text(b"alpha-token");
-    let publisher = ValueRef::Text(b"PUBLISH");
-    let other = ValueRef::Text(b"publisher-token");
-    let empty = ValueRef::Text(b"DLIB1");
-    let category = ValueRef::Text(b"IBM.*");
-    let ids = ValueRef::Text(b"UA10002,UA10003");
-    let change = [ALPHA, ValueRef::Int(7), ValueRef::Blob(b"OK")];
-    put(conn, write::insert_caller(), &[ALPHA, token])?;
-    put(conn, write::insert_caller(), &[publisher, other])?;
-    put(conn, TableById::LastChange.insertion(), &change)?;
+// That PTF with an ERROR and a FIXCAT hold.
+fn publish(conn: &mut Connection<MemStore>) -> Result<(), Error> {
+    put_record(conn)?;
+    put(conn, write::insert_hold_row(), &ERROR_HOLD)?;
+    put(conn, write::insert_hold_row(), &FIXCAT_HOLD)
+}
+
+// The publisher, and the client ALPHA with its seventh change.
+fn put_callers(conn: &mut Connection<MemStore>) -> Result<(), Error> {
+    put(conn, write::insert_caller(), &[ALPHA, ALPHA_TOKEN])?;
+    put(conn, write::insert_caller(), &[PUBLISHER, PUBLISHER_TOKEN])?;
+    put(conn, TableById::LastChange.insertion(), &SEVENTH)
+}
+
+// ALPHA's zone of one SYSMOD, empty zone and received list.
+fn put_lists(conn: &mut Connection<MemStore>) -> Result<(), Error> {
     put(
         conn,
         TableByZone::ZoneHead.insertion(),
-        &[ALPHA, ZONE, category],
+        &[ALPHA, ZONE, ASKED],
     )?;
     put(
         conn,
         TableByZone::ZoneHead.insertion(),
-        &[ALPHA, empty, NOTHING],
+        &[ALPHA, EMPTY, NOTHING],
     )?;
     put(
         conn,
         TableByZone::ZoneRow.insertion(),
         &[ALPHA, ZONE, FIX, ZERO],
     )?;
-    put(conn, TableById::ReceivedList.insertion(), &[ALPHA, ids])
+    put(
+        conn,
+        TableById::ReceivedList.insertion(),
+        &[ALPHA, RECEIVED],
+    )
 }
 
 // A database with the callers, and what ALPHA has.
 fn filled(alloc: Global) -> Result<Connection<MemStore>, Error> {
     let mut conn = of_version_2(alloc)?;
-    fill(&mut conn)?;
+    put_callers(&mut conn)?;
+    put_lists(&mut conn)?;
     Ok(conn)
 }
 
@@ -205,29 +233,57 @@ fn is_device<T: Drop>(answer: Result<T, ReadFault>) -> bool {
     }
 }
 
+// Who has a token, and the number of the last change.
+fn assert_caller(
+    alloc: Global,
+    conn: &mut Connection<MemStore>,
+    token: &[u8],
+    found: Option<Caller>,
+    number: Option<u64>,
+) -> Result<(), Fail> {
+    assert_equal_at(token, caller(conn, token)?, found)?;
+    assert_equal_at(token, last_number(alloc, conn, token)?, number)
+}
+
+fn assert_callers(alloc: Global, conn: &mut Connection<MemStore>) -> Result<(), Fail> {
+    let alpha = Some(Caller::Client(id(b"ALPHA")?));
+    let publisher = Some(Caller::Publisher);
+    assert_caller(alloc, conn, b"alpha-token", alpha, Some(7))?;
+    assert_caller(alloc, conn, b"publisher-token", publisher, Some(0))?;
+    assert_caller(alloc, conn, b"alpha", None, None)?;
+    assert_caller(alloc, conn, b"", None, None)
+}
+
 #[test]
 fn callers_are_found_by_their_tokens(rt: HostRuntime) -> Result<(), Fail> {
-    let alloc = rt.alloc();
-    let mut conn = filled(alloc)?;
-    let rows = [
-        (
-            b"alpha-token".as_slice(),
-            Some(Caller::Client(id(b"ALPHA")?)),
-            Some(7),
-        ),
-        (
-            b"publisher-token".as_slice(),
-            Some(Caller::Publisher),
-            Some(0),
-        ),
-        (b"alpha".as_slice(), None, None),
-        (b"".as_slice(), None, None),
-    ];
-    for (token, found, number) in rows {
-        assert_equal(caller(&mut conn, token)?, found)?;
-        assert_equal(last_number(alloc, &mut conn, token)?, number)?;
-    }
-    Ok(())
+    let mut conn = filled(rt.alloc())?;
+    assert_callers(rt.alloc(), &mut conn)
+}
+
+// A client, how many zones it has, how many rows its zone TGT1, how many SYSMODs it received, and how many patterns and
+// ERROR holds that zone has.
+type OfClient = (&'static [u8], u64, Option<usize>, usize, usize);
+
+static CLIENTS: [OfClient; 2] = [(b"ALPHA", 2, Some(1), 2, 1), (b"BETA", 0, None, 0, 0)];
+
+fn assert_client(
+    alloc: Global,
+    conn: &mut Connection<MemStore>,
+    row: &OfClient,
+) -> Result<(), Fail> {
+    let (name, zones, rows, received, each) = *row;
+    let (client, target) = (id(name)?, id(b"TGT1")?);
+    assert_equal_at(name, zone_total(conn, &client)?, zones)?;
+    assert_equal_at(name, rows_in(alloc, conn, &client, &target)?, rows)?;
+    assert_equal_at(name, asked_in(alloc, conn, &client, &target)?, (each, each))?;
+    assert_equal_at(name, received_ids(alloc, conn, &client)?, received)
+}
+
+fn assert_zones(alloc: Global, conn: &mut Connection<MemStore>) -> Result<(), Fail> {
+    let found = zone_names(alloc, conn, &id(b"ALPHA")?)?;
+    let zones = [(id(b"DLIB1")?, 0), (id(b"TGT1")?, 1)];
+    assert_equal(found.as_slice() == zones.as_slice(), true)?;
+    assert_equal(zone_names(alloc, conn, &id(b"BETA")?)?.len(), 0)
 }
 
 #[test]
@@ -235,107 +291,124 @@ fn a_client_finds_what_it_has(rt: HostRuntime) -> Result<(), Fail> {
     let alloc = rt.alloc();
     let mut conn = filled(alloc)?;
     publish(&mut conn)?;
-    let target = id(b"TGT1")?;
-    let clients = [
-        (b"ALPHA".as_slice(), 2, Some(1), 1),
-        (b"BETA".as_slice(), 0, None, 0),
-    ];
-    for (client, named, rows, each) in clients {
-        let client = id(client)?;
-        assert_equal(zone_total(&mut conn, &client)?, named)?;
-        assert_equal(rows_in(alloc, &mut conn, &client, &target)?, rows)?;
-        assert_equal(asked_in(alloc, &mut conn, &client, &target)?, (each, each))?;
-        assert_equal(received_ids(alloc, &mut conn, &client)?, 2 * each)?;
+    for row in &CLIENTS {
+        assert_client(alloc, &mut conn, row)?;
     }
-    let found = zone_names(alloc, &mut conn, &id(b"ALPHA")?)?;
-    assert!(rt; found.as_slice() == [(id(b"DLIB1")?, 0), (target, 1)].as_slice());
-    assert!(rt; zone_names(alloc, &mut conn, &id(b"BETA")?)?.is_empty());
-    Ok(())
+    assert_zones(alloc, &mut conn)
+}
+
+// A SYSMOD, how many it supersedes, how many supersede it, and how many holds it has.
+static SYSMODS: [(&[u8], Option<usize>, usize, usize); 2] = [
+    (b"UA10002", Some(1), 0, 2),
+    (b"AA20002", None, 1, 0),
+];
+
+fn assert_sysmod(
+    alloc: Global,
+    conn: &mut Connection<MemStore>,
+    name: &[u8],
+    sup: Option<usize>,
+    superseders: usize,
+    holds: usize,
+) -> Result<(), Fail> {
+    let sysmod = id(name)?;
+    assert_equal_at(name, superseded_by(alloc, conn, &sysmod)?, sup)?;
+    assert_equal_at(name, above(alloc, conn, &sysmod)?, superseders)?;
+    assert_equal_at(name, held(alloc, conn, &sysmod)?, holds)
+}
+
+fn assert_totals(alloc: Global, conn: &mut Connection<MemStore>) -> Result<(), Fail> {
+    assert_equal(all_ids(alloc, conn)?, 1)?;
+    assert_equal(totals(conn)?, (1, 2))
 }
 
 #[test]
 fn what_is_published_is_found(rt: HostRuntime) -> Result<(), Fail> {
     let alloc = rt.alloc();
     let mut conn = published(alloc)?;
-    assert_equal(all_ids(alloc, &mut conn)?, 1)?;
-    assert!(rt; totals(&mut conn)? == (1, 2));
-    let rows = [
-        (b"UA10002".as_slice(), Some(1), 0, 2),
-        (b"AA20002".as_slice(), None, 1, 0),
-    ];
-    for (name, sup, superseders, holds) in rows {
-        let name = id(name)?;
-        assert_equal(superseded_by(alloc, &mut conn, &name)?, sup)?;
-        assert_equal(above(alloc, &mut conn, &name)?, superseders)?;
-        assert_equal(held(alloc, &mut conn, &name)?, holds)?;
+    assert_totals(alloc, &mut conn)?;
+    for (name, sup, superseders, holds) in &SYSMODS {
+        assert_sysmod(alloc, &mut conn, name, *sup, *superseders, *holds)?;
     }
     Ok(())
 }
 
-#[test]
-fn requisites_under_a_condition_are_found_in_order(rt: HostRuntime) -> Result<(), Fail> {
-    let alloc = rt.alloc();
-    let mut conn = published(alloc)?;
-    let found = conditional(alloc, &mut conn, &id(b"UA10002")?)?.ok_or("a record")?;
-    let fmid = id(b"HBB7790")?;
+fn assert_in_order(alloc: Global, conn: &mut Connection<MemStore>) -> Result<(), Fail> {
+    let found = conditional(alloc, conn, &id(b"UA10002")?)?.ok_or("a record")?;
+    let (fmid, first, second) = (id(b"HBB7790")?, id(b"AA20002")?, id(b"UA10003")?);
     let pairs = [
-        CondNeed {
-            fmid,
-            need: id(b"AA20002")?,
-        },
-        CondNeed {
-            fmid,
-            need: id(b"UA10003")?,
-        },
+        CondNeed { fmid, need: first },
+        CondNeed { fmid, need: second },
     ];
-    assert!(rt; found.as_slice() == pairs.as_slice());
-    assert!(rt; conditional(alloc, &mut conn, &id(b"UA10003")?)?.is_none());
+    assert_equal(found.as_slice() == pairs.as_slice(), true)?;
+    assert_equal(conditional(alloc, conn, &second)?.is_none(), true)
+}
+
+// A function in small letters is a fault.
+fn assert_small_is_none(alloc: Global, conn: &mut Connection<MemStore>) -> Result<(), Fail> {
     let small = ValueRef::Text(b"hbb7790");
     put(
-        &mut conn,
+        conn,
         TableById::SysmodCond.insertion(),
         &[FIX, small, FIXED],
     )?;
-    assert!(rt; is_device(conditional(alloc, &mut conn, &id(b"UA10002")?)));
-    Ok(())
+    assert_device(conditional(alloc, conn, &id(b"UA10002")?))
+}
+
+#[test]
+fn requisites_under_a_condition_are_found_in_order(rt: HostRuntime) -> Result<(), Fail> {
+    let mut conn = published(rt.alloc())?;
+    assert_in_order(rt.alloc(), &mut conn)?;
+    assert_small_is_none(rt.alloc(), &mut conn)
+}
+
+fn assert_version(conn: &mut Connection<MemStore>) -> Result<(), Fail> {
+    assert_equal(tables_version(conn)?, None)?;
+    put(conn, write::insert_version(), &[])?;
+    assert_equal(tables_version(conn)?, Some(2))
 }
 
 #[test]
 fn the_version_is_found(rt: HostRuntime) -> Result<(), Fail> {
     let mut conn = of_version_2(rt.alloc())?;
-    assert_equal(tables_version(&mut conn)?, None)?;
-    put(&mut conn, write::insert_version(), &[])?;
-    assert_equal(tables_version(&mut conn)?, Some(2))
+    assert_version(&mut conn)
+}
+
+// The device is told to have failed.
+fn assert_device<T: Drop>(answer: Result<T, ReadFault>) -> Result<(), Fail> {
+    assert_equal(is_device(answer), true)
+}
+
+fn assert_falling_is_none(alloc: Global, conn: &mut Connection<MemStore>) -> Result<(), Fail> {
+    let falling = ValueRef::Text(b"UA10003,UA10002");
+    put(conn, TableById::ReceivedList.insertion(), &[ALPHA, falling])?;
+    assert_device(received_ids(alloc, conn, &id(b"ALPHA")?))
+}
+
+fn assert_no_id_is_none(alloc: Global, conn: &mut Connection<MemStore>) -> Result<(), Fail> {
+    let small = ValueRef::Text(b"ua10002");
+    let record = [small, ONE, BASE, NOTHING, NOTHING];
+    put(conn, TableById::Sysmod.insertion(), &record)?;
+    assert_device(all_ids(alloc, conn))?;
+    put(
+        conn,
+        TableByZone::ZoneHead.insertion(),
+        &[ALPHA, small, NOTHING],
+    )?;
+    assert_device(zone_names(alloc, conn, &id(b"ALPHA")?))
+}
+
+fn assert_no_day_is_none(alloc: Global, conn: &mut Connection<MemStore>) -> Result<(), Fail> {
+    let no_day = ValueRef::Int(12000);
+    let hold = [FIX, ZERO, FIXED, BASE, NOTHING, no_day, NOTHING, NOTHING];
+    put(conn, write::insert_hold_row(), &hold)?;
+    assert_device(held(alloc, conn, &id(b"UA10002")?))
 }
 
 #[test]
 fn rows_that_the_bureau_never_wrote_are_a_fault(rt: HostRuntime) -> Result<(), Fail> {
-    let alloc = rt.alloc();
-    let mut conn = of_version_2(alloc)?;
-    let (alpha, fix) = (id(b"ALPHA")?, id(b"UA10002")?);
-    let falling = ValueRef::Text(b"UA10003,UA10002");
-    put(
-        &mut conn,
-        TableById::ReceivedList.insertion(),
-        &[ALPHA, falling],
-    )?;
-    assert!(rt; is_device(received_ids(alloc, &mut conn, &alpha)));
-    let small = ValueRef::Text(b"ua10002");
-    put(
-        &mut conn,
-        TableById::Sysmod.insertion(),
-        &[small, ONE, BASE, NOTHING, NOTHING],
-    )?;
-    assert!(rt; is_device(all_ids(alloc, &mut conn)));
-    put(
-        &mut conn,
-        TableByZone::ZoneHead.insertion(),
-        &[ALPHA, small, NOTHING],
-    )?;
-    assert!(rt; is_device(zone_names(alloc, &mut conn, &alpha)));
-    let no_day = ValueRef::Int(12000);
-    let hold = [FIX, ZERO, FIXED, BASE, NOTHING, no_day, NOTHING, NOTHING];
-    put(&mut conn, write::insert_hold_row(), &hold)?;
-    assert!(rt; is_device(held(alloc, &mut conn, &fix)));
-    Ok(())
+    let mut conn = of_version_2(rt.alloc())?;
+    assert_falling_is_none(rt.alloc(), &mut conn)?;
+    assert_no_id_is_none(rt.alloc(), &mut conn)?;
+    assert_no_day_is_none(rt.alloc(), &mut conn)
 }

@@ -9,6 +9,8 @@ use std::test::Fail;
 
 const TOKEN: ValueRef<'static> = ValueRef::Text(b"alpha-token");
 
+const NO_DATE: ValueRef<'static> = ValueRef::Int(-1);
+
 fn found_one(rows: usize, text: &'static str) -> Result<(), Fail> {
     if rows == 1 {
         return Ok(());
@@ -35,73 +37,93 @@ fn read_each(
     Ok(())
 }
 
-fn fill(conn: &mut Connection<MemStore>) -> Result<(), Fail> {
-    let change = [ALPHA, ONE, ValueRef::Blob(b"OK")];
-    let sysmod = [FIX, ONE, BASE, NOTHING, NOTHING];
-    let no_date = ValueRef::Int(-1);
-    let hold = [FIX, ZERO, FIXED, BASE, NOTHING, no_date, NOTHING, NOTHING];
-    let head = [ALPHA, ZONE, NOTHING];
-    let row = [ALPHA, ZONE, FIX, ZERO];
-    let cond = [FIX, BASE, FIXED];
+static CHANGE: [ValueRef<'static>; 3] = [ALPHA, ONE, ValueRef::Blob(b"OK")];
+
+static RECORD: [ValueRef<'static>; 5] = [FIX, ONE, BASE, NOTHING, NOTHING];
+
+static HOLD: [ValueRef<'static>; 8] = [FIX, ZERO, FIXED, BASE, NOTHING, NO_DATE, NOTHING, NOTHING];
+
+fn fill_published(conn: &mut Connection<MemStore>) -> Result<(), Fail> {
     write_one(conn, write::insert_version(), &[])?;
-    write_one(conn, write::insert_caller(), &[ALPHA, TOKEN])?;
-    write_one(conn, write::insert_hold_row(), &hold)?;
-    write_one(conn, TableById::LastChange.insertion(), &change)?;
-    write_one(conn, TableById::Sysmod.insertion(), &sysmod)?;
+    write_one(conn, write::insert_hold_row(), &HOLD)?;
+    write_one(conn, TableById::Sysmod.insertion(), &RECORD)?;
     write_one(conn, TableById::SysmodSup.insertion(), &[FIX, FIXED])?;
-    write_one(conn, TableById::SysmodCond.insertion(), &cond)?;
-    write_one(conn, TableById::ReceivedList.insertion(), &[ALPHA, FIX])?;
-    write_one(conn, TableByZone::ZoneHead.insertion(), &head)?;
-    write_one(conn, TableByZone::ZoneRow.insertion(), &row)
+    write_one(conn, TableById::SysmodCond.insertion(), &[FIX, BASE, FIXED])
 }
 
-fn look(conn: &mut Connection<MemStore>) -> Result<(), Fail> {
+fn fill_of_client(conn: &mut Connection<MemStore>) -> Result<(), Fail> {
+    write_one(conn, write::insert_caller(), &[ALPHA, TOKEN])?;
+    write_one(conn, TableById::LastChange.insertion(), &CHANGE)?;
+    write_one(conn, TableById::ReceivedList.insertion(), &[ALPHA, FIX])?;
+    write_one(
+        conn,
+        TableByZone::ZoneHead.insertion(),
+        &[ALPHA, ZONE, NOTHING],
+    )?;
+    write_one(
+        conn,
+        TableByZone::ZoneRow.insertion(),
+        &[ALPHA, ZONE, FIX, ZERO],
+    )
+}
+
+fn look_published(conn: &mut Connection<MemStore>) -> Result<(), Fail> {
     let of_all = [
         read::version(),
         read::sysmod_ids(),
         read::sysmod_count(),
         read::hold_count(),
     ];
+    let of_fix = [
+        read::sysmod(),
+        read::superseded(),
+        read::conditional(),
+        read::holds_on(),
+    ];
     read_each(conn, &of_all, &[])?;
-    read_each(conn, &[read::caller_with_token()], &[TOKEN])?;
-    read_each(
-        conn,
-        &[
-            read::sysmod(),
-            read::superseded(),
-            read::conditional(),
-            read::holds_on(),
-        ],
-        &[FIX],
-    )?;
-    read_each(conn, &[read::superseders()], &[FIXED])?;
+    read_each(conn, &of_fix, &[FIX])?;
+    read_each(conn, &[read::superseders()], &[FIXED])
+}
+
+fn look_of_client(conn: &mut Connection<MemStore>) -> Result<(), Fail> {
     let of_client = [
         read::last_change(),
         read::zones(),
         read::zone_count(),
         read::received(),
     ];
+    read_each(conn, &[read::caller_with_token()], &[TOKEN])?;
     read_each(conn, &of_client, &[ALPHA])?;
     read_each(conn, &[read::patterns(), read::zone_rows()], &[ALPHA, ZONE])?;
     read_each(conn, &[read::held_in()], &[ALPHA, ZONE, ZERO])
 }
 
-fn clear(conn: &mut Connection<MemStore>) -> Result<(), Fail> {
+fn clear_published(conn: &mut Connection<MemStore>) -> Result<(), Fail> {
     write_one(conn, write::delete_version(), &[])?;
     write_one(conn, write::delete_hold(), &[FIX, ZERO, FIXED])?;
-    write_one(conn, TableById::LastChange.deletion(), &[ALPHA])?;
     write_one(conn, TableById::Sysmod.deletion(), &[FIX])?;
     write_one(conn, TableById::SysmodSup.deletion(), &[FIX])?;
-    write_one(conn, TableById::SysmodCond.deletion(), &[FIX])?;
+    write_one(conn, TableById::SysmodCond.deletion(), &[FIX])
+}
+
+fn clear_of_client(conn: &mut Connection<MemStore>) -> Result<(), Fail> {
+    write_one(conn, TableById::LastChange.deletion(), &[ALPHA])?;
     write_one(conn, TableById::ReceivedList.deletion(), &[ALPHA])?;
     write_one(conn, TableByZone::ZoneHead.deletion(), &[ALPHA, ZONE])?;
     write_one(conn, TableByZone::ZoneRow.deletion(), &[ALPHA, ZONE])
 }
 
+fn find_each(conn: &mut Connection<MemStore>) -> Result<(), Fail> {
+    fill_published(conn)?;
+    fill_of_client(conn)?;
+    look_published(conn)?;
+    look_of_client(conn)?;
+    clear_published(conn)?;
+    clear_of_client(conn)
+}
+
 #[test]
 fn each_text_finds_its_row(rt: HostRuntime) -> Result<(), Fail> {
     let mut conn = of_version_2(rt.alloc())?;
-    fill(&mut conn)?;
-    look(&mut conn)?;
-    clear(&mut conn)
+    find_each(&mut conn)
 }

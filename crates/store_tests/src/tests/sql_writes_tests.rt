@@ -60,7 +60,7 @@ fn client(text: &[u8]) -> Result<Id, Fail>
     Ok(id)
 }
 
-#[derive(Drop)]
+#[derive(Clone, Copy)]
 enum Put<'a> {
     Zone(&'a [u8]),
     Drop,
@@ -90,38 +90,76 @@ fn make(
     alloc: Global,
     tx: &mut Transaction<'_, MemStore>,
     number: u32,
-    put: &Put<'_>,
+    put: Put<'_>,
 ) -> Result<(), Fail> {
-    let (alpha, target) = (client(b"ALPHA")?, zone_name()?);
-    let (client, zone) = (&alpha, &target);
     match put {
-        Put::Zone(text) => {
-            let rows = zone_rows(alloc, text)?;
-            let rows = rows.as_slice();
-            kept(alloc, tx, number, &Effect::ZonePut { client, zone, rows })
-        }
-        Put::Drop => kept(alloc, tx, number, &Effect::ZoneDropped { client, zone }),
-        Put::Received(text) => {
-            let ids = received_rows(alloc, text)?;
-            let ids = ids.as_slice();
-            kept(alloc, tx, number, &Effect::ReceivedPut { client, ids })
-        }
-        Put::Patterns(text) => {
-            let asked = patterns(alloc, text)?;
-            let patterns = asked.as_slice();
-            let effect = Effect::PatternsPut {
-                client,
-                zone,
-                patterns,
-            };
-            kept(alloc, tx, number, &effect)
-        }
-        Put::Publication(text) => {
-            let changes = read_changes(alloc, &read(alloc, text)?)?;
-            let changes = changes.as_slice();
-            kept(alloc, tx, number, &Effect::Publication { changes })
-        }
+        Put::Zone(text) => put_zone(alloc, tx, number, text),
+        Put::Drop => drop_zone(alloc, tx, number),
+        Put::Received(text) => put_received(alloc, tx, number, text),
+        Put::Patterns(text) => put_patterns(alloc, tx, number, text),
+        Put::Publication(text) => publish(alloc, tx, number, text),
     }
+}
+
+fn put_zone(
+    alloc: Global,
+    tx: &mut Transaction<'_, MemStore>,
+    number: u32,
+    text: &[u8],
+) -> Result<(), Fail> {
+    let (client, zone) = (&client(b"ALPHA")?, &zone_name()?);
+    let rows = zone_rows(alloc, text)?;
+    let rows = rows.as_slice();
+    kept(alloc, tx, number, &Effect::ZonePut { client, zone, rows })
+}
+
+fn drop_zone(alloc: Global, tx: &mut Transaction<'_, MemStore>, number: u32) -> Result<(), Fail> {
+    let (client, zone) = (&client(b"ALPHA")?, &zone_name()?);
+    kept(alloc, tx, number, &Effect::ZoneDropped { client, zone })
+}
+
+fn put_received(
+    alloc: Global,
+    tx: &mut Transaction<'_, MemStore>,
+    number: u32,
+    text: &[u8],
+) -> Result<(), Fail> {
+    let client = &client(b"ALPHA")?;
+    let ids = received_rows(alloc, text)?;
+    let ids = ids.as_slice();
+    kept(alloc, tx, number, &Effect::ReceivedPut { client, ids })
+}
+
+fn put_patterns(
+    alloc: Global,
+    tx: &mut Transaction<'_, MemStore>,
+    number: u32,
+    text: &[u8],
+) -> Result<(), Fail> {
+    let (client, zone) = (&client(b"ALPHA")?, &zone_name()?);
+    let asked = patterns(alloc, text)?;
+    let patterns = asked.as_slice();
+    kept(
+        alloc,
+        tx,
+        number,
+        &Effect::PatternsPut {
+            client,
+            zone,
+            patterns,
+        },
+    )
+}
+
+fn publish(
+    alloc: Global,
+    tx: &mut Transaction<'_, MemStore>,
+    number: u32,
+    text: &[u8],
+) -> Result<(), Fail> {
+    let changes = read_changes(alloc, &read(alloc, text)?)?;
+    let changes = changes.as_slice();
+    kept(alloc, tx, number, &Effect::Publication { changes })
 }
 
 // A change, in a transaction of its own.
@@ -129,7 +167,7 @@ fn change(
     alloc: Global,
     conn: &mut Connection<MemStore>,
     number: u32,
-    put: &Put<'_>,
+    put: Put<'_>,
 ) -> Result<(), Fail> {
     if !conn.is_autocommit() {
         return Err(in_transaction());
@@ -145,82 +183,135 @@ fn count(conn: &mut Connection<MemStore>, text: &str) -> Result<usize, Fail> {
     Ok(conn.query_all(text, &[])?.len())
 }
 
-// Each is put in turn, and so many rows does a query find then.
-fn assert_each(alloc: Global, puts: &[(u32, Put<'_>, &'static str, usize)]) -> Result<(), Fail> {
+// A change with its number, and how many rows a query finds then.
+type Row = (u32, Put<'static>, &'static str, usize);
+
+// Makes the change of a row, and looks at what is found then.
+fn assert_row(alloc: Global, conn: &mut Connection<MemStore>, row: &Row) -> Result<(), Fail> {
+    let (number, put, text, found) = *row;
+    change(alloc, conn, number, put)?;
+    assert_equal_at(text, count(conn, text)?, found)
+}
+
+// Makes the changes of all rows, in order.
+fn assert_each(alloc: Global, rows: &[Row]) -> Result<(), Fail> {
     let mut conn = made(alloc)?;
-    for (number, put, text, found) in puts {
-        change(alloc, &mut conn, *number, put)?;
-        assert_equal_at(text, count(&mut conn, text)?, *found)?;
+    for row in rows {
+        assert_row(alloc, &mut conn, row)?;
     }
     Ok(())
 }
 
+static OF_CLIENT: [Row; 7] = [
+    (
+        1,
+        Put::Zone(b"SYSMOD,STATE\nUA1,APPLIED\nUA2,SUPERSEDED\n"),
+        "SELECT 1 FROM zone_row",
+        2,
+    ),
+    (
+        2,
+        Put::Patterns(b"CATEGORY\nIBM.*\n"),
+        "SELECT 1 FROM zone_head WHERE patterns = 'IBM.*'",
+        1,
+    ),
+    (
+        3,
+        Put::Zone(b"SYSMOD,STATE\nUA3,APPLIED\n"),
+        "SELECT 1 FROM zone_row",
+        1,
+    ),
+    (
+        4,
+        Put::Zone(b"SYSMOD,STATE\n"),
+        "SELECT 1 FROM zone_head WHERE patterns = 'IBM.*'",
+        1,
+    ),
+    (
+        5,
+        Put::Received(b"SYSMOD\nUA1\nUA2\n"),
+        "SELECT 1 FROM received_list WHERE ids = 'UA1,UA2'",
+        1,
+    ),
+    (6, Put::Drop, "SELECT 1 FROM zone_head", 0),
+    (
+        7,
+        Put::Drop,
+        "SELECT 1 FROM last_change WHERE caller = 'ALPHA' AND number = 7",
+        1,
+    ),
+];
+
 #[test]
 fn a_change_of_a_client_leaves_its_rows(rt: HostRuntime) -> Result<(), Fail> {
-    let two = Put::Zone(b"SYSMOD,STATE\nUA1,APPLIED\nUA2,SUPERSEDED\n");
-    let one = Put::Zone(b"SYSMOD,STATE\nUA3,APPLIED\n");
-    let none = Put::Zone(b"SYSMOD,STATE\n");
-    let asked = Put::Patterns(b"CATEGORY\nIBM.*\n");
-    let list = Put::Received(b"SYSMOD\nUA1\nUA2\n");
-    let rows = "SELECT 1 FROM zone_row";
-    let heads = "SELECT 1 FROM zone_head WHERE patterns = 'IBM.*'";
-    let lists = "SELECT 1 FROM received_list WHERE ids = 'UA1,UA2'";
-    let last = "SELECT 1 FROM last_change WHERE caller = 'ALPHA' AND number = 7";
-    let puts = [
-        (1, two, rows, 2),
-        (2, asked, heads, 1),
-        (3, one, rows, 1),
-        (4, none, heads, 1),
-        (5, list, lists, 1),
-        (6, Put::Drop, "SELECT 1 FROM zone_head", 0),
-        (7, Put::Drop, last, 1),
-    ];
-    assert_each(rt.alloc(), &puts)
+    assert_each(rt.alloc(), &OF_CLIENT)
 }
+
+static OF_PUBLISHER: [Row; 10] = [
+    (
+        1,
+        Put::Publication(PUBLISHED),
+        "SELECT 1 FROM sysmod_sup",
+        2,
+    ),
+    (2, Put::Publication(PUBLISHED), "SELECT 1 FROM hold_row", 1),
+    (
+        3,
+        Put::Publication(AGAIN),
+        "SELECT 1 FROM sysmod_sup WHERE member = 'AA20003'",
+        1,
+    ),
+    (
+        4,
+        Put::Publication(AGAIN),
+        "SELECT 1 FROM sysmod_sup, sysmod",
+        1,
+    ),
+    (5, Put::Publication(AGAIN), "SELECT 1 FROM hold_row", 0),
+    (6, Put::Publication(b""), "SELECT 1 FROM last_change", 1),
+    (
+        7,
+        Put::Publication(b""),
+        "SELECT 1 FROM caller, bureau_version WHERE version = 2",
+        3,
+    ),
+    (8, Put::Publication(b""), PAIRS, 0),
+    (9, Put::Publication(PUBLISHED), PAIRS, 2),
+    (10, Put::Publication(AGAIN), "SELECT 1 FROM sysmod_cond", 0),
+];
+
+// What the PTF requires where a function is installed.
+const PAIRS: &str = "SELECT 1 FROM sysmod_cond WHERE id = 'UA10001' AND fmid = 'HXX0001'";
 
 #[test]
 fn a_publication_leaves_its_rows(rt: HostRuntime) -> Result<(), Fail> {
-    let holds = "SELECT 1 FROM hold_row";
-    let member = "SELECT 1 FROM sysmod_sup WHERE member = 'AA20003'";
-    let version = "SELECT 1 FROM caller, bureau_version WHERE version = 2";
-    let pairs = "SELECT 1 FROM sysmod_cond WHERE id = 'UA10001' AND fmid = 'HXX0001'";
-    let puts = [
-        (
-            1,
-            Put::Publication(PUBLISHED),
-            "SELECT 1 FROM sysmod_sup",
-            2,
-        ),
-        (2, Put::Publication(PUBLISHED), holds, 1),
-        (3, Put::Publication(AGAIN), member, 1),
-        (
-            4,
-            Put::Publication(AGAIN),
-            "SELECT 1 FROM sysmod_sup, sysmod",
-            1,
-        ),
-        (5, Put::Publication(AGAIN), holds, 0),
-        (6, Put::Publication(b""), "SELECT 1 FROM last_change", 1),
-        (7, Put::Publication(b""), version, 3),
-        (8, Put::Publication(b""), pairs, 0),
-        (9, Put::Publication(PUBLISHED), pairs, 2),
-        (10, Put::Publication(AGAIN), "SELECT 1 FROM sysmod_cond", 0),
-    ];
-    assert_each(rt.alloc(), &puts)
+    assert_each(rt.alloc(), &OF_PUBLISHER)
+}
+
+// Makes the tables those of version 2, in a transaction of its own.
+fn migrate_in(conn: &mut Connection<MemStore>) -> Result<(), Fail> {
+    if !conn.is_autocommit() {
+        return Err(in_transaction());
+    }
+    let mut tx = conn.transaction();
+    migrate(&mut tx)?;
+    tx.commit()?;
+    Ok(())
+}
+
+fn assert_migrated(conn: &mut Connection<MemStore>) -> Result<(), Fail> {
+    conn.execute(
+        "INSERT INTO bureau_version (one, version) VALUES (1, 1)",
+        &[],
+    )?;
+    migrate_in(conn)?;
+    let version = "SELECT 1 FROM bureau_version WHERE version = 2";
+    assert_equal(count(conn, version)?, 1)?;
+    assert_equal(count(conn, "SELECT 1 FROM sysmod_cond")?, 0)
 }
 
 #[test]
 fn tables_of_version_1_become_those_of_version_2(rt: HostRuntime) -> Result<(), Fail> {
     let mut conn = of_version_1(rt.alloc())?;
-    conn.execute(
-        "INSERT INTO bureau_version (one, version) VALUES (1, 1)",
-        &[],
-    )?;
-    assert!(rt; conn.is_autocommit());
-    let mut tx = conn.transaction();
-    migrate(&mut tx)?;
-    tx.commit()?;
-    let version = count(&mut conn, "SELECT 1 FROM bureau_version WHERE version = 2")?;
-    assert_equal(version, 1)?;
-    assert_equal(count(&mut conn, "SELECT 1 FROM sysmod_cond")?, 0)
+    assert_migrated(&mut conn)
 }

@@ -23,6 +23,11 @@ pub(crate) const ONE: ValueRef<'static> = ValueRef::Int(1);
 /// The tables of version 1.
 pub(crate) fn of_version_1(alloc: Global) -> Result<Connection<MemStore>, Error> {
     let mut conn = Connection::open_in_memory(alloc)?;
+    make_version_1(&mut conn)?;
+    Ok(conn)
+}
+
+fn make_version_1(conn: &mut Connection<MemStore>) -> Result<(), Error> {
     let texts = [
         create::bureau_version(),
         create::caller(),
@@ -38,7 +43,7 @@ pub(crate) fn of_version_1(alloc: Global) -> Result<Connection<MemStore>, Error>
     for text in texts {
         conn.execute(text, &[])?;
     }
-    Ok(conn)
+    Ok(())
 }
 
 /// The tables of version 2.

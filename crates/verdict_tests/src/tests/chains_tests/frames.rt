@@ -57,7 +57,7 @@ fn frame_of(alloc: Global, lists: &mut ListPublished, id: &[u8]) -> Result<Frame
 }
 
 // What is published after the base, the id, and its frame.
-const FRAMES: [(&[u8], &[u8], &str); 6] = [
+static FRAMES: [(&[u8], &[u8], &str); 6] = [
     (
         b"",
         b"UA10002",
@@ -92,13 +92,16 @@ UA10022 yes HXX0001, - - UA10022,\n",
     ),
 ];
 
+fn assert_frame(alloc: Global, more: &[u8], id: &[u8], text: &str) -> Result<(), Fail> {
+    let mut lists = published_with_base(alloc, more)?;
+    let frame = frame_of(alloc, &mut lists, id)?;
+    assert_equal_at(id, frame_text(alloc, &frame)?.as_str(), text)
+}
+
 #[test]
 fn worked_frames(rt: HostRuntime) -> Result<(), Fail> {
-    let alloc = rt.alloc();
-    for (more, id, text) in FRAMES {
-        let mut lists = published_with_base(alloc, more)?;
-        let frame = frame_of(alloc, &mut lists, id)?;
-        assert_equal(frame_text(alloc, &frame)?.as_str(), text)?;
+    for (more, id, text) in &FRAMES {
+        assert_frame(rt.alloc(), more, id, text)?;
     }
     Ok(())
 }
@@ -111,20 +114,30 @@ fn ids_of(alloc: Global, texts: &[&[u8]]) -> Result<Vec<Id>, Fail> {
     Ok(ids)
 }
 
+// Ids, and whether they touch the frame of UA10002.
+static TOUCHING: [(&[&[u8]], bool); 4] = [
+    (&[], false),
+    (&[b"UA10003", b"UA10009"], false),
+    (&[b"AA20002", b"UA10009"], true),
+    (&[b"AA10001", b"UA10001", b"UA10009"], true),
+];
+
+fn assert_touched(
+    alloc: Global,
+    frame: &Frame,
+    texts: &[&[u8]],
+    touched: bool,
+) -> Result<(), Fail> {
+    let ids = ids_of(alloc, texts)?;
+    assert_equal_at(texts, touches(frame, &ids, false), touched)
+}
+
 #[test]
 fn a_frame_is_touched_by_what_it_has(rt: HostRuntime) -> Result<(), Fail> {
-    let alloc = rt.alloc();
-    let mut lists = published(alloc, BASE)?;
-    let frame = frame_of(alloc, &mut lists, b"UA10002")?;
-    let rows: [(&[&[u8]], bool); 4] = [
-        (&[], false),
-        (&[b"UA10003", b"UA10009"], false),
-        (&[b"AA20002", b"UA10009"], true),
-        (&[b"AA10001", b"UA10001", b"UA10009"], true),
-    ];
-    for (texts, touched) in rows {
-        let ids = ids_of(alloc, texts)?;
-        assert_equal(touches(&frame, &ids, false), touched)?;
+    let mut lists = published(rt.alloc(), BASE)?;
+    let frame = frame_of(rt.alloc(), &mut lists, b"UA10002")?;
+    for (texts, touched) in &TOUCHING {
+        assert_touched(rt.alloc(), &frame, texts, *touched)?;
     }
     Ok(())
 }
@@ -137,22 +150,20 @@ fn a_frame_goes_on_where_no_function_is_installed(rt: HostRuntime) -> Result<(),
     assert_equal(frame.nodes().len(), 10_001)
 }
 
+// How many nodes the frame of an id has, where so many SYSMODs name the next one, and the last of them this one.
+fn nodes_of(alloc: Global, operand: &str, count: u32, last: u32, id: &[u8]) -> Result<usize, Fail> {
+    let text = sequence(alloc, operand, count, last)?;
+    let mut lists = published(alloc, text.as_bytes())?;
+    Ok(frame_of(alloc, &mut lists, id)?.nodes().len())
+}
+
 #[test]
 fn long_frames(rt: HostRuntime) -> Result<(), Fail> {
     let alloc = rt.alloc();
-    let rows = [
-        ("PRE", 10_000, 99_999, "N00000", 10_001),
-        ("REQ", 2_000, 0, "N01000", 2_000),
-        ("SUP", 100, 0, "N00050", 100),
-        ("SUP", 100, 99_999, "N99999", 101),
-    ];
-    for (operand, count, last, id, nodes) in rows {
-        let text = sequence(alloc, operand, count, last)?;
-        let mut lists = published(alloc, text.as_bytes())?;
-        let frame = frame_of(alloc, &mut lists, id.as_bytes())?;
-        assert_equal_at((operand, id), frame.nodes().len(), nodes)?;
-    }
-    Ok(())
+    assert_equal(nodes_of(alloc, "PRE", 10_000, 99_999, b"N00000")?, 10_001)?;
+    assert_equal(nodes_of(alloc, "REQ", 2_000, 0, b"N01000")?, 2_000)?;
+    assert_equal(nodes_of(alloc, "SUP", 100, 0, b"N00050")?, 100)?;
+    assert_equal(nodes_of(alloc, "SUP", 100, 99_999, b"N99999")?, 101)
 }
 
 #[test]

@@ -2,10 +2,12 @@
 use super::{assert_as_whole, assert_statuses, judged};
 use crate::tests::content::published;
 use crate::tests::print::{id_of, zone_of};
+use catalogue::ListPublished;
 use mcs_reader::Id;
 use std::alloc::Global;
 use std::fmt::Write;
 use std::test::Fail;
+use supersede::Zone;
 use testing::{Draws, assert_equal_at};
 
 const IDS: u32 = 8;
@@ -13,7 +15,7 @@ const IDS: u32 = 8;
 const CONTENTS: u32 = 300;
 
 // The functions of conditions. The zone has the first one, not the second, and the third as SUPERSEDED.
-const FUNCTIONS: [&str; 3] = ["HYY0001", "HYY0002", "HYY0003"];
+static FUNCTIONS: [&str; 3] = ["HYY0001", "HYY0002", "HYY0003"];
 
 // Ids by number, and sets of them by bits.
 #[derive(Drop)]
@@ -254,30 +256,60 @@ fn put_condition(text: &mut String, function: &str, ids: u32) -> Result<(), Fail
     Ok(())
 }
 
+// An id by its number.
+fn drawn_id(alloc: Global, id: u32) -> Result<Id, Fail> {
+    id_of(format!(in alloc; "UA1000{id}")?.as_bytes())
+}
+
+fn drawn_ids(alloc: Global) -> Result<Vec<Id>, Fail> {
+    let mut ids: Vec<Id> = Vec::new(alloc);
+    for id in 0..IDS {
+        ids.push(drawn_id(alloc, id)?)?;
+    }
+    Ok(ids)
+}
+
+// Each id has the verdict that is drawn.
+fn assert_verdicts(
+    alloc: Global,
+    content: u32,
+    drawn: &Drawn,
+    lists: &mut ListPublished,
+    zone: &Zone,
+) -> Result<(), Fail> {
+    let good = drawn.good();
+    for id in 0..IDS {
+        let text = judged(alloc, lists, zone, &drawn_id(alloc, id)?)?;
+        let wanted = drawn.verdict_text(alloc, good, id)?;
+        assert_equal_at((content, id), text.as_str(), wanted.as_str())?;
+    }
+    Ok(())
+}
+
+// Statuses that are asked for together, and verdicts from a frame alone, are the same.
+fn assert_other_ways(
+    alloc: Global,
+    content: u32,
+    lists: &mut ListPublished,
+    zone: &Zone,
+) -> Result<(), Fail> {
+    assert_statuses(content, alloc, lists, zone, &drawn_ids(alloc)?)?;
+    assert_as_whole(content, alloc, lists, zone, &drawn_id(alloc, content & 7)?)
+}
+
+fn assert_drawn(alloc: Global, content: u32, drawn: &Drawn) -> Result<(), Fail> {
+    let zone = zone_of(alloc, drawn.zone(alloc)?.as_bytes())?;
+    let mut lists = published(alloc, drawn.statements(alloc)?.as_bytes())?;
+    assert_verdicts(alloc, content, drawn, &mut lists, &zone)?;
+    assert_other_ways(alloc, content, &mut lists, &zone)
+}
+
 #[test]
 fn verdicts_are_those_of_a_plain_slow_body(rt: HostRuntime) -> Result<(), Fail> {
-    let alloc = rt.alloc();
     let mut draws = Draws::new(20_260_101);
     for content in 0..CONTENTS {
-        let drawn = Drawn::draw(alloc, &mut draws)?;
-        let mut lists = published(alloc, drawn.statements(alloc)?.as_bytes())?;
-        let zone = zone_of(alloc, drawn.zone(alloc)?.as_bytes())?;
-        let good = drawn.good();
-        let mut ids: Vec<Id> = Vec::new(alloc);
-        for id in 0..IDS {
-            let name = format!(in alloc; "UA1000{id}")?;
-            let sysmod = id_of(name.as_bytes())?;
-            let text = judged(alloc, &mut lists, &zone, &sysmod)?;
-            assert_equal_at(
-                (content, id),
-                text.as_str(),
-                drawn.verdict_text(alloc, good, id)?.as_str(),
-            )?;
-            ids.push(sysmod)?;
-        }
-        assert_statuses(content, alloc, &mut lists, &zone, &ids)?;
-        let one = ids.get((content & 7) as usize).copied().ok_or("an id")?;
-        assert_as_whole(content, alloc, &mut lists, &zone, &one)?;
+        let drawn = Drawn::draw(rt.alloc(), &mut draws)?;
+        assert_drawn(rt.alloc(), content, &drawn)?;
     }
     Ok(())
 }

@@ -2,7 +2,11 @@
 use super::{assert_as_whole, assert_statuses, judged};
 use crate::tests::content::published_with_base;
 use crate::tests::print::{id_of, zone_of};
+use catalogue::ListPublished;
+use mcs_reader::Id;
+use std::alloc::Global;
 use std::test::Fail;
+use supersede::Zone;
 use testing::assert_equal_at;
 
 const ALPHA: &[u8] = b"SYSMOD,STATE\nHBB7790,APPLIED\nUA10001,APPLIED\n";
@@ -63,7 +67,7 @@ const LISTED: &[u8] = b"SYSMOD,STATE\nHBB7790,APPLIED\nHXX0001,SUPERSEDED\n";
 const BOTH_FUNCTIONS: &[u8] = b"SYSMOD,STATE\nHBB7790,APPLIED\nHXX0001,APPLIED\nHXX0002,APPLIED\n";
 
 // What is published after the base, the zone, the id, and its verdict.
-const ROWS: [(&[u8], &[u8], &[u8], &str); 34] = [
+static ROWS: [(&[u8], &[u8], &[u8], &str); 34] = [
     (NOTHING, ALPHA, b"UA10002", "GOOD UA10002"),
     (NOTHING, BETA, b"UA10002", "GOOD UA10001 UA10002"),
     (NOTHING, BETA, b"UA10001", "GOOD UA10001 UA10002"),
@@ -105,16 +109,29 @@ const ROWS: [(&[u8], &[u8], &[u8], &str); 34] = [
     (BY_A_GIVER, BOTH_FUNCTIONS, b"UA10022", "HELD UA10020"),
 ];
 
+// The verdict on an id is this one, by each way to it.
+fn assert_verdict(
+    alloc: Global,
+    lists: &mut ListPublished,
+    zone: &Zone,
+    id: Id,
+    text: &str,
+) -> Result<(), Fail> {
+    assert_equal_at(id, judged(alloc, lists, zone, &id)?.as_str(), text)?;
+    assert_statuses(id, alloc, lists, zone, &[id])?;
+    assert_as_whole(id, alloc, lists, zone, &id)
+}
+
+fn assert_row(alloc: Global, more: &[u8], zone: &[u8], id: &[u8], text: &str) -> Result<(), Fail> {
+    let (id, zone) = (id_of(id)?, zone_of(alloc, zone)?);
+    let mut lists = published_with_base(alloc, more)?;
+    assert_verdict(alloc, &mut lists, &zone, id, text)
+}
+
 #[test]
 fn worked_verdicts(rt: HostRuntime) -> Result<(), Fail> {
-    let alloc = rt.alloc();
-    for (more, zone, id, text) in ROWS {
-        let mut lists = published_with_base(alloc, more)?;
-        let zone = zone_of(alloc, zone)?;
-        let id = id_of(id)?;
-        assert_equal_at(id, judged(alloc, &mut lists, &zone, &id)?.as_str(), text)?;
-        assert_statuses(id, alloc, &mut lists, &zone, &[id])?;
-        assert_as_whole(id, alloc, &mut lists, &zone, &id)?;
+    for (more, zone, id, text) in &ROWS {
+        assert_row(rt.alloc(), more, zone, id, text)?;
     }
     Ok(())
 }

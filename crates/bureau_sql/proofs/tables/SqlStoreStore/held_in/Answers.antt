@@ -10,7 +10,7 @@ use Rattle.bureau_sql.proofs.tables.SqlStoreStore.held_in.Goals as goal
 
 pub returns-clause-holds : goal.returns-clause-holds
 returns-clause-holds g c =
-    let looked = c.is_closed.ensures.open c.if-is_closed.false in
+    let looked = c.in_ok-check_open.ensures.open in
     let same = c.self.view_is ∙ looked.0 in
     let old : SqlState _ = record { conn = c.self.inside.conn; failures = c.self.inside.failures } in
     let mid : SqlState _ = record { conn = c.held_in-found.new.conn; failures = c.self.inside.failures } in
