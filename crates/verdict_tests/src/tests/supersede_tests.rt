@@ -1,81 +1,92 @@
 //! Look-ups in a zone, and what gives what.
 use super::content::published;
-use super::print::{id_of, zone_of};
+use super::print::{id_of, ids_of, ids_text, zone_of};
 use mcs_reader::Id;
 use std::alloc::Global;
 use std::fmt::Write;
 use std::test::Fail;
-use supersede::{givers, there};
+use supersede::{Zone, givers, there};
 use testing::assert_equal_at;
 
 mod largest;
 
+const ZONE: &[u8] = b"SYSMOD,STATE\nUA10001,APPLIED\nHBB7790,ACCEPTED\nUA10002,SUPERSEDED\n";
+
+// A zone, an id, whether the zone lists it, and whether it is installed there.
+static LISTED: [(&[u8], &[u8], bool, bool); 6] = [
+    (ZONE, b"UA10001", true, true),
+    (ZONE, b"HBB7790", true, true),
+    (ZONE, b"UA10002", true, false),
+    (ZONE, b"UA10003", false, false),
+    (ZONE, b"A", false, false),
+    (b"SYSMOD,STATE\n", b"UA10001", false, false),
+];
+
+fn assert_listed(zone: &Zone, id: Id, listed: bool, installed: bool) -> Result<(), Fail> {
+    assert_equal_at(("listed", id), zone.listed(&id), listed)?;
+    assert_equal_at(("installed", id), zone.installed(&id), installed)
+}
+
 #[test]
 fn a_zone_tells_its_sysmods(rt: HostRuntime) -> Result<(), Fail> {
-    let text = b"SYSMOD,STATE\nUA10001,APPLIED\nHBB7790,ACCEPTED\nUA10002,SUPERSEDED\n";
-    let zone = zone_of(rt.alloc(), text)?;
-    let sysmods: [(&[u8], bool, bool); 5] = [
-        (b"UA10001", true, true),
-        (b"HBB7790", true, true),
-        (b"UA10002", true, false),
-        (b"UA10003", false, false),
-        (b"A", false, false),
-    ];
-    for (id, listed, installed) in sysmods {
-        let id = id_of(id)?;
-        assert_equal_at(("listed", id), zone.listed(&id), listed)?;
-        assert_equal_at(("installed", id), zone.installed(&id), installed)?;
+    for (zone, id, listed, installed) in &LISTED {
+        let zone = zone_of(rt.alloc(), zone)?;
+        assert_listed(&zone, id_of(id)?, *listed, *installed)?;
     }
-    let empty = zone_of(rt.alloc(), b"SYSMOD,STATE\n")?;
-    assert!(rt; !empty.listed(&id_of(b"UA10001")?));
     Ok(())
+}
+
+// What is tried, an id, those that give it, and whether it is there.
+static THERE: [(&str, &[u8], &[&[u8]], bool); 4] = [
+    ("listed, in any state", b"UA10002", &[], true),
+    ("neither listed nor given", b"AA20002", &[], false),
+    (
+        "given by one that is installed",
+        b"AA20002",
+        &[b"UA10002", b"UA10001"],
+        true,
+    ),
+    (
+        "given by one that is superseded",
+        b"AA20002",
+        &[b"UA10002"],
+        false,
+    ),
+];
+
+fn assert_there(
+    alloc: Global,
+    zone: &Zone,
+    what: &str,
+    id: &[u8],
+    givers: &[&[u8]],
+    is_there: bool,
+) -> Result<(), Fail> {
+    let givers = ids_of(alloc, givers)?;
+    assert_equal_at(what, there(zone, &id_of(id)?, &givers), is_there)
 }
 
 #[test]
 fn a_sysmod_is_there_by_itself_or_by_an_installed_giver(rt: HostRuntime) -> Result<(), Fail> {
-    let zone = zone_of(
-        rt.alloc(),
-        b"SYSMOD,STATE\nUA10001,APPLIED\nUA10002,SUPERSEDED\n",
-    )?;
-    let (applied, superseded) = (id_of(b"UA10001")?, id_of(b"UA10002")?);
-    let reason = id_of(b"AA20002")?;
-    let cases: [(&str, Id, &[Id], bool); 4] = [
-        ("listed, in any state", superseded, &[], true),
-        ("neither listed nor given", reason, &[], false),
-        (
-            "given by one that is installed",
-            reason,
-            &[superseded, applied],
-            true,
-        ),
-        (
-            "given by one that is superseded",
-            reason,
-            &[superseded],
-            false,
-        ),
-    ];
-    for (what, id, givers, is_there) in cases {
-        assert_equal_at(what, there(&zone, &id, givers), is_there)?;
+    let zone = zone_of(rt.alloc(), ZONE)?;
+    for (what, id, givers, is_there) in &THERE {
+        assert_there(rt.alloc(), &zone, what, id, givers, *is_there)?;
     }
     Ok(())
 }
 
-// The SYSMODs that give an id, in print.
-fn givers_of(alloc: Global, source: &[u8], id: &str) -> Result<String, Fail> {
+fn givers_of(alloc: Global, source: &[u8], id: &[u8]) -> Result<Vec<Id>, Fail> {
     let mut lists = published(alloc, source)?;
-    let id = id_of(id.as_bytes())?;
-    let mut text = String::new(alloc);
-    for giver in givers(alloc, &mut lists, &id)? {
-        text.push_str(giver.text())?;
-        text.push(' ')?;
-    }
-    Ok(text)
+    Ok(givers(alloc, &mut lists, &id_of(id)?)?)
 }
 
-#[test]
-fn a_sysmod_gives_what_it_supersedes_itself_or_through_others(rt: HostRuntime) -> Result<(), Fail> {
-    let source = b"\
+// The SYSMODs that give an id, where statements are published, are these in print.
+fn assert_givers(alloc: Global, source: &[u8], id: &[u8], wanted: &str) -> Result<(), Fail> {
+    let found = givers_of(alloc, source, id)?;
+    assert_equal_at(id, ids_text(alloc, &found)?.as_str(), wanted)
+}
+
+const SUPERSEDING: &[u8] = b"\
 ++PTF(UA10015).
 ++VER(Z038) SUP(UA10014).
 ++PTF(UA10014).
@@ -85,30 +96,49 @@ fn a_sysmod_gives_what_it_supersedes_itself_or_through_others(rt: HostRuntime) -
 ++PTF(UA10017).
 ++VER(Z038) SUP(UA10016).
 ";
-    let cases = [
-        ("AA50001", "UA10014 UA10015 "),
-        ("UA10014", "UA10014 UA10015 "),
-        ("UA10015", "UA10015 "),
-        ("UA10016", "UA10016 UA10017 "),
-        ("UA10017", "UA10016 UA10017 "),
-        ("AA50002", ""),
-    ];
-    for (id, wanted) in cases {
-        assert_equal_at(id, givers_of(rt.alloc(), source, id)?.as_str(), wanted)?;
+
+// Ids, and what gives them there.
+static GIVERS: [(&[u8], &str); 6] = [
+    (b"AA50001", " UA10014 UA10015"),
+    (b"UA10014", " UA10014 UA10015"),
+    (b"UA10015", " UA10015"),
+    (b"UA10016", " UA10016 UA10017"),
+    (b"UA10017", " UA10016 UA10017"),
+    (b"AA50002", ""),
+];
+
+#[test]
+fn a_sysmod_gives_what_it_supersedes_itself_or_through_others(rt: HostRuntime) -> Result<(), Fail> {
+    for (id, wanted) in &GIVERS {
+        assert_givers(rt.alloc(), SUPERSEDING, id, wanted)?;
     }
     Ok(())
 }
 
-#[test]
-fn a_long_row_of_superseding(rt: HostRuntime) -> Result<(), Fail> {
-    let mut source = String::new(rt.alloc());
-    let mut wanted = String::new(rt.alloc());
-    for n in 0u32..10_000 {
+// Each PTF supersedes the one before it.
+fn row_of_superseding(alloc: Global, count: u32) -> Result<String, Fail> {
+    let mut source = String::new(alloc);
+    for n in 0..count {
         let above = n + 1;
         write!(source, "++PTF(U{above:06}).\n++VER(Z038) SUP(U{n:06}).\n")?;
-        write!(wanted, "U{above:06} ")?;
     }
-    let found = givers_of(rt.alloc(), source.as_bytes(), "U000000")?;
-    assert!(rt; found == wanted);
-    Ok(())
+    Ok(source)
+}
+
+// All of them, in print.
+fn all_in_row(alloc: Global, count: u32) -> Result<String, Fail> {
+    let mut text = String::new(alloc);
+    for n in 0..count {
+        let above = n + 1;
+        write!(text, " U{above:06}")?;
+    }
+    Ok(text)
+}
+
+#[test]
+fn a_long_row_of_superseding(rt: HostRuntime) -> Result<(), Fail> {
+    let alloc = rt.alloc();
+    let source = row_of_superseding(alloc, 10_000)?;
+    let wanted = all_in_row(alloc, 10_000)?;
+    assert_givers(alloc, source.as_bytes(), b"U000000", &wanted)
 }

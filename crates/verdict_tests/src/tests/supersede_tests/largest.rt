@@ -1,22 +1,26 @@
 //! The largest zone that a client may have.
-use mcs_reader::Id;
+use crate::tests::print::{id_of, zone_of};
+use std::alloc::Global;
 use std::fmt::Write;
 use std::test::Fail;
 use supersede::Zone;
 use testing::assert_equal;
-use zone_lists::zone_rows;
 
-#[test]
-fn a_zone_has_up_to_40_000_rows(rt: HostRuntime) -> Result<(), Fail> {
-    let mut text = String::new(rt.alloc());
-    text.push_str("SYSMOD,STATE\n")?;
+fn largest(alloc: Global) -> Result<String, Fail> {
+    let mut text = String::from_str(alloc, "SYSMOD,STATE\n")?;
     for n in 0u32..40_000 {
         write!(text, "U{n:06},APPLIED\n")?;
     }
-    let rows = zone_rows(rt.alloc(), text.as_bytes())?;
-    let zone = Zone::new(rt.alloc(), &rows)?;
+    Ok(text)
+}
+
+fn assert_largest(zone: &Zone) -> Result<(), Fail> {
     assert_equal(zone.rows().len(), 40_000)?;
-    let last = Id::new(b"U039999").ok_or("an id")?;
-    assert!(rt; zone.installed(&last));
-    Ok(())
+    assert_equal(zone.installed(&id_of(b"U039999")?), true)
+}
+
+#[test]
+fn a_zone_has_up_to_40_000_rows(rt: HostRuntime) -> Result<(), Fail> {
+    let text = largest(rt.alloc())?;
+    assert_largest(&zone_of(rt.alloc(), text.as_bytes())?)
 }
