@@ -25,6 +25,19 @@ pub(crate) fn judged(
     verdict_text(alloc, &verdict)
 }
 
+// The verdict on an id over the whole catalogue is this, at a place.
+fn assert_judged<P: Debug + Copy + Drop>(
+    place: P,
+    alloc: Global,
+    lists: &mut ListPublished,
+    zone: &Zone,
+    id: Id,
+    wanted: &str,
+) -> Result<(), Fail> {
+    let text = judged(alloc, lists, zone, &id)?;
+    assert_equal_at((place, id), text.as_str(), wanted)
+}
+
 // A judge that is asked for one verdict after the other.
 #[derive(Drop)]
 struct OneByOne;
@@ -58,6 +71,12 @@ fn assert_statuses<P: Debug + Drop>(
     assert_equal_at(place, together.as_slice(), each.as_slice())
 }
 
+// The verdict from a frame alone, in print.
+fn planned(alloc: Global, frame: &Frame, zone: &Zone, id: &Id) -> Result<String, Fail> {
+    let verdict = plan(alloc, frame, zone, id)?;
+    verdict_text(alloc, &verdict)
+}
+
 // The status of an id, whose verdict from a frame alone is that over the whole catalogue.
 fn status_by_both<P: Debug + Copy + Drop>(
     place: P,
@@ -68,9 +87,12 @@ fn status_by_both<P: Debug + Copy + Drop>(
     id: &Id,
 ) -> Result<Status, Fail> {
     let whole = Whole::new().verdict(alloc, lists, zone, id)?;
-    let planned = plan(alloc, frame, zone, id)?;
-    let (wanted, text) = (verdict_text(alloc, &whole)?, verdict_text(alloc, &planned)?);
-    assert_equal_at((place, *id), text.as_str(), wanted.as_str())?;
+    let text = planned(alloc, frame, zone, id)?;
+    assert_equal_at(
+        (place, *id),
+        text.as_str(),
+        verdict_text(alloc, &whole)?.as_str(),
+    )?;
     Ok(whole.status())
 }
 
@@ -91,6 +113,18 @@ fn good_by_both<P: Debug + Copy + Drop>(
     Ok(those)
 }
 
+// The good ones in a frame are these, at a place.
+fn assert_good<P: Debug + Drop>(
+    place: P,
+    alloc: Global,
+    frame: &Frame,
+    zone: &Zone,
+    those: &[Id],
+) -> Result<(), Fail> {
+    let good = good(alloc, frame, zone)?;
+    assert_equal_at(place, good.as_slice(), those)
+}
+
 // Whether the verdicts on all that an id reaches, from its frame alone, are those over the whole catalogue, at a place.
 fn assert_as_whole<P: Debug + Copy + Drop>(
     place: P,
@@ -101,6 +135,5 @@ fn assert_as_whole<P: Debug + Copy + Drop>(
 ) -> Result<(), Fail> {
     let frame = frame(alloc, lists, id)?;
     let those = good_by_both(place, alloc, lists, &frame, zone)?;
-    let good = good(alloc, &frame, zone)?;
-    assert_equal_at((place, *id), good.as_slice(), those.as_slice())
+    assert_good((place, *id), alloc, &frame, zone, &those)
 }

@@ -1,16 +1,15 @@
 //! Frames: worked ones, and verdicts from a frame beside those over the whole catalogue.
 use super::assert_as_whole;
 use super::rows::CONDITIONAL;
-use crate::tests::content::{published, published_with_base};
-use crate::tests::print::{id_of, zone_of};
+use crate::tests::content::published;
+use crate::tests::print::{id_of, ids_of, zone_of};
 use crate::tests::sequence::{conditional_sequence, put_ptf, sequence};
 use catalogue::{CondNeed, Ids, ListPublished};
-use chains::{Frame, frame, touches};
-use mcs_reader::Id;
+use chains::{Frame, FrameNode, frame, touches};
 use std::alloc::Global;
 use std::fmt::Write;
 use std::test::Fail;
-use testing::{BASE, assert_equal, assert_equal_at};
+use testing::{BASE, assert_equal, assert_equal_at, with_base};
 
 const ZONE: &[u8] = b"SYSMOD,STATE\nHBB7790,APPLIED\n";
 
@@ -37,23 +36,34 @@ fn put_conds(text: &mut String, conds: &[CondNeed]) -> Result<(), Fail> {
     Ok(())
 }
 
+// A line of a frame in print.
+fn put_node(text: &mut String, node: &FrameNode) -> Result<(), Fail> {
+    let catalogued = if node.catalogued { "yes" } else { "no" };
+    write!(text, "{} {catalogued}", node.id)?;
+    put_ids(text, &node.fmids)?;
+    put_ids(text, &node.needs)?;
+    put_conds(text, node.conds.as_slice())?;
+    put_ids(text, &node.givers)?;
+    Ok(text.push('\n')?)
+}
+
 // A frame in print: a line for each node.
 fn frame_text(alloc: Global, frame: &Frame) -> Result<String, Fail> {
     let mut text = String::new(alloc);
     for node in frame.nodes() {
-        let catalogued = if node.catalogued { "yes" } else { "no" };
-        write!(text, "{} {catalogued}", node.id)?;
-        put_ids(&mut text, &node.fmids)?;
-        put_ids(&mut text, &node.needs)?;
-        put_conds(&mut text, node.conds.as_slice())?;
-        put_ids(&mut text, &node.givers)?;
-        text.push('\n')?;
+        put_node(&mut text, node)?;
     }
     Ok(text)
 }
 
 fn frame_of(alloc: Global, lists: &mut ListPublished, id: &[u8]) -> Result<Frame, Fail> {
     Ok(frame(alloc, lists, &id_of(id)?)?)
+}
+
+// The frame of an id in what statements publish.
+fn frame_in(alloc: Global, source: &[u8], id: &[u8]) -> Result<Frame, Fail> {
+    let mut lists = published(alloc, source)?;
+    frame_of(alloc, &mut lists, id)
 }
 
 // What is published after the base, the id, and its frame.
@@ -93,8 +103,7 @@ UA10022 yes HXX0001, - - UA10022,\n",
 ];
 
 fn assert_frame(alloc: Global, more: &[u8], id: &[u8], text: &str) -> Result<(), Fail> {
-    let mut lists = published_with_base(alloc, more)?;
-    let frame = frame_of(alloc, &mut lists, id)?;
+    let frame = frame_in(alloc, &with_base(alloc, more)?, id)?;
     assert_equal_at(id, frame_text(alloc, &frame)?.as_str(), text)
 }
 
@@ -104,14 +113,6 @@ fn worked_frames(rt: HostRuntime) -> Result<(), Fail> {
         assert_frame(rt.alloc(), more, id, text)?;
     }
     Ok(())
-}
-
-fn ids_of(alloc: Global, texts: &[&[u8]]) -> Result<Vec<Id>, Fail> {
-    let mut ids: Vec<Id> = Vec::new(alloc);
-    for text in texts {
-        ids.push(id_of(text)?)?;
-    }
-    Ok(ids)
 }
 
 // Ids, and whether they touch the frame of UA10002.
@@ -132,29 +133,30 @@ fn assert_touched(
     assert_equal_at(texts, touches(frame, &ids, false), touched)
 }
 
-#[test]
-fn a_frame_is_touched_by_what_it_has(rt: HostRuntime) -> Result<(), Fail> {
-    let mut lists = published(rt.alloc(), BASE)?;
-    let frame = frame_of(rt.alloc(), &mut lists, b"UA10002")?;
+fn assert_touching(alloc: Global, frame: &Frame) -> Result<(), Fail> {
     for (texts, touched) in &TOUCHING {
-        assert_touched(rt.alloc(), &frame, texts, *touched)?;
+        assert_touched(alloc, frame, texts, *touched)?;
     }
     Ok(())
 }
 
 #[test]
+fn a_frame_is_touched_by_what_it_has(rt: HostRuntime) -> Result<(), Fail> {
+    let frame = frame_in(rt.alloc(), BASE, b"UA10002")?;
+    assert_touching(rt.alloc(), &frame)
+}
+
+#[test]
 fn a_frame_goes_on_where_no_function_is_installed(rt: HostRuntime) -> Result<(), Fail> {
-    let alloc = rt.alloc();
-    let mut lists = published(alloc, conditional_sequence(alloc, 10_000)?.as_bytes())?;
-    let frame = frame_of(alloc, &mut lists, b"N00000")?;
+    let text = conditional_sequence(rt.alloc(), 10_000)?;
+    let frame = frame_in(rt.alloc(), text.as_bytes(), b"N00000")?;
     assert_equal(frame.nodes().len(), 10_001)
 }
 
 // How many nodes the frame of an id has, where so many SYSMODs name the next one, and the last of them this one.
 fn nodes_of(alloc: Global, operand: &str, count: u32, last: u32, id: &[u8]) -> Result<usize, Fail> {
     let text = sequence(alloc, operand, count, last)?;
-    let mut lists = published(alloc, text.as_bytes())?;
-    Ok(frame_of(alloc, &mut lists, id)?.nodes().len())
+    Ok(frame_in(alloc, text.as_bytes(), id)?.nodes().len())
 }
 
 #[test]
@@ -166,12 +168,17 @@ fn long_frames(rt: HostRuntime) -> Result<(), Fail> {
     assert_equal(nodes_of(alloc, "SUP", 100, 99_999, b"N99999")?, 101)
 }
 
+// PTFs in a row, of which the last supersedes what one more PTF needs.
+fn row_of_superseding(alloc: Global) -> Result<ListPublished, Fail> {
+    let mut text = sequence(alloc, "SUP", 20, 99_999)?;
+    put_ptf(&mut text, 20_000, "PRE", 99_999)?;
+    published(alloc, text.as_bytes())
+}
+
 #[test]
 fn verdicts_on_a_row_of_superseding(rt: HostRuntime) -> Result<(), Fail> {
     let alloc = rt.alloc();
-    let mut text = sequence(alloc, "SUP", 20, 99_999)?;
-    put_ptf(&mut text, 20_000, "PRE", 99_999)?;
-    let mut lists = published(alloc, text.as_bytes())?;
-    let zone = zone_of(alloc, ZONE)?;
-    assert_as_whole("SUP", alloc, &mut lists, &zone, &id_of(b"N20000")?)
+    let (id, zone) = (id_of(b"N20000")?, zone_of(alloc, ZONE)?);
+    let mut lists = row_of_superseding(alloc)?;
+    assert_as_whole("SUP", alloc, &mut lists, &zone, &id)
 }

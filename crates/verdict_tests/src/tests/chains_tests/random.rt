@@ -1,5 +1,5 @@
 //! Verdicts on small contents that are drawn at random, beside a plain slow body that tries every set of ids.
-use super::{assert_as_whole, assert_statuses, judged};
+use super::{assert_as_whole, assert_judged, assert_statuses};
 use crate::tests::content::published;
 use crate::tests::print::{id_of, zone_of};
 use catalogue::ListPublished;
@@ -8,7 +8,7 @@ use std::alloc::Global;
 use std::fmt::Write;
 use std::test::Fail;
 use supersede::Zone;
-use testing::{Draws, assert_equal_at};
+use testing::Draws;
 
 const IDS: u32 = 8;
 
@@ -24,10 +24,16 @@ struct Drawn {
     applicable: u32,
     listed: u32,
     installed: u32,
-    needs: Vec<u32>,
-    // What each needs where the functions of conditions are installed, by function.
-    conds: Vec<[u32; 3]>,
-    superseded: Vec<u32>,
+    rows: Vec<Row>,
+}
+
+// What is drawn of one id.
+#[derive(Clone, Copy)]
+struct Row {
+    needs: u32,
+    // What it needs where the functions of conditions are installed, by function.
+    conds: [u32; 3],
+    superseded: u32,
 }
 
 // A set in which each id is with one chance in two to the `rarity`.
@@ -47,34 +53,49 @@ fn with(ids: u32, id: u32) -> u32 {
     ids | 1u32.wrapping_shl(id)
 }
 
-fn of(rows: &[u32], id: u32) -> u32 {
-    rows.get(id as usize).copied().unwrap_or(0)
+const NOTHING: Row = Row {
+    needs: 0,
+    conds: [0, 0, 0],
+    superseded: 0,
+};
+
+impl Row {
+    fn draw(draws: &mut Draws) -> Row {
+        Row {
+            needs: drawn_set(draws, 2),
+            conds: [
+                drawn_set(draws, 3),
+                drawn_set(draws, 3),
+                drawn_set(draws, 3),
+            ],
+            superseded: drawn_set(draws, 3),
+        }
+    }
+
+    fn draw_all(alloc: Global, draws: &mut Draws) -> Result<Vec<Row>, Fail> {
+        let mut rows = Vec::new(alloc);
+        for _ in 0..IDS {
+            rows.push(Row::draw(draws))?;
+        }
+        Ok(rows)
+    }
 }
 
 impl Drawn {
     fn draw(alloc: Global, draws: &mut Draws) -> Result<Drawn, Fail> {
-        let mut needs = Vec::new(alloc);
-        let mut conds = Vec::new(alloc);
-        let mut superseded = Vec::new(alloc);
-        for _ in 0..IDS {
-            needs.push(drawn_set(draws, 2))?;
-            conds.push([
-                drawn_set(draws, 3),
-                drawn_set(draws, 3),
-                drawn_set(draws, 3),
-            ])?;
-            superseded.push(drawn_set(draws, 3))?;
-        }
+        let rows = Row::draw_all(alloc, draws)?;
         let listed = drawn_set(draws, 2);
         Ok(Drawn {
             catalogued: drawn_set(draws, 1) | drawn_set(draws, 1),
             applicable: drawn_set(draws, 1) | drawn_set(draws, 1),
             listed,
             installed: listed & drawn_set(draws, 1),
-            needs,
-            conds,
-            superseded,
+            rows,
         })
+    }
+
+    fn row(&self, id: u32) -> Row {
+        self.rows.get(id as usize).copied().unwrap_or(NOTHING)
     }
 
     fn candidates(&self) -> u32 {
@@ -90,7 +111,7 @@ impl Drawn {
         for _ in 0..IDS {
             for other in 0..IDS {
                 if has(given & self.catalogued, other) {
-                    given |= of(&self.superseded, other);
+                    given |= self.row(other).superseded;
                 }
             }
         }
@@ -112,14 +133,10 @@ impl Drawn {
         self.listed | self.given(self.installed)
     }
 
-    // What an id needs where each of the functions is installed.
-    fn conds_of(&self, id: u32) -> [u32; 3] {
-        self.conds.get(id as usize).copied().unwrap_or([0, 0, 0])
-    }
-
     // The needs of an id that aren't there. Of the functions of conditions the first one is installed.
     fn open_needs(&self, id: u32) -> u32 {
-        (of(&self.needs, id) | self.conds_of(id)[0]) & !self.there()
+        let row = self.row(id);
+        (row.needs | row.conds[0]) & !self.there()
     }
 
     fn is_plan(&self, ids: u32) -> bool {
@@ -145,88 +162,146 @@ impl Drawn {
         (0..IDS).find(|id| has(good, *id) && has(self.given_by(*id), need))
     }
 
+    // All picks for the open needs of an id.
+    fn picks(&self, good: u32, id: u32) -> u32 {
+        let open = self.open_needs(id);
+        let mut picks = 0;
+        for need in 0..IDS {
+            if has(open, need)
+                && let Some(pick) = self.pick(good, need)
+            {
+                picks = with(picks, pick);
+            }
+        }
+        picks
+    }
+
     fn chosen(&self, good: u32, id: u32) -> u32 {
         let mut chosen = with(0, id);
         for _ in 0..IDS {
             for from in 0..IDS {
-                for need in 0..IDS {
-                    if has(chosen, from)
-                        && has(self.open_needs(from), need)
-                        && let Some(pick) = self.pick(good, need)
-                    {
-                        chosen = with(chosen, pick);
-                    }
+                if has(chosen, from) {
+                    chosen |= self.picks(good, from);
                 }
             }
         }
         chosen
     }
 
-    fn verdict_text(&self, alloc: Global, good: u32, id: u32) -> Result<String, Fail> {
-        let mut text = String::new(alloc);
-        if has(good, id) {
-            text.push_str("GOOD")?;
-            let chosen = self.chosen(good, id);
-            for member in 0..IDS {
-                if has(chosen, member) {
-                    write!(text, " UA1000{member}")?;
-                }
-            }
-        } else if has(self.candidates(), id) {
-            let open = self.open_needs(id);
-            let blocked = (0..IDS).find(|need| has(open, *need)
-                && self.pick(good, *need).is_none());
-            write!(text, "HELD UA1000{}", blocked.ok_or("a blocked need")?)?;
-        } else {
-            text.push_str("LACK")?;
-        }
-        Ok(text)
+    // The least need of an id that nothing good gives.
+    fn blocked(&self, good: u32, id: u32) -> Option<u32> {
+        let open = self.open_needs(id);
+        (0..IDS).find(|need| has(open, *need) && self.pick(good, *need).is_none())
     }
 
-    // What is published: of the needs of an id the first are PRE, the next REQ, the others reasons of holds.
+    fn verdict_text(&self, alloc: Global, good: u32, id: u32) -> Result<String, Fail> {
+        if has(good, id) {
+            return good_text(alloc, self.chosen(good, id));
+        }
+        if has(self.candidates(), id) {
+            let blocked = self.blocked(good, id).ok_or("a blocked need")?;
+            return Ok(format!(in alloc; "HELD UA1000{blocked}")?);
+        }
+        Ok(String::from_str(alloc, "LACK")?)
+    }
+
+    // Of the needs of an id the first are PRE, the next REQ, the others reasons of holds.
+    fn put_operands(&self, text: &mut String, id: u32) -> Result<(), Fail> {
+        let row = self.row(id);
+        put_list(text, "PRE", row.needs & 0x07)?;
+        put_list(text, "REQ", row.needs & 0x18)?;
+        put_list(text, "SUP", row.superseded)?;
+        Ok(text.push_str(" .\n")?)
+    }
+
+    fn put_conditions(&self, text: &mut String, id: u32) -> Result<(), Fail> {
+        for (function, required) in FUNCTIONS.iter().zip(self.row(id).conds) {
+            put_condition(text, function, required)?;
+        }
+        Ok(())
+    }
+
+    fn put_sysmod(&self, text: &mut String, id: u32) -> Result<(), Fail> {
+        let fmid = if has(self.applicable, id) {
+            "HBB7790"
+        } else {
+            "HXX0001"
+        };
+        write!(text, "++PTF(UA1000{id}).\n++VER(Z038) FMID({fmid})\n")?;
+        self.put_operands(text, id)?;
+        self.put_conditions(text, id)
+    }
+
+    fn put_holds(&self, text: &mut String, id: u32) -> Result<(), Fail> {
+        let reasons = self.row(id).needs & held(has(self.catalogued, id));
+        for reason in 0..IDS {
+            if has(reasons, reason) {
+                write!(
+                    text,
+                    "++HOLD(UA1000{id}) ERROR FMID(HBB7790) REASON(UA1000{reason}).\n"
+                )?;
+            }
+        }
+        Ok(())
+    }
+
+    // What is published, in print.
     fn statements(&self, alloc: Global) -> Result<String, Fail> {
         let mut text = String::new(alloc);
         for id in 0..IDS {
-            let needs = of(&self.needs, id);
             if has(self.catalogued, id) {
-                let fmid = if has(self.applicable, id) {
-                    "HBB7790"
-                } else {
-                    "HXX0001"
-                };
-                write!(text, "++PTF(UA1000{id}).\n++VER(Z038) FMID({fmid})\n")?;
-                put_list(&mut text, "PRE", needs & 0x07)?;
-                put_list(&mut text, "REQ", needs & 0x18)?;
-                put_list(&mut text, "SUP", of(&self.superseded, id))?;
-                text.push_str(" .\n")?;
-                for (function, required) in FUNCTIONS.iter().zip(self.conds_of(id)) {
-                    put_condition(&mut text, function, required)?;
-                }
+                self.put_sysmod(&mut text, id)?;
             }
-            for need in 0..IDS {
-                if has(needs & held(has(self.catalogued, id)), need) {
-                    write!(
-                        text,
-                        "++HOLD(UA1000{id}) ERROR FMID(HBB7790) REASON(UA1000{need}).\n"
-                    )?;
-                }
-            }
+            self.put_holds(&mut text, id)?;
         }
         Ok(text)
     }
 
-    fn zone(&self, alloc: Global) -> Result<String, Fail> {
-        let mut text = String::new(alloc);
-        text.push_str("SYSMOD,STATE\nHBB7790,APPLIED\nHYY0001,ACCEPTED\nHYY0003,SUPERSEDED\n")?;
+    // The row of the zone that has an id, if one has it.
+    fn put_row(&self, text: &mut String, id: u32) -> Result<(), Fail> {
+        if has(self.listed, id) {
+            let state = if has(self.installed, id) {
+                "ACCEPTED"
+            } else {
+                "SUPERSEDED"
+            };
+            write!(text, "UA1000{id},{state}\n")?;
+        }
+        Ok(())
+    }
+
+    fn published(&self, alloc: Global) -> Result<ListPublished, Fail> {
+        published(alloc, self.statements(alloc)?.as_bytes())
+    }
+
+    // The zone, in print.
+    fn zone_rows(&self, alloc: Global) -> Result<String, Fail> {
+        let front = "SYSMOD,STATE\nHBB7790,APPLIED\nHYY0001,ACCEPTED\nHYY0003,SUPERSEDED\n";
+        let mut text = String::from_str(alloc, front)?;
         for id in 0..IDS {
-            if has(self.installed, id) {
-                write!(text, "UA1000{id},ACCEPTED\n")?;
-            } else if has(self.listed, id) {
-                write!(text, "UA1000{id},SUPERSEDED\n")?;
-            }
+            self.put_row(&mut text, id)?;
         }
         Ok(text)
     }
+
+    fn zone(&self, alloc: Global) -> Result<Zone, Fail> {
+        zone_of(alloc, self.zone_rows(alloc)?.as_bytes())
+    }
+}
+
+fn put_ids(text: &mut String, ids: u32) -> Result<(), Fail> {
+    for id in 0..IDS {
+        if has(ids, id) {
+            write!(text, " UA1000{id}")?;
+        }
+    }
+    Ok(())
+}
+
+fn good_text(alloc: Global, plan: u32) -> Result<String, Fail> {
+    let mut text = String::from_str(alloc, "GOOD")?;
+    put_ids(&mut text, plan)?;
+    Ok(text)
 }
 
 // Which needs are reasons of holds: of what isn't catalogued all.
@@ -237,11 +312,7 @@ fn held(catalogued: bool) -> u32 {
 fn put_list(text: &mut String, name: &str, ids: u32) -> Result<(), Fail> {
     if ids != 0 {
         write!(text, " {name}(")?;
-        for id in 0..IDS {
-            if has(ids, id) {
-                write!(text, " UA1000{id}")?;
-            }
-        }
+        put_ids(text, ids)?;
         text.push_str(")\n")?;
     }
     Ok(())
@@ -279,9 +350,8 @@ fn assert_verdicts(
 ) -> Result<(), Fail> {
     let good = drawn.good();
     for id in 0..IDS {
-        let text = judged(alloc, lists, zone, &drawn_id(alloc, id)?)?;
         let wanted = drawn.verdict_text(alloc, good, id)?;
-        assert_equal_at((content, id), text.as_str(), wanted.as_str())?;
+        assert_judged(content, alloc, lists, zone, drawn_id(alloc, id)?, &wanted)?;
     }
     Ok(())
 }
@@ -298,8 +368,8 @@ fn assert_other_ways(
 }
 
 fn assert_drawn(alloc: Global, content: u32, drawn: &Drawn) -> Result<(), Fail> {
-    let zone = zone_of(alloc, drawn.zone(alloc)?.as_bytes())?;
-    let mut lists = published(alloc, drawn.statements(alloc)?.as_bytes())?;
+    let zone = drawn.zone(alloc)?;
+    let mut lists = drawn.published(alloc)?;
     assert_verdicts(alloc, content, drawn, &mut lists, &zone)?;
     assert_other_ways(alloc, content, &mut lists, &zone)
 }

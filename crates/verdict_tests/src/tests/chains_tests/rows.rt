@@ -1,5 +1,5 @@
 //! Worked verdicts.
-use super::{assert_as_whole, assert_statuses, judged};
+use super::{assert_as_whole, assert_judged, assert_statuses};
 use crate::tests::content::published_with_base;
 use crate::tests::print::{id_of, zone_of};
 use catalogue::ListPublished;
@@ -7,7 +7,6 @@ use mcs_reader::Id;
 use std::alloc::Global;
 use std::test::Fail;
 use supersede::Zone;
-use testing::assert_equal_at;
 
 const ALPHA: &[u8] = b"SYSMOD,STATE\nHBB7790,APPLIED\nUA10001,APPLIED\n";
 
@@ -117,7 +116,7 @@ fn assert_verdict(
     id: Id,
     text: &str,
 ) -> Result<(), Fail> {
-    assert_equal_at(id, judged(alloc, lists, zone, &id)?.as_str(), text)?;
+    assert_judged("the whole catalogue", alloc, lists, zone, id, text)?;
     assert_statuses(id, alloc, lists, zone, &[id])?;
     assert_as_whole(id, alloc, lists, zone, &id)
 }
