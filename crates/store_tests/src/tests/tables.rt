@@ -1,7 +1,8 @@
-//! Databases in memory with the bureau's tables and no rows, and values of rows.
+//! The bureau's tables with no rows, made in a database, and values of rows.
+use faults::NoMemory;
 use sql_texts::create;
 use sqlite::types::ValueRef;
-use sqlite::{Connection, Error, MemStore};
+use sqlite::{Alter, Connection, Error, MemStore};
 use std::alloc::Global;
 
 pub(crate) const ALPHA: ValueRef<'static> = ValueRef::Text(b"ALPHA");
@@ -20,14 +21,23 @@ pub(crate) const ZERO: ValueRef<'static> = ValueRef::Int(0);
 
 pub(crate) const ONE: ValueRef<'static> = ValueRef::Int(1);
 
-/// The tables of version 1.
-pub(crate) fn of_version_1(alloc: Global) -> Result<Connection<MemStore>, Error> {
-    let mut conn = Connection::open_in_memory(alloc)?;
-    make_version_1(&mut conn)?;
-    Ok(conn)
+/// A new database in memory.
+pub(crate) fn in_memory(alloc: Global) -> Result<Connection<MemStore>, NoMemory> {
+    Connection::open_in_memory(alloc)
 }
 
-fn make_version_1(conn: &mut Connection<MemStore>) -> Result<(), Error> {
+/// Runs a statement.
+pub(crate) fn put<S: Alter>(
+    conn: &mut Connection<S>,
+    text: &str,
+    values: &[ValueRef<'_>],
+) -> Result<(), Error> {
+    conn.execute(text, values)?;
+    Ok(())
+}
+
+/// Makes the tables of version 1.
+pub(crate) fn make_version_1<S: Alter>(conn: &mut Connection<S>) -> Result<(), Error> {
     let texts = [
         create::bureau_version(),
         create::caller(),
@@ -41,14 +51,27 @@ fn make_version_1(conn: &mut Connection<MemStore>) -> Result<(), Error> {
         create::received_list(),
     ];
     for text in texts {
-        conn.execute(text, &[])?;
+        put(conn, text, &[])?;
     }
     Ok(())
 }
 
-/// The tables of version 2.
+/// Makes the tables of version 2.
+pub(crate) fn make_version_2<S: Alter>(conn: &mut Connection<S>) -> Result<(), Error> {
+    make_version_1(conn)?;
+    put(conn, create::sysmod_cond(), &[])
+}
+
+/// A database in memory with the tables of version 1.
+pub(crate) fn of_version_1(alloc: Global) -> Result<Connection<MemStore>, Error> {
+    let mut conn = in_memory(alloc)?;
+    make_version_1(&mut conn)?;
+    Ok(conn)
+}
+
+/// A database in memory with the tables of version 2.
 pub(crate) fn of_version_2(alloc: Global) -> Result<Connection<MemStore>, Error> {
-    let mut conn = of_version_1(alloc)?;
-    conn.execute(create::sysmod_cond(), &[])?;
+    let mut conn = in_memory(alloc)?;
+    make_version_2(&mut conn)?;
     Ok(conn)
 }
