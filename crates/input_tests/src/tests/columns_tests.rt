@@ -3,18 +3,25 @@ use columns::{Column, Table};
 use std::test::Fail;
 use testing::assert_equal;
 
+static ZONES: [Column; 2] = [
+    Column {
+        place: 1,
+        name: b"ZONE",
+    },
+    Column {
+        place: 10,
+        name: b"SYSMODS",
+    },
+];
+
 #[test]
 fn a_table_has_its_columns(rt: HostRuntime) -> Result<(), Fail> {
-    let zones = [(1, b"ZONE".as_slice()), (10, b"SYSMODS")].map(|(place, name)| Column {
-        place,
-        name,
-    });
-    let mut table = Table::new(rt.alloc(), &zones, Some(b"ZONES OF ALPHA"))?;
+    let mut table = Table::new(rt.alloc(), &ZONES, Some(b"ZONES OF ALPHA"))?;
     table.push(&[b"TGT1", b"2"])?;
     table.push(&[b"-", b"20000"])?;
     let want: &[u8] = b"ZONES OF ALPHA\nZONE     SYSMODS\nTGT1     2\n-        20000\nROWS 2\n";
     assert_equal(table.finish()?.as_slice(), want)?;
-    let none = Table::new(rt.alloc(), &zones, None)?.finish()?;
+    let none = Table::new(rt.alloc(), &ZONES, None)?.finish()?;
     let want: &[u8] = b"ZONE     SYSMODS\nROWS 0\n";
     assert_equal(none.as_slice(), want)
 }

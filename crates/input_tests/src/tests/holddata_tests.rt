@@ -40,6 +40,11 @@ fn print(alloc: Global, rows: &str) -> Result<Vec<u8>, Fail> {
     Ok(format!(in alloc; "{HEADING}{rows}")?.into_bytes())
 }
 
+// The book prints these rows below the heading.
+fn assert_printed(alloc: Global, book: &HoldBook, rows: &str) -> Result<(), Fail> {
+    assert_equal(text_of(book)?, print(alloc, rows)?)
+}
+
 fn put(book: &mut HoldBook, change: HoldChange) -> Result<(), Fail> {
     book.apply(change)?;
     Ok(())
@@ -57,10 +62,10 @@ fn key(kind: Kind) -> Result<HoldKey, Fail> {
 fn a_book_prints_its_rows(rt: HostRuntime) -> Result<(), Fail> {
     let alloc = rt.alloc();
     let none = book_by(alloc, b"")?;
-    assert_equal(text_of(&none)?, print(alloc, "ROWS 0\n")?)?;
+    assert_printed(alloc, &none, "ROWS 0\n")?;
     let one = book_by(alloc, IN_ERROR.as_bytes())?;
     let row = "UA10001  ERROR   AA20002  HBB7790  PE       12045  -        -\nROWS 1\n";
-    assert_equal(text_of(&one)?, print(alloc, row)?)
+    assert_printed(alloc, &one, row)
 }
 
 static FAULTY: [(&str, u8); 15] = [
@@ -123,13 +128,19 @@ fn other_spellings_are_accepted(rt: HostRuntime) -> Result<(), Fail> {
     let alloc = rt.alloc();
     for &(source, kind, dated) in &SPELLINGS {
         let book = book_by(alloc, source)?;
-        let hold = book.get(&key(kind)?).ok_or("a hold")?;
-        assert_only_dated(&rt, hold, dated)?;
+        assert_only_dated(&rt, &book, kind, dated)?;
     }
     Ok(())
 }
 
-fn assert_only_dated(rt: &impl Abort, hold: &Hold, dated: Option<u32>) -> Result<(), Fail> {
+// The hold of this kind has a date or none, and neither a resolver nor a category.
+fn assert_only_dated(
+    rt: &impl Abort,
+    book: &HoldBook,
+    kind: Kind,
+    dated: Option<u32>,
+) -> Result<(), Fail> {
+    let hold = book.get(&key(kind)?).ok_or("a hold")?;
     assert_equal(hold.dated.map(Date::number), dated)?;
     assert!(rt; hold.resolver.is_none());
     assert!(rt; hold.categories.is_empty());
@@ -193,10 +204,15 @@ static BOOKS: [(&[u8], &str); 8] = [
 fn sources_and_their_books(rt: HostRuntime) -> Result<(), Fail> {
     let alloc = rt.alloc();
     for &(source, rows) in &BOOKS {
-        assert_equal_at(rows, print_left(alloc, source)?, print(alloc, rows)?)?;
-        assert_equal_at(rows, print_of(alloc, source)?, Ok(print(alloc, rows)?))?;
+        assert_book(alloc, source, rows)?;
     }
     Ok(())
+}
+
+// The book of a source has these rows in print, whichever way it is made.
+fn assert_book(alloc: Global, source: &[u8], rows: &str) -> Result<(), Fail> {
+    assert_equal_at(rows, print_left(alloc, source)?, print(alloc, rows)?)?;
+    assert_equal_at(rows, print_of(alloc, source)?, Ok(print(alloc, rows)?))
 }
 
 static FAULTY_SOURCES: [(&[u8], u8, u32); 4] = [
@@ -223,6 +239,15 @@ fn sources_with_a_fault_of_a_hold(rt: HostRuntime) -> Result<(), Fail> {
     Ok(())
 }
 
+// A SYSMOD, and the reasons of the holds on it.
+static REASONS: [(&[u8], &str); 5] = [
+    (b"A", " Z"),
+    (b"B", " # Z Z ZZZZZZZ"),
+    (b"BA", " A"),
+    (b"AZ", ""),
+    (b"D", ""),
+];
+
 #[test]
 fn the_holds_on_one_sysmod(rt: HostRuntime) -> Result<(), Fail> {
     let alloc = rt.alloc();
@@ -230,13 +255,7 @@ fn the_holds_on_one_sysmod(rt: HostRuntime) -> Result<(), Fail> {
          ++HOLD(B) ERR REASON(#).\n++HOLD(B) FIXCAT REASON(ZZZZZZZ).\n++HOLD(BA) ERR REASON(A).\n\
          ++HOLD(C) ERR REASON(A).\n";
     let book = book_by(alloc, source)?;
-    for (sysmod, reasons) in [
-        (b"A" as &[u8], " Z"),
-        (b"B", " # Z Z ZZZZZZZ"),
-        (b"BA", " A"),
-        (b"AZ", ""),
-        (b"D", ""),
-    ] {
+    for &(sysmod, reasons) in &REASONS {
         let told = reasons_on(&rt, alloc, &book, id(sysmod)?)?;
         assert_equal_at(sysmod, told.as_str(), reasons)?;
     }
@@ -260,17 +279,26 @@ fn the_last_change_of_a_key_decides(rt: HostRuntime) -> Result<(), Fail> {
     let user = format!(in alloc; "++HOLD(UA10001) USER REASON(AA20002).\n{IN_ERROR}")?;
     let mut book = book_by(alloc, user.as_bytes())?;
     assert_equal(book.iter().count(), 2)?;
-    put(&mut book, HoldChange::Release(key(Kind::ErrorHold)?))?;
-    put(&mut book, HoldChange::Release(key(Kind::ErrorHold)?))?;
+    release_error(&mut book)?;
+    release_error(&mut book)?;
     assert_user_alone(&rt, &book)?;
     let last = b"++HOLD(UA10001) ERROR REASON(AA20002) CLASS(HIPER).\n";
-    for change in changes_by(alloc, last)? {
-        put(&mut book, change)?;
-    }
+    put_each(&mut book, changes_by(alloc, last)?)?;
     let rows = "UA10001  ERROR   AA20002  -        HIPER    -      -        -\n\
          UA10001  USER    AA20002  -        -        -      -        -\nROWS 2\n";
-    assert_equal(text_of(&book)?, print(alloc, rows)?)?;
-    assert_equal(text_of(&copied(&book)?)?, text_of(&book)?)
+    assert_printed(alloc, &book, rows)?;
+    assert_printed(alloc, &copied(&book)?, rows)
+}
+
+fn release_error(book: &mut HoldBook) -> Result<(), Fail> {
+    put(book, HoldChange::Release(key(Kind::ErrorHold)?))
+}
+
+fn put_each(book: &mut HoldBook, changes: Vec<HoldChange>) -> Result<(), Fail> {
+    for change in changes {
+        put(book, change)?;
+    }
+    Ok(())
 }
 
 fn assert_user_alone(rt: &impl Abort, book: &HoldBook) -> Result<(), Fail> {
@@ -297,15 +325,24 @@ fn a_change_is_copied(rt: HostRuntime) -> Result<(), Fail> {
 fn a_book_takes_one_statement_after_the_other(rt: HostRuntime) -> Result<(), Fail> {
     let alloc = rt.alloc();
     let mut book = HoldBook::new(alloc);
-    for statement in &statements_in(alloc, IN_ERROR.as_bytes())? {
-        assert_equal(fault_after(&mut book, statement), None)?;
-    }
-    for statement in &statements_in(alloc, b"\n++HOLD(UA10001) REASON(AA20002).\n")? {
-        let fault = fault_after(&mut book, statement);
-        assert_equal(fault, Some(HoldFault::NoKind(2)))?;
-    }
+    assert_each_taken(alloc, &mut book, IN_ERROR.as_bytes(), None)?;
+    let no_kind = b"\n++HOLD(UA10001) REASON(AA20002).\n";
+    assert_each_taken(alloc, &mut book, no_kind, Some(HoldFault::NoKind(2)))?;
     let one = book_by(alloc, IN_ERROR.as_bytes())?;
     assert_equal(text_of(&book)?, text_of(&one)?)
+}
+
+// Each statement of a source is taken, or refused for this fault.
+fn assert_each_taken(
+    alloc: Global,
+    book: &mut HoldBook,
+    source: &[u8],
+    fault: Option<HoldFault>,
+) -> Result<(), Fail> {
+    for statement in &statements_in(alloc, source)? {
+        assert_equal(fault_after(book, statement), fault)?;
+    }
+    Ok(())
 }
 
 // The fault for which a statement is refused.
@@ -331,19 +368,25 @@ fn fixcat(alloc: Global) -> Result<Hold, Fail> {
     })
 }
 
+// The book of one hold, in print.
+fn text_with(alloc: Global, hold: Hold) -> Result<Vec<u8>, Fail> {
+    let mut book = HoldBook::new(alloc);
+    put(&mut book, HoldChange::Put(hold))?;
+    text_of(&book)
+}
+
 #[test]
 fn a_hold_keeps_its_categories(rt: HostRuntime) -> Result<(), Fail> {
     let alloc = rt.alloc();
-    let mut book = HoldBook::new(alloc);
-    put(&mut book, HoldChange::Put(fixcat(alloc)?))?;
+    assert_copied(&fixcat(alloc)?)?;
     let row =
         "HBB7790  FIXCAT  AA40001  HBB7790  -        01001  UA10009  IBM.Device,IBM.Device.Server\nROWS 1\n";
-    assert_equal(text_of(&book)?, print(alloc, row)?)?;
-    let hold = fixcat(alloc)?;
-    assert_copied(&hold.copy()?, &hold)
+    assert_equal(text_with(alloc, fixcat(alloc)?)?, print(alloc, row)?)
 }
 
-fn assert_copied(copy: &Hold, hold: &Hold) -> Result<(), Fail> {
+// A copy of the hold has the same categories.
+fn assert_copied(hold: &Hold) -> Result<(), Fail> {
+    let copy = hold.copy()?;
     assert_equal(copy.categories.joined(), hold.categories.joined())?;
     assert_equal(copy.categories.to_list()?.as_slice(), CATEGORIES.as_slice())
 }
@@ -352,12 +395,13 @@ fn is_accepted(alloc: Global, texts: &[&[u8]]) -> Result<bool, Fail> {
     Ok(Categories::from_ascending(alloc, texts)?.is_some())
 }
 
+static NO_CATEGORIES: [&[&[u8]]; 5] = [&[b""], &[b"A'B"], &[b"A B"], &[b"B", b"A"], &[b"A", b"A"]];
+
 #[test]
 fn categories_ascend_and_are_allowed(rt: HostRuntime) -> Result<(), Fail> {
     let alloc = rt.alloc();
-    let refused: [&[&[u8]]; 5] = [&[b""], &[b"A'B"], &[b"A B"], &[b"B", b"A"], &[b"A", b"A"]];
-    for texts in refused {
-        assert!(rt; !is_accepted(alloc, texts)?);
+    for &texts in &NO_CATEGORIES {
+        assert!(rt; !is_accepted(alloc, texts)?, "{texts:?}");
     }
     for (len, accepted) in [(64, true), (65, false)] {
         let text = vec![in alloc; b'x'; len]?;

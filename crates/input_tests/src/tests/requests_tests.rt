@@ -6,6 +6,7 @@ use requests::{
     read_front, read_turn, read_whole,
 };
 use std::alloc::Global;
+use std::process::Abort;
 use std::test::Fail;
 use testing::{Failures, Pieces, assert_equal, assert_equal_at};
 use transfer::{Intake, RETRIES};
@@ -82,71 +83,119 @@ static REFUSED: [(&[u8], &[u8], Refusal); 12] = [
 #[test]
 fn bodies_have_a_length_or_the_request_is_refused(rt: HostRuntime) -> Result<(), Fail> {
     for &(first, lines, length) in &LENGTHS {
-        let text = head(rt.alloc(), first, lines)?;
-        let told = decide(&text).map(|ready| ready.1);
-        assert_equal_at(first, told.ok(), Some(length))?;
+        let told = length_of(rt.alloc(), first, lines)?;
+        assert_equal_at((first, lines), told, Ok(length))?;
     }
     for &(first, lines, refusal) in &REFUSED {
-        let text = head(rt.alloc(), first, lines)?;
-        let told = decide(&text).err().map(|refused| refused.refusal);
-        assert_equal_at((first, lines), told, Some(refusal))?;
+        let told = length_of(rt.alloc(), first, lines)?;
+        assert_equal_at((first, lines), told, Err(refusal))?;
     }
     Ok(())
 }
 
+// The length of the body of a request, or why the request is refused.
+fn length_of(alloc: Global, first: &[u8], lines: &[u8]) -> Result<Result<u64, Refusal>, NoMemory> {
+    let text = head(alloc, first, lines)?;
+    match decide(&text) {
+        Ok((_, length)) => Ok(Ok(length)),
+        Err(refused) => Ok(Err(refused.refusal)),
+    }
+}
+
+// A request, and why its path is refused.
+static REFUSED_PATHS: [(&[u8], Refusal); 7] = [
+    (b"GET /zones/tgt1/errsysmods", Refusal::NotFound),
+    (
+        b"GET /zones/TGT1%2Ferrsysmods",
+        Refusal::MethodNotAllowed(Resource::Zone),
+    ),
+    (b"GET /zones/", Refusal::NotFound),
+    (b"GET /", Refusal::NotFound),
+    (
+        b"DELETE /published",
+        Refusal::MethodNotAllowed(Resource::Catalogue),
+    ),
+    (
+        b"HEAD /published",
+        Refusal::MethodNotAllowed(Resource::Catalogue),
+    ),
+    (b"get /zones", Refusal::MethodNotAllowed(Resource::Zones)),
+];
+
 #[test]
 fn paths_are_matched_before_they_are_decoded(rt: HostRuntime) -> Result<(), Fail> {
     let routes = Routes::new(rt.alloc())?;
-    let tgt1 = id(b"TGT1")?;
-    let rows: [(&[u8], Result<Action, Refusal>); 18] = [
-        (b"POST /publish", Ok(Action::Publish)),
-        (b"GET /published", Ok(Action::Counts)),
-        (b"GET /zones", Ok(Action::ListZones)),
-        (b"PUT /zones/TGT1", Ok(Action::PutZone(tgt1))),
-        (b"DELETE /zones/TGT1", Ok(Action::DropZone(tgt1))),
-        (b"PUT /zones/TGT1/categories", Ok(Action::PutPatterns(tgt1))),
-        (b"PUT /received", Ok(Action::PutReceived)),
-        (
-            b"GET /zones/TGT%31/errsysmods?x=1",
-            Ok(Action::ErrSysmods(tgt1)),
-        ),
-        (b"GET /zones/TGT1/missingfix", Ok(Action::MissingFix(tgt1))),
-        (
-            b"GET /zones/TGT1/chains/UA%3100%302",
-            Ok(Action::Chain(tgt1, id(b"UA10002")?)),
-        ),
-        (
-            b"GET /zones/%23%40$/missingfix",
-            Ok(Action::MissingFix(id(b"#@$")?)),
-        ),
-        (b"GET /zones/tgt1/errsysmods", Err(Refusal::NotFound)),
-        (
-            b"GET /zones/TGT1%2Ferrsysmods",
-            Err(Refusal::MethodNotAllowed(Resource::Zone)),
-        ),
-        (b"GET /zones/", Err(Refusal::NotFound)),
-        (b"GET /", Err(Refusal::NotFound)),
-        (
-            b"DELETE /published",
-            Err(Refusal::MethodNotAllowed(Resource::Catalogue)),
-        ),
-        (
-            b"HEAD /published",
-            Err(Refusal::MethodNotAllowed(Resource::Catalogue)),
-        ),
-        (
-            b"get /zones",
-            Err(Refusal::MethodNotAllowed(Resource::Zones)),
-        ),
-    ];
-    for (first, action) in rows {
-        let text = head(rt.alloc(), first, b"content-length: 0\r\n")?;
-        match decide(&text) {
-            Ok((head, _)) => assert_equal_at(first, head.action(&text, &routes), action)?,
-            Err(refused) => assert_equal_at(first, refused.refusal, Refusal::NotFound)?,
-        }
+    assert_asks_without_id(rt.alloc(), &routes)?;
+    assert_asks_of(rt.alloc(), &routes, id(b"TGT1")?, id(b"UA10002")?)?;
+    let signs = Action::MissingFix(id(b"#@$")?);
+    assert_asks(
+        rt.alloc(),
+        &routes,
+        b"GET /zones/%23%40$/missingfix",
+        Ok(signs),
+    )?;
+    for &(first, refusal) in &REFUSED_PATHS {
+        assert_asks(rt.alloc(), &routes, first, Err(refusal))?;
     }
     Ok(())
+}
+
+// What is asked of no zone and no SYSMOD.
+fn assert_asks_without_id(alloc: Global, routes: &Routes) -> Result<(), Fail> {
+    assert_asks(alloc, routes, b"POST /publish", Ok(Action::Publish))?;
+    assert_asks(alloc, routes, b"GET /published", Ok(Action::Counts))?;
+    assert_asks(alloc, routes, b"GET /zones", Ok(Action::ListZones))?;
+    assert_asks(alloc, routes, b"PUT /received", Ok(Action::PutReceived))
+}
+
+// What is asked of the zone TGT1 and the SYSMOD UA10002.
+fn assert_asks_of(alloc: Global, routes: &Routes, zone: Id, sysmod: Id) -> Result<(), Fail> {
+    let put = Action::PutZone(zone);
+    assert_asks(alloc, routes, b"PUT /zones/TGT1", Ok(put))?;
+    let dropped = Action::DropZone(zone);
+    assert_asks(alloc, routes, b"DELETE /zones/TGT1", Ok(dropped))?;
+    let patterns = Action::PutPatterns(zone);
+    assert_asks(alloc, routes, b"PUT /zones/TGT1/categories", Ok(patterns))?;
+    let exceptions = Action::ErrSysmods(zone);
+    assert_asks(
+        alloc,
+        routes,
+        b"GET /zones/TGT%31/errsysmods?x=1",
+        Ok(exceptions),
+    )?;
+    let missing = Action::MissingFix(zone);
+    assert_asks(alloc, routes, b"GET /zones/TGT1/missingfix", Ok(missing))?;
+    let chain = Action::Chain(zone, sysmod);
+    assert_asks(
+        alloc,
+        routes,
+        b"GET /zones/TGT1/chains/UA%3100%302",
+        Ok(chain),
+    )
+}
+
+// A request without a body asks for this, or is refused so.
+fn assert_asks(
+    alloc: Global,
+    routes: &Routes,
+    first: &[u8],
+    wanted: Result<Action, Refusal>,
+) -> Result<(), Fail> {
+    let told = action_of(alloc, routes, first)?;
+    assert_equal_at(first, told, wanted)
+}
+
+// What a request without a body asks for.
+fn action_of(
+    alloc: Global,
+    routes: &Routes,
+    first: &[u8],
+) -> Result<Result<Action, Refusal>, NoMemory> {
+    let text = head(alloc, first, b"content-length: 0\r\n")?;
+    match decide(&text) {
+        Ok((head, _)) => Ok(head.action(&text, routes)),
+        Err(refused) => Ok(Err(refused.refusal)),
+    }
 }
 
 static LINES: [(&[u8], Option<u64>, bool); 8] = [
@@ -240,33 +289,60 @@ fn filled(alloc: Global, byte: u8, count: usize) -> Result<Vec<u8>, NoMemory> {
     vec![in alloc; byte; count]
 }
 
-#[test]
-fn heads_end_at_their_blank_line_however_the_reads_are_cut(rt: HostRuntime) -> Result<(), Fail> {
-    let few_feeds = filled(rt.alloc(), b'\n', 16_383)?;
-    let feeds = filled(rt.alloc(), b'\n', 16_384)?;
-    let few_letters = filled(rt.alloc(), b'a', 16_383)?;
-    let letters = filled(rt.alloc(), b'a', 16_384)?;
-    let rows: [(&[u8], Front); 13] = [
-        (b"", Front::CleanEnd),
-        (b"\r\n\n", Front::CleanEnd),
-        (b"\r", Front::EndInside),
-        (b"\r\r\n", Front::EndInside),
-        (b"GET / HTTP/1.1\r\n\r", Front::EndInside),
-        (b"\r\nGET / HTTP/1.1\r\n\r\nrest", Front::Head(20)),
-        (b"GET / HTTP/1.1\n\nrest", Front::Head(16)),
-        (b"GET / HTTP/1.1\n\rhost: a\n\r\n\n", Front::Head(26)),
-        (b"a\n\n\n", Front::Head(3)),
-        (few_feeds.as_slice(), Front::CleanEnd),
-        (feeds.as_slice(), Front::TooLarge),
-        (few_letters.as_slice(), Front::EndInside),
-        (letters.as_slice(), Front::TooLarge),
-    ];
-    for (bytes, front) in rows {
-        for piece in [1, 2, 3, 100_000] {
-            assert_equal_at(piece, front_of(rt.alloc(), bytes, piece)?, front)?;
-        }
+// The front of bytes is this, however the reads are cut.
+fn assert_front(alloc: Global, bytes: &[u8], front: Front) -> Result<(), Fail> {
+    for piece in [1, 2, 3, 100_000] {
+        let told = front_of(alloc, bytes, piece)?;
+        assert_equal_at((bytes.len(), piece), told, front)?;
     }
     Ok(())
+}
+
+static FRONTS: [(&[u8], Front); 9] = [
+    (b"", Front::CleanEnd),
+    (b"\r\n\n", Front::CleanEnd),
+    (b"\r", Front::EndInside),
+    (b"\r\r\n", Front::EndInside),
+    (b"GET / HTTP/1.1\r\n\r", Front::EndInside),
+    (b"\r\nGET / HTTP/1.1\r\n\r\nrest", Front::Head(20)),
+    (b"GET / HTTP/1.1\n\nrest", Front::Head(16)),
+    (b"GET / HTTP/1.1\n\rhost: a\n\r\n\n", Front::Head(26)),
+    (b"a\n\n\n", Front::Head(3)),
+];
+
+#[test]
+fn heads_end_at_their_blank_line_however_the_reads_are_cut(rt: HostRuntime) -> Result<(), Fail> {
+    for &(bytes, front) in &FRONTS {
+        assert_front(rt.alloc(), bytes, front)?;
+    }
+    Ok(())
+}
+
+// A byte, how often it comes, and the front of that.
+static REPEATED: [(u8, usize, Front); 4] = [
+    (b'\n', 16_383, Front::CleanEnd),
+    (b'\n', 16_384, Front::TooLarge),
+    (b'a', 16_383, Front::EndInside),
+    (b'a', 16_384, Front::TooLarge),
+];
+
+#[test]
+fn bytes_without_a_head_are_fewer_than_16384(rt: HostRuntime) -> Result<(), Fail> {
+    for &(byte, count, front) in &REPEATED {
+        let bytes = filled(rt.alloc(), byte, count)?;
+        assert_front(rt.alloc(), &bytes, front)?;
+    }
+    Ok(())
+}
+
+// Whether a body of this length is whole, once its bytes are read as far as they come. None: a read failed.
+fn is_body_whole(
+    intake: &mut Intake,
+    reader: &mut Pieces<'_>,
+    length: usize,
+    retries: &mut u32,
+) -> Option<bool> {
+    read_whole(intake, reader, length, retries).ok()
 }
 
 #[test]
@@ -274,42 +350,62 @@ fn bodies_are_read_by_their_length_and_no_further(rt: HostRuntime) -> Result<(),
     let mut intake = Intake::new(rt.alloc());
     let mut retries = RETRIES;
     let mut reader = Pieces::new(b"0123456789", 3, Failures::interruptions(64));
-    assert!(rt; read_whole(&mut intake, &mut reader, 4, &mut retries)?);
+    let whole = is_body_whole(&mut intake, &mut reader, 4, &mut retries);
+    assert_equal((whole, retries), (Some(true), 0))?;
     assert_equal(intake.bytes(), b"0123".as_slice())?;
-    assert_equal(retries, 0)?;
-    assert!(rt; !read_whole(&mut intake, &mut reader, 11, &mut retries)?);
+    let short = is_body_whole(&mut intake, &mut reader, 11, &mut retries);
+    assert_equal(short, Some(false))?;
     assert_equal(intake.bytes(), b"0123456789".as_slice())?;
     reader.failures = Failures::interruptions(1);
-    assert!(rt; read_whole(&mut intake, &mut reader, 11, &mut retries).is_err());
-    Ok(())
+    let failed = is_body_whole(&mut intake, &mut reader, 11, &mut retries);
+    assert_equal(failed, None)
 }
 
-#[test]
-fn a_body_of_3000000_bytes_and_a_token_of_64(rt: HostRuntime) -> Result<(), Fail> {
-    let token = filled(rt.alloc(), b'T', 64)?;
-    let mut lines = Vec::from_slice(rt.alloc(), b"content-length: 3000000\r\nbureau-token: ")?;
-    lines.extend_from_slice(&token)?;
+// A request with a body of 3,000,000 bytes, and more after it; and how many bytes its head has.
+fn long_request(alloc: Global, token: &[u8]) -> Result<(Vec<u8>, usize), NoMemory> {
+    let mut lines = Vec::from_slice(alloc, b"content-length: 3000000\r\nbureau-token: ")?;
+    lines.extend_from_slice(token)?;
     lines.extend_from_slice(b"\r\n")?;
-    let mut text = head(rt.alloc(), b"POST /publish", &lines)?;
+    let mut text = head(alloc, b"POST /publish", &lines)?;
     let head_len = text.len();
     for n in 0..3_000_000u32 {
         text.push((n % 251) as u8)?;
     }
     text.extend_from_slice(b"GET /zones")?;
-    for piece in [1_000, 65_536, 4_000_000] {
-        let mut intake = Intake::new(rt.alloc());
-        let mut retries = RETRIES;
-        let mut reader = Pieces::new(text.as_slice(), piece, Failures::none());
-        match read_turn(&mut intake, &mut reader, &mut retries)? {
-            Turn::Whole(request) => {
-                let bytes = intake.bytes();
-                let (_, rest) = text.split_at(head_len.min(text.len()));
-                let (body, _) = rest.split_at(rest.len().min(3_000_000));
-                assert!(rt; request.body(bytes) == body, "{piece:?}");
-                assert!(rt; request.token(bytes) == Some(token.as_slice()), "{piece:?}");
-            }
-            _ => return Err("a whole request".into()),
+    Ok((text, head_len))
+}
+
+// Read in such pieces, the first request of a text has this token and this body.
+fn assert_whole(
+    rt: &impl Abort,
+    alloc: Global,
+    text: &[u8],
+    piece: usize,
+    token: &[u8],
+    body: &[u8],
+) -> Result<(), Fail> {
+    let mut intake = Intake::new(alloc);
+    let mut retries = RETRIES;
+    let mut reader = Pieces::new(text, piece, Failures::none());
+    match read_turn(&mut intake, &mut reader, &mut retries)? {
+        Turn::Whole(request) => {
+            let bytes = intake.bytes();
+            assert!(rt; request.body(bytes) == body, "{piece:?}");
+            assert!(rt; request.token(bytes) == Some(token), "{piece:?}");
+            Ok(())
         }
+        _ => Err("a whole request".into()),
+    }
+}
+
+#[test]
+fn a_body_of_3000000_bytes_and_a_token_of_64(rt: HostRuntime) -> Result<(), Fail> {
+    let token = filled(rt.alloc(), b'T', 64)?;
+    let (text, head_len) = long_request(rt.alloc(), &token)?;
+    let (_, rest) = text.split_at(head_len.min(text.len()));
+    let (body, _) = rest.split_at(rest.len().min(3_000_000));
+    for piece in [1_000, 65_536, 4_000_000] {
+        assert_whole(&rt, rt.alloc(), &text, piece, &token, body)?;
     }
     Ok(())
 }
