@@ -3,16 +3,8 @@ use columns::{Column, Table};
 use std::test::Fail;
 use testing::assert_equal;
 
-static ZONES: [Column; 2] = [
-    Column {
-        place: 1,
-        name: b"ZONE",
-    },
-    Column {
-        place: 10,
-        name: b"SYSMODS",
-    },
-];
+#[rattlefmt::skip]
+static ZONES: [Column; 2] = [Column { place: 1, name: b"ZONE" }, Column { place: 10, name: b"SYSMODS" }];
 
 #[test]
 fn a_table_has_its_columns(rt: HostRuntime) -> Result<(), Fail> {

@@ -2,6 +2,7 @@
 use faults::{NoMemory, fault_text};
 use mcs_reader::Id;
 use std::alloc::Global;
+use std::process::Abort;
 use std::test::Fail;
 use testing::{assert_equal, assert_equal_at};
 use zone_lists::{ListFault, Pattern, ZoneRow, ZoneState, patterns, received_rows, zone_rows};
@@ -13,11 +14,6 @@ fn repeated(alloc: Global, header: &[u8], record: &[u8], times: u32) -> Result<V
         text.extend_from_slice(record)?;
     }
     Ok(text)
-}
-
-fn row(sysmod: &[u8], state: ZoneState) -> Result<ZoneRow, Fail> {
-    let sysmod = Id::new(sysmod).ok_or("an id")?;
-    Ok(ZoneRow { sysmod, state })
 }
 
 // The three lists that are read.
@@ -46,37 +42,63 @@ fn count_of(alloc: Global, list: List, text: &[u8]) -> Result<usize, ListFault> 
     }
 }
 
-static OF_ONE_ROW: [&[u8]; 6] = [
-    b"\xEF\xBB\xBF SYSMOD ,STATE\nUA10001 , APPLIED\n",
-    b"SYSMOD,STATE\r\nUA10001,APPLIED\r\n",
-    b"SYSMOD,STATE\nUA10001,APPLIED",
-    b"\"SYSMOD\",\"STATE\"\n\"UA10001\",\" APPLIED\t\"\n",
-    b"\n\nSYSMOD,STATE\n\n\nUA10001,APPLIED\n\n",
-    b"SYSMOD,STATE\nUA10001,APPLIED\nUA10001,APPLIED\n",
+const ONE_ROW: [(&[u8], ZoneState); 1] = [(b"UA10001", ZoneState::Applied)];
+
+// A zone, and its rows.
+static ZONES: [(&[u8], &[(&[u8], ZoneState)]); 9] = [
+    (
+        b"SYSMOD,STATE\nUA10001,APPLIED\nHBB7790,APPLIED\n",
+        &[
+            (b"HBB7790", ZoneState::Applied),
+            (b"UA10001", ZoneState::Applied),
+        ],
+    ),
+    (b"\xEF\xBB\xBF SYSMOD ,STATE\nUA10001 , APPLIED\n", &ONE_ROW),
+    (b"SYSMOD,STATE\r\nUA10001,APPLIED\r\n", &ONE_ROW),
+    (b"SYSMOD,STATE\nUA10001,APPLIED", &ONE_ROW),
+    (
+        b"\"SYSMOD\",\"STATE\"\n\"UA10001\",\" APPLIED\t\"\n",
+        &ONE_ROW,
+    ),
+    (b"\n\nSYSMOD,STATE\n\n\nUA10001,APPLIED\n\n", &ONE_ROW),
+    (
+        b"SYSMOD,STATE\nUA10001,APPLIED\nUA10001,APPLIED\n",
+        &ONE_ROW,
+    ),
+    (b"SYSMOD,STATE\n", &[]),
+    // An id may begin with `#`, which begins no comment.
+    (
+        b"SYSMOD,STATE\nA,SUPERSEDED\nB,ACCEPTED\n@,APPLIED\n#1,APPLIED\n",
+        &[
+            (b"#1", ZoneState::Applied),
+            (b"@", ZoneState::Applied),
+            (b"A", ZoneState::Superseded),
+            (b"B", ZoneState::Accepted),
+        ],
+    ),
 ];
 
 #[test]
 fn a_zone_lists_its_sysmods_in_order(rt: HostRuntime) -> Result<(), Fail> {
-    let function = row(b"HBB7790", ZoneState::Applied)?;
-    let fix = row(b"UA10001", ZoneState::Applied)?;
-    let base = b"SYSMOD,STATE\nUA10001,APPLIED\nHBB7790,APPLIED\n";
-    assert!(rt; zone_rows(rt.alloc(), base)?.as_slice() == [function, fix].as_slice());
-
-    for &text in &OF_ONE_ROW {
-        assert!(rt;
-            zone_rows(rt.alloc(), text)?.as_slice() == [fix].as_slice(),
-            "{text:?}"
-        );
+    for &(text, rows) in &ZONES {
+        let found = zone_rows(rt.alloc(), text)?;
+        assert_rows(&rt, text, found.as_slice(), rows)?;
     }
-    assert!(rt; zone_rows(rt.alloc(), b"SYSMOD,STATE\n")?.is_empty());
+    Ok(())
+}
 
-    // An id may begin with `#`, which begins no comment.
-    let states = b"SYSMOD,STATE\nA,SUPERSEDED\nB,ACCEPTED\n@,APPLIED\n#1,APPLIED\n";
-    let sign = row(b"#1", ZoneState::Applied)?;
-    let at = row(b"@", ZoneState::Applied)?;
-    let a = row(b"A", ZoneState::Superseded)?;
-    let b = row(b"B", ZoneState::Accepted)?;
-    assert!(rt; zone_rows(rt.alloc(), states)?.as_slice() == [sign, at, a, b].as_slice());
+// The rows that are read of this text are these.
+fn assert_rows(
+    rt: &impl Abort,
+    text: &[u8],
+    found: &[ZoneRow],
+    rows: &[(&[u8], ZoneState)],
+) -> Result<(), Fail> {
+    assert_equal_at(text, found.len(), rows.len())?;
+    for (row, (sysmod, state)) in found.iter().zip(rows) {
+        assert!(rt; row.sysmod.as_bytes() == *sysmod, "{text:?}");
+        assert!(rt; row.state == *state, "{text:?}");
+    }
     Ok(())
 }
 
@@ -179,16 +201,18 @@ static LIMITS: [(List, &[u8], u32); 3] = [
 #[test]
 fn lists_are_long_up_to_their_limits(rt: HostRuntime) -> Result<(), Fail> {
     for &(list, record, most) in &LIMITS {
-        let mut text = repeated(rt.alloc(), header(list), record, most)?;
-        assert_equal_at(list, count_of(rt.alloc(), list, &text), Ok(1))?;
-        text.extend_from_slice(record)?;
-        assert_equal_at(
-            list,
-            count_of(rt.alloc(), list, &text),
-            Err(ListFault::TooMany),
-        )?;
+        assert_limit(rt.alloc(), list, record, most)?;
     }
     Ok(())
+}
+
+// So many records are read, and one more is refused.
+fn assert_limit(alloc: Global, list: List, record: &[u8], most: u32) -> Result<(), Fail> {
+    let mut text = repeated(alloc, header(list), record, most)?;
+    assert_equal_at(list, count_of(alloc, list, &text), Ok(1))?;
+    text.extend_from_slice(record)?;
+    let told = count_of(alloc, list, &text);
+    assert_equal_at(list, told, Err(ListFault::TooMany))
 }
 
 // The id with this number: U000000, U000001, ..
@@ -196,61 +220,84 @@ fn numbered(alloc: Global, number: u32) -> Result<String, NoMemory> {
     Ok(format!(in alloc; "U{number:06}")?)
 }
 
+// One more record: an id by its number, and what stands after it.
+fn push_record(text: &mut Vec<u8>, number: u32, rest: &[u8]) -> Result<(), NoMemory> {
+    let id = numbered(*text.allocator(), number)?;
+    text.extend_from_slice(id.as_str().as_bytes())?;
+    text.extend_from_slice(rest)
+}
+
 // A header and so many records, each id once, out of order.
-fn shuffled(alloc: Global, header: &str, rest: &str, records: u16) -> Result<Vec<u8>, NoMemory> {
-    let mut text = Vec::from_slice(alloc, header.as_bytes())?;
+fn shuffled(alloc: Global, header: &[u8], rest: &[u8], records: u16) -> Result<Vec<u8>, NoMemory> {
+    let mut text = Vec::from_slice(alloc, header)?;
     let records = u32::from(records);
     for n in 0..records {
-        text.extend_from_slice(numbered(alloc, n * 7_919 % records)?.as_str().as_bytes())?;
-        text.extend_from_slice(rest.as_bytes())?;
+        push_record(&mut text, n * 7_919 % records, rest)?;
+    }
+    Ok(text)
+}
+
+// Whether this is the id with this number.
+fn assert_numbered(rt: &impl Abort, alloc: Global, id: &Id, number: u32) -> Result<(), Fail> {
+    let wanted = numbered(alloc, number)?;
+    assert!(rt; id.as_bytes() == wanted.as_str().as_bytes(), "{number:?}");
+    Ok(())
+}
+
+#[test]
+fn the_longest_zone_is_put_in_order(rt: HostRuntime) -> Result<(), Fail> {
+    let text = shuffled(rt.alloc(), b"SYSMOD,STATE\n", b",ACCEPTED\n", 40_000)?;
+    let zone = zone_rows(rt.alloc(), &text)?;
+    assert_equal(zone.len(), 40_000)?;
+    for (n, row) in (0..40_000u32).zip(zone.iter()) {
+        assert_numbered(&rt, rt.alloc(), &row.sysmod, n)?;
+        assert!(rt; row.state == ZoneState::Accepted, "{n:?}");
+    }
+    Ok(())
+}
+
+#[test]
+fn the_longest_received_list_is_put_in_order(rt: HostRuntime) -> Result<(), Fail> {
+    let alloc = rt.alloc();
+    let received = received_rows(alloc, &shuffled(alloc, b"SYSMOD\n", b"\n", 20_000)?)?;
+    assert_equal(received.len(), 20_000)?;
+    for n in 0..20_000u32 {
+        let sysmod = received.get(n as usize).ok_or("an id")?;
+        assert_numbered(&rt, rt.alloc(), sysmod, n)?;
+    }
+    Ok(())
+}
+
+// A zone of 40,000 records, with one fault at its end.
+fn faulty_zone(alloc: Global) -> Result<Vec<u8>, NoMemory> {
+    let mut zone = Vec::from_slice(alloc, b"SYSMOD,STATE\n")?;
+    for n in 0..39_999u32 {
+        push_record(&mut zone, n, b",APPLIED\n")?;
+    }
+    push_record(&mut zone, 0, b",ACCEPTED\n")?;
+    Ok(zone)
+}
+
+#[test]
+fn the_last_of_40000_records_is_read(rt: HostRuntime) -> Result<(), Fail> {
+    let zone = faulty_zone(rt.alloc())?;
+    let told = count_of(rt.alloc(), List::Zone, &zone);
+    assert_equal(told, Err(ListFault::Repeated(40_000)))
+}
+
+// 64 patterns, the last first.
+fn long_patterns(alloc: Global) -> Result<Vec<u8>, NoMemory> {
+    let mut text = Vec::from_slice(alloc, b"CATEGORY\n")?;
+    for n in 0..64u32 {
+        let pattern = format!(in alloc; "IBM.{:02}.*\n", 63 - n)?;
+        text.extend_from_slice(pattern.as_str().as_bytes())?;
     }
     Ok(text)
 }
 
 #[test]
-fn the_longest_lists_are_put_in_order(rt: HostRuntime) -> Result<(), Fail> {
-    let alloc = rt.alloc();
-    let zone = zone_rows(
-        alloc,
-        &shuffled(alloc, "SYSMOD,STATE\n", ",ACCEPTED\n", 40_000)?,
-    )?;
-    let received = received_rows(alloc, &shuffled(alloc, "SYSMOD\n", "\n", 20_000)?)?;
-    assert_equal(zone.len(), 40_000)?;
-    assert_equal(received.len(), 20_000)?;
-    for (n, row) in (0..40_000u32).zip(zone.iter()) {
-        let id = numbered(alloc, n)?;
-        assert!(rt; row.sysmod.as_bytes() == id.as_str().as_bytes(), "{n:?}");
-        assert!(rt; row.state == ZoneState::Accepted, "{n:?}");
-    }
-    for (n, sysmod) in (0..20_000u32).zip(received.iter()) {
-        assert!(rt;
-            sysmod.as_bytes() == numbered(alloc, n)?.as_str().as_bytes(),
-            "{n:?}"
-        );
-    }
-    Ok(())
-}
-
-// A long list with one fault at its end.
-#[test]
-fn the_last_of_40000_records_is_read(rt: HostRuntime) -> Result<(), Fail> {
-    let mut zone = Vec::from_slice(rt.alloc(), b"SYSMOD,STATE\n")?;
-    for n in 0..39_999u32 {
-        zone.extend_from_slice(numbered(rt.alloc(), n)?.as_str().as_bytes())?;
-        zone.extend_from_slice(b",APPLIED\n")?;
-    }
-    zone.extend_from_slice(b"U000000,ACCEPTED\n")?;
-    assert!(rt; zone_rows(rt.alloc(), &zone) == Err(ListFault::Repeated(40_000)));
-    Ok(())
-}
-
-#[test]
 fn a_list_of_64_patterns(rt: HostRuntime) -> Result<(), Fail> {
-    let mut text = Vec::from_slice(rt.alloc(), b"CATEGORY\n")?;
-    for n in 0..64u32 {
-        let pattern = format!(in rt.alloc(); "IBM.{:02}.*\n", 63 - n)?;
-        text.extend_from_slice(pattern.as_str().as_bytes())?;
-    }
+    let text = long_patterns(rt.alloc())?;
     let found = patterns(rt.alloc(), &text)?;
     assert_equal(found.len(), 64)?;
     for (n, pattern) in (0..64u32).zip(found.iter()) {
@@ -266,13 +313,23 @@ fn a_pattern_keeps_its_text(rt: HostRuntime) -> Result<(), Fail> {
     assert!(rt; pattern.text() == b"IBM.*".as_slice());
     let copy = pattern.copy()?;
     assert!(rt; copy == pattern);
-    let refused: [&[u8]; 5] = [b"", b"A*B", b"**", b"A B", b"\x7F"];
-    for text in refused {
-        assert!(rt; Pattern::new(rt.alloc(), text)?.is_none(), "{text:?}");
+    Ok(())
+}
+
+fn is_pattern(alloc: Global, text: &[u8]) -> Result<bool, NoMemory> {
+    Ok(Pattern::new(alloc, text)?.is_some())
+}
+
+static NO_PATTERNS: [&[u8]; 5] = [b"", b"A*B", b"**", b"A B", b"\x7F"];
+
+#[test]
+fn patterns_have_one_to_64_allowed_characters(rt: HostRuntime) -> Result<(), Fail> {
+    for &text in &NO_PATTERNS {
+        assert!(rt; !is_pattern(rt.alloc(), text)?, "{text:?}");
     }
     for (length, is_one) in [(1, true), (64, true), (65, false)] {
         let text = repeated(rt.alloc(), b"", b"A", length)?;
-        assert_equal_at(length, Pattern::new(rt.alloc(), &text)?.is_some(), is_one)?;
+        assert_equal_at(length, is_pattern(rt.alloc(), &text)?, is_one)?;
     }
     Ok(())
 }
