@@ -1,6 +1,7 @@
 //! What ends a connection.
 use super::echo::{repeated_counts, request, served};
 use bureau_http::ConnFault;
+use faults::NoMemory;
 use std::alloc::Global;
 use std::process::Abort;
 use std::test::Fail;
@@ -60,21 +61,31 @@ fn contains(text: &[u8], part: &[u8]) -> bool {
 // The request alone is answered so, with nothing after it served, and no part of it is answered.
 fn assert_closes(rt: &impl Abort, alloc: Global, closing: &Closing) -> Result<(), Fail> {
     let (first, lines, status) = *closing;
-    let mut text = request(alloc, first, lines, b"")?;
-    for cut in 1..text.len() {
-        let written = assert_ends(alloc, &text[..cut], Err(ConnFault::EndInside))?;
-        assert!(rt; written.is_empty(), "{:?}", (first, cut));
-    }
+    let text = request(alloc, first, lines, b"")?;
+    assert_no_part_answered(rt, alloc, text.as_slice())?;
     let once = assert_ends(alloc, text.as_slice(), Ok(1))?;
     assert!(rt; once.starts_with(status), "{first:?}");
     assert!(rt;
         contains(once.as_slice(), b"\r\nconnection: close\r\n\r\n"),
         "{first:?}"
     );
-    let again = text.clone()?;
-    text.extend_from_slice(again.as_slice())?;
-    let twice = assert_ends(alloc, text.as_slice(), Ok(1))?;
-    assert_equal_at(first, once.as_slice(), twice.as_slice())
+    assert_answered_once(alloc, text.as_slice(), once.as_slice())
+}
+
+fn assert_no_part_answered(rt: &impl Abort, alloc: Global, text: &[u8]) -> Result<(), Fail> {
+    for cut in 1..text.len() {
+        let written = assert_ends(alloc, &text[..cut], Err(ConnFault::EndInside))?;
+        assert!(rt; written.is_empty(), "{:?}", (text, cut));
+    }
+    Ok(())
+}
+
+// The request and the same once more have the reply to one.
+fn assert_answered_once(alloc: Global, text: &[u8], reply: &[u8]) -> Result<(), Fail> {
+    let mut both = Vec::from_slice(alloc, text)?;
+    both.extend_from_slice(text)?;
+    let written = assert_ends(alloc, both.as_slice(), Ok(1))?;
+    assert_equal_at(text, written.as_slice(), reply)
 }
 
 #[test]
@@ -85,28 +96,42 @@ fn what_closes_a_connection(rt: HostRuntime) -> Result<(), Fail> {
     Ok(())
 }
 
-#[test]
-fn a_head_that_is_too_large_closes_a_connection(rt: HostRuntime) -> Result<(), Fail> {
-    let alloc = rt.alloc();
+const TOO_LARGE: &[u8] =
+    b"HTTP/1.1 431 Request Header Fields Too Large\r\ncontent-type: text/plain\r\ncontent-length: 15\r\nconnection: close\r\n\r\nHEAD TOO LARGE\n";
+
+// What comes is refused as it is too large, and nothing after it is served.
+fn assert_too_large(alloc: Global, text: &[u8]) -> Result<(), Fail> {
+    let written = assert_ends(alloc, text, Ok(1))?;
+    assert_equal(written.as_slice(), TOO_LARGE)
+}
+
+// A head of 65 lines, which has no end yet.
+fn many_lines(alloc: Global) -> Result<Vec<u8>, NoMemory> {
     let mut lines = Vec::from_slice(alloc, b"GET /published HTTP/1.1\r\n")?;
     for _ in 0..65u32 {
         lines.extend_from_slice(b"a: b\r\n")?;
     }
-    assert_ends(alloc, lines.as_slice(), Err(ConnFault::EndInside))?;
+    Ok(lines)
+}
+
+#[test]
+fn a_head_of_too_many_lines_closes_a_connection(rt: HostRuntime) -> Result<(), Fail> {
+    let mut lines = many_lines(rt.alloc())?;
+    assert_ends(rt.alloc(), lines.as_slice(), Err(ConnFault::EndInside))?;
     lines.extend_from_slice(b"\r\n")?;
-    let refused = assert_ends(alloc, lines.as_slice(), Ok(1))?;
-    assert!(rt; refused.starts_with(b"HTTP/1.1 431 Request Header Fields Too Large\r\n"));
-    assert!(rt; refused.ends_with(b"\r\nconnection: close\r\n\r\nHEAD TOO LARGE\n"));
-    // nothing after it is served, and bytes without a head's end are refused as they are too many
+    assert_too_large(rt.alloc(), lines.as_slice())?;
     lines.extend_from_slice(b"GET /published HTTP/1.1\r\n\r\n")?;
-    let more = assert_ends(alloc, lines.as_slice(), Ok(1))?;
-    assert_equal(more.as_slice(), refused.as_slice())?;
-    let mut long = Vec::from_slice(alloc, b"GET /published HTTP/1.1\r\na: ")?;
+    assert_too_large(rt.alloc(), lines.as_slice())
+}
+
+// Bytes without a head's end are refused as they are too many.
+#[test]
+fn a_head_of_too_many_bytes_closes_a_connection(rt: HostRuntime) -> Result<(), Fail> {
+    let mut long = Vec::from_slice(rt.alloc(), b"GET /published HTTP/1.1\r\na: ")?;
     long.resize(16_384, b'b')?;
-    let more = assert_ends(alloc, long.as_slice(), Ok(1))?;
-    assert_equal(more.as_slice(), refused.as_slice())?;
+    assert_too_large(rt.alloc(), long.as_slice())?;
     long.truncate(16_383);
-    assert_ends(alloc, long.as_slice(), Err(ConnFault::EndInside))?;
+    assert_ends(rt.alloc(), long.as_slice(), Err(ConnFault::EndInside))?;
     Ok(())
 }
 

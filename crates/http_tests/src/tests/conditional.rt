@@ -1,5 +1,6 @@
 //! What a publication requires where a function is installed counts in the chains that are asked for.
 use bureau_http::replay;
+use std::alloc::Global;
 use std::str;
 use std::test::Fail;
 use testing::{
@@ -65,22 +66,30 @@ static EXCHANGES: [Exchange; 8] = [
     ((ALPHA, IN_TGT2, "", ""), (OK, "", ALONE_IN_TGT2)),
 ];
 
-#[test]
-fn what_a_function_requires_is_in_its_chains(rt: HostRuntime) -> Result<(), Fail> {
-    let alloc = rt.alloc();
+// A connection for each of the requests.
+fn connections(alloc: Global) -> Result<Vec<Vec<u8>>, Fail> {
     let mut connections = Vec::new(alloc);
     for (asked, _) in &EXCHANGES {
         let text = request_text(alloc, *asked)?;
         connections.push(Vec::from_slice(alloc, text.as_bytes())?)?;
     }
-    let Ok(written) = replay(alloc, CALLERS, connections) else {
+    Ok(connections)
+}
+
+fn assert_replied(alloc: Global, reply: &[u8], exchange: Exchange) -> Result<(), Fail> {
+    let wanted = reply_text(alloc, exchange)?;
+    assert_equal_at(exchange.0, str::from_utf8(reply), Ok(wanted.as_str()))
+}
+
+#[test]
+fn what_a_function_requires_is_in_its_chains(rt: HostRuntime) -> Result<(), Fail> {
+    let alloc = rt.alloc();
+    let Ok(written) = replay(alloc, CALLERS, connections(alloc)?) else {
         return Err("no memory".into());
     };
     assert_equal(written.len(), 8)?;
     for (reply, exchange) in written.iter().zip(&EXCHANGES) {
-        let wanted = reply_text(alloc, *exchange)?;
-        let got = str::from_utf8(reply.as_slice());
-        assert_equal_at(exchange.0, got, Ok(wanted.as_str()))?;
+        assert_replied(alloc, reply.as_slice(), *exchange)?;
     }
     Ok(())
 }

@@ -5,7 +5,7 @@ use std::alloc::Global;
 use std::cell::Cell;
 use std::io::{self, ErrorKind, Read, Write};
 use std::test::Fail;
-use testing::{Failures, Pieces, Slow, assert_equal, assert_equal_at};
+use testing::{Failures, Pieces, Slow, assert_equal_at};
 
 // What the client has sent and got so far.
 #[derive(Drop)]
@@ -91,67 +91,87 @@ fn asked_patiently(
     (writer.taken, ended)
 }
 
+// So many requests, each after so many interruptions: how many are answered, and how the connection ends.
+static ASKED: [(u32, u32, usize, Result<u64, ConnFault>); 4] = [
+    (3, 0, 3, Ok(3)),
+    // Interruptions are counted over the connection.
+    (2, 32, 2, Ok(2)),
+    (3, 32, 2, Err(ConnFault::Read)),
+    (2, 33, 1, Err(ConnFault::Read)),
+];
+
 #[test]
 fn a_reply_goes_out_before_the_next_read(rt: HostRuntime) -> Result<(), Fail> {
     let text = counts(rt.alloc())?;
-    let (written, ended) = asked_patiently(rt.alloc(), text.as_slice(), 3, 0);
-    assert_equal((written.len(), ended), (3 * 93, Ok(3)))
-}
-
-#[test]
-fn interruptions_are_counted_over_the_connection(rt: HostRuntime) -> Result<(), Fail> {
-    let text = counts(rt.alloc())?;
-    let (written, ended) = asked_patiently(rt.alloc(), text.as_slice(), 2, 32);
-    assert_equal((written.len(), ended), (2 * 93, Ok(2)))?;
-    let (written, ended) = asked_patiently(rt.alloc(), text.as_slice(), 3, 32);
-    assert_equal((written.len(), ended), (2 * 93, Err(ConnFault::Read)))?;
-    let (written, ended) = asked_patiently(rt.alloc(), text.as_slice(), 2, 33);
-    assert_equal((written.len(), ended), (93, Err(ConnFault::Read)))
-}
-
-#[test]
-fn a_read_fails_at_each_place(rt: HostRuntime) -> Result<(), Fail> {
-    let text = repeated_counts(rt.alloc(), 2)?;
-    let (whole, _) = served(rt.alloc(), false, text.as_slice())?;
-    for until_failure in 0..=u32::try_from(text.len().div_ceil(7))? {
-        let failures = Failures::after(until_failure, ErrorKind::ConnectionReset);
-        let mut reader = Pieces::new(text.as_slice(), 7, failures);
-        let mut writer = Vec::new(rt.alloc());
-        let ended = echoed(rt.alloc(), &mut reader, &mut writer);
-        assert_equal_at(until_failure, ended, Err(ConnFault::Read))?;
-        // each request that came whole has its reply
-        let came = text.len().saturating_sub(reader.rest.len());
-        assert!(rt; whole.starts_with(writer.as_slice()), "{until_failure:?}");
-        let replies = if came < text.len() / 2 {
-            0
-        } else if came < text.len() {
-            1
-        } else {
-            2
-        };
-        assert_equal_at(until_failure, writer.len(), replies * 93)?;
+    for &(times, interruptions, replies, wanted) in &ASKED {
+        let (written, ended) = asked_patiently(rt.alloc(), text.as_slice(), times, interruptions);
+        assert_equal_at(
+            (times, interruptions),
+            (written.len(), ended),
+            (replies * 93, wanted),
+        )?;
     }
     Ok(())
 }
 
+// Requests, and the replies to them.
+type Exchanged = (Vec<u8>, Vec<u8>);
+
+fn two_exchanges(alloc: Global) -> Result<Exchanged, Fail> {
+    let text = repeated_counts(alloc, 2)?;
+    let (whole, _) = served(alloc, false, text.as_slice())?;
+    Ok((text, whole))
+}
+
+// All reads after so many fail, and each request that came whole has its reply.
+fn assert_read_failed(alloc: Global, both: &Exchanged, until_failure: u32) -> Result<(), Fail> {
+    let (text, whole) = both;
+    let failures = Failures::after(until_failure, ErrorKind::ConnectionReset);
+    let mut reader = Pieces::new(text.as_slice(), 7, failures);
+    let mut writer = Vec::new(alloc);
+    let ended = echoed(alloc, &mut reader, &mut writer);
+    assert_equal_at(until_failure, ended, Err(ConnFault::Read))?;
+    assert_equal_at(until_failure, whole.starts_with(writer.as_slice()), true)?;
+    let came = text.len().saturating_sub(reader.rest.len());
+    let replies = if came < text.len() / 2 {
+        0
+    } else if came < text.len() {
+        1
+    } else {
+        2
+    };
+    assert_equal_at(until_failure, writer.len(), replies * 93)
+}
+
+#[test]
+fn a_read_fails_at_each_place(rt: HostRuntime) -> Result<(), Fail> {
+    let both = two_exchanges(rt.alloc())?;
+    for until_failure in 0..=u32::try_from(both.0.len().div_ceil(7))? {
+        assert_read_failed(rt.alloc(), &both, until_failure)?;
+    }
+    Ok(())
+}
+
+// All writes after so many fail, and as many bytes are written as those take.
+fn assert_write_failed(alloc: Global, both: &Exchanged, until_failure: u32) -> Result<(), Fail> {
+    let (text, whole) = both;
+    let mut reader = text.as_slice();
+    let failures = Failures::after(until_failure, ErrorKind::BrokenPipe);
+    let mut writer = Slow::new(alloc, 7, usize::MAX, failures);
+    let ended = echoed(alloc, &mut reader, &mut writer);
+    assert_equal_at(until_failure, ended, Err(ConnFault::Write))?;
+    let taken = writer.taken.as_slice();
+    assert_equal_at(until_failure, whole.starts_with(taken), true)?;
+    // a reply of 93 bytes takes 14 writes
+    let count = until_failure as usize;
+    assert_equal_at(until_failure, taken.len(), count / 14 * 93 + count % 14 * 7)
+}
+
 #[test]
 fn a_write_fails_at_each_place(rt: HostRuntime) -> Result<(), Fail> {
-    let text = repeated_counts(rt.alloc(), 2)?;
-    let (whole, _) = served(rt.alloc(), false, text.as_slice())?;
-    // a reply of 93 bytes takes 14 writes
+    let both = two_exchanges(rt.alloc())?;
     for until_failure in 0..28u32 {
-        let mut reader = text.as_slice();
-        let failures = Failures::after(until_failure, ErrorKind::BrokenPipe);
-        let mut writer = Slow::new(rt.alloc(), 7, usize::MAX, failures);
-        let ended = echoed(rt.alloc(), &mut reader, &mut writer);
-        assert_equal_at(until_failure, ended, Err(ConnFault::Write))?;
-        let count = until_failure as usize;
-        let taken = count / 14 * 93 + count % 14 * 7;
-        assert!(rt;
-            whole.starts_with(writer.taken.as_slice()),
-            "{until_failure:?}"
-        );
-        assert_equal_at(until_failure, writer.taken.len(), taken)?;
+        assert_write_failed(rt.alloc(), &both, until_failure)?;
     }
     Ok(())
 }

@@ -1,15 +1,18 @@
 //! How long the desk waits, by clocks that tests set, and for a client that doesn't read.
-use super::echo::{Echo, counts, last_counts, repeated_counts, serve, served};
+use super::echo::{Echo, counts, last_counts, repeated_counts, served};
+use super::sockets::{
+    impatient, open_sender, received, reply_to_one, sender, serve_sockets, time_to_serve,
+};
 use super::tableless::{Answering, Tableless};
 use bureau::{Body, Call, Reply};
-use bureau_http::{Patience, Sockets};
+use bureau_http::Patience;
 use bureau_store::{Caller, StoreFault};
 use std::alloc::Global;
 use std::cell::Cell;
 use std::io::{self, Read, Write};
 use std::net::{Shutdown, TcpListener, TcpStream};
 use std::test::Fail;
-use std::time::{Clock, Duration, Instant};
+use std::time::{Clock, Duration};
 use testing::{Ticking, assert_equal, assert_equal_at};
 
 // A clock that stands still. At each look a client reads all that it gets. It closes its side once it sees its end.
@@ -106,57 +109,53 @@ fn long() -> Duration {
     Duration::from_secs(50)
 }
 
+// How long it takes to serve a client that sends this and reads nothing.
+fn time_unread(rt: &HostRuntime, text: &[u8], patience: Patience) -> Result<Duration, Fail> {
+    let listener = TcpListener::bind(rt, "127.0.0.1:0")?;
+    let _client = open_sender(rt, &listener, text)?;
+    let answering = Loud { alloc: rt.alloc() };
+    let mut desk = Tableless { answering };
+    time_to_serve(rt, &mut desk, &listener, rt, patience, 1)
+}
+
 #[test]
 fn a_client_that_does_not_read_is_left_when_patience_ends(rt: HostRuntime) -> Result<(), Fail> {
     // the replies to so many requests find no room on their way
     let text = repeated_counts(rt.alloc(), 20)?;
     for (each, whole) in [(short(), long()), (long(), short())] {
-        let listener = TcpListener::bind(&rt, "127.0.0.1:0")?;
-        let mut client = TcpStream::connect(&rt, listener.local_addr()?)?;
-        client.write_all(text.as_slice())?;
         let patience = Patience {
             each,
             whole,
             closing: short(),
         };
-        let answering = Loud { alloc: rt.alloc() };
-        let mut desk = Tableless { answering };
-        let begin = Instant::now(&rt)?;
-        let mut sockets = Sockets::new(&listener, &rt, patience);
-        serve(rt.alloc(), &mut desk, &mut sockets, 1);
-        let took = begin.elapsed(&rt)?;
+        let took = time_unread(&rt, text.as_slice(), patience)?;
         assert!(rt; took < Duration::from_secs(20), "{took:?}");
     }
     Ok(())
 }
 
+// What a client gets that asks once, where patience with its connection ends after so many seconds.
+fn received_within(rt: &HostRuntime, seconds: u64) -> Result<Vec<u8>, Fail> {
+    let listener = TcpListener::bind(rt, "127.0.0.1:0")?;
+    let mut client = sender(rt, &listener, counts(rt.alloc())?.as_slice())?;
+    let patience = Patience {
+        each: long(),
+        whole: Duration::from_secs(seconds),
+        closing: long(),
+    };
+    let clock = Ticking::new(1);
+    let mut desk = Echo::desk(rt.alloc());
+    serve_sockets(rt.alloc(), &mut desk, &listener, &clock, patience, 1);
+    received(rt.alloc(), &mut client)
+}
+
 #[test]
 fn patience_with_a_connection_ends_in_reads_and_writes(rt: HostRuntime) -> Result<(), Fail> {
-    let text = counts(rt.alloc())?;
-    let (written, _) = served(rt.alloc(), false, text.as_slice())?;
+    let reply = reply_to_one(rt.alloc())?;
     // a second passes until the first read, one more until the reply, and one more until the end is read
-    let rows: [(u64, &[u8]); 4] = [
-        (1, b""),
-        (2, b""),
-        (3, written.as_slice()),
-        (9, written.as_slice()),
-    ];
-    for (seconds, wanted) in rows {
-        let listener = TcpListener::bind(&rt, "127.0.0.1:0")?;
-        let mut client = TcpStream::connect(&rt, listener.local_addr()?)?;
-        client.write_all(text.as_slice())?;
-        client.shutdown(Shutdown::Write)?;
-        let patience = Patience {
-            each: long(),
-            whole: Duration::from_secs(seconds),
-            closing: long(),
-        };
-        let clock = Ticking::new(1);
-        let mut desk = Echo::desk(rt.alloc());
-        let mut sockets = Sockets::new(&listener, &clock, patience);
-        serve(rt.alloc(), &mut desk, &mut sockets, 1);
-        let mut got = Vec::new(rt.alloc());
-        client.read_to_end(&mut got)?;
+    for (seconds, is_replied) in [(1, false), (2, false), (3, true), (9, true)] {
+        let got = received_within(&rt, seconds)?;
+        let wanted = if is_replied { reply.as_slice() } else { b"" };
         assert_equal_at(seconds, got.as_slice(), wanted)?;
     }
     Ok(())
@@ -165,8 +164,7 @@ fn patience_with_a_connection_ends_in_reads_and_writes(rt: HostRuntime) -> Resul
 // How often the clock is looked at until a client is left that sends this, and then a byte each second.
 fn looks_at_a_client(rt: &HostRuntime, sent: &[u8]) -> Result<u64, Fail> {
     let listener = TcpListener::bind(rt, "127.0.0.1:0")?;
-    let mut client = TcpStream::connect(rt, listener.local_addr()?)?;
-    client.write_all(sent)?;
+    let client = open_sender(rt, &listener, sent)?;
     let dripping = Dripping {
         client: &client,
         clock: Ticking::new(1),
@@ -177,8 +175,7 @@ fn looks_at_a_client(rt: &HostRuntime, sent: &[u8]) -> Result<u64, Fail> {
         closing: Duration::from_secs(5),
     };
     let mut desk = Echo::desk(rt.alloc());
-    let mut sockets = Sockets::new(&listener, &dripping, patience);
-    serve(rt.alloc(), &mut desk, &mut sockets, 1);
+    serve_sockets(rt.alloc(), &mut desk, &listener, &dripping, patience, 1);
     Ok(dripping.clock.looks())
 }
 
@@ -199,17 +196,16 @@ fn patience_ends_with_a_client_that_sends_on(rt: HostRuntime) -> Result<(), Fail
     Ok(())
 }
 
-#[test]
-fn a_client_that_waits_for_its_end_sees_it(rt: HostRuntime) -> Result<(), Fail> {
-    let text = last_counts(rt.alloc())?;
-    let (written, _) = served(rt.alloc(), false, text.as_slice())?;
-    let listener = TcpListener::bind(&rt, "127.0.0.1:0")?;
-    let mut client = TcpStream::connect(&rt, listener.local_addr()?)?;
-    client.write_all(text.as_slice())?;
-    client.set_read_timeout(Some(short()))?;
+// How long it takes to serve a client that gets so many bytes, and then sees its end.
+fn time_to_see_end(
+    rt: &HostRuntime,
+    listener: &TcpListener,
+    client: &TcpStream,
+    length: usize,
+) -> Result<Duration, Fail> {
     // it closes its side after that, so that the desk doesn't wait on
     let clock = Watching {
-        client: &client,
+        client,
         got: Cell::new(0),
         saw_end: Cell::new(false),
     };
@@ -219,25 +215,36 @@ fn a_client_that_waits_for_its_end_sees_it(rt: HostRuntime) -> Result<(), Fail> 
         closing: long(),
     };
     let mut desk = Echo::desk(rt.alloc());
-    let begin = Instant::now(&rt)?;
-    let mut sockets = Sockets::new(&listener, &clock, patience);
-    serve(rt.alloc(), &mut desk, &mut sockets, 1);
-    let took = begin.elapsed(&rt)?;
-    assert!(rt; clock.saw_end.get());
-    assert_equal(clock.got.get(), written.len())?;
+    let took = time_to_serve(rt, &mut desk, listener, &clock, patience, 1)?;
+    assert_equal((clock.got.get(), clock.saw_end.get()), (length, true))?;
+    Ok(took)
+}
+
+#[test]
+fn a_client_that_waits_for_its_end_sees_it(rt: HostRuntime) -> Result<(), Fail> {
+    let text = last_counts(rt.alloc())?;
+    let (written, _) = served(rt.alloc(), false, text.as_slice())?;
+    let listener = TcpListener::bind(&rt, "127.0.0.1:0")?;
+    let client = open_sender(&rt, &listener, text.as_slice())?;
+    client.set_read_timeout(Some(short()))?;
+    let took = time_to_see_end(&rt, &listener, &client, written.len())?;
     assert!(rt; took < Duration::from_secs(20), "{took:?}");
     Ok(())
 }
 
 #[test]
 fn the_desk_pauses_where_it_can_accept_no_connection(rt: HostRuntime) -> Result<(), Fail> {
-    let listener = TcpListener::bind(&rt, "127.0.0.1:0")?;
-    // from now on an `accept` fails where nobody waits
-    listener.set_nonblocking(true)?;
+    let listener = impatient(&rt)?;
     let clock = Ticking::new(1);
     let mut desk = Echo::desk(rt.alloc());
-    let mut sockets = Sockets::new(&listener, &clock, Patience::usual());
-    serve(rt.alloc(), &mut desk, &mut sockets, 3);
+    serve_sockets(
+        rt.alloc(),
+        &mut desk,
+        &listener,
+        &clock,
+        Patience::usual(),
+        3,
+    );
     assert_equal(clock.paused(), 60)?;
     // patience with a client doesn't begin before it comes
     assert_equal(clock.looks(), 0)

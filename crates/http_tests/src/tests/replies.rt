@@ -87,26 +87,48 @@ static ROWS: [Row; 12] = [
     ),
 ];
 
+// No part of a request is answered.
+fn assert_no_part_answered(
+    rt: &impl Abort,
+    alloc: Global,
+    is_closed: bool,
+    text: &[u8],
+) -> Result<(), Fail> {
+    for cut in 1..text.len() {
+        let (written, ended) = served(alloc, is_closed, &text[..cut])?;
+        assert!(rt; written.is_empty(), "{:?}", (text, cut));
+        assert_equal_at((text, cut), ended, Err(ConnFault::EndInside))?;
+    }
+    Ok(())
+}
+
+// The request and the same once more are answered so, each.
+fn assert_answered_twice(
+    rt: &impl Abort,
+    alloc: Global,
+    is_closed: bool,
+    text: &[u8],
+    reply: &[u8],
+) -> Result<(), Fail> {
+    let mut both = Vec::from_slice(alloc, text)?;
+    both.extend_from_slice(text)?;
+    let (written, ended) = served(alloc, is_closed, both.as_slice())?;
+    assert!(rt;
+        written.starts_with(reply) && written.ends_with(reply),
+        "{text:?}"
+    );
+    assert_equal_at(text, (written.len(), ended), (2 * reply.len(), Ok(2)))
+}
+
 // The request is answered so, alone and before the same request, and no part of it is answered.
 fn assert_replied(rt: &impl Abort, alloc: Global, row: &Row) -> Result<(), Fail> {
     let (first, lines, body, is_closed, reply) = *row;
-    let mut text = request(alloc, first, lines, body)?;
-    for cut in 1..text.len() {
-        let (written, ended) = served(alloc, is_closed, &text[..cut])?;
-        assert!(rt; written.is_empty(), "{:?}", (first, cut));
-        assert_equal_at((first, cut), ended, Err(ConnFault::EndInside))?;
-    }
+    let text = request(alloc, first, lines, body)?;
+    assert_no_part_answered(rt, alloc, is_closed, text.as_slice())?;
     let (written, ended) = served(alloc, is_closed, text.as_slice())?;
     assert_equal_at(first, written.as_slice(), reply)?;
     assert_equal_at(first, ended, Ok(1))?;
-    let again = text.clone()?;
-    text.extend_from_slice(again.as_slice())?;
-    let (written, ended) = served(alloc, is_closed, text.as_slice())?;
-    assert!(rt;
-        written.starts_with(reply) && written.ends_with(reply),
-        "{first:?}"
-    );
-    assert_equal_at(first, (written.len(), ended), (2 * reply.len(), Ok(2)))
+    assert_answered_twice(rt, alloc, is_closed, text.as_slice(), reply)
 }
 
 #[test]

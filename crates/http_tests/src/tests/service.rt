@@ -3,13 +3,13 @@ use super::echo::{bureau_of, served_by};
 use super::listed::{Fails, Listed, Seen, Wanted};
 use bureau::Bureau;
 use bureau_http::serve_while_open;
-use bureau_store::{ListStore, StoreFault};
-use chains::Whole;
+use bureau_store::{ListStore, Store, StoreFault};
+use chains::{Judge, Whole};
 use failing_store::FailingStore;
 use std::alloc::Global;
 use std::process::Abort;
 use std::test::Fail;
-use testing::assert_equal;
+use testing::{assert_equal, assert_equal_at};
 
 const CALLERS: &[u8] = b"NAME,TOKEN\nPUBLISH,publisher-token\nALPHA,alpha-token\n";
 
@@ -53,16 +53,31 @@ fn is_visit(seen: &[Seen], sent: &[u8], written: &[u8]) -> bool {
     }
 }
 
-// How a service ends over a store of which so many calls are answered, and what was seen of its connections.
-fn ended(alloc: Global, left: u64) -> Result<(Result<(), StoreFault>, Vec<Seen>, ListStore), Fail> {
-    let (lists, _) = bureau_of(alloc, CALLERS)?.into_parts();
-    let mut bureau = Bureau::new(alloc, FailingStore::new(lists, left), Whole::new());
+// The connections that are sent.
+fn listed_sent(alloc: Global) -> Result<Listed, Fail> {
     let mut listed = Listed::new(alloc);
     for (sent, _) in SENT.iter().rev() {
         listed.add(sent, Fails::Nothing)?;
     }
-    let ended = serve_while_open(alloc, &mut bureau, &mut listed, 3);
+    Ok(listed)
+}
+
+// How a service of this bureau ends, and what was seen of its connections.
+fn served_while_open<S: Store, J: Judge<S>>(
+    alloc: Global,
+    bureau: &mut Bureau<S, J>,
+) -> Result<(Result<(), StoreFault>, Vec<Seen>), Fail> {
+    let mut listed = listed_sent(alloc)?;
+    let ended = serve_while_open(alloc, bureau, &mut listed, 3);
     let seen = listed.seen.take().ok_or("no memory")?;
+    Ok((ended, seen))
+}
+
+// The same over a store of which so many calls are answered, and the store.
+fn ended(alloc: Global, left: u64) -> Result<(Result<(), StoreFault>, Vec<Seen>, ListStore), Fail> {
+    let (lists, _) = bureau_of(alloc, CALLERS)?.into_parts();
+    let mut bureau = Bureau::new(alloc, FailingStore::new(lists, left), Whole::new());
+    let (ended, seen) = served_while_open(alloc, &mut bureau)?;
     let (store, _) = bureau.into_parts();
     Ok((ended, seen, store.lists))
 }
@@ -86,24 +101,49 @@ fn assert_accepted(alloc: Global, lists: ListStore, sent: &Sent) -> Result<(), F
     assert_equal(written.as_slice(), both.as_slice())
 }
 
+// These connections, which are the first, were served to their end.
+fn assert_served(rt: &impl Abort, alloc: Global, seen: &[Seen], left: u64) -> Result<(), Fail> {
+    for (index, sent) in SENT.iter().enumerate() {
+        let Some(visit) = seen.get(2 * index..2 * index + 2) else {
+            break;
+        };
+        let both = replies(alloc, sent.1, ZONES)?;
+        assert!(rt; is_visit(visit, sent.0, &both), "{:?}", (left, index));
+    }
+    Ok(())
+}
+
+// The service ended in one of its connections. In which one.
+fn assert_failed(
+    rt: &impl Abort,
+    alloc: Global,
+    seen: &[Seen],
+    left: u64,
+) -> Result<(usize, &'static Sent), Fail> {
+    let (before, last) = seen.split_at(seen.len().saturating_sub(2));
+    assert_served(rt, alloc, before, left)?;
+    let index = before.len() / 2;
+    let sent = SENT.get(index).ok_or("a connection that was sent")?;
+    assert_closed(rt, alloc, last, sent)?;
+    Ok((index, sent))
+}
+
+// The service ended after all of its connections.
+fn assert_all_served(rt: &impl Abort, alloc: Global, seen: &[Seen], left: u64) -> Result<(), Fail> {
+    assert_equal_at(left, seen.len(), 6)?;
+    assert_served(rt, alloc, seen, left)
+}
+
 // The service ends in one of its connections, or after all of them where no call fails. In which connection, if in one.
 fn assert_ended(rt: &impl Abort, alloc: Global, left: u64) -> Result<Option<usize>, Fail> {
     let (ended, seen, lists) = ended(alloc, left)?;
-    let count = seen.len() / 2;
-    for (place, sent) in SENT.iter().enumerate() {
-        let Some(visit) = seen.get(2 * place..2 * place + 2) else {
-            break;
-        };
-        if ended.is_err() && place + 1 == count {
-            assert_closed(rt, alloc, visit, sent)?;
-            assert_accepted(alloc, lists, sent)?;
-            return Ok(Some(place));
-        }
-        let both = replies(alloc, sent.1, ZONES)?;
-        assert!(rt; is_visit(visit, sent.0, &both), "{:?}", (left, place));
+    if ended.is_ok() {
+        assert_all_served(rt, alloc, &seen, left)?;
+        return Ok(None);
     }
-    assert!(rt; ended.is_ok() && seen.len() == 6, "{left:?}");
-    Ok(None)
+    let (index, sent) = assert_failed(rt, alloc, &seen, left)?;
+    assert_accepted(alloc, lists, sent)?;
+    Ok(Some(index))
 }
 
 #[test]

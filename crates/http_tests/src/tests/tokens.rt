@@ -1,7 +1,9 @@
 //! Callers by their tokens, and a change whose reply was lost.
 use super::echo::{bureau_of, request, served_by};
-use bureau_http::{ConnFault, replay};
+use bureau_http::{ConnFault, Desk, replay};
+use std::alloc::Global;
 use std::io::{self, ErrorKind, Write};
+use std::process::Abort;
 use std::test::Fail;
 use testing::assert_equal;
 
@@ -25,13 +27,19 @@ static TOKENS: [(&[u8], &[u8]); 7] = [
 
 #[test]
 fn a_token_is_compared_whole(rt: HostRuntime) -> Result<(), Fail> {
-    for (token, status) in &TOKENS {
-        let mut connections = Vec::new(rt.alloc());
-        connections.push(request(rt.alloc(), b"GET /zones", token, b"")?)?;
-        match replay(rt.alloc(), CALLERS, connections) {
-            Ok(written) => assert!(rt; written[0].starts_with(status), "{token:?}"),
-            Err(_) => return Err("no memory".into()),
-        }
+    for &(token, status) in &TOKENS {
+        assert_status(&rt, rt.alloc(), token, status)?;
+    }
+    Ok(())
+}
+
+// The reply to a request with this token begins so.
+fn assert_status(rt: &impl Abort, alloc: Global, token: &[u8], status: &[u8]) -> Result<(), Fail> {
+    let mut connections = Vec::new(alloc);
+    connections.push(request(alloc, b"GET /zones", token, b"")?)?;
+    match replay(alloc, CALLERS, connections) {
+        Ok(written) => assert!(rt; written[0].starts_with(status), "{token:?}"),
+        Err(_) => return Err("no memory".into()),
     }
     Ok(())
 }
@@ -50,29 +58,39 @@ impl Write for Closed {
     }
 }
 
-#[test]
-fn a_change_whose_reply_was_lost_counts_as_made(rt: HostRuntime) -> Result<(), Fail> {
-    let mut bureau = bureau_of(rt.alloc(), CALLERS)?;
+// A change is sent whose reply can't be written.
+fn assert_lost<D: Desk>(alloc: Global, desk: &mut D) -> Result<(), Fail> {
     let put = request(
-        rt.alloc(),
+        alloc,
         b"PUT /zones/TGT1",
         b"bureau-token: alpha-token\r\nbureau-number: 1\r\ncontent-length: 45\r\n",
         b"SYSMOD,STATE\nHBB7790,APPLIED\nUA10001,APPLIED\n",
     )?;
     let mut reader = put.as_slice();
-    let lost = served_by(rt.alloc(), &mut bureau, &mut reader, &mut Closed);
-    assert_equal(lost, Err(ConnFault::Write))?;
+    let lost = served_by(alloc, desk, &mut reader, &mut Closed);
+    assert_equal(lost, Err(ConnFault::Write))
+}
+
+// The change is sent once more, without its body, and has the reply that was lost.
+fn assert_made<D: Desk>(rt: &impl Abort, alloc: Global, desk: &mut D) -> Result<(), Fail> {
     let again = request(
-        rt.alloc(),
+        alloc,
         b"PUT /zones/TGT1",
         b"bureau-token: alpha-token\r\nbureau-number: 1\r\ncontent-length: 0\r\n",
         b"",
     )?;
     let mut reader = again.as_slice();
-    let mut written = Vec::new(rt.alloc());
-    let told = served_by(rt.alloc(), &mut bureau, &mut reader, &mut written);
+    let mut written = Vec::new(alloc);
+    let told = served_by(alloc, desk, &mut reader, &mut written);
     assert_equal(told, Ok(1))?;
     assert!(rt; written.starts_with(FOUND));
     assert!(rt; written.ends_with(b"\r\n\r\nZONE TGT1 ROWS 2\n"));
     Ok(())
+}
+
+#[test]
+fn a_change_whose_reply_was_lost_counts_as_made(rt: HostRuntime) -> Result<(), Fail> {
+    let mut bureau = bureau_of(rt.alloc(), CALLERS)?;
+    assert_lost(rt.alloc(), &mut bureau)?;
+    assert_made(&rt, rt.alloc(), &mut bureau)
 }
