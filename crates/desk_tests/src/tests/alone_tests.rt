@@ -16,13 +16,13 @@ use mcs_reader::Id;
 use std::alloc::Global;
 use std::str;
 use std::test::Fail;
-use testing::{BASE, Draws, assert_equal};
+use testing::{BASE, Draws, assert_equal, assert_equal_at};
 
 const CALLS: u32 = 4_000;
 
 // Publications. What a SYSMOD requires where a second function is installed comes, and goes with the next
 // record of that SYSMOD. What is required is one for that function, and is held and released.
-const PUBLICATIONS: [&[u8]; 8] = [
+static PUBLICATIONS: [&[u8]; 8] = [
     BASE,
     SUPERSEDING,
     b"++PTF(UA10005).\n++VER(Z038) FMID(HBB7790) SUP(UA10002).\n++IF FMID(HXX0001) REQ(UA10021).\n",
@@ -36,7 +36,7 @@ const PUBLICATIONS: [&[u8]; 8] = [
 ++RELEASE(UA10021) ERROR FMID(HXX0001) REASON(AA30004).\n",
 ];
 
-const ZONE_BODIES: [&[u8]; 8] = [
+static ZONE_BODIES: [&[u8]; 8] = [
     BOTH,
     FUNCTION,
     b"SYSMOD,STATE\nHBB7790,APPLIED\nUA10001,ACCEPTED\nUA10002,APPLIED\n",
@@ -47,14 +47,14 @@ const ZONE_BODIES: [&[u8]; 8] = [
     b"SYSMOD,STATE\nHBB7790,APPLIED\nHXX0001,APPLIED\nUA10021,ACCEPTED\n",
 ];
 
-const RECEIVED: [&[u8]; 4] = [
+static RECEIVED: [&[u8]; 4] = [
     b"SYSMOD\nUA10002\n",
     b"SYSMOD\nUA10005\nUA10002\n",
     b"SYSMOD\n",
     b"SYSMOD,STATE\n",
 ];
 
-const PATTERNS: [&[u8]; 4] = [
+static PATTERNS: [&[u8]; 4] = [
     b"CATEGORY\n*\n",
     b"CATEGORY\nIBM.Device\n",
     b"CATEGORY\n",
@@ -121,8 +121,8 @@ impl Drawn {
 
     // The drawn one of these, which are 4 or 8.
     fn body_of(&self, bodies: &[&'static [u8]]) -> &'static [u8] {
-        let place = self.body.checked_rem(bodies.len()).unwrap_or(0);
-        bodies.get(place).copied().unwrap_or(b"")
+        let index = self.body.checked_rem(bodies.len()).unwrap_or(0);
+        bodies.get(index).copied().unwrap_or(b"")
     }
 
     fn is_change(&self) -> bool {
@@ -139,6 +139,53 @@ fn token_of(caller: usize) -> &'static [u8] {
     }
 }
 
+static ZONES: [&[u8]; 2] = [b"TGT1", b"TGT2"];
+
+static SYSMODS: [&[u8]; 3] = [b"UA10001", b"UA10002", b"UA10020"];
+
+fn drawn_id(draws: &mut Draws, texts: &[&[u8]]) -> Checked<Id> {
+    let count = u32::try_from(texts.len()).ok().ok_or("few ids")?;
+    let index = draws.below(count) as usize;
+    id(texts.get(index).ok_or("an id")?)
+}
+
+// A call is drawn. The callers' last accepted changes have these numbers.
+fn drawn_call(draws: &mut Draws, last: &[u64; 4]) -> Checked<Drawn> {
+    let caller = draws.below(4) as usize;
+    let kind = draws.below(11);
+    let number = drawn_number(draws, last.get(caller).copied().unwrap_or(0));
+    Ok(Drawn {
+        caller,
+        kind,
+        number,
+        zone: drawn_id(draws, &ZONES)?,
+        sysmod: drawn_id(draws, &SYSMODS)?,
+        body: draws.below(8) as usize,
+    })
+}
+
+// A drawn call is answered.
+fn answered<S: Store, J: Judge<S>>(
+    bureau: &mut Bureau<S, J>,
+    drawn: &Drawn,
+) -> Result<Reply, Fail> {
+    asked(bureau, token_of(drawn.caller), &drawn.call())
+}
+
+// A drawn call of all callers, with what it was answered.
+fn next_of_all<S: Store, J: Judge<S>>(
+    bureau: &mut Bureau<S, J>,
+    draws: &mut Draws,
+    last: &mut [u64; 4],
+) -> Result<(Drawn, Reply), Fail> {
+    let drawn = drawn_call(draws, last)?;
+    let reply = answered(bureau, &drawn)?;
+    if let Some(last) = last.get_mut(drawn.caller) {
+        *last = last_after(*last, &drawn, &reply);
+    }
+    Ok((drawn, reply))
+}
+
 // Drawn calls of all callers, with what each was answered.
 fn run_of_all<S: Store, J: Judge<S>>(
     alloc: Global,
@@ -147,31 +194,10 @@ fn run_of_all<S: Store, J: Judge<S>>(
     let mut draws = Draws::new(20_261_122);
     let mut last = [0u64; 4];
     let mut all = Vec::new(alloc);
-    let zones = [id(b"TGT1")?, id(b"TGT2")?];
-    let sysmods = [id(b"UA10001")?, id(b"UA10002")?, id(b"UA10020")?];
     for _ in 0..CALLS {
-        let caller = draws.below(4) as usize;
-        let drawn = Drawn {
-            caller,
-            kind: draws.below(11),
-            number: drawn_number(&mut draws, last.get(caller).copied().unwrap_or(0)),
-            zone: drawn_of(&mut draws, &zones)?,
-            sysmod: drawn_of(&mut draws, &sysmods)?,
-            body: draws.below(8) as usize,
-        };
-        let reply = asked(bureau, token_of(caller), &drawn.call())?;
-        if let Some(last) = last.get_mut(caller) {
-            *last = last_after(*last, &drawn, &reply);
-        }
-        all.push((drawn, reply))?;
+        all.push(next_of_all(bureau, &mut draws, &mut last)?)?;
     }
     Ok(all)
-}
-
-fn drawn_of(draws: &mut Draws, ids: &[Id]) -> Checked<Id> {
-    let count = u32::try_from(ids.len()).ok().ok_or("few ids")?;
-    let place = draws.below(count) as usize;
-    ids.get(place).copied().ok_or("an id")
 }
 
 // The number of a caller's last accepted change.
@@ -196,7 +222,7 @@ fn assert_same<S: Store, J: Judge<S>>(
     drawn: &Drawn,
     reply: &Reply,
 ) -> Result<(), Fail> {
-    let given = asked(bureau, token_of(drawn.caller), &drawn.call())?;
+    let given = answered(bureau, drawn)?;
     assert_equal(
         str::from_utf8(given.body.as_slice()),
         str::from_utf8(reply.body.as_slice()),
@@ -233,6 +259,11 @@ impl Trial for OverEachJudge {
     }
 }
 
+fn assert_alone<P: Place>(bench: &mut Bench<P>, calls: &Calls) -> Result<(), Fail> {
+    let judge = bench.cache(2)?;
+    bench.assert_script_by(judge, calls)
+}
+
 /// Each caller is answered the same where the publisher and it alone ask.
 pub(crate) struct Alone;
 
@@ -240,8 +271,7 @@ impl Trial for Alone {
     fn assert_in<P: Place>(&self, bench: &mut Bench<P>) -> Result<(), Fail> {
         for caller in 0..4usize {
             let (all, only) = (all_drawn(bench.alloc)?, Some(caller));
-            let judge = bench.cache(2)?;
-            bench.assert_script_by(judge, &Calls { all, only })?;
+            assert_alone(bench, &Calls { all, only })?;
         }
         Ok(())
     }
@@ -255,14 +285,14 @@ fn is_told(reply: &Reply, text: &str) -> bool {
     }
 }
 
+static STATUSES: [u16; 5] = [200, 400, 404, 409, 422];
+
 #[test]
 fn each_status_is_drawn(rt: HostRuntime) -> Result<(), Fail> {
     let all = all_drawn(rt.alloc())?;
-    for status in [200u16, 400, 404, 409, 422] {
-        assert!(rt;
-            all.iter().any(|one| one.1.status == status),
-            "{status} is never answered"
-        );
+    for status in &STATUSES {
+        let is_drawn = all.iter().any(|one| one.1.status == *status);
+        assert_equal_at(status, is_drawn, true)?;
     }
     Ok(())
 }
@@ -270,15 +300,19 @@ fn each_status_is_drawn(rt: HostRuntime) -> Result<(), Fail> {
 // Where the second function is installed, chains are asked for while what is required can be installed, while it
 // can't, and while nothing is required; and a report in which UA10005 is held, which needs nothing but under a
 // condition.
+static TOLD: [&str; 4] = [
+    WITH_REQUIRED,
+    BLOCKED,
+    ALONE_IN_TGT2,
+    "HBB7790  UA10001  AA20002  UA10005  HELD   NO       PE\n",
+];
+
 #[test]
 fn each_condition_is_drawn(rt: HostRuntime) -> Result<(), Fail> {
     let all = all_drawn(rt.alloc())?;
-    let held = "HBB7790  UA10001  AA20002  UA10005  HELD   NO       PE\n";
-    for text in [WITH_REQUIRED, BLOCKED, ALONE_IN_TGT2, held] {
-        assert!(rt;
-            all.iter().any(|one| is_told(&one.1, text)),
-            "never told: {text}"
-        );
+    for text in &TOLD {
+        let is_drawn = all.iter().any(|one| is_told(&one.1, text));
+        assert_equal_at(text, is_drawn, true)?;
     }
     Ok(())
 }

@@ -1,9 +1,11 @@
 //! What callers ask, and what each is told.
+ghost use Rattle.std.specs.Prelude.{IfOk};
+ghost use Rattle.bureau_store.specs.Caller.{IsProper};
+
 use bureau::{Bureau, Call, Reply};
-use bureau_store::Store;
+use bureau_store::{Caller, Store};
 use chains::Judge;
 use mcs_reader::Id;
-use std::alloc::Global;
 use std::str;
 use std::test::Fail;
 use testing::{assert_equal, assert_equal_at};
@@ -36,7 +38,43 @@ pub(crate) const FUNCTION: &[u8] = b"SYSMOD,STATE\nHBB7790,APPLIED\n";
 pub(crate) type Checked<T> = Result<T, &'static str>;
 
 /// A question or a change, who asks it by which token, and the status and the body of the answer.
-pub(crate) type Row = (&'static [u8], Call<'static>, u16, &'static str);
+pub(crate) type Row = (&'static [u8], Ask, u16, &'static str);
+
+/// A call whose zone and SYSMOD are text, so that rows are tables of literals. A change has its number first.
+#[derive(Clone, Copy)]
+pub(crate) enum Ask {
+    Publish(u64, &'static [u8]),
+    PutZone(u64, &'static [u8], &'static [u8]),
+    DropZone(u64, &'static [u8]),
+    /// The same, without a number.
+    DropZoneUnnumbered(&'static [u8]),
+    PutReceived(u64, &'static [u8]),
+    PutPatterns(u64, &'static [u8], &'static [u8]),
+    ListZones,
+    ErrSysmods(&'static [u8]),
+    MissingFix(&'static [u8]),
+    Chain(&'static [u8], &'static [u8]),
+    Counts,
+}
+
+impl Ask {
+    /// The call, or `None` where a text is no id.
+    pub(crate) fn call(&self) -> Option<Call<'_>> {
+        Some(match *self {
+            Ask::Publish(number, body) => publish(number, body),
+            Ask::PutZone(number, zone, body) => put_zone(number, Id::new(zone)?, body),
+            Ask::DropZone(number, zone) => drop_zone(Some(number), Id::new(zone)?),
+            Ask::DropZoneUnnumbered(zone) => drop_zone(None, Id::new(zone)?),
+            Ask::PutReceived(number, body) => put_received(number, body),
+            Ask::PutPatterns(number, zone, body) => put_patterns(number, Id::new(zone)?, body),
+            Ask::ListZones => Call::ListZones,
+            Ask::ErrSysmods(zone) => report(Id::new(zone)?),
+            Ask::MissingFix(zone) => missing(Id::new(zone)?),
+            Ask::Chain(zone, sysmod) => chain(Id::new(zone)?, Id::new(sysmod)?),
+            Ask::Counts => Call::Counts,
+        })
+    }
+}
 
 pub(crate) fn id(text: &[u8]) -> Checked<Id> {
     Id::new(text).ok_or("an id")
@@ -57,21 +95,18 @@ pub(crate) fn put_zone(number: u64, zone: Id, body: &[u8]) -> Call<'_> {
     }
 }
 
-pub(crate) fn drop_zone(number: u64, zone: Id) -> Call<'static> {
-    Call::DropZone {
-        number: Some(number),
-        zone,
-    }
+fn drop_zone(number: Option<u64>, zone: Id) -> Call<'static> {
+    Call::DropZone { number, zone }
 }
 
-pub(crate) fn put_received(number: u64, body: &[u8]) -> Call<'_> {
+fn put_received(number: u64, body: &[u8]) -> Call<'_> {
     Call::PutReceived {
         number: Some(number),
         body,
     }
 }
 
-pub(crate) fn put_patterns(number: u64, zone: Id, body: &[u8]) -> Call<'_> {
+fn put_patterns(number: u64, zone: Id, body: &[u8]) -> Call<'_> {
     Call::PutPatterns {
         number: Some(number),
         zone,
@@ -83,7 +118,7 @@ pub(crate) fn report(zone: Id) -> Call<'static> {
     Call::ErrSysmods { zone }
 }
 
-pub(crate) fn missing(zone: Id) -> Call<'static> {
+fn missing(zone: Id) -> Call<'static> {
     Call::MissingFix { zone }
 }
 
@@ -91,11 +126,14 @@ pub(crate) fn chain(zone: Id, sysmod: Id) -> Call<'static> {
     Call::Chain { zone, sysmod }
 }
 
-/// The rows of both, one after the other.
-pub(crate) fn joined(alloc: Global, first: &[Row], then: &[Row]) -> Checked<Vec<Row>> {
-    let mut rows = Vec::from_slice(alloc, first).ok().ok_or("memory")?;
-    rows.extend_from_slice(then).ok().ok_or("memory")?;
-    Ok(rows)
+/// The caller with this token.
+pub(crate) fn caller_with<S: Store, J: Judge<S>>(
+    bureau: &mut Bureau<S, J>,
+    token: &[u8],
+) -> Result<Caller, Fail>
+    ensures { IfOk result IsProper }
+{
+    Ok(bureau.caller_of(token)?.ok_or("a caller")?)
 }
 
 /// What the caller with this token is answered.
@@ -104,8 +142,21 @@ pub(crate) fn asked<S: Store, J: Judge<S>>(
     token: &[u8],
     call: &Call<'_>,
 ) -> Result<Reply, Fail> {
-    let caller = bureau.caller_of(token)?.ok_or("a caller")?;
+    let caller = caller_with(bureau, token)?;
     Ok(bureau.answer(&caller, call))
+}
+
+/// The row is answered as it says.
+pub(crate) fn assert_row<S: Store, J: Judge<S>>(
+    bureau: &mut Bureau<S, J>,
+    row: &Row,
+) -> Result<(), Fail> {
+    let (token, ask, status, text) = row;
+    let Some(call) = ask.call() else {
+        return Err("an id".into());
+    };
+    let reply = asked(bureau, token, &call)?;
+    assert_told(&reply, *status, text)
 }
 
 /// A reply has this status and this body, which is told to be JSON where it is.
@@ -121,9 +172,19 @@ pub(crate) trait Script {
     fn assert_answers<S: Store, J: Judge<S>>(&self, bureau: &mut Bureau<S, J>) -> Result<(), Fail>;
 }
 
-impl Script for Vec<Row> {
+/// Rows in parts, which are asked one after the other.
+pub(crate) type Parts<'a> = &'a [&'static [Row]];
+
+/// Parts of rows as a script.
+#[derive(Clone, Copy)]
+pub(crate) struct Rows<'a>(pub(crate) Parts<'a>);
+
+impl Script for Rows<'_> {
     fn assert_answers<S: Store, J: Judge<S>>(&self, bureau: &mut Bureau<S, J>) -> Result<(), Fail> {
-        assert_rows(bureau, self.as_slice())
+        for rows in self.0 {
+            assert_rows(bureau, rows)?;
+        }
+        Ok(())
     }
 }
 
@@ -132,9 +193,8 @@ pub(crate) fn assert_rows<S: Store, J: Judge<S>>(
     bureau: &mut Bureau<S, J>,
     rows: &[Row],
 ) -> Result<(), Fail> {
-    for (token, call, status, text) in rows {
-        let reply = asked(bureau, token, call)?;
-        assert_told(&reply, *status, text)?;
+    for row in rows {
+        assert_row(bureau, row)?;
     }
     Ok(())
 }

@@ -1,8 +1,8 @@
 //! A cache of frames that all callers share, over each store: how many frames were built shows that it keeps
 //! them.
 use super::asked::{
-    ALPHA, BASE_ACCEPTED, BETA, BOTH, Checked, FUNCTION, PUBLISHER, Row, asked, assert_rows,
-    assert_told, chain, id, publish, put_zone, report,
+    ALPHA, Ask, BASE_ACCEPTED, BETA, BOTH, Checked, FUNCTION, PUBLISHER, Row, assert_row,
+    assert_rows, assert_told, publish,
 };
 use super::conditional::{
     ALONE_IN_TGT1, ALONE_IN_TGT2, BOTH_FUNCTIONS, REQUIRED, REQUIRING, REQUIRING_NOTHING,
@@ -12,12 +12,12 @@ use super::desks::Bench;
 use super::stores::{Lists, Place};
 use super::trial::Trial;
 use super::verdicts::{HOLD_ACCEPTED, RESTART, RESTART_PLAN};
-use super::worked::{ONE_ACCEPTED, SUPERSEDING, run_of_three};
-use bureau::{Bureau, Call};
+use super::worked::{GOING_ON, ONE_ACCEPTED, SUPERSEDING, TWO_ZONES};
+use bureau::Bureau;
 use bureau_store::{Caller, Store};
 use chain_cache::ChainCache;
 use failing_store::FailingStore;
-use mcs_reader::Id;
+use std::alloc::Global;
 use std::hash::RandomState;
 use std::test::Fail;
 use testing::{
@@ -50,12 +50,11 @@ fn with_room<P: Place>(
 }
 
 // Who asks what, what is answered, and how many frames were built until then.
-type Built = (&'static [u8], Call<'static>, &'static str, u64);
+type Built = (&'static [u8], Ask, &'static str, u64);
 
 fn assert_built<S: Store>(bureau: &mut Bureau<S, ChainCache>, rows: &[Built]) -> Result<(), Fail> {
-    for (token, call, text, built) in rows {
-        let reply = asked(bureau, token, call)?;
-        assert_told(&reply, 200, text)?;
+    for (token, ask, text, built) in rows {
+        assert_row(bureau, &(*token, *ask, 200, *text))?;
         assert_equal_at(text, bureau.judge().built(), *built)?;
     }
     Ok(())
@@ -63,17 +62,33 @@ fn assert_built<S: Store>(bureau: &mut Bureau<S, ChainCache>, rows: &[Built]) ->
 
 // Two publications, of which the second supersedes what the first gives, a zone of ALPHA, and a chain whose
 // frame is kept from then on.
+static FRAMED: [Built; 4] = [
+    (PUBLISHER, Ask::Publish(1, BASE), BASE_ACCEPTED, 0),
+    (PUBLISHER, Ask::Publish(2, SUPERSEDING), ONE_ACCEPTED, 0),
+    (ALPHA, Ask::PutZone(1, b"TGT1", BOTH), TWO_ROWS, 0),
+    (ALPHA, Ask::Chain(b"TGT1", b"UA10002"), SHORT_PLAN, 1),
+];
+
 fn with_frame<P: Place>(bench: &mut Bench<P>) -> Result<Bureau<P::Kept, ChainCache>, Fail> {
     let mut bureau = with_room(bench, 16)?;
-    let (zone, sysmod) = (id(b"TGT1")?, id(b"UA10002")?);
-    let rows: [Built; 4] = [
-        (PUBLISHER, publish(1, BASE), BASE_ACCEPTED, 0),
-        (PUBLISHER, publish(2, SUPERSEDING), ONE_ACCEPTED, 0),
-        (ALPHA, put_zone(1, zone, BOTH), TWO_ROWS, 0),
-        (ALPHA, chain(zone, sysmod), SHORT_PLAN, 1),
-    ];
-    assert_built(&mut bureau, &rows)?;
+    assert_built(&mut bureau, &FRAMED)?;
     Ok(bureau)
+}
+
+#[rattlefmt::skip]
+static OF_TWO_CLIENTS: [Built; 6] = [
+    (PUBLISHER, Ask::Publish(1, BASE), BASE_ACCEPTED, 0),
+    (ALPHA, Ask::PutZone(1, b"TGT1", BOTH), TWO_ROWS, 0),
+    (BETA, Ask::PutZone(1, b"TGT1", FUNCTION), "ZONE TGT1 ROWS 1\n", 0),
+    (ALPHA, Ask::Chain(b"TGT1", b"UA10002"), SHORT_PLAN, 1),
+    (BETA, Ask::Chain(b"TGT1", b"UA10002"), LONG_PLAN, 1),
+    (ALPHA, Ask::Chain(b"TGT1", b"UA10002"), SHORT_PLAN, 1),
+];
+
+fn assert_run_of_three<S: Store>(bureau: &mut Bureau<S, ChainCache>) -> Result<(), Fail> {
+    assert_rows(bureau, &TWO_ZONES)?;
+    assert_rows(bureau, &GOING_ON)?;
+    assert_equal(bureau.judge().built(), 3)
 }
 
 /// Clients share a frame, and a run of three callers builds three.
@@ -81,48 +96,36 @@ pub(crate) struct Shared;
 
 impl Trial for Shared {
     fn assert_in<P: Place>(&self, bench: &mut Bench<P>) -> Result<(), Fail> {
-        let (zone, sysmod) = (id(b"TGT1")?, id(b"UA10002")?);
-        let rows: [Built; 6] = [
-            (PUBLISHER, publish(1, BASE), BASE_ACCEPTED, 0),
-            (ALPHA, put_zone(1, zone, BOTH), TWO_ROWS, 0),
-            (BETA, put_zone(1, zone, FUNCTION), "ZONE TGT1 ROWS 1\n", 0),
-            (ALPHA, chain(zone, sysmod), SHORT_PLAN, 1),
-            (BETA, chain(zone, sysmod), LONG_PLAN, 1),
-            (ALPHA, chain(zone, sysmod), SHORT_PLAN, 1),
-        ];
-        assert_built(&mut with_room(bench, 1)?, &rows)?;
-        let mut bureau = with_room(bench, 16)?;
-        assert_rows(&mut bureau, run_of_three(bench.alloc)?.as_slice())?;
-        assert_equal(bureau.judge().built(), 3)
+        assert_built(&mut with_room(bench, 1)?, &OF_TWO_CLIENTS)?;
+        assert_run_of_three(&mut with_room(bench, 16)?)
     }
 }
 
 // A publication that has nothing to do with a kept frame, and then one that touches it.
-fn apart(zone: Id, sysmod: Id) -> [Built; 5] {
-    [
-        (PUBLISHER, publish(3, APART), ONE_ACCEPTED, 1),
-        (ALPHA, chain(zone, sysmod), SHORT_PLAN, 1),
-        (PUBLISHER, publish(4, THIRD), ONE_ACCEPTED, 1),
-        (ALPHA, chain(zone, sysmod), SHORT_PLAN, 2),
-        (ALPHA, report(zone), THREE_RESOLVERS, 4),
-    ]
-}
+static APART_FIRST: [Built; 5] = [
+    (PUBLISHER, Ask::Publish(3, APART), ONE_ACCEPTED, 1),
+    (ALPHA, Ask::Chain(b"TGT1", b"UA10002"), SHORT_PLAN, 1),
+    (PUBLISHER, Ask::Publish(4, THIRD), ONE_ACCEPTED, 1),
+    (ALPHA, Ask::Chain(b"TGT1", b"UA10002"), SHORT_PLAN, 2),
+    (ALPHA, Ask::ErrSysmods(b"TGT1"), THREE_RESOLVERS, 4),
+];
 
 // A hold that the installer has to heed touches no frame.
-fn restart(zone: Id, sysmod: Id) -> [Built; 2] {
-    [
-        (PUBLISHER, publish(3, RESTART), HOLD_ACCEPTED, 1),
-        (ALPHA, chain(zone, sysmod), RESTART_PLAN, 1),
-    ]
-}
+static RESTARTED: [Built; 2] = [
+    (PUBLISHER, Ask::Publish(3, RESTART), HOLD_ACCEPTED, 1),
+    (ALPHA, Ask::Chain(b"TGT1", b"UA10002"), RESTART_PLAN, 1),
+];
 
 // What gave the SYSMOD of the frame gives it no longer.
-fn no_giver(zone: Id, sysmod: Id) -> [Built; 3] {
-    [
-        (PUBLISHER, publish(3, NO_GIVER), ONE_ACCEPTED, 1),
-        (ALPHA, chain(zone, sysmod), SHORT_PLAN, 2),
-        (ALPHA, report(zone), ONE_RESOLVER, 2),
-    ]
+static WITHOUT_GIVER: [Built; 3] = [
+    (PUBLISHER, Ask::Publish(3, NO_GIVER), ONE_ACCEPTED, 1),
+    (ALPHA, Ask::Chain(b"TGT1", b"UA10002"), SHORT_PLAN, 2),
+    (ALPHA, Ask::ErrSysmods(b"TGT1"), ONE_RESOLVER, 2),
+];
+
+// The rows are answered as they say where a frame was kept before.
+fn assert_after_frame<P: Place>(bench: &mut Bench<P>, rows: &[Built]) -> Result<(), Fail> {
+    assert_built(&mut with_frame(bench)?, rows)
 }
 
 /// A publication drops the frames that it touches, and no others.
@@ -130,12 +133,24 @@ pub(crate) struct Dropped;
 
 impl Trial for Dropped {
     fn assert_in<P: Place>(&self, bench: &mut Bench<P>) -> Result<(), Fail> {
-        let (zone, sysmod) = (id(b"TGT1")?, id(b"UA10002")?);
-        assert_built(&mut with_frame(bench)?, &apart(zone, sysmod))?;
-        assert_built(&mut with_frame(bench)?, &restart(zone, sysmod))?;
-        assert_built(&mut with_frame(bench)?, &no_giver(zone, sysmod))
+        assert_after_frame(bench, &APART_FIRST)?;
+        assert_after_frame(bench, &RESTARTED)?;
+        assert_after_frame(bench, &WITHOUT_GIVER)
     }
 }
+
+#[rattlefmt::skip]
+static OF_TWO_ZONES: [Built; 9] = [
+    (PUBLISHER, Ask::Publish(1, BASE), BASE_ACCEPTED, 0),
+    (PUBLISHER, Ask::Publish(2, REQUIRING), ONE_ACCEPTED, 0),
+    (PUBLISHER, Ask::Publish(3, REQUIRED), ONE_ACCEPTED, 0),
+    (ALPHA, Ask::PutZone(1, b"TGT1", BOTH), TWO_ROWS, 0),
+    (ALPHA, Ask::PutZone(2, b"TGT2", BOTH_FUNCTIONS), "ZONE TGT2 ROWS 2\n", 0),
+    (ALPHA, Ask::Chain(b"TGT1", b"UA10020"), ALONE_IN_TGT1, 1),
+    (ALPHA, Ask::Chain(b"TGT2", b"UA10020"), WITH_REQUIRED, 1),
+    (PUBLISHER, Ask::Publish(4, REQUIRING_NOTHING), ONE_ACCEPTED, 1),
+    (ALPHA, Ask::Chain(b"TGT2", b"UA10020"), ALONE_IN_TGT2, 2),
+];
 
 /// A frame has what an IF requires whatever the zone, so two zones share it; it goes where its SYSMOD is published
 /// again.
@@ -143,51 +158,47 @@ pub(crate) struct Conditional;
 
 impl Trial for Conditional {
     fn assert_in<P: Place>(&self, bench: &mut Bench<P>) -> Result<(), Fail> {
-        let (one, two, sysmod) = (id(b"TGT1")?, id(b"TGT2")?, id(b"UA10020")?);
-        let rows: [Built; 9] = [
-            (PUBLISHER, publish(1, BASE), BASE_ACCEPTED, 0),
-            (PUBLISHER, publish(2, REQUIRING), ONE_ACCEPTED, 0),
-            (PUBLISHER, publish(3, REQUIRED), ONE_ACCEPTED, 0),
-            (ALPHA, put_zone(1, one, BOTH), TWO_ROWS, 0),
-            (
-                ALPHA,
-                put_zone(2, two, BOTH_FUNCTIONS),
-                "ZONE TGT2 ROWS 2\n",
-                0,
-            ),
-            (ALPHA, chain(one, sysmod), ALONE_IN_TGT1, 1),
-            (ALPHA, chain(two, sysmod), WITH_REQUIRED, 1),
-            (PUBLISHER, publish(4, REQUIRING_NOTHING), ONE_ACCEPTED, 1),
-            (ALPHA, chain(two, sysmod), ALONE_IN_TGT2, 2),
-        ];
-        assert_built(&mut with_room(bench, 16)?, &rows)
+        assert_built(&mut with_room(bench, 16)?, &OF_TWO_ZONES)
     }
 }
 
 // ---- a store that fails
 
-// A publication that is refused since the store fails at the call after so many: whether the frame was
-// dropped; or `None` where it isn't refused. Nothing has changed then, and chains are right.
-fn dropped_at(bench: &mut Bench<Lists>, calls: u64) -> Result<Option<bool>, Fail> {
+// What is answered once the store no longer fails, where the publication was refused.
+static AFTER_REFUSAL: [Row; 3] = [
+    (ALPHA, Ask::Counts, 200, "PUBLISHED SYSMODS 4 HOLDS 1\n"),
+    (ALPHA, Ask::Chain(b"TGT1", b"UA10002"), 200, SHORT_PLAN),
+    (ALPHA, Ask::ErrSysmods(b"TGT1"), 200, TWO_RESOLVERS),
+];
+
+// A bureau that has kept a frame, and whose store fails at the call after so many.
+fn failing_at(
+    bench: &mut Bench<Lists>,
+    calls: u64,
+) -> Result<Bureau<FailingStore, ChainCache>, Fail> {
     let alloc = bench.alloc;
     let (lists, cache) = with_frame(bench)?.into_parts();
-    let mut bureau = Bureau::new(alloc, FailingStore::new(lists, calls), cache);
+    Ok(Bureau::new(alloc, FailingStore::new(lists, calls), cache))
+}
+
+// Whether the frame was dropped where a publication was refused. Nothing has changed then, and chains are right.
+fn dropped_by(alloc: Global, refused: Bureau<FailingStore, ChainCache>) -> Result<bool, Fail> {
+    let (store, cache) = refused.into_parts();
+    let is_dropped = cache.iter().next().is_none();
+    assert_rows(&mut Bureau::new(alloc, store.lists, cache), &AFTER_REFUSAL)?;
+    Ok(is_dropped)
+}
+
+// As `dropped_by`, of a publication that is refused since the store fails at the call after so many; or `None` where
+// it isn't refused.
+fn dropped_at(bench: &mut Bench<Lists>, calls: u64) -> Result<Option<bool>, Fail> {
+    let mut bureau = failing_at(bench, calls)?;
     let reply = bureau.answer(&Caller::Publisher, &publish(3, NO_GIVER));
     if reply.status == 200 {
         return Ok(None);
     }
     assert_told(&reply, 503, "")?;
-    let (store, cache) = bureau.into_parts();
-    let is_dropped = cache.iter().next().is_none();
-    let mut opened = Bureau::new(alloc, store.lists, cache);
-    let (zone, sysmod) = (id(b"TGT1")?, id(b"UA10002")?);
-    let rows: [Row; 3] = [
-        (ALPHA, Call::Counts, 200, "PUBLISHED SYSMODS 4 HOLDS 1\n"),
-        (ALPHA, chain(zone, sysmod), 200, SHORT_PLAN),
-        (ALPHA, report(zone), 200, TWO_RESOLVERS),
-    ];
-    assert_rows(&mut opened, &rows)?;
-    Ok(Some(is_dropped))
+    Ok(Some(dropped_by(bench.alloc, bureau)?))
 }
 
 #[test]
@@ -203,8 +214,7 @@ fn a_store_that_fails_leaves_chains_right(rt: HostRuntime) -> Result<(), Fail> {
             Some(now) => is_dropped = now,
             None => {
                 // the frame goes before the store is asked to publish
-                assert!(rt; calls > 0 && is_dropped, "{calls}");
-                return Ok(());
+                return assert_equal((calls > 0, is_dropped), (true, true));
             }
         }
     }

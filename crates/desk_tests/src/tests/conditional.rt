@@ -1,9 +1,6 @@
 //! Conditional requisites: what an IF requires, zone by zone.
-use super::asked::{
-    ALPHA, BASE_ACCEPTED, BOTH, Checked, PUBLISHER, Row, chain, id, publish, put_zone,
-};
+use super::asked::{ALPHA, Ask, BASE_ACCEPTED, BOTH, PUBLISHER, Row};
 use super::worked::ONE_ACCEPTED;
-use std::alloc::Global;
 use testing::BASE;
 
 /// A PTF that requires another where a second function is installed.
@@ -38,42 +35,24 @@ pub(crate) const BLOCKED: &str =
 const TWO_ROWS: &str = "ZONE TGT2 ROWS 2\n";
 
 /// What is required in a zone is what its functions say, before and after each publication.
-pub(crate) fn conditional(alloc: Global) -> Checked<Vec<Row>> {
-    let (one, two, sysmod) = (id(b"TGT1")?, id(b"TGT2")?, id(b"UA10020")?);
-    let rows: [Row; 18] = [
-        (PUBLISHER, publish(1, BASE), 200, BASE_ACCEPTED),
-        (PUBLISHER, publish(2, REQUIRING), 200, ONE_ACCEPTED),
-        (ALPHA, put_zone(1, one, BOTH), 200, "ZONE TGT1 ROWS 2\n"),
-        (ALPHA, put_zone(2, two, BOTH_FUNCTIONS), 200, TWO_ROWS),
-        (ALPHA, chain(one, sysmod), 200, ALONE_IN_TGT1),
-        (ALPHA, chain(two, sysmod), 200, BLOCKED),
-        (PUBLISHER, publish(3, REQUIRED), 200, ONE_ACCEPTED),
-        (ALPHA, chain(one, sysmod), 200, ALONE_IN_TGT1),
-        (ALPHA, chain(two, sysmod), 200, WITH_REQUIRED),
-        (ALPHA, put_zone(3, two, SUPERSEDED_FUNCTION), 200, TWO_ROWS),
-        (ALPHA, chain(two, sysmod), 200, ALONE_IN_TGT2),
-        (ALPHA, put_zone(4, two, BOTH_FUNCTIONS), 200, TWO_ROWS),
-        (ALPHA, chain(two, sysmod), 200, WITH_REQUIRED),
-        (
-            PUBLISHER,
-            publish(4, b"++IF FMID(HXX0001) REQ(UA10021).\n"),
-            422,
-            "FAULT 27 1\n",
-        ),
-        (
-            PUBLISHER,
-            publish(4, b"++PTF(UA10020).\n++IF REQ(UA10021).\n"),
-            422,
-            "FAULT 28 2\n",
-        ),
-        (
-            PUBLISHER,
-            publish(4, b"++IF(HXX0001) REQ(UA10021).\n"),
-            422,
-            "FAULT 2 1\n",
-        ),
-        (PUBLISHER, publish(4, REQUIRING_NOTHING), 200, ONE_ACCEPTED),
-        (ALPHA, chain(two, sysmod), 200, ALONE_IN_TGT2),
-    ];
-    Vec::from_slice(alloc, rows.as_slice()).ok().ok_or("memory")
-}
+#[rattlefmt::skip]
+pub(crate) static CONDITIONAL: [Row; 18] = [
+    (PUBLISHER, Ask::Publish(1, BASE), 200, BASE_ACCEPTED),
+    (PUBLISHER, Ask::Publish(2, REQUIRING), 200, ONE_ACCEPTED),
+    (ALPHA, Ask::PutZone(1, b"TGT1", BOTH), 200, "ZONE TGT1 ROWS 2\n"),
+    (ALPHA, Ask::PutZone(2, b"TGT2", BOTH_FUNCTIONS), 200, TWO_ROWS),
+    (ALPHA, Ask::Chain(b"TGT1", b"UA10020"), 200, ALONE_IN_TGT1),
+    (ALPHA, Ask::Chain(b"TGT2", b"UA10020"), 200, BLOCKED),
+    (PUBLISHER, Ask::Publish(3, REQUIRED), 200, ONE_ACCEPTED),
+    (ALPHA, Ask::Chain(b"TGT1", b"UA10020"), 200, ALONE_IN_TGT1),
+    (ALPHA, Ask::Chain(b"TGT2", b"UA10020"), 200, WITH_REQUIRED),
+    (ALPHA, Ask::PutZone(3, b"TGT2", SUPERSEDED_FUNCTION), 200, TWO_ROWS),
+    (ALPHA, Ask::Chain(b"TGT2", b"UA10020"), 200, ALONE_IN_TGT2),
+    (ALPHA, Ask::PutZone(4, b"TGT2", BOTH_FUNCTIONS), 200, TWO_ROWS),
+    (ALPHA, Ask::Chain(b"TGT2", b"UA10020"), 200, WITH_REQUIRED),
+    (PUBLISHER, Ask::Publish(4, b"++IF FMID(HXX0001) REQ(UA10021).\n"), 422, "FAULT 27 1\n"),
+    (PUBLISHER, Ask::Publish(4, b"++PTF(UA10020).\n++IF REQ(UA10021).\n"), 422, "FAULT 28 2\n"),
+    (PUBLISHER, Ask::Publish(4, b"++IF(HXX0001) REQ(UA10021).\n"), 422, "FAULT 2 1\n"),
+    (PUBLISHER, Ask::Publish(4, REQUIRING_NOTHING), 200, ONE_ACCEPTED),
+    (ALPHA, Ask::Chain(b"TGT2", b"UA10020"), 200, ALONE_IN_TGT2),
+];

@@ -1,5 +1,5 @@
 //! Rows over each judge: all give the same answers.
-use super::asked::{CALLERS, Checked, Row, Script, assert_rows};
+use super::asked::{CALLERS, Checked, Parts, Row, Rows, Script, assert_rows};
 use super::stores::Place;
 use bureau::Bureau;
 use bureau_store::{CallerRow, callers};
@@ -68,28 +68,46 @@ impl<P: Place> Bench<P> {
         Ok(())
     }
 
-    // As `assert_opened_again`, by one judge.
-    fn assert_opened_again_by<J: Judge<P::Kept> + Drop>(
+    /// The rows are answered as they say by each judge, over a store in which nothing is published yet.
+    pub(crate) fn assert_parts(&mut self, parts: Parts<'_>) -> Result<(), Fail> {
+        self.assert_script(&Rows(parts))
+    }
+
+    // Each row is answered as it says by a bureau over the store, closed and opened again before it.
+    fn assert_rows_opened_again<J: Judge<P::Kept> + Drop>(
         &mut self,
-        judge: J,
+        mut store: P::Kept,
+        mut judge: J,
         rows: &[Row],
-    ) -> Result<(), Fail> {
-        let (mut store, mut judge) = (fresh(self.alloc, &mut self.place)?, judge);
+    ) -> Result<(P::Kept, J), Fail> {
         for row in rows {
             let opened = self.place.opened_again(self.alloc, store)?;
             let mut bureau = Bureau::new(self.alloc, opened, judge);
             assert_rows(&mut bureau, slice::from_ref(row))?;
             (store, judge) = bureau.into_parts();
         }
+        Ok((store, judge))
+    }
+
+    // As `assert_opened_again`, by one judge.
+    fn assert_opened_again_by<J: Judge<P::Kept> + Drop>(
+        &mut self,
+        mut judge: J,
+        parts: Parts<'_>,
+    ) -> Result<(), Fail> {
+        let mut store = fresh(self.alloc, &mut self.place)?;
+        for rows in parts {
+            (store, judge) = self.assert_rows_opened_again(store, judge, rows)?;
+        }
         Ok(())
     }
 
     /// The rows are answered as they say by each judge, where the store is closed and opened again before each.
-    pub(crate) fn assert_opened_again(&mut self, rows: &[Row]) -> Result<(), Fail> {
-        self.assert_opened_again_by(Whole::new(), rows)?;
+    pub(crate) fn assert_opened_again(&mut self, parts: Parts<'_>) -> Result<(), Fail> {
+        self.assert_opened_again_by(Whole::new(), parts)?;
         for capacity in CAPACITIES {
             let judge = self.cache(capacity)?;
-            self.assert_opened_again_by(judge, rows)?;
+            self.assert_opened_again_by(judge, parts)?;
         }
         Ok(())
     }

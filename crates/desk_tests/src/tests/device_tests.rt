@@ -1,30 +1,33 @@
 //! A store whose device fails in the middle of a call.
 use super::asked::{
-    ALPHA, BOTH, FUNCTION, PUBLISHER, asked, assert_told, drop_zone, id, publish, put_patterns,
-    put_received, put_zone,
+    ALPHA, Ask, BASE_ACCEPTED, BOTH, FUNCTION, PUBLISHER, Row, assert_rows, assert_told,
 };
 use super::desks::fresh;
 use super::stores::Lists;
 use super::worked::SUPERSEDING;
-use bureau::{Bureau, Call, Reply};
+use bureau::{Bureau, Reply};
 use bureau_store::{ListStore, Store, StoreFault};
 use chains::Whole;
 use failing_store::FailingStore;
 use std::alloc::Global;
 use std::process::Abort;
 use std::test::Fail;
-use testing::{BASE, assert_equal};
+use testing::{BASE, assert_equal, assert_equal_at};
 
 // A call, and the token of the one who asks it.
-type Asked = (&'static [u8], Call<'static>);
+type Asked = (&'static [u8], Ask);
 
 // Something is published, and ALPHA has a zone with a pattern.
+#[rattlefmt::skip]
+static BEGUN: [Row; 3] = [
+    (PUBLISHER, Ask::Publish(1, BASE), 200, BASE_ACCEPTED),
+    (ALPHA, Ask::PutZone(1, b"TGT1", BOTH), 200, "ZONE TGT1 ROWS 2\n"),
+    (ALPHA, Ask::PutPatterns(2, b"TGT1", b"CATEGORY\n*\n"), 200, "ZONE TGT1 PATTERNS 1\n"),
+];
+
 fn begun(alloc: Global) -> Result<ListStore, Fail> {
     let mut bureau = in_store(alloc, fresh(alloc, &mut Lists)?);
-    let zone = id(b"TGT1")?;
-    asked(&mut bureau, PUBLISHER, &publish(1, BASE))?;
-    asked(&mut bureau, ALPHA, &put_zone(1, zone, BOTH))?;
-    asked(&mut bureau, ALPHA, &put_patterns(2, zone, b"CATEGORY\n*\n"))?;
+    assert_rows(&mut bureau, &BEGUN)?;
     let (lists, _) = bureau.into_parts();
     Ok(lists)
 }
@@ -45,7 +48,10 @@ fn told_by<S: Store>(
 ) -> Result<Reply, Fail> {
     let mut known = in_store(alloc, fresh(alloc, &mut Lists)?);
     let caller = known.caller_of(asked.0)?.ok_or("a caller")?;
-    Ok(bureau.answer(&caller, &asked.1))
+    let Some(call) = asked.1.call() else {
+        return Err("an id".into());
+    };
+    Ok(bureau.answer(&caller, &call))
 }
 
 // Nothing is told from the tables of a bureau whose store has failed.
@@ -53,64 +59,92 @@ fn assert_closed(
     rt: &impl Abort,
     alloc: Global,
     bureau: &mut Bureau<FailingStore, Whole>,
-    calls: &[Asked],
 ) -> Result<(), Fail> {
     assert!(rt; bureau.store().device_failed());
-    for asked in calls {
+    for asked in &CALLS {
         let reply = told_by(alloc, bureau, asked)?;
         assert_told(&reply, 503, "")?;
     }
-    let refused = told_by(alloc, bureau, &(PUBLISHER, Call::ListZones))?;
+    let refused = told_by(alloc, bureau, &(PUBLISHER, Ask::ListZones))?;
     assert_told(&refused, 403, "NOT ALLOWED\n")?;
     let found = bureau.caller_of(ALPHA);
     assert!(rt; matches!(found, Err(StoreFault::Device)));
     Ok(())
 }
 
-// At how many places a call is answered 503, since the store fails there. Nothing has changed then, and no
-// number was used.
-fn places_of(rt: &impl Abort, alloc: Global, calls: &[Asked], asked: &Asked) -> Result<u64, Fail> {
-    let mut whole = in_store(alloc, begun(alloc)?);
-    let told = told_by(alloc, &mut whole, asked)?;
+// The reply is 503, and nothing is told from the tables. In the store that is opened again nothing has changed, and no
+// number was used: the call is answered as where nothing failed.
+fn assert_refused(
+    rt: &impl Abort,
+    alloc: Global,
+    bureau: Bureau<FailingStore, Whole>,
+    asked: &Asked,
+    told: &Reply,
+) -> Result<(), Fail> {
+    let mut closed = bureau;
+    assert_closed(rt, alloc, &mut closed)?;
+    let (store, _) = closed.into_parts();
+    let again = told_by(alloc, &mut in_store(alloc, store.lists), asked)?;
+    assert_equal(are_same(&again, told), true)
+}
+
+// Whether a call is refused since the store fails at the call after so many. Else it is answered as it is told.
+fn is_refused(
+    rt: &impl Abort,
+    alloc: Global,
+    left: u64,
+    asked: &Asked,
+    told: &Reply,
+) -> Result<bool, Fail> {
+    let mut bureau = in_store(alloc, FailingStore::new(begun(alloc)?, left));
+    let reply = told_by(alloc, &mut bureau, asked)?;
+    if reply.status == 503 {
+        assert_told(&reply, 503, "")?;
+        assert_refused(rt, alloc, bureau, asked, told)?;
+        return Ok(true);
+    }
+    let ends = (are_same(&reply, told), bureau.store().device_failed());
+    assert_equal_at(left, ends, (true, false))?;
+    Ok(false)
+}
+
+fn told_in_whole(alloc: Global, asked: &Asked) -> Result<Reply, Fail> {
+    let told = told_by(alloc, &mut in_store(alloc, begun(alloc)?), asked)?;
     assert_equal(told.status, 200)?;
+    Ok(told)
+}
+
+// At how many places a call is answered 503, since the store fails there.
+fn places_of(rt: &impl Abort, alloc: Global, asked: &Asked) -> Result<u64, Fail> {
+    let told = told_in_whole(alloc, asked)?;
     for left in 0..64u64 {
-        let mut bureau = in_store(alloc, FailingStore::new(begun(alloc)?, left));
-        let reply = told_by(alloc, &mut bureau, asked)?;
-        if reply.status != 503 {
-            assert!(rt; are_same(&reply, &told) && !bureau.store().device_failed());
+        if !is_refused(rt, alloc, left, asked, &told)? {
             return Ok(left);
         }
-        assert_told(&reply, 503, "")?;
-        assert_closed(rt, alloc, &mut bureau, calls)?;
-        let (store, _) = bureau.into_parts();
-        let mut opened = in_store(alloc, store.lists);
-        let again = told_by(alloc, &mut opened, asked)?;
-        assert!(rt; are_same(&again, &told), "{left}");
     }
     Err("never answered".into())
 }
 
+// Each call, by one who may ask it, and is answered 200 where nothing fails.
+#[rattlefmt::skip]
+static CALLS: [Asked; 11] = [
+    (PUBLISHER, Ask::Publish(2, SUPERSEDING)),
+    (ALPHA, Ask::PutZone(3, b"TGT1", FUNCTION)),
+    (ALPHA, Ask::PutZone(3, b"TGT2", FUNCTION)),
+    (ALPHA, Ask::DropZone(3, b"TGT1")),
+    (ALPHA, Ask::PutReceived(3, b"SYSMOD\nUA10002\n")),
+    (ALPHA, Ask::PutPatterns(3, b"TGT1", b"CATEGORY\nIBM.Device\n")),
+    (PUBLISHER, Ask::Counts),
+    (ALPHA, Ask::ListZones),
+    (ALPHA, Ask::ErrSysmods(b"TGT1")),
+    (ALPHA, Ask::MissingFix(b"TGT1")),
+    (ALPHA, Ask::Chain(b"TGT1", b"UA10002")),
+];
+
 #[test]
 fn a_device_that_fails_in_a_call_closes_the_desk(rt: HostRuntime) -> Result<(), Fail> {
-    let zone = id(b"TGT1")?;
-    let other = id(b"TGT2")?;
-    let sysmod = id(b"UA10002")?;
-    // each call, by one who may ask it, and is answered 200 where nothing fails
-    let calls: [Asked; 11] = [
-        (PUBLISHER, publish(2, SUPERSEDING)),
-        (ALPHA, put_zone(3, zone, FUNCTION)),
-        (ALPHA, put_zone(3, other, FUNCTION)),
-        (ALPHA, drop_zone(3, zone)),
-        (ALPHA, put_received(3, b"SYSMOD\nUA10002\n")),
-        (ALPHA, put_patterns(3, zone, b"CATEGORY\nIBM.Device\n")),
-        (PUBLISHER, Call::Counts),
-        (ALPHA, Call::ListZones),
-        (ALPHA, Call::ErrSysmods { zone }),
-        (ALPHA, Call::MissingFix { zone }),
-        (ALPHA, Call::Chain { zone, sysmod }),
-    ];
-    for asked in &calls {
-        let places = places_of(&rt, rt.alloc(), &calls, asked)?;
+    for asked in &CALLS {
+        let places = places_of(&rt, rt.alloc(), asked)?;
         assert!(rt; places > 0);
     }
     Ok(())

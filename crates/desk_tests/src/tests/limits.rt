@@ -1,15 +1,35 @@
 //! A client's 64 zones, and a zone's 40,000 SYSMODs, over each store and each judge.
 use super::asked::{
-    ALPHA, BETA, Checked, FUNCTION, Row, Script, asked, assert_rows, assert_told, id, put_zone,
+    ALPHA, Ask, BETA, FUNCTION, Row, Script, asked, assert_row, assert_rows, assert_told, id,
+    put_zone,
 };
 use super::desks::Bench;
 use super::stores::Place;
 use super::trial::Trial;
-use bureau::{Bureau, Call};
+use bureau::Bureau;
 use bureau_store::Store;
 use chains::Judge;
+use mcs_reader::Id;
 use std::alloc::Global;
 use std::test::Fail;
+
+fn numbered_zone(alloc: Global, number: u64) -> Result<Id, Fail> {
+    let name = format!(in alloc; "TGT{number}")?;
+    Ok(id(name.as_bytes())?)
+}
+
+// A client puts the zone with a number, under that number.
+fn put_numbered<S: Store, J: Judge<S>>(
+    alloc: Global,
+    bureau: &mut Bureau<S, J>,
+    token: &[u8],
+    number: u64,
+) -> Result<(), Fail> {
+    let zone = numbered_zone(alloc, number)?;
+    let reply = asked(bureau, token, &put_zone(number, zone, b"SYSMOD,STATE\n"))?;
+    let told = format!(in alloc; "ZONE TGT{number} ROWS 0\n")?;
+    assert_told(&reply, 200, told.as_str())
+}
 
 // A client puts 64 zones.
 fn put_most<S: Store, J: Judge<S>>(
@@ -18,28 +38,22 @@ fn put_most<S: Store, J: Judge<S>>(
     token: &[u8],
 ) -> Result<(), Fail> {
     for number in 1..65u64 {
-        let name = format!(in alloc; "TGT{number}")?;
-        let told = format!(in alloc; "ZONE TGT{number} ROWS 0\n")?;
-        let call = put_zone(number, id(name.as_bytes())?, b"SYSMOD,STATE\n");
-        let reply = asked(bureau, token, &call)?;
-        assert_told(&reply, 200, told.as_str())?;
+        put_numbered(alloc, bureau, token, number)?;
     }
     Ok(())
 }
 
+const ONE_ROW: &str = "ZONE TGT64 ROWS 1\n";
+
 // One zone more than 64, also with a body that is refused, and then one of the 64 again.
-fn put_more(alloc: Global) -> Checked<Vec<Row>> {
-    let (more, zone) = (id(b"TGT65")?, id(b"TGT64")?);
-    let put = "ZONE TGT64 ROWS 1\n";
-    let rows: [Row; 5] = [
-        (ALPHA, put_zone(65, more, FUNCTION), 422, "FAULT 61\n"),
-        (ALPHA, put_zone(65, more, b"no header"), 422, "FAULT 31\n"),
-        (ALPHA, put_zone(65, zone, FUNCTION), 200, put),
-        (BETA, put_zone(65, more, FUNCTION), 422, "FAULT 61\n"),
-        (BETA, put_zone(65, zone, FUNCTION), 200, put),
-    ];
-    Vec::from_slice(alloc, rows.as_slice()).ok().ok_or("memory")
-}
+#[rattlefmt::skip]
+static PUT_MORE: [Row; 5] = [
+    (ALPHA, Ask::PutZone(65, b"TGT65", FUNCTION), 422, "FAULT 61\n"),
+    (ALPHA, Ask::PutZone(65, b"TGT65", b"no header"), 422, "FAULT 31\n"),
+    (ALPHA, Ask::PutZone(65, b"TGT64", FUNCTION), 200, ONE_ROW),
+    (BETA, Ask::PutZone(65, b"TGT65", FUNCTION), 422, "FAULT 61\n"),
+    (BETA, Ask::PutZone(65, b"TGT64", FUNCTION), 200, ONE_ROW),
+];
 
 // Two clients put 64 zones each, and then one more.
 #[derive(Drop)]
@@ -51,7 +65,7 @@ impl Script for Zones {
     fn assert_answers<S: Store, J: Judge<S>>(&self, bureau: &mut Bureau<S, J>) -> Result<(), Fail> {
         put_most(self.alloc, bureau, ALPHA)?;
         put_most(self.alloc, bureau, BETA)?;
-        assert_rows(bureau, put_more(self.alloc)?.as_slice())
+        assert_rows(bureau, &PUT_MORE)
     }
 }
 
@@ -72,17 +86,24 @@ struct FullZone {
     alloc: Global,
 }
 
+// ALPHA puts a zone with so many SYSMODs.
+fn assert_put<S: Store, J: Judge<S>>(
+    alloc: Global,
+    bureau: &mut Bureau<S, J>,
+    rows: u32,
+    status: u16,
+    told: &str,
+) -> Result<(), Fail> {
+    let text = zone_text(alloc, rows)?;
+    let reply = asked(bureau, ALPHA, &put_zone(1, id(b"TGT1")?, &text))?;
+    assert_told(&reply, status, told)
+}
+
 impl Script for FullZone {
     fn assert_answers<S: Store, J: Judge<S>>(&self, bureau: &mut Bureau<S, J>) -> Result<(), Fail> {
-        let zone = id(b"TGT1")?;
-        let more = zone_text(self.alloc, 40_001)?;
-        let refused = asked(bureau, ALPHA, &put_zone(1, zone, &more))?;
-        assert_told(&refused, 422, "FAULT 37\n")?;
-        let full = zone_text(self.alloc, 40_000)?;
-        let put = asked(bureau, ALPHA, &put_zone(1, zone, &full))?;
-        assert_told(&put, 200, "ZONE TGT1 ROWS 40000\n")?;
-        let listed = asked(bureau, ALPHA, &Call::ListZones)?;
-        assert_told(&listed, 200, FULL_ZONE)
+        assert_put(self.alloc, bureau, 40_001, 422, "FAULT 37\n")?;
+        assert_put(self.alloc, bureau, 40_000, 200, "ZONE TGT1 ROWS 40000\n")?;
+        assert_row(bureau, &(ALPHA, Ask::ListZones, 200, FULL_ZONE))
     }
 }
 

@@ -2,15 +2,16 @@
 //! closed and opened again.
 
 use super::asked::{
-    ALPHA, BETA, BOTH, FUNCTION, PUBLISHER, assert_told, chain, id, publish, put_zone, report,
+    ALPHA, BETA, BOTH, FUNCTION, PUBLISHER, Row, assert_told, caller_with, chain, id, publish,
+    put_zone, report,
 };
-use super::conditional::conditional;
+use super::conditional::CONDITIONAL;
 use super::desks::{Bench, CAPACITIES};
-use super::numbers::{lists, numbers, patterns, refusals};
+use super::numbers::{LISTS, NUMBERS, PATTERNS, REFUSALS};
 use super::stores::Place;
 use super::trial::Trial;
-use super::verdicts::{shared, verdicts};
-use super::worked::{SUPERSEDING, received, run_of_three};
+use super::verdicts::{SHARED, VERDICTS};
+use super::worked::{GOING_ON, RECEIVED, SUPERSEDING, TWO_ZONES};
 use bureau::{Bureau, Reply};
 use bureau_store::{Caller, Store};
 use chains::{Judge, Whole};
@@ -19,29 +20,36 @@ use testing::{BASE, assert_equal, assert_equal_at};
 
 // ---- one by one
 
+fn assert_numbers_and_lists<P: Place>(bench: &mut Bench<P>) -> Result<(), Fail> {
+    bench.assert_parts(&[&NUMBERS])?;
+    bench.assert_parts(&[&REFUSALS])?;
+    bench.assert_parts(&[&LISTS])?;
+    bench.assert_parts(&[&PATTERNS])
+}
+
+fn assert_verdicts<P: Place>(bench: &mut Bench<P>) -> Result<(), Fail> {
+    bench.assert_parts(&[&TWO_ZONES, &GOING_ON, &RECEIVED])?;
+    bench.assert_parts(&[&TWO_ZONES, &SHARED])?;
+    bench.assert_parts(&[&VERDICTS])?;
+    bench.assert_parts(&[&CONDITIONAL])
+}
+
 /// The worked rows, one by one.
 pub(crate) struct Worked;
 
 impl Trial for Worked {
     fn assert_in<P: Place>(&self, bench: &mut Bench<P>) -> Result<(), Fail> {
-        let alloc = bench.alloc;
-        bench.assert_script(&received(alloc)?)?;
-        bench.assert_script(&numbers(alloc)?)?;
-        bench.assert_script(&refusals(alloc)?)?;
-        bench.assert_script(&lists(alloc)?)?;
-        bench.assert_script(&patterns(alloc)?)?;
-        bench.assert_script(&verdicts(alloc)?)?;
-        bench.assert_script(&shared(alloc)?)?;
-        bench.assert_script(&conditional(alloc)?)
+        assert_numbers_and_lists(bench)?;
+        assert_verdicts(bench)
     }
 }
 
 // ---- as one run
 
-// What the rows of the run of three callers are told where they are one run.
+// What the run of three callers is told where it is one run.
 fn told_as_one<S: Store, J: Judge<S>>(bureau: &mut Bureau<S, J>) -> Result<Vec<Reply>, Fail> {
-    let alpha = bureau.caller_of(ALPHA)?.ok_or("a caller")?;
-    let beta = bureau.caller_of(BETA)?.ok_or("a caller")?;
+    let alpha = caller_with(bureau, ALPHA)?;
+    let beta = caller_with(bureau, BETA)?;
     let (zone, sysmod) = (id(b"TGT1")?, id(b"UA10002")?);
     let replies = bureau.run(&[
         (Caller::Publisher, publish(1, BASE)),
@@ -58,18 +66,26 @@ fn told_as_one<S: Store, J: Judge<S>>(bureau: &mut Bureau<S, J>) -> Result<Vec<R
     Ok(replies)
 }
 
+fn assert_each_told(replies: &[Reply], rows: &[Row]) -> Result<(), Fail> {
+    for (reply, (_, _, status, text)) in replies.iter().zip(rows) {
+        assert_told(reply, *status, text)?;
+    }
+    Ok(())
+}
+
+// The replies are those of the run of three callers.
+fn assert_replies(replies: &[Reply]) -> Result<(), Fail> {
+    assert_equal(replies.len(), 10)?;
+    assert_each_told(replies, &TWO_ZONES)?;
+    assert_each_told(replies.get(5..).ok_or("replies")?, &GOING_ON)
+}
+
 fn assert_run_by<P: Place, J: Judge<P::Kept> + Drop>(
     bench: &mut Bench<P>,
     judge: J,
 ) -> Result<(), Fail> {
-    let rows = run_of_three(bench.alloc)?;
     let mut bureau = bench.bureau(judge)?;
-    let replies = told_as_one(&mut bureau)?;
-    assert_equal(replies.len(), 10)?;
-    for (reply, (_, _, status, text)) in replies.iter().zip(&rows) {
-        assert_told(reply, *status, text)?;
-    }
-    Ok(())
+    assert_replies(&told_as_one(&mut bureau)?)
 }
 
 /// The rows of the run of three callers, as one run.
@@ -93,12 +109,11 @@ pub(crate) struct OpenedAgain;
 
 impl Trial for OpenedAgain {
     fn assert_in<P: Place>(&self, bench: &mut Bench<P>) -> Result<(), Fail> {
-        let alloc = bench.alloc;
-        bench.assert_opened_again(received(alloc)?.as_slice())?;
-        bench.assert_opened_again(numbers(alloc)?.as_slice())?;
-        bench.assert_opened_again(patterns(alloc)?.as_slice())?;
-        bench.assert_opened_again(verdicts(alloc)?.as_slice())?;
-        bench.assert_opened_again(conditional(alloc)?.as_slice())
+        bench.assert_opened_again(&[&TWO_ZONES, &GOING_ON, &RECEIVED])?;
+        bench.assert_opened_again(&[&NUMBERS])?;
+        bench.assert_opened_again(&[&PATTERNS])?;
+        bench.assert_opened_again(&[&VERDICTS])?;
+        bench.assert_opened_again(&[&CONDITIONAL])
     }
 }
 
@@ -115,16 +130,20 @@ static TOKENS: [(&[u8], bool); 7] = [
     (b"", false),
 ];
 
+fn assert_tokens<S: Store, J: Judge<S>>(bureau: &mut Bureau<S, J>) -> Result<(), Fail> {
+    for (token, is_known) in &TOKENS {
+        let found = bureau.caller_of(token)?;
+        assert_equal_at(token, found.is_some(), *is_known)?;
+    }
+    Ok(())
+}
+
 /// A token is somebody's only where it is the same to the last byte.
 pub(crate) struct Tokens;
 
 impl Trial for Tokens {
     fn assert_in<P: Place>(&self, bench: &mut Bench<P>) -> Result<(), Fail> {
         let mut bureau = bench.bureau(Whole::new())?;
-        for (token, is_known) in &TOKENS {
-            let found = bureau.caller_of(token)?;
-            assert_equal_at(token, found.is_some(), *is_known)?;
-        }
-        Ok(())
+        assert_tokens(&mut bureau)
     }
 }

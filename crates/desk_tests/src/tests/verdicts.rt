@@ -1,10 +1,6 @@
 //! Verdicts and reports, which stay right over publications.
-use super::asked::{
-    ALPHA, BASE_ACCEPTED, BOTH, Checked, PUBLISHER, Row, chain, id, joined, publish, put_zone,
-    report,
-};
-use super::worked::{ONE_ACCEPTED, two_zones};
-use std::alloc::Global;
+use super::asked::{ALPHA, Ask, BASE_ACCEPTED, BOTH, PUBLISHER, Row};
+use super::worked::ONE_ACCEPTED;
 use testing::{BASE, SHORT_PLAN};
 
 const HELD_GIVER: &[u8] = b"++HOLD(UA10002) ERROR FMID(HBB7790) REASON(AA30003).
@@ -40,6 +36,8 @@ const GIVEN_PLAN: &str = "{\"plan\":[{\"id\":\"UA10002\",\"system\":[],\"user\":
 {\"id\":\"UA10004\",\"system\":[],\"user\":[]}],\
 \"status\":\"GOOD\",\"sysmod\":\"UA10002\",\"zone\":\"TGT1\"}";
 
+const HELD_ACCEPTED: &str = "ACCEPTED SYSMODS 3 HOLDS 2 RELEASES 0\n";
+
 pub(crate) const HOLD_ACCEPTED: &str = "ACCEPTED SYSMODS 0 HOLDS 1 RELEASES 0\n";
 
 pub(crate) const RESTART_PLAN: &str =
@@ -55,32 +53,23 @@ ROWS 2
 
 /// A pair of which each needs the other, a SYSMOD that is held until its reason is given, and one that is
 /// not known.
-pub(crate) fn verdicts(alloc: Global) -> Checked<Vec<Row>> {
-    let (zone, sysmod) = (id(b"TGT1")?, id(b"UA10002")?);
-    let (one, other, unknown) = (id(b"UA10006")?, id(b"UA10007")?, id(b"UA99999")?);
-    let held = "ACCEPTED SYSMODS 3 HOLDS 2 RELEASES 0\n";
-    let rows: [Row; 10] = [
-        (PUBLISHER, publish(1, BASE), 200, BASE_ACCEPTED),
-        (ALPHA, put_zone(1, zone, BOTH), 200, "ZONE TGT1 ROWS 2\n"),
-        (PUBLISHER, publish(2, HELD_GIVER), 200, held),
-        (ALPHA, chain(zone, one), 200, PLAN_OF_PAIR),
-        (ALPHA, chain(zone, other), 200, PLAN_OF_OTHER),
-        (ALPHA, chain(zone, sysmod), 200, BLOCKED),
-        (ALPHA, chain(zone, unknown), 200, LACKED),
-        (ALPHA, report(zone), 200, HELD_AND_NONE),
-        (PUBLISHER, publish(3, GIVER), 200, ONE_ACCEPTED),
-        (ALPHA, chain(zone, sysmod), 200, GIVEN_PLAN),
-    ];
-    Vec::from_slice(alloc, rows.as_slice()).ok().ok_or("memory")
-}
+#[rattlefmt::skip]
+pub(crate) static VERDICTS: [Row; 10] = [
+    (PUBLISHER, Ask::Publish(1, BASE), 200, BASE_ACCEPTED),
+    (ALPHA, Ask::PutZone(1, b"TGT1", BOTH), 200, "ZONE TGT1 ROWS 2\n"),
+    (PUBLISHER, Ask::Publish(2, HELD_GIVER), 200, HELD_ACCEPTED),
+    (ALPHA, Ask::Chain(b"TGT1", b"UA10006"), 200, PLAN_OF_PAIR),
+    (ALPHA, Ask::Chain(b"TGT1", b"UA10007"), 200, PLAN_OF_OTHER),
+    (ALPHA, Ask::Chain(b"TGT1", b"UA10002"), 200, BLOCKED),
+    (ALPHA, Ask::Chain(b"TGT1", b"UA99999"), 200, LACKED),
+    (ALPHA, Ask::ErrSysmods(b"TGT1"), 200, HELD_AND_NONE),
+    (PUBLISHER, Ask::Publish(3, GIVER), 200, ONE_ACCEPTED),
+    (ALPHA, Ask::Chain(b"TGT1", b"UA10002"), 200, GIVEN_PLAN),
+];
 
-/// One SYSMOD in two zones, and the hold that its installer has to heed.
-pub(crate) fn shared(alloc: Global) -> Checked<Vec<Row>> {
-    let (zone, sysmod) = (id(b"TGT1")?, id(b"UA10002")?);
-    let rows: [Row; 3] = [
-        (ALPHA, chain(zone, sysmod), 200, SHORT_PLAN),
-        (PUBLISHER, publish(2, RESTART), 200, HOLD_ACCEPTED),
-        (ALPHA, chain(zone, sysmod), 200, RESTART_PLAN),
-    ];
-    joined(alloc, two_zones(alloc)?.as_slice(), rows.as_slice())
-}
+/// One SYSMOD in the two zones of [`super::worked::TWO_ZONES`], and the hold that its installer has to heed.
+pub(crate) static SHARED: [Row; 3] = [
+    (ALPHA, Ask::Chain(b"TGT1", b"UA10002"), 200, SHORT_PLAN),
+    (PUBLISHER, Ask::Publish(2, RESTART), 200, HOLD_ACCEPTED),
+    (ALPHA, Ask::Chain(b"TGT1", b"UA10002"), 200, RESTART_PLAN),
+];
