@@ -156,10 +156,20 @@ fn texts(alloc: Global, exchanges: &[Exchange]) -> Result<(Vec<u8>, Vec<u8>), Fa
     let mut requests = Vec::new(alloc);
     let mut replies = Vec::new(alloc);
     for exchange in exchanges {
-        requests.extend_from_slice(request_text(alloc, exchange.0)?.as_bytes())?;
-        replies.extend_from_slice(reply_text(alloc, *exchange)?.as_bytes())?;
+        push_exchange(alloc, &mut requests, &mut replies, *exchange)?;
     }
     Ok((requests, replies))
+}
+
+fn push_exchange(
+    alloc: Global,
+    requests: &mut Vec<u8>,
+    replies: &mut Vec<u8>,
+    exchange: Exchange,
+) -> Result<(), Fail> {
+    requests.extend_from_slice(request_text(alloc, exchange.0)?.as_bytes())?;
+    replies.extend_from_slice(reply_text(alloc, exchange)?.as_bytes())?;
+    Ok(())
 }
 
 // What a run over connections leaves: its status, and what it wrote.
@@ -219,6 +229,38 @@ fn script_in_one_connection_and_in_ten(rt: HostRuntime) -> Result<(), Fail> {
     Ok(())
 }
 
+// A connection and the next one have these replies.
+fn assert_both_replayed<P: Debug + Copy + Drop>(
+    place: P,
+    alloc: Global,
+    keys: RandomState,
+    opening: &[u8],
+    next: &[u8],
+    wanted: &[u8],
+) -> Result<(), Fail> {
+    let files = files_of(alloc, &[opening, next])?;
+    assert_replayed(place, alloc, keys, 1_024, files, wanted)
+}
+
+// After these whole requests a further one is cut after any byte, and no byte of a reply to it is written.
+fn cut_one_anywhere(
+    alloc: Global,
+    keys: RandomState,
+    opening: &[u8],
+    whole: &[u8],
+    exchange: Exchange,
+    wanted: &[u8],
+) -> Result<(), Fail> {
+    let (_, first, ..) = exchange.0;
+    let text = request_text(alloc, exchange.0)?;
+    let mut part = Vec::from_slice(alloc, whole)?;
+    for (cut, byte) in text.as_bytes().iter().enumerate() {
+        assert_both_replayed((first, cut), alloc, keys, opening, part.as_slice(), wanted)?;
+        part.push(*byte)?;
+    }
+    Ok(())
+}
+
 // A connection that is cut after any byte has the replies of the requests that stand whole in it, and no other byte.
 fn cut_anywhere(
     alloc: Global,
@@ -229,19 +271,10 @@ fn cut_anywhere(
     let (opening, mut wanted) = texts(alloc, before)?;
     let mut whole = Vec::new(alloc);
     for exchange in exchanges {
-        let (_, first, ..) = exchange.0;
-        let text = request_text(alloc, exchange.0)?;
-        for cut in 0..text.len() {
-            let mut part = whole.clone()?;
-            part.extend_from_slice(&text.as_bytes()[..cut])?;
-            let files = files_of(alloc, &[opening.as_slice(), part.as_slice()])?;
-            assert_replayed((first, cut), alloc, keys, 1_024, files, wanted.as_slice())?;
-        }
-        whole.extend_from_slice(text.as_bytes())?;
-        wanted.extend_from_slice(reply_text(alloc, *exchange)?.as_bytes())?;
+        cut_one_anywhere(alloc, keys, &opening, &whole, *exchange, &wanted)?;
+        push_exchange(alloc, &mut whole, &mut wanted, *exchange)?;
     }
-    let files = files_of(alloc, &[opening.as_slice(), whole.as_slice()])?;
-    assert_replayed("whole", alloc, keys, 1_024, files, wanted.as_slice())
+    assert_both_replayed("whole", alloc, keys, &opening, &whole, &wanted)
 }
 
 #[test]
@@ -260,15 +293,26 @@ fn output_that_takes_a_part(rt: HostRuntime) -> Result<(), Fail> {
     let keys = keys_of(&rt)?;
     let (requests, replies) = texts(alloc, &SCRIPT[..4])?;
     for room in 0..replies.len() {
-        let files = files_of(alloc, &[requests.as_slice()])?;
-        let mut writer = Slow::new(alloc, usize::MAX, room, Failures::none());
-        writer.full = Some(ErrorKind::StorageFull);
-        let (status, errors) = run_over(alloc, keys, 1_024, CALLERS, files, &mut writer);
-        assert_equal_at(room, status, 3)?;
-        assert_equal_at(room, writer.taken.as_slice(), &replies[..room])?;
-        assert_equal_at(room, errors.as_slice(), b"FAULT 72\n".as_slice())?;
+        assert_part_taken(alloc, keys, requests.as_slice(), &replies[..room])?;
     }
     Ok(())
+}
+
+// The output has room for the first bytes of the replies, and takes them.
+fn assert_part_taken(
+    alloc: Global,
+    keys: RandomState,
+    requests: &[u8],
+    part: &[u8],
+) -> Result<(), Fail> {
+    let room = part.len();
+    let files = files_of(alloc, &[requests])?;
+    let mut writer = Slow::new(alloc, usize::MAX, room, Failures::none());
+    writer.full = Some(ErrorKind::StorageFull);
+    let (status, errors) = run_over(alloc, keys, 1_024, CALLERS, files, &mut writer);
+    assert_equal_at(room, status, 3)?;
+    assert_equal_at(room, writer.taken.as_slice(), part)?;
+    assert_equal_at(room, errors.as_slice(), b"FAULT 72\n".as_slice())
 }
 
 // A file of callers, and its fault.
@@ -287,14 +331,25 @@ static REFUSED: [(&[u8], &[u8]); 4] = [
 
 #[test]
 fn a_callers_file_with_a_fault(rt: HostRuntime) -> Result<(), Fail> {
-    let alloc = rt.alloc();
     let keys = keys_of(&rt)?;
-    for (callers, told) in &REFUSED {
-        let mut output = Vec::new(alloc);
-        let files = Vec::new(alloc);
-        let (status, errors) = run_over(alloc, keys, 1_024, callers, files, &mut output);
-        assert_equal_at(told, status, 1)?;
-        assert!(rt; output.is_empty() && errors.as_slice() == *told);
+    for &(callers, told) in &REFUSED {
+        assert_callers_refused(rt.alloc(), keys, callers, told)?;
     }
     Ok(())
+}
+
+fn assert_callers_refused(
+    alloc: Global,
+    keys: RandomState,
+    callers: &[u8],
+    told: &[u8],
+) -> Result<(), Fail> {
+    let mut output = Vec::new(alloc);
+    let (status, errors) = run_over(alloc, keys, 1_024, callers, Vec::new(alloc), &mut output);
+    assert_equal_at(told, status, 1)?;
+    assert_equal_at(
+        told,
+        (output.as_slice(), errors.as_slice()),
+        (b"".as_slice(), told),
+    )
 }

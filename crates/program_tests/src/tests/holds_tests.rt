@@ -1,7 +1,9 @@
 //! Worked sources through `run_holds`, and readers and writers that fail.
 use bureau_program::run_holds;
 use std::alloc::Global;
+use std::fmt::Debug;
 use std::io::{ErrorKind, Read};
+use std::process::Abort;
 use std::str;
 use std::test::Fail;
 use testing::{Failures, Pieces, Slow, assert_equal, assert_equal_at};
@@ -73,17 +75,28 @@ static WORKED: [Row; 11] = [
     ),
 ];
 
+// What a run gives is this. A failure says the place.
+fn assert_run<P: Debug + Copy + Drop>(
+    place: P,
+    run: &Run,
+    status: u8,
+    output: &str,
+    errors: &str,
+) -> Result<(), Fail> {
+    assert_equal_at(place, run.status, status)?;
+    assert_equal_at(place, str::from_utf8(run.output.as_slice()), Ok(output))?;
+    assert_equal_at(place, str::from_utf8(run.errors.as_slice()), Ok(errors))
+}
+
 // The source is printed so, or refused so with nothing printed.
 fn assert_printed(alloc: Global, row: &Row) -> Result<(), Fail> {
     let (source, lines, fault) = *row;
     let run = run_of(alloc, &mut source.as_bytes());
-    let status = if fault.is_empty() { 0 } else { 1 };
-    assert_equal_at(source, run.status, status)?;
-    let heading = if fault.is_empty() { HEADING } else { "" };
-    let wanted = format!(in alloc; "{heading}{lines}")?;
-    let output = str::from_utf8(run.output.as_slice());
-    assert_equal_at(source, output, Ok(wanted.as_str()))?;
-    assert_equal_at(source, str::from_utf8(run.errors.as_slice()), Ok(fault))
+    if !fault.is_empty() {
+        return assert_run(source, &run, 1, "", fault);
+    }
+    let wanted = format!(in alloc; "{HEADING}{lines}")?;
+    assert_run(source, &run, 0, wanted.as_str(), "")
 }
 
 #[test]
@@ -125,11 +138,15 @@ fn what_is_passed_over(rt: HostRuntime) -> Result<(), Fail> {
     for row in &PASSED_OVER {
         assert_printed(rt.alloc(), row)?;
     }
-    let one = format!(in rt.alloc(); "{HEADING}{NO_CLASS}")?;
+    Ok(())
+}
+
+#[test]
+fn a_deep_comment_is_passed_over(rt: HostRuntime) -> Result<(), Fail> {
     let deep = comment_of(rt.alloc(), 2_000)?;
     let run = run_of(rt.alloc(), &mut deep.as_slice());
-    assert!(rt; run.status == 0 && run.output.as_slice() == one.as_bytes());
-    Ok(())
+    let one = format!(in rt.alloc(); "{HEADING}{NO_CLASS}")?;
+    assert_run("deep", &run, 0, one.as_str(), "")
 }
 
 // A hold with a COMMENT over so many lines of 50 parentheses that open, and as many that close.
@@ -145,22 +162,34 @@ fn comment_of(alloc: Global, lines: u32) -> Result<Vec<u8>, Fail> {
     Ok(source)
 }
 
+// So many holds of this class, one for each number.
+fn push_holds(alloc: Global, source: &mut Vec<u8>, class: &str, count: u32) -> Result<(), Fail> {
+    for number in 0..count {
+        let text = format!(in alloc; "++HOLD(A{number}) USER REASON(R) CLASS({class}).\n")?;
+        source.extend_from_slice(text.as_bytes())?;
+    }
+    Ok(())
+}
+
 // Many holds, each put twice, so that the last put is in force, and a release of one of them.
+fn many_holds(alloc: Global) -> Result<Vec<u8>, Fail> {
+    let mut source = Vec::new(alloc);
+    push_holds(alloc, &mut source, "PE", 70_000)?;
+    push_holds(alloc, &mut source, "HIPER", 70_000)?;
+    source.extend_from_slice(b"++RELEASE(A7) USER REASON(R).\n")?;
+    Ok(source)
+}
+
 #[test]
 fn many_holds_each_put_twice(rt: HostRuntime) -> Result<(), Fail> {
-    let mut source = Vec::new(rt.alloc());
-    for class in ["PE", "HIPER"] {
-        for number in 0..70_000 {
-            let text = format!(in rt.alloc();
-                "++HOLD(A{number}) USER REASON(R) CLASS({class}).\n"
-            )?;
-            source.extend_from_slice(text.as_bytes())?;
-        }
-    }
-    source.extend_from_slice(b"++RELEASE(A7) USER REASON(R).\n")?;
+    let source = many_holds(rt.alloc())?;
     let run = run_of(rt.alloc(), &mut source.as_slice());
     assert_equal(run.status, 0)?;
-    let text = str::from_utf8(run.output.as_slice()).ok().ok_or("a text")?;
+    assert_last_put(&rt, run.output.as_slice())
+}
+
+fn assert_last_put(rt: &impl Abort, output: &[u8]) -> Result<(), Fail> {
+    let text = str::from_utf8(output).ok().ok_or("a text")?;
     assert!(rt; text.ends_with("\nROWS 69999\n"));
     assert!(rt; !text.contains(" PE ") && !text.contains("\nA7 "));
     assert!(rt; text.contains("\nA69999   USER    R        -        HIPER    -      -        -\n"));
@@ -198,21 +227,20 @@ static READERS: [(usize, u32, bool, u8, &str); 5] = [
 #[test]
 fn readers_that_are_interrupted_or_fail(rt: HostRuntime) -> Result<(), Fail> {
     let whole = format!(in rt.alloc(); "{HEADING}{ONE_HOLD}")?;
-    for (piece, interruptions, is_whole, status, errors) in &READERS {
-        let mut reader = reader_of(*piece, *interruptions, *is_whole);
+    for &(piece, interruptions, is_whole, status, errors) in &READERS {
+        let mut reader = reader_of(piece, interruptions, is_whole);
         let run = run_of(rt.alloc(), &mut reader);
-        let place = (*piece, *interruptions);
-        let wanted = if *status == 0 { whole.as_str() } else { "" };
-        assert_equal_at(place, run.status, *status)?;
-        assert_equal_at(place, str::from_utf8(run.output.as_slice()), Ok(wanted))?;
-        assert_equal_at(place, str::from_utf8(run.errors.as_slice()), Ok(*errors))?;
+        let wanted = if status == 0 { whole.as_str() } else { "" };
+        assert_run((piece, interruptions), &run, status, wanted, errors)?;
     }
     Ok(())
 }
 
 // The piece, the interruptions, the room, whether a write fails where there is none, the status, how many bytes are taken, and
 // what is written to standard error.
-static WRITERS: [(usize, u32, usize, bool, u8, usize, &str); 6] = [
+type Writing = (usize, u32, usize, bool, u8, usize, &'static str);
+
+static WRITERS: [Writing; 6] = [
     (1, 0, 1000, true, 0, 138, ""),
     (1000, 64, 1000, true, 0, 138, ""),
     (1000, 65, 1000, true, 3, 0, "FAULT 72\n"),
@@ -224,24 +252,26 @@ static WRITERS: [(usize, u32, usize, bool, u8, usize, &str); 6] = [
 #[test]
 fn writers_that_are_interrupted_or_fail(rt: HostRuntime) -> Result<(), Fail> {
     let whole = format!(in rt.alloc(); "{HEADING}{ONE_HOLD}")?;
-    for (piece, interruptions, room, is_failing, status, taken, errors) in &WRITERS {
-        let failures = Failures::interruptions(*interruptions);
-        let mut writer = Slow::new(rt.alloc(), *piece, *room, failures);
-        if *is_failing {
-            writer.full = Some(ErrorKind::StorageFull);
-        }
-        let mut told = Vec::new(rt.alloc());
-        let got = run_holds(rt.alloc(), &mut SOURCE.as_bytes(), &mut writer, &mut told);
-        let place = (*piece, *interruptions, *room);
-        assert_equal_at(place, got, *status)?;
-        assert_equal_at(place, writer.taken.len(), *taken)?;
-        assert!(rt;
-            whole.as_bytes().starts_with(writer.taken.as_slice()),
-            "{place:?}"
-        );
-        assert_equal_at(place, str::from_utf8(told.as_slice()), Ok(*errors))?;
+    for row in &WRITERS {
+        assert_written(&rt, rt.alloc(), row, whole.as_bytes())?;
     }
     Ok(())
+}
+
+// A run over the source writes the first bytes of this whole text.
+fn assert_written(rt: &impl Abort, alloc: Global, row: &Writing, whole: &[u8]) -> Result<(), Fail> {
+    let (piece, interruptions, room, is_failing, status, taken, errors) = *row;
+    let place = (piece, interruptions, room);
+    let mut writer = Slow::new(alloc, piece, room, Failures::interruptions(interruptions));
+    if is_failing {
+        writer.full = Some(ErrorKind::StorageFull);
+    }
+    let mut told = Vec::new(alloc);
+    let got = run_holds(alloc, &mut SOURCE.as_bytes(), &mut writer, &mut told);
+    assert_equal_at(place, got, status)?;
+    assert_equal_at(place, writer.taken.len(), taken)?;
+    assert!(rt; whole.starts_with(writer.taken.as_slice()), "{place:?}");
+    assert_equal_at(place, str::from_utf8(told.as_slice()), Ok(errors))
 }
 
 #[test]

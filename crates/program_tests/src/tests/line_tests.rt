@@ -107,25 +107,32 @@ static REFUSED: [(&[&str], &str); 20] = [
     (&["--version"], "bureau 0.1.0"),
 ];
 
+// What words ask for, or what is told of them.
+fn asked(alloc: Global, texts: &[&str]) -> Result<Result<Line, LineFault>, NoMemory> {
+    let words = words(alloc, texts)?;
+    Ok(line_of(alloc, words.as_slice()))
+}
+
+// These words ask for this.
+fn assert_taken(alloc: Global, texts: &[&str], shown: &str) -> Result<(), Fail> {
+    let line = asked(alloc, texts)?.ok().ok_or("a line")?;
+    let text = format!(in alloc; "{line:?}")?;
+    assert_equal(text.as_str(), shown)
+}
+
 #[test]
 fn words_that_ask_for_something(rt: HostRuntime) -> Result<(), Fail> {
-    let alloc = rt.alloc();
-    for (texts, shown) in &TAKEN {
-        let words = words(alloc, texts)?;
-        let line = line_of(alloc, words.as_slice()).ok().ok_or("a line")?;
-        let text = format!(in alloc; "{line:?}")?;
-        assert_equal(text.as_str(), *shown)?;
+    for &(texts, shown) in &TAKEN {
+        assert_taken(rt.alloc(), texts, shown)?;
     }
     Ok(())
 }
 
 #[test]
 fn words_that_are_refused(rt: HostRuntime) -> Result<(), Fail> {
-    let alloc = rt.alloc();
-    for (texts, told) in &REFUSED {
-        let words = words(alloc, texts)?;
-        let text = text_in(line_of(alloc, words.as_slice())).ok_or("no text")?;
-        assert!(rt; text.contains(*told), "{:?}", text.as_str());
+    for &(texts, told) in &REFUSED {
+        let text = text_in(asked(rt.alloc(), texts)?).ok_or("no text")?;
+        assert!(rt; text.contains(told), "{:?}", text.as_str());
     }
     Ok(())
 }

@@ -1,6 +1,7 @@
 //! Whole runs, by their words, over files that are interrupted while they are read.
 use super::surroundings::{Around, STORE};
 use bureau_program::run;
+use std::alloc::Global;
 use std::hash::RandomState;
 use std::str;
 use std::test::Fail;
@@ -27,22 +28,22 @@ static ROWS: [Row; 7] = [
 
 #[test]
 fn files_that_are_interrupted_and_the_name_of_a_store(rt: HostRuntime) -> Result<(), Fail> {
-    let alloc = rt.alloc();
     let keys = RandomState::new(&rt)?;
-    for (words, interruptions, status, told) in &ROWS {
-        let around = Around::reading(words, *interruptions, keys);
-        let (mut output, mut errors) = (Vec::new(alloc), Vec::new(alloc));
-        let ended = run(
-            &around,
-            alloc,
-            &mut b"".as_slice(),
-            &mut output,
-            &mut errors,
-        );
-        assert_equal_at((*words, *interruptions), ended, *status)?;
-        assert!(rt; output.is_empty(), "{:?}", (words, interruptions));
-        let errors = str::from_utf8(errors.as_slice());
-        assert_equal_at((*words, *interruptions), errors, Ok(*told))?;
+    for row in &ROWS {
+        assert_ended(rt.alloc(), keys, row)?;
     }
     Ok(())
+}
+
+// The run ends so, and writes nothing to standard output.
+fn assert_ended(alloc: Global, keys: RandomState, row: &Row) -> Result<(), Fail> {
+    let (words, interruptions, status, told) = *row;
+    let place = (words, interruptions);
+    let around = Around::reading(words, interruptions, keys);
+    let (mut output, mut errors) = (Vec::new(alloc), Vec::new(alloc));
+    let mut input = b"".as_slice();
+    let ended = run(&around, alloc, &mut input, &mut output, &mut errors);
+    assert_equal_at(place, ended, status)?;
+    assert_equal_at(place, output.as_slice(), b"".as_slice())?;
+    assert_equal_at(place, str::from_utf8(errors.as_slice()), Ok(told))
 }

@@ -177,9 +177,16 @@ fn served<S: Alter + Drop>(
 
 const LISTENING: &str = "0 LISTENING 127.0.0.1:4711\n";
 
+// A desk at which nobody connects serves so many connections, and pauses as often.
+fn assert_deserted(around: &Around<'_>, alloc: Global, connections: u32) -> Result<(), Fail> {
+    let told = served(around, alloc, fresh(alloc)?, connections)?;
+    assert_equal_at(connections, told.as_str(), LISTENING)?;
+    assert_equal_at(connections, around.port(), 4_711)?;
+    assert_equal(around.paused(), 20 * u128::from(connections))
+}
+
 #[test]
 fn a_desk_waits_as_often_as_it_is_asked_to(rt: HostRuntime) -> Result<(), Fail> {
-    let alloc = rt.alloc();
     let keys = RandomState::new(&rt)?;
     // nobody connects, so that each wait for a connection ends at once
     let listener = TcpListener::bind(&rt, "127.0.0.1:0")?;
@@ -187,39 +194,49 @@ fn a_desk_waits_as_often_as_it_is_asked_to(rt: HostRuntime) -> Result<(), Fail> 
     // most, and more than fit in 16 bits
     for connections in [0, 1, 65_537, 1_000_000] {
         let deserted = Around::listening(&listener, 0, keys);
-        let told = served(&deserted, alloc, fresh(alloc)?, connections)?;
-        assert_equal_at(connections, told.as_str(), LISTENING)?;
-        assert_equal_at(connections, deserted.port(), 4_711)?;
-        assert_equal(deserted.paused(), 20 * u128::from(connections))?;
+        assert_deserted(&deserted, rt.alloc(), connections)?;
     }
     Ok(())
+}
+
+const UNKNOWN: &[u8] =
+    b"HTTP/1.1 401 Unauthorized\r\ncontent-type: text/plain\r\ncontent-length: 14\r\nwww-authenticate: Bureau\r\n\r\nUNKNOWN TOKEN\n";
+
+// This text so many times.
+fn repeated(alloc: Global, text: &[u8], times: u32) -> Result<Vec<u8>, Fail> {
+    let mut all = Vec::new(alloc);
+    for _ in 0..times {
+        all.extend_from_slice(text)?;
+    }
+    Ok(all)
+}
+
+// A client that has sent this. It does not close its side.
+fn sender(rt: &HostRuntime, listener: &TcpListener, text: &[u8]) -> Result<TcpStream, Fail> {
+    let mut client = TcpStream::connect(rt, listener.local_addr()?)?;
+    client.write_all(text)?;
+    Ok(client)
+}
+
+// A client gets this, and then its end.
+fn assert_received(alloc: Global, client: &mut TcpStream, wanted: &[u8]) -> Result<(), Fail> {
+    let mut got = Vec::new(alloc);
+    client.read_to_end(&mut got)?;
+    assert_equal(str::from_utf8(got.as_slice()), str::from_utf8(wanted))
 }
 
 #[test]
 fn a_desk_waits_ten_minutes_for_a_connection(rt: HostRuntime) -> Result<(), Fail> {
     let alloc = rt.alloc();
-    let refused: &[u8] =
-        b"HTTP/1.1 401 Unauthorized\r\ncontent-type: text/plain\r\ncontent-length: 14\r\nwww-authenticate: Bureau\r\n\r\nUNKNOWN TOKEN\n";
-    let (mut sent, mut wanted) = (Vec::new(alloc), Vec::new(alloc));
-    for _ in 0..8u32 {
-        sent.extend_from_slice(b"GET /zones HTTP/1.1\r\n\r\n")?;
-    }
-    // 100 seconds pass before each look at the clock: it comes at 100, one read brings all requests at 200, and a reply
-    // goes out at 300, 400, 500 and 600
-    for _ in 0..4u32 {
-        wanted.extend_from_slice(refused)?;
-    }
-    // the client does not close its side
+    let keys = RandomState::new(&rt)?;
     let listener = TcpListener::bind(&rt, "127.0.0.1:0")?;
-    let mut client = TcpStream::connect(&rt, listener.local_addr()?)?;
-    client.write_all(sent.as_slice())?;
-    let hurried = Around::listening(&listener, 100, RandomState::new(&rt)?);
+    let sent = repeated(alloc, b"GET /zones HTTP/1.1\r\n\r\n", 8)?;
+    let mut client = sender(&rt, &listener, sent.as_slice())?;
+    let hurried = Around::listening(&listener, 100, keys);
     let told = served(&hurried, alloc, fresh(alloc)?, 1)?;
     assert_equal(told.as_str(), LISTENING)?;
-    let mut got = Vec::new(alloc);
-    client.read_to_end(&mut got)?;
-    assert_equal(
-        str::from_utf8(got.as_slice()),
-        str::from_utf8(wanted.as_slice()),
-    )
+    // 100 seconds pass before each look at the clock: it comes at 100, one read brings all requests at 200, and a reply
+    // goes out at 300, 400, 500 and 600
+    let wanted = repeated(alloc, UNKNOWN, 4)?;
+    assert_received(alloc, &mut client, wanted.as_slice())
 }
