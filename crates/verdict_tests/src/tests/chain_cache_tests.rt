@@ -3,7 +3,7 @@ ghost use Rattle.std.specs.Prelude.{◌≤◌};
 
 use super::content::changes_of;
 use super::print::verdict_text;
-use catalogue::{ListPublished, Published, touched};
+use catalogue::{Change, ListPublished, Published, touched};
 use chain_cache::ChainCache;
 use chains::{Judge, Status};
 use mcs_reader::Id;
@@ -36,9 +36,14 @@ impl Cached {
     // Publishes statements. The cache is told before what they touch.
     fn publish(&mut self, alloc: Global, source: &[u8]) -> Result<(), Fail> {
         let changes = changes_of(alloc, source)?;
-        let ids = touched(alloc, &mut self.lists, &changes)?;
-        <ChainCache as Judge<ListPublished>>::drop_touched(&mut self.cache, ids.as_slice());
+        self.drop_touched(alloc, &changes)?;
         Ok(self.lists.publish(&changes)?)
+    }
+
+    fn drop_touched(&mut self, alloc: Global, changes: &[Change]) -> Result<(), Fail> {
+        let ids = touched(alloc, &mut self.lists, changes)?;
+        <ChainCache as Judge<ListPublished>>::drop_touched(&mut self.cache, ids.as_slice());
+        Ok(())
     }
 
     // The verdict on an id, in print.

@@ -2,17 +2,22 @@
 use requisites::{NoMemory, Nodes, Rows, Verdict, resolve, verdict_of_place};
 use std::alloc::Global;
 use std::test::Fail;
-use testing::assert_equal;
+use testing::assert_equal_at;
 
 const LONG: usize = 10_000;
 
-fn rows(alloc: Global, links: &[(usize, usize)], len: usize) -> Result<Rows, NoMemory> {
+fn lists(alloc: Global, links: &[(usize, usize)], len: usize) -> Result<Vec<Vec<usize>>, NoMemory> {
     let mut lists = vec![in alloc; Vec::new(alloc); len]?;
     for (from, to) in links {
         if *from < lists.len() {
             lists[*from].push(*to)?;
         }
     }
+    Ok(lists)
+}
+
+fn rows(alloc: Global, links: &[(usize, usize)], len: usize) -> Result<Rows, NoMemory> {
+    let lists = lists(alloc, links, len)?;
     let mut rows = Rows::new(alloc);
     for list in &lists {
         rows.push_row(list)?;
@@ -27,11 +32,13 @@ fn nodes(
     needs: &[(usize, usize)],
     supersedes: &[(usize, usize)],
 ) -> Result<Nodes, NoMemory> {
+    let needs = rows(alloc, needs, len)?;
+    let supersedes = rows(alloc, supersedes, len)?;
     Ok(Nodes {
         candidates: vec![in alloc; true; len]?,
         there: vec![in alloc; false; len]?,
-        needs: rows(alloc, needs, len)?,
-        supersedes: rows(alloc, supersedes, len)?,
+        needs,
+        supersedes,
     })
 }
 
@@ -47,6 +54,18 @@ fn plan(alloc: Global, nodes: &Nodes, place: usize) -> Result<Option<Vec<usize>>
     }
 }
 
+// A place is good, with this plan.
+fn assert_plan(alloc: Global, nodes: &Nodes, place: usize, wanted: &[usize]) -> Result<(), Fail> {
+    let plan = plan(alloc, nodes, place)?.ok_or("a plan")?;
+    assert_equal_at(place, plan.as_slice(), wanted)
+}
+
+// A place is good, with a plan that has all.
+fn assert_all(alloc: Global, nodes: &Nodes, place: usize) -> Result<(), Fail> {
+    let plan = plan(alloc, nodes, place)?.ok_or("a plan")?;
+    assert_equal_at(place, plan.len(), LONG)
+}
+
 fn held_for(alloc: Global, nodes: &Nodes, place: usize) -> Result<Option<usize>, NoMemory> {
     match verdict(alloc, nodes, place)? {
         Verdict::Held(need) => Ok(Some(need)),
@@ -54,12 +73,15 @@ fn held_for(alloc: Global, nodes: &Nodes, place: usize) -> Result<Option<usize>,
     }
 }
 
+fn assert_held(alloc: Global, nodes: &Nodes, place: usize, need: usize) -> Result<(), Fail> {
+    assert_equal_at(place, held_for(alloc, nodes, place)?, Some(need))
+}
+
 #[test]
 fn what_needs_each_other_is_good_together(rt: HostRuntime) -> Result<(), Fail> {
     let alloc = rt.alloc();
     let nodes = nodes(alloc, 2, &[(0, 1), (1, 0)], &[])?;
-    let plan = plan(alloc, &nodes, 1)?.ok_or("a plan")?;
-    assert_equal(plan.as_slice(), [0, 1].as_slice())
+    assert_plan(alloc, &nodes, 1, &[0, 1])
 }
 
 #[test]
@@ -67,9 +89,8 @@ fn the_least_good_giver_stands_for_a_need_that_is_not_good(rt: HostRuntime) -> R
     let alloc = rt.alloc();
     // 0 needs 1, which needs 9; 2 and 3 supersede 1, 3 through 2; 2 needs 9 too.
     let nodes = nodes(alloc, 4, &[(0, 1), (1, 9), (2, 9)], &[(2, 1), (3, 2)])?;
-    let plan = plan(alloc, &nodes, 0)?.ok_or("a plan")?;
-    assert_equal(plan.as_slice(), [0, 3].as_slice())?;
-    assert_equal(held_for(alloc, &nodes, 1)?, Some(9))
+    assert_plan(alloc, &nodes, 0, &[0, 3])?;
+    assert_held(alloc, &nodes, 1, 9)
 }
 
 #[test]
@@ -78,7 +99,7 @@ fn the_blocked_need_is_the_least_that_nothing_good_gives(rt: HostRuntime) -> Res
     let mut nodes = nodes(alloc, 5, &[(0, 4), (0, 3), (0, 2), (0, 1)], &[])?;
     nodes.there = vec![in alloc; false, true]?;
     nodes.candidates = vec![in alloc; true, false, true, false, false]?;
-    assert_equal(held_for(alloc, &nodes, 0)?, Some(3))?;
+    assert_held(alloc, &nodes, 0, 3)?;
     assert!(rt; matches!(verdict(alloc, &nodes, 3)?, Verdict::Lack));
     Ok(())
 }
@@ -97,15 +118,14 @@ fn chain(alloc: Global, last: usize) -> Result<Vec<(usize, usize)>, NoMemory> {
 fn needs_that_fall_one_after_the_other(rt: HostRuntime) -> Result<(), Fail> {
     let alloc = rt.alloc();
     let nodes = nodes(alloc, LONG, &chain(alloc, LONG)?, &[])?;
-    assert_equal(held_for(alloc, &nodes, 0)?, Some(1))
+    assert_held(alloc, &nodes, 0, 1)
 }
 
 #[test]
 fn needs_in_a_ring(rt: HostRuntime) -> Result<(), Fail> {
     let alloc = rt.alloc();
     let nodes = nodes(alloc, LONG, &chain(alloc, 0)?, &[])?;
-    let plan = plan(alloc, &nodes, LONG / 2)?.ok_or("a plan")?;
-    assert_equal(plan.len(), LONG)
+    assert_all(alloc, &nodes, LONG / 2)
 }
 
 #[test]
@@ -113,46 +133,77 @@ fn superseding_in_a_row(rt: HostRuntime) -> Result<(), Fail> {
     let alloc = rt.alloc();
     let mut nodes = nodes(alloc, LONG, &[], &chain(alloc, LONG)?)?;
     nodes.needs = rows(alloc, &[(0, LONG - 1)], LONG)?;
-    let plan = plan(alloc, &nodes, 0)?.ok_or("a plan")?;
-    assert_equal(plan.as_slice(), [0, LONG - 1].as_slice())
+    assert_plan(alloc, &nodes, 0, &[0, LONG - 1])
 }
 
-#[test]
-fn one_that_all_need_and_one_that_needs_all(rt: HostRuntime) -> Result<(), Fail> {
-    let alloc = rt.alloc();
-    let mut to_last = Vec::with_capacity(alloc, LONG)?;
-    let mut from_last = Vec::with_capacity(alloc, LONG)?;
+// Links from all places but the last to the last.
+fn to_last(alloc: Global) -> Result<Vec<(usize, usize)>, NoMemory> {
+    let mut links = Vec::with_capacity(alloc, LONG)?;
     for place in 0..LONG - 1 {
-        to_last.push((place, LONG - 1))?;
-        from_last.push((LONG - 1, place))?;
+        links.push((place, LONG - 1))?;
     }
-    let needed = nodes(alloc, LONG, &to_last, &[])?;
-    assert_equal(
-        plan(alloc, &needed, 0)?.ok_or("a plan")?.as_slice(),
-        [0, LONG - 1].as_slice(),
-    )?;
-    let needy = nodes(alloc, LONG, &from_last, &[])?;
-    assert_equal(plan(alloc, &needy, LONG - 1)?.ok_or("a plan")?.len(), LONG)?;
-    to_last.push((LONG - 1, LONG))?;
-    let blocked = nodes(alloc, LONG, &to_last, &[])?;
-    assert_equal(held_for(alloc, &blocked, 0)?, Some(LONG - 1))
+    Ok(links)
 }
 
-// Pairs that supersede each other, in series: the first of a pair supersedes the second of the pair before, and
-// needs the first of that; nothing gives what the first pair needs.
+// Links from the last place to all others.
+fn from_last(alloc: Global) -> Result<Vec<(usize, usize)>, NoMemory> {
+    let mut links = Vec::with_capacity(alloc, LONG)?;
+    for place in 0..LONG - 1 {
+        links.push((LONG - 1, place))?;
+    }
+    Ok(links)
+}
+
 #[test]
-fn rings_of_superseding_in_series(rt: HostRuntime) -> Result<(), Fail> {
+fn one_that_all_need(rt: HostRuntime) -> Result<(), Fail> {
     let alloc = rt.alloc();
+    let nodes = nodes(alloc, LONG, &to_last(alloc)?, &[])?;
+    assert_plan(alloc, &nodes, 0, &[0, LONG - 1])
+}
+
+#[test]
+fn one_that_needs_all(rt: HostRuntime) -> Result<(), Fail> {
+    let alloc = rt.alloc();
+    let nodes = nodes(alloc, LONG, &from_last(alloc)?, &[])?;
+    assert_all(alloc, &nodes, LONG - 1)
+}
+
+#[test]
+fn one_that_all_need_and_that_is_held(rt: HostRuntime) -> Result<(), Fail> {
+    let alloc = rt.alloc();
+    let mut needs = to_last(alloc)?;
+    needs.push((LONG - 1, LONG))?;
+    let nodes = nodes(alloc, LONG, &needs, &[])?;
+    assert_held(alloc, &nodes, 0, LONG - 1)
+}
+
+// Two places supersede each other, and each needs the first of the next two.
+fn put_pair(
+    needs: &mut Vec<(usize, usize)>,
+    supersedes: &mut Vec<(usize, usize)>,
+    first: usize,
+) -> Result<(), NoMemory> {
+    let second = first.saturating_add(1);
+    let next = first.saturating_add(2);
+    supersedes.push((first, second))?;
+    supersedes.push((second, first))?;
+    needs.push((first, next))?;
+    Ok(needs.push((second, next))?)
+}
+
+// Such pairs in series. Nothing gives what the last pair needs.
+fn pairs(alloc: Global) -> Result<Nodes, NoMemory> {
     let mut needs = Vec::with_capacity(alloc, LONG)?;
     let mut supersedes = Vec::with_capacity(alloc, LONG)?;
     for pair in 0..LONG / 2 {
-        let first = 2 * pair;
-        supersedes.push((first, first + 1))?;
-        supersedes.push((first + 1, first))?;
-        needs.push((first, first + 2))?;
-        needs.push((first + 1, first + 2))?;
+        put_pair(&mut needs, &mut supersedes, 2 * pair)?;
     }
-    let nodes = nodes(alloc, LONG, &needs, &supersedes)?;
-    assert_equal(held_for(alloc, &nodes, 0)?, Some(2))?;
-    assert_equal(held_for(alloc, &nodes, LONG - 1)?, Some(LONG))
+    nodes(alloc, LONG, &needs, &supersedes)
+}
+
+#[test]
+fn rings_of_superseding_in_series(rt: HostRuntime) -> Result<(), Fail> {
+    let nodes = pairs(rt.alloc())?;
+    assert_held(rt.alloc(), &nodes, 0, 2)?;
+    assert_held(rt.alloc(), &nodes, LONG - 1, LONG)
 }

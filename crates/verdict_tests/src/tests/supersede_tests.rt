@@ -128,8 +128,7 @@ fn row_of_superseding(alloc: Global, count: u32) -> Result<String, Fail> {
 // All of them, in print.
 fn all_in_row(alloc: Global, count: u32) -> Result<String, Fail> {
     let mut text = String::new(alloc);
-    for n in 0..count {
-        let above = n + 1;
+    for above in 1..=count {
         write!(text, " U{above:06}")?;
     }
     Ok(text)

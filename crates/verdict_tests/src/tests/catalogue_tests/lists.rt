@@ -70,12 +70,11 @@ fn conditions_from(alloc: Global, list: &[CondNeed]) -> Result<Option<CondNeeds>
 
 fn assert_conditions(alloc: Global, texts: &[(&[u8], &[u8])], ascends: bool) -> Result<(), Fail> {
     let list = conditions_of(alloc, texts)?;
-    let made = conditions_from(alloc, &list)?;
-    assert_equal_at(texts, made.is_some(), ascends)?;
-    match made {
-        Some(conds) => assert_equal(conds.copy()?.as_slice(), &list),
-        None => Ok(()),
-    }
+    let Some(conds) = conditions_from(alloc, &list)? else {
+        return assert_equal_at(texts, false, ascends);
+    };
+    assert_equal_at(texts, true, ascends)?;
+    assert_equal(conds.copy()?.as_slice(), &list)
 }
 
 #[test]

@@ -66,23 +66,34 @@ fn assert_kept(
     assert_equal_at(id, cached.built(), built)
 }
 
-fn assert_asked(alloc: Global, mut cached: Cached, rows: &[Asked]) -> Result<(), Fail> {
+fn assert_asked(alloc: Global, cached: &mut Cached, rows: &[Asked]) -> Result<(), Fail> {
     for (id, kept, built) in rows {
-        verdict_in(alloc, &mut cached, ZONE, id.as_bytes())?;
-        assert_kept(alloc, &cached, id, kept, *built)?;
+        verdict_in(alloc, cached, ZONE, id.as_bytes())?;
+        assert_kept(alloc, cached, id, kept, *built)?;
     }
     Ok(())
+}
+
+// The ids of some rows are asked for one after the other, with room for so many frames.
+fn assert_with_room(
+    alloc: Global,
+    capacity: u32,
+    keys: RandomState,
+    rows: &[Asked],
+) -> Result<(), Fail>
+    requires least { 1 ≤ capacity }
+    requires most { capacity ≤ 65536 }
+{
+    let mut cached = published(alloc, capacity, keys)?;
+    assert_asked(alloc, &mut cached, rows)
 }
 
 #[test]
 fn the_frame_used_longest_ago_goes(rt: HostRuntime) -> Result<(), Fail> {
     let alloc = rt.alloc();
-    let one = published(alloc, 1, RandomState::new(&rt)?)?;
-    assert_asked(alloc, one, &WITH_ROOM_FOR_ONE)?;
-    let two = published(alloc, 2, RandomState::new(&rt)?)?;
-    assert_asked(alloc, two, &WITH_ROOM_FOR_TWO)?;
-    let all = published(alloc, 65_536, RandomState::new(&rt)?)?;
-    assert_asked(alloc, all, &WITH_ROOM_FOR_ALL)
+    assert_with_room(alloc, 1, RandomState::new(&rt)?, &WITH_ROOM_FOR_ONE)?;
+    assert_with_room(alloc, 2, RandomState::new(&rt)?, &WITH_ROOM_FOR_TWO)?;
+    assert_with_room(alloc, 65_536, RandomState::new(&rt)?, &WITH_ROOM_FOR_ALL)
 }
 
 fn nodes_of_frame(alloc: Global, cached: &mut Cached, id: &str) -> Result<usize, Fail> {
@@ -119,21 +130,19 @@ fn ring(alloc: Global, capacity: u32, count: u32, keys: RandomState) -> Result<C
 // two reports would have more nodes in all than a report may have, and there are more candidates than a report may have.
 static RINGS: [(u32, u64); 4] = [(1, 1), (12, 12), (256, 1), (257, 0)];
 
-// How many frames are put for a report on a ring, in which each SYSMOD is good.
-fn built_for_a_report(alloc: Global, count: u32, keys: RandomState) -> Result<u64, Fail> {
-    let mut cached = ring(alloc, 16, count, keys)?;
+// Each SYSMOD of a ring is good in a report.
+fn assert_all_good(alloc: Global, cached: &mut Cached, count: u32) -> Result<(), Fail> {
     let statuses = cached.statuses(alloc, &zone_of(alloc, ZONE)?)?;
-    assert_equal(statuses.len(), count as usize)?;
     let are_good = statuses.iter().all(|status| *status == Status::Good);
-    assert_equal_at(count, are_good, true)?;
-    Ok(cached.built())
+    assert_equal_at(count, (are_good, statuses.len()), (true, count as usize))
 }
 
 #[test]
 fn a_report_over_large_frames_builds_none(rt: HostRuntime) -> Result<(), Fail> {
     for (count, built) in &RINGS {
-        let keys = RandomState::new(&rt)?;
-        assert_equal_at(count, built_for_a_report(rt.alloc(), *count, keys)?, *built)?;
+        let mut cached = ring(rt.alloc(), 16, *count, RandomState::new(&rt)?)?;
+        assert_all_good(rt.alloc(), &mut cached, *count)?;
+        assert_equal_at(count, cached.built(), *built)?;
     }
     Ok(())
 }
@@ -290,16 +299,19 @@ fn assert_after(
     assert_equal_at(source, cached.built(), built)
 }
 
-#[test]
-fn a_publication_drops_the_frames_that_it_touches(rt: HostRuntime) -> Result<(), Fail> {
-    let alloc = rt.alloc();
-    let mut cached = published(alloc, 16, RandomState::new(&rt)?)?;
-    verdict_in(alloc, &mut cached, ZONE, b"HBB7790")?;
-    verdict_in(alloc, &mut cached, ZONE, b"UA10002")?;
+fn assert_dropped(alloc: Global, cached: &mut Cached) -> Result<(), Fail> {
+    verdict_in(alloc, cached, ZONE, b"HBB7790")?;
+    verdict_in(alloc, cached, ZONE, b"UA10002")?;
     for (source, kept, verdict, built) in &PUBLISHED {
-        assert_after(alloc, &mut cached, source, kept, verdict, *built)?;
+        assert_after(alloc, cached, source, kept, verdict, *built)?;
     }
     Ok(())
+}
+
+#[test]
+fn a_publication_drops_the_frames_that_it_touches(rt: HostRuntime) -> Result<(), Fail> {
+    let mut cached = published(rt.alloc(), 16, RandomState::new(&rt)?)?;
+    assert_dropped(rt.alloc(), &mut cached)
 }
 
 const WITH_CONDITION: &[u8] = b"++PTF(UA10020).\n++VER(Z038) FMID(HBB7790).\n\

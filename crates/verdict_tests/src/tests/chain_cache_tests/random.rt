@@ -3,14 +3,15 @@
 use super::Cached;
 use crate::tests::chains_tests::judged;
 use crate::tests::print::{id_of, zone_of};
-use catalogue::{Ids, Published};
-use chains::{Frame, Judge, Whole, frame};
+use catalogue::{Ids, ListPublished, Published};
+use chains::{Frame, Judge, Status, Whole, frame};
+use mcs_reader::Id;
 use std::alloc::Global;
 use std::fmt::Write;
 use std::hash::RandomState;
 use std::test::Fail;
 use supersede::Zone;
-use testing::Draws;
+use testing::{Draws, assert_equal_at};
 
 const RUNS: u32 = 20;
 
@@ -35,33 +36,42 @@ fn put_list(text: &mut String, draws: &mut Draws, front: &str, end: &str) -> Res
     Ok(())
 }
 
-// A publication: a SYSMOD or two, with requisites under a condition, and some holds and releases.
+fn put_operands(text: &mut String, draws: &mut Draws) -> Result<(), Fail> {
+    put_list(text, draws, " PRE", "")?;
+    put_list(text, draws, " REQ", "")?;
+    put_list(text, draws, " SUP", "")?;
+    Ok(text.push_str(" .\n")?)
+}
+
+// A SYSMOD, with requisites under a condition.
+fn put_sysmod(text: &mut String, draws: &mut Draws) -> Result<(), Fail> {
+    let id = drawn_id(draws);
+    write!(text, "++PTF(UA1000{id}).\n++VER(Z038) FMID(HBB7790)\n")?;
+    put_operands(text, draws)?;
+    put_list(text, draws, "++IF FMID(HXX0001) REQ", ".")?;
+    put_list(text, draws, "++IF FMID(HXX0002) REQ", ".")
+}
+
+// A hold or a release, or nothing.
+fn put_hold(text: &mut String, draws: &mut Draws, verb: &str) -> Result<(), Fail> {
+    if is_drawn(draws) {
+        let (id, reason) = (drawn_id(draws), drawn_id(draws));
+        write!(
+            text,
+            "++{verb}(UA1000{id}) ERROR FMID(HBB7790) REASON(UA1000{reason}).\n"
+        )?;
+    }
+    Ok(())
+}
+
+// A publication: up to three SYSMODs, and some holds and releases.
 fn statements(alloc: Global, draws: &mut Draws) -> Result<String, Fail> {
     let mut text = String::new(alloc);
     for _ in 0..draws.next() & 3 {
-        write!(
-            text,
-            "++PTF(UA1000{}).\n++VER(Z038) FMID(HBB7790)\n",
-            drawn_id(draws)
-        )?;
-        for operand in [" PRE", " REQ", " SUP"] {
-            put_list(&mut text, draws, operand, "")?;
-        }
-        text.push_str(" .\n")?;
-        for condition in ["++IF FMID(HXX0001) REQ", "++IF FMID(HXX0002) REQ"] {
-            put_list(&mut text, draws, condition, ".")?;
-        }
+        put_sysmod(&mut text, draws)?;
     }
-    for verb in ["HOLD", "RELEASE"] {
-        if is_drawn(draws) {
-            write!(
-                text,
-                "++{verb}(UA1000{}) ERROR FMID(HBB7790) REASON(UA1000{}).\n",
-                drawn_id(draws),
-                drawn_id(draws)
-            )?;
-        }
-    }
+    put_hold(&mut text, draws, "HOLD")?;
+    put_hold(&mut text, draws, "RELEASE")?;
     Ok(text)
 }
 
@@ -92,6 +102,16 @@ fn are_as_built(alloc: Global, cached: &mut Cached) -> Result<bool, Fail> {
     Ok(true)
 }
 
+fn id_by_number(alloc: Global, number: u32) -> Result<Id, Fail> {
+    id_of(format!(in alloc; "UA1000{number}")?.as_bytes())
+}
+
+// Whether a verdict is that over the whole catalogue.
+fn is_verdict(alloc: Global, cached: &mut Cached, zone: &Zone, id: &Id) -> Result<bool, Fail> {
+    let given = cached.verdict(alloc, zone, id)?;
+    Ok(given == judged(alloc, &mut cached.lists, zone, id)?)
+}
+
 // Whether some verdicts are those over the whole catalogue.
 fn are_verdicts(
     alloc: Global,
@@ -100,33 +120,34 @@ fn are_verdicts(
     zone: &Zone,
 ) -> Result<bool, Fail> {
     for _ in 0..4 {
-        let name = format!(in alloc; "UA1000{}", drawn_id(draws))?;
-        let id = id_of(name.as_bytes())?;
-        let given = cached.verdict(alloc, zone, &id)?;
-        if given != judged(alloc, &mut cached.lists, zone, &id)? {
+        let id = id_by_number(alloc, drawn_id(draws))?;
+        if !is_verdict(alloc, cached, zone, &id)? {
             return Ok(false);
         }
     }
     Ok(true)
 }
 
-// Whether the statuses of all that is catalogued are those over the whole catalogue.
+// The statuses of all that is catalogued, over the whole catalogue.
+fn statuses(alloc: Global, lists: &mut ListPublished, zone: &Zone) -> Result<Vec<Status>, Fail> {
+    let ids = lists.ids()?;
+    Ok(Whole::new().statuses(alloc, lists, zone, &ids)?)
+}
+
+// Whether the statuses of all that is catalogued are these.
 fn are_statuses(alloc: Global, cached: &mut Cached, zone: &Zone) -> Result<bool, Fail> {
     let given = cached.statuses(alloc, zone)?;
-    let ids = cached.lists.ids()?;
-    let whole = Whole::new().statuses(alloc, &mut cached.lists, zone, &ids)?;
+    let whole = statuses(alloc, &mut cached.lists, zone)?;
     Ok(given.as_slice() == whole.as_slice())
 }
 
-// Whether frames, verdicts and statuses are as over the whole catalogue, in each of some zones, after one more publication.
-fn is_as_whole_after(
+// Whether frames, verdicts and statuses are as over the whole catalogue, in each of some zones.
+fn is_as_whole(
     alloc: Global,
     draws: &mut Draws,
     cached: &mut Cached,
     zones: &[Zone],
 ) -> Result<bool, Fail> {
-    let source = statements(alloc, draws)?;
-    cached.publish(alloc, source.as_bytes())?;
     for zone in zones {
         let is_right = are_as_built(alloc, cached)?
             && are_verdicts(alloc, draws, cached, zone)?
@@ -138,14 +159,32 @@ fn is_as_whole_after(
     are_as_built(alloc, cached)
 }
 
+// They are so after each of some publications.
+fn assert_run(
+    alloc: Global,
+    draws: &mut Draws,
+    cached: &mut Cached,
+    zones: &[Zone],
+    run: u32,
+) -> Result<(), Fail> {
+    for publication in 0..PUBLICATIONS {
+        cached.publish(alloc, statements(alloc, draws)?.as_bytes())?;
+        let is_right = is_as_whole(alloc, draws, cached, zones)?;
+        assert_equal_at((run, publication), is_right, true)?;
+    }
+    Ok(())
+}
+
 // One function of the conditions is installed in one of the zones, and listed in another.
+static ZONES: [&[u8]; 3] = [
+    b"SYSMOD,STATE\nHBB7790,APPLIED\nUA10003,APPLIED\n",
+    b"SYSMOD,STATE\nHBB7790,APPLIED\nHXX0001,APPLIED\nUA10003,APPLIED\n",
+    b"SYSMOD,STATE\nHBB7790,APPLIED\nHXX0001,SUPERSEDED\nHXX0002,ACCEPTED\n",
+];
+
 fn zones(alloc: Global) -> Result<Vec<Zone>, Fail> {
     let mut zones = Vec::new(alloc);
-    for text in [
-        b"SYSMOD,STATE\nHBB7790,APPLIED\nUA10003,APPLIED\n".as_slice(),
-        b"SYSMOD,STATE\nHBB7790,APPLIED\nHXX0001,APPLIED\nUA10003,APPLIED\n",
-        b"SYSMOD,STATE\nHBB7790,APPLIED\nHXX0001,SUPERSEDED\nHXX0002,ACCEPTED\n",
-    ] {
+    for text in &ZONES {
         zones.push(zone_of(alloc, text)?)?;
     }
     Ok(zones)
@@ -158,10 +197,7 @@ fn what_is_kept_is_what_would_be_built(rt: HostRuntime) -> Result<(), Fail> {
     let zones = zones(alloc)?;
     for run in 0..RUNS {
         let mut cached = Cached::new(alloc, 1 + (run & 7), RandomState::new(&rt)?)?;
-        for _ in 0..PUBLICATIONS {
-            let is_right = is_as_whole_after(alloc, &mut draws, &mut cached, &zones)?;
-            assert!(rt; is_right, "{run:?}");
-        }
+        assert_run(alloc, &mut draws, &mut cached, &zones, run)?;
     }
     Ok(())
 }

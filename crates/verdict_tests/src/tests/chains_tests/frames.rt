@@ -109,8 +109,9 @@ fn assert_frame(alloc: Global, more: &[u8], id: &[u8], text: &str) -> Result<(),
 
 #[test]
 fn worked_frames(rt: HostRuntime) -> Result<(), Fail> {
+    let alloc = rt.alloc();
     for (more, id, text) in &FRAMES {
-        assert_frame(rt.alloc(), more, id, text)?;
+        assert_frame(alloc, more, id, text)?;
     }
     Ok(())
 }

@@ -127,21 +127,23 @@ fn reads_of(alloc: Global, asked: &Asked, which: Call) -> Result<u64, Fail> {
     Err(Fail::from("a call never succeeds"))
 }
 
+// How often each call reads.
+static READS: [(Call, u64); 7] = [
+    (Call::Touched, 3),
+    (Call::Givers, 3),
+    (Call::Verdict, 7),
+    (Call::Statuses, 7),
+    (Call::ErrRows, 11),
+    (Call::MissingRows, 11),
+    (Call::PlanJson, 8),
+];
+
 #[test]
 fn each_read_that_fails_is_passed_on(rt: HostRuntime) -> Result<(), Fail> {
     let alloc = rt.alloc();
     let asked = what_is_asked(alloc)?;
-    let reads = [
-        (Call::Touched, 3),
-        (Call::Givers, 3),
-        (Call::Verdict, 7),
-        (Call::Statuses, 7),
-        (Call::ErrRows, 11),
-        (Call::MissingRows, 11),
-        (Call::PlanJson, 8),
-    ];
-    for (which, count) in reads {
-        assert_equal_at(which, reads_of(alloc, &asked, which)?, count)?;
+    for (which, count) in &READS {
+        assert_equal_at(*which, reads_of(alloc, &asked, *which)?, *count)?;
     }
     Ok(())
 }

@@ -9,6 +9,7 @@ use holddata::{Hold, Kind};
 use mcs_reader::Id;
 use reports::{err_rows, err_text, missing_rows, missing_text, plan_json};
 use std::alloc::Global;
+use std::fmt::Write;
 use std::test::Fail;
 use supersede::Zone;
 use zone_lists::{ZoneRow, patterns, received_rows, zone_rows};
@@ -99,67 +100,79 @@ fn assert_err_report(
     assert_text(what, &text, &wanted)
 }
 
-#[test]
-fn exception_sysmods_from_statements(rt: HostRuntime) -> Result<(), Fail> {
-    let cases: [(&str, &str, &str); 8] = [
-        (
-            "a requisite where a function is that isn't installed",
-            "++PTF(UA10002).\n++VER(Z038) FMID(HBB7790) PRE(UA10001) SUP(AA20002).\n\
-             ++IF FMID(HXX0001) REQ(UA10021).\n",
-            "HBB7790  UA10001  AA20002  UA10002  GOOD   NO       PE\nROWS 1\n",
-        ),
-        (
-            "a requisite where a function is that is installed",
-            "++PTF(UA10002).\n++VER(Z038) FMID(HBB7790) PRE(UA10001) SUP(AA20002).\n\
-             ++IF FMID(HBB7790) REQ(UA10021).\n",
-            "HBB7790  UA10001  AA20002  UA10002  HELD   NO       PE\nROWS 1\n",
-        ),
-        (
-            "each candidate that gives the reason",
-            "++PTF(UA10005).\n++VER(Z038) FMID(HBB7790) SUP(UA10002).\n",
-            "HBB7790  UA10001  AA20002  UA10002  GOOD   NO       PE\n\
-             HBB7790  UA10001  AA20002  UA10005  GOOD   NO       PE\nROWS 2\n",
-        ),
-        (
-            "a candidate that is held",
-            "++HOLD(UA10002) ERROR FMID(HBB7790) REASON(AA30003).\n",
-            "HBB7790  UA10001  AA20002  UA10002  HELD   NO       PE\nROWS 1\n",
-        ),
-        (
-            "a resolver of another function",
-            "++HOLD(UA10001) ERROR FMID(HBB7790) REASON(AA20009).\n\
-             ++PTF(UA10008).\n++VER(Z038) FMID(HXX0001) SUP(AA20009).\n",
-            "HBB7790  UA10001  AA20002  UA10002  GOOD   NO       PE\n\
-             HBB7790  UA10001  AA20009  - NONE - -      -        -\nROWS 2\n",
-        ),
-        (
-            "the FMID of the hold comes before its SYSMOD",
-            "++HOLD(HBB7790) ERROR FMID(HXX0001) REASON(AA20008).\n",
-            "HBB7790  UA10001  AA20002  UA10002  GOOD   NO       PE\n\
-             HXX0001  HBB7790  AA20008  - NONE - -      -        -\nROWS 2\n",
-        ),
-        (
-            "a reason that an installed SYSMOD gives",
-            "++HOLD(UA10001) ERROR FMID(HBB7790) REASON(UA10001).\n",
-            "HBB7790  UA10001  AA20002  UA10002  GOOD   NO       PE\nROWS 1\n",
-        ),
-        (
-            "a released hold",
-            "++RELEASE(UA10001) ERROR REASON(AA20002).\n",
-            "ROWS 0\n",
-        ),
-    ];
-    for (what, more, rows) in cases {
-        assert_err_report(rt.alloc(), what, more, b"SYSMOD\n", rows)?;
-    }
-    assert_err_report(
-        rt.alloc(),
+const NOTHING: &[u8] = b"SYSMOD\n";
+
+// What is tried, what is published after the base, what was received, and the rows of the report.
+static ERRORS: [(&str, &str, &[u8], &str); 9] = [
+    (
+        "a requisite where a function is that isn't installed",
+        "++PTF(UA10002).\n++VER(Z038) FMID(HBB7790) PRE(UA10001) SUP(AA20002).\n\
+         ++IF FMID(HXX0001) REQ(UA10021).\n",
+        NOTHING,
+        "HBB7790  UA10001  AA20002  UA10002  GOOD   NO       PE\nROWS 1\n",
+    ),
+    (
+        "a requisite where a function is that is installed",
+        "++PTF(UA10002).\n++VER(Z038) FMID(HBB7790) PRE(UA10001) SUP(AA20002).\n\
+         ++IF FMID(HBB7790) REQ(UA10021).\n",
+        NOTHING,
+        "HBB7790  UA10001  AA20002  UA10002  HELD   NO       PE\nROWS 1\n",
+    ),
+    (
+        "each candidate that gives the reason",
+        "++PTF(UA10005).\n++VER(Z038) FMID(HBB7790) SUP(UA10002).\n",
+        NOTHING,
+        "HBB7790  UA10001  AA20002  UA10002  GOOD   NO       PE\n\
+         HBB7790  UA10001  AA20002  UA10005  GOOD   NO       PE\nROWS 2\n",
+    ),
+    (
+        "a candidate that is held",
+        "++HOLD(UA10002) ERROR FMID(HBB7790) REASON(AA30003).\n",
+        NOTHING,
+        "HBB7790  UA10001  AA20002  UA10002  HELD   NO       PE\nROWS 1\n",
+    ),
+    (
+        "a resolver of another function",
+        "++HOLD(UA10001) ERROR FMID(HBB7790) REASON(AA20009).\n\
+         ++PTF(UA10008).\n++VER(Z038) FMID(HXX0001) SUP(AA20009).\n",
+        NOTHING,
+        "HBB7790  UA10001  AA20002  UA10002  GOOD   NO       PE\n\
+         HBB7790  UA10001  AA20009  - NONE - -      -        -\nROWS 2\n",
+    ),
+    (
+        "the FMID of the hold comes before its SYSMOD",
+        "++HOLD(HBB7790) ERROR FMID(HXX0001) REASON(AA20008).\n",
+        NOTHING,
+        "HBB7790  UA10001  AA20002  UA10002  GOOD   NO       PE\n\
+         HXX0001  HBB7790  AA20008  - NONE - -      -        -\nROWS 2\n",
+    ),
+    (
+        "a reason that an installed SYSMOD gives",
+        "++HOLD(UA10001) ERROR FMID(HBB7790) REASON(UA10001).\n",
+        NOTHING,
+        "HBB7790  UA10001  AA20002  UA10002  GOOD   NO       PE\nROWS 1\n",
+    ),
+    (
+        "a released hold",
+        "++RELEASE(UA10001) ERROR REASON(AA20002).\n",
+        NOTHING,
+        "ROWS 0\n",
+    ),
+    (
         "a hold without FMID comes first, and what was received",
         "++HOLD(UA10001) ERROR REASON(AA20009).\n",
         b"SYSMOD\nUA10002\n",
         "-        UA10001  AA20009  - NONE - -      -        -\n\
          HBB7790  UA10001  AA20002  UA10002  GOOD   YES      PE\nROWS 2\n",
-    )
+    ),
+];
+
+#[test]
+fn exception_sysmods_from_statements(rt: HostRuntime) -> Result<(), Fail> {
+    for (what, more, received, rows) in &ERRORS {
+        assert_err_report(rt.alloc(), what, more, received, rows)?;
+    }
+    Ok(())
 }
 
 pub(crate) const FIXCAT: &str = "\
@@ -187,147 +200,185 @@ const SERVER: &str =
 const DEVICE: &str =
     "IBM.Device                                                        HBB7790  AA40001";
 
-// A report's rows are given by what comes before the resolver, and the rest.
-fn assert_missing_report(
-    alloc: Global,
-    what: &str,
-    text: &[u8],
-    rows: &[(&str, &str)],
-) -> Result<(), Fail> {
-    let mut wanted = String::from_str(alloc, MISSING_FRONT)?;
-    for (front, resolver) in rows {
-        write!(wanted, "{front}  {resolver}\n")?;
+const HELD: &str = "++HOLD(UA10009) ERROR FMID(HBB7790) REASON(AA30003).\n";
+
+// What is tried, what is published after the base, the zone, the patterns, and the rows of the report: what comes
+// before the resolver, and the rest.
+type Missing = (
+    &'static str,
+    &'static [&'static str],
+    &'static [u8],
+    &'static [u8],
+    &'static [(&'static str, &'static str)],
+);
+
+static MISSING: [Missing; 6] = [
+    (
+        "a resolver that is not catalogued",
+        &[FIXCAT],
+        ALPHA,
+        b"CATEGORY\nibm.device.*\n",
+        &[(SERVER, "UA10009  LACK   YES")],
+    ),
+    ("no pattern", &[FIXCAT], ALPHA, b"CATEGORY\n", &[]),
+    (
+        "both categories with the resolver and what supersedes it",
+        &[FIXCAT, RESOLVERS],
+        ALPHA,
+        b"CATEGORY\n*\n",
+        &[
+            (DEVICE, "UA10009  GOOD   YES"),
+            (DEVICE, "UA10011  GOOD   NO"),
+            (SERVER, "UA10009  GOOD   YES"),
+            (SERVER, "UA10011  GOOD   NO"),
+        ],
+    ),
+    (
+        "the resolver is superseded there",
+        &[FIXCAT, RESOLVERS],
+        b"SYSMOD,STATE\nHBB7790,APPLIED\nUA10011,ACCEPTED\n",
+        b"CATEGORY\n*\n",
+        &[],
+    ),
+    (
+        "nothing resolves a fix",
+        &[UNRESOLVED],
+        ALPHA,
+        b"CATEGORY\nIBM.DEVICE\n",
+        &[(DEVICE, "- NONE - -      -")],
+    ),
+    (
+        "a resolver that is held",
+        &[FIXCAT, RESOLVERS, HELD],
+        ALPHA,
+        b"CATEGORY\nibm.device\n",
+        &[
+            (DEVICE, "UA10009  HELD   YES"),
+            (DEVICE, "UA10011  GOOD   NO"),
+        ],
+    ),
+];
+
+fn joined(alloc: Global, parts: &[&str]) -> Result<String, Fail> {
+    let mut text = String::new(alloc);
+    for part in parts {
+        text.push_str(part)?;
     }
-    write!(wanted, "ROWS {}\n", rows.len())?;
-    assert_text(what, text, &wanted)
+    Ok(text)
+}
+
+fn missing_text_of(alloc: Global, rows: &[(&str, &str)]) -> Result<String, Fail> {
+    let mut text = String::from_str(alloc, MISSING_FRONT)?;
+    for (front, resolver) in rows {
+        write!(text, "{front}  {resolver}\n")?;
+    }
+    write!(text, "ROWS {}\n", rows.len())?;
+    Ok(text)
+}
+
+fn assert_missing_report(alloc: Global, missing: &Missing) -> Result<(), Fail> {
+    let (what, more, zone, categories, rows) = missing;
+    let text = missing_report(alloc, joined(alloc, more)?.as_str(), zone, categories)?;
+    assert_text(what, &text, &missing_text_of(alloc, rows)?)
 }
 
 #[test]
 fn missing_fixes_from_statements(rt: HostRuntime) -> Result<(), Fail> {
-    let alloc = rt.alloc();
-    let hold = "++HOLD(UA10009) ERROR FMID(HBB7790) REASON(AA30003).\n";
-    let resolved = format!(in alloc; "{FIXCAT}{RESOLVERS}")?;
-    let held = format!(in alloc; "{resolved}{hold}")?;
-    let with_resolver = b"SYSMOD,STATE\nHBB7790,APPLIED\nUA10011,ACCEPTED\n";
-    let cases: [(&str, &str, &[u8], &[u8], &[(&str, &str)]); 6] = [
-        (
-            "a resolver that is not catalogued",
-            FIXCAT,
-            ALPHA,
-            b"CATEGORY\nibm.device.*\n",
-            &[(SERVER, "UA10009  LACK   YES")],
-        ),
-        ("no pattern", FIXCAT, ALPHA, b"CATEGORY\n", &[]),
-        (
-            "both categories with the resolver and what supersedes it",
-            resolved.as_str(),
-            ALPHA,
-            b"CATEGORY\n*\n",
-            &[
-                (DEVICE, "UA10009  GOOD   YES"),
-                (DEVICE, "UA10011  GOOD   NO"),
-                (SERVER, "UA10009  GOOD   YES"),
-                (SERVER, "UA10011  GOOD   NO"),
-            ],
-        ),
-        (
-            "the resolver is superseded there",
-            resolved.as_str(),
-            with_resolver,
-            b"CATEGORY\n*\n",
-            &[],
-        ),
-        (
-            "nothing resolves a fix",
-            UNRESOLVED,
-            ALPHA,
-            b"CATEGORY\nIBM.DEVICE\n",
-            &[(DEVICE, "- NONE - -      -")],
-        ),
-        (
-            "a resolver that is held",
-            held.as_str(),
-            ALPHA,
-            b"CATEGORY\nibm.device\n",
-            &[
-                (DEVICE, "UA10009  HELD   YES"),
-                (DEVICE, "UA10011  GOOD   NO"),
-            ],
-        ),
-    ];
-    for (what, more, zone, categories, rows) in cases {
-        let text = missing_report(alloc, more, zone, categories)?;
-        assert_missing_report(alloc, what, &text, rows)?;
+    for missing in &MISSING {
+        assert_missing_report(rt.alloc(), missing)?;
     }
     Ok(())
+}
+
+// Of so many reasons the holds on one SYSMOD, which nothing resolves.
+fn holds_of(alloc: Global, count: u32) -> Result<String, Fail> {
+    let mut holds = String::new(alloc);
+    for number in 0..count {
+        write!(
+            holds,
+            "++HOLD(UA10001) ERROR FMID(HBB7790) REASON(AB{number:05}).\n"
+        )?;
+    }
+    Ok(holds)
+}
+
+// The rows of these, after the one of the base, with their count.
+fn rows_of(alloc: Global, count: u32) -> Result<String, Fail> {
+    let mut rows = String::from_str(
+        alloc,
+        "HBB7790  UA10001  AA20002  UA10002  GOOD   NO       PE\n",
+    )?;
+    for number in 0..count {
+        write!(
+            rows,
+            "HBB7790  UA10001  AB{number:05}  - NONE - -      -        -\n"
+        )?;
+    }
+    rows.push_str("ROWS 1001\n")?;
+    Ok(rows)
 }
 
 #[test]
 fn a_report_of_1001_rows(rt: HostRuntime) -> Result<(), Fail> {
-    let mut holds = String::new(rt.alloc());
-    let mut wanted = format!(in rt.alloc();
-        "{ERR_FRONT}HBB7790  UA10001  AA20002  UA10002  GOOD   NO       PE\n"
-    )?;
-    for i in 0..1000u32 {
-        writeln!(
-            holds,
-            "++HOLD(UA10001) ERROR FMID(HBB7790) REASON(AB{i:05})."
-        )?;
-        writeln!(
-            wanted,
-            "HBB7790  UA10001  AB{i:05}  - NONE - -      -        -"
-        )?;
-    }
-    wanted.push_str("ROWS 1001\n")?;
-    let text = err_report(rt.alloc(), holds.as_str(), b"SYSMOD\n")?;
-    assert!(rt; text.as_slice() == wanted.as_bytes());
-    Ok(())
+    let alloc = rt.alloc();
+    let (holds, rows) = (holds_of(alloc, 1000)?, rows_of(alloc, 1000)?);
+    assert_err_report(alloc, "1001 rows", &holds, NOTHING, &rows)
 }
 
-#[test]
-fn a_chain_of_1000_members(rt: HostRuntime) -> Result<(), Fail> {
-    let alloc = rt.alloc();
-    // each of them needs the next
-    let mut source = sequence(alloc, "PRE", 999, 999)?;
-    source.push_str("++PTF(N00999).\n++VER(Z038) FMID(HBB7790).\n")?;
-    let mut wanted = String::from_str(alloc, r#"{"plan":["#)?;
-    for number in 0..1000u32 {
+// A good chain in which so many SYSMODs are its members.
+fn chain_of(alloc: Global, count: u32) -> Result<String, Fail> {
+    let mut chain = String::from_str(alloc, r#"{"plan":["#)?;
+    for number in 0..count {
         let comma = if number > 0 { "," } else { "" };
         write!(
-            wanted,
+            chain,
             "{comma}{{\"id\":\"N{number:05}\",\"system\":[],\"user\":[]}}"
         )?;
     }
-    wanted.push_str(r#"],"status":"GOOD","sysmod":"N00000","zone":"TGT1"}"#)?;
-    let text = chain(alloc, source.as_str(), &id("N00000")?)?;
-    assert!(rt; text.as_slice() == wanted.as_bytes());
-    Ok(())
+    chain.push_str(r#"],"status":"GOOD","sysmod":"N00000","zone":"TGT1"}"#)?;
+    Ok(chain)
 }
+
+// The chain of a SYSMOD is this one, after these statements.
+fn assert_chain(alloc: Global, more: &str, sysmod: &str, wanted: &str) -> Result<(), Fail> {
+    let text = chain(alloc, more, &id(sysmod)?)?;
+    assert_text(sysmod, &text, wanted)
+}
+
+// Each of them needs the next.
+#[test]
+fn a_chain_of_1000_members(rt: HostRuntime) -> Result<(), Fail> {
+    let alloc = rt.alloc();
+    let mut source = sequence(alloc, "PRE", 999, 999)?;
+    source.push_str("++PTF(N00999).\n++VER(Z038) FMID(HBB7790).\n")?;
+    assert_chain(alloc, &source, "N00000", chain_of(alloc, 1000)?.as_str())
+}
+
+// What is published after the base, a SYSMOD, and its chain.
+static CHAINS: [(&str, &str, &str); 5] = [
+    (RING, "UA10006", IN_RING),
+    (RING, "UA10007", LATER_IN_RING),
+    (
+        "++HOLD(UA10002) ERROR FMID(HBB7790) REASON(AA30003).\n",
+        "UA10002",
+        r#"{"blocked":"AA30003","status":"HELD","sysmod":"UA10002","zone":"TGT1"}"#,
+    ),
+    (
+        "++HOLD(UA10002) SYSTEM FMID(HBB7790) REASON(IPL).\n",
+        "UA10002",
+        r#"{"plan":[{"id":"UA10002","system":["IPL"],"user":[]}],"status":"GOOD","sysmod":"UA10002","zone":"TGT1"}"#,
+    ),
+    (
+        "",
+        "UA99999",
+        r#"{"status":"LACK","sysmod":"UA99999","zone":"TGT1"}"#,
+    ),
+];
 
 #[test]
 fn chains_as_json(rt: HostRuntime) -> Result<(), Fail> {
-    let cases: [(&str, &str, &str); 5] = [
-        (RING, "UA10006", IN_RING),
-        (RING, "UA10007", LATER_IN_RING),
-        (
-            "++HOLD(UA10002) ERROR FMID(HBB7790) REASON(AA30003).\n",
-            "UA10002",
-            r#"{"blocked":"AA30003","status":"HELD","sysmod":"UA10002","zone":"TGT1"}"#,
-        ),
-        (
-            "++HOLD(UA10002) SYSTEM FMID(HBB7790) REASON(IPL).\n",
-            "UA10002",
-            r#"{"plan":[{"id":"UA10002","system":["IPL"],"user":[]}],"status":"GOOD","sysmod":"UA10002","zone":"TGT1"}"#,
-        ),
-        (
-            "",
-            "UA99999",
-            r#"{"status":"LACK","sysmod":"UA99999","zone":"TGT1"}"#,
-        ),
-    ];
-    for (more, sysmod, wanted) in cases {
-        let text = chain(rt.alloc(), more, &id(sysmod)?)?;
-        assert!(rt; text.as_slice() == wanted.as_bytes(), "{sysmod:?}");
+    for (more, sysmod, wanted) in &CHAINS {
+        assert_chain(rt.alloc(), more, sysmod, wanted)?;
     }
     Ok(())
 }
