@@ -3,7 +3,7 @@
 //! The database refuses a read that finds the damage, but would commit what comes after it, and lose that at the next opening. So
 //! the store is closed from the first refusal on.
 use super::desk::{Trial, worked};
-use super::files::{Opening, store_in};
+use super::files::{InFiles, Opening, store_in};
 use super::script::{Checked, REQUESTS};
 use sqlite::{Alter, Connection, Error, ErrorCode, Files};
 use sqlite_disk::{Disk, Memory, Rot};
@@ -32,14 +32,19 @@ fn damaged_files(alloc: Global, at: usize) -> Files<Rot<Memory>> {
     }
 }
 
-// How many requests are answered over these files, and whether the connection would have committed more.
-fn served<D: Disk + Drop>(trial: &mut Trial, files: Files<D>) -> Checked<(usize, bool)> {
-    let init = Opening::Init(trial.callers.as_slice());
-    let Ok(store) = store_in(trial.alloc, files, init, 2000) else {
-        return Ok((0, false));
-    };
+// How many requests are answered over this store, and whether the connection would have committed more.
+fn served_over<D: Disk + Drop>(trial: &mut Trial, store: InFiles<D>) -> Checked<(usize, bool)> {
     let (answered, mut conn) = trial.served_by(store, 0..REQUESTS)?;
     Ok((answered, would_commit(&mut conn)))
+}
+
+// The same over a store in these files, which are new. None is answered where none can be made.
+fn served<D: Disk + Drop>(trial: &mut Trial, files: Files<D>) -> Checked<(usize, bool)> {
+    let init = Opening::Init(trial.case.callers.as_slice());
+    match store_in(trial.alloc, files, init, 2000) {
+        Ok(store) => served_over(trial, store),
+        Err(_) => Ok((0, false)),
+    }
 }
 
 #[test]

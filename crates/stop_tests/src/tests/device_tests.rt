@@ -22,7 +22,7 @@ type Stop<D> = (Option<usize>, Files<D>);
 
 // Makes a store and serves the script, with its files closed and opened again between, until the device fails.
 fn run<D: Disk + Drop>(trial: &mut Trial, files: Files<D>) -> Checked<Stop<D>> {
-    let init = Opening::Init(trial.callers.as_slice());
+    let init = Opening::Init(trial.case.callers.as_slice());
     match store_in(trial.alloc, files, init, SHORT_LOG) {
         Ok(store) => begin(trial, store),
         Err((StoreFault::Device, files)) => Ok((None, files)),
@@ -41,14 +41,30 @@ fn begin<D: Disk + Drop>(trial: &mut Trial, store: InFiles<D>) -> Checked<Stop<D
     }
 }
 
+fn served_to_end<D: Disk + Drop>(trial: &mut Trial, store: InFiles<D>) -> Checked<Stop<D>> {
+    let (more, conn) = trial.served_by(store, OPENED_AGAIN..REQUESTS)?;
+    Ok((Some(OPENED_AGAIN.saturating_add(more)), files_of(conn)))
+}
+
 fn end<D: Disk + Drop>(trial: &mut Trial, files: Files<D>) -> Checked<Stop<D>> {
     match store_in(trial.alloc, files, Opening::Open, SHORT_LOG) {
-        Ok(store) => {
-            let (more, conn) = trial.served_by(store, OPENED_AGAIN..REQUESTS)?;
-            Ok((Some(OPENED_AGAIN.saturating_add(more)), files_of(conn)))
-        }
+        Ok(store) => served_to_end(trial, store),
         Err((StoreFault::Device, files)) => Ok((Some(OPENED_AGAIN), files)),
         Err(_) => Err("open is refused for another reason"),
+    }
+}
+
+// Where the script stands after so many answered requests, where a store was made: the next one may be on its way.
+fn stage_of(answered: Option<usize>) -> Stage {
+    match answered {
+        Some(answered) => Stage {
+            answered,
+            on_their_way: 1,
+        },
+        None => Stage {
+            answered: 0,
+            on_their_way: 0,
+        },
     }
 }
 
@@ -58,19 +74,11 @@ fn look<D: Disk + Drop>(
     answered: Option<usize>,
     files: Files<D>,
 ) -> Checked<()> {
-    let (store, was_there) = found(trial.alloc, trial.callers.as_slice(), files)?;
-    let stage = match answered {
-        Some(_) if !was_there => return Err("the store is lost"),
-        Some(answered) => Stage {
-            answered,
-            on_their_way: 1,
-        },
-        None => Stage {
-            answered: 0,
-            on_their_way: 0,
-        },
-    };
-    trial.goes_on_by(stage, store)
+    let (store, was_there) = found(trial.alloc, trial.case.callers.as_slice(), files)?;
+    if answered.is_some() && !was_there {
+        return Err("the store is lost");
+    }
+    trial.goes_on_by(stage_of(answered), store)
 }
 
 // The files fail after so many calls: how many requests were answered before.
