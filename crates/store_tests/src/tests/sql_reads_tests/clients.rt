@@ -56,8 +56,8 @@ fn assert_lists<S: Alter>(
     conn: &mut Connection<S>,
     row: &OfClient,
 ) -> Result<(), Fail> {
+    let client = id(row.0)?;
     let (name, zones, _, received, _) = *row;
-    let client = id(name)?;
     assert_equal_at(name, zone_total(conn, &client)?, zones)?;
     assert_equal_at(name, received_ids(alloc, conn, &client)?, received)
 }
@@ -102,6 +102,7 @@ fn assert_found<S: Alter>(alloc: Global, conn: &mut Connection<S>) -> Result<(),
 
 #[test]
 fn a_client_finds_what_it_has(rt: HostRuntime) -> Result<(), Fail> {
-    let mut conn = in_memory(rt.alloc())?;
-    assert_found(rt.alloc(), &mut conn)
+    let alloc = rt.alloc();
+    let mut conn = in_memory(alloc)?;
+    assert_found(alloc, &mut conn)
 }
