@@ -79,9 +79,10 @@ fn assert_conditions(alloc: Global, texts: &[(&[u8], &[u8])], ascends: bool) -> 
 
 #[test]
 fn conditional_requisites_are_made_of_lists_that_ascend(rt: HostRuntime) -> Result<(), Fail> {
+    let alloc = rt.alloc();
     for (texts, ascends) in &CONDITIONS {
-        assert_conditions(rt.alloc(), texts, *ascends)?;
+        assert_conditions(alloc, texts, *ascends)?;
     }
-    assert!(rt; CondNeeds::new(rt.alloc()).as_slice().is_empty());
+    assert!(rt; CondNeeds::new(alloc).as_slice().is_empty());
     Ok(())
 }
