@@ -2,7 +2,7 @@
 ghost use Rattle.std.specs.Prelude.{◌≡◌, false, codes, IfOk};
 ghost use Rattle.clap.specs.Words.{app_of, rule_of};
 ghost use Rattle.clap.specs.declared.builder.command.Command.TheViews.{out-Command as fields_of};
-ghost use Rattle.bureau_program.specs.Line.{bureau_app, cache_rule, connections_rule, holds_app, init_app, migrate_app, port_rule, replay_app, required_rule, serve_app};
+ghost use Rattle.bureau_program.specs.Line.{bureau_app, cache_rule, commands_named, connections_rule, holds_app, init_app, migrate_app, port_rule, replay_app, required_rule, serve_app};
 
 use crate::help::{STATUSES_AND_FAULTS, VERSION};
 use clap::{Arg, ArgAction, Command};
@@ -13,23 +13,27 @@ use std::alloc::Global;
 pub fn command<'a>(alloc: Global) -> Result<Command<'a>, NoMemory>
     ensures { IfOk result (λ command. app_of command ≡ bureau_app) }
 {
-    let holds = holds_command(alloc)?;
-    let init = init_command(alloc)?;
-    let serve = serve_command(alloc)?;
-    let replay = replay_command(alloc)?;
-    let migrate = migrate_command(alloc)?;
+    let bureau = program(alloc)?;
+    let with_holds = bureau.subcommand(holds_command(alloc)?)?;
+    let with_init = with_holds.subcommand(init_command(alloc)?)?;
+    let with_serve = with_init.subcommand(serve_command(alloc)?)?;
+    let with_replay = with_serve.subcommand(replay_command(alloc)?)?;
+    with_replay.subcommand(migrate_command(alloc)?)
+}
+
+// The program, with no command yet.
+fn program<'a>(alloc: Global) -> Result<Command<'a>, NoMemory>
+    ensures { IfOk result (λ command. app_of command ≡ commands_named (codes "bureau")) }
+{
     let bureau = Command::new(alloc, "bureau").bin_name("bureau")?;
-    bureau
-        .about("Exception SYSMODs and missing fixes of z/OS SMP/E zones")
-        .version(VERSION)
-        .after_help(STATUSES_AND_FAULTS)
-        .no_binary_name(true)
-        .subcommand_required(true)
-        .subcommand(holds)?
-        .subcommand(init)?
-        .subcommand(serve)?
-        .subcommand(replay)?
-        .subcommand(migrate)
+    Ok(
+        bureau
+            .about("Exception SYSMODs and missing fixes of z/OS SMP/E zones")
+            .version(VERSION)
+            .after_help(STATUSES_AND_FAULTS)
+            .no_binary_name(true)
+            .subcommand_required(true),
+    )
 }
 
 // `holds FILE`
