@@ -105,22 +105,11 @@ fn a_fault_has_a_text(rt: HostRuntime) -> Result<(), Fail> {
     assert_equal(HoldFault::Memory.told(), AnyFault::of_machine(17))
 }
 
+#[rattlefmt::skip]
 static SPELLINGS: [(&[u8], Kind, Option<u32>); 3] = [
-    (
-        b"++HOLD(UA10001) reason(AA20002) Err error(X).\n",
-        Kind::ErrorHold,
-        None,
-    ),
-    (
-        b"++HOLD(UA10001) SYS Date(12366) REASON(AA20002).\n",
-        Kind::SystemHold,
-        Some(12366),
-    ),
-    (
-        b"++HOLD(UA10001) FIXCAT REASON(AA20002) SMPTLIB(ua) COMMENT(A'B).\n",
-        Kind::FixcatHold,
-        None,
-    ),
+    (b"++HOLD(UA10001) reason(AA20002) Err error(X).\n", Kind::ErrorHold, None),
+    (b"++HOLD(UA10001) SYS Date(12366) REASON(AA20002).\n", Kind::SystemHold, Some(12366)),
+    (b"++HOLD(UA10001) FIXCAT REASON(AA20002) SMPTLIB(ua) COMMENT(A'B).\n", Kind::FixcatHold, None),
 ];
 
 #[test]
@@ -215,17 +204,10 @@ fn assert_book(alloc: Global, source: &[u8], rows: &str) -> Result<(), Fail> {
     assert_equal_at(rows, print_of(alloc, source)?, Ok(print(alloc, rows)?))
 }
 
+#[rattlefmt::skip]
 static FAULTY_SOURCES: [(&[u8], u8, u32); 4] = [
-    (
-        b"++HOLD(UA10001) ERROR REASON(AA20002)\n CATEGORY(A'B).\n",
-        16,
-        1,
-    ),
-    (
-        b"++RELEASE(UA10001) ERROR REASON(AA20002) FMID(a).\n",
-        14,
-        1,
-    ),
+    (b"++HOLD(UA10001) ERROR REASON(AA20002)\n CATEGORY(A'B).\n", 16, 1),
+    (b"++RELEASE(UA10001) ERROR REASON(AA20002) FMID(a).\n", 14, 1),
     (b"\n++RELEASE(UA10001) REASON(AA20002).\n", 11, 2),
     (b"++RELEASE(UA10001) ERROR CLASS(a b).\n", 13, 1),
 ];

@@ -271,11 +271,9 @@ fn no_statement_comes_after_the_last(rt: HostRuntime) -> Result<(), Fail> {
 }
 
 // More values than are copied, and a short list after the long one.
+#[rattlefmt::skip]
 static ASKED: [(&[&[u8]], [&str; 3]); 3] = [
-    (
-        &[b"REASON", b"fmid"],
-        ["1 A reason=B=C=D FMID", "3 B Reason=D REASON", "5 C"],
-    ),
+    (&[b"REASON", b"fmid"], ["1 A reason=B=C=D FMID", "3 B Reason=D REASON", "5 C"]),
     (&[b"OTHER"], ["1 A OTHER=X=REASON=Y", "3 B", "5 C"]),
     (&[], ["1 A", "3 B", "5 C"]),
 ];

@@ -24,15 +24,12 @@ fn head(alloc: Global, first: &[u8], lines: &[u8]) -> Result<Vec<u8>, NoMemory> 
     Ok(text)
 }
 
+#[rattlefmt::skip]
 static LENGTHS: [(&[u8], &[u8], u64); 6] = [
     (b"GET /zones", b"", 0),
     (b"POST /publish", b"content-length: 0\r\n", 0),
     (b"PUT /received", b"Content-Length:\t 0045 \r\n", 45),
-    (
-        b"PUT /received",
-        b"content-length: 67108864\r\n",
-        67_108_864,
-    ),
+    (b"PUT /received", b"content-length: 67108864\r\n", 67_108_864),
     (b"GET /zones", b"content-length: 3\r\n", 3),
     (b"HEAD /published", b"host: localhost\n", 0),
 ];
@@ -103,22 +100,14 @@ fn length_of(alloc: Global, first: &[u8], lines: &[u8]) -> Result<Result<u64, Re
 }
 
 // A request, and why its path is refused.
+#[rattlefmt::skip]
 static REFUSED_PATHS: [(&[u8], Refusal); 7] = [
     (b"GET /zones/tgt1/errsysmods", Refusal::NotFound),
-    (
-        b"GET /zones/TGT1%2Ferrsysmods",
-        Refusal::MethodNotAllowed(Resource::Zone),
-    ),
+    (b"GET /zones/TGT1%2Ferrsysmods", Refusal::MethodNotAllowed(Resource::Zone)),
     (b"GET /zones/", Refusal::NotFound),
     (b"GET /", Refusal::NotFound),
-    (
-        b"DELETE /published",
-        Refusal::MethodNotAllowed(Resource::Catalogue),
-    ),
-    (
-        b"HEAD /published",
-        Refusal::MethodNotAllowed(Resource::Catalogue),
-    ),
+    (b"DELETE /published", Refusal::MethodNotAllowed(Resource::Catalogue)),
+    (b"HEAD /published", Refusal::MethodNotAllowed(Resource::Catalogue)),
     (b"get /zones", Refusal::MethodNotAllowed(Resource::Zones)),
 ];
 
