@@ -24,12 +24,12 @@ struct Drawn {
     applicable: u32,
     listed: u32,
     installed: u32,
-    rows: Vec<Row>,
+    records: Vec<Record>,
 }
 
 // What is drawn of one id.
 #[derive(Clone, Copy)]
-struct Row {
+struct Record {
     needs: u32,
     // What it needs where the functions of conditions are installed, by function.
     conds: [u32; 3],
@@ -53,15 +53,15 @@ fn with(ids: u32, id: u32) -> u32 {
     ids | 1u32.wrapping_shl(id)
 }
 
-const NOTHING: Row = Row {
+const NOTHING: Record = Record {
     needs: 0,
     conds: [0, 0, 0],
     superseded: 0,
 };
 
-impl Row {
-    fn draw(draws: &mut Draws) -> Row {
-        Row {
+impl Record {
+    fn draw(draws: &mut Draws) -> Record {
+        Record {
             needs: drawn_set(draws, 2),
             conds: [
                 drawn_set(draws, 3),
@@ -72,30 +72,30 @@ impl Row {
         }
     }
 
-    fn draw_all(alloc: Global, draws: &mut Draws) -> Result<Vec<Row>, Fail> {
-        let mut rows = Vec::new(alloc);
+    fn draw_all(alloc: Global, draws: &mut Draws) -> Result<Vec<Record>, Fail> {
+        let mut records = Vec::new(alloc);
         for _ in 0..IDS {
-            rows.push(Row::draw(draws))?;
+            records.push(Record::draw(draws))?;
         }
-        Ok(rows)
+        Ok(records)
     }
 }
 
 impl Drawn {
     fn draw(alloc: Global, draws: &mut Draws) -> Result<Drawn, Fail> {
-        let rows = Row::draw_all(alloc, draws)?;
+        let records = Record::draw_all(alloc, draws)?;
         let listed = drawn_set(draws, 2);
         Ok(Drawn {
             catalogued: drawn_set(draws, 1) | drawn_set(draws, 1),
             applicable: drawn_set(draws, 1) | drawn_set(draws, 1),
             listed,
             installed: listed & drawn_set(draws, 1),
-            rows,
+            records,
         })
     }
 
-    fn row(&self, id: u32) -> Row {
-        self.rows.get(id as usize).copied().unwrap_or(NOTHING)
+    fn record(&self, id: u32) -> Record {
+        self.records.get(id as usize).copied().unwrap_or(NOTHING)
     }
 
     fn candidates(&self) -> u32 {
@@ -111,7 +111,7 @@ impl Drawn {
         for _ in 0..IDS {
             for other in 0..IDS {
                 if has(given & self.catalogued, other) {
-                    given |= self.row(other).superseded;
+                    given |= self.record(other).superseded;
                 }
             }
         }
@@ -135,8 +135,8 @@ impl Drawn {
 
     // The needs of an id that aren't there. Of the functions of conditions the first one is installed.
     fn open_needs(&self, id: u32) -> u32 {
-        let row = self.row(id);
-        (row.needs | row.conds[0]) & !self.there()
+        let record = self.record(id);
+        (record.needs | record.conds[0]) & !self.there()
     }
 
     fn is_plan(&self, ids: u32) -> bool {
@@ -207,15 +207,15 @@ impl Drawn {
 
     // Of the needs of an id the first are PRE, the next REQ, the others reasons of holds.
     fn put_operands(&self, text: &mut String, id: u32) -> Result<(), Fail> {
-        let row = self.row(id);
-        put_list(text, "PRE", row.needs & 0x07)?;
-        put_list(text, "REQ", row.needs & 0x18)?;
-        put_list(text, "SUP", row.superseded)?;
+        let record = self.record(id);
+        put_list(text, "PRE", record.needs & 0x07)?;
+        put_list(text, "REQ", record.needs & 0x18)?;
+        put_list(text, "SUP", record.superseded)?;
         Ok(text.push_str(" .\n")?)
     }
 
     fn put_conditions(&self, text: &mut String, id: u32) -> Result<(), Fail> {
-        for (function, required) in FUNCTIONS.iter().zip(self.row(id).conds) {
+        for (function, required) in FUNCTIONS.iter().zip(self.record(id).conds) {
             put_condition(text, function, required)?;
         }
         Ok(())
@@ -233,7 +233,7 @@ impl Drawn {
     }
 
     fn put_holds(&self, text: &mut String, id: u32) -> Result<(), Fail> {
-        let reasons = self.row(id).needs & held(has(self.catalogued, id));
+        let reasons = self.record(id).needs & held(has(self.catalogued, id));
         for reason in 0..IDS {
             if has(reasons, reason) {
                 write!(
