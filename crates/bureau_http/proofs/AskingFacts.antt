@@ -4,7 +4,7 @@ use Rattle.std.specs.Prelude.{is_some}
 use Rattle.std.specs.Str.{bytes_eq}
 use Rattle.catalogue.specs.View.{Keeps, View}
 use Rattle.catalogue.proofs.SourceFacts.{was_open}
-use Rattle.requests.specs.Request.{Parts, action_of, number_of, token_of}
+use Rattle.requests.specs.Request.{Parts, action_of, number_of}
 use Rattle.requests.specs.declared.action.Action.{Action}
 use Rattle.requests.specs.declared.refusal.Refusal.{Refusal}
 use Rattle.requests.specs.declared.refusal.Refusal.TheVariants.{UnknownToken}
@@ -39,30 +39,30 @@ among (row ∷ rows) token caller h = among_test (bytes_eq row.token token) row 
 -- ---- what is asked
 
 pub made : (rows : List CallerRow) (parts : Parts) (body token : List ℕ) (caller : Caller) (action : Action) (number : Option ℕ)
-    → Some token ≡ token_of parts → Some caller ≡ caller_with rows token → Ok action ≡ action_of parts → number ≡ number_of parts
+    → Some token ≡ parts.token → Some caller ≡ caller_with rows token → Ok action ≡ action_of parts → number ≡ number_of parts
     → what_of rows parts body ≡ Ok (caller, call_of action number body)
 made rows parts body token caller action number is_token is_caller is_action is_number =
     ap (λ t. by_caller (caller_in rows t) parts body) (sym is_token) ∙ ap (λ c. by_caller c parts body) (sym is_caller)
     ∙ ap (λ a. of_caller caller a (number_of parts) body) (sym is_action) ∙ ap (λ n. Ok (caller, call_of action n body)) (sym is_number)
 
 pub unmade : (rows : List CallerRow) (parts : Parts) (body token : List ℕ) (caller : Caller) (refusal : Refusal)
-    → Some token ≡ token_of parts → Some caller ≡ caller_with rows token → Err refusal ≡ action_of parts
+    → Some token ≡ parts.token → Some caller ≡ caller_with rows token → Err refusal ≡ action_of parts
     → what_of rows parts body ≡ Err refusal
 unmade rows parts body token caller refusal is_token is_caller is_action =
     ap (λ t. by_caller (caller_in rows t) parts body) (sym is_token) ∙ ap (λ c. by_caller c parts body) (sym is_caller)
     ∙ ap (λ a. of_caller caller a (number_of parts) body) (sym is_action)
 
-pub unknown : (rows : List CallerRow) (parts : Parts) (body token : List ℕ) → Some token ≡ token_of parts → None ≡ caller_with rows token
+pub unknown : (rows : List CallerRow) (parts : Parts) (body token : List ℕ) → Some token ≡ parts.token → None ≡ caller_with rows token
     → what_of rows parts body ≡ Err UnknownToken
 unknown rows parts body token is_token is_caller =
     ap (λ t. by_caller (caller_in rows t) parts body) (sym is_token) ∙ ap (λ c. by_caller c parts body) (sym is_caller)
 
-pub without_token : (rows : List CallerRow) (parts : Parts) (body : List ℕ) → None ≡ token_of parts → what_of rows parts body ≡ Err UnknownToken
+pub without_token : (rows : List CallerRow) (parts : Parts) (body : List ℕ) → None ≡ parts.token → what_of rows parts body ≡ Err UnknownToken
 without_token rows parts body is_token = ap (λ t. by_caller (caller_in rows t) parts body) (sym is_token)
 
 -- ---- where a 503 may come
 
-pub token_there : (parts : Parts) (token : List ℕ) → Some token ≡ token_of parts → has_token parts ≡ true
+pub token_there : (parts : Parts) (token : List ℕ) → Some token ≡ parts.token → has_token parts ≡ true
 token_there parts token is = ap is_some (sym is)
 
 -- ---- the run of a request

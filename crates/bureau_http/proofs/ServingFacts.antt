@@ -10,7 +10,7 @@ use Rattle.transfer.specs.declared.fault.TransferFault.{TransferFault}
 use Rattle.transfer.specs.declared.fault.TransferFault.TheVariants as transfer
 use Rattle.requests.specs.HeadEnd.{head_limit}
 use Rattle.requests.specs.Order.{is_bare}
-use Rattle.requests.specs.Request.{Parts, closes}
+use Rattle.requests.specs.Request.{Parts}
 use Rattle.requests.specs.Turn.{IsNext, IsUnfinished, refused, whole}
 use Rattle.requests.specs.declared.refusal.Refusal.{Refusal}
 use Rattle.bureau_store.specs.Tables.{Tables}
@@ -337,7 +337,7 @@ pub also_asked : (Runs : Tables → List Turn → Tables → Type 0) (this : Tab
 also_asked Runs this place bytes Writes done = record { exchange = done.exchange; asked = inl done.asked; has = done.has; written = done.written }
 
 asked_test : (ends : Bool) (rows : List CallerRow) (place : ℕ) (bytes : List ℕ) (parts : Parts) (body following : List ℕ) (answer : Answer)
-    → IsNext bytes (whole parts body following) → ends ≡ (closes parts || nat_le most_requests place)
+    → IsNext bytes (whole parts body following) → ends ≡ (parts.closes || nat_le most_requests place)
     → IsAsked rows place bytes (asked_as (what_of rows parts body) (has_token parts) (is_bare parts) ends answer).asked
 asked_test true rows place bytes parts body following answer next e =
     inl (whole parts body following, next, (ap (λ b. record { what = what_of rows parts body; has_token = has_token parts; is_bare = is_bare parts; closes = b }) e, refl))
@@ -355,7 +355,7 @@ asked_test false rows place bytes parts body following answer next e =
 
 -- a whole request whose reply wasn't written whole
 pub whole_cut : (Runs : Tables → List Turn → Tables → Type 0) (this : Tables) (place : ℕ) (bytes : List ℕ) (parts : Parts) (body following : List ℕ) (ends : Bool) (old new : Option (List ℕ))
-    (answer : Result (Unit {0}) ConnFault) (fault : ConnFault) → IsNext bytes (whole parts body following) → ends ≡ (closes parts || nat_le most_requests place)
+    (answer : Result (Unit {0}) ConnFault) (fault : ConnFault) → IsNext bytes (whole parts body following) → ends ≡ (parts.closes || nat_le most_requests place)
     → answer ≡ Err fault → IsExchanged Runs this (what_of this.callers parts body) (has_token parts) (is_bare parts) ends old new answer
     → (fault ≡ Write) × Exchanged Runs this (IsAsked this.callers place bytes) (AppendsFront old new)
 whole_cut Runs this place bytes parts body following ends old new answer fault next e is done =

@@ -3,7 +3,7 @@
 -- after the reply.
 use Rattle.std.specs.Prelude.{ℕ, ◌||◌, Bool, true, false, List, is_some, nat_le, Option, Some, None, Result, Ok, Err}
 use Rattle.requests.specs.Order.{is_bare}
-use Rattle.requests.specs.Request.{Parts, action_of, closes, number_of, token_of}
+use Rattle.requests.specs.Request.{Parts, action_of, number_of}
 use Rattle.requests.specs.declared.action.Action.{Action}
 use Rattle.requests.specs.declared.refusal.Refusal.{Refusal}
 use Rattle.requests.specs.declared.refusal.Refusal.TheVariants.{UnknownToken}
@@ -43,7 +43,7 @@ caller_in rows None = None
 caller_in rows (Some token) = caller_with rows token
 
 abbrev pub what_of : List CallerRow → Parts → List ℕ → What
-what_of rows parts body = by_caller (caller_in rows (token_of parts)) parts body
+what_of rows parts body = by_caller (caller_in rows parts.token) parts body
 
 pub record Asked : Type 0 where
   pub what : What
@@ -57,7 +57,7 @@ most_requests = 10000
 
 -- there is just one token
 abbrev pub has_token : Parts → Bool
-has_token parts = is_some (token_of parts)
+has_token parts = is_some parts.token
 
 -- what a whole request asks, at its place in the connection, counted from 1
 abbrev pub asked_whole : List CallerRow → ℕ → Parts → List ℕ → Asked
@@ -65,7 +65,7 @@ asked_whole rows place parts body = record {
   what = what_of rows parts body;
   has_token = has_token parts;
   is_bare = is_bare parts;
-  closes = closes parts || nat_le most_requests place;
+  closes = parts.closes || nat_le most_requests place;
 }
 
 -- what a head asks that is refused: its token isn't looked up, and the connection ends after the reply

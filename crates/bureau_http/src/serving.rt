@@ -7,8 +7,7 @@ ghost use Rattle.bureau.specs.Kept.{IsKeptRun};
 ghost use Rattle.bureau.specs.Runs.{IsLawfulRun};
 ghost use Rattle.catalogue.specs.View.{Goes, Tells};
 ghost use Rattle.requests.specs.Order.{is_bare};
-ghost use Rattle.requests.specs.Request.{closes};
-ghost use Rattle.requests.specs.Turn.{IsAt, body_in, parts_in};
+ghost use Rattle.requests.specs.Turn.{IsAt, body_in, closes, parts_in};
 
 use crate::asking::answer_to;
 use crate::desk::Desk;
@@ -149,7 +148,7 @@ fn serve_next<D: Desk, R: Read, W: Write>(
             Ok(Step::Ends)
         }
         Turn::Whole(request) => {
-            let closes = ends_after(&request, intake.bytes(), place);
+            let closes = ends_after(&request, place);
             serve_request(
                 desk,
                 routes,
@@ -166,11 +165,10 @@ fn serve_next<D: Desk, R: Read, W: Write>(
 }
 
 // Whether a connection ends after the reply to this request.
-fn ends_after(request: &Request, bytes: &[u8], place: u64) -> bool
-    requires { IsAt bytes.now request.now }
-    ensures { result ≡ (closes (parts_in bytes.now request.now) || nat_le most_requests place) }
+fn ends_after(request: &Request, place: u64) -> bool
+    ensures { result ≡ (closes request.now || nat_le most_requests place) }
 {
-    request.closes(bytes) || place >= MOST_REQUESTS
+    request.closes() || place >= MOST_REQUESTS
 }
 
 // Answers a whole request, and writes the reply.

@@ -1,14 +1,15 @@
 -- Short heads, paths and lengths with what they decide: theorems about the definitions alone, so that a reader sees
 -- them mean what they should.
-use Rattle.std.proofs.Common.{◌≡◌, ℕ, true, false, List, [], ◌∷◌, Some, None, Ok, Err, codes, refl}
+use Rattle.std.proofs.Common.{◌≡◌, ℕ, true, false, List, [], ◌∷◌, Some, None, Result, Ok, Err, codes, refl}
 use Rattle.matchit.proofs.OnLiterals.{matchit_on_literals}
 use Rattle.percent_encoding.proofs.OnLiterals.{percent_encoding_on_literals}
 use Rattle.requests.specs.HeadEnd.{front_of, lines_between, whole_len}
 use Rattle.requests.specs.Headers.{Pair}
-use Rattle.requests.specs.Request.{Parts, asked, body_len, closes, longest_body, number_of, token_of, zone_in}
+use Rattle.requests.specs.Request.{Parts, asked, body_len, longest_body, number_of, parts_by, zone_in}
 use Rattle.requests.specs.Routes.{allow_of, routes, table, with_route}
 use Rattle.requests.specs.declared.action.Action.TheVariants as action
 use Rattle.requests.specs.declared.front.Front.TheVariants.{CleanEnd, EndInside, TooLarge}
+use Rattle.requests.specs.declared.refusal.Refusal.{Refusal}
 use Rattle.requests.specs.declared.refusal.Refusal.TheVariants.{BadRequest, LengthRequired, MethodNotAllowed, NotFound, TooLarge as BodyTooLarge}
 use Rattle.requests.specs.declared.resource.Resource.TheVariants as resource
 
@@ -40,42 +41,45 @@ two_lines_between = refl
 
 -- ---- what the fields decide
 
-abbrev parts : List ℕ → List Pair → Parts
-parts method fields = record { method = method; target = codes "/received"; minor = 1; fields = fields }
+abbrev length_with : List ℕ → List Pair → Result ℕ Refusal
+length_with method fields = body_len method (codes "/received") fields
 
-pub told_length : body_len (parts (codes "PUT") ((codes "Content-Length", codes "0045") ∷ [])) ≡ Ok 45
+abbrev parts_with : List ℕ → List Pair → Parts
+parts_with method fields = parts_by method (codes "/received") 1 fields
+
+pub told_length : length_with (codes "PUT") ((codes "Content-Length", codes "0045") ∷ []) ≡ Ok 45
 unfolding longest_body
 told_length = refl
 
-pub signed_length : body_len (parts (codes "PUT") ((codes "content-length", codes "+5") ∷ [])) ≡ Err BadRequest
+pub signed_length : length_with (codes "PUT") ((codes "content-length", codes "+5") ∷ []) ≡ Err BadRequest
 signed_length = refl
 
-pub two_lengths : body_len (parts (codes "PUT") ((codes "content-length", codes "5") ∷ (codes "CONTENT-LENGTH", codes "5") ∷ [])) ≡ Err BadRequest
+pub two_lengths : length_with (codes "PUT") ((codes "content-length", codes "5") ∷ (codes "CONTENT-LENGTH", codes "5") ∷ []) ≡ Err BadRequest
 two_lengths = refl
 
-pub no_length : body_len (parts (codes "PUT") []) ≡ Err LengthRequired
+pub no_length : length_with (codes "PUT") [] ≡ Err LengthRequired
 no_length = refl
 
-pub no_length_and_no_body : body_len (parts (codes "DELETE") []) ≡ Ok 0
+pub no_length_and_no_body : length_with (codes "DELETE") [] ≡ Ok 0
 no_length_and_no_body = refl
 
-pub coded_body : body_len (parts (codes "PUT") ((codes "transfer-encoding", codes "chunked") ∷ (codes "content-length", codes "5") ∷ [])) ≡ Err LengthRequired
+pub coded_body : length_with (codes "PUT") ((codes "transfer-encoding", codes "chunked") ∷ (codes "content-length", codes "5") ∷ []) ≡ Err LengthRequired
 coded_body = refl
 
-pub one_byte_too_many : body_len (parts (codes "PUT") ((codes "content-length", codes "67108865") ∷ [])) ≡ Err BodyTooLarge
+pub one_byte_too_many : length_with (codes "PUT") ((codes "content-length", codes "67108865") ∷ []) ≡ Err BodyTooLarge
 unfolding longest_body
 one_byte_too_many = refl
 
-pub close_in_a_list : closes (parts (codes "GET") ((codes "connection", codes "keep-alive,\t Close") ∷ [])) ≡ true
+pub close_in_a_list : (parts_with (codes "GET") ((codes "connection", codes "keep-alive,\t Close") ∷ [])).closes ≡ true
 close_in_a_list = refl
 
-pub closed_is_another_word : closes (parts (codes "GET") ((codes "connection", codes "closed") ∷ [])) ≡ false
+pub closed_is_another_word : (parts_with (codes "GET") ((codes "connection", codes "closed") ∷ [])).closes ≡ false
 closed_is_another_word = refl
 
-pub token_twice : token_of (parts (codes "GET") ((codes "bureau-token", codes "a") ∷ (codes "Bureau-Token", codes "a") ∷ [])) ≡ None
+pub token_twice : (parts_with (codes "GET") ((codes "bureau-token", codes "a") ∷ (codes "Bureau-Token", codes "a") ∷ [])).token ≡ None
 token_twice = refl
 
-pub number_with_a_sign : number_of (parts (codes "PUT") ((codes "bureau-number", codes "+1") ∷ [])) ≡ None
+pub number_with_a_sign : number_of (parts_with (codes "PUT") ((codes "bureau-number", codes "+1") ∷ [])) ≡ None
 number_with_a_sign = refl
 
 -- ---- what a path and a method ask for

@@ -1,11 +1,19 @@
 -- What a head decides.
-use Rattle.std.proofs.Common.{◌≡◌, ℕ, ◌<◌, ◌≤◌, Bool, true, false, List, nat_lt, not, Some, None, Result, Ok, Err, if◌then◌else◌, refl, ap, ◌∙◌, arith}
+use Rattle.std.proofs.Common.{◌≡◌, ℕ, ◌<◌, ◌≤◌, Bool, true, false, List, [], length, take, drop, nat_lt, Some, None, Ok, Err, refl, ap, ◌∙◌, subst, arith}
 use Rattle.std.proofs.lemmas.Bool.Decides.{nat_tests}
-use Rattle.requests.specs.Head.{IsHead, IsNoHead}
+use Rattle.std.proofs.lemmas.List.{drop_all}
+use Rattle.httparse.specs.Grammar.{RequestHead, ReadsRequest}
+use Rattle.httparse.specs.Outcome.{IfComplete}
+use Rattle.httparse.specs.Spans.{IsRequestAt, IsRequestOf, span_bytes}
+use Rattle.httparse.specs.declared.Error.{Error}
+use Rattle.httparse.specs.declared.Status.{Status}
+use Rattle.httparse.specs.declared.Status.TheVariants.{Complete, Partial}
+use Rattle.httparse.specs.declared.spans.HeaderSpan.{HeaderSpan}
+use Rattle.httparse.specs.declared.spans.RequestSpans.{RequestSpans}
+use Rattle.requests.specs.Head.{IsNoHead}
 use Rattle.requests.specs.HeadEnd.{lines_between}
-use Rattle.requests.specs.Order.{Decision, IsDecided, IsDecidedBy, by_length, is_bare}
-use Rattle.requests.specs.Request.{Parts, body_len, is_path}
-use Rattle.requests.specs.declared.refusal.Refusal.{Refusal}
+use Rattle.requests.specs.Headers.{pairs_at}
+use Rattle.requests.specs.Order.{Decision, IsDecided, IsDecidedBy, by_parts}
 use Rattle.requests.specs.declared.refusal.Refusal.TheVariants.{BadRequest, HeadTooLarge}
 
 by_test : (t : Bool) (bytes : List ℕ) (decision : Decision) → nat_lt 64 (lines_between bytes) ≡ t → IsDecidedBy t bytes decision
@@ -18,19 +26,32 @@ many_lines bytes more = by_test true bytes _ (grind (arith, nat_tests)) refl
 pub no_head : (bytes : List ℕ) → lines_between bytes ≤ 64 → IsNoHead bytes → IsDecided bytes (Err (BadRequest, false))
 no_head bytes few none = by_test false bytes _ (grind (arith, nat_tests)) (None, none, refl)
 
-pub with_length : (bytes : List ℕ) (parts : Parts) (n : ℕ) → lines_between bytes ≤ 64 → IsHead bytes parts → Ok n ≡ body_len parts
-    → IsDecided bytes (Ok (parts, n))
-with_length bytes parts n few head e =
-    by_test false bytes _ (grind (arith, nat_tests)) (Some parts, head, ap (by_length parts) e)
+-- the spans of a head that is as long as the bytes
+whole : (bytes : List ℕ) (headers : List HeaderSpan) (spans : RequestSpans) (head : RequestHead) (decision : Decision)
+    → lines_between bytes ≤ 64 → IsRequestAt bytes headers spans head → spans.len ≡ length bytes
+    → decision ≡ by_parts (span_bytes bytes spans.method) (span_bytes bytes spans.path) spans.version (pairs_at bytes (take spans.headers headers))
+    → IsDecided bytes decision
+whole bytes headers spans head decision few at long is =
+    let nothing : drop spans.len bytes ≡ [] = ap (λ n. drop n bytes) long ∙ drop_all (length bytes) bytes (omega arith) in
+    let reads : ReadsRequest bytes head [] = subst (ReadsRequest bytes head) nothing at.reads in
+    by_test false bytes _ (grind (arith, nat_tests)) (
+      Some head,
+      reads,
+      is ∙ ap (λ m. by_parts m (span_bytes bytes spans.path) spans.version (pairs_at bytes (take spans.headers headers))) at.method
+          ∙ ap (λ t. by_parts head.method t spans.version (pairs_at bytes (take spans.headers headers))) at.path
+          ∙ ap (λ v. by_parts head.method head.target v (pairs_at bytes (take spans.headers headers))) at.version
+          ∙ ap (by_parts head.method head.target head.minor) at.fields,
+    )
 
-pub without_length : (bytes : List ℕ) (parts : Parts) (refusal : Refusal) (bare : Bool) → lines_between bytes ≤ 64 → IsHead bytes parts
-    → Err refusal ≡ body_len parts → bare ≡ is_bare parts → IsDecided bytes (Err (refusal, bare))
-without_length bytes parts refusal bare few head e is =
-    by_test false bytes _ (grind (arith, nat_tests)) (Some parts, head, ap (λ b. Err (refusal, b)) is ∙ ap (by_length parts) e)
+found : (P : RequestSpans → Type 0) (status : Status RequestSpans) (spans : RequestSpans) → status ≡ Complete spans
+    → IfComplete {A = RequestSpans} {E = Error} (Ok status) P → P spans
+found P (Complete other) spans e h = let same : other ≡ spans = cc in subst P same h
+found P Partial spans e h = cc
 
-path_test : (t : Bool) (n : ℕ) (other : Result ℕ Refusal) → Ok n ≡ (if not t then Err BadRequest else other) → t ≡ true
-path_test true n other e = refl
-path_test false n other e = cc
-
-pub length_of_path : (parts : Parts) (n : ℕ) → Ok n ≡ body_len parts → is_path parts.target ≡ true
-length_of_path parts n e = path_test (is_path parts.target) n _ e
+pub decided_whole : (bytes : List ℕ) (headers : List HeaderSpan) (status : Status RequestSpans) (spans : RequestSpans) (decision : Decision)
+    → lines_between bytes ≤ 64 → status ≡ Complete spans → IfComplete {A = RequestSpans} {E = Error} (Ok status) (IsRequestOf bytes headers) → spans.len ≡ length bytes
+    → decision ≡ by_parts (span_bytes bytes spans.method) (span_bytes bytes spans.path) spans.version (pairs_at bytes (take spans.headers headers))
+    → IsDecided bytes decision
+decided_whole bytes headers status spans decision few here complete long is =
+    let head = found (IsRequestOf bytes headers) status spans here complete in
+    whole bytes headers spans head.0 decision few head.1 long is

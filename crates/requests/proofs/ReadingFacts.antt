@@ -1,20 +1,19 @@
 -- Only one thing stands next in the bytes of a connection.
 use Rattle.std.proofs.Common.{◌≡◌, ℕ, Bool, true, false, List, [], take, drop, nat_lt, Option, Some, None, refl, sym, ap, ◌∙◌}
 use Rattle.httparse.proofs.GrammarLemmas.{request_unique}
+use Rattle.httparse.specs.Grammar.{RequestHead}
 use Rattle.requests.specs.HeadEnd.{front_of, head_limit, lines_between}
 use Rattle.requests.specs.Order.{Decision, IsDecided, IsDecidedBy, IsRead, by_head}
-use Rattle.requests.specs.Request.{Parts, parts_of}
 use Rattle.requests.specs.Turn.{IsNext, IsNextBy, Next, after_head}
 use Rattle.requests.specs.declared.front.Front.{Front}
 use Rattle.requests.specs.declared.front.Front.TheVariants.{Head, CleanEnd, EndInside, TooLarge}
 
 -- the bytes are read as one head, or as none
-one_head : (bytes : List ℕ) (read other : Option Parts) → IsRead bytes read → IsRead bytes other → read ≡ other
+one_head : (bytes : List ℕ) (read other : Option RequestHead) → IsRead bytes read → IsRead bytes other → read ≡ other
 one_head bytes None None is also = refl
-one_head bytes None (Some parts) is also = absurd (is also.head also.reads)
-one_head bytes (Some parts) None is also = absurd (also is.head is.reads)
-one_head bytes (Some parts) (Some others) is also =
-    ap (λ p. Some p) (is.parts_are ∙ ap parts_of (request_unique bytes is.head also.head [] [] is.reads also.reads).0 ∙ sym also.parts_are)
+one_head bytes None (Some head) is also = absurd (is head also)
+one_head bytes (Some head) None is also = absurd (also head is)
+one_head bytes (Some head) (Some other) is also = ap (λ h. Some h) (request_unique bytes head other [] [] is also).0
 
 decided_by : (many : Bool) (bytes : List ℕ) (decision other : Decision) → IsDecidedBy many bytes decision → IsDecidedBy many bytes other
     → decision ≡ other

@@ -27,6 +27,10 @@ sole [] = None
 sole (value ∷ []) = Some value
 sole (value ∷ other ∷ more) = None
 
+-- the value of the field with this name, where there is just one
+abbrev pub sole_value : List ℕ → List Pair → Option (List ℕ)
+sole_value name fields = sole (values name fields)
+
 -- some field has this name
 abbrev pub has : List ℕ → List Pair → Bool
 has name fields = list_any (is_named name) fields

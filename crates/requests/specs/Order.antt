@@ -1,9 +1,11 @@
 -- What a whole head decides, in the order of the checks: its lines, HTTP's grammar, its target, its body's length.
-use Rattle.std.specs.Prelude.{◌≡◌, ℕ, Bool, true, false, List, codes, nat_lt, Option, Some, None, Result, Ok, Err}
+use Rattle.std.specs.Prelude.{◌≡◌, ℕ, Bool, true, false, List, [], codes, nat_lt, Option, Some, None, Result, Ok, Err}
 use Rattle.std.specs.Str.{bytes_eq}
-use Rattle.requests.specs.Head.{IsHead, IsNoHead, parts_at}
+use Rattle.httparse.specs.Grammar.{RequestHead, ReadsRequest}
+use Rattle.requests.specs.Head.{IsNoHead, parts_at}
 use Rattle.requests.specs.HeadEnd.{lines_between}
-use Rattle.requests.specs.Request.{Parts, body_len}
+use Rattle.requests.specs.Headers.{Pair}
+use Rattle.requests.specs.Request.{Parts, body_len, pairs_of, parts_by}
 use Rattle.requests.specs.declared.head.Head.{Head}
 use Rattle.requests.specs.declared.order.Refused.{Refused}
 use Rattle.requests.specs.declared.refusal.Refusal.{Refusal}
@@ -21,18 +23,22 @@ abbrev pub by_length : Parts → Result ℕ Refusal → Decision
 by_length parts (Ok n) = Ok (parts, n)
 by_length parts (Err refusal) = Err (refusal, is_bare parts)
 
-abbrev pub by_head : Option Parts → Decision
-by_head None = Err (BadRequest, false)
-by_head (Some parts) = by_length parts (body_len parts)
+-- what a head decides with this method, this target, this minor version and these fields
+abbrev pub by_parts : List ℕ → List ℕ → ℕ → List Pair → Decision
+by_parts method target minor fields = by_length (parts_by method target minor fields) (body_len method target fields)
 
--- what the bytes are read as: the parts of a whole head, or none
-abbrev pub IsRead : List ℕ → Option Parts → Type 0
+abbrev pub by_head : Option RequestHead → Decision
+by_head None = Err (BadRequest, false)
+by_head (Some head) = by_parts head.method head.target head.minor (pairs_of head)
+
+-- what the bytes are read as: a whole head, or none
+abbrev pub IsRead : List ℕ → Option RequestHead → Type 0
 IsRead bytes None = IsNoHead bytes
-IsRead bytes (Some parts) = IsHead bytes parts
+IsRead bytes (Some head) = ReadsRequest bytes head []
 
 abbrev pub IsDecidedBy : Bool → List ℕ → Decision → Type 0
 IsDecidedBy true bytes decision = decision ≡ Err (HeadTooLarge, false)
-IsDecidedBy false bytes decision = (read : Option Parts) × IsRead bytes read × (decision ≡ by_head read)
+IsDecidedBy false bytes decision = (read : Option RequestHead) × IsRead bytes read × (decision ≡ by_head read)
 
 -- a head of over 64 lines between its first and its blank one is refused; any other decides by what it is read as
 abbrev pub IsDecided : List ℕ → Decision → Type 0

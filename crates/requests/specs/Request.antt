@@ -8,7 +8,7 @@ use Rattle.httparse.specs.Grammar.{RequestHead}
 use Rattle.httparse.specs.Spans.{name_and_value}
 use Rattle.mcs_reader.specs.Id.{id_of}
 use Rattle.percent_encoding.specs.Percent.{percent_decode}
-use Rattle.requests.specs.Headers.{Pair, asks_to_close, has, sole, values}
+use Rattle.requests.specs.Headers.{Pair, asks_to_close, has, sole_value, values}
 use Rattle.requests.specs.Routes.{resource_at, operation_of}
 use Rattle.requests.specs.Text.{before, after, begins_with, is_number}
 use Rattle.requests.specs.declared.action.Action.{Action}
@@ -17,21 +17,36 @@ use Rattle.requests.specs.declared.refusal.Refusal.TheVariants.{BadRequest, NotF
 use Rattle.requests.specs.declared.resource.Resource.{Resource}
 use Rattle.requests.specs.declared.resource.Operation.{Operation}
 
--- what decides of a head: its method, its target, its minor version and its fields
+-- what a head asks for: its method, its target, the caller's token and the number of a change, where there is just one
+-- of each, and whether the connection ends after the reply
 pub record Parts : Type 0 where
   pub method : List ℕ
   pub target : List ℕ
-  pub minor : ℕ
-  pub fields : List Pair
+  pub token : Option (List ℕ)
+  pub number : Option (List ℕ)
+  pub closes : Bool
+
+-- the connection ends after the reply to a request of HTTP 1.0, or to one that asks for it
+abbrev pub closes_by : ℕ → List Pair → Bool
+closes_by minor fields = minor == 0 || list_any asks_to_close fields
+
+-- the parts by a method, a target, a minor version and the fields
+abbrev pub parts_by : List ℕ → List ℕ → ℕ → List Pair → Parts
+parts_by method target minor fields = record {
+  method = method;
+  target = target;
+  token = sole_value (codes "bureau-token") fields;
+  number = sole_value (codes "bureau-number") fields;
+  closes = closes_by minor fields;
+}
+
+-- the fields of a head
+abbrev pub pairs_of : RequestHead → List Pair
+pairs_of head = map name_and_value head.fields
 
 -- the parts of a head
 abbrev pub parts_of : RequestHead → Parts
-parts_of head = record {
-  method = head.method;
-  target = head.target;
-  minor = head.minor;
-  fields = map name_and_value head.fields;
-}
+parts_of head = parts_by head.method head.target head.minor (pairs_of head)
 
 -- ---- the target
 
@@ -123,22 +138,15 @@ length_by method [] = length_untold method
 length_by method (value ∷ []) = length_told value
 length_by method (value ∷ other ∷ more) = Err BadRequest
 
--- the length of a request's body, or why the request is refused without one
-abbrev pub body_len : Parts → Result ℕ Refusal
-body_len parts =
-    if not (is_path parts.target) then Err BadRequest
-    else if has (codes "transfer-encoding") parts.fields then Err LengthRequired
-    else length_by parts.method (values (codes "content-length") parts.fields)
+-- the length of the body of a request with this method, this target and these fields, or why the request is refused
+-- without one
+abbrev pub body_len : List ℕ → List ℕ → List Pair → Result ℕ Refusal
+body_len method target fields =
+    if not (is_path target) then Err BadRequest
+    else if has (codes "transfer-encoding") fields then Err LengthRequired
+    else length_by method (values (codes "content-length") fields)
 
--- ---- the connection, the caller and the number
-
--- the connection ends after the reply
-abbrev pub closes : Parts → Bool
-closes parts = parts.minor == 0 || list_any asks_to_close parts.fields
-
--- the token of the caller, where there is just one
-abbrev pub token_of : Parts → Option (List ℕ)
-token_of parts = sole (values (codes "bureau-token") parts.fields)
+-- ---- the number
 
 -- the number that 1 to 19 digits write
 abbrev pub change_number : List ℕ → Option ℕ
@@ -150,4 +158,4 @@ number_in (Some text) = change_number text
 
 -- the number of a change, where there is just one and it reads
 abbrev pub number_of : Parts → Option ℕ
-number_of parts = number_in (sole (values (codes "bureau-number") parts.fields))
+number_of parts = number_in parts.number

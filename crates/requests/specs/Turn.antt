@@ -53,6 +53,10 @@ request_len request = request.head_len + request.body_len
 abbrev pub head_in : List ℕ → Request → List ℕ
 head_in held request = take request.head_len held
 
+-- the connection ends after the reply to it, as far as its head says
+abbrev pub closes : Request → Bool
+closes request = request.head.closes
+
 -- its parts and its body, in the bytes that begin with it
 abbrev pub parts_in : List ℕ → Request → Parts
 parts_in held request = parts_at (head_in held request) request.head

@@ -1,55 +1,78 @@
-//! The head of a request.
-ghost use Rattle.std.specs.Prelude.{◌≡◌, ◌≤◌, IfSome, IfNone};
+//! The head of a request: where in its bytes stands what the bureau is asked for.
+ghost use Rattle.std.specs.Prelude.{◌≡◌, true, option_map, IfErr};
+ghost use Rattle.requests.specs.Head.{LiesIn, parts_at};
+ghost use Rattle.requests.specs.Order.{is_bare};
+ghost use Rattle.requests.specs.Refusal.{IsOfTarget};
+ghost use Rattle.requests.specs.Request as Spec;
 
-use httparse::Status;
-use httparse::spans::{EMPTY_HEADER_SPAN, HeaderSpan, Span, parse_request};
-
-// The most fields that a head may have.
-const MOST_FIELDS: usize = 64;
+use crate::action::Action;
+use crate::refusal::Refusal;
+use crate::request::{action_by, change_number};
+use crate::routes::Routes;
+use crate::text::cut;
+use httparse::spans::Span;
+use std::str;
 
 /// Where the parts of a head are in its bytes.
 #[derive(Clone, Copy, Debug)]
 pub struct Head {
     pub(crate) method: Span,
     pub(crate) target: Span,
-    pub(crate) minor: u8,
-    // Of these, the first so many.
-    fields: [HeaderSpan; MOST_FIELDS],
-    count: usize,
+    pub(crate) token: Option<Span>,
+    pub(crate) number: Option<Span>,
+    pub(crate) closes: bool,
 }
 
 impl Head {
-    ghost use Rattle.std.specs.Prelude.{◌≡◌, IfSome, IfNone};
-    ghost use Rattle.requests.specs.HeadEnd.{lines_between};
-    ghost use Rattle.requests.specs.Head.{IsHead, IsNoHead, LiesIn, parts_at, fields_of};
-
-    // The head that the bytes are, whole, or `None` where they are none.
-    pub(crate) fn read(bytes: &[u8]) -> Option<Head>
-        requires { lines_between bytes.now ≤ 64 }
-        ensures within { IfSome result (LiesIn bytes.now) }
-        ensures head { IfSome result (λ head. IsHead bytes.now (parts_at bytes.now head)) }
-        ensures none { IfNone result (IsNoHead bytes.now) }
+    /// Whether only the head of the reply is asked for: the method is `HEAD` (RFC 9110, section 9.3.2).
+    pub fn is_bare(&self, bytes: &[u8]) -> bool
+        requires { LiesIn bytes.now self.now }
+        ensures { result ≡ is_bare (parts_at bytes.now self.now) }
     {
-        let mut fields = [EMPTY_HEADER_SPAN; MOST_FIELDS];
-        match parse_request(bytes, &mut fields) {
-            Ok(Status::Complete(spans)) if spans.len == bytes.len() => Some(Head {
-                method: spans.method,
-                target: spans.path,
-                minor: spans.version,
-                fields,
-                count: spans.headers,
-            }),
-            _ => None,
+        self.method.of(bytes) == b"HEAD".as_slice()
+    }
+
+    /// Whether the connection ends after the reply, as far as the head says (RFC 9112, section 9.6).
+    pub fn closes(&self) -> bool
+        ensures { result ≡ self.now.closes }
+    {
+        self.closes
+    }
+
+    /// The token of the caller, where there is just one.
+    pub fn token<'a>(&self, bytes: &'a [u8]) -> Option<&'a [u8]>
+        requires { LiesIn bytes.now self.now }
+        ensures { option_map (λ token. token.now) result ≡ (parts_at bytes.now self.now).token }
+    {
+        match self.token {
+            Some(token) => Some(token.of(bytes)),
+            None => None,
         }
     }
 
-    // Where the names and values of the fields are.
-    pub(crate) fn fields(&self) -> &[HeaderSpan]
-        ensures { result.now ≡ fields_of self.now }
+    /// The number of a change, where there is just one and it reads.
+    pub fn number(&self, bytes: &[u8]) -> Option<u64>
+        requires { LiesIn bytes.now self.now }
+        ensures { result ≡ Spec.number_of (parts_at bytes.now self.now) }
     {
-        match self.fields.get(..self.count) {
-            Some(fields) => fields,
-            None => &self.fields,
+        change_number(self.number?.of(bytes))
+    }
+
+    /// What the request asks the bureau for, by its path, its method and the ids in the path.
+    ///
+    /// # Errors
+    ///
+    /// In this order: no such path; no such method there; a part of the path that is no id.
+    pub fn action(&self, bytes: &[u8], routes: &Routes) -> Result<Action, Refusal>
+        requires within { LiesIn bytes.now self.now }
+        requires path { Spec.is_path (parts_at bytes.now self.now).target ≡ true }
+        ensures action { result ≡ Spec.action_of (parts_at bytes.now self.now) }
+        ensures refused { IfErr result IsOfTarget }
+    {
+        let (path, _) = cut(self.target.of(bytes), b'?');
+        match str::from_utf8(path) {
+            Ok(path) => action_by(routes, self.method.of(bytes), path),
+            Err(_) => unreachable!(),
         }
     }
 }

@@ -1,18 +1,19 @@
 //! The header fields of a request.
-ghost use Rattle.std.specs.Prelude.{◌≡◌, length, option_map};
+ghost use Rattle.std.specs.Prelude.{◌≡◌, length, option_map, IfSome};
 ghost use Rattle.std.specs.List.{list_any};
 ghost use Rattle.requests.specs.Headers as Spec;
 ghost use Rattle.requests.specs.Headers.{AreWithin, pairs_at};
-ghost use Rattle.httparse.specs.Spans.{header_bytes, IsHeaderWithin};
+ghost use Rattle.httparse.specs.Spans.{header_bytes, span_bytes, IsHeaderWithin, IsWithin};
 
 use crate::text::has_word;
-use httparse::spans::HeaderSpan;
+use httparse::spans::{HeaderSpan, Span};
 
-// The value of the field with this name, where just one field has it.
-pub(crate) fn sole<'a>(bytes: &'a [u8], fields: &[HeaderSpan], name: &[u8]) -> Option<&'a [u8]>
+// Where the value of the field with this name is, where just one field has it.
+pub(crate) fn sole(bytes: &[u8], fields: &[HeaderSpan], name: &[u8]) -> Option<Span>
     requires { AreWithin bytes.now fields.now }
-    ensures { option_map (λ value. value.now) result
-        ≡ Spec.sole (Spec.values name.now (pairs_at bytes.now fields.now)) }
+    ensures value { option_map (span_bytes bytes.now) result
+        ≡ Spec.sole_value name.now (pairs_at bytes.now fields.now) }
+    ensures within { IfSome result (IsWithin (length bytes.now)) }
 {
     let mut found = None;
     for field in fields {
@@ -20,7 +21,7 @@ pub(crate) fn sole<'a>(bytes: &'a [u8], fields: &[HeaderSpan], name: &[u8]) -> O
             if found.is_some() {
                 return None;
             }
-            found = Some(field.value.of(bytes));
+            found = Some(field.value);
         }
     }
     found

@@ -1,12 +1,21 @@
 //! What a whole head decides, in the order of the checks.
-ghost use Rattle.std.specs.Prelude.{◌≡◌, ◌≤◌, true, IfOk};
+ghost use Rattle.std.specs.Prelude.{◌≡◌, ◌≤◌, true, length, IfOk};
+ghost use Rattle.httparse.specs.Spans.{IsWithin, span_bytes};
 ghost use Rattle.requests.specs.Head.{LiesIn, parts_at};
-ghost use Rattle.requests.specs.Order.{IsDecided, decision_of, is_bare};
-ghost use Rattle.requests.specs.Request.{is_path};
+ghost use Rattle.requests.specs.Headers.{AreWithin, pairs_at};
+ghost use Rattle.requests.specs.Order.{IsDecided, by_parts, decision_of};
+ghost use Rattle.requests.specs.Request.{is_path, parts_by};
 
 use crate::head::Head;
 use crate::head_end::lines_between;
+use crate::headers::{asks_to_close, sole};
 use crate::refusal::Refusal;
+use crate::request::body_len;
+use httparse::Status;
+use httparse::spans::{EMPTY_HEADER_SPAN, HeaderSpan, RequestSpans, parse_request};
+
+// The most fields that a head may have.
+const MOST_FIELDS: usize = 64;
 
 /// Why a request is refused before its body is read.
 #[derive(Clone, Copy, Debug, PartialEq, Eq)]
@@ -35,27 +44,62 @@ pub fn decide(bytes: &[u8]) -> Result<(Head, u64), Refused>
             is_bare: false,
         });
     }
-    let Some(head) = Head::read(bytes) else {
-        return Err(Refused {
+    let mut fields = [EMPTY_HEADER_SPAN; MOST_FIELDS];
+    match parse_request(bytes, &mut fields) {
+        Ok(Status::Complete(spans)) if spans.len == bytes.len() => {
+            let (fields, _) = fields.split_at(spans.headers);
+            decide_by(bytes, &spans, fields)
+        }
+        _ => Err(Refused {
             refusal: Refusal::BadRequest,
             is_bare: false,
-        });
-    };
-    match head.body_len(bytes) {
-        Ok(length) => Ok((head, length)),
-        Err(refusal) => Err(Refused {
-            refusal,
-            is_bare: head.is_bare(bytes),
         }),
     }
 }
 
-impl Head {
-    /// Whether only the head of the reply is asked for: the method is `HEAD` (RFC 9110, section 9.3.2).
-    pub fn is_bare(&self, bytes: &[u8]) -> bool
-        requires { LiesIn bytes.now self.now }
-        ensures { result ≡ is_bare (parts_at bytes.now self.now) }
-    {
-        self.method.of(bytes) == b"HEAD".as_slice()
+// What a head decides with these spans and these fields.
+fn decide_by(
+    bytes: &[u8],
+    spans: &RequestSpans,
+    fields: &[HeaderSpan],
+) -> Result<(Head, u64), Refused>
+    requires method { IsWithin (length bytes.now) spans.now.method }
+    requires target { IsWithin (length bytes.now) spans.now.path }
+    requires fields { AreWithin bytes.now fields.now }
+    ensures decided { decision_of bytes.now result
+        ≡ by_parts (span_bytes bytes.now spans.now.method) (span_bytes bytes.now spans.now.path)
+        spans.now.version (pairs_at bytes.now fields.now) }
+    ensures within { IfOk result (λ ready. LiesIn bytes.now ready.0) }
+    ensures bound { IfOk result (λ ready. ready.1 ≤ 67108864) }
+    ensures path { IfOk result (λ ready. is_path (parts_at bytes.now ready.0).target ≡ true) }
+{
+    let method = spans.method.of(bytes);
+    match body_len(method, spans.path.of(bytes), bytes, fields) {
+        Ok(length) => Ok((head_by(bytes, spans, fields), length)),
+        Err(refusal) => Err(Refused {
+            refusal,
+            is_bare: method == b"HEAD".as_slice(),
+        }),
+    }
+}
+
+// Where the parts are of a head with these spans and these fields.
+fn head_by(bytes: &[u8], spans: &RequestSpans, fields: &[HeaderSpan]) -> Head
+    requires method { IsWithin (length bytes.now) spans.now.method }
+    requires target { IsWithin (length bytes.now) spans.now.path }
+    requires fields { AreWithin bytes.now fields.now }
+    ensures method { result.method ≡ spans.now.method }
+    ensures target { result.target ≡ spans.now.path }
+    ensures parts { parts_at bytes.now result
+        ≡ parts_by (span_bytes bytes.now spans.now.method) (span_bytes bytes.now spans.now.path)
+        spans.now.version (pairs_at bytes.now fields.now) }
+    ensures within { LiesIn bytes.now result }
+{
+    Head {
+        method: spans.method,
+        target: spans.path,
+        token: sole(bytes, fields, b"bureau-token"),
+        number: sole(bytes, fields, b"bureau-number"),
+        closes: spans.version == 0 || asks_to_close(bytes, fields),
     }
 }

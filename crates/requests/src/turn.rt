@@ -5,7 +5,7 @@ ghost use Rattle.requests.specs.Head.{LiesIn};
 ghost use Rattle.requests.specs.Order.{is_bare};
 ghost use Rattle.requests.specs.Refusal.{IsOfTarget};
 ghost use Rattle.requests.specs.Request as Spec;
-ghost use Rattle.requests.specs.Turn.{HasBody, IsAt, IsBodyAtHand, IsNext, IsNextBy, IsReadAs, IsTurnAtHand, IsUnfinished, TurnLies, body_in, end_inside, head_in, parts_in, request_len};
+ghost use Rattle.requests.specs.Turn.{HasBody, IsAt, IsBodyAtHand, IsNext, IsNextBy, IsReadAs, IsTurnAtHand, IsUnfinished, TurnLies, body_in, closes, end_inside, head_in, parts_in, request_len};
 ghost use Rattle.requests.specs.declared.front.Front.TheVariants as front;
 ghost use Rattle.transfer.specs.Transfer.{IsGivenUp};
 
@@ -68,17 +68,16 @@ impl Request {
     }
 
     /// Whether the connection ends after the reply, as far as the head says (RFC 9112, section 9.6).
-    pub fn closes(&self, bytes: &[u8]) -> bool
-        requires { IsAt bytes.now self.now }
-        ensures { result ≡ Spec.closes (parts_in bytes.now self.now) }
+    pub fn closes(&self) -> bool
+        ensures { result ≡ closes self.now }
     {
-        self.head.closes(self.head_bytes(bytes))
+        self.head.closes()
     }
 
     /// The token of the caller, where there is just one.
     pub fn token<'a>(&self, bytes: &'a [u8]) -> Option<&'a [u8]>
         requires { IsAt bytes.now self.now }
-        ensures { option_map (λ token. token.now) result ≡ Spec.token_of (parts_in bytes.now self.now) }
+        ensures { option_map (λ token. token.now) result ≡ (parts_in bytes.now self.now).token }
     {
         self.head.token(self.head_bytes(bytes))
     }

@@ -213,7 +213,7 @@ fn callers_numbers_and_the_connection(rt: HostRuntime) -> Result<(), Fail> {
         match decide(&text) {
             Ok((head, _)) => {
                 assert_equal_at(lines, head.number(&text), number)?;
-                assert_equal_at(lines, head.closes(&text), closes)?;
+                assert_equal_at(lines, head.closes(), closes)?;
             }
             Err(refused) => assert_equal_at(lines, refused.refusal, Refusal::NotFound)?,
         }

@@ -3,7 +3,6 @@ use Rattle.std.specs.Io.KnownBytes.{Appends}
 use Rattle.std.proofs.lemmas.Result.{err_from_is_err_and}
 use Rattle.requests.specs.Turn.{IsNext, IsReadAs, body_in, parts_in, request_len}
 use Rattle.requests.specs.Order.{is_bare}
-use Rattle.requests.specs.Request.{closes}
 use Rattle.std.proofs.KnownBytes.{Appends-nil}
 use Rattle.bureau.proofs.KeptFacts.{idle}
 use Rattle.bureau_http.specs.ConnFault.{of_transfer}
@@ -45,8 +44,8 @@ returns-in_err-serve_request-in-Whole-clause-next g c = record {
       let parts = parts_in held request in
       let done = subst (λ h. IsExchanged (IsKeptRun g.D.Desk.tables_view c.args.desk.now c.serve_request.new.desk) this (what_of this.callers (parts_in h request) (body_in h request)) (has_token (parts_in h request)) (is_bare (parts_in h request))
       c.ends_after-closes.result (g.W.Write.contents c.args.writer.now) (g.W.Write.contents c.serve_request.new.writer) c.serve_request.result)
-      c.bytes-in-Whole.ensures (c.serve_request.ensures.exchanged.told ours clean this stands) in
-      let ends = c.ends_after-closes.ensures ∙ ap (λ h. closes (parts_in h request) || nat_le most_requests c.args.place) c.bytes.ensures in
+      c.bytes.ensures (c.serve_request.ensures.exchanged.told ours clean this stands) in
+      let ends = c.ends_after-closes.ensures in
       map_some _ c.in_ok-read_turn.ensures.turn (λ bytes read.
       let turn = subst (λ t. IsReadAs IsNext held (g.R.Read.remaining c.read_turn.new.reader) t bytes) c.in-Whole.is read in
       let cut = whole_cut (IsKeptRun g.D.Desk.tables_view c.args.desk.now c.serve_request.new.desk) this c.args.place bytes parts (body_in held request) (drop (request_len request) held ++ turn.more)
