@@ -3,7 +3,7 @@
 #
 # The program bench/bytewise/main.rt.txt is proved and built over copies of the crates, under bench/out; what was proved of
 # them before is copied too. It prints, as columns: the bytes of a head, how many of them stand one after the other in a
-# connection, and the nanoseconds for each byte that reading their turns takes where each read gives one byte,
+# connection, and the nanoseconds for each byte that reading them takes where each read gives one byte,
 # and where each gives as many as were asked for; each the least of several rounds.
 set -euo pipefail
 top=$(cd "$(dirname "$0")/.." && pwd)

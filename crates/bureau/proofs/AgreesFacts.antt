@@ -1,4 +1,4 @@
--- At every place of a run, what the tables show to the publisher and to one caller is what the own history left.
+-- At every point of a run, what the tables show to the publisher and to one caller is what the own history left.
 use Rattle.std.proofs.Common.{◌≡◌, ◌⊎◌, ℕ, ◌+◌, ◌==◌, ◌||◌, ◌&&◌, not, Bool, true, false, cond, List, [], ◌∷◌, ◌++◌, refl, sym, ◌∙◌, ap, subst, inl, inr, append_assoc, append-nil, add-zero}
 use Rattle.std.specs.Prelude.{Option, Some, None, filter, map, reverse, if◌then◌else◌}
 use Rattle.std.specs.List.{list_any}
@@ -18,7 +18,7 @@ use Rattle.bureau_store.specs.Tables.{AreInOrder, LastChange, Tables, ZoneTable,
 use Rattle.bureau_store.specs.declared.caller.Caller.{Caller}
 use Rattle.bureau_store.specs.declared.caller.Caller.TheVariants.{Publisher, Client}
 use Rattle.bureau.specs.Alone.{AreAnsweredAlike, IsAlone, asked_in, is_own, opening_of, own_history}
-use Rattle.bureau.specs.Joint.{IsRun, IsStep, Turn, tables_left}
+use Rattle.bureau.specs.Joint.{CallBy, IsRun, IsStep, tables_left}
 use Rattle.bureau.specs.Outcome.{Answer, Outcome, answered, accepted, answer_of, no_room, outcome}
 use Rattle.bureau.specs.Own.{Accepted, Asked, Opening, accepted_in, change_of, content_left, last_left, own_answer, own_view, received_left, zone_left, zones_left}
 use Rattle.bureau.specs.View.{View, view_of}
@@ -148,14 +148,14 @@ module _ (viewer : Caller) (opening : Opening) (changes : List Accepted) (now : 
       same_content (received_put ids) h = refl
       same_content (patterns_put name patterns) h = refl
 
--- a turn of the publisher or the viewer that comes to a change
+-- a call of the publisher or the viewer that comes to a change
 by_own : (viewer : Caller) (opening : Opening) (changes : List Accepted) (now : Tables) (effect : Effect) (text : List ℕ) (caller : Caller) → IsOwn viewer caller
     → Agrees viewer opening changes now → IsPossible (view_of caller now).zones caller effect
     → Agrees viewer opening (record { caller = caller; effect = effect; reply = text } ∷ changes) (tables_after caller effect (record { number = (now.last caller).number + 1; reply = text }) now)
 by_own viewer opening changes now effect text Publisher is agrees possible = by_publisher viewer opening changes now effect text agrees possible
 by_own viewer opening changes now effect text (Client client) is agrees possible = by_client viewer opening changes now effect text client (the_viewer viewer client is) agrees possible
 
--- ---- one turn
+-- ---- one call
 
 -- who is neither the publisher nor the viewer is another client
 who : (viewer caller : Caller) (b : Bool) → (is_caller caller Publisher || is_caller caller viewer) ≡ b → cond b (IsOwn viewer caller) ((client : List ℕ) × (caller ≡ Client client) × (is_caller (Client client) viewer ≡ false))
@@ -168,111 +168,111 @@ view_caller : (caller : Caller) (tables : Tables) → (view_of caller tables).ca
 view_caller Publisher tables = refl
 view_caller (Client name) tables = refl
 
--- the own history with one more turn
-abbrev pub with_turn : Caller → Turn → List Asked → List Asked
-with_turn viewer turn history = if is_own viewer turn then asked_in turn ∷ history else history
+-- the own history with one more call
+abbrev pub with_call : Caller → CallBy → List Asked → List Asked
+with_call viewer call_by history = if is_own viewer call_by then asked_in call_by ∷ history else history
 
 -- the status of an answer is 503 just where there was no room
-module _ (viewer : Caller) (opening : Opening) (history : List Asked) (now : Tables) (turn : Turn) (new : Tables) where
-  without_room : turn.answer ≡ no_room → with_turn viewer turn history ≡ history
-  without_room is = ap (λ (answer : Answer). if (is_caller turn.caller Publisher || is_caller turn.caller viewer) && not (answer.status == 503) then asked_in turn ∷ history else history) is ∙ neither (is_caller turn.caller Publisher || is_caller turn.caller viewer)
+module _ (viewer : Caller) (opening : Opening) (history : List Asked) (now : Tables) (call_by : CallBy) (new : Tables) where
+  without_room : call_by.answer ≡ no_room → with_call viewer call_by history ≡ history
+  without_room is = ap (λ (answer : Answer). if (is_caller call_by.caller Publisher || is_caller call_by.caller viewer) && not (answer.status == 503) then asked_in call_by ∷ history else history) is ∙ neither (is_caller call_by.caller Publisher || is_caller call_by.caller viewer)
     where
-      neither : (b : Bool) → (if b && false then asked_in turn ∷ history else history) ≡ history
+      neither : (b : Bool) → (if b && false then asked_in call_by ∷ history else history) ≡ history
       neither true = refl
       neither false = refl
 
   -- what comes of the call
   abbrev found : Outcome
-  found = outcome (view_of turn.caller now) turn.call
+  found = outcome (view_of call_by.caller now) call_by.call
 
-  is_proper : IsProper (view_of turn.caller now).zones turn.caller found
-  is_proper = proper (view_of turn.caller now) turn.call turn.caller (view_caller turn.caller now)
+  is_proper : IsProper (view_of call_by.caller now).zones call_by.caller found
+  is_proper = proper (view_of call_by.caller now) call_by.call call_by.caller (view_caller call_by.caller now)
 
-  told : (o : Outcome) → IsProper (view_of turn.caller now).zones turn.caller o → ((answer_of o).status == 503) ≡ false
+  told : (o : Outcome) → IsProper (view_of call_by.caller now).zones call_by.caller o → ((answer_of o).status == 503) ≡ false
   told (answered answer) h = h
   told (accepted effect text) h = refl
 
-  with_room : turn.answer ≡ answer_of found → with_turn viewer turn history ≡ (if (is_caller turn.caller Publisher || is_caller turn.caller viewer) then asked_in turn ∷ history else history)
+  with_room : call_by.answer ≡ answer_of found → with_call viewer call_by history ≡ (if (is_caller call_by.caller Publisher || is_caller call_by.caller viewer) then asked_in call_by ∷ history else history)
   with_room is =
-      ap (λ (b : Bool). if (is_caller turn.caller Publisher || is_caller turn.caller viewer) && not b then asked_in turn ∷ history else history) (ap (λ (answer : Answer). answer.status == 503) is ∙ told found is_proper)
-      ∙ both (is_caller turn.caller Publisher || is_caller turn.caller viewer)
+      ap (λ (b : Bool). if (is_caller call_by.caller Publisher || is_caller call_by.caller viewer) && not b then asked_in call_by ∷ history else history) (ap (λ (answer : Answer). answer.status == 503) is ∙ told found is_proper)
+      ∙ both (is_caller call_by.caller Publisher || is_caller call_by.caller viewer)
     where
-      both : (b : Bool) → (if b && true then asked_in turn ∷ history else history) ≡ (if b then asked_in turn ∷ history else history)
+      both : (b : Bool) → (if b && true then asked_in call_by ∷ history else history) ≡ (if b then asked_in call_by ∷ history else history)
       both true = refl
       both false = refl
 
-  own_turn : IsOwn viewer turn.caller → Agrees viewer opening (accepted_in opening history) now
-      → Agrees viewer opening (accepted_in opening (asked_in turn ∷ history)) (tables_left turn.caller found now)
-  own_turn is agrees =
-      subst (λ o. Agrees viewer opening (change_of turn.caller o ++ accepted_in opening history) (tables_left turn.caller found now))
-      (ap (λ view. outcome view turn.call) (sym (view_agrees viewer opening (accepted_in opening history) now turn.caller agrees is)))
+  own_call : IsOwn viewer call_by.caller → Agrees viewer opening (accepted_in opening history) now
+      → Agrees viewer opening (accepted_in opening (asked_in call_by ∷ history)) (tables_left call_by.caller found now)
+  own_call is agrees =
+      subst (λ o. Agrees viewer opening (change_of call_by.caller o ++ accepted_in opening history) (tables_left call_by.caller found now))
+      (ap (λ view. outcome view call_by.call) (sym (view_agrees viewer opening (accepted_in opening history) now call_by.caller agrees is)))
       (by found is_proper)
     where
-      by : (o : Outcome) → IsProper (view_of turn.caller now).zones turn.caller o → Agrees viewer opening (change_of turn.caller o ++ accepted_in opening history) (tables_left turn.caller o now)
+      by : (o : Outcome) → IsProper (view_of call_by.caller now).zones call_by.caller o → Agrees viewer opening (change_of call_by.caller o ++ accepted_in opening history) (tables_left call_by.caller o now)
       by (answered answer) h = agrees
-      by (accepted effect text) h = by_own viewer opening (accepted_in opening history) now effect text turn.caller is agrees h
+      by (accepted effect text) h = by_own viewer opening (accepted_in opening history) now effect text call_by.caller is agrees h
 
-  other_turn : (client : List ℕ) → turn.caller ≡ Client client → is_caller (Client client) viewer ≡ false → Agrees viewer opening (accepted_in opening history) now
-      → Agrees viewer opening (accepted_in opening history) (tables_left turn.caller found now)
-  other_turn client is apart agrees = by found is_proper
+  other_call : (client : List ℕ) → call_by.caller ≡ Client client → is_caller (Client client) viewer ≡ false → Agrees viewer opening (accepted_in opening history) now
+      → Agrees viewer opening (accepted_in opening history) (tables_left call_by.caller found now)
+  other_call client is apart agrees = by found is_proper
     where
-      by : (o : Outcome) → IsProper (view_of turn.caller now).zones turn.caller o → Agrees viewer opening (accepted_in opening history) (tables_left turn.caller o now)
+      by : (o : Outcome) → IsProper (view_of call_by.caller now).zones call_by.caller o → Agrees viewer opening (accepted_in opening history) (tables_left call_by.caller o now)
       by (answered answer) h = agrees
       by (accepted effect text) h =
           subst (λ c. Agrees viewer opening (accepted_in opening history) (tables_after c effect (record { number = (now.last c).number + 1; reply = text }) now)) (sym is)
           (by_other viewer opening (accepted_in opening history) now effect text client apart agrees (subst (λ c. IsPossible (view_of c now).zones c effect) is h))
 
-  pub turn_agrees : IsStep now turn new → Agrees viewer opening (accepted_in opening history) now → Agrees viewer opening (accepted_in opening (with_turn viewer turn history)) new
-  turn_agrees (inl refused) agrees =
+  pub call_agrees : IsStep now call_by new → Agrees viewer opening (accepted_in opening history) now → Agrees viewer opening (accepted_in opening (with_call viewer call_by history)) new
+  call_agrees (inl refused) agrees =
       subst (λ h. Agrees viewer opening (accepted_in opening h) new) (sym (without_room refused.0))
       (subst (λ tables. Agrees viewer opening (accepted_in opening history) tables) (sym refused.1) agrees)
-  turn_agrees (inr taken) agrees =
+  call_agrees (inr taken) agrees =
       subst (λ h. Agrees viewer opening (accepted_in opening h) new) (sym (with_room taken.0))
-      (subst (λ tables. Agrees viewer opening (accepted_in opening (if (is_caller turn.caller Publisher || is_caller turn.caller viewer) then asked_in turn ∷ history else history)) tables) (sym taken.1)
-      (by (is_caller turn.caller Publisher || is_caller turn.caller viewer) refl))
+      (subst (λ tables. Agrees viewer opening (accepted_in opening (if (is_caller call_by.caller Publisher || is_caller call_by.caller viewer) then asked_in call_by ∷ history else history)) tables) (sym taken.1)
+      (by (is_caller call_by.caller Publisher || is_caller call_by.caller viewer) refl))
     where
-      by : (b : Bool) → (is_caller turn.caller Publisher || is_caller turn.caller viewer) ≡ b → Agrees viewer opening (accepted_in opening (if b then asked_in turn ∷ history else history)) (tables_left turn.caller found now)
-      by true is = own_turn (who viewer turn.caller true is) agrees
-      by false is = other_turn (who viewer turn.caller false is).0 (who viewer turn.caller false is).1 (who viewer turn.caller false is).2 agrees
+      by : (b : Bool) → (is_caller call_by.caller Publisher || is_caller call_by.caller viewer) ≡ b → Agrees viewer opening (accepted_in opening (if b then asked_in call_by ∷ history else history)) (tables_left call_by.caller found now)
+      by true is = own_call (who viewer call_by.caller true is) agrees
+      by false is = other_call (who viewer call_by.caller false is).0 (who viewer call_by.caller false is).1 (who viewer call_by.caller false is).2 agrees
 
   -- the viewer is told what the own answer says, or that there is no room
-  pub turn_alone : IsStep now turn new → turn.caller ≡ viewer → Agrees viewer opening (accepted_in opening history) now
-      → (turn.answer ≡ no_room) ⊎ (turn.answer ≡ own_answer opening history viewer turn.call)
-  turn_alone (inl refused) is agrees = inl refused.0
-  turn_alone (inr taken) is agrees =
-      inr (taken.0 ∙ ap (λ c. answer_of (outcome (view_of c now) turn.call)) is
-      ∙ ap (λ view. answer_of (outcome view turn.call)) (sym (view_agrees viewer opening (accepted_in opening history) now viewer agrees (inr refl))))
+  pub call_alone : IsStep now call_by new → call_by.caller ≡ viewer → Agrees viewer opening (accepted_in opening history) now
+      → (call_by.answer ≡ no_room) ⊎ (call_by.answer ≡ own_answer opening history viewer call_by.call)
+  call_alone (inl refused) is agrees = inl refused.0
+  call_alone (inr taken) is agrees =
+      inr (taken.0 ∙ ap (λ c. answer_of (outcome (view_of c now) call_by.call)) is
+      ∙ ap (λ view. answer_of (outcome view call_by.call)) (sym (view_agrees viewer opening (accepted_in opening history) now viewer agrees (inr refl))))
 
 -- ---- a run
 
--- what a place of a run comes to: the tables there, which agree with the own history, and one step
-pub record Place (viewer : Caller) (opening : Opening) (history : List Asked) (turn : Turn) : Type 0 where
+-- what a run has reached before a call: the tables there, which agree with the own history, and one step
+pub record Reached (viewer : Caller) (opening : Opening) (history : List Asked) (call_by : CallBy) : Type 0 where
   pub now : Tables
   pub next : Tables
   pub agrees : Agrees viewer opening (accepted_in opening history) now
-  pub step : IsStep now turn next
+  pub step : IsStep now call_by next
 
--- the history that some turns leave
-abbrev history_after : Caller → List Turn → List Asked → List Asked
+-- the history that some calls leave
+abbrev history_after : Caller → List CallBy → List Asked → List Asked
 history_after viewer before history = map asked_in (filter (is_own viewer) (reverse before)) ++ history
 
-history_more : (viewer : Caller) (turn : Turn) (turns : List Turn) (history : List Asked) → history_after viewer turns (with_turn viewer turn history) ≡ history_after viewer (turn ∷ turns) history
-history_more viewer turn turns history =
-    by (is_own viewer turn)
-    ∙ ap (λ asked. asked ++ history) (sym (map-append asked_in (filter (is_own viewer) (reverse turns)) (filter (is_own viewer) (turn ∷ []))))
-    ∙ ap (λ kept. map asked_in kept ++ history) (sym (filter-append (is_own viewer) (reverse turns) (turn ∷ [])))
-    ∙ ap (λ turns. map asked_in (filter (is_own viewer) turns) ++ history) (sym (reverse-append (turn ∷ []) turns))
+history_more : (viewer : Caller) (call_by : CallBy) (calls : List CallBy) (history : List Asked) → history_after viewer calls (with_call viewer call_by history) ≡ history_after viewer (call_by ∷ calls) history
+history_more viewer call_by calls history =
+    by (is_own viewer call_by)
+    ∙ ap (λ asked. asked ++ history) (sym (map-append asked_in (filter (is_own viewer) (reverse calls)) (filter (is_own viewer) (call_by ∷ []))))
+    ∙ ap (λ kept. map asked_in kept ++ history) (sym (filter-append (is_own viewer) (reverse calls) (call_by ∷ [])))
+    ∙ ap (λ calls. map asked_in (filter (is_own viewer) calls) ++ history) (sym (reverse-append (call_by ∷ []) calls))
   where
-    by : (b : Bool) → map asked_in (filter (is_own viewer) (reverse turns)) ++ (if b then asked_in turn ∷ history else history) ≡ (map asked_in (filter (is_own viewer) (reverse turns)) ++ map asked_in (cond b (turn ∷ []) [])) ++ history
-    by true = sym (append_assoc (map asked_in (filter (is_own viewer) (reverse turns))) (asked_in turn ∷ []) history)
-    by false = sym (append_assoc (map asked_in (filter (is_own viewer) (reverse turns))) [] history)
+    by : (b : Bool) → map asked_in (filter (is_own viewer) (reverse calls)) ++ (if b then asked_in call_by ∷ history else history) ≡ (map asked_in (filter (is_own viewer) (reverse calls)) ++ map asked_in (cond b (call_by ∷ []) [])) ++ history
+    by true = sym (append_assoc (map asked_in (filter (is_own viewer) (reverse calls))) (asked_in call_by ∷ []) history)
+    by false = sym (append_assoc (map asked_in (filter (is_own viewer) (reverse calls))) [] history)
 
-place_in : (viewer : Caller) (opening : Opening) (before : List Turn) (history : List Asked) (now closing : Tables) (turn : Turn) (after : List Turn)
-    → Agrees viewer opening (accepted_in opening history) now → IsRun now (before ++ turn ∷ after) closing → Place viewer opening (history_after viewer before history) turn
-place_in viewer opening [] history now closing turn after agrees run = record { now = now; next = run.0; agrees = agrees; step = run.1 }
-place_in viewer opening (first ∷ before) history now closing turn after agrees run =
-    subst (λ h. Place viewer opening h turn) (history_more viewer first before history)
-    (place_in viewer opening before (with_turn viewer first history) run.0 closing turn after (turn_agrees viewer opening history now first run.0 run.1 agrees) run.2)
+reached_in : (viewer : Caller) (opening : Opening) (before : List CallBy) (history : List Asked) (now closing : Tables) (call_by : CallBy) (after : List CallBy)
+    → Agrees viewer opening (accepted_in opening history) now → IsRun now (before ++ call_by ∷ after) closing → Reached viewer opening (history_after viewer before history) call_by
+reached_in viewer opening [] history now closing call_by after agrees run = record { now = now; next = run.0; agrees = agrees; step = run.1 }
+reached_in viewer opening (first ∷ before) history now closing call_by after agrees run =
+    subst (λ h. Reached viewer opening h call_by) (history_more viewer first before history)
+    (reached_in viewer opening before (with_call viewer first history) run.0 closing call_by after (call_agrees viewer opening history now first run.0 run.1 agrees) run.2)
 
 -- ---- the opening
 
@@ -339,21 +339,21 @@ agrees_at_first (Client client) tables ordered = record {
 
 -- ---- the headline
 
-pub alone : (opening closing : Tables) (turns : List Turn) (viewer : Caller) → AreInOrder opening → IsRun opening turns closing → IsAlone viewer (opening_of viewer opening) turns
-alone opening closing turns viewer ordered run before turn after is caller =
-    let place = place_in viewer (opening_of viewer opening) before [] opening closing turn after (agrees_at_first viewer opening ordered) (subst (λ ts. IsRun opening ts closing) is run) in
-    let agreed = turn_alone viewer (opening_of viewer opening) (history_after viewer before []) place.now turn place.next place.step caller place.agrees in
-    subst (λ h. (turn.answer ≡ no_room) ⊎ (turn.answer ≡ own_answer (opening_of viewer opening) h viewer turn.call)) (append-nil (own_history viewer before)) agreed
+pub alone : (opening closing : Tables) (calls : List CallBy) (viewer : Caller) → AreInOrder opening → IsRun opening calls closing → IsAlone viewer (opening_of viewer opening) calls
+alone opening closing calls viewer ordered run before call_by after is caller =
+    let reached = reached_in viewer (opening_of viewer opening) before [] opening closing call_by after (agrees_at_first viewer opening ordered) (subst (λ ts. IsRun opening ts closing) is run) in
+    let agreed = call_alone viewer (opening_of viewer opening) (history_after viewer before []) reached.now call_by reached.next reached.step caller reached.agrees in
+    subst (λ h. (call_by.answer ≡ no_room) ⊎ (call_by.answer ≡ own_answer (opening_of viewer opening) h viewer call_by.call)) (append-nil (own_history viewer before)) agreed
 
-pub alike : (opening closing opening2 closing2 : Tables) (turns turns2 : List Turn) (viewer : Caller) → AreInOrder opening → AreInOrder opening2 → IsRun opening turns closing → IsRun opening2 turns2 closing2
-    → opening_of viewer opening ≡ opening_of viewer opening2 → AreAnsweredAlike viewer turns turns2
-alike opening closing opening2 closing2 turns turns2 viewer ordered ordered2 run run2 same before turn after before2 turn2 after2 is is2 caller caller2 call history =
-    by (alone opening closing turns viewer ordered run before turn after is caller) (alone opening2 closing2 turns2 viewer ordered2 run2 before2 turn2 after2 is2 caller2)
+pub alike : (opening closing opening2 closing2 : Tables) (calls calls2 : List CallBy) (viewer : Caller) → AreInOrder opening → AreInOrder opening2 → IsRun opening calls closing → IsRun opening2 calls2 closing2
+    → opening_of viewer opening ≡ opening_of viewer opening2 → AreAnsweredAlike viewer calls calls2
+alike opening closing opening2 closing2 calls calls2 viewer ordered ordered2 run run2 same before call_by after before2 call_by2 after2 is is2 caller caller2 call history =
+    by (alone opening closing calls viewer ordered run before call_by after is caller) (alone opening2 closing2 calls2 viewer ordered2 run2 before2 call_by2 after2 is2 caller2)
   where
-    by : (turn.answer ≡ no_room) ⊎ (turn.answer ≡ own_answer (opening_of viewer opening) (own_history viewer before) viewer turn.call)
-        → (turn2.answer ≡ no_room) ⊎ (turn2.answer ≡ own_answer (opening_of viewer opening2) (own_history viewer before2) viewer turn2.call)
-        → (turn.answer ≡ no_room) ⊎ ((turn2.answer ≡ no_room) ⊎ (turn.answer ≡ turn2.answer))
+    by : (call_by.answer ≡ no_room) ⊎ (call_by.answer ≡ own_answer (opening_of viewer opening) (own_history viewer before) viewer call_by.call)
+        → (call_by2.answer ≡ no_room) ⊎ (call_by2.answer ≡ own_answer (opening_of viewer opening2) (own_history viewer before2) viewer call_by2.call)
+        → (call_by.answer ≡ no_room) ⊎ ((call_by2.answer ≡ no_room) ⊎ (call_by.answer ≡ call_by2.answer))
     by (inl none) second = inl none
     by (inr first) (inl none) = inr (inl none)
     by (inr first) (inr second) =
-        inr (inr (first ∙ ap (λ o. own_answer o (own_history viewer before) viewer turn.call) same ∙ ap (λ h. own_answer (opening_of viewer opening2) h viewer turn.call) history ∙ ap (λ c. own_answer (opening_of viewer opening2) (own_history viewer before2) viewer c) call ∙ sym second))
+        inr (inr (first ∙ ap (λ o. own_answer o (own_history viewer before) viewer call_by.call) same ∙ ap (λ h. own_answer (opening_of viewer opening2) h viewer call_by.call) history ∙ ap (λ c. own_answer (opening_of viewer opening2) (own_history viewer before2) viewer c) call ∙ sym second))

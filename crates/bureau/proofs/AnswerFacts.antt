@@ -15,7 +15,7 @@ use Rattle.bureau_store.specs.declared.fault.StoreFault.TheVariants.{Device}
 use Rattle.bureau.specs.Answering.{IsAnswered, bureau_view}
 use Rattle.bureau.specs.Call.{Call}
 use Rattle.bureau.specs.Outcomes.{IsOutcome, TouchesNoMore, answer_in, effect_as, maker_of, update_of}
-use Rattle.bureau.specs.Joint.{IsStep, Turn, tables_left}
+use Rattle.bureau.specs.Joint.{CallBy, IsStep, tables_left}
 use Rattle.bureau.specs.Kept.{IsToldOfNoTables}
 use Rattle.bureau.specs.Parts.{Parts}
 use Rattle.bureau.specs.Outcome.{Answer, Outcome, answer_of, may_ask, no_room, outcome, plain}
@@ -30,8 +30,8 @@ pub no_answer : {E : Type 0} (result : Result Reply E) → IsErr result → answ
 no_answer (Ok reply) is = absurd (cc)
 no_answer (Err fault) is = refl
 
-abbrev turn_of : Caller → Call → Answer → Turn
-turn_of caller call answer = record { caller = caller; call = call; answer = answer }
+abbrev answered_call : Caller → Call → Answer → CallBy
+answered_call caller call answer = record { caller = caller; call = call; answer = answer }
 
 -- the tables after an accepted change
 after_is : (caller : Caller) (call : Call) (change : AcceptedChange) (this : Tables) → IsOutcome caller call this (Accepted change)
@@ -90,15 +90,15 @@ module _ {Store Judge : Type 0} (view : View Store Tables) (is_right : Judge →
   }
 
   -- nothing changes
-  unchanged : {old mid : Store} {judge now : Judge} (turn : Turn) → Keeps view old mid
+  unchanged : {old mid : Store} {judge now : Judge} (call_by : CallBy) → Keeps view old mid
       → Tells view old mid (λ this. is_right judge this.content → is_right now this.content)
-      → Tells view old mid (λ this. is_right judge this.content → IsStep this turn this)
-      → IsOpen view mid ⊎ IsToldOfNoTables turn
-      → IsAnswered (bureau_view view is_right) (record { store = old; judge = judge }) (record { store = mid; judge = now }) turn
-  unchanged {judge = judge} {now = now} turn keeps right step told = record {
+      → Tells view old mid (λ this. is_right judge this.content → IsStep this call_by this)
+      → IsOpen view mid ⊎ IsToldOfNoTables call_by
+      → IsAnswered (bureau_view view is_right) (record { store = old; judge = judge }) (record { store = mid; judge = now }) call_by
+  unchanged {judge = judge} {now = now} call_by keeps right step told = record {
     goes = as_bureau judge now keeps.goes;
     closed = told;
-    turn_made = record {
+    call_made = record {
       told = λ ours clean this stands among. (
         this,
         record {
@@ -117,8 +117,8 @@ module _ {Store Judge : Type 0} (view : View Store Tables) (is_right : Judge →
   pub none_decided : {old mid : Store} {judge now : Judge} {caller : Caller} (call : Call) {answer : Answer} → answer ≡ no_room
       → Keeps view old mid
       → Tells view old mid (λ this. is_right judge this.content → is_right now this.content)
-      → IsAnswered (bureau_view view is_right) (record { store = old; judge = judge }) (record { store = mid; judge = now }) (turn_of caller call answer)
-  none_decided call none keeps right = unchanged (turn_of _ call _) keeps right (record { told = λ ours clean this stands is. inl (none, refl) }) (inr (inl none))
+      → IsAnswered (bureau_view view is_right) (record { store = old; judge = judge }) (record { store = mid; judge = now }) (answered_call caller call answer)
+  none_decided call none keeps right = unchanged (answered_call _ call _) keeps right (record { told = λ ours clean this stands is. inl (none, refl) }) (inr (inl none))
 
   -- an answer is decided
   pub answer_decided : {old mid : Store} {judge now : Judge} {caller : Caller} (call : Call) (reply : Reply)
@@ -126,14 +126,14 @@ module _ {Store Judge : Type 0} (view : View Store Tables) (is_right : Judge →
       → Tells view old mid (λ this. is_right judge this.content → IsOutcome caller call this (Answered reply))
       → Tells view old mid (λ this. is_right judge this.content → is_right now this.content)
       → IsOpen view mid ⊎ (may_ask caller call ≡ false)
-      → IsAnswered (bureau_view view is_right) (record { store = old; judge = judge }) (record { store = mid; judge = now }) (turn_of caller call (reply_as reply))
-  answer_decided {old} {mid} {caller = caller} call reply keeps decided right told = unchanged (turn_of caller call (reply_as reply)) keeps right (record {
+      → IsAnswered (bureau_view view is_right) (record { store = old; judge = judge }) (record { store = mid; judge = now }) (answered_call caller call (reply_as reply))
+  answer_decided {old} {mid} {caller = caller} call reply keeps decided right told = unchanged (answered_call caller call (reply_as reply)) keeps right (record {
     told = λ ours clean this stands is.
         let comes = (decided.told ours clean this stands is).0 in
         inr (ap answer_of comes, ap (λ (o : Outcome). tables_left caller o this) comes);
   }) (by told)
     where
-      by : IsOpen view mid ⊎ (may_ask caller call ≡ false) → IsOpen view mid ⊎ IsToldOfNoTables (turn_of caller call (reply_as reply))
+      by : IsOpen view mid ⊎ (may_ask caller call ≡ false) → IsOpen view mid ⊎ IsToldOfNoTables (answered_call caller call (reply_as reply))
       by (inl is_open) = inl is_open
       by (inr not_allowed) = inr (inr not_allowed)
 
@@ -145,11 +145,11 @@ module _ {Store Judge : Type 0} (view : View Store Tables) (is_right : Judge →
     -- a change is decided, and not made
     pub change_not_made : {answer : Answer} → IsErr result → answer ≡ no_room
         → ((content : Content) → is_right now content → is_right after content)
-        → IsAnswered (bureau_view view is_right) (record { store = old; judge = judge }) (record { store = new; judge = after }) (turn_of caller call answer)
+        → IsAnswered (bureau_view view is_right) (record { store = old; judge = judge }) (record { store = new; judge = after }) (answered_call caller call answer)
     change_not_made failed none kept = record {
       goes = as_bureau judge after (goes_on keeps.goes makes.goes);
       closed = inr (inl none);
-      turn_made = record {
+      call_made = record {
         told = λ ours clean this stands among.
             let between = makes.goes.clean clean in
             let stands_now = refused_stands (update_of change) result failed makes (keeps.goes.ours ours between) clean this (keeps.stays ours between this stands.0) in (
@@ -170,11 +170,11 @@ module _ {Store Judge : Type 0} (view : View Store Tables) (is_right : Judge →
     pub change_made : (done : Done) (reply : Reply) → result ≡ Ok done → reply_as reply ≡ plain 200 change.reply.items
         → ((store : Store) (tables : Tables) → view.is_ours store → IsOpen view store → view.stands store tables → AreInOrder tables)
         → ((content : Content) → IsInOrder content → IsInOrder (content_after (effect_as change.effect) content) → TouchesNoMore change.effect content → is_right now content → is_right after (content_after (effect_as change.effect) content))
-        → IsAnswered (bureau_view view is_right) (record { store = old; judge = judge }) (record { store = new; judge = after }) (turn_of caller call (reply_as reply))
+        → IsAnswered (bureau_view view is_right) (record { store = old; judge = judge }) (record { store = new; judge = after }) (answered_call caller call (reply_as reply))
     change_made done reply is told order ready = record {
       goes = as_bureau judge after (goes_on keeps.goes makes.goes);
       closed = inl (made_open (update_of change) result done is makes);
-      turn_made = record {
+      call_made = record {
         told = λ ours clean this stands among.
             let between = makes.goes.clean clean in
             let comes = decided.told ours between this stands.0 stands.1 in

@@ -26,35 +26,35 @@ use Rattle.bureau.specs.declared.reply.Reply.{Reply}
 
 module _ {Source : Type 0} {view : View Source Tables} where
   -- a change out of turn is answered by its number alone
-  pub out_of_turn : {a b : Source} (caller : Caller) (call : Call) (number : Option ℕ) (turn : Result ℕ Reply) (reply : Reply) (decided : Tables → Outcome)
+  pub out_of_turn : {a b : Source} (caller : Caller) (call : Call) (number : Option ℕ) (order : Result ℕ Reply) (reply : Reply) (decided : Tables → Outcome)
       → ((this : Tables) → outcome (view_of caller this) call ≡ in_turn (this.last caller) number (decided this))
-      → Tells view a b (λ this. IsInTurn (this.last caller) number turn) → turn ≡ Err reply
+      → Tells view a b (λ this. IsInTurn (this.last caller) number order) → order ≡ Err reply
       → Tells view a b (λ this. IsOutcome caller call this (Answered reply))
-  out_of_turn caller call number turn reply decided comes tells is = record {
+  out_of_turn caller call number order reply decided comes tells is = record {
     told = λ ours clean this stands.
         let late : IsInTurn (this.last caller) number (Err reply) = subst (IsInTurn (this.last caller) number) is (tells.told ours clean this stands) in
         (sym (comes this ∙ late (decided this)), tt);
   }
 
   -- a change in turn is answered
-  pub answered_in_turn : {a b : Source} (caller : Caller) (call : Call) (number : Option ℕ) (turn : Result ℕ Reply) (next : ℕ) (reply : Reply) (decided : Tables → Outcome)
+  pub answered_in_turn : {a b : Source} (caller : Caller) (call : Call) (number : Option ℕ) (order : Result ℕ Reply) (next : ℕ) (reply : Reply) (decided : Tables → Outcome)
       → ((this : Tables) → outcome (view_of caller this) call ≡ in_turn (this.last caller) number (decided this))
-      → Tells view a b (λ this. IsInTurn (this.last caller) number turn) → turn ≡ Ok next
+      → Tells view a b (λ this. IsInTurn (this.last caller) number order) → order ≡ Ok next
       → Tells view a b (λ this. decided this ≡ answered (reply_as reply))
       → Tells view a b (λ this. IsOutcome caller call this (Answered reply))
-  answered_in_turn caller call number turn next reply decided comes tells is answers = record {
+  answered_in_turn caller call number order next reply decided comes tells is answers = record {
     told = λ ours clean this stands.
         let timely : IsInTurn (this.last caller) number (Ok next) = subst (IsInTurn (this.last caller) number) is (tells.told ours clean this stands) in
         (sym (comes this ∙ timely.1 (decided this) ∙ answers.told ours clean this stands), tt);
   }
 
   -- a change in turn is accepted
-  pub accepted_in_turn : {a b : Source} (caller : Caller) (call : Call) (number : Option ℕ) (turn : Result ℕ Reply) (change : AcceptedChange) (decided : Tables → Outcome)
+  pub accepted_in_turn : {a b : Source} (caller : Caller) (call : Call) (number : Option ℕ) (order : Result ℕ Reply) (change : AcceptedChange) (decided : Tables → Outcome)
       → ((this : Tables) → outcome (view_of caller this) call ≡ in_turn (this.last caller) number (decided this))
-      → Tells view a b (λ this. IsInTurn (this.last caller) number turn) → turn ≡ Ok change.number → maker_of change.effect ≡ caller
+      → Tells view a b (λ this. IsInTurn (this.last caller) number order) → order ≡ Ok change.number → maker_of change.effect ≡ caller
       → Tells view a b (λ this. (decided this ≡ accepted (effect_as change.effect) change.reply.items) × Suits change.effect this)
       → Tells view a b (λ this. IsOutcome caller call this (Accepted change))
-  accepted_in_turn caller call number turn change decided comes tells is maker asked = record {
+  accepted_in_turn caller call number order change decided comes tells is maker asked = record {
     told = λ ours clean this stands.
         let timely : IsInTurn (this.last caller) number (Ok change.number) = subst (IsInTurn (this.last caller) number) is (tells.told ours clean this stands) in
         let both = asked.told ours clean this stands in
@@ -62,23 +62,23 @@ module _ {Source : Type 0} {view : View Source Tables} where
   }
 
   -- the same where what is read after the number decides
-  pub answered_after : {a b c : Source} {Found : Tables → Type 0} → IsLawful view → (caller : Caller) (call : Call) (number : Option ℕ) (turn : Result ℕ Reply) (next : ℕ) (reply : Reply) (decided : Tables → Outcome)
+  pub answered_after : {a b c : Source} {Found : Tables → Type 0} → IsLawful view → (caller : Caller) (call : Call) (number : Option ℕ) (order : Result ℕ Reply) (next : ℕ) (reply : Reply) (decided : Tables → Outcome)
       → ((this : Tables) → outcome (view_of caller this) call ≡ in_turn (this.last caller) number (decided this))
-      → view.keeps a b → view.keeps b c → Tells view a b (λ this. IsInTurn (this.last caller) number turn) → turn ≡ Ok next
+      → view.keeps a b → view.keeps b c → Tells view a b (λ this. IsInTurn (this.last caller) number order) → order ≡ Ok next
       → Tells view b c Found → ((this : Tables) → Found this → decided this ≡ answered (reply_as reply))
       → Tells view a c (λ this. IsOutcome caller call this (Answered reply))
-  answered_after law caller call number turn next reply decided comes first second tells is found so =
+  answered_after law caller call number order next reply decided comes first second tells is found so =
       let later = law.keeps _ _ second in
-      answered_in_turn caller call number turn next reply decided comes (told_sooner tells later) is (told_so (told_later (law.keeps _ _ first) later found) so)
+      answered_in_turn caller call number order next reply decided comes (told_sooner tells later) is (told_so (told_later (law.keeps _ _ first) later found) so)
 
-  pub accepted_after : {a b c : Source} {Found : Tables → Type 0} → IsLawful view → (caller : Caller) (call : Call) (number : Option ℕ) (turn : Result ℕ Reply) (change : AcceptedChange) (decided : Tables → Outcome)
+  pub accepted_after : {a b c : Source} {Found : Tables → Type 0} → IsLawful view → (caller : Caller) (call : Call) (number : Option ℕ) (order : Result ℕ Reply) (change : AcceptedChange) (decided : Tables → Outcome)
       → ((this : Tables) → outcome (view_of caller this) call ≡ in_turn (this.last caller) number (decided this))
-      → view.keeps a b → view.keeps b c → Tells view a b (λ this. IsInTurn (this.last caller) number turn) → turn ≡ Ok change.number → maker_of change.effect ≡ caller
+      → view.keeps a b → view.keeps b c → Tells view a b (λ this. IsInTurn (this.last caller) number order) → order ≡ Ok change.number → maker_of change.effect ≡ caller
       → Tells view b c Found → ((this : Tables) → Found this → (decided this ≡ accepted (effect_as change.effect) change.reply.items) × Suits change.effect this)
       → Tells view a c (λ this. IsOutcome caller call this (Accepted change))
-  accepted_after law caller call number turn change decided comes first second tells is maker found so =
+  accepted_after law caller call number order change decided comes first second tells is maker found so =
       let later = law.keeps _ _ second in
-      accepted_in_turn caller call number turn change decided comes (told_sooner tells later) is maker (told_so (told_later (law.keeps _ _ first) later found) so)
+      accepted_in_turn caller call number order change decided comes (told_sooner tells later) is maker (told_so (told_later (law.keeps _ _ first) later found) so)
 
 -- what asks for a zone that isn't there
 pub zone_missing : (found : Option ZoneTable) (answer : ZoneTable → Outcome) → is_some found ≡ false → of_zone found answer ≡ answered not_found

@@ -10,7 +10,7 @@ use Rattle.bureau_store.specs.declared.caller.Caller.{Caller}
 use Rattle.bureau_store.specs.declared.caller.Caller.TheVariants.{Publisher, Client}
 use Rattle.bureau.specs.Bodies.{changes_in, rows_in, ids_in, patterns_in}
 use Rattle.bureau.specs.Call.{Call, publish, put_zone, drop_zone, put_received, put_patterns, list_zones, err_sysmods, missing_fix, chain, counts}
-use Rattle.bureau.specs.Joint.{IsRun, IsStep, Turn, tables_left}
+use Rattle.bureau.specs.Joint.{CallBy, IsRun, IsStep, tables_left}
 use Rattle.bureau_store.specs.Store.{greatest_number}
 use Rattle.bureau.specs.Outcome.{Answer, Outcome, answered, accepted, answer_of, bad_number, by_number, forbidden, gap, has_room, in_turn, may_ask, no_room, of_zone, outcome, outcome_allowed, plain, refused, said, stale, told}
 use Rattle.bureau.specs.Repeat.{ActsOnce, GoesStale, IsChange, IsLater, IsRunWithout, KeepsReply, StaysStale, number_of}
@@ -76,10 +76,10 @@ asked_in_turn view call n allowed e =
     record { change = found.change; refuses = found.refuses; is = rw allowed found.is }
 
 -- what comes of a change by its caller over these tables
-turn_in_turn : (old : Tables) (turn : Turn) (n : ℕ) → IsChange n turn → ComesInTurn (old.last turn.caller) n (outcome (view_of turn.caller old) turn.call)
-turn_in_turn old turn n is =
-    subst (λ last. ComesInTurn last n (outcome (view_of turn.caller old) turn.call)) (view_last turn.caller old)
-    (asked_in_turn (view_of turn.caller old) turn.call n (ap (λ caller. may_ask caller turn.call) (view_caller turn.caller old) ∙ is.allowed) is.number)
+call_in_turn : (old : Tables) (call_by : CallBy) (n : ℕ) → IsChange n call_by → ComesInTurn (old.last call_by.caller) n (outcome (view_of call_by.caller old) call_by.call)
+call_in_turn old call_by n is =
+    subst (λ last. ComesInTurn last n (outcome (view_of call_by.caller old) call_by.call)) (view_last call_by.caller old)
+    (asked_in_turn (view_of call_by.caller old) call_by.call n (ap (λ caller. may_ask caller call_by.call) (view_caller call_by.caller old) ∙ is.allowed) is.number)
 
 -- ---- by its number
 
@@ -178,46 +178,46 @@ asked_accepted view call effect text e = by (may_ask view.caller call) refl
 
 -- ---- numbers only rise
 
--- a turn at which a caller's change is accepted
-record Accepts (old new : Tables) (turn : Turn) (caller : Caller) : Type 0 where
-  by : turn.caller ≡ caller
-  is : IsChange ((old.last caller).number + 1) turn
-  told_is : turn.answer.status ≡ 200
+-- a call at which a caller's change is accepted
+record Accepts (old new : Tables) (call_by : CallBy) (caller : Caller) : Type 0 where
+  by : call_by.caller ≡ caller
+  is : IsChange ((old.last caller).number + 1) call_by
+  told_is : call_by.answer.status ≡ 200
   next : (new.last caller).number ≡ (old.last caller).number + 1
 
-accepts_by : (old new : Tables) (turn : Turn) (caller : Caller) (effect : Effect) (text : List ℕ) → turn.caller ≡ caller
-    → outcome (view_of turn.caller old) turn.call ≡ accepted effect text → turn.answer ≡ answer_of (outcome (view_of turn.caller old) turn.call)
-    → new ≡ tables_left turn.caller (outcome (view_of turn.caller old) turn.call) old → Accepts old new turn caller
-accepts_by old new turn caller effect text by comes answers leaves =
-    let asked = asked_accepted (view_of turn.caller old) turn.call effect text comes in
-    let left : new.last turn.caller ≡ record { number = (old.last turn.caller).number + 1; reply = text } =
-    ap (λ (t : Tables). t.last turn.caller) (leaves ∙ ap (λ o. tables_left turn.caller o old) comes)
-    ∙ ap (λ b. if b then record { number = (old.last turn.caller).number + 1; reply = text } else old.last turn.caller) (own_caller turn.caller) in
-    let numbered_so = asked.1 ∙ ap (λ (last : LastChange). Some (last.number + 1)) (view_last turn.caller old) in
+accepts_by : (old new : Tables) (call_by : CallBy) (caller : Caller) (effect : Effect) (text : List ℕ) → call_by.caller ≡ caller
+    → outcome (view_of call_by.caller old) call_by.call ≡ accepted effect text → call_by.answer ≡ answer_of (outcome (view_of call_by.caller old) call_by.call)
+    → new ≡ tables_left call_by.caller (outcome (view_of call_by.caller old) call_by.call) old → Accepts old new call_by caller
+accepts_by old new call_by caller effect text by comes answers leaves =
+    let asked = asked_accepted (view_of call_by.caller old) call_by.call effect text comes in
+    let left : new.last call_by.caller ≡ record { number = (old.last call_by.caller).number + 1; reply = text } =
+    ap (λ (t : Tables). t.last call_by.caller) (leaves ∙ ap (λ o. tables_left call_by.caller o old) comes)
+    ∙ ap (λ b. if b then record { number = (old.last call_by.caller).number + 1; reply = text } else old.last call_by.caller) (own_caller call_by.caller) in
+    let numbered_so = asked.1 ∙ ap (λ (last : LastChange). Some (last.number + 1)) (view_last call_by.caller old) in
     record {
       by = by;
       is = record {
-        allowed = ap (λ c. may_ask c turn.call) (sym (view_caller turn.caller old)) ∙ asked.0;
+        allowed = ap (λ c. may_ask c call_by.call) (sym (view_caller call_by.caller old)) ∙ asked.0;
         number = numbered_so ∙ ap (λ c. Some ((old.last c).number + 1)) by;
       };
       told_is = ap (λ (a : Answer). a.status) (answers ∙ ap answer_of comes);
       next = ap (λ c. (new.last c).number) (sym by) ∙ ap (λ (last : LastChange). last.number) left ∙ ap (λ c. (old.last c).number + 1) by;
     }
 
-last_goes : (old new : Tables) (turn : Turn) → IsStep old turn new → (other : Caller) → (new.last other ≡ old.last other) ⊎ Accepts old new turn other
-last_goes old new turn (inl none) other = inl (ap (λ (t : Tables). t.last other) none.1)
-last_goes old new turn (inr made) other = comes (outcome (view_of turn.caller old) turn.call) refl
+last_goes : (old new : Tables) (call_by : CallBy) → IsStep old call_by new → (other : Caller) → (new.last other ≡ old.last other) ⊎ Accepts old new call_by other
+last_goes old new call_by (inl none) other = inl (ap (λ (t : Tables). t.last other) none.1)
+last_goes old new call_by (inr made) other = comes (outcome (view_of call_by.caller old) call_by.call) refl
   where
-    by : (b : Bool) (effect : Effect) (text : List ℕ) → outcome (view_of turn.caller old) turn.call ≡ accepted effect text → is_caller turn.caller other ≡ b
-        → (new.last other ≡ old.last other) ⊎ Accepts old new turn other
-    by true effect text e is = inr (accepts_by old new turn other effect text (same_caller turn.caller other is) e made.0 made.1)
+    by : (b : Bool) (effect : Effect) (text : List ℕ) → outcome (view_of call_by.caller old) call_by.call ≡ accepted effect text → is_caller call_by.caller other ≡ b
+        → (new.last other ≡ old.last other) ⊎ Accepts old new call_by other
+    by true effect text e is = inr (accepts_by old new call_by other effect text (same_caller call_by.caller other is) e made.0 made.1)
     by false effect text e is =
-        inl (ap (λ (t : Tables). t.last other) (made.1 ∙ ap (λ o. tables_left turn.caller o old) e)
-        ∙ ap (λ b. if b then record { number = (old.last turn.caller).number + 1; reply = text } else old.last other) is)
+        inl (ap (λ (t : Tables). t.last other) (made.1 ∙ ap (λ o. tables_left call_by.caller o old) e)
+        ∙ ap (λ b. if b then record { number = (old.last call_by.caller).number + 1; reply = text } else old.last other) is)
 
-    comes : (found : Outcome) → outcome (view_of turn.caller old) turn.call ≡ found → (new.last other ≡ old.last other) ⊎ Accepts old new turn other
-    comes (answered answer) e = inl (ap (λ (t : Tables). t.last other) (made.1 ∙ ap (λ o. tables_left turn.caller o old) e))
-    comes (accepted effect text) e = by (is_caller turn.caller other) effect text e refl
+    comes : (found : Outcome) → outcome (view_of call_by.caller old) call_by.call ≡ found → (new.last other ≡ old.last other) ⊎ Accepts old new call_by other
+    comes (answered answer) e = inl (ap (λ (t : Tables). t.last other) (made.1 ∙ ap (λ o. tables_left call_by.caller o old) e))
+    comes (accepted effect text) e = by (is_caller call_by.caller other) effect text e refl
 
 -- the number is a caller's last one, with this reply, or below
 abbrev IsLast : Caller → ℕ → List ℕ → Tables → Type 0
@@ -229,27 +229,27 @@ IsPassed caller n tables = n < (tables.last caller).number
 abbrev IsTaken : Caller → ℕ → List ℕ → Tables → Type 0
 IsTaken caller n reply tables = IsPassed caller n tables ⊎ IsLast caller n reply tables
 
-passed_step : (caller : Caller) (n : ℕ) (old new : Tables) (turn : Turn) → IsStep old turn new → IsPassed caller n old → IsPassed caller n new
-passed_step caller n old new turn step low = by (last_goes old new turn step caller)
+passed_step : (caller : Caller) (n : ℕ) (old new : Tables) (call_by : CallBy) → IsStep old call_by new → IsPassed caller n old → IsPassed caller n new
+passed_step caller n old new call_by step low = by (last_goes old new call_by step caller)
   where
-    by : (new.last caller ≡ old.last caller) ⊎ Accepts old new turn caller → IsPassed caller n new
+    by : (new.last caller ≡ old.last caller) ⊎ Accepts old new call_by caller → IsPassed caller n new
     by (inl same) = subst (λ (last : LastChange). n < last.number) (sym same) low
     by (inr made) = let next = made.next in omega (arith, next, low)
 
-kept_by_run : (P : Tables → Type 0) → ((old new : Tables) (turn : Turn) → IsStep old turn new → P old → P new) → (old new : Tables) (turns : List Turn)
-    → IsRun old turns new → P old → P new
+kept_by_run : (P : Tables → Type 0) → ((old new : Tables) (call_by : CallBy) → IsStep old call_by new → P old → P new) → (old new : Tables) (calls : List CallBy)
+    → IsRun old calls new → P old → P new
 kept_by_run P step old new [] run p = subst P (sym run) p
-kept_by_run P step old new (turn ∷ turns) run p = kept_by_run P step run.0 new turns run.2 (step old run.0 turn run.1 p)
+kept_by_run P step old new (call_by ∷ calls) run p = kept_by_run P step run.0 new calls run.2 (step old run.0 call_by run.1 p)
 
-split_run : (before rest : List Turn) (old new : Tables) → IsRun old (before ++ rest) new → (at : Tables) × IsRun old before at × IsRun at rest new
+split_run : (before rest : List CallBy) (old new : Tables) → IsRun old (before ++ rest) new → (at : Tables) × IsRun old before at × IsRun at rest new
 split_run [] rest old new run = (old, refl, run)
-split_run (turn ∷ before) rest old new run =
+split_run (call_by ∷ before) rest old new run =
     let more = split_run before rest run.0 new run.2 in (more.0, (run.0, run.1, more.1), more.2)
 
 -- ---- the first time
 
 -- what a change leaves that was told 200
-record IsToldTaken (n : ℕ) (first : Turn) (new : Tables) : Type 0 where
+record IsToldTaken (n : ℕ) (first : CallBy) (new : Tables) : Type 0 where
   reply : List ℕ
   range : in_range n ≡ true
   told_is : first.answer ≡ plain 200 reply
@@ -258,7 +258,7 @@ record IsToldTaken (n : ℕ) (first : Turn) (new : Tables) : Type 0 where
 no_status : {A : Type 0} (answer : Answer) (a b : ℕ) → answer.status ≡ a → answer.status ≡ b → (a ≡ b → ⊥) → A
 no_status answer a b p q differ = absurd (differ (sym p ∙ q))
 
-made_taken : (old new : Tables) (first : Turn) (n : ℕ) (found change : Outcome) → Refuses change → found ≡ change → n ≡ (old.last first.caller).number + 1 → in_range n ≡ true
+made_taken : (old new : Tables) (first : CallBy) (n : ℕ) (found change : Outcome) → Refuses change → found ≡ change → n ≡ (old.last first.caller).number + 1 → in_range n ≡ true
     → first.answer ≡ answer_of found → new ≡ tables_left first.caller found old → first.answer.status ≡ 200 → IsToldTaken n first new
 made_taken old new first n found (answered answer) refuses is next range answers leaves ok =
     let status : answer.status ≡ 200 = ap (λ o. (answer_of o).status) (sym is) ∙ ap (λ (a : Answer). a.status) (sym answers) ∙ ok in
@@ -277,7 +277,7 @@ made_taken old new first n found (accepted effect text) refuses is next range an
       taken = (next ∙ ap (λ (last : LastChange). last.number) (sym left), ap (λ (last : LastChange). last.reply) (sym left));
     }
 
-stood_taken : (old new : Tables) (first : Turn) (n : ℕ) (found change : Outcome) → Refuses change → in_range n ≡ true
+stood_taken : (old new : Tables) (first : CallBy) (n : ℕ) (found change : Outcome) → Refuses change → in_range n ≡ true
     → found ≡ by_number n (old.last first.caller) change → first.answer ≡ answer_of found → new ≡ tables_left first.caller found old → first.answer.status ≡ 200
     → Standing (old.last first.caller).number n → IsToldTaken n first new
 stood_taken old new first n found change refuses range is answers leaves ok (is_last e) =
@@ -298,12 +298,12 @@ stood_taken old new first n found change refuses range is answers leaves ok (is_
     let e : found ≡ answered (gap (old.last first.caller).number) = is ∙ gap_taken (old.last first.caller) n change over in
     no_status first.answer 409 200 (ap (λ (a : Answer). a.status) answers ∙ ap (λ o. (answer_of o).status) e) ok (λ same. omega (arith, same))
 
-first_taken : (old new : Tables) (first : Turn) (n : ℕ) → IsStep old first new → IsChange n first → first.answer.status ≡ 200 → IsToldTaken n first new
+first_taken : (old new : Tables) (first : CallBy) (n : ℕ) → IsStep old first new → IsChange n first → first.answer.status ≡ 200 → IsToldTaken n first new
 first_taken old new first n (inl none) is ok = no_status first.answer 503 200 (ap (λ (a : Answer). a.status) none.0) ok (λ same. omega (arith, same))
 first_taken old new first n (inr made) is ok = by (in_range n) refl
   where
     turned : ComesInTurn (old.last first.caller) n (outcome (view_of first.caller old) first.call)
-    turned = turn_in_turn old first n is
+    turned = call_in_turn old first n is
 
     by : (t : Bool) → in_range n ≡ t → IsToldTaken n first new
     by true range =
@@ -323,68 +323,68 @@ any_there P x xs any =
     let k = any.0 in
     let low : k < length xs = any.2 in (suc k, any.1, omega arith, any.3, any.4)
 
--- while the last number stays, no turn is a later one
-none_later : (caller : Caller) (n : ℕ) (old new : Tables) (turn : Turn) → IsStep old turn new → n ≡ (old.last caller).number → new.last caller ≡ old.last caller
-    → IsLater caller n turn → ⊥
-none_later caller n old new turn step is same later =
-    let took = first_taken old new turn later.number step later.is later.accepted in
+-- while the last number stays, no call is a later one
+none_later : (caller : Caller) (n : ℕ) (old new : Tables) (call_by : CallBy) → IsStep old call_by new → n ≡ (old.last caller).number → new.last caller ≡ old.last caller
+    → IsLater caller n call_by → ⊥
+none_later caller n old new call_by step is same later =
+    let took = first_taken old new call_by later.number step later.is later.accepted in
     let last : later.number ≡ (old.last caller).number = took.taken.0 ∙ ap (λ c. (new.last c).number) later.by ∙ ap (λ (l : LastChange). l.number) same in
     let low = later.later in omega (arith, is, last, low)
 
-is_later : (caller : Caller) (n : ℕ) (old new : Tables) (turn : Turn) → n ≡ (old.last caller).number → Accepts old new turn caller → IsLater caller n turn
-is_later caller n old new turn is made = record { by = made.by; number = (old.last caller).number + 1; is = made.is; later = omega (arith, is); accepted = made.told_is }
+is_later : (caller : Caller) (n : ℕ) (old new : Tables) (call_by : CallBy) → n ≡ (old.last caller).number → Accepts old new call_by caller → IsLater caller n call_by
+is_later caller n old new call_by is made = record { by = made.by; number = (old.last caller).number + 1; is = made.is; later = omega (arith, is); accepted = made.told_is }
 
 -- no later change of the caller was accepted, and its last one is the same; or one was, and the number is below the last one
-abbrev Passes : Caller → ℕ → Tables → List Turn → Tables → Type 0
-Passes caller n old turns new =
-    (All (λ turn. IsLater caller n turn → ⊥) turns × (new.last caller ≡ old.last caller)) ⊎ (Any (IsLater caller n) turns × IsPassed caller n new)
+abbrev Passes : Caller → ℕ → Tables → List CallBy → Tables → Type 0
+Passes caller n old calls new =
+    (All (λ call_by. IsLater caller n call_by → ⊥) calls × (new.last caller ≡ old.last caller)) ⊎ (Any (IsLater caller n) calls × IsPassed caller n new)
 
-passes : (caller : Caller) (n : ℕ) (old new : Tables) (turns : List Turn) → IsRun old turns new → n ≡ (old.last caller).number → Passes caller n old turns new
-passes caller n old new [] run is = inl (All-nil (λ turn. IsLater caller n turn → ⊥), ap (λ (t : Tables). t.last caller) run)
-passes caller n old new (turn ∷ turns) run is = by (passes caller n run.0 new turns run.2) (last_goes old run.0 turn run.1 caller)
+passes : (caller : Caller) (n : ℕ) (old new : Tables) (calls : List CallBy) → IsRun old calls new → n ≡ (old.last caller).number → Passes caller n old calls new
+passes caller n old new [] run is = inl (All-nil (λ call_by. IsLater caller n call_by → ⊥), ap (λ (t : Tables). t.last caller) run)
+passes caller n old new (call_by ∷ calls) run is = by (passes caller n run.0 new calls run.2) (last_goes old run.0 call_by run.1 caller)
   where
-    rest : run.0.last caller ≡ old.last caller → Passes caller n run.0 turns new → Passes caller n old (turn ∷ turns) new
-    rest same (inl none) = inl (All-cons (λ turn. IsLater caller n turn → ⊥) turn turns (none_later caller n old run.0 turn run.1 is same) none.0, none.1 ∙ same)
-    rest same (inr passed) = inr (any_there (IsLater caller n) turn turns passed.0, passed.1)
+    rest : run.0.last caller ≡ old.last caller → Passes caller n run.0 calls new → Passes caller n old (call_by ∷ calls) new
+    rest same (inl none) = inl (All-cons (λ call_by. IsLater caller n call_by → ⊥) call_by calls (none_later caller n old run.0 call_by run.1 is same) none.0, none.1 ∙ same)
+    rest same (inr passed) = inr (any_there (IsLater caller n) call_by calls passed.0, passed.1)
 
-    by : (n ≡ (run.0.last caller).number → Passes caller n run.0 turns new) → (run.0.last caller ≡ old.last caller) ⊎ Accepts old run.0 turn caller
-        → Passes caller n old (turn ∷ turns) new
+    by : (n ≡ (run.0.last caller).number → Passes caller n run.0 calls new) → (run.0.last caller ≡ old.last caller) ⊎ Accepts old run.0 call_by caller
+        → Passes caller n old (call_by ∷ calls) new
     by more (inl same) = rest same (more (is ∙ ap (λ (last : LastChange). last.number) (sym same)))
     by more (inr made) =
         let next = made.next in
-        inr (any_here (IsLater caller n) turn turns (is_later caller n old run.0 turn is made), kept_by_run (IsPassed caller n) (λ old new turn. passed_step caller n old new turn) run.0 new turns run.2 (omega (arith, next, is)))
+        inr (any_here (IsLater caller n) call_by calls (is_later caller n old run.0 call_by is made), kept_by_run (IsPassed caller n) (λ old new call_by. passed_step caller n old new call_by) run.0 new calls run.2 (omega (arith, next, is)))
 
 -- ---- and again
 
-again_kept : (old new : Tables) (again : Turn) (n : ℕ) (reply : List ℕ) → IsStep old again new → IsChange n again → in_range n ≡ true → IsLast again.caller n reply old
+again_kept : (old new : Tables) (again : CallBy) (n : ℕ) (reply : List ℕ) → IsStep old again new → IsChange n again → in_range n ≡ true → IsLast again.caller n reply old
     → (again.answer ≡ no_room) ⊎ (again.answer ≡ plain 200 reply)
 again_kept old new again n reply (inl none) is range last = inl none.0
 again_kept old new again n reply (inr made) is range last =
-    let turned = turn_in_turn old again n is in
+    let turned = call_in_turn old again n is in
     inr (made.0 ∙ ap answer_of (turned.is ∙ ranged (old.last again.caller) n turned.change range ∙ again_taken (old.last again.caller) n turned.change last.0)
     ∙ ap (plain 200) (sym last.1))
 
-again_stale : (old new : Tables) (again : Turn) (n : ℕ) → IsStep old again new → IsChange n again → in_range n ≡ true → IsPassed again.caller n old
+again_stale : (old new : Tables) (again : CallBy) (n : ℕ) → IsStep old again new → IsChange n again → in_range n ≡ true → IsPassed again.caller n old
     → (again.answer ≡ no_room) ⊎ (again.answer ≡ stale)
 again_stale old new again n (inl none) is range low = inl none.0
 again_stale old new again n (inr made) is range low =
-    let turned = turn_in_turn old again n is in
+    let turned = call_in_turn old again n is in
     inr (made.0 ∙ ap answer_of (turned.is ∙ ranged (old.last again.caller) n turned.change range ∙ passed_taken (old.last again.caller) n turned.change low))
 
 -- what was told STALE had a number below the last one
 no_stale : {A : Type 0} (answer other : Answer) (a : ℕ) → answer ≡ stale → answer ≡ other → other.status ≡ a → (a ≡ 409 → ⊥) → A
 no_stale answer other a is e status differ = absurd (differ (sym status ∙ ap (λ (x : Answer). x.status) (sym e ∙ is)))
 
-made_stale : {A : Type 0} (first : Turn) (change : Outcome) → Refuses change → first.answer ≡ answer_of change → first.answer ≡ stale → A
+made_stale : {A : Type 0} (first : CallBy) (change : Outcome) → Refuses change → first.answer ≡ answer_of change → first.answer ≡ stale → A
 made_stale first (answered answer) (inl e) answers is = no_stale first.answer answer 404 is answers e (λ same. omega (arith, same))
 made_stale first (answered answer) (inr e) answers is = no_stale first.answer answer 422 is answers e (λ same. omega (arith, same))
 made_stale first (accepted effect text) refuses answers is = no_stale first.answer (plain 200 text) 200 is answers refl (λ same. omega (arith, same))
 
-gap_stale : {A : Type 0} (first : Turn) (last : ℕ) → first.answer ≡ gap last → first.answer ≡ stale → A
+gap_stale : {A : Type 0} (first : CallBy) (last : ℕ) → first.answer ≡ gap last → first.answer ≡ stale → A
 gap_stale first last answers is =
     let letters : 71 ≡ 83 = ap (λ (a : Answer). get_or a.body 0 0) (sym answers ∙ is) in absurd (omega (arith, letters))
 
-stale_below : (old : Tables) (first : Turn) (n : ℕ) (found change : Outcome) → Refuses change → found ≡ by_number n (old.last first.caller) change
+stale_below : (old : Tables) (first : CallBy) (n : ℕ) (found change : Outcome) → Refuses change → found ≡ by_number n (old.last first.caller) change
     → first.answer ≡ answer_of found → first.answer ≡ stale → Standing (old.last first.caller).number n → IsPassed first.caller n old
 stale_below old first n found change refuses e answers is (is_last same) =
     no_stale first.answer (plain 200 (old.last first.caller).reply) 200 is (answers ∙ ap answer_of (e ∙ again_taken (old.last first.caller) n change same)) refl (λ equal. omega (arith, equal))
@@ -394,12 +394,12 @@ stale_below old first n found change refuses e answers is (is_below low) = low
 stale_below old first n found change refuses e answers is (is_above over) =
     gap_stale first (old.last first.caller).number (answers ∙ ap answer_of (e ∙ gap_taken (old.last first.caller) n change over)) is
 
-first_stale : (old new : Tables) (first : Turn) (n : ℕ) → IsStep old first new → IsChange n first → first.answer ≡ stale → (in_range n ≡ true) × IsPassed first.caller n old
+first_stale : (old new : Tables) (first : CallBy) (n : ℕ) → IsStep old first new → IsChange n first → first.answer ≡ stale → (in_range n ≡ true) × IsPassed first.caller n old
 first_stale old new first n (inl none) is told_stale = no_stale first.answer no_room 503 told_stale none.0 refl (λ same. omega (arith, same))
 first_stale old new first n (inr made) is told_stale = by (in_range n) refl
   where
     turned : ComesInTurn (old.last first.caller) n (outcome (view_of first.caller old) first.call)
-    turned = turn_in_turn old first n is
+    turned = call_in_turn old first n is
 
     by : (t : Bool) → in_range n ≡ t → (in_range n ≡ true) × IsPassed first.caller n old
     by true range = (
@@ -412,13 +412,13 @@ first_stale old new first n (inr made) is told_stale = by (in_range n) refl
 
 -- and it leaves the tables as they are
 
-again_leaves : (old new : Tables) (again : Turn) (n : ℕ) (reply : List ℕ) → IsStep old again new → IsChange n again → in_range n ≡ true → IsTaken again.caller n reply old
+again_leaves : (old new : Tables) (again : CallBy) (n : ℕ) (reply : List ℕ) → IsStep old again new → IsChange n again → in_range n ≡ true → IsTaken again.caller n reply old
     → new ≡ old
 again_leaves old new again n reply (inl none) is range taken = none.1
 again_leaves old new again n reply (inr made) is range taken = by taken
   where
     turned : ComesInTurn (old.last again.caller) n (outcome (view_of again.caller old) again.call)
-    turned = turn_in_turn old again n is
+    turned = call_in_turn old again n is
 
     by : IsTaken again.caller n reply old → new ≡ old
     by (inl low) =
@@ -426,25 +426,25 @@ again_leaves old new again n reply (inr made) is range taken = by taken
     by (inr last) =
         made.1 ∙ ap (λ o. tables_left again.caller o old) (turned.is ∙ ranged (old.last again.caller) n turned.change range ∙ again_taken (old.last again.caller) n turned.change last.0)
 
-run_join : (a b c : Tables) (xs ys : List Turn) → IsRun a xs b → IsRun b ys c → IsRun a (xs ++ ys) c
+run_join : (a b c : Tables) (xs ys : List CallBy) → IsRun a xs b → IsRun b ys c → IsRun a (xs ++ ys) c
 run_join a b c [] ys first more = subst (λ (t : Tables). IsRun t ys c) first more
 run_join a b c (x ∷ xs) ys first more = (first.0, first.1, run_join first.0 b c xs ys first.2 more)
 
-without : (opening at mid now closing : Tables) (before : List Turn) (first : Turn) (between after : List Turn) → IsRun opening before at → IsStep at first mid
+without : (opening at mid now closing : Tables) (before : List CallBy) (first : CallBy) (between after : List CallBy) → IsRun opening before at → IsStep at first mid
     → IsRun mid between now → IsRun now after closing → IsRun opening (before ++ first ∷ (between ++ after)) closing
 without opening at mid now closing before first between after run step more rest =
     run_join opening at closing before (first ∷ (between ++ after)) run (mid, step, run_join mid now closing between after more rest)
 
 -- ---- over a run
 
-pub acts_once : (opening closing : Tables) (turns : List Turn) → IsRun opening turns closing → ActsOnce opening turns closing
-acts_once opening closing turns run first again comes ok = by (passes first.caller n at.2.0 later.0 comes.between later.1 took.taken.0)
+pub acts_once : (opening closing : Tables) (calls : List CallBy) → IsRun opening calls closing → ActsOnce opening calls closing
+acts_once opening closing calls run first again comes ok = by (passes first.caller n at.2.0 later.0 comes.between later.1 took.taken.0)
   where
     n : ℕ
     n = comes.number
 
     at : (at : Tables) × IsRun opening comes.before at × IsRun at (first ∷ (comes.between ++ again ∷ comes.after)) closing
-    at = split_run comes.before _ opening closing (subst (λ (ts : List Turn). IsRun opening ts closing) comes.are run)
+    at = split_run comes.before _ opening closing (subst (λ (ts : List CallBy). IsRun opening ts closing) comes.are run)
 
     took : IsToldTaken n first at.2.0
     took = first_taken at.0 at.2.0 first n at.2.1 comes.first_is ok
@@ -477,14 +477,14 @@ acts_once opening closing turns run first again comes ok = by (passes first.call
       left (inl passed.1),
     )
 
-pub stays_stale : (opening closing : Tables) (turns : List Turn) → IsRun opening turns closing → StaysStale opening turns closing
-stays_stale opening closing turns run first again comes is =
-    let whole = subst (λ (ts : List Turn). IsRun opening ts closing) comes.are run in
+pub stays_stale : (opening closing : Tables) (calls : List CallBy) → IsRun opening calls closing → StaysStale opening calls closing
+stays_stale opening closing calls run first again comes is =
+    let whole = subst (λ (ts : List CallBy). IsRun opening ts closing) comes.are run in
     let at = split_run comes.before _ opening closing whole in
     let found = first_stale at.0 at.2.0 first comes.number at.2.1 comes.first_is is in
     let later = split_run comes.between _ at.2.0 closing at.2.2 in
     let after = passed_step first.caller comes.number at.0 at.2.0 first at.2.1 found.1 in
-    let kept = kept_by_run (IsPassed first.caller comes.number) (λ old new turn. passed_step first.caller comes.number old new turn) at.2.0 later.0 comes.between later.1 after in
+    let kept = kept_by_run (IsPassed first.caller comes.number) (λ old new call_by. passed_step first.caller comes.number old new call_by) at.2.0 later.0 comes.between later.1 after in
     let passed = subst (λ caller. IsPassed caller comes.number later.0) (sym comes.caller) kept in
     let leaves = again_leaves later.0 later.2.0 again comes.number [] later.2.1 comes.again_is found.0 (inl passed) in (
       again_stale later.0 later.2.0 again comes.number later.2.1 comes.again_is found.0 passed,

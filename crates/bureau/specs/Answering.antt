@@ -8,7 +8,7 @@ use Rattle.bureau_store.specs.Tables.{Tables}
 use Rattle.bureau_store.specs.declared.caller.Caller.{Caller}
 use Rattle.bureau_store.specs.declared.caller.CallerRow.{CallerRow}
 use Rattle.bureau.specs.Calls.{call_as}
-use Rattle.bureau.specs.Joint.{Turn}
+use Rattle.bureau.specs.Joint.{CallBy}
 use Rattle.bureau.specs.Kept.{IsKeptStep, IsToldOfNoTables}
 use Rattle.bureau.specs.Parts.{Parts}
 use Rattle.bureau.specs.Replies.{reply_as}
@@ -61,17 +61,17 @@ bureau_lawful view is_right lawful = record {
   one = λ bureau is_open this other first second. lawful.one bureau.store is_open this other first.0 second.0;
 }
 
--- A call is answered: where one of the callers asks, it is a turn of the bureau that all callers share.
-pub record IsAnswered {Desk : Type 0} (view : View Desk Tables) (old new : Desk) (turn : Turn) : Type 0 where
+-- A call is answered: where one of the callers asks, it is a step of the bureau that all callers share.
+pub record IsAnswered {Desk : Type 0} (view : View Desk Tables) (old new : Desk) (call_by : CallBy) : Type 0 where
   pub goes : Goes view old new
-  pub closed : IsOpen view new ⊎ IsToldOfNoTables turn
-  pub turn_made : Tells view old new (λ this. IsAmong this.callers turn.caller → (next : Tables) × IsKeptStep view old new this turn next)
+  pub closed : IsOpen view new ⊎ IsToldOfNoTables call_by
+  pub call_made : Tells view old new (λ this. IsAmong this.callers call_by.caller → (next : Tables) × IsKeptStep view old new this call_by next)
 
--- the turns of calls with their answers, as far as both go
-abbrev pub turns_of : List (Caller × declared.Call) → List Reply → List Turn
-turns_of [] replies = []
-turns_of (asked ∷ calls) [] = []
-turns_of (asked ∷ calls) (reply ∷ replies) = record { caller = asked.0; call = call_as asked.1; answer = reply_as reply } ∷ turns_of calls replies
+-- calls by their callers with their answers, as far as both go
+abbrev pub calls_of : List (Caller × declared.Call) → List Reply → List CallBy
+calls_of [] replies = []
+calls_of (asked ∷ calls) [] = []
+calls_of (asked ∷ calls) (reply ∷ replies) = record { caller = asked.0; call = call_as asked.1; answer = reply_as reply } ∷ calls_of calls replies
 
 -- each of these calls is by one of the callers
 abbrev pub AreAmong : List CallerRow → List (Caller × declared.Call) → Type 0
@@ -80,4 +80,4 @@ AreAmong rows calls = All (λ asked. IsAmong rows asked.0) calls
 -- Calls are answered, one after the other: where each is by one of the callers, they are a lawful run of the bureau.
 abbrev pub AreAnswered : {Desk : Type 0} → View Desk Tables → Desk → Desk → List (Caller × declared.Call) → List Reply → Type 0
 AreAnswered view old new calls replies =
-    Tells view old new (λ this. AreAmong this.callers calls → (next : Tables) × IsLawfulRun view old new this (turns_of calls replies) next)
+    Tells view old new (λ this. AreAmong this.callers calls → (next : Tables) × IsLawfulRun view old new this (calls_of calls replies) next)

@@ -7,8 +7,8 @@ use Rattle.bureau.specs.Call.{Call}
 use Rattle.bureau.specs.Outcome.{Answer, Outcome, answered, accepted, answer_of, no_room, outcome}
 use Rattle.bureau.specs.View.{view_of}
 
--- a call, who asked it, and the answer
-pub record Turn : Type 0 where
+-- a call by a caller, with its answer
+pub record CallBy : Type 0 where
   pub caller : Caller
   pub call : Call
   pub answer : Answer
@@ -18,15 +18,15 @@ abbrev pub tables_left : Caller → Outcome → Tables → Tables
 tables_left caller (answered answer) old = old
 tables_left caller (accepted effect text) old = tables_after caller effect (record { number = (old.last caller).number + 1; reply = text }) old
 
--- One turn: there is no room, and nothing changes; or the answer and the tables are those that come of the
+-- One step: there is no room, and nothing changes; or the answer and the tables are those that come of the
 -- call over the caller's view.
-abbrev pub IsStep : Tables → Turn → Tables → Type 0
-IsStep old turn new =
-    ((turn.answer ≡ no_room) × (new ≡ old))
-    ⊎ ((turn.answer ≡ answer_of (outcome (view_of turn.caller old) turn.call))
-    × (new ≡ tables_left turn.caller (outcome (view_of turn.caller old) turn.call) old))
+abbrev pub IsStep : Tables → CallBy → Tables → Type 0
+IsStep old call_by new =
+    ((call_by.answer ≡ no_room) × (new ≡ old))
+    ⊎ ((call_by.answer ≡ answer_of (outcome (view_of call_by.caller old) call_by.call))
+    × (new ≡ tables_left call_by.caller (outcome (view_of call_by.caller old) call_by.call) old))
 
--- one turn after another
-abbrev pub IsRun : Tables → List Turn → Tables → Type 0
+-- one call after another
+abbrev pub IsRun : Tables → List CallBy → Tables → Type 0
 IsRun old [] new = new ≡ old
-IsRun old (turn ∷ turns) new = (mid : Tables) × IsStep old turn mid × IsRun mid turns new
+IsRun old (call_by ∷ calls) new = (mid : Tables) × IsStep old call_by mid × IsRun mid calls new

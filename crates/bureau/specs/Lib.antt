@@ -7,7 +7,7 @@ pub mod Own
 pub mod View
 pub mod Bodies
 pub mod Texts
-pub mod Turn
+pub mod NumberOrder
 pub mod Replies
 pub mod Calls
 pub mod Faults

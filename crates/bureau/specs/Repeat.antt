@@ -3,7 +3,7 @@ use Rattle.std.specs.Prelude.{◌≡◌, ◌<◌, ◌⊎◌, ◌++◌, ℕ, true
 use Rattle.bureau_store.specs.Tables.{Tables}
 use Rattle.bureau_store.specs.declared.caller.Caller.{Caller}
 use Rattle.bureau.specs.Call.{Call, publish, put_zone, drop_zone, put_received, put_patterns, list_zones, err_sysmods, missing_fix, chain, counts}
-use Rattle.bureau.specs.Joint.{IsRun, Turn}
+use Rattle.bureau.specs.Joint.{CallBy, IsRun}
 use Rattle.bureau.specs.Outcome.{may_ask, no_room, stale}
 
 -- the number that a change comes with
@@ -20,50 +20,50 @@ number_of (chain zone sysmod) = None
 number_of counts = None
 
 -- a change with this number, by a caller who may ask it
-pub record IsChange (n : ℕ) (turn : Turn) : Type 0 where
-  pub allowed : may_ask turn.caller turn.call ≡ true
-  pub number : number_of turn.call ≡ Some n
+pub record IsChange (n : ℕ) (call_by : CallBy) : Type 0 where
+  pub allowed : may_ask call_by.caller call_by.call ≡ true
+  pub number : number_of call_by.call ≡ Some n
 
 -- one caller's change, and later in the run a change of the same caller with the same number, whatever it asks
-pub record ComesAgain (turns : List Turn) (first again : Turn) : Type 0 where
+pub record ComesAgain (calls : List CallBy) (first again : CallBy) : Type 0 where
   pub number : ℕ
-  pub before : List Turn
-  pub between : List Turn
-  pub after : List Turn
-  pub are : turns ≡ before ++ first ∷ (between ++ again ∷ after)
+  pub before : List CallBy
+  pub between : List CallBy
+  pub after : List CallBy
+  pub are : calls ≡ before ++ first ∷ (between ++ again ∷ after)
   pub caller : again.caller ≡ first.caller
   pub first_is : IsChange number first
   pub again_is : IsChange number again
 
 -- without its second coming the run leads from the same tables to the same tables
-abbrev pub IsRunWithout : Tables → {turns : List Turn} → {first again : Turn} → ComesAgain turns first again → Tables → Type 0
-IsRunWithout opening {turns} {first} comes closing = IsRun opening (comes.before ++ first ∷ (comes.between ++ comes.after)) closing
+abbrev pub IsRunWithout : Tables → {calls : List CallBy} → {first again : CallBy} → ComesAgain calls first again → Tables → Type 0
+IsRunWithout opening {calls} {first} comes closing = IsRun opening (comes.before ++ first ∷ (comes.between ++ comes.after)) closing
 
 -- a change of the same caller with a later number, which was accepted
-pub record IsLater (caller : Caller) (n : ℕ) (turn : Turn) : Type 0 where
-  pub by : turn.caller ≡ caller
+pub record IsLater (caller : Caller) (n : ℕ) (call_by : CallBy) : Type 0 where
+  pub by : call_by.caller ≡ caller
   pub number : ℕ
-  pub is : IsChange number turn
+  pub is : IsChange number call_by
   pub later : n < number
-  pub accepted : turn.answer.status ≡ 200
+  pub accepted : call_by.answer.status ≡ 200
 
 -- no later change of its caller was accepted before it came again, and it is told the same
-abbrev pub KeepsReply : {turns : List Turn} → {first again : Turn} → ComesAgain turns first again → Type 0
-KeepsReply {turns} {first} {again} comes = All (λ turn. IsLater first.caller comes.number turn → ⊥) comes.between × (again.answer ≡ first.answer)
+abbrev pub KeepsReply : {calls : List CallBy} → {first again : CallBy} → ComesAgain calls first again → Type 0
+KeepsReply {calls} {first} {again} comes = All (λ call_by. IsLater first.caller comes.number call_by → ⊥) comes.between × (again.answer ≡ first.answer)
 
 -- a later change of its caller was accepted before it came again, and it is told STALE
-abbrev pub GoesStale : {turns : List Turn} → {first again : Turn} → ComesAgain turns first again → Type 0
-GoesStale {turns} {first} {again} comes = Any (IsLater first.caller comes.number) comes.between × (again.answer ≡ stale)
+abbrev pub GoesStale : {calls : List CallBy} → {first again : CallBy} → ComesAgain calls first again → Type 0
+GoesStale {calls} {first} {again} comes = Any (IsLater first.caller comes.number) comes.between × (again.answer ≡ stale)
 
 -- A change that was told 200 is told the same when it comes again, as long as no later change of its caller was accepted,
 -- and STALE from then on; unless there is no room. The tables are those that there are without its second coming.
-abbrev pub ActsOnce : Tables → List Turn → Tables → Type 0
-ActsOnce opening turns closing =
-    (first again : Turn) → (comes : ComesAgain turns first again) → first.answer.status ≡ 200 →
+abbrev pub ActsOnce : Tables → List CallBy → Tables → Type 0
+ActsOnce opening calls closing =
+    (first again : CallBy) → (comes : ComesAgain calls first again) → first.answer.status ≡ 200 →
     ((again.answer ≡ no_room) ⊎ (KeepsReply comes ⊎ GoesStale comes)) × IsRunWithout opening comes closing
 
 -- A change that was told STALE is told so from then on, unless there is no room, and changes nothing.
-abbrev pub StaysStale : Tables → List Turn → Tables → Type 0
-StaysStale opening turns closing =
-    (first again : Turn) → (comes : ComesAgain turns first again) → first.answer ≡ stale →
+abbrev pub StaysStale : Tables → List CallBy → Tables → Type 0
+StaysStale opening calls closing =
+    (first again : CallBy) → (comes : ComesAgain calls first again) → first.answer ≡ stale →
     ((again.answer ≡ no_room) ⊎ (again.answer ≡ stale)) × IsRunWithout opening comes closing

@@ -13,12 +13,12 @@ ghost use Rattle.faults.specs.FaultText.{text_of};
 ghost use Rattle.faults.specs.declared.fault.Cause.TheVariants.{Input};
 ghost use Rattle.bureau.specs.Replies.{reply_as};
 
+use crate::number_order::number_in_turn;
 use crate::outcome::{AcceptedChange, Effect, NoRoom, Outcome};
 use crate::publication::changes_in;
 use crate::texts::{
     patterns_line, publication_line, received_line, zone_dropped_line, zone_put_line,
 };
-use crate::turn::number_in_turn;
 use crate::{NoMemory, Reply};
 use bureau_store::{Caller, Store};
 use catalogue::touched;
@@ -209,9 +209,9 @@ fn in_turn<S: Store>(
 ) -> Result<Result<u64, Reply>, NoRoom>
     requires { IsProper caller.now }
     ensures reads { HasRead S.tables_view store.old store.new result }
-    ensures turn { IfOk result (λ turn. Tells S.tables_view store.old store.new
-        (λ this. IsInTurn (this.last caller.now) number turn)) }
-    ensures bound { IfOk result (λ turn. IfOk turn (λ next. next ≤ greatest_number)) }
+    ensures order { IfOk result (λ found. Tells S.tables_view store.old store.new
+        (λ this. IsInTurn (this.last caller.now) number found)) }
+    ensures bound { IfOk result (λ found. IfOk found (λ next. next ≤ greatest_number)) }
 {
     let (last, reply) = store.last(caller)?;
     Ok(number_in_turn(alloc, number, last, reply)?)

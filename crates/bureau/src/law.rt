@@ -1,7 +1,7 @@
 //! What holds of every run.
 ghost use Rattle.std.specs.Prelude.{◌≡◌, List};
 ghost use Rattle.bureau.specs.Alone.{AreAnsweredAlike, IsAlone, opening_of};
-ghost use Rattle.bureau.specs.Joint.{IsRun, Turn};
+ghost use Rattle.bureau.specs.Joint.{CallBy, IsRun};
 ghost use Rattle.bureau.specs.Repeat.{ActsOnce, StaysStale};
 ghost use Rattle.bureau_store.specs.Tables.{AreInOrder, Tables};
 ghost use Rattle.bureau_store.specs.declared.caller.Caller.{Caller};
@@ -12,13 +12,13 @@ ghost use Rattle.bureau_store.specs.declared.caller.Caller.{Caller};
 /// and that caller's alone, those answered 503 left out. `alike`: so in two runs that open alike for a
 /// caller, the same call after the same own history has the same answer, unless one of the two is 503.
 pub fn isolation()
-    ensures alone { (opening closing : Tables) (turns : List Turn) (viewer : Caller) →
-        AreInOrder opening → IsRun opening turns closing → IsAlone viewer (opening_of viewer opening) turns }
+    ensures alone { (opening closing : Tables) (calls : List CallBy) (viewer : Caller) →
+        AreInOrder opening → IsRun opening calls closing → IsAlone viewer (opening_of viewer opening) calls }
     ensures alike { (opening closing opening2 closing2 : Tables)
-        (turns turns2 : List Turn) (viewer : Caller) →
-        AreInOrder opening → AreInOrder opening2 → IsRun opening turns closing →
-        IsRun opening2 turns2 closing2 →
-        opening_of viewer opening ≡ opening_of viewer opening2 → AreAnsweredAlike viewer turns turns2 }
+        (calls calls2 : List CallBy) (viewer : Caller) →
+        AreInOrder opening → AreInOrder opening2 → IsRun opening calls closing →
+        IsRun opening2 calls2 closing2 →
+        opening_of viewer opening ≡ opening_of viewer opening2 → AreAnsweredAlike viewer calls calls2 }
 {}
 
 /// Repeats, a law of every run of the bureau: a change acts once, however often it is sent.
@@ -27,8 +27,8 @@ pub fn isolation()
 /// caller's was made, and STALE from then on. `stale`: a change that was told STALE is told so from then on. A 503
 /// may come in place of each. The tables are those of the same run without what came again.
 pub fn repeats()
-    ensures once { (opening closing : Tables) (turns : List Turn) →
-        IsRun opening turns closing → ActsOnce opening turns closing }
-    ensures stale { (opening closing : Tables) (turns : List Turn) →
-        IsRun opening turns closing → StaysStale opening turns closing }
+    ensures once { (opening closing : Tables) (calls : List CallBy) →
+        IsRun opening calls closing → ActsOnce opening calls closing }
+    ensures stale { (opening closing : Tables) (calls : List CallBy) →
+        IsRun opening calls closing → StaysStale opening calls closing }
 {}

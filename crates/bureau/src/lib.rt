@@ -32,12 +32,12 @@ mod changes;
 mod commit;
 mod decide;
 mod law;
+mod number_order;
 mod outcome;
 mod publication;
 mod questions;
 mod reply;
 mod texts;
-mod turn;
 
 pub use bureau::Bureau;
 pub use call::Call;

@@ -17,11 +17,11 @@ use zone_lists::{Pattern, ZoneRow};
 // Where each column of the list of zones begins, and its name.
 const ZONE_COLUMNS: [Column; 2] = [
     Column {
-        place: 1,
+        start: 1,
         name: b"ZONE",
     },
     Column {
-        place: 10,
+        start: 10,
         name: b"SYSMODS",
     },
 ];

@@ -5,13 +5,13 @@ use Rattle.catalogue.specs.View.{Goes, Tells, View}
 use Rattle.catalogue.proofs.SourceFacts.{told_so}
 use Rattle.bureau_store.specs.Tables.{Tables}
 use Rattle.bureau_store.specs.declared.caller.CallerRow.{CallerRow}
-use Rattle.bureau.specs.Joint.{Turn}
+use Rattle.bureau.specs.Joint.{CallBy}
 use Rattle.bureau.specs.Kept.{IsKeptRun}
 use Rattle.bureau.specs.Runs.{IsLawfulRun}
 use Rattle.bureau.proofs.KeptFacts.{idle, kept_on, stands_after}
 use Rattle.bureau.proofs.RunFacts.{lawful_run, run_callers}
 use Rattle.bureau_http.specs.Arrivals.{Arrival, AreAskedBy, AreHeard, AreMade, AreServedInOrder, Event, Logs, Visit, came, closed, events_of, log_of, missed, nobody, visitor}
-use Rattle.bureau_http.specs.Exchange.{turns_of}
+use Rattle.bureau_http.specs.Exchange.{calls_of}
 use Rattle.bureau_http.specs.Served.{HasRun, IsServed}
 use Rattle.bureau_http.proofs.ServingFacts.{Join}
 
@@ -32,49 +32,49 @@ logs_on (Some x) (Some y) (Some z) xs ys first later_served =
 log_on : (first_ones later_ones : List Arrival) → log_of (first_ones ++ later_ones) ≡ log_of first_ones ++ log_of later_ones
 log_on first_ones later_ones = flat_map-append events_of first_ones later_ones
 
--- ---- the turns
+-- ---- the calls
 
-made_on : (rows : List CallerRow) (first_ones later_ones : List Arrival) (ts us : List Turn) → AreMade rows first_ones ts → AreMade rows later_ones us → AreMade rows (first_ones ++ later_ones) (ts ++ us)
+made_on : (rows : List CallerRow) (first_ones later_ones : List Arrival) (ts us : List CallBy) → AreMade rows first_ones ts → AreMade rows later_ones us → AreMade rows (first_ones ++ later_ones) (ts ++ us)
 made_on rows [] later_ones ts us first later_served = subst (λ l. AreMade rows later_ones l) (sym (ap (λ l. l ++ us) first)) later_served
 made_on rows (a ∷ first_ones) later_ones ts us first later_served =
     (first.0, first.1 ++ us, ap (λ l. l ++ us) first.2 ∙ append_assoc first.0 first.1 us, first.3, made_on rows first_ones later_ones first.1 us first.4 later_served)
 
-pub heard_none : (Runs : Tables → List Turn → Tables → Type 0) (this : Tables) → Runs this [] this → AreHeard Runs this []
-heard_none Runs this run = record { turns = []; closing = this; run = run; callers = refl; made = refl }
+pub heard_none : (Runs : Tables → List CallBy → Tables → Type 0) (this : Tables) → Runs this [] this → AreHeard Runs this []
+heard_none Runs this run = record { calls = []; closing = this; run = run; callers = refl; made = refl }
 
-pub heard_nobody : (Runs : Tables → List Turn → Tables → Type 0) (this : Tables) → Runs this [] this → AreHeard Runs this (nobody ∷ [])
-heard_nobody Runs this run = record { turns = []; closing = this; run = run; callers = refl; made = ([], [], refl, refl, refl) }
+pub heard_nobody : (Runs : Tables → List CallBy → Tables → Type 0) (this : Tables) → Runs this [] this → AreHeard Runs this (nobody ∷ [])
+heard_nobody Runs this run = record { calls = []; closing = this; run = run; callers = refl; made = ([], [], refl, refl, refl) }
 
-pub heard_on : (First Then Whole : Tables → List Turn → Tables → Type 0) → Join First Then Whole → (this : Tables) (first_ones later_ones : List Arrival) (so : AreHeard First this first_ones)
+pub heard_on : (First Then Whole : Tables → List CallBy → Tables → Type 0) → Join First Then Whole → (this : Tables) (first_ones later_ones : List Arrival) (so : AreHeard First this first_ones)
     → AreHeard Then so.closing later_ones → AreHeard Whole this (first_ones ++ later_ones)
 heard_on First Then Whole join this first_ones later_ones so more = record {
-  turns = so.turns ++ more.turns;
+  calls = so.calls ++ more.calls;
   closing = more.closing;
-  run = join this so.closing more.closing so.turns more.turns so.run more.run;
+  run = join this so.closing more.closing so.calls more.calls so.run more.run;
   callers = more.callers ∙ so.callers;
-  made = made_on this.callers first_ones later_ones so.turns more.turns so.made (subst (λ rows. AreMade rows later_ones more.turns) so.callers more.made);
+  made = made_on this.callers first_ones later_ones so.calls more.calls so.made (subst (λ rows. AreMade rows later_ones more.calls) so.callers more.made);
 }
 
 -- what a visit asks, with the run that it makes
-record Asks (Runs : Tables → List Turn → Tables → Type 0) (this : Tables) (visit : Visit) (sent : Option (List ℕ)) : Type 0 where
-  turns : List Turn
+record Asks (Runs : Tables → List CallBy → Tables → Type 0) (this : Tables) (visit : Visit) (sent : Option (List ℕ)) : Type 0 where
+  calls : List CallBy
   closing : Tables
-  run : Runs this turns closing
+  run : Runs this calls closing
   callers : closing.callers ≡ this.callers
-  asked : IfSome sent (AreAskedBy this.callers visit turns)
+  asked : IfSome sent (AreAskedBy this.callers visit calls)
 
 module _ {Desk : Type 0} (view : View Desk Tables) where
   asks : (old new : Desk) (this : Tables) (visit : Visit) (sent : Option (List ℕ)) → HasRun (IsLawfulRun view old new) this
       → IfSome sent (IsServed (IsLawfulRun view old new) this visit.left visit.begun visit.written visit.ended) → Asks (IsKeptRun view old new) this visit sent
   asks old new this visit None ran served = record {
-    turns = ran.turns;
+    calls = ran.calls;
     closing = ran.closing;
     run = ran.run.kept;
-    callers = run_callers this ran.closing ran.turns ran.run.run;
+    callers = run_callers this ran.closing ran.calls ran.run.run;
     asked = tt;
   }
   asks old new this visit (Some bytes) ran served = record {
-    turns = turns_of served.exchanges;
+    calls = calls_of served.exchanges;
     closing = served.ran.closing;
     run = served.ran.run.kept;
     callers = served.ran.callers;
@@ -85,19 +85,19 @@ module _ {Desk : Type 0} (view : View Desk Tables) where
   heard_visitor : (old new : Desk) (this : Tables) (visit : Visit) → Asks (IsKeptRun view old new) this visit visit.sent
       → AreHeard (IsKeptRun view old new) this (visitor visit ∷ [])
   heard_visitor old new this visit asks = record {
-    turns = asks.turns;
+    calls = asks.calls;
     closing = asks.closing;
     run = asks.run;
     callers = asks.callers;
-    made = (asks.turns, [], sym (append-nil asks.turns), asks.asked, refl);
+    made = (asks.calls, [], sym (append-nil asks.calls), asks.asked, refl);
   }
 
   pub heard_lawful : (old new : Desk) (this : Tables) (arrivals : List Arrival) → AreHeard (IsKeptRun view old new) this arrivals
       → AreHeard (IsLawfulRun view old new) this arrivals
   heard_lawful old new this arrivals heard = record {
-    turns = heard.turns;
+    calls = heard.calls;
     closing = heard.closing;
-    run = lawful_run view old new this heard.turns heard.closing heard.run;
+    run = lawful_run view old new this heard.calls heard.closing heard.run;
     callers = heard.callers;
     made = heard.made;
   }
@@ -147,7 +147,7 @@ module _ {Desk : Type 0} (view : View Desk Tables) where
       told = λ ours clean this stand.
           let so = first.heard.told ours (later.clean clean) this stand in
           heard_on (IsKeptRun view a b) (IsKeptRun view b c) (IsKeptRun view a c) (kept_on view a b c) this first.arrivals later_served.arrivals so
-          (later_served.heard.told (sooner.ours ours (later.clean clean)) clean so.closing (stands_after view a b this so.turns so.closing so.run));
+          (later_served.heard.told (sooner.ours ours (later.clean clean)) clean so.closing (stands_after view a b this so.calls so.closing so.run));
     };
   }
 

@@ -16,7 +16,7 @@ use Rattle.bureau.specs.Call.{Call}
 use Rattle.bureau.specs.Kept.{Idles, IsKeptRun, IsKeptStep}
 use Rattle.bureau.specs.Outcome.{Answer, no_room}
 use Rattle.bureau.proofs.KeptFacts.{from_before, one_kept}
-use Rattle.bureau_http.specs.Exchange.{turn_by}
+use Rattle.bureau_http.specs.Exchange.{call_from}
 use Rattle.bureau_http.specs.Asked.{What, by_caller, call_of, caller_in, has_token, of_caller, what_of}
 
 -- ---- a caller that has a token is one of the callers
@@ -68,8 +68,8 @@ token_there parts token is = ap is_some (sym is)
 -- ---- the run of a request
 
 module _ {Desk : Type 0} (view : View Desk Tables) (old new : Desk) (this : Tables) where
-  -- what has no room is a turn that changes nothing, or none
-  pub no_room_run : (what : What) → Idles view old new this → IsKeptRun view old new this (turn_by what no_room) this
+  -- what has no room is a call that changes nothing, or none
+  pub no_room_run : (what : What) → Idles view old new this → IsKeptRun view old new this (call_from what no_room) this
   no_room_run (Ok call) idles =
       one_kept view old new this (record { caller = call.0; call = call.1; answer = no_room }) this (record {
         goes = idles.goes;
@@ -81,12 +81,12 @@ module _ {Desk : Type 0} (view : View Desk Tables) (old new : Desk) (this : Tabl
       })
   no_room_run (Err refusal) idles = (refl, idles)
 
-  -- a call that is made is a turn, of a desk that was looked at before
+  -- a call that is made is a step, of a desk that was looked at before
   pub call_run : (mid : Desk) (what : What) (call : Caller × Call) (answer : Answer) (next : Tables) → what ≡ Ok call → Idles view old mid this
       → IsKeptStep view mid new this (record { caller = call.0; call = call.1; answer = answer }) next
-      → IsKeptRun view old new this (turn_by what answer) next
+      → IsKeptRun view old new this (call_from what answer) next
   call_run mid what call answer next is idles step =
-      subst (λ what. IsKeptRun view old new this (turn_by what answer) next) (sym is)
+      subst (λ what. IsKeptRun view old new this (call_from what answer) next) (sym is)
       (from_before view old mid new this (record { caller = call.0; call = call.1; answer = answer } ∷ []) next idles
       (one_kept view mid new this (record { caller = call.0; call = call.1; answer = answer }) next step))
 

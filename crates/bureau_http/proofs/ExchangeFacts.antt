@@ -9,12 +9,12 @@ use Rattle.requests.specs.declared.reply.ReplyHead.{ReplyHead}
 use Rattle.requests.specs.declared.resource.Resource.{Resource}
 use Rattle.bureau_store.specs.Tables.{Tables}
 use Rattle.bureau_store.specs.declared.caller.Caller.{Caller}
-use Rattle.bureau.specs.Joint.{IsStep, Turn, tables_left}
+use Rattle.bureau.specs.Joint.{CallBy, IsStep, tables_left}
 use Rattle.bureau.specs.Outcome.{Outcome, answered, accepted, outcome}
 use Rattle.bureau.specs.Replies.{reply_as}
 use Rattle.bureau.specs.View.{view_of}
 use Rattle.bureau_http.specs.Asked.{What}
-use Rattle.bureau_http.specs.Exchange.{IsAnsweredBy, allow_by, body_told, exchange_text, refusal_answer, turn_by}
+use Rattle.bureau_http.specs.Exchange.{IsAnsweredBy, allow_by, body_told, call_from, exchange_text, refusal_answer}
 use Rattle.bureau_http.specs.Served.{HasExchanged, asked_as}
 use Rattle.bureau_http.specs.Told.{IsTold, allow_told, answer_told, head_told, told_text}
 use Rattle.bureau_http.specs.declared.reply.Told.{Told}
@@ -26,10 +26,10 @@ outcome_keeps : (caller : Caller) (come : Outcome) (this : Tables) → (tables_l
 outcome_keeps caller (answered answer) this = refl
 outcome_keeps caller (accepted effect text) this = refl
 
-pub step_keeps : (this next : Tables) (turn : Turn) → IsStep this turn next → next.callers ≡ this.callers
-step_keeps this next turn (inl same) = ap (λ t. t.callers) same.1
-step_keeps this next turn (inr done) =
-    ap (λ t. t.callers) done.1 ∙ outcome_keeps turn.caller (outcome (view_of turn.caller this) turn.call) this
+pub step_keeps : (this next : Tables) (call_by : CallBy) → IsStep this call_by next → next.callers ≡ this.callers
+step_keeps this next call_by (inl same) = ap (λ t. t.callers) same.1
+step_keeps this next call_by (inr done) =
+    ap (λ t. t.callers) done.1 ∙ outcome_keeps call_by.caller (outcome (view_of call_by.caller this) call_by.call) this
 
 -- ---- which answer
 
@@ -49,8 +49,8 @@ callers_by this next what has_token (Refused refusal) is = ap (λ t. t.callers) 
 callers_by this next what has_token NoRoom is = ap (λ t. t.callers) is.1
 
 -- a call that is told something has exchanged it
-pub has_exchanged : (Runs : Tables → List Turn → Tables → Type 0) (this next : Tables) (what : What) (has_token : Bool) (told : Told) (is_bare closes : Bool)
-    → IsTold this what has_token told next → Runs this (turn_by what (answer_told told)) next → HasExchanged Runs this (asked_as what has_token is_bare closes (answer_told told))
+pub has_exchanged : (Runs : Tables → List CallBy → Tables → Type 0) (this next : Tables) (what : What) (has_token : Bool) (told : Told) (is_bare closes : Bool)
+    → IsTold this what has_token told next → Runs this (call_from what (answer_told told)) next → HasExchanged Runs this (asked_as what has_token is_bare closes (answer_told told))
 has_exchanged Runs this next what has_token told is_bare closes is run = record {
   next = next;
   answered = answered_by this next what has_token told is;

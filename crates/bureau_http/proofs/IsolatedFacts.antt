@@ -5,60 +5,60 @@ use Rattle.bureau_store.specs.Tables.{AreInOrder, Tables}
 use Rattle.bureau_store.specs.declared.caller.Caller.{Caller}
 use Rattle.bureau.specs.Alone.{AreAnsweredAlike, IsAlone, opening_of}
 use Rattle.bureau.specs.Call.{Call}
-use Rattle.bureau.specs.Joint.{IsRun, Turn}
+use Rattle.bureau.specs.Joint.{CallBy, IsRun}
 use Rattle.bureau.specs.Outcome.{Answer}
 use Rattle.bureau_http.specs.Asked.{Asked}
-use Rattle.bureau_http.specs.Exchange.{Exchange, exchange_text, turn_by, turn_of, turns_of}
+use Rattle.bureau_http.specs.Exchange.{Exchange, call_from, call_in, calls_of, exchange_text}
 use Rattle.bureau_http.specs.Isolated.{AreIsolated, AreOwnBytes, HaveSameBytes, joined, own_exchange}
-use Rattle.bureau_http.specs.List.{turns_in}
+use Rattle.bureau_http.specs.List.{calls_in}
 
 abbrev pub Alone : Type 0
-Alone = (opening closing : Tables) (turns : List Turn) (viewer : Caller) → AreInOrder opening → IsRun opening turns closing → IsAlone viewer (opening_of viewer opening) turns
+Alone = (opening closing : Tables) (calls : List CallBy) (viewer : Caller) → AreInOrder opening → IsRun opening calls closing → IsAlone viewer (opening_of viewer opening) calls
 
 abbrev pub Alike : Type 0
-Alike = (opening closing opening2 closing2 : Tables) (turns turns2 : List Turn) (viewer : Caller) → AreInOrder opening → AreInOrder opening2 →
-    IsRun opening turns closing → IsRun opening2 turns2 closing2 → opening_of viewer opening ≡ opening_of viewer opening2 → AreAnsweredAlike viewer turns turns2
+Alike = (opening closing opening2 closing2 : Tables) (calls calls2 : List CallBy) (viewer : Caller) → AreInOrder opening → AreInOrder opening2 →
+    IsRun opening calls closing → IsRun opening2 calls2 closing2 → opening_of viewer opening ≡ opening_of viewer opening2 → AreAnsweredAlike viewer calls calls2
 
--- ---- the turns of joined exchanges
+-- ---- the calls of joined exchanges
 
-pub turns_joined : (connections : List (List Exchange)) → turns_of (joined connections) ≡ turns_in connections
-turns_joined [] = refl
-turns_joined (exchanges ∷ more) =
-    flat_map-append turn_of exchanges (joined more) ∙ ap (λ l. turns_of exchanges ++ l) (turns_joined more)
+pub calls_joined : (connections : List (List Exchange)) → calls_of (joined connections) ≡ calls_in connections
+calls_joined [] = refl
+calls_joined (exchanges ∷ more) =
+    flat_map-append call_in exchanges (joined more) ∙ ap (λ l. calls_of exchanges ++ l) (calls_joined more)
 
-pub turns_with_hand : (connections : List (List Exchange)) (hand : List Exchange) → turns_of (joined connections ++ hand) ≡ turns_in connections ++ turns_of hand
-turns_with_hand connections hand =
-    flat_map-append turn_of (joined connections) hand ∙ ap (λ l. l ++ turns_of hand) (turns_joined connections)
+pub calls_with_hand : (connections : List (List Exchange)) (hand : List Exchange) → calls_of (joined connections ++ hand) ≡ calls_in connections ++ calls_of hand
+calls_with_hand connections hand =
+    flat_map-append call_in (joined connections) hand ∙ ap (λ l. l ++ calls_of hand) (calls_joined connections)
 
--- ---- a caller's call, at its place among the turns
+-- ---- a caller's call, where it stands among the calls
 
-abbrev turn_at : Caller → Call → Exchange → Turn
-turn_at viewer call exchange = record { caller = viewer; call = call; answer = exchange.answer }
+abbrev call_at : Caller → Call → Exchange → CallBy
+call_at viewer call exchange = record { caller = viewer; call = call; answer = exchange.answer }
 
-turns_at : (viewer : Caller) (call : Call) (exchanges before : List Exchange) (exchange : Exchange) (after : List Exchange) → exchanges ≡ before ++ exchange ∷ after
-    → exchange.asked.what ≡ Ok (viewer, call) → turns_of exchanges ≡ turns_of before ++ turn_at viewer call exchange ∷ turns_of after
-turns_at viewer call exchanges before exchange after split is =
-    ap turns_of split ∙ flat_map-append turn_of before (exchange ∷ after)
-    ∙ ap (λ what. turns_of before ++ (turn_by what exchange.answer ++ turns_of after)) is
+calls_at : (viewer : Caller) (call : Call) (exchanges before : List Exchange) (exchange : Exchange) (after : List Exchange) → exchanges ≡ before ++ exchange ∷ after
+    → exchange.asked.what ≡ Ok (viewer, call) → calls_of exchanges ≡ calls_of before ++ call_at viewer call exchange ∷ calls_of after
+calls_at viewer call exchanges before exchange after split is =
+    ap calls_of split ∙ flat_map-append call_in before (exchange ∷ after)
+    ∙ ap (λ what. calls_of before ++ (call_from what exchange.answer ++ calls_of after)) is
 
 same_bytes : (asked : Asked) (a b : Answer) → a ≡ b → exchange_text (record { asked = asked; answer = a }) ≡ exchange_text (record { asked = asked; answer = b })
 same_bytes asked a b e = ap (λ answer. exchange_text (record { asked = asked; answer = answer })) e
 
 -- ---- the bytes
 
-own_bytes : (opening : Tables) (exchanges : List Exchange) → ((viewer : Caller) → IsAlone viewer (opening_of viewer opening) (turns_of exchanges))
+own_bytes : (opening : Tables) (exchanges : List Exchange) → ((viewer : Caller) → IsAlone viewer (opening_of viewer opening) (calls_of exchanges))
     → AreOwnBytes opening exchanges
 own_bytes opening exchanges alone viewer call before exchange after split is =
-    elim (alone viewer (turns_of before) (turn_at viewer call exchange) (turns_of after) (turns_at viewer call exchanges before exchange after split is) refl) [
+    elim (alone viewer (calls_of before) (call_at viewer call exchange) (calls_of after) (calls_at viewer call exchanges before exchange after split is) refl) [
       | inl none ↦ inl none
       | inr own ↦ inr (same_bytes exchange.asked exchange.answer (own_exchange opening viewer call before exchange).answer own)
     ]
 
-bytes_alike : (viewer : Caller) (exchanges others : List Exchange) → AreAnsweredAlike viewer (turns_of exchanges) (turns_of others) → HaveSameBytes viewer exchanges others
+bytes_alike : (viewer : Caller) (exchanges others : List Exchange) → AreAnsweredAlike viewer (calls_of exchanges) (calls_of others) → HaveSameBytes viewer exchanges others
 bytes_alike viewer exchanges others alike call before exchange after before2 exchange2 after2 split split2 is same history =
     let is2 : exchange2.asked.what ≡ Ok (viewer, call) = ap (λ asked. asked.what) (sym same) ∙ is in
-    elim (alike (turns_of before) (turn_at viewer call exchange) (turns_of after) (turns_of before2) (turn_at viewer call exchange2) (turns_of after2)
-    (turns_at viewer call exchanges before exchange after split is) (turns_at viewer call others before2 exchange2 after2 split2 is2) refl refl refl history) [
+    elim (alike (calls_of before) (call_at viewer call exchange) (calls_of after) (calls_of before2) (call_at viewer call exchange2) (calls_of after2)
+    (calls_at viewer call exchanges before exchange after split is) (calls_at viewer call others before2 exchange2 after2 split2 is2) refl refl refl history) [
       | inl none ↦ inl none
       | inr told ↦ inr (elim told [
         | inl none ↦ inl none
@@ -67,11 +67,11 @@ bytes_alike viewer exchanges others alike call before exchange after before2 exc
       ])
     ]
 
-pub isolated : (opening closing : Tables) (exchanges : List Exchange) → Alone → Alike → AreInOrder opening → IsRun opening (turns_of exchanges) closing
+pub isolated : (opening closing : Tables) (exchanges : List Exchange) → Alone → Alike → AreInOrder opening → IsRun opening (calls_of exchanges) closing
     → AreIsolated opening exchanges
 isolated opening closing exchanges alone alike in_order run = record {
-  alone = λ viewer. alone opening closing (turns_of exchanges) viewer in_order run;
-  bytes = own_bytes opening exchanges (λ viewer. alone opening closing (turns_of exchanges) viewer in_order run);
+  alone = λ viewer. alone opening closing (calls_of exchanges) viewer in_order run;
+  bytes = own_bytes opening exchanges (λ viewer. alone opening closing (calls_of exchanges) viewer in_order run);
   alike = λ opening2 closing2 others viewer in_order2 run2 same.
-      bytes_alike viewer exchanges others (alike opening closing opening2 closing2 (turns_of exchanges) (turns_of others) viewer in_order in_order2 run run2 same);
+      bytes_alike viewer exchanges others (alike opening closing opening2 closing2 (calls_of exchanges) (calls_of others) viewer in_order in_order2 run run2 same);
 }

@@ -5,11 +5,11 @@ use Rattle.std.specs.Global.{Vec}
 use Rattle.catalogue.specs.View.{Tells, View}
 use Rattle.catalogue.proofs.SourceFacts.{told_so}
 use Rattle.bureau_store.specs.Tables.{Tables}
-use Rattle.bureau.specs.Joint.{Turn}
+use Rattle.bureau.specs.Joint.{CallBy}
 use Rattle.bureau.specs.Kept.{IsKeptRun}
 use Rattle.bureau.specs.Runs.{IsLawfulRun}
 use Rattle.bureau.proofs.RunFacts.{lawful_run}
-use Rattle.bureau_http.specs.Exchange.{turns_of}
+use Rattle.bureau_http.specs.Exchange.{calls_of}
 use Rattle.bureau_http.specs.List.{AreServed, AreServedAs, AreServedInPart}
 use Rattle.bureau_http.specs.Served.{HasRun, IsOneRun, IsServed}
 use Rattle.bureau_http.specs.declared.fault.ConnFault.{ConnFault}
@@ -18,16 +18,16 @@ use Rattle.bureau_http.proofs.ServingFacts.{same_run}
 
 module _ {Desk : Type 0} (view : View Desk Tables) (old new : Desk) where
   pub ran_lawful : (this : Tables) → HasRun (IsKeptRun view old new) this → HasRun (IsLawfulRun view old new) this
-  ran_lawful this ran = record { turns = ran.turns; closing = ran.closing; run = lawful_run view old new this ran.turns ran.closing ran.run }
+  ran_lawful this ran = record { calls = ran.calls; closing = ran.closing; run = lawful_run view old new this ran.calls ran.closing ran.run }
 
   -- one run that is kept is a lawful one
-  run_lawful : (this : Tables) (turns : List Turn) → IsOneRun (IsKeptRun view old new) this turns → IsOneRun (IsLawfulRun view old new) this turns
-  run_lawful this turns = same_run (IsKeptRun view old new) (IsLawfulRun view old new) this turns (λ closing run. lawful_run view old new this turns closing run)
+  run_lawful : (this : Tables) (calls : List CallBy) → IsOneRun (IsKeptRun view old new) this calls → IsOneRun (IsLawfulRun view old new) this calls
+  run_lawful this calls = same_run (IsKeptRun view old new) (IsLawfulRun view old new) this calls (λ closing run. lawful_run view old new this calls closing run)
 
   pub one_lawful : (this : Tables) (left before after : Option (List ℕ)) (answer : Result Served ConnFault) (bytes : List ℕ)
       → IsServed (IsKeptRun view old new) this left before after answer bytes → IsServed (IsLawfulRun view old new) this left before after answer bytes
   one_lawful this left before after answer bytes served =
-      record { exchanges = served.exchanges; ran = run_lawful this (turns_of served.exchanges) served.ran; exchanged = served.exchanged }
+      record { exchanges = served.exchanges; ran = run_lawful this (calls_of served.exchanges) served.ran; exchanged = served.exchanged }
 
   pub list_lawful : (this : Tables) (connections written : List (List ℕ)) → AreServed (IsKeptRun view old new) this connections written
       → AreServed (IsLawfulRun view old new) this connections written

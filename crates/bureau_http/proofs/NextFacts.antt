@@ -3,12 +3,12 @@ use Rattle.std.proofs.Common.{◌≡◌, ℕ, ◌+◌, ◌<◌, List, [], ◌∷
 use Rattle.std.specs.Io.KnownBytes.{prepend_known}
 use Rattle.catalogue.specs.View.{Goes, Tells, View}
 use Rattle.bureau_store.specs.Tables.{Tables}
-use Rattle.bureau.specs.Joint.{IsRun, Turn}
+use Rattle.bureau.specs.Joint.{CallBy, IsRun}
 use Rattle.bureau.specs.Kept.{IsKeptRun}
 use Rattle.bureau.specs.Repeat.{ActsOnce, StaysStale}
 use Rattle.bureau.proofs.KeptFacts.{kept_on, kept_run, stands_after}
-use Rattle.bureau_http.specs.Exchange.{turns_of}
-use Rattle.bureau_http.specs.List.{AreServedInPart, AreSoFar, IsOneCut, IsOneServed, turns_in}
+use Rattle.bureau_http.specs.Exchange.{calls_of}
+use Rattle.bureau_http.specs.List.{AreServedInPart, AreSoFar, IsOneCut, IsOneServed, calls_in}
 use Rattle.bureau_http.specs.Served.{HasRun, IsServed, IsSoFar, Serves}
 use Rattle.bureau_http.specs.declared.fault.ConnFault.{ConnFault}
 use Rattle.bureau_http.specs.declared.serving.Step.{Step}
@@ -18,26 +18,26 @@ use Rattle.bureau_http.proofs.ListFacts.{IsPlain, in_part, one_more}
 use Rattle.bureau_http.proofs.ServingFacts.{ActOnce, map_some, ran_more, served_end, served_err, served_last, some_at, stays}
 
 -- a change acts once, by the law of all runs
-pub acts_once : ((this next : Tables) (turns : List Turn) → IsRun this turns next → ActsOnce this turns next)
-    → ((this next : Tables) (turns : List Turn) → IsRun this turns next → StaysStale this turns next) → ActOnce IsRun
-acts_once once stale this next turns run = (once this next turns run, stale this next turns run)
+pub acts_once : ((this next : Tables) (calls : List CallBy) → IsRun this calls next → ActsOnce this calls next)
+    → ((this next : Tables) (calls : List CallBy) → IsRun this calls next → StaysStale this calls next) → ActOnce IsRun
+acts_once once stale this next calls run = (once this next calls run, stale this next calls run)
 
 module _ {Desk : Type 0} (view : View Desk Tables) (old new : Desk) where
   -- a run that is kept is a run of the tables, in which a change acts once
   pub kept_plain : IsPlain (IsKeptRun view old new)
-  kept_plain this next turns run = kept_run view old new this turns next run
+  kept_plain this next calls run = kept_run view old new this calls next run
 
   pub kept_once : ActOnce IsRun → ActOnce (IsKeptRun view old new)
-  kept_once once this next turns run = once this next turns (kept_run view old new this turns next run)
+  kept_once once this next calls run = once this next calls (kept_run view old new this calls next run)
 
 module _ {Desk : Type 0} (view : View Desk Tables) (desk between after : Desk) (goes : Goes view desk between) (next_goes : Goes view between after) where
-  abbrev First : Tables → List Turn → Tables → Type 0
+  abbrev First : Tables → List CallBy → Tables → Type 0
   First = IsKeptRun view desk between
 
-  abbrev Then : Tables → List Turn → Tables → Type 0
+  abbrev Then : Tables → List CallBy → Tables → Type 0
   Then = IsKeptRun view between after
 
-  abbrev Whole : Tables → List Turn → Tables → Type 0
+  abbrev Whole : Tables → List CallBy → Tables → Type 0
   Whole = IsKeptRun view desk after
 
   -- what the desk did, whatever it was asked
@@ -47,44 +47,44 @@ module _ {Desk : Type 0} (view : View Desk Tables) (desk between after : Desk) (
     told = λ ours clean this stand.
         let so = so_far.told ours (next_goes.clean clean) this stand in
         ran_more First Then Whole (kept_on view desk between after) this so
-        (next.told (goes.ours ours (next_goes.clean clean)) clean so.closing (stands_after view desk between this so.turns so.closing so.run));
+        (next.told (goes.ours ours (next_goes.clean clean)) clean so.closing (stands_after view desk between this so.calls so.closing so.run));
   }
 
   -- ---- what stands next in a connection
 
-  module _ (once : ActOnce IsRun) (place : ℕ) (held : List ℕ) (sent left rest written mid written_after : Option (List ℕ)) (answer : Result Step ConnFault)
-      (so_far : Tells view desk between (λ this. IfSome sent (IsSoFar (IsKeptRun view desk between) this place left written mid)))
-      (next : Tells view between after (λ this. IfSome left (Serves (IsKeptRun view between after) this place held rest mid written_after answer))) where
+  module _ (once : ActOnce IsRun) (ordinal : ℕ) (held : List ℕ) (sent left rest written mid written_after : Option (List ℕ)) (answer : Result Step ConnFault)
+      (so_far : Tells view desk between (λ this. IfSome sent (IsSoFar (IsKeptRun view desk between) this ordinal left written mid)))
+      (next : Tells view between after (λ this. IfSome left (Serves (IsKeptRun view between after) this ordinal held rest mid written_after answer))) where
     next_served : (Fact : Tables → List ℕ → Type 0) (is : Result Step ConnFault) → answer ≡ is
-        → ((this : Tables) (bytes : List ℕ) (so : IsSoFar First this place left written mid bytes) → Serves Then so.now place held rest mid written_after is so.following → Fact this bytes)
+        → ((this : Tables) (bytes : List ℕ) (so : IsSoFar First this ordinal left written mid bytes) → Serves Then so.now ordinal held rest mid written_after is so.following → Fact this bytes)
         → Tells view desk after (λ this. IfSome sent (Fact this))
     next_served Fact is same fact = record {
       told = λ ours clean this stand.
           map_some sent (so_far.told ours (next_goes.clean clean) this stand) (λ bytes so.
-          fact this bytes so (subst (λ r. Serves Then so.now place held rest mid written_after r so.following) same
+          fact this bytes so (subst (λ r. Serves Then so.now ordinal held rest mid written_after r so.following) same
           (some_at _ left so.following so.left_are
-          (next.told (goes.ours ours (next_goes.clean clean)) clean so.now (stands_after view desk between this (turns_of so.exchanges) so.now so.run)))));
+          (next.told (goes.ours ours (next_goes.clean clean)) clean so.now (stands_after view desk between this (calls_of so.exchanges) so.now so.run)))));
     }
 
-    pub ended_served : (count : ℕ) → 1 + count ≡ place → answer ≡ Ok step.CleanEnd
+    pub ended_served : (count : ℕ) → 1 + count ≡ ordinal → answer ≡ Ok step.CleanEnd
         → Tells view desk after (λ this. IfSome sent (IsServed (IsKeptRun view desk after) this rest written written_after (Ok (record { requests = count }))))
     ended_served count counted is = next_served (λ this. IsServed Whole this rest written written_after (Ok (record { requests = count }))) (Ok step.CleanEnd) is (λ this bytes so served.
-        served_end First Then Whole (kept_on view desk between after) (kept_once view desk after once) this place held rest left written mid written_after bytes so count counted served)
+        served_end First Then Whole (kept_on view desk between after) (kept_once view desk after once) this ordinal held rest left written mid written_after bytes so count counted served)
 
     pub last_served : answer ≡ Ok step.Ends
-        → Tells view desk after (λ this. IfSome sent (IsServed (IsKeptRun view desk after) this rest written written_after (Ok (record { requests = place }))))
-    last_served is = next_served (λ this. IsServed Whole this rest written written_after (Ok (record { requests = place }))) (Ok step.Ends) is (λ this bytes so served.
-        served_last First Then Whole (kept_on view desk between after) (kept_once view desk after once) this place held rest left written mid written_after bytes so served)
+        → Tells view desk after (λ this. IfSome sent (IsServed (IsKeptRun view desk after) this rest written written_after (Ok (record { requests = ordinal }))))
+    last_served is = next_served (λ this. IsServed Whole this rest written written_after (Ok (record { requests = ordinal }))) (Ok step.Ends) is (λ this bytes so served.
+        served_last First Then Whole (kept_on view desk between after) (kept_once view desk after once) this ordinal held rest left written mid written_after bytes so served)
 
     pub failed_served : (fault : ConnFault) → answer ≡ Err fault
         → Tells view desk after (λ this. IfSome sent (IsServed (IsKeptRun view desk after) this rest written written_after (Err fault)))
     failed_served fault is = next_served (λ this. IsServed Whole this rest written written_after (Err fault)) (Err fault) is (λ this bytes so served.
-        served_err First Then Whole (kept_on view desk between after) (kept_once view desk after once) this place held rest left written mid written_after bytes so fault served)
+        served_err First Then Whole (kept_on view desk between after) (kept_once view desk after once) this ordinal held rest left written mid written_after bytes so fault served)
 
     pub one_served : answer ≡ Ok step.Stays
-        → Tells view desk after (λ this. IfSome sent (IsSoFar (IsKeptRun view desk after) this (place + 1) (prepend_known held rest) written written_after))
-    one_served is = next_served (λ this. IsSoFar Whole this (place + 1) (prepend_known held rest) written written_after) (Ok step.Stays) is (λ this bytes so served.
-        stays First Then Whole (kept_on view desk between after) (kept_once view desk after once) this place rest left written mid written_after bytes so
+        → Tells view desk after (λ this. IfSome sent (IsSoFar (IsKeptRun view desk after) this (ordinal + 1) (prepend_known held rest) written written_after))
+    one_served is = next_served (λ this. IsSoFar Whole this (ordinal + 1) (prepend_known held rest) written written_after) (Ok step.Stays) is (λ this bytes so served.
+        stays First Then Whole (kept_on view desk between after) (kept_once view desk after once) this ordinal rest left written mid written_after bytes so
         served.0 (prepend_known held rest) served.1 served.2)
 
   -- ---- the next connection of a list
@@ -99,7 +99,7 @@ module _ {Desk : Type 0} (view : View Desk Tables) (desk between after : Desk) (
       told = λ ours clean this stand.
           let so = so_far.told ours (next_goes.clean clean) this stand in
           one_more bytes_of First Then Whole (kept_on view desk between after) this connections written index connection text so there is
-          (next.told (goes.ours ours (next_goes.clean clean)) clean so.now (stands_after view desk between this (turns_in so.exchanges) so.now so.run));
+          (next.told (goes.ours ours (next_goes.clean clean)) clean so.now (stands_after view desk between this (calls_in so.exchanges) so.now so.run));
     }
 
     -- it was cut off
@@ -110,5 +110,5 @@ module _ {Desk : Type 0} (view : View Desk Tables) (desk between after : Desk) (
           let so = so_far.told ours (next_goes.clean clean) this stand in
           in_part bytes_of First Then Whole (kept_on view desk between after) (kept_plain view desk after) (kept_once view desk after once) this connections written index connection
           so there is alone alike
-          (next.told (goes.ours ours (next_goes.clean clean)) clean so.now (stands_after view desk between this (turns_in so.exchanges) so.now so.run));
+          (next.told (goes.ours ours (next_goes.clean clean)) clean so.now (stands_after view desk between this (calls_in so.exchanges) so.now so.run));
     }

@@ -7,18 +7,18 @@ use Rattle.bureau_store.specs.Callers.{callers_of}
 use Rattle.bureau_store.specs.Lists.{Lists, tables_of}
 use Rattle.bureau_store.specs.Tables.{AreInOrder, Tables, opened}
 use Rattle.bureau_store.specs.declared.caller.CallerRow.{CallerRow}
-use Rattle.bureau.specs.Joint.{IsRun, Turn}
-use Rattle.bureau_http.specs.List.{AreServed, turns_in}
+use Rattle.bureau.specs.Joint.{CallBy, IsRun}
+use Rattle.bureau_http.specs.List.{AreServed, calls_in}
 use Rattle.bureau_http.specs.Replay.{IsReplayed}
 use Rattle.bureau_http.proofs.ListFacts.{IsPlain}
 use Rattle.bureau_http.proofs.ServingFacts.{same_run}
 
 -- whether the desk is open, and what it holds at the end, is not told
-pub untold : (Runs : Tables → List Turn → Tables → Type 0) → IsPlain Runs → (this : Tables) (connections written : List (List ℕ)) → AreServed Runs this connections written
+pub untold : (Runs : Tables → List CallBy → Tables → Type 0) → IsPlain Runs → (this : Tables) (connections written : List (List ℕ)) → AreServed Runs this connections written
     → AreServed IsRun this connections written
 untold Runs plain this connections written served = record {
   exchanges = served.exchanges;
-  ran = same_run Runs IsRun this (turns_in served.exchanges) (λ closing run. plain this closing (turns_in served.exchanges) run) served.ran;
+  ran = same_run Runs IsRun this (calls_in served.exchanges) (λ closing run. plain this closing (calls_in served.exchanges) run) served.ran;
   whole = served.whole;
   isolated = served.isolated;
 }

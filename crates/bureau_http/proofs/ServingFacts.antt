@@ -11,16 +11,16 @@ use Rattle.transfer.specs.declared.fault.TransferFault.TheVariants as transfer
 use Rattle.requests.specs.HeadEnd.{head_limit}
 use Rattle.requests.specs.Order.{is_bare}
 use Rattle.requests.specs.Request.{Parts}
-use Rattle.requests.specs.Turn.{IsNext, IsUnfinished, refused, whole}
+use Rattle.requests.specs.NextRequest.{IsNext, IsUnfinished, refused, whole}
 use Rattle.requests.specs.declared.refusal.Refusal.{Refusal}
 use Rattle.bureau_store.specs.Tables.{Tables}
 use Rattle.bureau_store.specs.declared.caller.CallerRow.{CallerRow}
-use Rattle.bureau.specs.Joint.{Turn}
+use Rattle.bureau.specs.Joint.{CallBy}
 use Rattle.bureau.specs.Outcome.{Answer}
 use Rattle.bureau.specs.Repeat.{ActsOnce, StaysStale}
 use Rattle.bureau_http.specs.Asked.{Asked, has_token, most_requests, what_of}
 use Rattle.bureau_http.specs.Connection.{IsConnection, IsLast, IsRequest, ReadsTo, Stop, StopsAt, clean, inside, closed, cut}
-use Rattle.bureau_http.specs.Exchange.{Exchange, IsAnswered, exchange_text, refusal_answer, replies_text, turn_of, turns_of}
+use Rattle.bureau_http.specs.Exchange.{Exchange, IsAnswered, call_in, calls_of, exchange_text, refusal_answer, replies_text}
 use Rattle.bureau_http.specs.declared.serving.Served.{Served}
 use Rattle.bureau_http.specs.declared.serving.Step.TheVariants as step
 use Rattle.bureau_http.specs.Served.{AreWritten, IsAsked, IsCutOff, StopsBy, Exchanged, HasExchanged, HasRun, asked_as, IsExchanged, IsFailedWrite, IsOneRun, IsServed, IsSoFar, IsUnfinishedOf, IsWritten, Serves, StopsUnfinished}
@@ -47,26 +47,26 @@ written_as {A} (Err fault) old new text ok err = front_as A fault old new text e
 -- ---- one more
 
 -- one run after another makes a run
-abbrev pub Join : (First Then Whole : Tables → List Turn → Tables → Type 0) → Type 0
-Join First Then Whole = (this mid next : Tables) (xs ys : List Turn) → First this xs mid → Then mid ys next → Whole this (xs ++ ys) next
+abbrev pub Join : (First Then Whole : Tables → List CallBy → Tables → Type 0) → Type 0
+Join First Then Whole = (this mid next : Tables) (xs ys : List CallBy) → First this xs mid → Then mid ys next → Whole this (xs ++ ys) next
 
 all_on : (P : Exchange → Type 0) (xs ys : List Exchange) → AllByRecursion P xs → AllByRecursion P ys → AllByRecursion P (xs ++ ys)
 all_on P [] ys h k = k
 all_on P (x ∷ xs) ys h k = (h.0, all_on P xs ys h.1 k)
 
-reads_on : (rows : List CallerRow) (place : ℕ) (bytes : List ℕ) (first : List Asked) (following : List ℕ) (asked : Asked) (rest : List ℕ)
-    → ReadsTo rows place bytes first following → IsRequest rows (place + length first) following asked rest
-    → ReadsTo rows place bytes (first ++ asked ∷ []) rest
-reads_on rows place bytes [] following asked rest h k =
-    let at : place + 0 ≡ place = omega arith in
-    (rest, subst (λ p. IsRequest rows p bytes asked rest) at (subst (λ b. IsRequest rows (place + 0) b asked rest) h k), refl)
-reads_on rows place bytes (x ∷ xs) following asked rest h k =
-    let at : place + length (x ∷ xs) ≡ (place + 1) + length xs = omega arith in
-    (h.0, h.1, reads_on rows (place + 1) h.0 xs following asked rest h.2 (subst (λ p. IsRequest rows p following asked rest) at k))
+reads_on : (rows : List CallerRow) (ordinal : ℕ) (bytes : List ℕ) (first : List Asked) (following : List ℕ) (asked : Asked) (rest : List ℕ)
+    → ReadsTo rows ordinal bytes first following → IsRequest rows (ordinal + length first) following asked rest
+    → ReadsTo rows ordinal bytes (first ++ asked ∷ []) rest
+reads_on rows ordinal bytes [] following asked rest h k =
+    let at : ordinal + 0 ≡ ordinal = omega arith in
+    (rest, subst (λ p. IsRequest rows p bytes asked rest) at (subst (λ b. IsRequest rows (ordinal + 0) b asked rest) h k), refl)
+reads_on rows ordinal bytes (x ∷ xs) following asked rest h k =
+    let at : ordinal + length (x ∷ xs) ≡ (ordinal + 1) + length xs = omega arith in
+    (h.0, h.1, reads_on rows (ordinal + 1) h.0 xs following asked rest h.2 (subst (λ p. IsRequest rows p following asked rest) at k))
 
-turns_more : (exchanges : List Exchange) (exchange : Exchange) → turns_of (exchanges ++ exchange ∷ []) ≡ turns_of exchanges ++ turn_of exchange
-turns_more exchanges exchange =
-    flat_map-append turn_of exchanges (exchange ∷ []) ∙ ap (λ l. turns_of exchanges ++ l) (append-nil (turn_of exchange))
+calls_more : (exchanges : List Exchange) (exchange : Exchange) → calls_of (exchanges ++ exchange ∷ []) ≡ calls_of exchanges ++ call_in exchange
+calls_more exchanges exchange =
+    flat_map-append call_in exchanges (exchange ∷ []) ∙ ap (λ l. calls_of exchanges ++ l) (append-nil (call_in exchange))
 
 text_more : (exchanges : List Exchange) (exchange : Exchange) → replies_text (exchanges ++ exchange ∷ []) ≡ replies_text exchanges ++ exchange_text exchange
 text_more exchanges exchange =
@@ -78,54 +78,54 @@ asked_in exchange = exchange.asked
 asked_more : (exchanges : List Exchange) (exchange : Exchange) → map asked_in (exchanges ++ exchange ∷ []) ≡ map asked_in exchanges ++ exchange.asked ∷ []
 asked_more exchanges exchange = map-append asked_in exchanges (exchange ∷ [])
 
--- the place of the next request
-at_place : (place : ℕ) (exchanges : List Exchange) → place ≡ 1 + length exchanges → place ≡ 1 + length (map asked_in exchanges)
-at_place place exchanges e = let same : length (map asked_in exchanges) ≡ length exchanges = length-map exchanges asked_in in omega arith
+-- the ordinal of the next request
+at_place : (ordinal : ℕ) (exchanges : List Exchange) → ordinal ≡ 1 + length exchanges → ordinal ≡ 1 + length (map asked_in exchanges)
+at_place ordinal exchanges e = let same : length (map asked_in exchanges) ≡ length exchanges = length-map exchanges asked_in in omega arith
 
--- what is told of the callers now, at this place, is told of the callers
-here : (P : List CallerRow → ℕ → Type 0) (this now : Tables) (place : ℕ) (exchanges : List Exchange) → now.callers ≡ this.callers
-    → place ≡ 1 + length exchanges → P now.callers place → P this.callers (1 + length (map asked_in exchanges))
-here P this now place exchanges same count p =
-    subst (λ n. P this.callers n) (at_place place exchanges count) (subst (λ rows. P rows place) same p)
+-- what is told of the callers now, at this ordinal, is told of the callers
+here : (P : List CallerRow → ℕ → Type 0) (this now : Tables) (ordinal : ℕ) (exchanges : List Exchange) → now.callers ≡ this.callers
+    → ordinal ≡ 1 + length exchanges → P now.callers ordinal → P this.callers (1 + length (map asked_in exchanges))
+here P this now ordinal exchanges same count p =
+    subst (λ n. P this.callers n) (at_place ordinal exchanges count) (subst (λ rows. P rows ordinal) same p)
 
 more_count : (exchanges : List Exchange) (exchange : Exchange) → length (exchanges ++ exchange ∷ []) ≡ 1 + length exchanges
 more_count exchanges exchange = let e = length-append exchanges (exchange ∷ []) in omega arith
 
-run_more : (First Then Whole : Tables → List Turn → Tables → Type 0) → Join First Then Whole → (this now next : Tables) (exchanges : List Exchange) (exchange : Exchange)
-    → First this (turns_of exchanges) now → Then now (turn_of exchange) next → Whole this (turns_of (exchanges ++ exchange ∷ [])) next
+run_more : (First Then Whole : Tables → List CallBy → Tables → Type 0) → Join First Then Whole → (this now next : Tables) (exchanges : List Exchange) (exchange : Exchange)
+    → First this (calls_of exchanges) now → Then now (call_in exchange) next → Whole this (calls_of (exchanges ++ exchange ∷ [])) next
 run_more First Then Whole join this now next exchanges exchange first then =
-    subst (λ ts. Whole this ts next) (sym (turns_more exchanges exchange)) (join this now next (turns_of exchanges) (turn_of exchange) first then)
+    subst (λ ts. Whole this ts next) (sym (calls_more exchanges exchange)) (join this now next (calls_of exchanges) (call_in exchange) first then)
 
-run_same : (First Then Whole : Tables → List Turn → Tables → Type 0) → Join First Then Whole → (this now : Tables) (turns : List Turn)
-    → First this turns now → Then now [] now → Whole this turns now
-run_same First Then Whole join this now turns first none = subst (λ ts. Whole this ts now) (append-nil turns) (join this now now turns [] first none)
+run_same : (First Then Whole : Tables → List CallBy → Tables → Type 0) → Join First Then Whole → (this now : Tables) (calls : List CallBy)
+    → First this calls now → Then now [] now → Whole this calls now
+run_same First Then Whole join this now calls first none = subst (λ ts. Whole this ts now) (append-nil calls) (join this now now calls [] first none)
 
 -- in such a run a change acts once
-abbrev pub ActOnce : (Tables → List Turn → Tables → Type 0) → Type 0
-ActOnce Runs = (this next : Tables) (turns : List Turn) → Runs this turns next → ActsOnce this turns next × StaysStale this turns next
+abbrev pub ActOnce : (Tables → List CallBy → Tables → Type 0) → Type 0
+ActOnce Runs = (this next : Tables) (calls : List CallBy) → Runs this calls next → ActsOnce this calls next × StaysStale this calls next
 
-pub one_run : (Runs : Tables → List Turn → Tables → Type 0) → ActOnce Runs → (this next : Tables) (turns : List Turn) → Runs this turns next
-    → next.callers ≡ this.callers → IsOneRun Runs this turns
-one_run Runs once this next turns run callers =
-    let repeats = once this next turns run in
+pub one_run : (Runs : Tables → List CallBy → Tables → Type 0) → ActOnce Runs → (this next : Tables) (calls : List CallBy) → Runs this calls next
+    → next.callers ≡ this.callers → IsOneRun Runs this calls
+one_run Runs once this next calls run callers =
+    let repeats = once this next calls run in
     record { closing = next; run = run; once = repeats.0; stale = repeats.1; callers = callers }
 
 -- one run, of which something else is known
-pub same_run : (Runs Other : Tables → List Turn → Tables → Type 0) (this : Tables) (turns : List Turn) → ((next : Tables) → Runs this turns next → Other this turns next)
-    → IsOneRun Runs this turns → IsOneRun Other this turns
-same_run Runs Other this turns also ran =
+pub same_run : (Runs Other : Tables → List CallBy → Tables → Type 0) (this : Tables) (calls : List CallBy) → ((next : Tables) → Runs this calls next → Other this calls next)
+    → IsOneRun Runs this calls → IsOneRun Other this calls
+same_run Runs Other this calls also ran =
     record { closing = ran.closing; run = also ran.closing ran.run; once = ran.once; stale = ran.stale; callers = ran.callers }
 
 -- ---- the loop
 
-module _ (First Then Whole : Tables → List Turn → Tables → Type 0) (join : Join First Then Whole) (once : ActOnce Whole) (this : Tables) (place : ℕ) (rest left old mid new : Option (List ℕ)) (bytes : List ℕ)
-    (so : IsSoFar First this place left old mid bytes) where
-  reads_more : (exchange : Exchange) (following : List ℕ) → IsRequest so.now.callers place so.following exchange.asked following
+module _ (First Then Whole : Tables → List CallBy → Tables → Type 0) (join : Join First Then Whole) (once : ActOnce Whole) (this : Tables) (ordinal : ℕ) (rest left old mid new : Option (List ℕ)) (bytes : List ℕ)
+    (so : IsSoFar First this ordinal left old mid bytes) where
+  reads_more : (exchange : Exchange) (following : List ℕ) → IsRequest so.now.callers ordinal so.following exchange.asked following
       → ReadsTo this.callers 1 bytes (map asked_in (so.exchanges ++ exchange ∷ [])) following
   reads_more exchange following is =
       subst (λ l. ReadsTo this.callers 1 bytes l following) (sym (asked_more so.exchanges exchange))
       (reads_on this.callers 1 bytes (map asked_in so.exchanges) so.following exchange.asked following so.reads
-      (here (λ rows p. IsRequest rows p so.following exchange.asked following) this so.now place so.exchanges so.callers so.count is))
+      (here (λ rows p. IsRequest rows p so.following exchange.asked following) this so.now ordinal so.exchanges so.callers so.count is))
 
   written_more : (exchange : Exchange) → Appends mid new (exchange_text exchange) → Appends old new (replies_text (so.exchanges ++ exchange ∷ []))
   written_more exchange written =
@@ -136,8 +136,8 @@ module _ (First Then Whole : Tables → List Turn → Tables → Type 0) (join :
       subst (Appends old new) (append-nil (replies_text so.exchanges)) (Appends-trans old mid new (replies_text so.exchanges) [] so.written none)
 
   pub stays : (following : List ℕ) (left1 : Option (List ℕ)) → left1 ≡ Some following
-      → Exchanged Then so.now (λ asked. IsRequest so.now.callers place so.following asked following) (Appends mid new)
-      → IsSoFar Whole this (place + 1) left1 old new bytes
+      → Exchanged Then so.now (λ asked. IsRequest so.now.callers ordinal so.following asked following) (Appends mid new)
+      → IsSoFar Whole this (ordinal + 1) left1 old new bytes
   stays following left1 left_are done = record {
     exchanges = so.exchanges ++ done.exchange ∷ [];
     now = done.has.next;
@@ -164,19 +164,19 @@ module _ (First Then Whole : Tables → List Turn → Tables → Type 0) (join :
   }
 
   -- the connection with a last request
-  connection_last : (exchange : Exchange) → IsLast so.now.callers place so.following exchange.asked
+  connection_last : (exchange : Exchange) → IsLast so.now.callers ordinal so.following exchange.asked
       → IsConnection this.callers bytes (map asked_in (so.exchanges ++ exchange ∷ [])) closed
   connection_last exchange is = record {
     first = map asked_in so.exchanges;
     last = exchange.asked ∷ [];
     following = so.following;
     reads = so.reads;
-    stops = (exchange.asked, refl, here (λ rows p. IsLast rows p so.following exchange.asked) this so.now place so.exchanges so.callers so.count is);
+    stops = (exchange.asked, refl, here (λ rows p. IsLast rows p so.following exchange.asked) this so.now ordinal so.exchanges so.callers so.count is);
     all = asked_more so.exchanges exchange;
   }
 
   -- the connection that is cut after a request
-  connection_cut : (exchange : Exchange) (following : List ℕ) → IsRequest so.now.callers place so.following exchange.asked following
+  connection_cut : (exchange : Exchange) (following : List ℕ) → IsRequest so.now.callers ordinal so.following exchange.asked following
       → IsConnection this.callers bytes (map asked_in (so.exchanges ++ exchange ∷ [])) cut
   connection_cut exchange following is = record {
     first = map asked_in (so.exchanges ++ exchange ∷ []);
@@ -192,9 +192,9 @@ module _ (First Then Whole : Tables → List Turn → Tables → Type 0) (join :
       → StopsBy answer stop (length so.exchanges) → AreWritten answer old new so.exchanges → IsServed Whole this rest old new answer bytes
   unfolding connection_here
   without answer stop run stops unfinished by written =
-      let ran = run_same First Then Whole join this so.now (turns_of so.exchanges) so.run run in record {
+      let ran = run_same First Then Whole join this so.now (calls_of so.exchanges) so.run run in record {
         exchanges = so.exchanges;
-        ran = one_run Whole once this so.now (turns_of so.exchanges) ran so.callers;
+        ran = one_run Whole once this so.now (calls_of so.exchanges) ran so.callers;
         exchanged = record {
           answered = so.answered;
           stop = stop;
@@ -213,7 +213,7 @@ module _ (First Then Whole : Tables → List Turn → Tables → Type 0) (join :
       let ran = run_more First Then Whole join this so.now has.next so.exchanges exchange so.run has.run in
       record {
         exchanges = so.exchanges ++ exchange ∷ [];
-        ran = one_run Whole once this has.next (turns_of (so.exchanges ++ exchange ∷ [])) ran (has.callers ∙ so.callers);
+        ran = one_run Whole once this has.next (calls_of (so.exchanges ++ exchange ∷ [])) ran (has.callers ∙ so.callers);
         exchanged = record {
           answered = all_on IsAnswered so.exchanges (exchange ∷ []) so.answered (has.answered, tt);
           stop = stop;
@@ -225,12 +225,12 @@ module _ (First Then Whole : Tables → List Turn → Tables → Type 0) (join :
       }
 
 -- a last exchange, or none, by what serving the next request answers
-module _ (First Then Whole : Tables → List Turn → Tables → Type 0) (join : Join First Then Whole) (once : ActOnce Whole) (this : Tables) (place : ℕ) (held : List ℕ) (rest left old mid new : Option (List ℕ)) (bytes : List ℕ)
-    (so : IsSoFar First this place left old mid bytes) where
-  last_of : (exchange : Exchange) → IsAsked so.now.callers place so.following exchange.asked
+module _ (First Then Whole : Tables → List CallBy → Tables → Type 0) (join : Join First Then Whole) (once : ActOnce Whole) (this : Tables) (ordinal : ℕ) (held : List ℕ) (rest left old mid new : Option (List ℕ)) (bytes : List ℕ)
+    (so : IsSoFar First this ordinal left old mid bytes) where
+  last_of : (exchange : Exchange) → IsAsked so.now.callers ordinal so.following exchange.asked
       → (stop : Stop) × ((stop ≡ cut) ⊎ (stop ≡ closed)) × IsConnection this.callers bytes (map asked_in (so.exchanges ++ exchange ∷ [])) stop
-  last_of exchange (inl is) = (closed, inr refl, connection_last First Then Whole join once this place rest left old mid new bytes so exchange is)
-  last_of exchange (inr is) = (cut, inl refl, connection_cut First Then Whole join once this place rest left old mid new bytes so exchange is.0 is.1)
+  last_of exchange (inl is) = (closed, inr refl, connection_last First Then Whole join once this ordinal rest left old mid new bytes so exchange is)
+  last_of exchange (inr is) = (cut, inl refl, connection_cut First Then Whole join once this ordinal rest left old mid new bytes so exchange is.0 is.1)
 
   cut_off : (exchange : Exchange) → AppendsFront mid new (exchange_text exchange) → IsCutOff old new (so.exchanges ++ exchange ∷ [])
   cut_off exchange front = record {
@@ -241,38 +241,38 @@ module _ (First Then Whole : Tables → List Turn → Tables → Type 0) (join :
     written = Appends-trans old mid new (replies_text so.exchanges) (take front.0 (exchange_text exchange)) so.written front.1;
   }
 
-  pub served_err : (fault : ConnFault) → Serves Then so.now place held rest mid new (Err fault) so.following → IsServed Whole this rest old new (Err fault) bytes
+  pub served_err : (fault : ConnFault) → Serves Then so.now ordinal held rest mid new (Err fault) so.following → IsServed Whole this rest old new (Err fault) bytes
   served_err Read is =
-      without First Then Whole join once this place rest left old mid new bytes so (Err Read) cut is.0 refl (held, is.2) refl
-      (written_none First Then Whole join once this place rest left old mid new bytes so is.1)
+      without First Then Whole join once this ordinal rest left old mid new bytes so (Err Read) cut is.0 refl (held, is.2) refl
+      (written_none First Then Whole join once this ordinal rest left old mid new bytes so is.1)
   served_err Write is =
       let last = last_of is.exchange is.asked in
-      with_one First Then Whole join once this place rest left old mid new bytes so (Err Write) last.0 is.exchange (λ following. tt) is.has last.2 last.1 (cut_off is.exchange is.written)
+      with_one First Then Whole join once this ordinal rest left old mid new bytes so (Err Write) last.0 is.exchange (λ following. tt) is.has last.2 last.1 (cut_off is.exchange is.written)
   served_err EndInside is =
-      without First Then Whole join once this place rest left old mid new bytes so (Err EndInside) inside is.1 (refl, is.0) tt refl
-      (written_none First Then Whole join once this place rest left old mid new bytes so is.2)
+      without First Then Whole join once this ordinal rest left old mid new bytes so (Err EndInside) inside is.1 (refl, is.0) tt refl
+      (written_none First Then Whole join once this ordinal rest left old mid new bytes so is.2)
   served_err Memory is =
-      without First Then Whole join once this place rest left old mid new bytes so (Err Memory) cut is.0 refl (held, is.2) refl
-      (written_none First Then Whole join once this place rest left old mid new bytes so is.1)
+      without First Then Whole join once this ordinal rest left old mid new bytes so (Err Memory) cut is.0 refl (held, is.2) refl
+      (written_none First Then Whole join once this ordinal rest left old mid new bytes so is.1)
 
-  pub served_end : (count : ℕ) → 1 + count ≡ place → Serves Then so.now place held rest mid new (Ok step.CleanEnd) so.following
+  pub served_end : (count : ℕ) → 1 + count ≡ ordinal → Serves Then so.now ordinal held rest mid new (Ok step.CleanEnd) so.following
       → IsServed Whole this rest old new (Ok (record { requests = count })) bytes
   served_end count e is =
       let at = so.count in
-      without First Then Whole join once this place rest left old mid new bytes so (Ok (record { requests = count })) clean is.1 (refl, is.0) tt (inl refl, omega arith)
-      (written_none First Then Whole join once this place rest left old mid new bytes so is.2)
+      without First Then Whole join once this ordinal rest left old mid new bytes so (Ok (record { requests = count })) clean is.1 (refl, is.0) tt (inl refl, omega arith)
+      (written_none First Then Whole join once this ordinal rest left old mid new bytes so is.2)
 
-  pub served_last : Serves Then so.now place held rest mid new (Ok step.Ends) so.following
-      → IsServed Whole this rest old new (Ok (record { requests = place })) bytes
+  pub served_last : Serves Then so.now ordinal held rest mid new (Ok step.Ends) so.following
+      → IsServed Whole this rest old new (Ok (record { requests = ordinal })) bytes
   served_last is =
       let at = so.count in
       let e = more_count so.exchanges is.exchange in
-      with_one First Then Whole join once this place rest left old mid new bytes so (Ok (record { requests = place })) closed is.exchange (λ following. tt) is.has
-      (connection_last First Then Whole join once this place rest left old mid new bytes so is.exchange is.asked) (inr refl, omega arith)
-      (written_more First Then Whole join once this place rest left old mid new bytes so is.exchange is.written)
+      with_one First Then Whole join once this ordinal rest left old mid new bytes so (Ok (record { requests = ordinal })) closed is.exchange (λ following. tt) is.has
+      (connection_last First Then Whole join once this ordinal rest left old mid new bytes so is.exchange is.asked) (inr refl, omega arith)
+      (written_more First Then Whole join once this ordinal rest left old mid new bytes so is.exchange is.written)
 
 -- nothing is served
-pub nothing_served : (Runs : Tables → List Turn → Tables → Type 0) → ActOnce Runs → (this : Tables) (left kept : Option (List ℕ)) (bytes : List ℕ) → Runs this [] this → left ≡ Some bytes
+pub nothing_served : (Runs : Tables → List CallBy → Tables → Type 0) → ActOnce Runs → (this : Tables) (left kept : Option (List ℕ)) (bytes : List ℕ) → Runs this [] this → left ≡ Some bytes
     → IsServed Runs this left kept kept (Err Memory) bytes
 unfolding head_limit
 nothing_served Runs once this left kept bytes run is_left = record {
@@ -296,7 +296,7 @@ pub some_at : {A : Type 0} (P : A → Type 0) (o : Option A) (a : A) → o ≡ S
 some_at P o a e h = (subst (λ x. IfSome x P) e h)
 
 -- before the first request
-pub nothing_yet : (Runs : Tables → List Turn → Tables → Type 0) (this : Tables) (held left old : Option (List ℕ)) → Runs this [] this → held ≡ left
+pub nothing_yet : (Runs : Tables → List CallBy → Tables → Type 0) (this : Tables) (held left old : Option (List ℕ)) → Runs this [] this → held ≡ left
     → IfSome left (IsSoFar Runs this 1 held old old)
 nothing_yet Runs this held left old run are = each_is _ left (λ bytes is_left. record {
   exchanges = [];
@@ -322,26 +322,26 @@ pub exit_as : {A E : Type 0} (P : Result A E → Type 0) (r : Result A E) (e f :
 exit_as P r e f exit same p = subst P (sym (exit.1 ∙ ap (λ x. Err x) (exit.2 ∙ same))) p
 
 -- a head that is refused ends the connection
-pub head_refused : (Runs : Tables → List Turn → Tables → Type 0) (this : Tables) (place : ℕ) (refusal : Refusal) (bare : Bool) (bytes : List ℕ) (Writes : List ℕ → Type 0)
+pub head_refused : (Runs : Tables → List CallBy → Tables → Type 0) (this : Tables) (ordinal : ℕ) (refusal : Refusal) (bare : Bool) (bytes : List ℕ) (Writes : List ℕ → Type 0)
     → Runs this [] this → IsNext bytes (refused refusal bare) → Writes (told_text (Refused refusal) bare true)
-    → Exchanged Runs this (IsLast this.callers place bytes) Writes
-head_refused Runs this place refusal bare bytes Writes run next written = record {
+    → Exchanged Runs this (IsLast this.callers ordinal bytes) Writes
+head_refused Runs this ordinal refusal bare bytes Writes run next written = record {
   exchange = asked_as (Err refusal) false bare true (refusal_answer refusal);
   asked = (refused refusal bare, next, refl);
   has = has_exchanged Runs this this (Err refusal) false (Refused refusal) bare true (refl, refl) run;
   written = subst Writes (same_text this this (Err refusal) false (Refused refusal) bare true (refl, refl)) written;
 }
 
-pub also_asked : (Runs : Tables → List Turn → Tables → Type 0) (this : Tables) (place : ℕ) (bytes : List ℕ) (Writes : List ℕ → Type 0)
-    → Exchanged Runs this (IsLast this.callers place bytes) Writes → Exchanged Runs this (IsAsked this.callers place bytes) Writes
-also_asked Runs this place bytes Writes done = record { exchange = done.exchange; asked = inl done.asked; has = done.has; written = done.written }
+pub also_asked : (Runs : Tables → List CallBy → Tables → Type 0) (this : Tables) (ordinal : ℕ) (bytes : List ℕ) (Writes : List ℕ → Type 0)
+    → Exchanged Runs this (IsLast this.callers ordinal bytes) Writes → Exchanged Runs this (IsAsked this.callers ordinal bytes) Writes
+also_asked Runs this ordinal bytes Writes done = record { exchange = done.exchange; asked = inl done.asked; has = done.has; written = done.written }
 
-asked_test : (ends : Bool) (rows : List CallerRow) (place : ℕ) (bytes : List ℕ) (parts : Parts) (body following : List ℕ) (answer : Answer)
-    → IsNext bytes (whole parts body following) → ends ≡ (parts.closes || nat_le most_requests place)
-    → IsAsked rows place bytes (asked_as (what_of rows parts body) (has_token parts) (is_bare parts) ends answer).asked
-asked_test true rows place bytes parts body following answer next e =
+asked_test : (ends : Bool) (rows : List CallerRow) (ordinal : ℕ) (bytes : List ℕ) (parts : Parts) (body following : List ℕ) (answer : Answer)
+    → IsNext bytes (whole parts body following) → ends ≡ (parts.closes || nat_le most_requests ordinal)
+    → IsAsked rows ordinal bytes (asked_as (what_of rows parts body) (has_token parts) (is_bare parts) ends answer).asked
+asked_test true rows ordinal bytes parts body following answer next e =
     inl (whole parts body following, next, (ap (λ b. record { what = what_of rows parts body; has_token = has_token parts; is_bare = is_bare parts; closes = b }) e, refl))
-asked_test false rows place bytes parts body following answer next e =
+asked_test false rows ordinal bytes parts body following answer next e =
     inr (
       following,
       record {
@@ -354,16 +354,16 @@ asked_test false rows place bytes parts body following answer next e =
     )
 
 -- a whole request whose reply wasn't written whole
-pub whole_cut : (Runs : Tables → List Turn → Tables → Type 0) (this : Tables) (place : ℕ) (bytes : List ℕ) (parts : Parts) (body following : List ℕ) (ends : Bool) (old new : Option (List ℕ))
-    (answer : Result (Unit {0}) ConnFault) (fault : ConnFault) → IsNext bytes (whole parts body following) → ends ≡ (parts.closes || nat_le most_requests place)
+pub whole_cut : (Runs : Tables → List CallBy → Tables → Type 0) (this : Tables) (ordinal : ℕ) (bytes : List ℕ) (parts : Parts) (body following : List ℕ) (ends : Bool) (old new : Option (List ℕ))
+    (answer : Result (Unit {0}) ConnFault) (fault : ConnFault) → IsNext bytes (whole parts body following) → ends ≡ (parts.closes || nat_le most_requests ordinal)
     → answer ≡ Err fault → IsExchanged Runs this (what_of this.callers parts body) (has_token parts) (is_bare parts) ends old new answer
-    → (fault ≡ Write) × Exchanged Runs this (IsAsked this.callers place bytes) (AppendsFront old new)
-whole_cut Runs this place bytes parts body following ends old new answer fault next e is done =
+    → (fault ≡ Write) × Exchanged Runs this (IsAsked this.callers ordinal bytes) (AppendsFront old new)
+whole_cut Runs this ordinal bytes parts body following ends old new answer fault next e is done =
     let failed : fault ≡ Write = subst IsFailedWrite is done.failed in (
       failed,
       record {
         exchange = asked_as (what_of this.callers parts body) (has_token parts) (is_bare parts) ends done.told;
-        asked = asked_test ends this.callers place bytes parts body following done.told next e;
+        asked = asked_test ends this.callers ordinal bytes parts body following done.told next e;
         has = done.has;
         written = subst (λ r. IsWritten r old new (exchange_text (asked_as (what_of this.callers parts body) (has_token parts) (is_bare parts) ends done.told)))
             (is ∙ ap (λ f. Err f) failed) done.written;
@@ -372,11 +372,11 @@ whole_cut Runs this place bytes parts body following ends old new answer fault n
 
 -- ---- what the desk did, whatever it was asked
 
-pub ran_more : (First Then Whole : Tables → List Turn → Tables → Type 0) → Join First Then Whole → (this : Tables) (so : HasRun First this) → HasRun Then so.closing → HasRun Whole this
+pub ran_more : (First Then Whole : Tables → List CallBy → Tables → Type 0) → Join First Then Whole → (this : Tables) (so : HasRun First this) → HasRun Then so.closing → HasRun Whole this
 ran_more First Then Whole join this so more = record {
-  turns = so.turns ++ more.turns;
+  calls = so.calls ++ more.calls;
   closing = more.closing;
-  run = join this so.closing more.closing so.turns more.turns so.run more.run;
+  run = join this so.closing more.closing so.calls more.calls so.run more.run;
 }
 
 -- ---- a read that failed
@@ -393,7 +393,7 @@ unfinished_of None held left kept unfinished = tt
 unfinished_of (Some bytes) held left kept unfinished = (kept_some (Some bytes) (prepend_known held left) bytes refl kept, unfinished)
 
 -- a read that failed or found no memory
-pub read_failed : (Runs : Tables → List Turn → Tables → Type 0) (this : Tables) (place : ℕ) (held : List ℕ) (left old new : Option (List ℕ)) (bytes : List ℕ) (fault : TransferFault)
-    → Runs this [] this → Appends old new [] → IsUnfinishedOf held left bytes → Serves Runs this place held left old new (Err (of_transfer fault)) bytes
-read_failed Runs this place held left old new bytes (transfer.Read error) run written unfinished = (run, written, unfinished)
-read_failed Runs this place held left old new bytes transfer.Memory run written unfinished = (run, written, unfinished)
+pub read_failed : (Runs : Tables → List CallBy → Tables → Type 0) (this : Tables) (ordinal : ℕ) (held : List ℕ) (left old new : Option (List ℕ)) (bytes : List ℕ) (fault : TransferFault)
+    → Runs this [] this → Appends old new [] → IsUnfinishedOf held left bytes → Serves Runs this ordinal held left old new (Err (of_transfer fault)) bytes
+read_failed Runs this ordinal held left old new bytes (transfer.Read error) run written unfinished = (run, written, unfinished)
+read_failed Runs this ordinal held left old new bytes transfer.Memory run written unfinished = (run, written, unfinished)

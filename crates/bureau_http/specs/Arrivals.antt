@@ -5,8 +5,8 @@ use Rattle.std.specs.List.{flat_map}
 use Rattle.catalogue.specs.View.{Tells, View}
 use Rattle.bureau_store.specs.Tables.{Tables}
 use Rattle.bureau_store.specs.declared.caller.CallerRow.{CallerRow}
-use Rattle.bureau.specs.Joint.{Turn}
-use Rattle.bureau_http.specs.Exchange.{Exchange, turns_of}
+use Rattle.bureau.specs.Joint.{CallBy}
+use Rattle.bureau_http.specs.Exchange.{Exchange, calls_of}
 use Rattle.bureau_http.specs.Served.{AreExchanged}
 use Rattle.bureau_http.specs.declared.fault.ConnFault.{ConnFault}
 use Rattle.bureau_http.specs.declared.serving.Served.{Served}
@@ -54,31 +54,31 @@ log_of arrivals = flat_map events_of arrivals
 abbrev pub IsVisited : List CallerRow → Visit → List ℕ → List Exchange → Type 0
 IsVisited rows visit = AreExchanged rows visit.left visit.begun visit.written visit.ended
 
--- these turns of the bureau are the requests of a connection, where its bytes are known
-abbrev pub AreAskedBy : List CallerRow → Visit → List Turn → List ℕ → Type 0
-AreAskedBy rows visit turns bytes = (exchanges : List Exchange) × (turns ≡ turns_of exchanges) × IsVisited rows visit bytes exchanges
+-- these calls of the bureau are the requests of a connection, where its bytes are known
+abbrev pub AreAskedBy : List CallerRow → Visit → List CallBy → List ℕ → Type 0
+AreAskedBy rows visit calls bytes = (exchanges : List Exchange) × (calls ≡ calls_of exchanges) × IsVisited rows visit bytes exchanges
 
--- the turns of the bureau at one arrival: none where nobody came
-abbrev pub AreMadeBy : List CallerRow → Arrival → List Turn → Type 0
-AreMadeBy rows nobody turns = turns ≡ []
-AreMadeBy rows (visitor visit) turns = IfSome visit.sent (AreAskedBy rows visit turns)
+-- the calls of the bureau at one arrival: none where nobody came
+abbrev pub AreMadeBy : List CallerRow → Arrival → List CallBy → Type 0
+AreMadeBy rows nobody calls = calls ≡ []
+AreMadeBy rows (visitor visit) calls = IfSome visit.sent (AreAskedBy rows visit calls)
 
 -- those of all arrivals, in order, and no others
-abbrev pub AreMade : List CallerRow → List Arrival → List Turn → Type 0
-AreMade rows [] turns = turns ≡ []
-AreMade rows (arrival ∷ arrivals) turns =
-    (first : List Turn) × (rest : List Turn) × (turns ≡ first ++ rest) × AreMadeBy rows arrival first × AreMade rows arrivals rest
+abbrev pub AreMade : List CallerRow → List Arrival → List CallBy → Type 0
+AreMade rows [] calls = calls ≡ []
+AreMade rows (arrival ∷ arrivals) calls =
+    (first : List CallBy) × (rest : List CallBy) × (calls ≡ first ++ rest) × AreMadeBy rows arrival first × AreMade rows arrivals rest
 
 -- Arrivals were served in order: what they ask, and nothing else, is one run of the bureau.
-pub record AreHeard (Runs : Tables → List Turn → Tables → Type 0) (this : Tables) (arrivals : List Arrival) : Type 0 where
-  pub turns : List Turn
+pub record AreHeard (Runs : Tables → List CallBy → Tables → Type 0) (this : Tables) (arrivals : List Arrival) : Type 0 where
+  pub calls : List CallBy
   pub closing : Tables
-  pub run : Runs this turns closing
+  pub run : Runs this calls closing
   pub callers : closing.callers ≡ this.callers
-  pub made : AreMade this.callers arrivals turns
+  pub made : AreMade this.callers arrivals calls
 
 -- So many arrivals were served, in order, and the log has them and nothing more.
-pub record AreServedInOrder {Desk : Type 0} (view : View Desk Tables) (desk desk_after : Desk) (Runs : Tables → List Turn → Tables → Type 0) (log log_after : Option (List Event)) (count : ℕ) : Type 0 where
+pub record AreServedInOrder {Desk : Type 0} (view : View Desk Tables) (desk desk_after : Desk) (Runs : Tables → List CallBy → Tables → Type 0) (log log_after : Option (List Event)) (count : ℕ) : Type 0 where
   pub arrivals : List Arrival
   pub counted : length arrivals ≡ count
   pub logged : Logs log log_after (log_of arrivals)

@@ -59,13 +59,13 @@ most_requests = 10000
 abbrev pub has_token : Parts → Bool
 has_token parts = is_some parts.token
 
--- what a whole request asks, at its place in the connection, counted from 1
+-- what a whole request asks, at its ordinal in the connection, counted from 1
 abbrev pub asked_whole : List CallerRow → ℕ → Parts → List ℕ → Asked
-asked_whole rows place parts body = record {
+asked_whole rows ordinal parts body = record {
   what = what_of rows parts body;
   has_token = has_token parts;
   is_bare = is_bare parts;
-  closes = parts.closes || nat_le most_requests place;
+  closes = parts.closes || nat_le most_requests ordinal;
 }
 
 -- what a head asks that is refused: its token isn't looked up, and the connection ends after the reply

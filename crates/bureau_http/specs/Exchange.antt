@@ -8,7 +8,7 @@ use Rattle.requests.specs.declared.refusal.Refusal.{Refusal}
 use Rattle.requests.specs.declared.reply.ReplyHead.{ReplyHead}
 use Rattle.requests.specs.declared.resource.Resource.{Resource}
 use Rattle.requests.specs.declared.status.Status.{Status}
-use Rattle.bureau.specs.Joint.{Turn}
+use Rattle.bureau.specs.Joint.{CallBy}
 use Rattle.bureau.specs.Outcome.{Answer, no_room, plain}
 use Rattle.bureau_http.specs.Asked.{Asked, What}
 
@@ -31,17 +31,17 @@ IsAnsweredBy (Err refusal) has_token answer = (answer ≡ refusal_answer refusal
 abbrev pub IsAnswered : Exchange → Type 0
 IsAnswered exchange = IsAnsweredBy exchange.asked.what exchange.asked.has_token exchange.answer
 
--- the turn of the bureau that a request is, if it makes a call
-abbrev pub turn_by : What → Answer → List Turn
-turn_by (Ok call) answer = (record { caller = call.0; call = call.1; answer = answer }) ∷ []
-turn_by (Err refusal) answer = []
+-- the call that a request makes, with its answer, if it makes one
+abbrev pub call_from : What → Answer → List CallBy
+call_from (Ok call) answer = (record { caller = call.0; call = call.1; answer = answer }) ∷ []
+call_from (Err refusal) answer = []
 
-abbrev pub turn_of : Exchange → List Turn
-turn_of exchange = turn_by exchange.asked.what exchange.answer
+abbrev pub call_in : Exchange → List CallBy
+call_in exchange = call_from exchange.asked.what exchange.answer
 
--- the turns of the bureau that requests are, in order
-abbrev pub turns_of : List Exchange → List Turn
-turns_of exchanges = flat_map turn_of exchanges
+-- the calls that requests make, in order
+abbrev pub calls_of : List Exchange → List CallBy
+calls_of exchanges = flat_map call_in exchanges
 
 -- ---- the bytes of the reply
 

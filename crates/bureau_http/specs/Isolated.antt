@@ -8,7 +8,7 @@ use Rattle.bureau.specs.Call.{Call}
 use Rattle.bureau.specs.Joint.{IsRun}
 use Rattle.bureau.specs.Outcome.{no_room}
 use Rattle.bureau.specs.Own.{own_answer}
-use Rattle.bureau_http.specs.Exchange.{Exchange, exchange_text, turns_of}
+use Rattle.bureau_http.specs.Exchange.{Exchange, calls_of, exchange_text}
 
 -- the exchanges of all connections, in order
 abbrev pub joined : List (List Exchange) → List Exchange
@@ -18,10 +18,10 @@ joined connections = flat_map (λ exchanges. exchanges) connections
 abbrev pub own_exchange : Tables → Caller → Call → List Exchange → Exchange → Exchange
 own_exchange opening viewer call before exchange = record {
   asked = exchange.asked;
-  answer = own_answer (opening_of viewer opening) (own_history viewer (turns_of before)) viewer call;
+  answer = own_answer (opening_of viewer opening) (own_history viewer (calls_of before)) viewer call;
 }
 
--- at every place, a caller's call is answered 503, or its reply has the bytes of the own answer
+-- at every ordinal, a caller's call is answered 503, or its reply has the bytes of the own answer
 abbrev pub AreOwnBytes : Tables → List Exchange → Type 0
 AreOwnBytes opening exchanges =
     (viewer : Caller) (call : Call) (before : List Exchange) (exchange : Exchange) (after : List Exchange) →
@@ -35,12 +35,12 @@ HaveSameBytes viewer exchanges others =
     (call : Call) (before : List Exchange) (exchange : Exchange) (after : List Exchange) (before2 : List Exchange) (exchange2 : Exchange) (after2 : List Exchange) →
     exchanges ≡ before ++ exchange ∷ after → others ≡ before2 ++ exchange2 ∷ after2 →
     exchange.asked.what ≡ Ok (viewer, call) → exchange.asked ≡ exchange2.asked →
-    own_history viewer (turns_of before) ≡ own_history viewer (turns_of before2) →
+    own_history viewer (calls_of before) ≡ own_history viewer (calls_of before2) →
     (exchange.answer ≡ no_room) ⊎ ((exchange2.answer ≡ no_room) ⊎ (exchange_text exchange ≡ exchange_text exchange2))
 
 -- Each caller is answered as if alone, to the byte; and so in any other run that opens alike for the caller.
 pub record AreIsolated (opening : Tables) (exchanges : List Exchange) : Type 0 where
-  pub alone : (viewer : Caller) → IsAlone viewer (opening_of viewer opening) (turns_of exchanges)
+  pub alone : (viewer : Caller) → IsAlone viewer (opening_of viewer opening) (calls_of exchanges)
   pub bytes : AreOwnBytes opening exchanges
   pub alike : (opening2 closing2 : Tables) (others : List Exchange) (viewer : Caller) → AreInOrder opening2 →
-      IsRun opening2 (turns_of others) closing2 → opening_of viewer opening ≡ opening_of viewer opening2 → HaveSameBytes viewer exchanges others
+      IsRun opening2 (calls_of others) closing2 → opening_of viewer opening ≡ opening_of viewer opening2 → HaveSameBytes viewer exchanges others

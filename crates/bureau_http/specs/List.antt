@@ -4,9 +4,9 @@ use Rattle.std.specs.Global.{Vec}
 use Rattle.std.specs.List.{AllByRecursion, flat_map}
 use Rattle.bureau_store.specs.Tables.{AreInOrder, Tables}
 use Rattle.bureau_store.specs.declared.caller.CallerRow.{CallerRow}
-use Rattle.bureau.specs.Joint.{Turn}
+use Rattle.bureau.specs.Joint.{CallBy}
 use Rattle.bureau_http.specs.Connection.{IsConnection, IsOwn, Stop}
-use Rattle.bureau_http.specs.Exchange.{Exchange, IsAnswered, replies_text, turns_of}
+use Rattle.bureau_http.specs.Exchange.{Exchange, IsAnswered, calls_of, replies_text}
 use Rattle.bureau_http.specs.Isolated.{AreIsolated, joined}
 use Rattle.bureau_http.specs.Served.{IsOneRun}
 
@@ -27,15 +27,15 @@ AreWhole rows (bytes ∷ connections) [] exchanges = ⊥
 AreWhole rows (bytes ∷ connections) (text ∷ written) [] = ⊥
 AreWhole rows (bytes ∷ connections) (text ∷ written) (exchanges ∷ more) = IsWhole rows bytes text exchanges × AreWhole rows connections written more
 
--- the turns of the bureau that the requests of all connections are, in order
-abbrev pub turns_in : List (List Exchange) → List Turn
-turns_in connections = flat_map turns_of connections
+-- the calls that the requests of all connections make, in order
+abbrev pub calls_in : List (List Exchange) → List CallBy
+calls_in connections = flat_map calls_of connections
 
 -- All connections were served: their requests are one run of the bureau, in order, in which a change acts once, over
 -- whichever of them it is sent, and each caller is answered, to the byte, as if alone.
-pub record AreServed (Runs : Tables → List Turn → Tables → Type 0) (this : Tables) (connections written : List (List ℕ)) : Type 0 where
+pub record AreServed (Runs : Tables → List CallBy → Tables → Type 0) (this : Tables) (connections written : List (List ℕ)) : Type 0 where
   pub exchanges : List (List Exchange)
-  pub ran : IsOneRun Runs this (turns_in exchanges)
+  pub ran : IsOneRun Runs this (calls_in exchanges)
   pub whole : AreWhole this.callers connections written exchanges
   pub isolated : AreInOrder this → AreIsolated this (joined exchanges)
 
@@ -45,10 +45,10 @@ IsInHand rows [] hand = hand ≡ []
 IsInHand rows (bytes ∷ more) hand = AllByRecursion IsAnswered hand × ((stop : Stop) × IsConnection rows bytes (map (λ exchange. exchange.asked) hand) stop)
 
 -- The first connections were served, and perhaps a part of the next one.
-pub record AreServedInPart (Runs : Tables → List Turn → Tables → Type 0) (this : Tables) (connections written : List (List ℕ)) : Type 0 where
+pub record AreServedInPart (Runs : Tables → List CallBy → Tables → Type 0) (this : Tables) (connections written : List (List ℕ)) : Type 0 where
   pub exchanges : List (List Exchange)
   pub hand : List Exchange
-  pub ran : IsOneRun Runs this (turns_in exchanges ++ turns_of hand)
+  pub ran : IsOneRun Runs this (calls_in exchanges ++ calls_of hand)
   pub whole : AreWhole this.callers (take (length written) connections) written exchanges
   pub in_hand : IsInHand this.callers (drop (length written) connections) hand
   pub isolated : AreInOrder this → AreIsolated this (joined exchanges ++ hand)
@@ -56,30 +56,30 @@ pub record AreServedInPart (Runs : Tables → List Turn → Tables → Type 0) (
 -- ---- private: what serving a list answers, and one connection of it
 
 -- what was written to all connections, or where memory ran out, to the first of them
-abbrev pub AreServedAs : {Fault : Type 0} → (Tables → List Turn → Tables → Type 0) → Tables → List (List ℕ) → Result (Vec (Vec ℕ)) (Fault × Vec (Vec ℕ)) → Type 0
+abbrev pub AreServedAs : {Fault : Type 0} → (Tables → List CallBy → Tables → Type 0) → Tables → List (List ℕ) → Result (Vec (Vec ℕ)) (Fault × Vec (Vec ℕ)) → Type 0
 AreServedAs Runs this connections (Ok written) = AreServed Runs this connections (map (λ text. text.items) written.items)
 AreServedAs Runs this connections (Err refused) = AreServedInPart Runs this connections (map (λ text. text.items) refused.1.items)
 
-pub record IsOneServed (Runs : Tables → List Turn → Tables → Type 0) (this : Tables) (bytes written : List ℕ) : Type 0 where
+pub record IsOneServed (Runs : Tables → List CallBy → Tables → Type 0) (this : Tables) (bytes written : List ℕ) : Type 0 where
   pub exchanges : List Exchange
   pub closing : Tables
-  pub run : Runs this (turns_of exchanges) closing
+  pub run : Runs this (calls_of exchanges) closing
   pub callers : closing.callers ≡ this.callers
   pub whole : IsWhole this.callers bytes written exchanges
 
-pub record IsOneCut (Runs : Tables → List Turn → Tables → Type 0) (this : Tables) (bytes : List ℕ) : Type 0 where
+pub record IsOneCut (Runs : Tables → List CallBy → Tables → Type 0) (this : Tables) (bytes : List ℕ) : Type 0 where
   pub exchanges : List Exchange
   pub closing : Tables
-  pub run : Runs this (turns_of exchanges) closing
+  pub run : Runs this (calls_of exchanges) closing
   pub callers : closing.callers ≡ this.callers
   pub answered : AllByRecursion IsAnswered exchanges
   pub stop : Stop
   pub connection : IsConnection this.callers bytes (map (λ exchange. exchange.asked) exchanges) stop
 
 -- the connections that were served so far
-pub record AreSoFar (Runs : Tables → List Turn → Tables → Type 0) (this : Tables) (connections written : List (List ℕ)) : Type 0 where
+pub record AreSoFar (Runs : Tables → List CallBy → Tables → Type 0) (this : Tables) (connections written : List (List ℕ)) : Type 0 where
   pub exchanges : List (List Exchange)
   pub now : Tables
-  pub run : Runs this (turns_in exchanges) now
+  pub run : Runs this (calls_in exchanges) now
   pub callers : now.callers ≡ this.callers
   pub whole : AreWhole this.callers connections written exchanges

@@ -1,18 +1,18 @@
--- What serving a connection does: the bureau's turns, and the bytes that are written. What a run is here is for the
+-- What serving a connection does: the bureau's calls, and the bytes that are written. What a run is here is for the
 -- contracts to say: one of the tables alone, or one in which what is told as accepted is kept.
 use Rattle.std.specs.Prelude.{◌≡◌, ◌⊎◌, ℕ, ◌+◌, Bool, List, [], ◌∷◌, ◌++◌, length, map, take, Option, Some, Result, Ok, Err}
 use Rattle.std.specs.Io.KnownBytes.{Appends, prepend_known}
 use Rattle.std.specs.List.{AllByRecursion}
 use Rattle.transfer.specs.Transfer.{AppendsFront}
-use Rattle.requests.specs.Turn.{IsNext, IsUnfinished, clean_end, end_inside}
+use Rattle.requests.specs.NextRequest.{IsNext, IsUnfinished, clean_end, end_inside}
 use Rattle.bureau_store.specs.Tables.{Tables}
 use Rattle.bureau_store.specs.declared.caller.CallerRow.{CallerRow}
-use Rattle.bureau.specs.Joint.{Turn}
+use Rattle.bureau.specs.Joint.{CallBy}
 use Rattle.bureau.specs.Outcome.{Answer}
 use Rattle.bureau.specs.Repeat.{ActsOnce, StaysStale}
 use Rattle.bureau_http.specs.Asked.{Asked, What}
 use Rattle.bureau_http.specs.Connection.{IsConnection, IsLast, IsRequest, ReadsTo, Stop, clean, inside, closed, cut}
-use Rattle.bureau_http.specs.Exchange.{Exchange, IsAnswered, exchange_text, replies_text, turn_of, turns_of}
+use Rattle.bureau_http.specs.Exchange.{Exchange, IsAnswered, call_in, calls_of, exchange_text, replies_text}
 use Rattle.bureau_http.specs.declared.fault.ConnFault.{ConnFault}
 use Rattle.bureau_http.specs.declared.fault.ConnFault.TheVariants.{Read, Write, EndInside, Memory}
 use Rattle.bureau_http.specs.declared.serving.Served.{Served}
@@ -20,17 +20,17 @@ use Rattle.bureau_http.specs.declared.serving.Step.{Step}
 use Rattle.bureau_http.specs.declared.serving.Step.TheVariants as step
 
 -- an exchange over these tables
-pub record HasExchanged (Runs : Tables → List Turn → Tables → Type 0) (this : Tables) (exchange : Exchange) : Type 0 where
+pub record HasExchanged (Runs : Tables → List CallBy → Tables → Type 0) (this : Tables) (exchange : Exchange) : Type 0 where
   pub next : Tables
   pub answered : IsAnswered exchange
-  pub run : Runs this (turn_of exchange) next
+  pub run : Runs this (call_in exchange) next
   pub callers : next.callers ≡ this.callers
 
 -- What the desk did is a run of the bureau from these tables, whatever it was asked.
-pub record HasRun (Runs : Tables → List Turn → Tables → Type 0) (this : Tables) : Type 0 where
-  pub turns : List Turn
+pub record HasRun (Runs : Tables → List CallBy → Tables → Type 0) (this : Tables) : Type 0 where
+  pub calls : List CallBy
   pub closing : Tables
-  pub run : Runs this turns closing
+  pub run : Runs this calls closing
 
 -- the whole text was written, or a front part of it where a write failed
 abbrev pub IsWritten : {A : Type 0} → Result A ConnFault → Option (List ℕ) → Option (List ℕ) → List ℕ → Type 0
@@ -81,13 +81,13 @@ AreWritten (Err Write) old new exchanges = IsCutOff old new exchanges
 AreWritten (Err EndInside) old new exchanges = Appends old new (replies_text exchanges)
 AreWritten (Err Memory) old new exchanges = Appends old new (replies_text exchanges)
 
--- These turns are one run of the bureau from these tables, in which a change acts once, however often it is sent. The callers
+-- These calls are one run of the bureau from these tables, in which a change acts once, however often it is sent. The callers
 -- stay.
-pub record IsOneRun (Runs : Tables → List Turn → Tables → Type 0) (this : Tables) (turns : List Turn) : Type 0 where
+pub record IsOneRun (Runs : Tables → List CallBy → Tables → Type 0) (this : Tables) (calls : List CallBy) : Type 0 where
   pub closing : Tables
-  pub run : Runs this turns closing
-  pub once : ActsOnce this turns closing
-  pub stale : StaysStale this turns closing
+  pub run : Runs this calls closing
+  pub once : ActsOnce this calls closing
+  pub stale : StaysStale this calls closing
   pub callers : closing.callers ≡ this.callers
 
 -- These bytes of a connection are requests and a stop. They are answered so, and the replies were written, in order.
@@ -102,32 +102,32 @@ pub record AreExchanged (rows : List CallerRow) (left old new : Option (List ℕ
 -- The bytes are requests and a stop. Those that make calls are a run of the bureau, in order, in which a change acts
 -- once, however often it is sent; the others are answered as the bytes and the callers alone decide. The replies are
 -- written, in order.
-pub record IsServed (Runs : Tables → List Turn → Tables → Type 0) (this : Tables) (left old new : Option (List ℕ)) (answer : Result Served ConnFault) (bytes : List ℕ) : Type 0 where
+pub record IsServed (Runs : Tables → List CallBy → Tables → Type 0) (this : Tables) (left old new : Option (List ℕ)) (answer : Result Served ConnFault) (bytes : List ℕ) : Type 0 where
   pub exchanges : List Exchange
-  pub ran : IsOneRun Runs this (turns_of exchanges)
+  pub ran : IsOneRun Runs this (calls_of exchanges)
   pub exchanged : AreExchanged this.callers left old new answer bytes exchanges
 
 -- ---- a step of it, and what is so far: these serve private contracts alone
 
 -- a request stands next, which may end the connection
 abbrev pub IsAsked : List CallerRow → ℕ → List ℕ → Asked → Type 0
-IsAsked rows place bytes asked = IsLast rows place bytes asked ⊎ ((following : List ℕ) × IsRequest rows place bytes asked following)
+IsAsked rows ordinal bytes asked = IsLast rows ordinal bytes asked ⊎ ((following : List ℕ) × IsRequest rows ordinal bytes asked following)
 
-pub record Exchanged (Runs : Tables → List Turn → Tables → Type 0) (this : Tables) (IsNow : Asked → Type 0) (Writes : List ℕ → Type 0) : Type 0 where
+pub record Exchanged (Runs : Tables → List CallBy → Tables → Type 0) (this : Tables) (IsNow : Asked → Type 0) (Writes : List ℕ → Type 0) : Type 0 where
   pub exchange : Exchange
   pub asked : IsNow exchange.asked
   pub has : HasExchanged Runs this exchange
   pub written : Writes (exchange_text exchange)
 
-abbrev pub Serves : (Tables → List Turn → Tables → Type 0) → Tables → ℕ → List ℕ → Option (List ℕ) → Option (List ℕ) → Option (List ℕ) → Result Step ConnFault → List ℕ → Type 0
-Serves Runs this place held left old new (Ok step.CleanEnd) bytes = IsNext bytes clean_end × Runs this [] this × Appends old new []
-Serves Runs this place held left old new (Ok step.Stays) bytes =
-    (following : List ℕ) × (prepend_known held left ≡ Some following) × Exchanged Runs this (λ asked. IsRequest this.callers place bytes asked following) (Appends old new)
-Serves Runs this place held left old new (Ok step.Ends) bytes = Exchanged Runs this (IsLast this.callers place bytes) (Appends old new)
-Serves Runs this place held left old new (Err Read) bytes = Runs this [] this × Appends old new [] × IsUnfinishedOf held left bytes
-Serves Runs this place held left old new (Err Write) bytes = Exchanged Runs this (IsAsked this.callers place bytes) (AppendsFront old new)
-Serves Runs this place held left old new (Err EndInside) bytes = IsNext bytes end_inside × Runs this [] this × Appends old new []
-Serves Runs this place held left old new (Err Memory) bytes = Runs this [] this × Appends old new [] × IsUnfinishedOf held left bytes
+abbrev pub Serves : (Tables → List CallBy → Tables → Type 0) → Tables → ℕ → List ℕ → Option (List ℕ) → Option (List ℕ) → Option (List ℕ) → Result Step ConnFault → List ℕ → Type 0
+Serves Runs this ordinal held left old new (Ok step.CleanEnd) bytes = IsNext bytes clean_end × Runs this [] this × Appends old new []
+Serves Runs this ordinal held left old new (Ok step.Stays) bytes =
+    (following : List ℕ) × (prepend_known held left ≡ Some following) × Exchanged Runs this (λ asked. IsRequest this.callers ordinal bytes asked following) (Appends old new)
+Serves Runs this ordinal held left old new (Ok step.Ends) bytes = Exchanged Runs this (IsLast this.callers ordinal bytes) (Appends old new)
+Serves Runs this ordinal held left old new (Err Read) bytes = Runs this [] this × Appends old new [] × IsUnfinishedOf held left bytes
+Serves Runs this ordinal held left old new (Err Write) bytes = Exchanged Runs this (IsAsked this.callers ordinal bytes) (AppendsFront old new)
+Serves Runs this ordinal held left old new (Err EndInside) bytes = IsNext bytes end_inside × Runs this [] this × Appends old new []
+Serves Runs this ordinal held left old new (Err Memory) bytes = Runs this [] this × Appends old new [] × IsUnfinishedOf held left bytes
 
 -- what serving a whole request does
 abbrev pub asked_as : What → Bool → Bool → Bool → Answer → Exchange
@@ -138,21 +138,21 @@ abbrev pub IsFailedWrite : {A : Type 0} → Result A ConnFault → Type 0
 IsFailedWrite (Ok a) = Unit {0}
 IsFailedWrite (Err fault) = fault ≡ Write
 
-pub record IsExchanged (Runs : Tables → List Turn → Tables → Type 0) (this : Tables) (what : What) (has_token is_bare closes : Bool) (old new : Option (List ℕ)) (answer : Result (Unit {0}) ConnFault) : Type 0 where
+pub record IsExchanged (Runs : Tables → List CallBy → Tables → Type 0) (this : Tables) (what : What) (has_token is_bare closes : Bool) (old new : Option (List ℕ)) (answer : Result (Unit {0}) ConnFault) : Type 0 where
   pub told : Answer
   pub has : HasExchanged Runs this (asked_as what has_token is_bare closes told)
   pub failed : IsFailedWrite answer
   pub written : IsWritten answer old new (exchange_text (asked_as what has_token is_bare closes told))
 
 -- the requests that were served so far, none of which ends the connection
-pub record IsSoFar (Runs : Tables → List Turn → Tables → Type 0) (this : Tables) (place : ℕ) (left old new : Option (List ℕ)) (bytes : List ℕ) : Type 0 where
+pub record IsSoFar (Runs : Tables → List CallBy → Tables → Type 0) (this : Tables) (ordinal : ℕ) (left old new : Option (List ℕ)) (bytes : List ℕ) : Type 0 where
   pub exchanges : List Exchange
   pub now : Tables
-  pub run : Runs this (turns_of exchanges) now
+  pub run : Runs this (calls_of exchanges) now
   pub callers : now.callers ≡ this.callers
   pub answered : AllByRecursion IsAnswered exchanges
   pub following : List ℕ
   pub reads : ReadsTo this.callers 1 bytes (map (λ exchange. exchange.asked) exchanges) following
   pub left_are : left ≡ Some following
-  pub count : place ≡ 1 + length exchanges
+  pub count : ordinal ≡ 1 + length exchanges
   pub written : Appends old new (replies_text exchanges)

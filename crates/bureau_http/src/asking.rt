@@ -3,12 +3,12 @@ ghost use Rattle.std.specs.Prelude.{◌≡◌, true};
 ghost use Rattle.bureau.specs.Calls.{call_as};
 ghost use Rattle.bureau_http.specs.Asked as Spec;
 ghost use Rattle.bureau_http.specs.Asked.{has_token, what_of};
-ghost use Rattle.bureau_http.specs.Exchange.{turn_by};
+ghost use Rattle.bureau_http.specs.Exchange.{call_from};
 ghost use Rattle.bureau_http.specs.Told.{IsOfLookUp, IsTold, answer_told};
 ghost use Rattle.bureau.specs.Kept.{IsKeptRun};
 ghost use Rattle.catalogue.specs.View.{Goes, IsOpen, Tells};
 ghost use Rattle.bureau_store.specs.Tables.{Tables};
-ghost use Rattle.requests.specs.Turn.{IsAt, body_in, parts_in};
+ghost use Rattle.requests.specs.NextRequest.{IsAt, body_in, parts_in};
 
 use crate::desk::Desk;
 use crate::reply::Told;
@@ -33,7 +33,7 @@ pub(crate) fn answer_to<D: Desk>(
         × IsTold this (what_of this.callers (parts_in bytes.now request.now) (body_in bytes.now request.now))
         (has_token (parts_in bytes.now request.now)) result next
         × IsKeptRun D.tables_view desk.old desk.new this
-        (turn_by (what_of this.callers (parts_in bytes.now request.now) (body_in bytes.now request.now))
+        (call_from (what_of this.callers (parts_in bytes.now request.now) (body_in bytes.now request.now))
         (answer_told result)) next) }
 {
     let Some(token) = request.token(bytes) else {

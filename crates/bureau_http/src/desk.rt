@@ -30,7 +30,7 @@ pub trait Desk {
             (λ this. found ≡ caller_with this.callers token.now)) }
         ensures proper { IfOk result (λ found. IfSome found IsProper) };
 
-    /// What is answered to a call: a turn of the bureau that all callers share. What is told from the tables was told
+    /// What is answered to a call: a step of the bureau that all callers share. What is told from the tables was told
     /// by a desk that is open.
     fn answer(&mut self, caller: &Caller, call: &Call<'_>) -> Reply
         requires { IsProper caller.now }

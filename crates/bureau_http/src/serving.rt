@@ -7,14 +7,14 @@ ghost use Rattle.bureau.specs.Kept.{IsKeptRun};
 ghost use Rattle.bureau.specs.Runs.{IsLawfulRun};
 ghost use Rattle.catalogue.specs.View.{Goes, Tells};
 ghost use Rattle.requests.specs.Order.{is_bare};
-ghost use Rattle.requests.specs.Turn.{IsAt, body_in, closes, parts_in};
+ghost use Rattle.requests.specs.NextRequest.{IsAt, body_in, closes, parts_in};
 
 use crate::asking::answer_to;
 use crate::desk::Desk;
 use crate::fault::ConnFault;
 use crate::reply::Told;
 use bureau::repeats;
-use requests::{Request, Routes, Turn, read_turn};
+use requests::{NextRequest, Request, Routes, read_next};
 use std::alloc::Global;
 use std::io::{Read, Write};
 use transfer::{Intake, RETRIES};
@@ -98,12 +98,12 @@ pub(crate) fn serve_connection<D: Desk, R: Read, W: Write>(
         reads: RETRIES,
         writes: RETRIES,
     };
-    let mut place = 1;
+    let mut ordinal = 1;
     loop {
         match serve_next(
             desk,
             routes,
-            place,
+            ordinal,
             &mut intake,
             reader,
             writer,
@@ -111,20 +111,20 @@ pub(crate) fn serve_connection<D: Desk, R: Read, W: Write>(
         )? {
             Step::CleanEnd => {
                 return Ok(Served {
-                    requests: place - 1,
+                    requests: ordinal - 1,
                 });
             }
-            Step::Stays => place += 1,
-            Step::Ends => return Ok(Served { requests: place }),
+            Step::Stays => ordinal += 1,
+            Step::Ends => return Ok(Served { requests: ordinal }),
         }
     }
 }
 
-// Serves what stands next in a connection, its request at this place, counted from 1.
+// Serves what stands next in a connection, its request at this ordinal, counted from 1.
 fn serve_next<D: Desk, R: Read, W: Write>(
     desk: &mut D,
     routes: &Routes,
-    place: u64,
+    ordinal: u64,
     intake: &mut Intake,
     reader: &mut R,
     writer: &mut W,
@@ -133,22 +133,22 @@ fn serve_next<D: Desk, R: Read, W: Write>(
     ensures goes { Goes D.tables_view desk.old desk.new }
     ensures ran { Tells D.tables_view desk.old desk.new (λ this.
         HasRun (IsKeptRun D.tables_view desk.old desk.new) this) }
-    ensures within { IfOk result (λ step. step ≡ Step.Stays → place < 10000) }
+    ensures within { IfOk result (λ step. step ≡ Step.Stays → ordinal < 10000) }
     ensures next { Tells D.tables_view desk.old desk.new (λ this.
         IfSome (prepend_known intake.old (R.remaining reader.old))
-        (Serves (IsKeptRun D.tables_view desk.old desk.new) this place intake.new
+        (Serves (IsKeptRun D.tables_view desk.old desk.new) this ordinal intake.new
         (R.remaining reader.new) (W.contents writer.old) (W.contents writer.new) result)) }
 {
-    match read_turn(intake, reader, &mut retries.reads)? {
-        Turn::CleanEnd => Ok(Step::CleanEnd),
-        Turn::EndInside => Err(ConnFault::EndInside),
-        Turn::Refused(refused) => {
+    match read_next(intake, reader, &mut retries.reads)? {
+        NextRequest::CleanEnd => Ok(Step::CleanEnd),
+        NextRequest::EndInside => Err(ConnFault::EndInside),
+        NextRequest::Refused(refused) => {
             let told = Told::Refused(refused.refusal);
             told.write(writer, refused.is_bare, true, &mut retries.writes)?;
             Ok(Step::Ends)
         }
-        Turn::Whole(request) => {
-            let closes = ends_after(&request, place);
+        NextRequest::Whole(request) => {
+            let closes = ends_after(&request, ordinal);
             serve_request(
                 desk,
                 routes,
@@ -165,10 +165,10 @@ fn serve_next<D: Desk, R: Read, W: Write>(
 }
 
 // Whether a connection ends after the reply to this request.
-fn ends_after(request: &Request, place: u64) -> bool
-    ensures { result ≡ (closes request.now || nat_le most_requests place) }
+fn ends_after(request: &Request, ordinal: u64) -> bool
+    ensures { result ≡ (closes request.now || nat_le most_requests ordinal) }
 {
-    request.closes() || place >= MOST_REQUESTS
+    request.closes() || ordinal >= MOST_REQUESTS
 }
 
 // Answers a whole request, and writes the reply.

@@ -27,19 +27,19 @@ use Rattle.bureau_store.specs.declared.caller.CallerRow.{CallerRow}
 
 -- ---- the map of names
 
-place : (e : List ℕ × List ℕ) (es : List (List ℕ × List ℕ)) (row : CallerRow) (o : Ordering) → is_some (cond (is_eq o) (Some e.1) (lookup (is_at (slice_cmp nat_cmp row.name)) es)) ≡ false
+row_put : (e : List ℕ × List ℕ) (es : List (List ℕ × List ℕ)) (row : CallerRow) (o : Ordering) → is_some (cond (is_eq o) (Some e.1) (lookup (is_at (slice_cmp nat_cmp row.name)) es)) ≡ false
     → (is_some (lookup (is_at (slice_cmp nat_cmp row.name)) es) ≡ false → map row_of (insert_entry (slice_cmp nat_cmp) es row.name row.token) ≡ insert_key row_order (map row_of es) row)
     → map row_of (match_ordering o ((row.name, row.token) ∷ e ∷ es) ((e.0, row.token) ∷ es) (e ∷ insert_entry (slice_cmp nat_cmp) es row.name row.token))
     ≡ match_ordering o (row ∷ row_of e ∷ map row_of es) (row_of e ∷ map row_of es) (row_of e ∷ insert_key row_order (map row_of es) row)
-place e es row Less new later = refl
-place e es row Equal new later = absurd (cc new)
-place e es row Greater new later = ap (λ rows. row_of e ∷ rows) (later new)
+row_put e es row Less new later = refl
+row_put e es row Equal new later = absurd (cc new)
+row_put e es row Greater new later = ap (λ rows. row_of e ∷ rows) (later new)
 
--- a row with a new name is put in its place among the rows
-placed_more : (names : List (List ℕ × List ℕ)) (row : CallerRow) → is_some (lookup (is_at (slice_cmp nat_cmp row.name)) names) ≡ false
+-- a row with a new name is put among the rows where it belongs
+row_put_more : (names : List (List ℕ × List ℕ)) (row : CallerRow) → is_some (lookup (is_at (slice_cmp nat_cmp row.name)) names) ≡ false
     → map row_of (insert_entry (slice_cmp nat_cmp) names row.name row.token) ≡ insert_key row_order (map row_of names) row
-placed_more [] row new = refl
-placed_more (e ∷ es) row new = place e es row (slice_cmp nat_cmp row.name e.0) new (λ h. placed_more es row h)
+row_put_more [] row new = refl
+row_put_more (e ∷ es) row new = row_put e es row (slice_cmp nat_cmp row.name e.0) new (λ h. row_put_more es row h)
 
 -- rows ascend where a map's keys do
 pub rows_ascend : (entries : List (List ℕ × List ℕ)) (rows : List CallerRow) → rows ≡ map row_of entries → IsStrictlySortedBy (slice_cmp nat_cmp) (keys_of entries)
@@ -133,7 +133,7 @@ pub caller_added : {Text : Type 0} (text_of : Text → List ℕ) (came : List Ca
     → is_some (lookup (is_at (slice_cmp nat_cmp row.name)) names) ≡ false
     → HasCallers text_of names2 tokens2 (came ++ row ∷ [])
 caller_added text_of came names names2 tokens tokens2 row has added updates put new = record {
-  placed = ap (λ es. map row_of es) added ∙ placed_more names row new ∙ ap (λ placed. insert_key row_order placed row) has.placed ∙ sym (in_order_more caller_list came row);
+  listed = ap (λ es. map row_of es) added ∙ row_put_more names row new ∙ ap (λ listed. insert_key row_order listed row) has.listed ∙ sym (in_order_more caller_list came row);
   by_name = named_more came names names2 row has.by_name updates;
   by_token = tokens_more text_of came tokens tokens2 row has.by_token put;
 }

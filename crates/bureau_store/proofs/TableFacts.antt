@@ -131,8 +131,8 @@ module _ {Text : Type 0} (text_of : Text → List ℕ) (token : List ℕ) where
   alike : (a b : Text) → in_order_of a b ≡ Equal → is_it a ≡ is_it b
   alike a b at = ap (λ text. is_at (slice_cmp nat_cmp token) text) ((bytes_eq-Decides (text_of a) (text_of b)).0 (sym (is_eq-slice_cmp (text_of a) (text_of b)) ∙ ap is_eq at))
 
-  same_place : (a b : Text) → is_it a ≡ true → is_it b ≡ true → in_order_of a b ≡ Equal
-  same_place a b at_a at_b = is_equal (in_order_of a b) (is_eq-slice_cmp (text_of a) (text_of b) ∙ (bytes_eq-Decides (text_of a) (text_of b)).1 (sym (is_token a at_a) ∙ is_token b at_b))
+  same_text : (a b : Text) → is_it a ≡ true → is_it b ≡ true → in_order_of a b ≡ Equal
+  same_text a b at_a at_b = is_equal (in_order_of a b) (is_eq-slice_cmp (text_of a) (text_of b) ∙ (bytes_eq-Decides (text_of a) (text_of b)).1 (sym (is_token a at_a) ∙ is_token b at_b))
 
 found_first : (b : Bool) (row : CallerRow) (rest : Option CallerRow) → cond b (Some (caller_named row.name)) (option_map (λ row. caller_named row.name) rest) ≡ option_map (λ row. caller_named row.name) (cond b (Some row) rest)
 found_first true row rest = refl
@@ -147,7 +147,7 @@ pub knows_more : {Text : Type 0} (text_of : Text → List ℕ) (entries entries2
     → KnowsTokens text_of entries2 (row ∷ rows)
 knows_more text_of entries entries2 rows row key caller knows is named put token =
     ap (λ es. lookup (is_it text_of token) es) put
-    ∙ lookup_put (in_order_of text_of token) (is_it text_of token) (alike text_of token) (same_place text_of token) entries key caller
+    ∙ lookup_put (in_order_of text_of token) (is_it text_of token) (alike text_of token) (same_text text_of token) entries key caller
     ∙ ap (λ b. cond b (Some caller) (lookup (is_it text_of token) entries)) (is_eq-slice_cmp token (text_of key) ∙ ap (λ text. bytes_eq token text) is ∙ nat_list_eq_equiv.symm token row.token)
     ∙ ap (λ c. cond (bytes_eq row.token token) (Some c) (lookup (is_it text_of token) entries)) named
     ∙ ap (λ rest. cond (bytes_eq row.token token) (Some (caller_named row.name)) rest) (knows token)

@@ -18,9 +18,9 @@ row_of entry = record { name = entry.0; token = entry.1 }
 abbrev pub has_token : {Text : Type 0} → (Text → List ℕ) → List Text → List ℕ → Bool
 has_token text_of texts token = list_any (λ text. is_at (slice_cmp nat_cmp token) (text_of text)) texts
 
--- The callers that came: each in its place by name, and which names and which tokens came is what the map and the set
+-- The callers that came: in order by name, and which names and which tokens came is what the map and the set
 -- of tokens say.
 pub record HasCallers {Text : Type 0} (text_of : Text → List ℕ) (names : List (List ℕ × List ℕ)) (tokens : List Text) (came : List CallerRow) : Type 0 where
-  pub placed : map row_of names ≡ in_order caller_list came
+  pub listed : map row_of names ≡ in_order caller_list came
   pub by_name : (name : List ℕ) → list_any (λ row. bytes_eq name row.name) came ≡ is_some (lookup (is_at (slice_cmp nat_cmp name)) names)
   pub by_token : (token : List ℕ) → list_any (λ row. bytes_eq token row.token) came ≡ has_token text_of tokens token

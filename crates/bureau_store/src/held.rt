@@ -5,7 +5,7 @@ ghost use Rattle.std.specs.Cmp.Lexicographic.{slice_cmp};
 ghost use Rattle.std.specs.List.{list_any};
 ghost use Rattle.std.specs.Ordering.{nat_cmp};
 ghost use Rattle.holddata.specs.HoldBook.{IsInKeyOrder};
-ghost use Rattle.holddata.specs.HoldKey.{kind_place};
+ghost use Rattle.holddata.specs.HoldKey.{kind_order};
 ghost use Rattle.zone_lists.specs.Installed.{is_installed, is_installed_state};
 ghost use Rattle.catalogue.specs.Ids.{same_id};
 
@@ -25,7 +25,7 @@ pub(crate) fn held_among(
 ) -> Result<Vec<Hold>, NoMemory>
     ensures holds { IfOk result (λ held. held.items
         ≡ filter (λ hold. is_installed rows.now hold.key.sysmod
-        && (kind_place hold.key.kind == kind_place kind)) book.now) }
+        && (kind_order hold.key.kind == kind_order kind)) book.now) }
     ensures in_key_order { IfOk result (λ held. IsInKeyOrder held.items) }
 {
     let installed = installed_in(alloc, rows)?;
@@ -71,7 +71,7 @@ fn is_installed(state: ZoneState) -> bool
 }
 
 fn is_kind(kind: Kind, wanted: Kind) -> bool
-    ensures { result ≡ (kind_place kind == kind_place wanted) }
+    ensures { result ≡ (kind_order kind == kind_order wanted) }
 {
     kind == wanted
 }

@@ -61,7 +61,7 @@ found_changed old new x was is updates id =
     ∙ ap (λ b. cond b (Some x) (get id_cmp old id)) (sym (same_is x.id id))
     ∙ ap (cond (same_id x.id id) (Some x)) (sym (found_is old.entries id was))
 
--- ---- the changes up to a place
+-- ---- the changes up to an index
 
 pub records_more : (changes : List Change) (i : ℕ) (change : Change) → i < length changes → change ≡ get_or changes i change
     → records_in (take (i + 1) changes) ≡ records_in (take i changes) ++ records_in (change ∷ [])

@@ -1,4 +1,4 @@
--- The ids that values and operands give, from one place on.
+-- The ids that values and operands give, from one index on.
 use Rattle.std.proofs.Common.{◌≡◌, ℕ, ◌+◌, ◌<◌, true, false, ◌||◌, List, ◌∷◌, ◌++◌, length, drop, get_or, refl, sym, ◌∙◌, ap, subst, add-one, drop-cons}
 use Rattle.std.specs.BTreeSet.{insert_key}
 use Rattle.std.specs.List.{filter_map, list_any}
@@ -44,7 +44,7 @@ bad_front keys front rest all_keys all_values puts bad =
 
 -- ---- operands
 
--- what the operands from one place on put, of all operands
+-- what the operands from one index on put, of all operands
 abbrev pub PutsFrom : List ℕ → List Operand → ℕ → List (List ℕ) → List (List ℕ) → Type 0
 PutsFrom name operands i keys all_keys = Puts keys (values_of name (operand_texts (drop i operands))) all_keys (values_of name (operand_texts operands))
 

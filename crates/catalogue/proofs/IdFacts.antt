@@ -53,7 +53,7 @@ turned a b h = ids_total.antisymm b a ∙ ap ordering_reverse h
 pub apart_back : (a b : List ℕ) → id_cmp a b ≡ Less → same_id b a ≡ false
 apart_back a b h = same_is b a ∙ ap is_eq (ids_total.antisymm b a ∙ ap ordering_reverse h)
 
--- ---- one id put in its place
+-- ---- one id put where it belongs
 
 pub any_insert : (test : List ℕ → Bool) (ks : List (List ℕ)) (k : List ℕ) → list_any test (insert_key id_cmp ks k) ≡ (test k || list_any test ks)
 any_insert = keys.any_insert id_cmp exact_ids

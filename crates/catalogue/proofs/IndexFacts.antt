@@ -43,7 +43,7 @@ all_at P [] i d below h = absurd (omega arith)
 all_at P (x ∷ xs) zero d below h = h.0
 all_at P (x ∷ xs) (suc i) d below h = all_at P xs i d (omega arith) h.1
 
--- an id that ascends doesn't come before its own place
+-- an id that ascends doesn't come before its own index
 none_before : (xs : List (List ℕ)) (i : ℕ) (d : List ℕ) → i < length xs → Ascend xs → list_any (same_id (get_or xs i d)) (take i xs) ≡ false
 unfolding IsStrictlySortedBy
 none_before [] i d below h = absurd (omega arith)
@@ -53,7 +53,7 @@ none_before (x ∷ xs) (suc i) d below h =
     ap (λ b. b || list_any (same_id (get_or xs i d)) (take i xs)) (apart_back x (get_or xs i d) less)
     ∙ none_before xs i d (omega arith) h.1
 
--- what stands under each id, when the SUP of one record is gone through up to a place
+-- what stands under each id, when the SUP of one record is gone through up to an index
 abbrev pub upto : List (List ℕ) → List (List ℕ) → ℕ → List ℕ → List ℕ → List (List ℕ)
 upto before sup i id q = before ++ (if list_any (same_id q) (take i sup) then id ∷ [] else [])
 

@@ -12,7 +12,7 @@ use Rattle.holddata.specs.declared.key.HoldKey.{HoldKey}
 use Rattle.holddata.specs.declared.key.Kind.{Kind}
 use Rattle.holddata.specs.declared.key.Kind.TheVariants.{ErrorHold, SystemHold, UserHold, FixcatHold}
 use Rattle.holddata.specs.declared.hold.Hold.{Hold}
-use Rattle.holddata.specs.HoldKey.{is_same_key, kind_place}
+use Rattle.holddata.specs.HoldKey.{is_same_key, kind_order}
 use Rattle.holddata.specs.HoldChange.{key_of, names, hold_left}
 use Rattle.holddata.specs.HoldBook.{hold_under, IsInKeyOrder}
 use Rattle.holddata.proofs.BookFacts.{same_book}
@@ -176,13 +176,13 @@ same_superseders content changes id ordered h =
 
 -- ---- the reasons of its ERROR holds
 
-error_touches : (id : List ℕ) (kind : Kind) (key : HoldKey) → (kind_place kind == kind_place ErrorHold) ≡ true → same_id id key.sysmod ≡ true → list_any (same_id id) (touched_by_key kind key) ≡ true
+error_touches : (id : List ℕ) (kind : Kind) (key : HoldKey) → (kind_order kind == kind_order ErrorHold) ≡ true → same_id id key.sysmod ≡ true → list_any (same_id id) (touched_by_key kind key) ≡ true
 error_touches id ErrorHold key is at = ap (λ b. b || false) at
 error_touches id SystemHold key is at = cc
 error_touches id UserHold key is at = cc
 error_touches id FixcatHold key is at = cc
 
-none_named : (content : Content) (changes : List Change) (id : List ℕ) → IsApart content changes id → (key : HoldKey) → (kind_place key.kind == kind_place ErrorHold) ≡ true → same_id id key.sysmod ≡ true
+none_named : (content : Content) (changes : List Change) (id : List ℕ) → IsApart content changes id → (key : HoldKey) → (kind_order key.kind == kind_order ErrorHold) ≡ true → same_id id key.sysmod ≡ true
     → list_any (names key) (hold_changes_in changes) ≡ false
 none_named content [] id h key is at = refl
 none_named content (Whole sysmod ∷ changes) id h key is at =
@@ -241,7 +241,7 @@ same_reasons content changes id ordered h =
     new_order = after_in_order content changes
 
     is_error : HoldKey → Bool
-    is_error key = kind_place key.kind == kind_place ErrorHold
+    is_error key = kind_order key.kind == kind_order ErrorHold
 
     of_it : HoldKey → Bool
     of_it key = same_id id key.sysmod

@@ -16,7 +16,7 @@ cond_cmp a b = ordering_then (id_cmp a.fmid b.fmid) (id_cmp a.need b.need)
 abbrev pub CondsAscend : List CondNeed → Type 0
 CondsAscend conds = IsStrictlySortedBy cond_cmp conds
 
--- more of them put among some in order, each at its place unless it is there
+-- more of them put among some in order, each where it belongs unless it is there
 abbrev pub put_conds : List CondNeed → List CondNeed → List CondNeed
 put_conds conds more = fold (insert_key cond_cmp) conds more
 

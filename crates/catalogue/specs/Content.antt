@@ -3,7 +3,7 @@ use Rattle.std.specs.Prelude.{ℕ, ◌==◌, Bool, List, [], map, filter, find, 
 use Rattle.std.specs.List.{list_any}
 use Rattle.holddata.specs.declared.hold.Hold.{Hold}
 use Rattle.holddata.specs.declared.key.Kind.TheVariants.{ErrorHold}
-use Rattle.holddata.specs.HoldKey.{kind_place}
+use Rattle.holddata.specs.HoldKey.{kind_order}
 use Rattle.holddata.specs.HoldBook as book
 use Rattle.holddata.specs.HoldBook.{IsInKeyOrder}
 use Rattle.catalogue.specs.declared.sysmod.Sysmod.{Sysmod}
@@ -58,7 +58,7 @@ holds_on content id = book.holds_on content.holds id
 -- the reasons of the ERROR holds on an id
 abbrev pub error_reasons : Content → List ℕ → List (List ℕ)
 error_reasons content id =
-    map (λ hold. hold.key.reason) (filter (λ hold. kind_place hold.key.kind == kind_place ErrorHold) (holds_on content id))
+    map (λ hold. hold.key.reason) (filter (λ hold. kind_order hold.key.kind == kind_order ErrorHold) (holds_on content id))
 
 -- records ascend by id and holds by key, each once
 pub record IsInOrder (content : Content) : Type 0 where

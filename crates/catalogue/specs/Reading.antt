@@ -101,7 +101,7 @@ record_by kind id vers ifs = record {
   sup = ids_joined (codes "SUP") vers;
 }
 
--- what one statement publishes at its place, with the `++VER` and `++IF` statements that belong to it
+-- what one statement publishes where it stands, with the `++VER` and `++IF` statements that belong to it
 abbrev pub changes_by : Part → Statement → List Statement → List Statement → List Change
 changes_by (Header kind) statement vers ifs = option_to_list (option_map (λ id. Whole (record_by kind id vers ifs)) statement.subject)
 changes_by More statement vers ifs = []

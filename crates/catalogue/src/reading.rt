@@ -15,7 +15,7 @@ use std::alloc::Global;
 use std::marker::Model;
 
 /// What statements publish, in order (IBM z/OS SMP/E Reference, `++FUNCTION`, `++PTF`, `++APAR`, `++USERMOD`,
-/// `++VER`, `++IF`): a header gives one record at its place, with the lists of all `++VER` and `++IF` statements up to
+/// `++VER`, `++IF`): a header gives one record where it stands, with the lists of all `++VER` and `++IF` statements up to
 /// the next header joined; holds and releases stand where they stand.
 ///
 /// # Errors
@@ -182,7 +182,7 @@ impl ChangeReader {
     }
 }
 
-// All changes that were read, the open record in its place.
+// All changes that were read, the open record where its header stands.
 fn closed(
     alloc: Global,
     before: Vec<Change>,

@@ -87,7 +87,7 @@ filled_more [] id frame old between new so_far is =
     (new, frame, subst P so_far is, refl)
 filled_more (first ∷ ids) id frame old between new so_far is = (so_far.0, so_far.1, so_far.2, filled_more ids id frame so_far.0 between new so_far.3 is)
 
--- those up to a place, and the one at it
+-- those up to an index, and the one at it
 pub filled_on : (ids : List (List ℕ)) (i : ℕ) (id : List ℕ) (frame : FrameLists) (old between new : CacheLists) → i < length ids → id ≡ get_or ids i id
     → AreFilled (take i ids) old between → IsFilled id frame between new → AreFilled (take (i + 1) ids) old new
 filled_on ids i id frame old between new below at so_far is =

@@ -1,4 +1,4 @@
--- What gives an id, and whether it is there, by the places of what supersedes it.
+-- What gives an id, and whether it is there, by the indices of what supersedes it.
 use Rattle.std.proofs.Common.{◌≡◌, ◌∙◌, ℕ, ◌<◌, ◌&&◌, Bool, true, List, [], ◌∷◌, length, filter, refl, sym, subst, inl, inr}
 use Rattle.std.specs.Prelude.{◌↔◌}
 use Rattle.std.specs.Cmp.{both_ways}
@@ -17,13 +17,13 @@ use Rattle.requisites.specs.Leads.{IsPath, Leads}
 use Rattle.requisites.specs.Nodes.{AreReversed, Links, mark_of, row}
 use Rattle.requisites.proofs.LeadsFacts.{leads_closed, leads_itself, leads_more}
 use Rattle.chains.specs.Climbs.{AreAbove, IsMarkedAbove}
-use Rattle.chains.specs.Cuts.{PlaceOf, id_at}
-use Rattle.chains.specs.Places.{AreThere, ArePlacesOf, InstalledAt}
+use Rattle.chains.specs.Cuts.{IndexOf, id_at}
+use Rattle.chains.specs.Indices.{AreThere, AreIndicesOf, InstalledAt}
 use Rattle.chains.proofs.FrameFacts.{giver_is, givers_ascend}
 use Rattle.chains.proofs.MadeCutFacts.{candidate_catalogued}
 use Rattle.chains.proofs.OrderFacts.{ascending_same}
 use Rattle.chains.proofs.PartFacts.{at_map}
-use Rattle.chains.proofs.PlaceFacts.{at_inside, inside_at}
+use Rattle.chains.proofs.IndexFacts.{at_inside, inside_at}
 use Rattle.chains.proofs.SearchFacts.{any_at, any_from, first_true, kept_from, kept_inside}
 
 -- ---- lists that lead the other way round
@@ -43,41 +43,41 @@ listed_if_installed rows id h =
     any_at (λ (row : ZoneRow). bytes_eq row.sysmod id) rows found.element found.member (first_true (bytes_eq found.element.sysmod id) (is_installed_state found.element.state) found.passes)
 
 module _ (content : Content) (ordered : IsInOrder content) (ids above : List (List ℕ)) (are : AreAbove content ids above) where
-  above_at : (p : ℕ) → p < length ids → ArePlacesOf ids (superseders content (id_at ids p)) (row above p)
-  above_at p below = let P : List (List ℕ) → Type 0 = λ l. ArePlacesOf ids l (row above p) in subst P (at_map (superseders content) ids p [] [] below) (are.placed.each p below)
+  above_at : (p : ℕ) → p < length ids → AreIndicesOf ids (superseders content (id_at ids p)) (row above p)
+  above_at p below = let P : List (List ℕ) → Type 0 = λ l. AreIndicesOf ids l (row above p) in subst P (at_map (superseders content) ids p [] [] below) (are.indexed.each p below)
 
-  -- a way from what stands at a place
+  -- a way from what stands at an index
   record WayFrom (to : List ℕ) (q : ℕ) : Type 0 where
     within : q < length ids
     way : List (List ℕ)
     leads : IsWay content (id_at ids q) way to
 
-  way_up : (place q : ℕ) → place < length ids → Leads (Links above (length ids)) place q → WayFrom (id_at ids place) q
-  way_up place q below leads =
-      leads_closed (λ p. WayFrom (id_at ids place) p)
+  way_up : (index q : ℕ) → index < length ids → Leads (Links above (length ids)) index q → WayFrom (id_at ids index) q
+  way_up index q below leads =
+      leads_closed (λ p. WayFrom (id_at ids index) p)
       (λ p r here step. let at = above_at p here.within in record {
-        within = step.place;
+        within = step.index;
         way = id_at ids p ∷ here.way;
         leads = ((superseder_is content (id_at ids p) (id_at ids r) ordered).0 (at.listed r step.listed), here.leads);
       })
       (record { within = below; way = []; leads = refl }) leads
 
-  -- the place of what leads down to a place
-  record PlaceAbove (place : ℕ) (id : List ℕ) : Type 0 where
-    at : PlaceOf ids id
-    leads : Leads (Links above (length ids)) place at.place
+  -- the index of what leads down to an index
+  record IndexAbove (index : ℕ) (id : List ℕ) : Type 0 where
+    at : IndexOf ids id
+    leads : Leads (Links above (length ids)) index at.index
 
-  way_down : (place : ℕ) → place < length ids → (y : List ℕ) (way : List (List ℕ)) → IsWay content y way (id_at ids place) → PlaceAbove place y
-  way_down place below y [] same = record { at = record { place = place; within = below; is = sym same }; leads = leads_itself (Links above (length ids)) place }
-  way_down place below y (next ∷ later) way =
-      let rest = way_down place below next later way.1 in
+  way_down : (index : ℕ) → index < length ids → (y : List ℕ) (way : List (List ℕ)) → IsWay content y way (id_at ids index) → IndexAbove index y
+  way_down index below y [] same = record { at = record { index = index; within = below; is = sym same }; leads = leads_itself (Links above (length ids)) index }
+  way_down index below y (next ∷ later) way =
+      let rest = way_down index below next later way.1 in
       let P : List ℕ → Type 0 = λ x. Supersedes content y x in
-      let own = id_at ids rest.at.place in
+      let own = id_at ids rest.at.index in
       let step : Supersedes content y own = subst P (sym rest.at.is) way.0 in
       let named : Contains (superseders content own) y = (superseder_is content own y ordered).1 step in
-      let at = inside_at ids y (are.whole own y (at_inside ids rest.at.place rest.at.within) named) in
+      let at = inside_at ids y (are.whole own y (at_inside ids rest.at.index rest.at.within) named) in
       let Q : List ℕ → Type 0 = λ x. Contains (superseders content own) x in
-      record { at = at; leads = leads_more rest.leads (record { listed = (above_at rest.at.place rest.at.within).whole at.place at.within (subst Q (sym at.is) named); place = at.within }) }
+      record { at = at; leads = leads_more rest.leads (record { listed = (above_at rest.at.index rest.at.within).whole at.index at.within (subst Q (sym at.is) named); index = at.within }) }
 
   -- ---- what is there
 
@@ -85,9 +85,9 @@ module _ (content : Content) (ordered : IsInOrder content) (ids above : List (Li
     up : (source q : ℕ) → Leads (Links below (length ids)) source q → Leads (Links above (length ids)) q source
     up source q leads = leads_turned (Links below (length ids)) (Links above (length ids)) (λ p. Unit {0}) (λ u v here link. (tt, turned.only v u link.listed)) tt leads
 
-    down : (place q : ℕ) → place < length ids → Leads (Links above (length ids)) place q → Leads (Links below (length ids)) q place
-    down place q within leads =
-        leads_turned (Links above (length ids)) (Links below (length ids)) (λ p. p < length ids) (λ u v here step. (step.place, record { listed = turned.turned u v step; place = here }))
+    down : (index q : ℕ) → index < length ids → Leads (Links above (length ids)) index q → Leads (Links below (length ids)) q index
+    down index q within leads =
+        leads_turned (Links above (length ids)) (Links below (length ids)) (λ p. p < length ids) (λ u v here step. (step.index, record { listed = turned.turned u v step; index = here }))
         within leads
 
     there_up : (q : ℕ) → q < length ids → InstalledAt rows ids below q → IsThere content rows (id_at ids q)
@@ -106,13 +106,13 @@ module _ (content : Content) (ordered : IsInOrder content) (ids above : List (Li
 
     there_down : (q : ℕ) → q < length ids → InstalledGiver content rows (id_at ids q) → InstalledAt rows ids below q
     there_down q within by =
-        let placed = way_down q within by.giver by.gives.way by.gives.leads in
+        let indexed = way_down q within by.giver by.gives.way by.gives.leads in
         let I : List ℕ → Type 0 = λ x. is_installed rows x ≡ true in
         record {
-          source = placed.at.place;
-          within = placed.at.within;
-          installed = subst I (sym placed.at.is) by.installed;
-          leads = down q placed.at.place within placed.leads;
+          source = indexed.at.index;
+          within = indexed.at.within;
+          installed = subst I (sym indexed.at.is) by.installed;
+          leads = down q indexed.at.index within indexed.leads;
         }
 
     pub marks_there : (marks : List Bool) → AreThere rows ids below marks → (p : ℕ) → p < length ids → mark_of marks p ≡ is_there content rows (id_at ids p)
@@ -124,13 +124,13 @@ module _ (content : Content) (ordered : IsInOrder content) (ids above : List (Li
 
   -- ---- candidates
 
-  -- marked ids above a place are the candidates that give what stands there
-  pub candidates_found : (rows : List ZoneRow) (marks : List Bool) (place : ℕ) (found : List (List ℕ)) → place < length ids → Ascend found
-      → ((id : List ℕ) → Contains found id ↔ IsMarkedAbove ids above marks place id)
-      → ((q : ℕ) → Leads (Links above (length ids)) place q → mark_of marks q ≡ is_candidate content rows (id_at ids q))
-      → found ≡ filter (λ giver. is_candidate content rows giver) (givers_of content (id_at ids place))
-  candidates_found rows marks place found below up each candidates =
-      let to = id_at ids place in
+  -- marked ids above an index are the candidates that give what stands there
+  pub candidates_found : (rows : List ZoneRow) (marks : List Bool) (index : ℕ) (found : List (List ℕ)) → index < length ids → Ascend found
+      → ((id : List ℕ) → Contains found id ↔ IsMarkedAbove ids above marks index id)
+      → ((q : ℕ) → Leads (Links above (length ids)) index q → mark_of marks q ≡ is_candidate content rows (id_at ids q))
+      → found ≡ filter (λ giver. is_candidate content rows giver) (givers_of content (id_at ids index))
+  candidates_found rows marks index found below up each candidates =
+      let to = id_at ids index in
       let C : List ℕ → Type 0 = λ x. is_candidate content rows x ≡ true in
       let G : List ℕ → Type 0 = λ x. Gives content x to in
       ascending_same found (filter (λ giver. is_candidate content rows giver) (givers_of content to)) up
@@ -138,17 +138,17 @@ module _ (content : Content) (ordered : IsInOrder content) (ids above : List (Li
       (λ id inside.
       let at = (each id).0 inside in
       let own : C (id_at ids at.own) = sym (candidates at.own at.leads) ∙ at.marked in
-      let way = way_up place at.own below at.leads in
+      let way = way_up index at.own below at.leads in
       let given : G (id_at ids at.own) = record { catalogued = candidate_catalogued content rows (id_at ids at.own) own; way = way.way; leads = way.leads } in
       kept_inside (λ giver. is_candidate content rows giver) (givers_of content to) id ((giver_is content to id).1 (subst G at.is given)) (subst C at.is own))
       (λ id inside.
       let kept = kept_from (λ giver. is_candidate content rows giver) (givers_of content to) id inside in
       let given = (giver_is content to id).0 kept.member in
-      let placed = way_down place below id given.way given.leads in
+      let indexed = way_down index below id given.way given.leads in
       (each id).1 (record {
-        own = placed.at.place;
-        within = placed.at.within;
-        is = placed.at.is;
-        marked = candidates placed.at.place placed.leads ∙ subst C (sym placed.at.is) kept.passes;
-        leads = placed.leads;
+        own = indexed.at.index;
+        within = indexed.at.within;
+        is = indexed.at.is;
+        marked = candidates indexed.at.index indexed.leads ∙ subst C (sym indexed.at.is) kept.passes;
+        leads = indexed.leads;
       }))

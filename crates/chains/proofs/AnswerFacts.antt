@@ -17,22 +17,22 @@ use Rattle.requisites.proofs.LeadsFacts.{leads_closed}
 use Rattle.chains.specs.Candidates.{candidates_unless_there}
 use Rattle.chains.specs.Climbs.{AreAbove, AreFrom, IsAnswer, IsFound, IsMarkedAbove, with_source}
 use Rattle.chains.specs.Cuts.{id_at}
-use Rattle.chains.specs.Places.{AreThere, IsAt, MarksAre, RowsAre}
+use Rattle.chains.specs.Indices.{AreThere, IsAt, MarksAre, RowsAre}
 use Rattle.chains.proofs.AboveFacts.{candidates_found, leads_turned, marks_there}
-use Rattle.chains.proofs.PlaceFacts.{inside_at, made_more, one_place}
+use Rattle.chains.proofs.IndexFacts.{inside_at, made_more, one_index}
 use Rattle.chains.proofs.SearchFacts.{first_inside, kept_from, kept_inside, map_from, map_inside}
 
--- an id stands at one place alone
-pub place_is : (ids : List (List ℕ)) (id : List ℕ) (p q : ℕ) → Ascend ids → IsAt ids id p → IsAt ids id q → p ≡ q
-place_is ids id p q up first second = one_place ids p q [] up first.within second.within (first.is ∙ sym second.is)
+-- an id stands at one index alone
+pub index_is : (ids : List (List ℕ)) (id : List ℕ) (p q : ℕ) → Ascend ids → IsAt ids id p → IsAt ids id q → p ≡ q
+index_is ids id p q up first second = one_index ids p q [] up first.within second.within (first.is ∙ sym second.is)
 
--- ---- marked ids above a place
+-- ---- marked ids above an index
 
--- those of the places to which a walk came that are marked
-pub marked_are : (ids above : List (List ℕ)) (marks : List Bool) (place : ℕ) (order : List ℕ) (found : List (List ℕ)) → place < length ids
-    → ((q : ℕ) → Contains order q ↔ Leads (Links above (length ids)) place q) → found ≡ in_order (map (id_at ids) (filter (mark_of marks) order))
-    → (id : List ℕ) → Contains found id ↔ IsMarkedAbove ids above marks place id
-marked_are ids above marks place order found below each are id = (
+-- those of the indices to which a walk came that are marked
+pub marked_are : (ids above : List (List ℕ)) (marks : List Bool) (index : ℕ) (order : List ℕ) (found : List (List ℕ)) → index < length ids
+    → ((q : ℕ) → Contains order q ↔ Leads (Links above (length ids)) index q) → found ≡ in_order (map (id_at ids) (filter (mark_of marks) order))
+    → (id : List ℕ) → Contains found id ↔ IsMarkedAbove ids above marks index id
+marked_are ids above marks index order found below each are id = (
   λ inside.
       let F : List (List ℕ) → Type 0 = λ l. Contains l id in
       let image = map_from (id_at ids) (filter (mark_of marks) order) id ((in_order_has (map (id_at ids) (filter (mark_of marks) order)) id).0 (subst F are inside)) in
@@ -40,7 +40,7 @@ marked_are ids above marks place order found below each are id = (
       let leads = (each image.from).0 kept.member in
       record {
         own = image.from;
-        within = leads_closed (λ p. p < length ids) (λ u v here link. link.place) below leads;
+        within = leads_closed (λ p. p < length ids) (λ u v here link. link.index) below leads;
         is = image.is;
         marked = kept.passes;
         leads = leads;
@@ -52,10 +52,10 @@ marked_are ids above marks place order found below each are id = (
       subst F (sym are) ((in_order_has (map (id_at ids) (filter (mark_of marks) order)) id).1 (subst P at.is inside)),
 )
 
--- ---- rows without the places from which nothing marked is reached
+-- ---- rows without the indices from which nothing marked is reached
 
 module _ (ids above below kept : List (List ℕ)) (marks : List Bool) (sources : List (Option ℕ)) (turned : AreReversed above (length ids) below) (as_many : length marks ≡ length ids) (least : AreLeastSources below marks sources)
-    (rows : RowsAre (λ p places. places ≡ with_source sources (row above p)) (length ids) kept) where
+    (rows : RowsAre (λ p indices. indices ≡ with_source sources (row above p)) (length ids) kept) where
   abbrev Up : ℕ → ℕ → Type 0
   Up = Links above (length ids)
 
@@ -65,16 +65,16 @@ module _ (ids above below kept : List (List ℕ)) (marks : List Bool) (sources :
     path_up x [] y within same = record { list = []; path = same }
     path_up x (z ∷ zs) y within path =
         let P : List ℕ → Type 0 = λ l. Contains l z in
-        let rest = path_up z zs y path.0.place path.1 in
+        let rest = path_up z zs y path.0.index path.1 in
         let listed = (kept_from (λ q. is_some (source_of sources q)) (row above x) z (subst P (rows.each x within) path.0.listed)).member in
-        record { list = z ∷ rest.list; path = (record { listed = listed; place = path.0.place }, rest.path) }
+        record { list = z ∷ rest.list; path = (record { listed = listed; index = path.0.index }, rest.path) }
 
   has_source : (z q : ℕ) → z < length ids → mark_of marks q ≡ true → Leads Up z q → is_some (source_of sources z) ≡ true
   has_source z q within marked leads = by (source_of sources z) refl where
     back : Leads (Links below (length marks)) q z
     back =
         let L : ℕ → Type 0 = λ n. Leads (Links below n) q z in
-        subst L (sym as_many) (leads_turned Up (Links below (length ids)) (λ p. p < length ids) (λ u v here link. (link.place, record { listed = turned.turned u v link; place = here })) within leads)
+        subst L (sym as_many) (leads_turned Up (Links below (length ids)) (λ p. p < length ids) (λ u v here link. (link.index, record { listed = turned.turned u v link; index = here })) within leads)
 
     by : (o : Option ℕ) → source_of sources z ≡ o → is_some (source_of sources z) ≡ true
     by None none = absurd (least.unreached z q none (record { is = marked }) back)
@@ -86,9 +86,9 @@ module _ (ids above below kept : List (List ℕ)) (marks : List Bool) (sources :
     path_down x [] within same = record { list = []; path = same }
     path_down x (z ∷ zs) within path =
         let P : List ℕ → Type 0 = λ l. Contains l z in
-        let rest = path_down z zs path.0.place path.1 in
-        let listed = kept_inside (λ y. is_some (source_of sources y)) (row above x) z path.0.listed (has_source z q path.0.place marked (record { list = zs; path = path.1 })) in
-        record { list = z ∷ rest.list; path = (record { listed = subst P (sym (rows.each x within)) listed; place = path.0.place }, rest.path) }
+        let rest = path_down z zs path.0.index path.1 in
+        let listed = kept_inside (λ y. is_some (source_of sources y)) (row above x) z path.0.listed (has_source z q path.0.index marked (record { list = zs; path = path.1 })) in
+        record { list = z ∷ rest.list; path = (record { listed = subst P (sym (rows.each x within)) listed; index = path.0.index }, rest.path) }
 
   -- an answer by the rows that are kept is one by all rows
   pub kept_answers : (there : List Bool) (id : List ℕ) (found : Option (List (List ℕ))) → IsAnswer ids kept there marks id found → IsAnswer ids above there marks id found
@@ -96,7 +96,7 @@ module _ (ids above below kept : List (List ℕ)) (marks : List Bool) (sources :
   kept_answers there id (Some list) answer = record {
     none = tt;
     some = record {
-      place = answer.some.place;
+      index = answer.some.index;
       at = answer.some.at;
       absent = answer.some.absent;
       ascend = answer.some.ascend;
@@ -106,14 +106,14 @@ module _ (ids above below kept : List (List ℕ)) (marks : List Bool) (sources :
           within = own.within;
           is = own.is;
           marked = own.marked;
-          leads = keeps_up answer.some.place own.own answer.some.at.within own.leads;
+          leads = keeps_up answer.some.index own.own answer.some.at.within own.leads;
         }),
         λ own. (answer.some.each giver).1 (record {
           own = own.own;
           within = own.within;
           is = own.is;
           marked = own.marked;
-          leads = keeps_down answer.some.place own.own answer.some.at.within own.marked own.leads;
+          leads = keeps_down answer.some.index own.own answer.some.at.within own.marked own.leads;
         }),
       );
     };
@@ -126,17 +126,17 @@ pub answer_is : (content : Content) (rows : List ZoneRow) (asked ids above : Lis
 answer_is content rows asked ids above there candidates is id None inside answer =
     let at = inside_at ids id (is.members id inside) in
     let T : List ℕ → Type 0 = λ x. is_there content rows x ≡ true in
-    let here : is_there content rows id ≡ true = subst T at.is (sym (is.there_are at.place at.within) ∙ answer.none at.place (record { within = at.within; is = at.is })) in
+    let here : is_there content rows id ≡ true = subst T at.is (sym (is.there_are at.index at.within) ∙ answer.none at.index (record { within = at.within; is = at.is })) in
     rw here refl
 answer_is content rows asked ids above there candidates is id (Some list) inside answer =
     let some = answer.some in
     let T : List ℕ → Type 0 = λ x. is_there content rows x ≡ false in
     let A : List ℕ → Type 0 = λ x. Contains asked x in
-    let absent : is_there content rows id ≡ false = subst T some.at.is (sym (is.there_are some.place some.at.within) ∙ some.absent) in
-    let asked_here : Contains asked (id_at ids some.place) = subst A (sym some.at.is) inside in
+    let absent : is_there content rows id ≡ false = subst T some.at.is (sym (is.there_are some.index some.at.within) ∙ some.absent) in
+    let asked_here : Contains asked (id_at ids some.index) = subst A (sym some.at.is) inside in
     let R : List ℕ → Type 0 = λ x. Some list ≡ Some (filter (λ giver. is_candidate content rows giver) (givers_of content x)) in
-    let found = candidates_found content is.ordered ids above is.are rows candidates some.place list some.at.within some.ascend some.each
-    (λ q leads. is.candidates_are some.place q some.at.within asked_here some.absent leads) in
+    let found = candidates_found content is.ordered ids above is.are rows candidates some.index list some.at.within some.ascend some.each
+    (λ q leads. is.candidates_are some.index q some.at.within asked_here some.absent leads) in
     rw absent (subst R some.at.is (ap Some found))
 
 -- one answer more
@@ -146,15 +146,15 @@ answers_more {X} {Y} g f asked i id old new x below at was now is =
     made_more f asked i id (g x) (map g old) (map g new) below at was (ap (map g) now ∙ map-append g old (x ∷ [])) is
 
 -- an answer from where an id stands
-pub answer_from : (ids above : List (List ℕ)) (there candidates : List Bool) (id : List ℕ) (place : Option ℕ) (found : Option (List (List ℕ)))
-    → IfSome place (IsAt ids id) → IfSome place (λ p. mark_of there p ≡ false) → IfNone place ((p : ℕ) → IsAt ids id p → mark_of there p ≡ true)
-    → AreFrom ids above candidates place found → IsAnswer ids above there candidates id found
+pub answer_from : (ids above : List (List ℕ)) (there candidates : List Bool) (id : List ℕ) (index : Option ℕ) (found : Option (List (List ℕ)))
+    → IfSome index (IsAt ids id) → IfSome index (λ p. mark_of there p ≡ false) → IfNone index ((p : ℕ) → IsAt ids id p → mark_of there p ≡ true)
+    → AreFrom ids above candidates index found → IsAnswer ids above there candidates id found
 answer_from ids above there candidates id None None at absent none are = record { none = none; some = tt }
 answer_from ids above there candidates id None (Some list) at absent none are = absurd are
-answer_from ids above there candidates id (Some place) None at absent none are = absurd are
-answer_from ids above there candidates id (Some place) (Some list) at absent none are = record {
+answer_from ids above there candidates id (Some index) None at absent none are = absurd are
+answer_from ids above there candidates id (Some index) (Some list) at absent none are = record {
   none = tt;
-  some = record { place = place; at = at; absent = absent; ascend = are.0; each = are.1 };
+  some = record { index = index; at = at; absent = absent; ascend = are.0; each = are.1 };
 }
 
 -- ---- marks of the ids that aren't there
@@ -177,15 +177,15 @@ module _ (ids asked : List (List ℕ)) (there : List Bool) (i : ℕ) (id : List 
   ]
 
   -- one that isn't
-  pub marks_put : (marks : List Bool) (place : ℕ) → length marks ≡ length ids → IsAt ids id place → AreMarked ids (take i asked) there marks → AreMarked ids (take (i + 1) asked) there (set marks place true)
-  marks_put marks place as_many stands were p within inside absent = elim (cases_eq p place) [
+  pub marks_put : (marks : List Bool) (index : ℕ) → length marks ≡ length ids → IsAt ids id index → AreMarked ids (take i asked) there marks → AreMarked ids (take (i + 1) asked) there (set marks index true)
+  marks_put marks index as_many stands were p within inside absent = elim (cases_eq p index) [
     | inl same ↦
-        let M : ℕ → Type 0 = λ k. mark_of (set marks place true) k ≡ true in
+        let M : ℕ → Type 0 = λ k. mark_of (set marks index true) k ≡ true in
         let own = stands.within in
-        subst M (sym same) (get_or-set_same marks place true false (omega (arith, own, as_many)))
-    | inr other ↦ get_or-set_other marks place p true false other ∙ elim (here_or_before p inside) [
+        subst M (sym same) (get_or-set_same marks index true false (omega (arith, own, as_many)))
+    | inr other ↦ get_or-set_other marks index p true false other ∙ elim (here_or_before p inside) [
       | inl before ↦ were p within before absent
-      | inr same ↦ absurd (other (place_is ids id p place up (record { within = within; is = sym same }) stands))
+      | inr same ↦ absurd (other (index_is ids id p index up (record { within = within; is = sym same }) stands))
     ]
   ]
 
@@ -206,7 +206,7 @@ found_is content rows asked ids above below there absent candidates wanted order
   members = members;
   there_are = marks_there content ordered ids above are rows below turned there there_are;
   candidates_are = λ p q within inside off leads.
-      candidates_are.each q (leads_closed (λ k. k < length ids) (λ u v here link. link.place) within leads) (sourced p q within inside off leads (source_of wanted q) refl);
+      candidates_are.each q (leads_closed (λ k. k < length ids) (λ u v here link. link.index) within leads) (sourced p q within inside off leads (source_of wanted q) refl);
 } where
   sourced : (p q : ℕ) → p < length ids → Contains asked (id_at ids p) → mark_of there p ≡ false → Leads (Links above (length ids)) p q → (o : Option ℕ) → source_of wanted q ≡ o → HasSource wanted q
   sourced p q within inside off leads (Some s) is = record { source = s; is = is }

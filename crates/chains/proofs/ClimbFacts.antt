@@ -1,4 +1,4 @@
--- What supersedes some ids, directly or through others, as it is read and by places.
+-- What supersedes some ids, directly or through others, as it is read and by index.
 use Rattle.std.proofs.Common.{◌≡◌, ◌∙◌, ℕ, ◌+◌, ◌<◌, ◌≤◌, List, [], ◌++◌, length, map, take, get_or, sym, ap, subst, inl, inr}
 use Rattle.std.specs.BTreeMap.{insert_entry}
 use Rattle.std.specs.List.{Contains}
@@ -7,9 +7,9 @@ use Rattle.std.proofs.lemmas.List.Elements.{Contains-append_left, Contains-appen
 use Rattle.catalogue.specs.Content.{Content, superseders}
 use Rattle.catalogue.specs.Ids.{id_cmp}
 use Rattle.chains.specs.Climbs.{AreAbove, AreListed}
-use Rattle.chains.specs.FramePlaces.{ArePlaced, list_at}
-use Rattle.chains.specs.Places.{ArePlacesOf}
-use Rattle.chains.proofs.PlaceFacts.{get_any}
+use Rattle.chains.specs.FrameIndices.{AreIndexed, list_at}
+use Rattle.chains.specs.Indices.{AreIndicesOf}
+use Rattle.chains.proofs.IndexFacts.{get_any}
 use Rattle.chains.proofs.SearchFacts.{map_inside, none_inside}
 use Rattle.chains.proofs.WalkFacts.{all_asked, asked_reads, key_put, keys_stay, says_more, values_now}
 
@@ -49,18 +49,18 @@ listed_ends ids order at lists whole asked are = record { listed = λ list id in
 pub starts_stay : (starts order order' more : List (List ℕ)) → order' ≡ order ++ more → ((y : List ℕ) → Contains starts y → Contains order y) → (y : List ℕ) → Contains starts y → Contains order' y
 starts_stay starts order order' more now begun y inside = let P : List (List ℕ) → Type 0 = λ l. Contains l y in subst P (sym now) (Contains-append_left order more y (begun y inside))
 
--- the places of what is listed at a place
-pub listed_here : (lists : List (List (List ℕ))) (place : ℕ) (list ids seen : List (List ℕ)) (places : List ℕ) → place < length lists → list ≡ get_or lists place list → seen ≡ list
-    → ArePlacesOf ids seen places → ArePlacesOf ids (list_at lists place) places
-listed_here lists place list ids seen places below at is are =
-    let P : List (List ℕ) → Type 0 = λ l. ArePlacesOf ids l places in
-    subst P (is ∙ at ∙ get_any lists place list [] below) are
+-- the indices of what is listed at an index
+pub listed_here : (lists : List (List (List ℕ))) (index : ℕ) (list ids seen : List (List ℕ)) (indices : List ℕ) → index < length lists → list ≡ get_or lists index list → seen ≡ list
+    → AreIndicesOf ids seen indices → AreIndicesOf ids (list_at lists index) indices
+listed_here lists index list ids seen indices below at is are =
+    let P : List (List ℕ) → Type 0 = λ l. AreIndicesOf ids l indices in
+    subst P (is ∙ at ∙ get_any lists index list [] below) are
 
 -- what was read is what supersedes each of the ids directly
-pub are_above : (content : Content) (ids keys : List (List ℕ)) (lists : List (List (List ℕ))) (above : List (List ℕ)) → ids ≡ keys → lists ≡ map (superseders content) keys → AreListed lists keys → ArePlaced ids lists above
+pub are_above : (content : Content) (ids keys : List (List ℕ)) (lists : List (List (List ℕ))) (above : List (List ℕ)) → ids ≡ keys → lists ≡ map (superseders content) keys → AreListed lists keys → AreIndexed ids lists above
     → AreAbove content ids above
-are_above content ids keys lists above same says listed placed = record {
-  placed = (let P : List (List (List ℕ)) → Type 0 = λ l. ArePlaced ids l above in subst P (says ∙ ap (map (superseders content)) (sym same)) placed);
+are_above content ids keys lists above same says listed indexed = record {
+  indexed = (let P : List (List (List ℕ)) → Type 0 = λ l. AreIndexed ids l above in subst P (says ∙ ap (map (superseders content)) (sym same)) indexed);
   whole = λ id other inside names.
       let I : List (List ℕ) → Type 0 = λ l. Contains l id in
       let O : List (List ℕ) → Type 0 = λ l. Contains l other in

@@ -7,28 +7,28 @@ use Rattle.catalogue.specs.Ids.{same_id}
 use Rattle.catalogue.proofs.IdFacts.{itself, one_id}
 use Rattle.requisites.specs.Leads.{IsPath}
 use Rattle.requisites.specs.World.{IsChosen, IsChosenPlan, IsGivenIn, IsGood, IsGoodGiver, IsHeldFor, IsPick, PicksFor, World}
-use Rattle.chains.specs.Cuts.{IsCut, PlaceOf, id_at}
+use Rattle.chains.specs.Cuts.{IndexOf, IsCut, id_at}
 use Rattle.chains.proofs.SearchFacts.{IsImage, any_at, any_from, kept_from, kept_inside, map_from, map_inside, none_inside}
 
--- the places below n
-places_below : ℕ → List ℕ
-places_below zero = []
-places_below (suc n) = places_below n ++ n ∷ []
+-- the indices below n
+indices_below : ℕ → List ℕ
+indices_below zero = []
+indices_below (suc n) = indices_below n ++ n ∷ []
 
-below_from : (n q : ℕ) → Contains (places_below n) q → q < n
-unfolding places_below
+below_from : (n q : ℕ) → Contains (indices_below n) q → q < n
+unfolding indices_below
 below_from zero q inside = absurd (none_inside q inside)
-below_from (suc n) q inside = elim (Contains-push_cases (places_below n) n q inside) [
+below_from (suc n) q inside = elim (Contains-push_cases (indices_below n) n q inside) [
   | inl before ↦ (let below = below_from n q before in omega (arith, below))
   | inr same ↦ omega (arith, same)
 ]
 
-below_inside : (n q : ℕ) → q < n → Contains (places_below n) q
-unfolding places_below
+below_inside : (n q : ℕ) → q < n → Contains (indices_below n) q
+unfolding indices_below
 below_inside zero q below = absurd (omega (arith, below))
 below_inside (suc n) q below = elim (cases_lt q n) [
-  | inl less ↦ Contains-append_left (places_below n) (n ∷ []) q (below_inside n q less)
-  | inr from ↦ (let same : q ≡ n = omega (arith, below, from) in let P : ℕ → Type 0 = λ x. Contains (places_below n ++ n ∷ []) x in subst P (sym same) (Contains-push (places_below n) n))
+  | inl less ↦ Contains-append_left (indices_below n) (n ∷ []) q (below_inside n q less)
+  | inr from ↦ (let same : q ≡ n = omega (arith, below, from) in let P : ℕ → Type 0 = λ x. Contains (indices_below n ++ n ∷ []) x in subst P (sym same) (Contains-push (indices_below n) n))
 ]
 
 module _ (W : World (List ℕ)) (members : List (List ℕ)) (V : World ℕ) (cut : IsCut W members V) where
@@ -53,42 +53,42 @@ module _ (W : World (List ℕ)) (members : List (List ℕ)) (V : World ℕ) (cut
     met image r needs =
         let here = good.plan.candidates image.from image.member in
         let N : List ℕ → Type 0 = λ x. W.Needs x r in
-        let placed = cut.all_needs image.from r here (subst N (sym image.is) needs) in
+        let indexed = cut.all_needs image.from r here (subst N (sym image.is) needs) in
         let T : List ℕ → Type 0 = λ x. W.There x in
-        elim (good.plan.needs_met image.from placed.at.place image.member placed.needs) [
-          | inl there ↦ inl (subst T placed.at.is ((cut.there placed.at.place placed.at.within).0 there))
+        elim (good.plan.needs_met image.from indexed.at.index image.member indexed.needs) [
+          | inl there ↦ inl (subst T indexed.at.is ((cut.there indexed.at.index indexed.at.within).0 there))
           | inr given ↦ (let G : List ℕ → Type 0 = λ x. W.Gives (id_at members given.giver) x in inr (record {
             giver = id_at members given.giver;
             member = map_inside (id_at members) good.members given.giver given.member;
-            gives = subst G placed.at.is ((cut.gives given.giver placed.at.place (good.plan.candidates given.giver given.member) placed.at.within).0 given.gives);
+            gives = subst G indexed.at.is ((cut.gives given.giver indexed.at.index (good.plan.candidates given.giver given.member) indexed.at.within).0 given.gives);
           }))
         ]
 
   pub good_down : (p : ℕ) → p < length members → IsGood W (id_at members p) → IsGood V p
   good_down p within good = record {
-    members = filter (λ q. list_any (same_id (id_at members q)) good.members) (places_below (length members));
+    members = filter (λ q. list_any (same_id (id_at members q)) good.members) (indices_below (length members));
     plan = record {
       candidates = λ q inside. candidate q inside;
       needs_met = λ q r inside needs. met q r inside needs;
     };
     member = inside_from p within good.member;
   } where
-    is_in : (q : ℕ) → Contains (filter (λ q. list_any (same_id (id_at members q)) good.members) (places_below (length members))) q → (q < length members) × Contains good.members (id_at members q)
+    is_in : (q : ℕ) → Contains (filter (λ q. list_any (same_id (id_at members q)) good.members) (indices_below (length members))) q → (q < length members) × Contains good.members (id_at members q)
     is_in q inside =
-        let k = kept_from (λ (q : ℕ). list_any (same_id (id_at members q)) good.members) (places_below (length members)) q inside in
+        let k = kept_from (λ (q : ℕ). list_any (same_id (id_at members q)) good.members) (indices_below (length members)) q inside in
         let found = any_from (same_id (id_at members q)) good.members k.passes in
         let P : List ℕ → Type 0 = λ x. Contains good.members x in
         (below_from (length members) q k.member, subst P (sym (one_id (id_at members q) found.element found.passes)) found.member)
 
-    inside_from : (q : ℕ) → q < length members → Contains good.members (id_at members q) → Contains (filter (λ q. list_any (same_id (id_at members q)) good.members) (places_below (length members))) q
+    inside_from : (q : ℕ) → q < length members → Contains good.members (id_at members q) → Contains (filter (λ q. list_any (same_id (id_at members q)) good.members) (indices_below (length members))) q
     inside_from q below member =
-        kept_inside (λ (q : ℕ). list_any (same_id (id_at members q)) good.members) (places_below (length members)) q (below_inside (length members) q below)
+        kept_inside (λ (q : ℕ). list_any (same_id (id_at members q)) good.members) (indices_below (length members)) q (below_inside (length members) q below)
         (any_at (same_id (id_at members q)) good.members (id_at members q) member (itself (id_at members q)))
 
-    candidate : (q : ℕ) → Contains (filter (λ q. list_any (same_id (id_at members q)) good.members) (places_below (length members))) q → V.Candidate q
+    candidate : (q : ℕ) → Contains (filter (λ q. list_any (same_id (id_at members q)) good.members) (indices_below (length members))) q → V.Candidate q
     candidate q inside = let found = is_in q inside in (cut.candidates q found.0).1 (good.plan.candidates (id_at members q) found.1)
 
-    met : (q r : ℕ) → Contains (filter (λ q. list_any (same_id (id_at members q)) good.members) (places_below (length members))) q → V.Needs q r → V.There r ⊎ IsGivenIn V (filter (λ q. list_any (same_id (id_at members q)) good.members) (places_below (length members))) r
+    met : (q r : ℕ) → Contains (filter (λ q. list_any (same_id (id_at members q)) good.members) (indices_below (length members))) q → V.Needs q r → V.There r ⊎ IsGivenIn V (filter (λ q. list_any (same_id (id_at members q)) good.members) (indices_below (length members))) r
     met q r inside needs =
         let here = candidate q inside in
         let below = cut.needs_within q r here needs in
@@ -100,11 +100,11 @@ module _ (W : World (List ℕ)) (members : List (List ℕ)) (V : World ℕ) (cut
               let M : List ℕ → Type 0 = λ x. Contains good.members x in
               let G : List ℕ → Type 0 = λ x. W.Gives x (id_at members r) in
               let C : List ℕ → Type 0 = λ x. W.Candidate x in
-              let placed = (cut.candidates at.place at.within).1 (subst C (sym at.is) z) in
+              let indexed = (cut.candidates at.index at.within).1 (subst C (sym at.is) z) in
               inr (record {
-                giver = at.place;
-                member = inside_from at.place at.within (subst M (sym at.is) given.member);
-                gives = (cut.gives at.place r placed below).1 (subst G (sym at.is) given.gives);
+                giver = at.index;
+                member = inside_from at.index at.within (subst M (sym at.is) given.member);
+                gives = (cut.gives at.index r indexed below).1 (subst G (sym at.is) given.gives);
               }))
         ]
 
@@ -116,12 +116,12 @@ module _ (W : World (List ℕ)) (members : List (List ℕ)) (V : World ℕ) (cut
     gives = (cut.gives p q (giver.good.plan.candidates p giver.good.member) below).0 giver.gives;
   }
 
-  -- the place of a good id that gives what stands at a place
-  record GiverPlace (q : ℕ) (giver : List ℕ) : Type 0 where
-    at : PlaceOf members giver
-    gives : IsGoodGiver V q at.place
+  -- the index of a good id that gives what stands at an index
+  record GiverIndex (q : ℕ) (giver : List ℕ) : Type 0 where
+    at : IndexOf members giver
+    gives : IsGoodGiver V q at.index
 
-  giver_down : (q : ℕ) (z : List ℕ) → q < length members → IsGoodGiver W (id_at members q) z → GiverPlace q z
+  giver_down : (q : ℕ) (z : List ℕ) → q < length members → IsGoodGiver W (id_at members q) z → GiverIndex q z
   giver_down q z below giver =
       let candidate = giver.good.plan.candidates z giver.good.member in
       let at = cut.givers z q below candidate giver.gives in
@@ -131,8 +131,8 @@ module _ (W : World (List ℕ)) (members : List (List ℕ)) (V : World ℕ) (cut
       record {
         at = at;
         gives = record {
-          good = good_down at.place at.within (subst Q (sym at.is) giver.good);
-          gives = (cut.gives at.place q ((cut.candidates at.place at.within).1 (subst C (sym at.is) candidate)) below).1 (subst G (sym at.is) giver.gives);
+          good = good_down at.index at.within (subst Q (sym at.is) giver.good);
+          gives = (cut.gives at.index q ((cut.candidates at.index at.within).1 (subst C (sym at.is) candidate)) below).1 (subst G (sym at.is) giver.gives);
         };
       }
 
@@ -153,20 +153,20 @@ module _ (W : World (List ℕ)) (members : List (List ℕ)) (V : World ℕ) (cut
             let down = giver_down q y below giver in
             let A : List ℕ → Type 0 = λ x. W.AtMost (id_at members z) x in
             let candidate = least.1.holds.good.plan.candidates z least.1.holds.good.member in
-            subst A down.at.is ((cut.order z down.at.place (cut.within z candidate) down.at.within).0 (least.1.least down.at.place down.gives)));
+            subst A down.at.is ((cut.order z down.at.index (cut.within z candidate) down.at.within).0 (least.1.least down.at.index down.gives)));
       },
     )
   ]
 
-  -- the place of a pick
-  record PickPlace (q : ℕ) (pick : List ℕ) : Type 0 where
-    at : PlaceOf members pick
-    picks : IsPick V q at.place
+  -- the index of a pick
+  record PickIndex (q : ℕ) (pick : List ℕ) : Type 0 where
+    at : IndexOf members pick
+    picks : IsPick V q at.index
 
-  pick_down : (q : ℕ) (z : List ℕ) → q < length members → IsPick W (id_at members q) z → PickPlace q z
+  pick_down : (q : ℕ) (z : List ℕ) → q < length members → IsPick W (id_at members q) z → PickIndex q z
   pick_down q z below pick = elim pick [
     | inl same ↦ record {
-      at = record { place = q; within = below; is = sym same.1 };
+      at = record { index = q; within = below; is = sym same.1 };
       picks = inl (good_down q below same.0, refl);
     }
     | inr least ↦ (
@@ -180,7 +180,7 @@ module _ (W : World (List ℕ)) (members : List (List ℕ)) (V : World ℕ) (cut
               least = λ p giver. (
                   let candidate = giver.good.plan.candidates p giver.good.member in
                   let A : List ℕ → Type 0 = λ x. W.AtMost x (id_at members p) in
-                  (cut.order down.at.place p down.at.within (cut.within p candidate)).1 (subst A (sym down.at.is) (least.1.least (id_at members p) (giver_up p q below giver))));
+                  (cut.order down.at.index p down.at.within (cut.within p candidate)).1 (subst A (sym down.at.is) (least.1.least (id_at members p) (giver_up p q below giver))));
             },
           );
         })
@@ -196,28 +196,28 @@ module _ (W : World (List ℕ)) (members : List (List ℕ)) (V : World ℕ) (cut
         pick = pick_up step.need z below step.pick;
       }
 
-  -- the place of what is picked for p
-  record StepPlace (p : ℕ) (pick : List ℕ) : Type 0 where
-    at : PlaceOf members pick
-    step : PicksFor V p at.place
-    candidate : V.Candidate at.place
+  -- the index of what is picked for p
+  record StepIndex (p : ℕ) (pick : List ℕ) : Type 0 where
+    at : IndexOf members pick
+    step : PicksFor V p at.index
+    candidate : V.Candidate at.index
 
-  step_down : (p : ℕ) (z : List ℕ) → V.Candidate p → PicksFor W (id_at members p) z → StepPlace p z
+  step_down : (p : ℕ) (z : List ℕ) → V.Candidate p → PicksFor W (id_at members p) z → StepIndex p z
   step_down p z candidate step =
-      let placed = cut.all_needs p step.need candidate step.needs in
+      let indexed = cut.all_needs p step.need candidate step.needs in
       let K : List ℕ → Type 0 = λ x. IsPick W x z in
       let T : List ℕ → Type 0 = λ x. W.There x in
-      let pick = pick_down placed.at.place z placed.at.within (subst K (sym placed.at.is) step.pick) in
-      let good = pick_is_good placed.at.place pick.at.place pick.picks in
+      let pick = pick_down indexed.at.index z indexed.at.within (subst K (sym indexed.at.is) step.pick) in
+      let good = pick_is_good indexed.at.index pick.at.index pick.picks in
       record {
         at = pick.at;
         step = record {
-          need = placed.at.place;
-          needs = placed.needs;
-          absent = λ there. step.absent (subst T placed.at.is ((cut.there placed.at.place placed.at.within).0 there));
+          need = indexed.at.index;
+          needs = indexed.needs;
+          absent = λ there. step.absent (subst T indexed.at.is ((cut.there indexed.at.index indexed.at.within).0 there));
           pick = pick.picks;
         };
-        candidate = good.plan.candidates pick.at.place good.member;
+        candidate = good.plan.candidates pick.at.index good.member;
       }
 
   picked_candidate : (p z : ℕ) → PicksFor V p z → V.Candidate z
@@ -229,19 +229,19 @@ module _ (W : World (List ℕ)) (members : List (List ℕ)) (V : World ℕ) (cut
   path_up p candidate [] y same = ap (id_at members) same
   path_up p candidate (z ∷ zs) y path = (step_up p z candidate path.0, path_up z (picked_candidate p z path.0) zs y path.1)
 
-  -- the place to which picks lead
-  record ChosenPlace (p : ℕ) (id : List ℕ) : Type 0 where
-    place : ℕ
-    is : id_at members place ≡ id
-    leads : IsChosen V p place
+  -- the index to which picks lead
+  record ChosenIndex (p : ℕ) (id : List ℕ) : Type 0 where
+    index : ℕ
+    is : id_at members index ≡ id
+    leads : IsChosen V p index
 
-  path_down : (p : ℕ) → V.Candidate p → (list : List (List ℕ)) (y : List ℕ) → IsPath (PicksFor W) (id_at members p) list y → ChosenPlace p y
-  path_down p candidate [] y same = record { place = p; is = same; leads = record { list = []; path = refl } }
+  path_down : (p : ℕ) → V.Candidate p → (list : List (List ℕ)) (y : List ℕ) → IsPath (PicksFor W) (id_at members p) list y → ChosenIndex p y
+  path_down p candidate [] y same = record { index = p; is = same; leads = record { list = []; path = refl } }
   path_down p candidate (z ∷ zs) y path =
       let step = step_down p z candidate path.0 in
       let P : List ℕ → Type 0 = λ x. IsPath (PicksFor W) x zs y in
-      let later = path_down step.at.place step.candidate zs y (subst P (sym step.at.is) path.1) in
-      record { place = later.place; is = later.is; leads = record { list = step.at.place ∷ later.leads.list; path = (step.step, later.leads.path) } }
+      let later = path_down step.at.index step.candidate zs y (subst P (sym step.at.is) path.1) in
+      record { index = later.index; is = later.is; leads = record { list = step.at.index ∷ later.leads.list; path = (step.step, later.leads.path) } }
 
   pub chosen_up : (p : ℕ) (plan : List ℕ) → IsChosenPlan V p plan → IsChosenPlan W (id_at members p) (map (id_at members) plan)
   chosen_up p plan chosen = record {
@@ -254,7 +254,7 @@ module _ (W : World (List ℕ)) (members : List (List ℕ)) (V : World ℕ) (cut
     whole = λ y leads. (
         let down = path_down p candidate leads.list y leads.path in
         let M : List ℕ → Type 0 = λ x. Contains (map (id_at members) plan) x in
-        subst M down.is (map_inside (id_at members) plan down.place (chosen.whole down.place down.leads)));
+        subst M down.is (map_inside (id_at members) plan down.index (chosen.whole down.index down.leads)));
   } where
     candidate : V.Candidate p
     candidate = chosen.good.plan.candidates p chosen.good.member
@@ -269,20 +269,20 @@ module _ (W : World (List ℕ)) (members : List (List ℕ)) (V : World ℕ) (cut
       holds = record {
         needs = cut.needs p r held.candidate held.blocked.holds.needs;
         absent = λ there. held.blocked.holds.absent ((cut.there r below).1 there);
-        ungiven = λ z giver. (let down = giver_down r z below giver in held.blocked.holds.ungiven down.at.place down.gives);
+        ungiven = λ z giver. (let down = giver_down r z below giver in held.blocked.holds.ungiven down.at.index down.gives);
       };
       least = λ y unmet. (
-          let placed = cut.all_needs p y held.candidate unmet.needs in
+          let indexed = cut.all_needs p y held.candidate unmet.needs in
           let T : List ℕ → Type 0 = λ x. W.There x in
           let G : List ℕ → Type 0 = λ x. (z : List ℕ) → IsGoodGiver W x z → ⊥ in
-          let none = subst G (sym placed.at.is) unmet.ungiven in
-          let least = held.blocked.least placed.at.place (record {
-            needs = placed.needs;
-            absent = λ there. unmet.absent (subst T placed.at.is ((cut.there placed.at.place placed.at.within).0 there));
-            ungiven = λ z giver. none (id_at members z) (giver_up z placed.at.place placed.at.within giver);
+          let none = subst G (sym indexed.at.is) unmet.ungiven in
+          let least = held.blocked.least indexed.at.index (record {
+            needs = indexed.needs;
+            absent = λ there. unmet.absent (subst T indexed.at.is ((cut.there indexed.at.index indexed.at.within).0 there));
+            ungiven = λ z giver. none (id_at members z) (giver_up z indexed.at.index indexed.at.within giver);
           }) in
           let A : List ℕ → Type 0 = λ x. W.AtMost (id_at members r) x in
-          subst A placed.at.is ((cut.order r placed.at.place below placed.at.within).0 least));
+          subst A indexed.at.is ((cut.order r indexed.at.index below indexed.at.within).0 least));
     };
   } where
     below : r < length members

@@ -20,7 +20,7 @@ use Rattle.chains.specs.Frames as frames
 use Rattle.chains.specs.Frames.{AreApart, FrameLists, FramesStay, IsFrame, StepsTo, node_of, shares}
 use Rattle.chains.specs.declared.frames.FrameNode.{FrameNode}
 use Rattle.chains.proofs.OrderFacts.{ascending_same}
-use Rattle.chains.proofs.PlaceFacts.{at_inside}
+use Rattle.chains.proofs.IndexFacts.{at_inside}
 use Rattle.chains.proofs.SearchFacts.{any_at, first_inside, inside_cases, kept_from, kept_inside, map_from, none_inside, rest_inside}
 use Rattle.chains.proofs.WayFacts.{listed_record}
 

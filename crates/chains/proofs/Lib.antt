@@ -6,10 +6,10 @@ pub mod OrderFacts
 pub mod VerdictFacts
 pub mod SightFacts
 pub mod ConditionalFacts
-pub mod PlaceFacts
+pub mod IndexFacts
 pub mod WayFacts
 pub mod MadeCutFacts
-pub mod PlaceVerdictFacts
+pub mod NodeVerdictFacts
 pub mod FrameFacts
 pub mod PartFacts
 pub mod PlanFacts

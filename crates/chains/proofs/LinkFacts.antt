@@ -1,4 +1,4 @@
--- What gives what among what was gathered, by places.
+-- What gives what among what was gathered, by index.
 use Rattle.std.proofs.Common.{◌≡◌, ◌∙◌, ◌<◌, ℕ, List, [], ◌∷◌, length, map, get_or, sym, ap, subst}
 use Rattle.std.specs.Prelude.{◌↔◌}
 use Rattle.std.specs.List.{AllByRecursion, Contains, filter}
@@ -11,21 +11,21 @@ use Rattle.catalogue.specs.Ids.{Ascend, id_cmp}
 use Rattle.requisites.specs.Leads.{Leads}
 use Rattle.requisites.proofs.LeadsFacts.{leads_closed}
 use Rattle.chains.specs.Cuts.{id_at}
-use Rattle.chains.specs.FramePlaces.{ArePlaced, IsAbove, IsGiverAt, is_catalogued_at, list_at}
-use Rattle.chains.specs.Places.{ArePlacesOf}
+use Rattle.chains.specs.FrameIndices.{AreIndexed, IsAbove, IsGiverAt, is_catalogued_at, list_at}
+use Rattle.chains.specs.Indices.{AreIndicesOf}
 use Rattle.chains.specs.declared.gathered.Gathered.{Gathered}
 use Rattle.chains.proofs.PartFacts.{at_map}
-use Rattle.chains.proofs.PlaceFacts.{below_at}
+use Rattle.chains.proofs.IndexFacts.{below_at}
 use Rattle.chains.proofs.SearchFacts.{first_inside, kept_from, kept_inside, map_from, map_inside, rest_inside}
 
--- the places of what was read of the id at a place
-pub placed_here : (f : Gathered → List (List ℕ)) (all : List Gathered) (place : ℕ) (g : Gathered) (ids list : List (List ℕ)) (places : List ℕ) → place < length all → g ≡ get_or all place g → list ≡ f g
-    → ArePlacesOf ids list places → ArePlacesOf ids (list_at (map f all) place) places
-placed_here f all place g ids list places below at is are =
-    let P : List (List ℕ) → Type 0 = λ l. ArePlacesOf ids l places in
-    subst P (is ∙ ap f at ∙ sym (at_map f all place g [] below)) are
+-- the indices of what was read of the id at an index
+pub indexed_here : (f : Gathered → List (List ℕ)) (all : List Gathered) (index : ℕ) (g : Gathered) (ids list : List (List ℕ)) (indices : List ℕ) → index < length all → g ≡ get_or all index g → list ≡ f g
+    → AreIndicesOf ids list indices → AreIndicesOf ids (list_at (map f all) index) indices
+indexed_here f all index g ids list indices below at is are =
+    let P : List (List ℕ) → Type 0 = λ l. AreIndicesOf ids l indices in
+    subst P (is ∙ ap f at ∙ sym (at_map f all index g [] below)) are
 
--- ---- ids at ascending places ascend
+-- ---- ids at ascending indices ascend
 
 below_all : (ids : List (List ℕ)) (q : ℕ) (qs : List ℕ) → Ascend ids → AllByRecursion (λ y. nat_cmp q y ≡ Less) qs → ((p : ℕ) → Contains qs p → p < length ids) → AllByRecursion (λ y. id_cmp (id_at ids q) y ≡ Less) (map (id_at ids) qs)
 below_all ids q [] ascend above within = tt
@@ -34,7 +34,7 @@ below_all ids q (y ∷ ys) ascend above within = (
   below_all ids q ys ascend above.1 (λ p inside. within p (rest_inside y p ys inside)),
 )
 
-ids_up : (ids : List (List ℕ)) (places : List ℕ) → Ascend ids → IsStrictlySortedBy nat_cmp places → ((p : ℕ) → Contains places p → p < length ids) → Ascend (map (id_at ids) places)
+ids_up : (ids : List (List ℕ)) (indices : List ℕ) → Ascend ids → IsStrictlySortedBy nat_cmp indices → ((p : ℕ) → Contains indices p → p < length ids) → Ascend (map (id_at ids) indices)
 unfolding IsStrictlySortedBy
 ids_up ids [] ascend sorted within = tt
 ids_up ids (q ∷ qs) ascend sorted within = (
@@ -44,29 +44,29 @@ ids_up ids (q ∷ qs) ascend sorted within = (
 
 -- ---- givers
 
-module _ (ids : List (List ℕ)) (all : List Gathered) (above : List (List ℕ)) (place : ℕ) (ascend : Ascend ids) (within : place < length ids) (placed : ArePlaced ids (map (λ g. g.above) all) above)
-    (places : List ℕ) (sorted : IsStrictlySortedBy nat_cmp places) (each : (q : ℕ) → Contains places q ↔ Leads (IsAbove above) place q) where
-  chosen_within : (q : ℕ) → Contains (filter (is_catalogued_at all) places) q → q < length ids
+module _ (ids : List (List ℕ)) (all : List Gathered) (above : List (List ℕ)) (index : ℕ) (ascend : Ascend ids) (within : index < length ids) (indexed : AreIndexed ids (map (λ g. g.above) all) above)
+    (indices : List ℕ) (sorted : IsStrictlySortedBy nat_cmp indices) (each : (q : ℕ) → Contains indices q ↔ Leads (IsAbove above) index q) where
+  chosen_within : (q : ℕ) → Contains (filter (is_catalogued_at all) indices) q → q < length ids
   chosen_within q inside =
-      leads_closed (λ p. p < length ids) (λ p r here step. (placed.each p here).within r step) within ((each q).0 (kept_from (is_catalogued_at all) places q inside).member)
+      leads_closed (λ p. p < length ids) (λ p r here step. (indexed.each p here).within r step) within ((each q).0 (kept_from (is_catalogued_at all) indices q inside).member)
 
-  pub places_inside : (q : ℕ) (list : List ℕ) → list ≡ filter (is_catalogued_at all) places → Contains list q → q < length ids
-  places_inside q list are inside = let P : List ℕ → Type 0 = λ l. Contains l q in chosen_within q (subst P are inside)
+  pub indices_inside : (q : ℕ) (list : List ℕ) → list ≡ filter (is_catalogued_at all) indices → Contains list q → q < length ids
+  indices_inside q list are inside = let P : List ℕ → Type 0 = λ l. Contains l q in chosen_within q (subst P are inside)
 
-  pub givers_up : (givers : List (List ℕ)) → givers ≡ map (id_at ids) (filter (is_catalogued_at all) places) → Ascend givers
+  pub givers_up : (givers : List (List ℕ)) → givers ≡ map (id_at ids) (filter (is_catalogued_at all) indices) → Ascend givers
   givers_up givers are =
-      subst Ascend (sym are) (ids_up ids (filter (is_catalogued_at all) places) ascend (IsStrictlySortedBy-filter nat_cmp (is_catalogued_at all) places sorted) chosen_within)
+      subst Ascend (sym are) (ids_up ids (filter (is_catalogued_at all) indices) ascend (IsStrictlySortedBy-filter nat_cmp (is_catalogued_at all) indices sorted) chosen_within)
 
-  pub each_giver : (givers : List (List ℕ)) → givers ≡ map (id_at ids) (filter (is_catalogued_at all) places) → (id : List ℕ) → Contains givers id ↔ IsGiverAt ids all above place id
+  pub each_giver : (givers : List (List ℕ)) → givers ≡ map (id_at ids) (filter (is_catalogued_at all) indices) → (id : List ℕ) → Contains givers id ↔ IsGiverAt ids all above index id
   each_giver givers are id = (
     λ inside.
         let L : List (List ℕ) → Type 0 = λ l. Contains l id in
-        let image = map_from (id_at ids) (filter (is_catalogued_at all) places) id (subst L are inside) in
-        let kept = kept_from (is_catalogued_at all) places image.from image.member in
+        let image = map_from (id_at ids) (filter (is_catalogued_at all) indices) id (subst L are inside) in
+        let kept = kept_from (is_catalogued_at all) indices image.from image.member in
         record { own = image.from; within = chosen_within image.from image.member; is = image.is; catalogued = kept.passes; leads = (each image.from).0 kept.member },
     λ giver.
         let L : List (List ℕ) → Type 0 = λ l. Contains l id in
-        let P : List ℕ → Type 0 = λ x. Contains (map (id_at ids) (filter (is_catalogued_at all) places)) x in
+        let P : List ℕ → Type 0 = λ x. Contains (map (id_at ids) (filter (is_catalogued_at all) indices)) x in
         subst L (sym are)
-        (subst P giver.is (map_inside (id_at ids) (filter (is_catalogued_at all) places) giver.own (kept_inside (is_catalogued_at all) places giver.own ((each giver.own).1 giver.leads) giver.catalogued))),
+        (subst P giver.is (map_inside (id_at ids) (filter (is_catalogued_at all) indices) giver.own (kept_inside (is_catalogued_at all) indices giver.own ((each giver.own).1 giver.leads) giver.catalogued))),
   )

@@ -12,12 +12,12 @@ use Rattle.supersede.specs.Giving.{always_needs, conds_of, fmids_of, is_candidat
 use Rattle.requisites.specs.Nodes.{IsMarked, mark_of, row, world}
 use Rattle.requisites.specs.declared.nodes.Nodes.{Nodes}
 use Rattle.requisites.proofs.SourceFacts.{marked_inside}
-use Rattle.chains.specs.Cuts.{IsCut, NeedPlace, id_at}
-use Rattle.chains.specs.Places.{AreSeen, AreThere}
+use Rattle.chains.specs.Cuts.{IsCut, NeedIndex, id_at}
+use Rattle.chains.specs.Indices.{AreSeen, AreThere}
 use Rattle.chains.specs.Sights.{Sight, all_needs, needs_seen, sight_of}
 use Rattle.chains.specs.Worlds.{world_of}
 use Rattle.chains.proofs.ConditionalFacts.{may_be_needed}
-use Rattle.chains.proofs.PlaceFacts.{inside_at, need_inside, order_down, order_up}
+use Rattle.chains.proofs.IndexFacts.{inside_at, need_inside, order_down, order_up}
 use Rattle.chains.proofs.SearchFacts.{any_at, any_from, none_inside}
 use Rattle.chains.proofs.WayFacts.{AreWays, gives_at, listed_record, superseder_listed, there_at}
 
@@ -78,18 +78,18 @@ module _ (content : Content) (rows : List ZoneRow) (members : List (List ℕ)) (
       let P : Sight → Type 0 = λ s. Contains (needs_seen rows s) (id_at members q) in
       subst P (view.seen.listed (candidate_listed (id_at members p) (candidate_up p below marked))) (view.so.listed q needs)
 
-  need_down : (p : ℕ) (need : List ℕ) → IsMarked nodes.candidates.items p → Contains (needs_in content rows (id_at members p)) need → NeedPlace members (world nodes) p need
+  need_down : (p : ℕ) (need : List ℕ) → IsMarked nodes.candidates.items p → Contains (needs_in content rows (id_at members p)) need → NeedIndex members (world nodes) p need
   need_down p need marked needs =
       let below = candidate_within p marked in
       let listed = candidate_listed (id_at members p) (candidate_up p below marked) in
       let view = seen.needs_are.each p below in
       let named = may_be_needed rows (always_needs content (id_at members p)) (conds_of (record_of content (id_at members p))) need needs in
       let at = inside_at members need (needs_inside need (need_inside (sight_of content) (ids_of content) (id_at members p) need listed named)) in
-      let P : Sight → Type 0 = λ s. Contains (needs_seen rows s) (id_at members at.place) in
+      let P : Sight → Type 0 = λ s. Contains (needs_seen rows s) (id_at members at.index) in
       let Q : List ℕ → Type 0 = λ x. Contains (needs_in content rows (id_at members p)) x in
       record {
         at = at;
-        needs = view.so.whole at.place at.within (subst P (sym (view.seen.listed listed)) (subst Q (sym at.is) needs));
+        needs = view.so.whole at.index at.within (subst P (sym (view.seen.listed listed)) (subst Q (sym at.is) needs));
       }
 
   -- ---- superseding

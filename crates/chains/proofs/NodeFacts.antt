@@ -17,17 +17,17 @@ use Rattle.supersede.specs.Leading.{Gives, IsWay}
 use Rattle.requisites.specs.Leads.{Leads}
 use Rattle.requisites.specs.Nodes.{row}
 use Rattle.requisites.proofs.LeadsFacts.{leads_closed, leads_itself, leads_more}
-use Rattle.chains.specs.Cuts.{PlaceOf, id_at}
-use Rattle.chains.specs.FramePlaces.{AreNodesOf, ArePlaced, IsAbove, IsFramed, IsGiverAt, IsNodeAt, has_conds, list_at}
+use Rattle.chains.specs.Cuts.{IndexOf, id_at}
+use Rattle.chains.specs.FrameIndices.{AreIndexed, AreNodesOf, IsAbove, IsFramed, IsGiverAt, IsNodeAt, has_conds, list_at}
 use Rattle.chains.specs.Frames.{FrameLists, IsClosed, IsFrame, StepsTo, ids_in, node_of}
 use Rattle.chains.specs.Gathered.{AreNamed, IsGathered, Names, gathered_of}
-use Rattle.chains.specs.Places.{ArePlacesOf}
+use Rattle.chains.specs.Indices.{AreIndicesOf}
 use Rattle.chains.specs.declared.frames.FrameNode.{FrameNode}
 use Rattle.chains.specs.declared.gathered.Gathered.{Gathered}
 use Rattle.chains.proofs.FrameFacts.{direct_gives, giver_is, givers_ascend, record_listed}
 use Rattle.chains.proofs.OrderFacts.{ascending_same}
 use Rattle.chains.proofs.PartFacts.{at_map}
-use Rattle.chains.proofs.PlaceFacts.{at_inside, get_any, inside_at}
+use Rattle.chains.proofs.IndexFacts.{at_inside, get_any, inside_at}
 use Rattle.chains.proofs.SearchFacts.{inside_cases, map_from, map_inside, none_inside}
 use Rattle.chains.proofs.WayFacts.{listed_record}
 
@@ -83,11 +83,11 @@ node_by : List ℕ → Bool → List (List ℕ) → List (List ℕ) → List Con
 node_by id catalogued fmids needs conds givers = record { id = id; catalogued = catalogued; fmids = fmids; needs = needs; conds = conds; givers = givers }
 
 module _ (content : Content) (start : List ℕ) (ids : List (List ℕ)) (all : List Gathered) (above : List (List ℕ)) (ordered : IsInOrder content) (is : IsGathered content start ids all)
-    (placed : ArePlaced ids (map (λ g. g.above) all) above) where
+    (indexed : AreIndexed ids (map (λ g. g.above) all) above) where
   made : length all ≡ length ids
   made = ap length is.says ∙ length-map ids (gathered_of content)
 
-  -- what was read of the id at a place
+  -- what was read of the id at an index
   read_at : {Y : Type 0} (f : Gathered → Y) (p : ℕ) (e : Y) → p < length ids → get_or (map f all) p e ≡ f (gathered_of content (id_at ids p))
   read_at {Y} f p e below =
       let as_many : length (map (gathered_of content) ids) ≡ length ids = length-map ids (gathered_of content) in
@@ -95,18 +95,18 @@ module _ (content : Content) (start : List ℕ) (ids : List (List ℕ)) (all : L
       ∙ at_map f (map (gathered_of content) ids) p (gathered_of content []) e (omega (arith, below, as_many))
       ∙ ap f (at_map (gathered_of content) ids p [] (gathered_of content []) below)
 
-  above_at : (p : ℕ) → p < length ids → ArePlacesOf ids (superseders content (id_at ids p)) (row above p)
-  above_at p below = let P : List (List ℕ) → Type 0 = λ l. ArePlacesOf ids l (row above p) in subst P (read_at (λ g. g.above) p [] below) (placed.each p below)
+  above_at : (p : ℕ) → p < length ids → AreIndicesOf ids (superseders content (id_at ids p)) (row above p)
+  above_at p below = let P : List (List ℕ) → Type 0 = λ l. AreIndicesOf ids l (row above p) in subst P (read_at (λ g. g.above) p [] below) (indexed.each p below)
 
-  -- a way from what stands at a place
+  -- a way from what stands at an index
   record WayFrom (to : List ℕ) (q : ℕ) : Type 0 where
     within : q < length ids
     way : List (List ℕ)
     leads : IsWay content (id_at ids q) way to
 
-  way_up : (place q : ℕ) → place < length ids → Leads (IsAbove above) place q → WayFrom (id_at ids place) q
-  way_up place q below leads =
-      leads_closed (λ p. WayFrom (id_at ids place) p)
+  way_up : (index q : ℕ) → index < length ids → Leads (IsAbove above) index q → WayFrom (id_at ids index) q
+  way_up index q below leads =
+      leads_closed (λ p. WayFrom (id_at ids index) p)
       (λ p r here step. let at = above_at p here.within in record {
         within = at.within r step;
         way = id_at ids p ∷ here.way;
@@ -114,58 +114,58 @@ module _ (content : Content) (start : List ℕ) (ids : List (List ℕ)) (all : L
       })
       (record { within = below; way = []; leads = refl }) leads
 
-  -- the place of what leads down to a place
-  record PlaceAbove (place : ℕ) (id : List ℕ) : Type 0 where
-    at : PlaceOf ids id
-    leads : Leads (IsAbove above) place at.place
+  -- the index of what leads down to an index
+  record IndexAbove (index : ℕ) (id : List ℕ) : Type 0 where
+    at : IndexOf ids id
+    leads : Leads (IsAbove above) index at.index
 
-  way_down : (place : ℕ) → place < length ids → (y : List ℕ) (way : List (List ℕ)) → IsWay content y way (id_at ids place) → PlaceAbove place y
-  way_down place below y [] same = record { at = record { place = place; within = below; is = sym same }; leads = leads_itself (IsAbove above) place }
-  way_down place below y (next ∷ later) way =
-      let rest = way_down place below next later way.1 in
+  way_down : (index : ℕ) → index < length ids → (y : List ℕ) (way : List (List ℕ)) → IsWay content y way (id_at ids index) → IndexAbove index y
+  way_down index below y [] same = record { at = record { index = index; within = below; is = sym same }; leads = leads_itself (IsAbove above) index }
+  way_down index below y (next ∷ later) way =
+      let rest = way_down index below next later way.1 in
       let P : List ℕ → Type 0 = λ x. Supersedes content y x in
-      let step : Supersedes content y (id_at ids rest.at.place) = subst P (sym rest.at.is) way.0 in
-      let reached = is.whole y (leads_more (is.reached (id_at ids rest.at.place) (at_inside ids rest.at.place rest.at.within)) (above_named content ordered (id_at ids rest.at.place) y step)) in
+      let step : Supersedes content y (id_at ids rest.at.index) = subst P (sym rest.at.is) way.0 in
+      let reached = is.whole y (leads_more (is.reached (id_at ids rest.at.index) (at_inside ids rest.at.index rest.at.within)) (above_named content ordered (id_at ids rest.at.index) y step)) in
       let at = inside_at ids y reached in
-      let Q : List ℕ → Type 0 = λ x. Contains (superseders content (id_at ids rest.at.place)) x in
+      let Q : List ℕ → Type 0 = λ x. Contains (superseders content (id_at ids rest.at.index)) x in
       record {
         at = at;
-        leads = leads_more rest.leads ((above_at rest.at.place rest.at.within).whole at.place at.within (subst Q (sym at.is) ((superseder_is content (id_at ids rest.at.place) y ordered).1 step)));
+        leads = leads_more rest.leads ((above_at rest.at.index rest.at.within).whole at.index at.within (subst Q (sym at.is) ((superseder_is content (id_at ids rest.at.index) y ordered).1 step)));
       }
 
-  gives_at : (place : ℕ) → place < length ids → (id : List ℕ) → IsGiverAt ids all above place id → Gives content id (id_at ids place)
-  gives_at place below id giver =
-      let way = way_up place giver.own below giver.leads in
-      let P : List ℕ → Type 0 = λ x. Gives content x (id_at ids place) in
+  gives_at : (index : ℕ) → index < length ids → (id : List ℕ) → IsGiverAt ids all above index id → Gives content id (id_at ids index)
+  gives_at index below id giver =
+      let way = way_up index giver.own below giver.leads in
+      let P : List ℕ → Type 0 = λ x. Gives content x (id_at ids index) in
       subst P giver.is (record {
         catalogued = listed_record content.sysmods (id_at ids giver.own) (sym (read_at (λ g. g.catalogued) giver.own _ giver.within) ∙ giver.catalogued);
         way = way.way;
         leads = way.leads;
       })
 
-  at_gives : (place : ℕ) → place < length ids → (id : List ℕ) → Gives content id (id_at ids place) → IsGiverAt ids all above place id
-  at_gives place below id given =
-      let down = way_down place below id given.way given.leads in
+  at_gives : (index : ℕ) → index < length ids → (id : List ℕ) → Gives content id (id_at ids index) → IsGiverAt ids all above index id
+  at_gives index below id given =
+      let down = way_down index below id given.way given.leads in
       let P : List ℕ → Type 0 = λ x. Contains (ids_of content) x in
       record {
-        own = down.at.place;
+        own = down.at.index;
         within = down.at.within;
         is = down.at.is;
-        catalogued = read_at (λ g. g.catalogued) down.at.place _ down.at.within ∙ record_listed content.sysmods (id_at ids down.at.place) (subst P (sym down.at.is) given.catalogued);
+        catalogued = read_at (λ g. g.catalogued) down.at.index _ down.at.within ∙ record_listed content.sysmods (id_at ids down.at.index) (subst P (sym down.at.is) given.catalogued);
         leads = down.leads;
       }
 
-  -- the node at a place is that of the content
-  pub node_is : (place : ℕ) (node : FrameNode) → place < length ids → IsNodeAt ids all above place node → node ≡ node_of content (id_at ids place)
+  -- the node at an index is that of the content
+  pub node_is : (index : ℕ) (node : FrameNode) → index < length ids → IsNodeAt ids all above index node → node ≡ node_of content (id_at ids index)
   unfolding node_by
-  node_is place node below at =
-      let id = id_at ids place in
+  node_is index node below at =
+      let id = id_at ids index in
       let read : at.gathered ≡ gathered_of content id =
-      at.at ∙ ap (λ (l : List Gathered). get_or l place at.gathered) is.says ∙ at_map (gathered_of content) ids place [] at.gathered below in
+      at.at ∙ ap (λ (l : List Gathered). get_or l index at.gathered) is.says ∙ at_map (gathered_of content) ids index [] at.gathered below in
       let givers : node.givers ≡ givers_of content id =
       ascending_same node.givers (givers_of content id) at.ascend (givers_ascend content id ordered.sysmods)
-      (λ y inside. (giver_is content id y).1 (gives_at place below y ((at.givers y).0 inside)))
-      (λ y inside. (at.givers y).1 (at_gives place below y ((giver_is content id y).0 inside))) in
+      (λ y inside. (giver_is content id y).1 (gives_at index below y ((at.givers y).0 inside)))
+      (λ y inside. (at.givers y).1 (at_gives index below y ((giver_is content id y).0 inside))) in
       let found = record_of content id in
       ap (λ i. node_by i node.catalogued node.fmids node.needs node.conds node.givers) at.id
       ∙ ap (λ b. node_by id b node.fmids node.needs node.conds node.givers) (at.catalogued ∙ ap (λ (g : Gathered). g.catalogued) read)
@@ -188,20 +188,20 @@ nodes_begin ids all = record {
   say = λ content start ordered is. refl;
 }
 
-pub nodes_more : (ids : List (List ℕ)) (all : List Gathered) (above : List (List ℕ)) (place : ℕ) (node : FrameNode) (old new : List FrameNode) → place < length ids → length all ≡ length ids
-    → ArePlaced ids (map (λ g. g.above) all) above → IsNodeAt ids all above place node → AreNodesOf ids all place old → new ≡ old ++ node ∷ [] → AreNodesOf ids all (place + 1) new
-nodes_more ids all above place node old new below as_many placed at are now =
-    let S : List FrameNode → Type 0 = λ l. AreNodesOf ids all (place + 1) l in
+pub nodes_more : (ids : List (List ℕ)) (all : List Gathered) (above : List (List ℕ)) (index : ℕ) (node : FrameNode) (old new : List FrameNode) → index < length ids → length all ≡ length ids
+    → AreIndexed ids (map (λ g. g.above) all) above → IsNodeAt ids all above index node → AreNodesOf ids all index old → new ≡ old ++ node ∷ [] → AreNodesOf ids all (index + 1) new
+nodes_more ids all above index node old new below as_many indexed at are now =
+    let S : List FrameNode → Type 0 = λ l. AreNodesOf ids all (index + 1) l in
     subst S (sym now) (record {
-      are = map-append (λ (n : FrameNode). n.id) old (node ∷ []) ∙ ap (λ l. l ++ node.id ∷ []) are.are ∙ ap (λ i. take place ids ++ i ∷ []) at.id
-          ∙ sym (take_next ids place (id_at ids place) below (get_any ids place [] (id_at ids place) below));
-      needs = map-append (λ (n : FrameNode). n.needs) old (node ∷ []) ∙ ap (λ l. l ++ node.needs ∷ []) are.needs ∙ ap (λ l. map (λ (g : Gathered). g.needs) (take place all) ++ l ∷ []) at.needs
-          ∙ sym (map-append (λ (g : Gathered). g.needs) (take place all) (at.gathered ∷ []))
-          ∙ ap (map (λ (g : Gathered). g.needs)) (sym (take_next all place at.gathered (omega (arith, below, as_many)) at.at));
+      are = map-append (λ (n : FrameNode). n.id) old (node ∷ []) ∙ ap (λ l. l ++ node.id ∷ []) are.are ∙ ap (λ i. take index ids ++ i ∷ []) at.id
+          ∙ sym (take_next ids index (id_at ids index) below (get_any ids index [] (id_at ids index) below));
+      needs = map-append (λ (n : FrameNode). n.needs) old (node ∷ []) ∙ ap (λ l. l ++ node.needs ∷ []) are.needs ∙ ap (λ l. map (λ (g : Gathered). g.needs) (take index all) ++ l ∷ []) at.needs
+          ∙ sym (map-append (λ (g : Gathered). g.needs) (take index all) (at.gathered ∷ []))
+          ∙ ap (map (λ (g : Gathered). g.needs)) (sym (take_next all index at.gathered (omega (arith, below, as_many)) at.at));
       conds = map-append (λ (n : FrameNode). n.conds) old (node ∷ []) ∙ ap (λ (l : List (List CondNeed)). l ++ node.conds ∷ []) are.conds
-          ∙ ap (λ (l : List CondNeed). map (λ (g : Gathered). g.conds) (take place all) ++ l ∷ []) at.conds
-          ∙ sym (map-append (λ (g : Gathered). g.conds) (take place all) (at.gathered ∷ []))
-          ∙ ap (map (λ (g : Gathered). g.conds)) (sym (take_next all place at.gathered (omega (arith, below, as_many)) at.at));
+          ∙ ap (λ (l : List CondNeed). map (λ (g : Gathered). g.conds) (take index all) ++ l ∷ []) at.conds
+          ∙ sym (map-append (λ (g : Gathered). g.conds) (take index all) (at.gathered ∷ []))
+          ∙ ap (map (λ (g : Gathered). g.conds)) (sym (take_next all index at.gathered (omega (arith, below, as_many)) at.at));
       givers = λ n id inside given. elim (Contains-append_cases old (node ∷ []) n inside) [
         | inl before ↦ are.givers n id before given
         | inr last ↦ elim (inside_cases node n [] last) [
@@ -215,9 +215,9 @@ nodes_more ids all above place node old new below as_many placed at are now =
       ];
       say = λ content start ordered is.
           ap (λ l. l ++ node ∷ []) (are.say content start ordered is)
-          ∙ ap (λ (n : FrameNode). map (node_of content) (take place ids) ++ n ∷ []) (node_is content start ids all above ordered is placed place node below at)
-          ∙ sym (map-append (node_of content) (take place ids) (id_at ids place ∷ []))
-          ∙ ap (map (node_of content)) (sym (take_next ids place (id_at ids place) below (get_any ids place [] (id_at ids place) below)));
+          ∙ ap (λ (n : FrameNode). map (node_of content) (take index ids) ++ n ∷ []) (node_is content start ids all above ordered is indexed index node below at)
+          ∙ sym (map-append (node_of content) (take index ids) (id_at ids index ∷ []))
+          ∙ ap (map (node_of content)) (sym (take_next ids index (id_at ids index) below (get_any ids index [] (id_at ids index) below)));
     })
 
 -- ---- the frame
@@ -252,18 +252,18 @@ module _ (ids : List (List ℕ)) (all : List Gathered) (nodes : List FrameNode) 
     givers = λ node id inside given. let N : List (List ℕ) → Type 0 = λ l. Contains l id in subst N ids_are (are.givers node id inside given);
   }
 
-  pub framed : (needs : List (List ℕ)) (conditional : Bool) → ArePlaced ids (map (λ g. g.needs) all) needs → conditional ≡ list_any has_conds nodes → IsFramed nodes ids needs conditional
-  framed needs conditional placed is = record {
+  pub framed : (needs : List (List ℕ)) (conditional : Bool) → AreIndexed ids (map (λ g. g.needs) all) needs → conditional ≡ list_any has_conds nodes → IsFramed nodes ids needs conditional
+  framed needs conditional indexed is = record {
     are = ids_are;
     ascend = ascend;
     closed = closed;
-    placed = (let P : List (List (List ℕ)) → Type 0 = λ l. ArePlaced ids l needs in subst P needs_are placed);
+    indexed = (let P : List (List (List ℕ)) → Type 0 = λ l. AreIndexed ids l needs in subst P needs_are indexed);
     known = is;
   }
 
-  pub frame_made : (supersedes : List (List ℕ)) → ArePlaced ids (map (λ g. g.superseded) all) supersedes → (frame : FrameLists) → frame.nodes ≡ nodes → frame.supersedes ≡ supersedes
+  pub frame_made : (supersedes : List (List ℕ)) → AreIndexed ids (map (λ g. g.superseded) all) supersedes → (frame : FrameLists) → frame.nodes ≡ nodes → frame.supersedes ≡ supersedes
       → (content : Content) (start : List ℕ) → IsInOrder content → IsGathered content start ids all → IsFrame content start frame
-  frame_made supersedes placed frame nodes_is rows_is content start ordered is = record {
+  frame_made supersedes indexed frame nodes_is rows_is content start ordered is = record {
     reached = λ id. (let N : List (List ℕ) → Type 0 = λ l. Contains l id in (
       λ inside. names_reach content ordered start id (is.reached id (subst N (sym members) inside)),
       λ leads. subst N members (is.whole id (steps_reach content ordered start id leads)),
@@ -288,8 +288,8 @@ module _ (ids : List (List ℕ)) (all : List Gathered) (nodes : List FrameNode) 
         ∙ at_map (λ g. g.superseded) (map (gathered_of content) ids) p (gathered_of content []) [] (omega (arith, below, as_long))
         ∙ ap (λ (g : Gathered). g.superseded) (at_map (gathered_of content) ids p [] (gathered_of content []) below)
 
-    sup_at : (p : ℕ) → p < length ids → ArePlacesOf ids (sup_of (record_of content (id_at ids p))) (row supersedes p)
-    sup_at p below = let P : List (List ℕ) → Type 0 = λ l. ArePlacesOf ids l (row supersedes p) in subst P (sup_here p below) (placed.each p below)
+    sup_at : (p : ℕ) → p < length ids → AreIndicesOf ids (sup_of (record_of content (id_at ids p))) (row supersedes p)
+    sup_at p below = let P : List (List ℕ) → Type 0 = λ l. AreIndicesOf ids l (row supersedes p) in subst P (sup_here p below) (indexed.each p below)
 
     superseded_by : (o : Option Sysmod) (x : List ℕ) → Contains (sup_of o) x → IsSomeAnd o (λ sysmod. Contains sysmod.sup x)
     superseded_by None x inside = absurd (none_inside x inside)
@@ -329,19 +329,19 @@ module _ (es : List (List ℕ × Gathered)) (ids seen_ids node_ids : List (List 
       let Q : List (List ℕ) → Type 0 = λ l. AreNodesOf l node_all (length l) nodes in
       subst P node_all_is (subst Q node_ids_is are)
 
-  placed_of : (f : Gathered → List (List ℕ)) (rows : List (List ℕ)) → ArePlaced seen_ids (map f seen_all) rows → ArePlaced ids (map f all) rows
-  placed_of f rows placed =
-      let P : List Gathered → Type 0 = λ l. ArePlaced ids (map f l) rows in
-      let Q : List (List ℕ) → Type 0 = λ l. ArePlaced l (map f seen_all) rows in
-      subst P seen_all_is (subst Q seen_ids_is placed)
+  indexed_of : (f : Gathered → List (List ℕ)) (rows : List (List ℕ)) → AreIndexed seen_ids (map f seen_all) rows → AreIndexed ids (map f all) rows
+  indexed_of f rows indexed =
+      let P : List Gathered → Type 0 = λ l. AreIndexed ids (map f l) rows in
+      let Q : List (List ℕ) → Type 0 = λ l. AreIndexed l (map f seen_all) rows in
+      subst P seen_all_is (subst Q seen_ids_is indexed)
 
-  pub framed_found : (needs : List (List ℕ)) (conditional : Bool) → ArePlaced seen_ids (map (λ g. g.needs) seen_all) needs → conditional ≡ list_any has_conds nodes → IsFramed nodes ids needs conditional
-  framed_found needs conditional placed is = framed ids all nodes ascend as_many named_here nodes_here needs conditional (placed_of (λ g. g.needs) needs placed) is
+  pub framed_found : (needs : List (List ℕ)) (conditional : Bool) → AreIndexed seen_ids (map (λ g. g.needs) seen_all) needs → conditional ≡ list_any has_conds nodes → IsFramed nodes ids needs conditional
+  framed_found needs conditional indexed is = framed ids all nodes ascend as_many named_here nodes_here needs conditional (indexed_of (λ g. g.needs) needs indexed) is
 
-  pub frame_found : (supersedes : List (List ℕ)) → ArePlaced seen_ids (map (λ g. g.superseded) seen_all) supersedes → (frame : FrameLists) → frame.nodes ≡ nodes → frame.supersedes ≡ supersedes
+  pub frame_found : (supersedes : List (List ℕ)) → AreIndexed seen_ids (map (λ g. g.superseded) seen_all) supersedes → (frame : FrameLists) → frame.nodes ≡ nodes → frame.supersedes ≡ supersedes
       → (content : Content) (start : List ℕ) → IsInOrder content → IsGathered content start (keys_of es) (values_of es) → IsFrame content start frame
-  frame_found supersedes placed frame nodes_is rows_is content start ordered is =
+  frame_found supersedes indexed frame nodes_is rows_is content start ordered is =
       let P : List Gathered → Type 0 = λ l. IsGathered content start ids l in
       let Q : List (List ℕ) → Type 0 = λ l. IsGathered content start l (values_of es) in
-      frame_made ids all nodes ascend as_many named_here nodes_here supersedes (placed_of (λ g. g.superseded) supersedes placed) frame nodes_is rows_is content start ordered
+      frame_made ids all nodes ascend as_many named_here nodes_here supersedes (indexed_of (λ g. g.superseded) supersedes indexed) frame nodes_is rows_is content start ordered
       (subst P (sym all_is) (subst Q (sym ids_is) is))

@@ -15,15 +15,15 @@ use Rattle.requisites.specs.Nodes.{IsMarked, mark_of, row, world}
 use Rattle.requisites.specs.declared.nodes.Nodes.{Nodes}
 use Rattle.requisites.proofs.LeadsFacts.{leads_more}
 use Rattle.requisites.proofs.SourceFacts.{marked_inside}
-use Rattle.chains.specs.Cuts.{IsCut, NeedPlace, id_at}
-use Rattle.chains.specs.FramePlaces.{ArePlaced, node_needs}
+use Rattle.chains.specs.Cuts.{IsCut, NeedIndex, id_at}
+use Rattle.chains.specs.FrameIndices.{AreIndexed, node_needs}
 use Rattle.chains.specs.Frames.{FrameLists, IsFrame, ids_in, node_of}
-use Rattle.chains.specs.Places.{ArePlacesOf, AreThere}
+use Rattle.chains.specs.Indices.{AreIndicesOf, AreThere}
 use Rattle.chains.specs.Worlds.{world_of}
 use Rattle.chains.specs.declared.frames.FrameNode.{FrameNode}
 use Rattle.chains.proofs.ConditionalFacts.{may_be_needed}
 use Rattle.chains.proofs.MadeCutFacts.{candidate_catalogued}
-use Rattle.chains.proofs.PlaceFacts.{at_inside, inside_at, order_down, order_up}
+use Rattle.chains.proofs.IndexFacts.{at_inside, inside_at, order_down, order_up}
 use Rattle.chains.proofs.WayFacts.{AreWays, gives_at, there_at}
 
 -- what f makes of a list stands where the list has what it is made of
@@ -34,7 +34,7 @@ at_map f (x ∷ xs) (suc p) d e below = at_map f xs p d e (omega (arith, below))
 
 module _ (content : Content) (rows : List ZoneRow) (start : List ℕ) (frame : FrameLists) (nodes : Nodes) (ascend : Ascend (ids_in frame.nodes)) (is : IsFrame content start frame)
     (candidates : nodes.candidates.items ≡ map (λ node. list_any (λ fmid. is_installed rows fmid) node.fmids) frame.nodes)
-    (placed : ArePlaced (ids_in frame.nodes) (map (node_needs rows) frame.nodes) nodes.needs)
+    (indexed : AreIndexed (ids_in frame.nodes) (map (node_needs rows) frame.nodes) nodes.needs)
     (supersedes : nodes.supersedes ≡ frame.supersedes)
     (there : AreThere rows (ids_in frame.nodes) nodes.supersedes nodes.there.items) where
   abbrev members : List (List ℕ)
@@ -43,7 +43,7 @@ module _ (content : Content) (rows : List ZoneRow) (start : List ℕ) (frame : F
   as_many : length nodes.candidates.items ≡ length members
   as_many = ap length candidates ∙ length-map frame.nodes (λ node. list_any (λ fmid. is_installed rows fmid) node.fmids) ∙ sym (length-map frame.nodes (λ node. node.id))
 
-  -- what a node's place has of what f takes from a node
+  -- what a node's index has of what f takes from a node
   said : {Y : Type 0} (f : FrameNode → Y) (p : ℕ) (e : Y) → p < length members → get_or (map f frame.nodes) p e ≡ f (node_of content (id_at members p))
   said {Y} f p e below =
       let made : length (map (node_of content) members) ≡ length members = length-map members (node_of content) in
@@ -73,10 +73,10 @@ module _ (content : Content) (rows : List ZoneRow) (start : List ℕ) (frame : F
 
   -- ---- needs
 
-  needs_are : (p : ℕ) → p < length members → ArePlacesOf members (node_needs rows (node_of content (id_at members p))) (row nodes.needs p)
+  needs_are : (p : ℕ) → p < length members → AreIndicesOf members (node_needs rows (node_of content (id_at members p))) (row nodes.needs p)
   needs_are p below =
-      let P : List (List ℕ) → Type 0 = λ l. ArePlacesOf members l (row nodes.needs p) in
-      subst P (said (node_needs rows) p [] below) (placed.each p below)
+      let P : List (List ℕ) → Type 0 = λ l. AreIndicesOf members l (row nodes.needs p) in
+      subst P (said (node_needs rows) p [] below) (indexed.each p below)
 
   -- a node has what its id needs in the zone
   node_has : (id need : List ℕ) → Contains (node_needs rows (node_of content id)) need ↔ Contains (needs_in content rows id) need
@@ -99,14 +99,14 @@ module _ (content : Content) (rows : List ZoneRow) (start : List ℕ) (frame : F
   need_up : (p q : ℕ) → p < length members → Contains (row nodes.needs p) q → Contains (needs_in content rows (id_at members p)) (id_at members q)
   need_up p q below needs = (node_has (id_at members p) (id_at members q)).0 ((needs_are p below).listed q needs)
 
-  need_down : (p : ℕ) (need : List ℕ) → p < length members → Contains (needs_in content rows (id_at members p)) need → NeedPlace members (world nodes) p need
+  need_down : (p : ℕ) (need : List ℕ) → p < length members → Contains (needs_in content rows (id_at members p)) need → NeedIndex members (world nodes) p need
   need_down p need below needs =
       let named = may_be_needed rows (always_needs content (id_at members p)) (conds_of (record_of content (id_at members p))) need needs in
       let at = inside_at members need (need_reached p need below named) in
       let P : List ℕ → Type 0 = λ x. Contains (node_needs rows (node_of content (id_at members p))) x in
       record {
         at = at;
-        needs = (needs_are p below).whole at.place at.within (subst P (sym at.is) ((node_has (id_at members p) need).1 needs));
+        needs = (needs_are p below).whole at.index at.within (subst P (sym at.is) ((node_has (id_at members p) need).1 needs));
       }
 
   -- ---- superseding

@@ -12,47 +12,47 @@ use Rattle.catalogue.specs.declared.conditional.CondNeed.{CondNeed}
 use Rattle.supersede.specs.Giving.{needs_where}
 use Rattle.requisites.specs.Good.{AreGood}
 use Rattle.requisites.specs.Nodes.{mark_of, row, world}
-use Rattle.requisites.specs.Verdict as place
+use Rattle.requisites.specs.Verdict as index
 use Rattle.requisites.specs.declared.nodes.Nodes.{Nodes}
 use Rattle.requisites.specs.declared.verdict.Verdict as declared
 use Rattle.chains.specs.Cuts.{id_at}
-use Rattle.chains.specs.FramePlaces.{ArePlaced, has_conds, list_at, node_needs}
+use Rattle.chains.specs.FrameIndices.{AreIndexed, has_conds, list_at, node_needs}
 use Rattle.chains.specs.Frames.{FrameLists, IsFrame, ids_in}
-use Rattle.chains.specs.Places.{AreNodesWithin, ArePlacesOf, AreThere, IsAt, RowsAre, verdict_at}
+use Rattle.chains.specs.Indices.{AreIndicesOf, AreNodesWithin, AreThere, IsAt, RowsAre, verdict_at}
 use Rattle.chains.specs.Verdicts.{Judged, is_good, verdict_of}
 use Rattle.chains.specs.Worlds.{world_of}
 use Rattle.chains.specs.declared.frames.FrameNode.{FrameNode}
 use Rattle.chains.proofs.CutFacts.{good_down, good_up}
 use Rattle.chains.proofs.GoodFacts.{good_both_ways}
 use Rattle.chains.proofs.PartFacts.{at_map, frame_cut}
-use Rattle.chains.proofs.PlaceFacts.{get_any, rows_more}
-use Rattle.chains.proofs.PlaceVerdictFacts.{verdict_here, verdict_within}
+use Rattle.chains.proofs.IndexFacts.{get_any, rows_more}
+use Rattle.chains.proofs.NodeVerdictFacts.{verdict_here, verdict_within}
 
--- the nodes of a frame name no places but theirs
+-- the nodes of a frame name no indices but theirs
 pub part_within : (rows : List ZoneRow) (list : List FrameNode) (nodes : Nodes) → nodes.candidates.items ≡ map (λ node. list_any (λ fmid. is_installed rows fmid) node.fmids) list
-    → ArePlaced (ids_in list) (map (node_needs rows) list) nodes.needs → AreNodesWithin (ids_in list) nodes
-part_within rows list nodes candidates placed = record {
+    → AreIndexed (ids_in list) (map (node_needs rows) list) nodes.needs → AreNodesWithin (ids_in list) nodes
+part_within rows list nodes candidates indexed = record {
   len = ap length candidates ∙ length-map list (λ node. list_any (λ fmid. is_installed rows fmid) node.fmids) ∙ sym (length-map list (λ node. node.id));
-  needs = record { len = placed.len; each = λ p below. (placed.each p below).within };
+  needs = record { len = indexed.len; each = λ p below. (indexed.each p below).within };
 }
 
 module _ (rows : List ZoneRow) (frame : FrameLists) (nodes : Nodes) (ascend : Ascend (ids_in frame.nodes))
     (candidates : nodes.candidates.items ≡ map (λ node. list_any (λ fmid. is_installed rows fmid) node.fmids) frame.nodes)
-    (placed : ArePlaced (ids_in frame.nodes) (map (node_needs rows) frame.nodes) nodes.needs)
+    (indexed : AreIndexed (ids_in frame.nodes) (map (node_needs rows) frame.nodes) nodes.needs)
     (supersedes : nodes.supersedes ≡ frame.supersedes)
     (there : AreThere rows (ids_in frame.nodes) nodes.supersedes nodes.there.items) where
   -- the verdict on a node
-  pub planned : (id : List ℕ) (p : ℕ) (v : declared.Verdict) (judged : Judged) → IsAt (ids_in frame.nodes) id p → place.IsVerdict nodes p v → judged ≡ verdict_at (ids_in frame.nodes) v
+  pub planned : (id : List ℕ) (p : ℕ) (v : declared.Verdict) (judged : Judged) → IsAt (ids_in frame.nodes) id p → index.IsVerdict nodes p v → judged ≡ verdict_at (ids_in frame.nodes) v
       → (content : Content) (start : List ℕ) → IsFrame content start frame → judged ≡ verdict_of content rows id
   planned id p v judged at is_verdict same content start is =
-      verdict_here content rows (ids_in frame.nodes) nodes ascend (frame_cut content rows start frame nodes ascend is candidates placed supersedes there)
-      id p v judged at (verdict_within (ids_in frame.nodes) nodes p v (part_within rows frame.nodes nodes candidates placed) is_verdict) is_verdict same
+      verdict_here content rows (ids_in frame.nodes) nodes ascend (frame_cut content rows start frame nodes ascend is candidates indexed supersedes there)
+      id p v judged at (verdict_within (ids_in frame.nodes) nodes p v (part_within rows frame.nodes nodes candidates indexed) is_verdict) is_verdict same
 
   -- a node is marked just where it is good
   pub marks_good : (marks : List Bool) (givers : List (Option ℕ)) → AreGood nodes marks givers → (content : Content) (start : List ℕ) → IsFrame content start frame
       → (p : ℕ) → p < length (ids_in frame.nodes) → mark_of marks p ≡ is_good content rows (id_at (ids_in frame.nodes) p)
   marks_good marks givers are content start is p below =
-      let cut = frame_cut content rows start frame nodes ascend is candidates placed supersedes there in
+      let cut = frame_cut content rows start frame nodes ascend is candidates indexed supersedes there in
       let both = good_both_ways content rows (id_at (ids_in frame.nodes) p) in
       both_ways _ _
       (λ on. both.1 (good_up (world_of content rows) (ids_in frame.nodes) (world nodes) cut p (are.marked p (record { is = on }))))
@@ -82,27 +82,27 @@ unconditional rows (node ∷ nodes) none =
         let P : List CondNeed → Type 0 = λ cs. needs ≡ needs ++ needs_where rows cs in
         subst P (sym none) (sym (append-nil needs))
 
-pub unconditional_placed : (rows : List ZoneRow) (list : List FrameNode) (needs : List (List ℕ)) → list_any has_conds list ≡ false → ArePlaced (ids_in list) (map (λ node. node.needs) list) needs
-    → ArePlaced (ids_in list) (map (node_needs rows) list) needs
-unconditional_placed rows list needs none placed = let P : List (List (List ℕ)) → Type 0 = λ l. ArePlaced (ids_in list) l needs in subst P (unconditional rows list none) placed
+pub unconditional_indexed : (rows : List ZoneRow) (list : List FrameNode) (needs : List (List ℕ)) → list_any has_conds list ≡ false → AreIndexed (ids_in list) (map (λ node. node.needs) list) needs
+    → AreIndexed (ids_in list) (map (node_needs rows) list) needs
+unconditional_indexed rows list needs none indexed = let P : List (List (List ℕ)) → Type 0 = λ l. AreIndexed (ids_in list) l needs in subst P (unconditional rows list none) indexed
 
 -- the needs of one node more
-pub needs_more : (rows : List ZoneRow) (list : List FrameNode) (ids : List (List ℕ)) (i : ℕ) (node : FrameNode) (always places : List ℕ) (given old new : List (List ℕ)) → i < length list → node ≡ get_or list i node
-    → ids ≡ ids_in list → ArePlaced (ids_in list) (map (λ n. n.needs) list) given → always ≡ row given i
-    → (ArePlacesOf ids node.needs always → ArePlacesOf ids (node_needs rows node) places)
-    → RowsAre (λ p ps. ArePlacesOf (ids_in list) (list_at (map (node_needs rows) list) p) ps) i old → new ≡ old ++ places ∷ []
-    → RowsAre (λ p ps. ArePlacesOf (ids_in list) (list_at (map (node_needs rows) list) p) ps) (i + 1) new
-needs_more rows list ids i node always places given old new below at ids_are placed always_is put are now =
+pub needs_more : (rows : List ZoneRow) (list : List FrameNode) (ids : List (List ℕ)) (i : ℕ) (node : FrameNode) (always indices : List ℕ) (given old new : List (List ℕ)) → i < length list → node ≡ get_or list i node
+    → ids ≡ ids_in list → AreIndexed (ids_in list) (map (λ n. n.needs) list) given → always ≡ row given i
+    → (AreIndicesOf ids node.needs always → AreIndicesOf ids (node_needs rows node) indices)
+    → RowsAre (λ p ps. AreIndicesOf (ids_in list) (list_at (map (node_needs rows) list) p) ps) i old → new ≡ old ++ indices ∷ []
+    → RowsAre (λ p ps. AreIndicesOf (ids_in list) (list_at (map (node_needs rows) list) p) ps) (i + 1) new
+needs_more rows list ids i node always indices given old new below at ids_are indexed always_is put are now =
     let as_many : length (ids_in list) ≡ length list = length-map list (λ n. n.id) in
     let needs : list_at (map (λ n. n.needs) list) i ≡ node.needs = at_map (λ n. n.needs) list i node [] below ∙ ap (λ (n : FrameNode). n.needs) (sym at) in
     let all : node_needs rows node ≡ list_at (map (node_needs rows) list) i = ap (node_needs rows) at ∙ sym (at_map (node_needs rows) list i node [] below) in
-    let A : List ℕ → Type 0 = λ l. ArePlacesOf ids node.needs l in
-    let I : List (List ℕ) → Type 0 = λ l. ArePlacesOf l node.needs (row given i) in
-    let N : List (List ℕ) → Type 0 = λ l. ArePlacesOf (ids_in list) l (row given i) in
-    let J : List (List ℕ) → Type 0 = λ l. ArePlacesOf l (node_needs rows node) places in
-    let M : List (List ℕ) → Type 0 = λ l. ArePlacesOf (ids_in list) l places in
-    rows_more (λ p ps. ArePlacesOf (ids_in list) (list_at (map (node_needs rows) list) p) ps) i old new places are
-    (subst M all (subst J ids_are (put (subst A (sym always_is) (subst I (sym ids_are) (subst N needs (placed.each i (omega (arith, below, as_many)))))))))
+    let A : List ℕ → Type 0 = λ l. AreIndicesOf ids node.needs l in
+    let I : List (List ℕ) → Type 0 = λ l. AreIndicesOf l node.needs (row given i) in
+    let N : List (List ℕ) → Type 0 = λ l. AreIndicesOf (ids_in list) l (row given i) in
+    let J : List (List ℕ) → Type 0 = λ l. AreIndicesOf l (node_needs rows node) indices in
+    let M : List (List ℕ) → Type 0 = λ l. AreIndicesOf (ids_in list) l indices in
+    rows_more (λ p ps. AreIndicesOf (ids_in list) (list_at (map (node_needs rows) list) p) ps) i old new indices are
+    (subst M all (subst J ids_are (put (subst A (sym always_is) (subst I (sym ids_are) (subst N needs (indexed.each i (omega (arith, below, as_many)))))))))
     now
 
 -- ---- what is marked

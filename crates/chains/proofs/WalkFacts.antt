@@ -15,7 +15,7 @@ use Rattle.catalogue.specs.Ids.{id_cmp}
 use Rattle.catalogue.proofs.IdFacts.{exact_ids}
 use Rattle.requisites.specs.Leads.{Leads}
 use Rattle.requisites.specs.Nodes.{row}
-use Rattle.chains.specs.FramePlaces.{IsAbove}
+use Rattle.chains.specs.FrameIndices.{IsAbove}
 use Rattle.requisites.proofs.LeadsFacts.{leads_closed, leads_itself, leads_more}
 use Rattle.chains.specs.Gathered.{AreNamed, AreRead, IsGathered, IsGathering, IsWalked, Names, gathered_of, named_by}
 use Rattle.chains.specs.declared.gathered.Gathered.{Gathered}
@@ -70,7 +70,7 @@ module _ {A : Type 0} (Step : A → A → Type 0) (start : A) where
     ];
   }
 
-  -- what was looked at up to one place was up to another
+  -- what was looked at up to one index was up to another
   pub walk_moves : (seen order : List A) (at to : ℕ) → (((y : A) → Contains (take at order) y → Contains seen y) → (y : A) → Contains (take to order) y → Contains seen y)
       → IsWalked Step start seen order at → IsWalked Step start seen order to
   walk_moves seen order at to on walked = record {
@@ -249,7 +249,7 @@ module _ {K : Type 0} (cmp : K → K → Ordering) (exact : CmpEqualImpliesEq cm
     go Less at rest h = rest_inside x k xs (rest h)
     go Greater at rest h = rest_inside x k xs (rest h)
 
--- one place more is looked at, of a walk by rows
+-- one index more is looked at, of a walk by rows
 pub above_reads : (above : List (List ℕ)) (start : ℕ) (old new order order' more : List ℕ) (at x : ℕ) → at < length order → x ≡ get_or order at x → new ≡ insert_key nat_cmp old x → more ≡ row above x → order' ≡ order ++ more
     → IsWalked (IsAbove above) start old order at → IsWalked (IsAbove above) start new order' (at + 1)
 above_reads above start old new order order' more at x below is now more_is order_now walked =
@@ -264,7 +264,7 @@ above_reads above start old new order order' more at x below is now more_is orde
 
 -- ---- what is gathered
 
--- what was read up to one place of the order was up to another
+-- what was read up to one index of the order was up to another
 pub gather_moves : (content : Content) (start : List ℕ) (ids order : List (List ℕ)) (gathered : List Gathered) (at to : ℕ) → (AreRead ids order at → AreRead ids order to)
     → IsGathering content start ids order at gathered → IsGathering content start ids order to gathered
 gather_moves content start ids order gathered at to on so_far = record { says = so_far.says; walked = walk_moves (Names content) start ids order at to on so_far.walked }

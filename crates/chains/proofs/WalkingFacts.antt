@@ -1,4 +1,4 @@
--- Walks by rows of places, each with its number.
+-- Walks by rows of indices, each with its number.
 use Rattle.std.proofs.Common.{◌≡◌, ◌∙◌, ℕ, ◌+◌, ◌<◌, ◌≤◌, List, [], ◌∷◌, ◌++◌, length, take, set, get_or, refl, sym, ap, subst, inl, inr, append_assoc, arith}
 use Rattle.std.specs.Prelude.{◌↔◌}
 use Rattle.std.specs.List.{Contains}
@@ -22,7 +22,7 @@ taken_none turn seen order = record {
   more = [];
   goes_on = sym (append-nil order);
   drawn = λ q inside. absurd (none_inside q inside);
-  placed = λ q inside. absurd (none_inside q inside);
+  indexed = λ q inside. absurd (none_inside q inside);
   marked = λ were. were;
   whole = λ q inside within. absurd (none_inside q inside);
   stays = λ q is. is;
@@ -30,58 +30,58 @@ taken_none turn seen order = record {
   len = refl;
 }
 
--- a place to which the walk comes now
-pub taken_now : (turn place : ℕ) (seen order order' : List ℕ) → place < length seen → order' ≡ order ++ place ∷ [] → AreTaken turn (place ∷ []) seen (set seen place turn) order order'
-taken_now turn place seen order order' within now = record {
-  more = place ∷ [];
+-- an index to which the walk comes now
+pub taken_now : (turn index : ℕ) (seen order order' : List ℕ) → index < length seen → order' ≡ order ++ index ∷ [] → AreTaken turn (index ∷ []) seen (set seen index turn) order order'
+taken_now turn index seen order order' within now = record {
+  more = index ∷ [];
   goes_on = now;
   drawn = λ q inside. inside;
-  placed = λ q inside. (let P : ℕ → Type 0 = λ k. k < length seen in subst P (in_one place q inside) within);
-  marked = λ were q is. (let P : List ℕ → Type 0 = λ l. Contains l q in subst P (sym now) (elim (cases_eq q place) [
-    | inl same ↦ (let Q : ℕ → Type 0 = λ k. Contains (order ++ place ∷ []) k in subst Q (sym same) (Contains-push order place))
-    | inr other ↦ Contains-append_left order (place ∷ []) q (were q (sym (get_or-set_other seen place q turn 0 other) ∙ is))
+  indexed = λ q inside. (let P : ℕ → Type 0 = λ k. k < length seen in subst P (in_one index q inside) within);
+  marked = λ were q is. (let P : List ℕ → Type 0 = λ l. Contains l q in subst P (sym now) (elim (cases_eq q index) [
+    | inl same ↦ (let Q : ℕ → Type 0 = λ k. Contains (order ++ index ∷ []) k in subst Q (sym same) (Contains-push order index))
+    | inr other ↦ Contains-append_left order (index ∷ []) q (were q (sym (get_or-set_other seen index q turn 0 other) ∙ is))
   ]));
-  whole = λ q inside below. (let P : ℕ → Type 0 = λ k. get_or (set seen place turn) k 0 ≡ turn in subst P (in_one place q inside) (get_or-set_same seen place turn 0 within));
-  stays = λ q is. elim (cases_eq q place) [
-    | inl same ↦ (let P : ℕ → Type 0 = λ k. get_or (set seen place turn) k 0 ≡ turn in subst P (sym same) (get_or-set_same seen place turn 0 within))
-    | inr other ↦ get_or-set_other seen place q turn 0 other ∙ is
+  whole = λ q inside below. (let P : ℕ → Type 0 = λ k. get_or (set seen index turn) k 0 ≡ turn in subst P (in_one index q inside) (get_or-set_same seen index turn 0 within));
+  stays = λ q is. elim (cases_eq q index) [
+    | inl same ↦ (let P : ℕ → Type 0 = λ k. get_or (set seen index turn) k 0 ≡ turn in subst P (sym same) (get_or-set_same seen index turn 0 within))
+    | inr other ↦ get_or-set_other seen index q turn 0 other ∙ is
   ];
-  bound = λ was q. elim (cases_eq q place) [
-    | inl same ↦ (let P : ℕ → Type 0 = λ k. get_or (set seen place turn) k 0 ≤ turn in subst P (sym same) (omega (arith, get_or-set_same seen place turn 0 within)))
-    | inr other ↦ omega (arith, get_or-set_other seen place q turn 0 other, was q)
+  bound = λ was q. elim (cases_eq q index) [
+    | inl same ↦ (let P : ℕ → Type 0 = λ k. get_or (set seen index turn) k 0 ≤ turn in subst P (sym same) (omega (arith, get_or-set_same seen index turn 0 within)))
+    | inr other ↦ omega (arith, get_or-set_other seen index q turn 0 other, was q)
   ];
-  len = length-set seen place turn;
+  len = length-set seen index turn;
 }
 
--- a place to which it has come, or that is no place
-pub taken_before : (turn place : ℕ) (seen order : List ℕ) → (place < length seen → get_or seen place 0 ≡ turn) → AreTaken turn (place ∷ []) seen seen order order
-taken_before turn place seen order here = record {
+-- an index to which it has come, or that is no index
+pub taken_before : (turn index : ℕ) (seen order : List ℕ) → (index < length seen → get_or seen index 0 ≡ turn) → AreTaken turn (index ∷ []) seen seen order order
+taken_before turn index seen order here = record {
   more = [];
   goes_on = sym (append-nil order);
   drawn = λ q inside. absurd (none_inside q inside);
-  placed = λ q inside. absurd (none_inside q inside);
+  indexed = λ q inside. absurd (none_inside q inside);
   marked = λ were. were;
-  whole = λ q inside within. (let P : ℕ → Type 0 = λ k. k < length seen → get_or seen k 0 ≡ turn in subst P (in_one place q inside) here within);
+  whole = λ q inside within. (let P : ℕ → Type 0 = λ k. k < length seen → get_or seen k 0 ≡ turn in subst P (in_one index q inside) here within);
   stays = λ q is. is;
   bound = λ was. was;
   len = refl;
 }
 
-pub taken_more : (turn : ℕ) (listed : List ℕ) (i place : ℕ) (a b c x y z : List ℕ) → i < length listed → place ≡ get_or listed i place → AreTaken turn (take i listed) a b x y → AreTaken turn (place ∷ []) b c y z
+pub taken_more : (turn : ℕ) (listed : List ℕ) (i index : ℕ) (a b c x y z : List ℕ) → i < length listed → index ≡ get_or listed i index → AreTaken turn (take i listed) a b x y → AreTaken turn (index ∷ []) b c y z
     → AreTaken turn (take (i + 1) listed) a c x z
-taken_more turn listed i place a b c x y z below at first second =
-    let front : take (i + 1) listed ≡ take i listed ++ place ∷ [] = take_more listed i place below ∙ ap (λ k. take i listed ++ k ∷ []) (sym at) in
+taken_more turn listed i index a b c x y z below at first second =
+    let front : take (i + 1) listed ≡ take i listed ++ index ∷ [] = take_more listed i index below ∙ ap (λ k. take i listed ++ k ∷ []) (sym at) in
     let T : List ℕ → Type 0 = λ l. AreTaken turn l a c x z in
     subst T (sym front) (record {
       more = first.more ++ second.more;
       goes_on = second.goes_on ∙ ap (λ l. l ++ second.more) first.goes_on ∙ append_assoc x first.more second.more;
-      drawn = drawn_both first.more second.more (take i listed) (place ∷ []) first.drawn second.drawn;
-      placed = λ q inside. elim (Contains-append_cases first.more second.more q inside) [
-        | inl before ↦ first.placed q before
-        | inr now ↦ (let within = second.placed q now in omega (arith, within, first.len))
+      drawn = drawn_both first.more second.more (take i listed) (index ∷ []) first.drawn second.drawn;
+      indexed = λ q inside. elim (Contains-append_cases first.more second.more q inside) [
+        | inl before ↦ first.indexed q before
+        | inr now ↦ (let within = second.indexed q now in omega (arith, within, first.len))
       ];
       marked = λ were. second.marked (first.marked were);
-      whole = λ q inside within. elim (Contains-append_cases (take i listed) (place ∷ []) q inside) [
+      whole = λ q inside within. elim (Contains-append_cases (take i listed) (index ∷ []) q inside) [
         | inl before ↦ second.stays q (first.whole q before within)
         | inr now ↦ second.whole q now (omega (arith, within, first.len))
       ];
@@ -123,16 +123,16 @@ module _ (rows : List (List ℕ)) (n start turn : ℕ) where
           let R : ℕ → Type 0 = λ k. Contains (row rows k) q in
           let L : List ℕ → Type 0 = λ l. Contains l q in
           let listed : Contains own q = subst L (sym own_is) (subst R (sym same) link.listed) in
-          let place = link.place in
-          taken.marked was.marked q (taken.whole q listed (omega (arith, place, was.len)))
+          let index = link.index in
+          taken.marked was.marked q (taken.whole q listed (omega (arith, index, was.len)))
     ];
     reached = λ q inside. (
         let L : List ℕ → Type 0 = λ l. Contains l q in
         elim (Contains-append_cases order taken.more q (subst L taken.goes_on inside)) [
           | inl before ↦ was.reached q before
           | inr now ↦
-              let place = taken.placed q now in
-              leads_more (was.reached next on.here) (record { listed = subst L own_is (taken.drawn q now); place = omega (arith, place, was.len) })
+              let index = taken.indexed q now in
+              leads_more (was.reached next on.here) (record { listed = subst L own_is (taken.drawn q now); index = omega (arith, index, was.len) })
         ]);
     bound = taken.bound was.bound;
     within = on.within;

@@ -1,4 +1,4 @@
--- What the rows of superseded places say of members, ways of superseding say of their ids.
+-- What the rows of superseded nodes say of members, ways of superseding say of their ids.
 use Rattle.std.proofs.Common.{◌≡◌, ◌&&◌, ℕ, ◌<◌, Bool, true, false, cond, List, [], ◌∷◌, length, map, is_some, Option, Some, None, refl, sym, ap, subst, inl, inr}
 use Rattle.std.specs.Prelude.{◌↔◌}
 use Rattle.std.specs.List.{Contains, find}
@@ -13,9 +13,9 @@ use Rattle.catalogue.proofs.IdFacts.{one_id}
 use Rattle.supersede.specs.Leading.{Gives, InstalledGiver, IsThere, IsWay}
 use Rattle.requisites.specs.Leads.{IsPath, Leads}
 use Rattle.requisites.specs.Nodes.{IsMarked, Links, row}
-use Rattle.chains.specs.Cuts.{PlaceOf, id_at}
-use Rattle.chains.specs.Places.{AreThere, InstalledAt}
-use Rattle.chains.proofs.PlaceFacts.{inside_at, one_place}
+use Rattle.chains.specs.Cuts.{IndexOf, id_at}
+use Rattle.chains.specs.Indices.{AreThere, InstalledAt}
+use Rattle.chains.proofs.IndexFacts.{inside_at, one_index}
 use Rattle.chains.proofs.SearchFacts.{any_at, any_from, first_inside, first_true, rest_inside}
 
 -- what has a record is listed
@@ -43,24 +43,24 @@ pub record AreWays (content : Content) (members supersedes : List (List ℕ)) : 
 module _ (content : Content) (members supersedes : List (List ℕ)) (ways : AreWays content members supersedes) where
   way_up : (p : ℕ) → p < length members → (list : List ℕ) (q : ℕ) → IsPath (Links supersedes (length members)) p list q → IsWay content (id_at members p) (map (id_at members) list) (id_at members q)
   way_up p below [] q same = ap (id_at members) same
-  way_up p below (z ∷ zs) q path = (ways.up p z below path.0.place path.0.listed, way_up z path.0.place zs q path.1)
+  way_up p below (z ∷ zs) q path = (ways.up p z below path.0.index path.0.listed, way_up z path.0.index zs q path.1)
 
   -- each id that a way visits on its way to a member is a member
-  visited : (next : List ℕ) (later : List (List ℕ)) (q : ℕ) → q < length members → IsWay content next later (id_at members q) → PlaceOf members next
-  visited next [] q within same = record { place = q; within = within; is = sym same }
+  visited : (next : List ℕ) (later : List (List ℕ)) (q : ℕ) → q < length members → IsWay content next later (id_at members q) → IndexOf members next
+  visited next [] q within same = record { index = q; within = within; is = sym same }
   visited next (z ∷ zs) q within way =
       inside_at members next (ways.inside next q within (record { catalogued = superseder_listed content next z way.0; way = z ∷ zs; leads = way }))
 
   way_down : (p : ℕ) → p < length members → (list : List (List ℕ)) (q : ℕ) → q < length members → IsWay content (id_at members p) list (id_at members q) → Leads (Links supersedes (length members)) p q
-  way_down p below [] q within same = record { list = []; path = one_place members p q [] ways.ascend below within same }
+  way_down p below [] q within same = record { list = []; path = one_index members p q [] ways.ascend below within same }
   way_down p below (next ∷ later) q within way =
       let at = visited next later q within way.1 in
       let S : List ℕ → Type 0 = λ x. Supersedes content (id_at members p) x in
       let Y : List ℕ → Type 0 = λ x. IsWay content x later (id_at members q) in
-      let rest = way_down at.place at.within later q within (subst Y (sym at.is) way.1) in
+      let rest = way_down at.index at.within later q within (subst Y (sym at.is) way.1) in
       record {
-        list = at.place ∷ rest.list;
-        path = (record { listed = ways.down p at.place below at.within (subst S (sym at.is) way.0); place = at.within }, rest.path);
+        list = at.index ∷ rest.list;
+        path = (record { listed = ways.down p at.index below at.within (subst S (sym at.is) way.0); index = at.within }, rest.path);
       }
 
   gives_up : (p q : ℕ) → p < length members → Contains (ids_of content) (id_at members p) → Leads (Links supersedes (length members)) p q → Gives content (id_at members p) (id_at members q)
@@ -92,7 +92,7 @@ module _ (content : Content) (members supersedes : List (List ℕ)) (ways : AreW
       by (z ∷ zs) path = inr (record {
         giver = id_at members at.source;
         installed = at.installed;
-        gives = gives_up at.source q at.within (superseder_listed content (id_at members at.source) (id_at members z) (ways.up at.source z at.within path.0.place path.0.listed)) (record { list = z ∷ zs; path = path });
+        gives = gives_up at.source q at.within (superseder_listed content (id_at members at.source) (id_at members z) (ways.up at.source z at.within path.0.index path.0.listed)) (record { list = z ∷ zs; path = path });
       })
 
     there_down : (q : ℕ) → q < length members → InstalledGiver content rows (id_at members q) → InstalledAt rows members supersedes q
@@ -101,10 +101,10 @@ module _ (content : Content) (members supersedes : List (List ℕ)) (ways : AreW
         let I : List ℕ → Type 0 = λ x. is_installed rows x ≡ true in
         let G : List ℕ → Type 0 = λ x. Gives content x (id_at members q) in
         record {
-          source = at.place;
+          source = at.index;
           within = at.within;
           installed = subst I (sym at.is) by.installed;
-          leads = gives_down at.place q at.within below (subst G (sym at.is) by.gives);
+          leads = gives_down at.index q at.within below (subst G (sym at.is) by.gives);
         }
 
     pub there_at : (marks : List Bool) → AreThere rows members supersedes marks → (q : ℕ) → q < length members → IsMarked marks q ↔ IsThere content rows (id_at members q)

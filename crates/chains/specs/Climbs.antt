@@ -1,4 +1,4 @@
--- No part of what is promised: private contracts cite it. What supersedes some ids, directly or through others, by places.
+-- No part of what is promised: private contracts cite it. What supersedes some ids, directly or through others, by index.
 use Rattle.std.specs.Prelude.{◌≡◌, ◌<◌, ◌≤◌, ◌↔◌, ◌++◌, ℕ, Bool, true, false, List, Option, Some, None, Contains, IfNone, IfSome, filter, is_some, length, map, slice_index, take}
 use Rattle.zone_lists.specs.declared.zones.ZoneRow.{ZoneRow}
 use Rattle.catalogue.specs.Content.{Content, IsInOrder, superseders}
@@ -8,49 +8,49 @@ use Rattle.requisites.specs.Nodes.{Links, mark_of}
 use Rattle.requisites.specs.Sources.{source_of}
 use Rattle.supersede.specs.Giving.{is_candidate, is_there}
 use Rattle.chains.specs.Cuts.{id_at}
-use Rattle.chains.specs.FramePlaces.{ArePlaced}
-use Rattle.chains.specs.Places.{IsAt}
+use Rattle.chains.specs.FrameIndices.{AreIndexed}
+use Rattle.chains.specs.Indices.{IsAt}
 
 -- what the lists name stands among the ids
 pub record AreListed (lists : List (List (List ℕ))) (ids : List (List ℕ)) : Type 0 where
   pub listed : (list : List (List ℕ)) (id : List ℕ) → Contains lists list → Contains list id → Contains ids id
 
--- by places, what supersedes each of the ids directly; it stands among them
+-- by index, what supersedes each of the ids directly; it stands among them
 pub record AreAbove (content : Content) (ids : List (List ℕ)) (above : List (List ℕ)) : Type 0 where
-  pub placed : ArePlaced ids (map (superseders content) ids) above
+  pub indexed : AreIndexed ids (map (superseders content) ids) above
   pub whole : (id other : List ℕ) → Contains ids id → Contains (superseders content id) other → Contains ids other
 
--- an id at a marked place, to which leads what supersedes another, directly or through others
-pub record IsMarkedAbove (ids : List (List ℕ)) (above : List (List ℕ)) (marks : List Bool) (place : ℕ) (id : List ℕ) : Type 0 where
+-- an id at a marked index, to which leads what supersedes another, directly or through others
+pub record IsMarkedAbove (ids : List (List ℕ)) (above : List (List ℕ)) (marks : List Bool) (index : ℕ) (id : List ℕ) : Type 0 where
   pub own : ℕ
   pub within : own < length ids
   pub is : id_at ids own ≡ id
   pub marked : mark_of marks own ≡ true
-  pub leads : Leads (Links above (length ids)) place own
+  pub leads : Leads (Links above (length ids)) index own
 
--- from a place the marked ids above it, and from none nothing
+-- from an index the marked ids above it, and from none nothing
 abbrev pub AreFrom : List (List ℕ) → List (List ℕ) → List Bool → Option ℕ → Option (List (List ℕ)) → Type 0
 AreFrom ids above marks None None = Unit {0}
 AreFrom ids above marks None (Some found) = ⊥
-AreFrom ids above marks (Some place) None = ⊥
-AreFrom ids above marks (Some place) (Some found) = Ascend found × ((giver : List ℕ) → Contains found giver ↔ IsMarkedAbove ids above marks place giver)
+AreFrom ids above marks (Some index) None = ⊥
+AreFrom ids above marks (Some index) (Some found) = Ascend found × ((giver : List ℕ) → Contains found giver ↔ IsMarkedAbove ids above marks index giver)
 
 -- what is answered where an id stands and isn't there: the marked ids above it
 pub record AreAbsent (ids : List (List ℕ)) (above : List (List ℕ)) (there candidates : List Bool) (id : List ℕ) (found : List (List ℕ)) : Type 0 where
-  pub place : ℕ
-  pub at : IsAt ids id place
-  pub absent : mark_of there place ≡ false
+  pub index : ℕ
+  pub at : IsAt ids id index
+  pub absent : mark_of there index ≡ false
   pub ascend : Ascend found
-  pub each : (giver : List ℕ) → Contains found giver ↔ IsMarkedAbove ids above candidates place giver
+  pub each : (giver : List ℕ) → Contains found giver ↔ IsMarkedAbove ids above candidates index giver
 
 -- what is answered for an id: nothing where it is there, and else the marked ids above it
 pub record IsAnswer (ids : List (List ℕ)) (above : List (List ℕ)) (there candidates : List Bool) (id : List ℕ) (found : Option (List (List ℕ))) : Type 0 where
   pub none : IfNone found ((p : ℕ) → IsAt ids id p → mark_of there p ≡ true)
   pub some : IfSome found (AreAbsent ids above there candidates id)
 
--- the places of a row that have a source
+-- the indices of a row that have a source
 abbrev pub with_source : List (Option ℕ) → List ℕ → List ℕ
-with_source sources places = filter (λ q. is_some (source_of sources q)) places
+with_source sources indices = filter (λ q. is_some (source_of sources q)) indices
 
 -- all that is found of what supersedes some ids: which of them are there, and which candidates stand above those of
 -- the ids asked for that aren't
@@ -62,21 +62,21 @@ pub record IsFound (content : Content) (rows : List ZoneRow) (asked ids : List (
   pub candidates_are : (p q : ℕ) → p < length ids → Contains asked (id_at ids p) → mark_of there p ≡ false → Leads (Links above (length ids)) p q
       → mark_of candidates q ≡ is_candidate content rows (id_at ids q)
 
--- ---- walks: a place has the number of the last walk that came to it
+-- ---- walks: an index has the number of the last walk that came to it
 
--- the places of a row, each one of n, to which walk number `turn` has come
+-- the indices of a row, each one of n, to which walk number `turn` has come
 pub record AreTaken (turn : ℕ) (row seen seen' order order' : List ℕ) : Type 0 where
   pub more : List ℕ
   pub goes_on : order' ≡ order ++ more
   pub drawn : (q : ℕ) → Contains more q → Contains row q
-  pub placed : (q : ℕ) → Contains more q → q < length seen
+  pub indexed : (q : ℕ) → Contains more q → q < length seen
   pub marked : ((q : ℕ) → slice_index seen q ≡ turn → Contains order q) → (q : ℕ) → slice_index seen' q ≡ turn → Contains order' q
   pub whole : (q : ℕ) → Contains row q → q < length seen → slice_index seen' q ≡ turn
   pub stays : (q : ℕ) → slice_index seen q ≡ turn → slice_index seen' q ≡ turn
   pub bound : ((q : ℕ) → slice_index seen q ≤ turn) → (q : ℕ) → slice_index seen' q ≤ turn
   pub len : length seen' ≡ length seen
 
--- walk number `turn` has come from a place to those in the order; of those before a place of it the rows were looked at
+-- walk number `turn` has come from an index to those in the order; of those before an index of it the rows were looked at
 pub record IsWalking (rows : List (List ℕ)) (n start turn : ℕ) (seen order : List ℕ) (at : ℕ) : Type 0 where
   pub begun : Contains order start
   pub marked : (q : ℕ) → slice_index seen q ≡ turn → Contains order q

@@ -1,32 +1,32 @@
--- No part of what is promised: private contracts cite it. A part of the content by places: what is found of plans,
--- picks and verdicts over the places of a part holds over the whole content, where the part is closed.
+-- No part of what is promised: private contracts cite it. A part of the content by index: what is found of plans,
+-- picks and verdicts over the indices of a part holds over the whole content, where the part is closed.
 use Rattle.std.specs.Prelude.{◌≡◌, ◌<◌, ◌↔◌, ℕ, List, [], length, slice_index_or}
 use Rattle.requisites.specs.World.{World}
 
--- the id at a place
+-- the id at an index
 abbrev pub id_at : List (List ℕ) → ℕ → List ℕ
 id_at members p = slice_index_or members p []
 
--- a place at which an id stands
-pub record PlaceOf (members : List (List ℕ)) (id : List ℕ) : Type 0 where
-  pub place : ℕ
-  pub within : place < length members
-  pub is : id_at members place ≡ id
+-- an index at which an id stands
+pub record IndexOf (members : List (List ℕ)) (id : List ℕ) : Type 0 where
+  pub index : ℕ
+  pub within : index < length members
+  pub is : id_at members index ≡ id
 
--- a place at which a need of p stands
-pub record NeedPlace (members : List (List ℕ)) (V : World ℕ) (p : ℕ) (need : List ℕ) : Type 0 where
-  pub at : PlaceOf members need
-  pub needs : V.Needs p at.place
+-- an index at which a need of p stands
+pub record NeedIndex (members : List (List ℕ)) (V : World ℕ) (p : ℕ) (need : List ℕ) : Type 0 where
+  pub at : IndexOf members need
+  pub needs : V.Needs p at.index
 
--- V speaks of the places of some ids as W speaks of the ids themselves: of each candidate it has all needs, and
--- of each place all candidates that give it
+-- V speaks of the indices of some ids as W speaks of the ids themselves: of each candidate it has all needs, and
+-- of each index all candidates that give it
 pub record IsCut (W : World (List ℕ)) (members : List (List ℕ)) (V : World ℕ) : Type 0 where
   pub within : (p : ℕ) → V.Candidate p → p < length members
   pub candidates : (p : ℕ) → p < length members → V.Candidate p ↔ W.Candidate (id_at members p)
   pub needs_within : (p q : ℕ) → V.Candidate p → V.Needs p q → q < length members
   pub needs : (p q : ℕ) → V.Candidate p → V.Needs p q → W.Needs (id_at members p) (id_at members q)
-  pub all_needs : (p : ℕ) (need : List ℕ) → V.Candidate p → W.Needs (id_at members p) need → NeedPlace members V p need
+  pub all_needs : (p : ℕ) (need : List ℕ) → V.Candidate p → W.Needs (id_at members p) need → NeedIndex members V p need
   pub there : (q : ℕ) → q < length members → V.There q ↔ W.There (id_at members q)
   pub gives : (p q : ℕ) → V.Candidate p → q < length members → V.Gives p q ↔ W.Gives (id_at members p) (id_at members q)
-  pub givers : (giver : List ℕ) (q : ℕ) → q < length members → W.Candidate giver → W.Gives giver (id_at members q) → PlaceOf members giver
+  pub givers : (giver : List ℕ) (q : ℕ) → q < length members → W.Candidate giver → W.Gives giver (id_at members q) → IndexOf members giver
   pub order : (p q : ℕ) → p < length members → q < length members → V.AtMost p q ↔ W.AtMost (id_at members p) (id_at members q)

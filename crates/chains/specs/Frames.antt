@@ -29,7 +29,7 @@ node_of content id = record {
 abbrev pub ids_in : List FrameNode → List (List ℕ)
 ids_in nodes = map (λ node. node.id) nodes
 
--- A frame as contracts see it: its nodes, and for each of them the places of those that it supersedes directly.
+-- A frame as contracts see it: its nodes, and for each of them the indices of those that it supersedes directly.
 pub record FrameLists : Type 0 where
   pub nodes : List FrameNode
   pub supersedes : List (List ℕ)

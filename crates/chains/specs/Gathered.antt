@@ -32,7 +32,7 @@ named_by gathered = gathered.needs ++ each_need gathered.conds ++ gathered.above
 abbrev pub Names : Content → List ℕ → List ℕ → Type 0
 Names content from to = Contains (named_by (gathered_of content from)) to
 
--- each id before a place of an order was read
+-- each id before an index of an order was read
 abbrev pub AreRead : List (List ℕ) → List (List ℕ) → ℕ → Type 0
 AreRead read order at = (id : List ℕ) → Contains (take at order) id → Contains read id
 
@@ -40,7 +40,7 @@ AreRead read order at = (id : List ℕ) → Contains (take at order) id → Cont
 pub record AreNamed (list : List Gathered) (ids : List (List ℕ)) : Type 0 where
   pub named : (gathered : Gathered) (id : List ℕ) → Contains list gathered → Contains (named_by gathered) id → Contains ids id
 
--- A walk by steps from one: those in the order are to be looked at, in turn; those before a place of it have been, and
+-- A walk by steps from one: those in the order are to be looked at, in turn; those before an index of it have been, and
 -- what they step to stands in the order.
 pub record IsWalked {A : Type 0} (Step : A → A → Type 0) (start : A) (seen order : List A) (at : ℕ) : Type 0 where
   pub begun : Contains order start

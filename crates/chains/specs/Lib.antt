@@ -3,11 +3,11 @@ pub mod Judge
 pub mod Worlds
 pub mod Cuts
 pub mod Sights
-pub mod Places
+pub mod Indices
 pub mod Whole
 pub mod Surveys
 pub mod Frames
 pub mod Gathered
-pub mod FramePlaces
+pub mod FrameIndices
 pub mod Candidates
 pub mod Climbs

@@ -2,7 +2,7 @@
 -- condition, and what it supersedes; and of all that is catalogued.
 use Rattle.std.specs.Prelude.{◌≡◌, ◌++◌, ◌==◌, ℕ, List, [], Option, filter, map}
 use Rattle.std.specs.List.{Contains}
-use Rattle.holddata.specs.HoldKey.{kind_place}
+use Rattle.holddata.specs.HoldKey.{kind_order}
 use Rattle.holddata.specs.declared.hold.Hold.{Hold}
 use Rattle.holddata.specs.declared.key.Kind.TheVariants.{ErrorHold}
 use Rattle.zone_lists.specs.declared.zones.ZoneRow.{ZoneRow}
@@ -23,7 +23,7 @@ unseen = record { fmids = []; needs = []; conds = []; superseded = [] }
 
 -- the reasons of the ERROR holds among some
 abbrev pub reasons_in : List Hold → List (List ℕ)
-reasons_in holds = map (λ hold. hold.key.reason) (filter (λ hold. kind_place hold.key.kind == kind_place ErrorHold) holds)
+reasons_in holds = map (λ hold. hold.key.reason) (filter (λ hold. kind_order hold.key.kind == kind_order ErrorHold) holds)
 
 -- by a record and the holds
 abbrev pub sight_from : Option Sysmod → List Hold → Sight

@@ -13,12 +13,12 @@ ghost use Rattle.supersede.specs.Giving.{fmids_of, is_candidate};
 ghost use Rattle.chains.specs.Candidates.{candidates_unless_there};
 ghost use Rattle.chains.specs.Climbs.{AreFrom, IsAnswer, IsFound, with_source};
 ghost use Rattle.chains.specs.Cuts.{id_at};
-ghost use Rattle.chains.specs.Places.{IsAt, MarksAre, RowsAre};
+ghost use Rattle.chains.specs.Indices.{IsAt, MarksAre, RowsAre};
 
 use crate::climbing::{Climb, climb_from};
 use crate::cut::{has_source, source_at, there_marks};
+use crate::indices::{ids_at, index_of, sort_each_once};
 use crate::listing::is_any_installed;
-use crate::places::{ids_at, place_of, sort_each_once};
 use crate::walks::Walks;
 use catalogue::{Published, SourceFault, Sysmod};
 use mcs_reader::{Id, NoMemory};
@@ -71,8 +71,8 @@ fn absent_marks(
 {
     let mut marks = vec![in alloc; false; ids.len()]?;
     for id in asked {
-        if let Some(place) = absent_at(ids, there, id) {
-            marks[place] = true;
+        if let Some(index) = absent_at(ids, there, id) {
+            marks[index] = true;
         }
     }
     Ok(marks)
@@ -94,8 +94,8 @@ fn wanted_candidates<P: Published>(
         (length ids.now) marks.items)) }
 {
     let mut marks = Vec::with_capacity(alloc, ids.len())?;
-    for (place, id) in ids.iter().enumerate() {
-        marks.push(is_wanted_candidate(source, zone, id, has_source(wanted, place))?)?;
+    for (index, id) in ids.iter().enumerate() {
+        marks.push(is_wanted_candidate(source, zone, id, has_source(wanted, index))?)?;
     }
     Ok(marks)
 }
@@ -150,15 +150,15 @@ fn found_among(
     found_for_each(alloc, asked, &climb.ids, &above, there, candidates)
 }
 
-// Of each row the places that have a source.
+// Of each row the indices that have a source.
 fn rows_with_source(alloc: Global, rows: &Rows, sources: &[Option<usize>]) -> Result<Rows, NoMemory>
-    ensures { IfOk result (λ kept. RowsAre (λ p places. places ≡ with_source sources.now (row rows.now p))
+    ensures { IfOk result (λ kept. RowsAre (λ p indices. indices ≡ with_source sources.now (row rows.now p))
         (length rows.now) kept) }
 {
     let mut kept = Rows::new(alloc);
     let mut own = Vec::new(alloc);
-    for place in 0..rows.len() {
-        put_with_source(&mut own, rows.row(place), sources)?;
+    for index in 0..rows.len() {
+        put_with_source(&mut own, rows.row(index), sources)?;
         kept.push_row(&own)?;
     }
     Ok(kept)
@@ -166,15 +166,15 @@ fn rows_with_source(alloc: Global, rows: &Rows, sources: &[Option<usize>]) -> Re
 
 fn put_with_source(
     own: &mut Vec<usize>,
-    places: &[usize],
+    indices: &[usize],
     sources: &[Option<usize>],
 ) -> Result<(), NoMemory>
-    ensures { OnOk result (own.new.items ≡ with_source sources.now places.now) }
+    ensures { OnOk result (own.new.items ≡ with_source sources.now indices.now) }
 {
     own.clear();
-    for place in places {
-        if source_at(sources, *place).is_some() {
-            own.push(*place)?;
+    for index in indices {
+        if source_at(sources, *index).is_some() {
+            own.push(*index)?;
         }
     }
     Ok(())
@@ -197,13 +197,13 @@ fn found_for_each(
     let mut found = Vec::with_capacity(alloc, asked.len())?;
     let mut walks = Walks::over(alloc, ids.len())?;
     for (turn, id) in asked.iter().enumerate() {
-        let place = absent_at(ids, there, id);
-        found.push(found_from(alloc, ids, above, candidates, &mut walks, turn + 1, place)?)?;
+        let index = absent_at(ids, there, id);
+        found.push(found_from(alloc, ids, above, candidates, &mut walks, turn + 1, index)?)?;
     }
     Ok(found)
 }
 
-// The marked ids above a place.
+// The marked ids above an index.
 fn found_from(
     alloc: Global,
     ids: &[Id],
@@ -211,63 +211,63 @@ fn found_from(
     marks: &[bool],
     walks: &mut Walks,
     turn: usize,
-    place: Option<usize>,
+    index: Option<usize>,
 ) -> Result<Option<Vec<Id>>, NoMemory>
     requires fresh { (q : ℕ) → slice_index walks.old.seen.items q < turn }
     requires len { length walks.old.seen.items ≡ length ids.now }
-    requires within { IfSome place (λ place. place < length ids.now) }
-    ensures found { IfOk result (λ found. AreFrom ids.now above.now marks.now place
+    requires within { IfSome index (λ index. index < length ids.now) }
+    ensures found { IfOk result (λ found. AreFrom ids.now above.now marks.now index
         (option_map (λ ids. ids.items) found)) }
     ensures bound { IfOk result (λ found. (q : ℕ) → slice_index walks.new.seen.items q ≤ turn) }
     ensures len { IfOk result (λ found. length walks.new.seen.items ≡ length ids.now) }
 {
-    let Some(place) = place else {
+    let Some(index) = index else {
         return Ok(None);
     };
-    walks.walk(above, turn, place)?;
-    Ok(Some(ids_marked(alloc, ids, marks, walks.places())?))
+    walks.walk(above, turn, index)?;
+    Ok(Some(ids_marked(alloc, ids, marks, walks.indices())?))
 }
 
 // Where an id stands, unless it is there.
 fn absent_at(ids: &[Id], there: &[bool], id: &Id) -> Option<usize>
     requires { Ascend ids.now }
-    ensures some { IfSome result (λ place. IsAt ids.now id.now place) }
-    ensures absent { IfSome result (λ place. mark_of there.now place ≡ false) }
+    ensures some { IfSome result (λ index. IsAt ids.now id.now index) }
+    ensures absent { IfSome result (λ index. mark_of there.now index ≡ false) }
     ensures none { IfNone result ((p : ℕ) → IsAt ids.now id.now p → mark_of there.now p ≡ true) }
 {
-    let place = place_of(ids, id)?;
-    if is_marked(there, place) {
+    let index = index_of(ids, id)?;
+    if is_marked(there, index) {
         return None;
     }
-    Some(place)
+    Some(index)
 }
 
-// The ids at those of some places that are marked, ascending, each once.
+// The ids at those of some indices that are marked, ascending, each once.
 fn ids_marked(
     alloc: Global,
     ids: &[Id],
     marks: &[bool],
-    places: &[usize],
+    indices: &[usize],
 ) -> Result<Vec<Id>, NoMemory>
-    requires { (q : ℕ) → Contains places.now q → q < length ids.now }
+    requires { (q : ℕ) → Contains indices.now q → q < length ids.now }
     ensures ascend { IfOk result (λ found. Ascend found.items) }
     ensures ids { IfOk result (λ found. found.items
-        ≡ in_order (map (id_at ids.now) (filter (mark_of marks.now) places.now))) }
+        ≡ in_order (map (id_at ids.now) (filter (mark_of marks.now) indices.now))) }
 {
-    let those = those_marked(alloc, marks, places)?;
+    let those = those_marked(alloc, marks, indices)?;
     let mut found = ids_at(alloc, ids, &those)?;
     sort_each_once(&mut found)?;
     Ok(found)
 }
 
-// Those of some places that are marked.
-fn those_marked(alloc: Global, marks: &[bool], places: &[usize]) -> Result<Vec<usize>, NoMemory>
-    ensures { IfOk result (λ those. those.items ≡ filter (mark_of marks.now) places.now) }
+// Those of some indices that are marked.
+fn those_marked(alloc: Global, marks: &[bool], indices: &[usize]) -> Result<Vec<usize>, NoMemory>
+    ensures { IfOk result (λ those. those.items ≡ filter (mark_of marks.now) indices.now) }
 {
     let mut those = Vec::new(alloc);
-    for place in places {
-        if is_marked(marks, *place) {
-            those.push(*place)?;
+    for index in indices {
+        if is_marked(marks, *index) {
+            those.push(*index)?;
         }
     }
     Ok(those)

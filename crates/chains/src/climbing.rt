@@ -7,11 +7,11 @@ ghost use Rattle.catalogue.specs.View.{IsOpen, MayAsk, Tells};
 ghost use Rattle.catalogue.specs.declared.fault.SourceFault.TheVariants.{Device};
 ghost use Rattle.requisites.specs.Nodes.{AreReversed};
 ghost use Rattle.chains.specs.Climbs.{AreAbove, AreListed};
-ghost use Rattle.chains.specs.FramePlaces.{ArePlaced};
+ghost use Rattle.chains.specs.FrameIndices.{AreIndexed};
 
 use crate::found::{ids_found, next_unread};
 use crate::gathered::ascending;
-use crate::places::put_places;
+use crate::indices::put_indices;
 use catalogue::{Ids, Published, SourceFault};
 use mcs_reader::{Id, NoMemory};
 use requisites::{Rows, turned};
@@ -22,7 +22,7 @@ use std::collections::BTreeMap;
 #[derive(Debug, Drop)]
 pub(crate) struct Climb {
     pub(crate) ids: Vec<Id>,
-    // For each the places of those that supersede it directly, and of those that it supersedes directly.
+    // For each the indices of those that supersede it directly, and of those that it supersedes directly.
     pub(crate) above: Rows,
     pub(crate) below: Rows,
 }
@@ -45,7 +45,7 @@ pub(crate) fn climb_from<P: Published>(
         → IsOpen P.content_view source.new) }
 {
     let found = superseders_of(alloc, source, starts)?;
-    Ok(by_places(alloc, found)?)
+    Ok(by_indices(alloc, found)?)
 }
 
 // What supersedes each of these directly, and each of those, and so on.
@@ -77,10 +77,10 @@ fn superseders_of<P: Published>(
     Ok(found)
 }
 
-fn by_places(alloc: Global, found: BTreeMap<Id, Ids>) -> Result<Climb, NoMemory>
+fn by_indices(alloc: Global, found: BTreeMap<Id, Ids>) -> Result<Climb, NoMemory>
     ensures ids { IfOk result (λ climb. climb.ids.items ≡ keys found) }
     ensures ascend { IfOk result (λ climb. Ascend climb.ids.items) }
-    ensures placed { IfOk result (λ climb. ArePlaced climb.ids.items (values found) climb.above) }
+    ensures indexed { IfOk result (λ climb. AreIndexed climb.ids.items (values found) climb.above) }
     ensures turned { IfOk result (λ climb. AreReversed climb.above (length climb.ids.items) climb.below) }
 {
     let ids = ids_found(alloc, &found)?;
@@ -98,17 +98,17 @@ fn lists_found(alloc: Global, found: BTreeMap<Id, Ids>) -> Result<Vec<Ids>, NoMe
     found.into_values().collect(alloc)
 }
 
-// For each of the ids the places of those that are listed for it.
+// For each of the ids the indices of those that are listed for it.
 fn rows_of(alloc: Global, ids: &[Id], lists: &[Ids]) -> Result<Rows, NoMemory>
     requires ascend { Ascend ids.now }
     requires len { length lists.now ≡ length ids.now }
-    ensures { IfOk result (λ rows. ArePlaced ids.now lists.now rows) }
+    ensures { IfOk result (λ rows. AreIndexed ids.now lists.now rows) }
 {
     let mut rows = Rows::new(alloc);
-    let mut places = Vec::new(alloc);
-    for (place, list) in lists.iter().enumerate() {
-        put_places(&mut places, ids, place + 1, list.as_slice())?;
-        rows.push_row(&places)?;
+    let mut indices = Vec::new(alloc);
+    for (index, list) in lists.iter().enumerate() {
+        put_indices(&mut indices, ids, index + 1, list.as_slice())?;
+        rows.push_row(&indices)?;
     }
     Ok(rows)
 }

@@ -2,9 +2,9 @@
 ghost use Rattle.std.specs.Prelude.{◌≡◌, ◌++◌, ◌∷◌, [], ℕ, List, OnOk};
 ghost use Rattle.catalogue.specs.Ids.{Ascend};
 ghost use Rattle.supersede.specs.Giving.{each_need, needs_where};
-ghost use Rattle.chains.specs.Places.{ArePlacesOf};
+ghost use Rattle.chains.specs.Indices.{AreIndicesOf};
 
-use crate::places::place_of;
+use crate::indices::index_of;
 use catalogue::CondNeed;
 use mcs_reader::{Id, NoMemory};
 use supersede::Zone;
@@ -19,38 +19,38 @@ pub(crate) fn push_each_need(ids: &mut Vec<Id>, conds: &[CondNeed]) -> Result<()
     Ok(())
 }
 
-/// Adds the places of the needs of those whose function is installed in a zone.
-pub(crate) fn push_places_where(
-    places: &mut Vec<usize>,
+/// Adds the indices of the needs of those whose function is installed in a zone.
+pub(crate) fn push_indices_where(
+    indices: &mut Vec<usize>,
     members: &[Id],
     zone: &Zone,
     conds: &[CondNeed],
 ) -> Result<(), NoMemory>
     requires { Ascend members.now }
-    ensures { OnOk result ((ids : List (List ℕ)) → ArePlacesOf members.now ids places.old.items
-        → ArePlacesOf members.now (ids ++ needs_where zone.now conds.now) places.new.items) }
+    ensures { OnOk result ((ids : List (List ℕ)) → AreIndicesOf members.now ids indices.old.items
+        → AreIndicesOf members.now (ids ++ needs_where zone.now conds.now) indices.new.items) }
 {
     for cond in conds {
-        push_place_where(places, members, zone, cond)?;
+        push_index_where(indices, members, zone, cond)?;
     }
     Ok(())
 }
 
-fn push_place_where(
-    places: &mut Vec<usize>,
+fn push_index_where(
+    indices: &mut Vec<usize>,
     members: &[Id],
     zone: &Zone,
     cond: &CondNeed,
 ) -> Result<(), NoMemory>
     requires { Ascend members.now }
-    ensures { OnOk result ((ids : List (List ℕ)) → ArePlacesOf members.now ids places.old.items
-        → ArePlacesOf members.now (ids ++ needs_where zone.now (cond.now ∷ [])) places.new.items) }
+    ensures { OnOk result ((ids : List (List ℕ)) → AreIndicesOf members.now ids indices.old.items
+        → AreIndicesOf members.now (ids ++ needs_where zone.now (cond.now ∷ [])) indices.new.items) }
 {
     if !zone.installed(&cond.fmid) {
         return Ok(());
     }
-    if let Some(place) = place_of(members, &cond.need) {
-        places.push(place)?;
+    if let Some(index) = index_of(members, &cond.need) {
+        indices.push(index)?;
     }
     Ok(())
 }

@@ -1,4 +1,4 @@
-//! All that is catalogued and all that it needs, as nodes by their places.
+//! All that is catalogued and all that it needs, as nodes by their indices.
 ghost use Rattle.std.specs.Prelude.{◌≡◌, ◌↔◌, ◌⊎◌, ℕ, List, true, Contains, IfOk, length, map};
 ghost use Rattle.std.specs.Global.{Vec};
 ghost use Rattle.zone_lists.specs.Installed.{is_installed, is_listed};
@@ -7,20 +7,20 @@ ghost use Rattle.catalogue.specs.Ids.{Ascend};
 ghost use Rattle.requisites.specs.Nodes.{world};
 ghost use Rattle.requisites.specs.Sources.{HasSource, source_of};
 ghost use Rattle.chains.specs.Cuts.{IsCut, id_at};
-ghost use Rattle.chains.specs.Places.{AreNodesWithin, AreSeen, AreThere, IsThereAt, MarksAre};
+ghost use Rattle.chains.specs.Indices.{AreNodesWithin, AreSeen, AreThere, IsThereAt, MarksAre};
 ghost use Rattle.chains.specs.Sights as Sights;
 ghost use Rattle.chains.specs.Sights.{IsSeen, Sight, sight_of};
 ghost use Rattle.chains.specs.Worlds.{world_of};
 
-use crate::conditional::push_places_where;
+use crate::conditional::push_indices_where;
+use crate::indices::{index_near, members_of, put_indices};
 use crate::listing::Entry;
-use crate::places::{members_of, place_near, put_places};
 use mcs_reader::{Id, NoMemory};
 use requisites::{Nodes, Rows, least_sources};
 use std::alloc::Global;
 use supersede::Zone;
 
-/// Ids in ascending order, and what a zone and the catalogue say of each, by places.
+/// Ids in ascending order, and what a zone and the catalogue say of each, by index.
 #[derive(Debug, Drop)]
 pub(crate) struct Cut {
     pub(crate) members: Vec<Id>,
@@ -72,19 +72,19 @@ fn nodes_of(
     let mut candidates = Vec::with_capacity(alloc, members.len())?;
     let mut needs = Rows::new(alloc);
     let mut supersedes = Rows::new(alloc);
-    let mut places = Vec::new(alloc);
+    let mut indices = Vec::new(alloc);
     let mut next = 0;
-    for (place, member) in members.iter().enumerate() {
+    for (index, member) in members.iter().enumerate() {
         let entry = entry_for(ids, entries, &unseen, member, next);
         if next < ids.len() && ids[next] == *member {
             next += 1;
         }
         candidates.push(entry.is_candidate(zone))?;
-        put_places(&mut places, members, place + 1, entry.needs())?;
-        push_places_where(&mut places, members, zone, entry.conds())?;
-        needs.push_row(&places)?;
-        put_places(&mut places, members, place + 1, entry.superseded())?;
-        supersedes.push_row(&places)?;
+        put_indices(&mut indices, members, index + 1, entry.needs())?;
+        push_indices_where(&mut indices, members, zone, entry.conds())?;
+        needs.push_row(&indices)?;
+        put_indices(&mut indices, members, index + 1, entry.superseded())?;
+        supersedes.push_row(&indices)?;
     }
     let there = there_marks(alloc, zone, members, &supersedes)?;
     Ok(Nodes {
@@ -95,7 +95,7 @@ fn nodes_of(
     })
 }
 
-// The entry of an id, or the other one where the ids don't have it. The id is looked for at a place first.
+// The entry of an id, or the other one where the ids don't have it. The id is looked for at an index first.
 fn entry_for<'a>(
     ids: &[Id],
     entries: &'a [Entry],
@@ -108,8 +108,8 @@ fn entry_for<'a>(
     requires unseen { unseen.now ≡ Sights.unseen }
     ensures { (f : List ℕ → Sight) → entries.now ≡ map f ids.now → IsSeen f ids.now id.now result.now }
 {
-    match place_near(ids, first, id) {
-        Some(place) => &entries[place],
+    match index_near(ids, first, id) {
+        Some(index) => &entries[index],
         None => unseen,
     }
 }
@@ -150,29 +150,29 @@ fn listed_or_given(
         (length members.now) marks.items) }
 {
     let mut marks = Vec::with_capacity(alloc, members.len())?;
-    for (place, member) in members.iter().enumerate() {
-        marks.push(is_there(zone, member, sources, place))?;
+    for (index, member) in members.iter().enumerate() {
+        marks.push(is_there(zone, member, sources, index))?;
     }
     Ok(marks)
 }
 
-// Whether a member at a place is listed or has a source.
-fn is_there(zone: &Zone, member: &Id, sources: &[Option<usize>], place: usize) -> bool
-    ensures { (result ≡ true) ↔ ((is_listed zone.now member.now ≡ true) ⊎ HasSource sources.now place) }
+// Whether a member at an index is listed or has a source.
+fn is_there(zone: &Zone, member: &Id, sources: &[Option<usize>], index: usize) -> bool
+    ensures { (result ≡ true) ↔ ((is_listed zone.now member.now ≡ true) ⊎ HasSource sources.now index) }
 {
-    zone.listed(member) || has_source(sources, place)
+    zone.listed(member) || has_source(sources, index)
 }
 
-/// Whether a place has a source.
-pub(crate) fn has_source(sources: &[Option<usize>], place: usize) -> bool
-    ensures { (result ≡ true) ↔ HasSource sources.now place }
+/// Whether an index has a source.
+pub(crate) fn has_source(sources: &[Option<usize>], index: usize) -> bool
+    ensures { (result ≡ true) ↔ HasSource sources.now index }
 {
-    source_at(sources, place).is_some()
+    source_at(sources, index).is_some()
 }
 
-/// The source of a place, where it has one.
-pub(crate) fn source_at(sources: &[Option<usize>], place: usize) -> Option<usize>
-    ensures { result ≡ source_of sources.now place }
+/// The source of an index, where it has one.
+pub(crate) fn source_at(sources: &[Option<usize>], index: usize) -> Option<usize>
+    ensures { result ≡ source_of sources.now index }
 {
-    sources.get(place).copied().flatten()
+    sources.get(index).copied().flatten()
 }

@@ -20,7 +20,7 @@ pub(crate) fn ids_found<T>(alloc: Global, found: &BTreeMap<Id, T>) -> Result<Vec
     Ok(ids)
 }
 
-/// Where the next id stands, from a place of an order on, of which nothing was read, or else where the order ends.
+/// Where the next id stands, from an index of an order on, of which nothing was read, or else where the order ends.
 pub(crate) fn next_unread<T>(found: &BTreeMap<Id, T>, order: &[Id], from: usize) -> usize
     ensures after { from ≤ result }
     ensures read { AreRead (keys found.now) order.now from → AreRead (keys found.now) order.now result }

@@ -4,7 +4,7 @@ ghost use Rattle.std.specs.BTreeMap.{keys, values};
 ghost use Rattle.std.specs.List.{list_any};
 ghost use Rattle.catalogue.specs.Content.{Content, IsInOrder};
 ghost use Rattle.catalogue.specs.Ids.{Ascend};
-ghost use Rattle.chains.specs.FramePlaces.{ArePlaced, has_conds};
+ghost use Rattle.chains.specs.FrameIndices.{AreIndexed, has_conds};
 ghost use Rattle.chains.specs.Frames.{IsClosed, IsFrame, ids_in};
 ghost use Rattle.chains.specs.Gathered.{AreNamed, IsGathered};
 
@@ -44,7 +44,7 @@ pub struct FrameNode {
 #[derive(Debug, Drop)]
 pub struct Frame {
     nodes: Vec<FrameNode>,
-    // The ids of the nodes, and by their places what each always needs and what it supersedes directly. A plan
+    // The ids of the nodes, and by their indices what each always needs and what it supersedes directly. A plan
     // doesn't ask for the givers, which are many where superseding is long.
     ids: Vec<Id>,
     needs: Rows,
@@ -54,7 +54,7 @@ pub struct Frame {
 }
 
 impl Model for Frame {
-    ghost use Rattle.chains.specs.FramePlaces.{IsFramed};
+    ghost use Rattle.chains.specs.FrameIndices.{IsFramed};
     ghost use Rattle.chains.specs.Frames.{FrameLists};
 
     ghost Value = { FrameLists };
@@ -108,14 +108,14 @@ impl Frame {
         self.ids.as_slice()
     }
 
-    /// By places, what each needs in every zone.
+    /// By index, what each needs in every zone.
     pub(crate) fn needs(&self) -> &Rows
-        ensures { ArePlaced (ids_in self.now.nodes) (map (λ node. node.needs) self.now.nodes) result.now }
+        ensures { AreIndexed (ids_in self.now.nodes) (map (λ node. node.needs) self.now.nodes) result.now }
     {
         &self.needs
     }
 
-    /// By places, what each supersedes directly.
+    /// By index, what each supersedes directly.
     pub(crate) fn supersedes(&self) -> &Rows
         ensures { result.now ≡ self.now.supersedes }
     {

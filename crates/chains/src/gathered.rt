@@ -10,8 +10,8 @@ ghost use Rattle.chains.specs.Sights.{reasons_in};
 
 use crate::conditional::push_each_need;
 use crate::found::next_unread;
+use crate::indices::sort_each_once;
 use crate::listing::{append, push_reasons};
-use crate::places::sort_each_once;
 use catalogue::{CondNeeds, Ids, Published, SourceFault, Sysmod};
 use holddata::Hold;
 use mcs_reader::{Id, NoMemory};

@@ -1,7 +1,7 @@
 //! The nodes of a frame, made of what was gathered.
 ghost use Rattle.std.specs.Prelude.{◌≡◌, ◌<◌, IfOk, length, map};
 ghost use Rattle.catalogue.specs.Ids.{Ascend};
-ghost use Rattle.chains.specs.FramePlaces.{AreNodesOf, ArePlaced, IsNodeAt};
+ghost use Rattle.chains.specs.FrameIndices.{AreIndexed, AreNodesOf, IsNodeAt};
 
 use crate::frames::FrameNode;
 use crate::gathered::Gathered;
@@ -19,12 +19,12 @@ pub(crate) fn nodes_of(
 ) -> Result<Vec<FrameNode>, NoMemory>
     requires ascend { Ascend ids.now }
     requires len { length all.now ≡ length ids.now }
-    requires placed { ArePlaced ids.now (map (λ g. g.above) all.now) above.now }
+    requires indexed { AreIndexed ids.now (map (λ g. g.above) all.now) above.now }
     ensures { IfOk result (λ nodes. AreNodesOf ids.now all.now (length ids.now) nodes.items) }
 {
     let mut nodes = Vec::with_capacity(alloc, ids.len())?;
-    for place in 0..ids.len() {
-        nodes.push(node_at(alloc, ids, all, above, place)?)?;
+    for index in 0..ids.len() {
+        nodes.push(node_at(alloc, ids, all, above, index)?)?;
     }
     Ok(nodes)
 }
@@ -34,18 +34,18 @@ fn node_at(
     ids: &[Id],
     all: &[Gathered],
     above: &Rows,
-    place: usize,
+    index: usize,
 ) -> Result<FrameNode, NoMemory>
     requires ascend { Ascend ids.now }
     requires len { length all.now ≡ length ids.now }
-    requires placed { ArePlaced ids.now (map (λ g. g.above) all.now) above.now }
-    requires within { place < length ids.now }
-    ensures { IfOk result (λ node. IsNodeAt ids.now all.now above.now place node) }
+    requires indexed { AreIndexed ids.now (map (λ g. g.above) all.now) above.now }
+    requires within { index < length ids.now }
+    ensures { IfOk result (λ node. IsNodeAt ids.now all.now above.now index node) }
 {
-    let givers = givers_at(alloc, ids, all, above, place)?;
-    let gathered = &all[place];
+    let givers = givers_at(alloc, ids, all, above, index)?;
+    let gathered = &all[index];
     Ok(FrameNode {
-        id: ids[place],
+        id: ids[index],
         catalogued: gathered.catalogued,
         fmids: gathered.fmids.copy()?,
         needs: gathered.needs.copy()?,

@@ -6,20 +6,20 @@ ghost use Rattle.catalogue.specs.Content.{Content};
 ghost use Rattle.catalogue.specs.Ids.{Ascend};
 ghost use Rattle.requisites.specs.Nodes.{mark_of};
 ghost use Rattle.chains.specs.Cuts.{id_at};
-ghost use Rattle.chains.specs.FramePlaces.{ArePlaced, node_needs};
+ghost use Rattle.chains.specs.FrameIndices.{AreIndexed, node_needs};
 ghost use Rattle.chains.specs.Frames.{IsFrame, ids_in};
 ghost use Rattle.chains.specs.Judge as judge;
-ghost use Rattle.chains.specs.Places.{ArePlacesOf, AreThere};
+ghost use Rattle.chains.specs.Indices.{AreIndicesOf, AreThere};
 ghost use Rattle.chains.specs.Verdicts.{is_good, verdict_of};
 
 use crate::Verdict;
-use crate::conditional::push_places_where;
+use crate::conditional::push_indices_where;
 use crate::cut::there_marks;
 use crate::frames::{Frame, FrameNode};
+use crate::indices::{by_ids, index_of};
 use crate::listing::is_any_installed;
-use crate::places::{by_ids, place_of};
 use mcs_reader::{Id, NoMemory};
-use requisites::{Nodes, Rows, is_marked, resolve, verdict_of_place};
+use requisites::{Nodes, Rows, is_marked, resolve, verdict_of_node};
 use std::alloc::Global;
 use supersede::Zone;
 
@@ -34,21 +34,21 @@ pub fn plan(alloc: Global, frame: &Frame, zone: &Zone, id: &Id) -> Result<Verdic
         → Contains (ids_in frame.now.nodes) id.now
         → judge.judged_by verdict ≡ verdict_of content zone.now id.now) }
 {
-    let Some(place) = place_of(frame.ids(), id) else {
+    let Some(index) = index_of(frame.ids(), id) else {
         return Ok(Verdict::Lack);
     };
     let nodes = seen_from(alloc, frame, zone)?;
     let resolution = resolve(alloc, &nodes)?;
-    let verdict = verdict_of_place(alloc, &nodes, &resolution, place)?;
+    let verdict = verdict_of_node(alloc, &nodes, &resolution, index)?;
     by_ids(alloc, frame.ids(), verdict)
 }
 
-// The nodes of a frame by their places, as a zone sees them.
+// The nodes of a frame by their indices, as a zone sees them.
 fn seen_from(alloc: Global, frame: &Frame, zone: &Zone) -> Result<Nodes, NoMemory>
     ensures candidates { IfOk result (λ nodes. nodes.candidates.items
         ≡ map (λ node. list_any (λ fmid. is_installed zone.now fmid) node.fmids) frame.now.nodes) }
     ensures needs { IfOk result (λ nodes.
-        ArePlaced (ids_in frame.now.nodes) (map (node_needs zone.now) frame.now.nodes) nodes.needs) }
+        AreIndexed (ids_in frame.now.nodes) (map (node_needs zone.now) frame.now.nodes) nodes.needs) }
     ensures supersedes { IfOk result (λ nodes. nodes.supersedes ≡ frame.now.supersedes) }
     ensures there { IfOk result
         (λ nodes. AreThere zone.now (ids_in frame.now.nodes) nodes.supersedes nodes.there.items) }
@@ -63,44 +63,44 @@ fn seen_from(alloc: Global, frame: &Frame, zone: &Zone) -> Result<Nodes, NoMemor
     })
 }
 
-// By places, what each node needs in the zone.
+// By index, what each node needs in the zone.
 fn zone_needs(alloc: Global, frame: &Frame, zone: &Zone) -> Result<Rows, NoMemory>
     ensures { IfOk result (λ rows.
-        ArePlaced (ids_in frame.now.nodes) (map (node_needs zone.now) frame.now.nodes) rows) }
+        AreIndexed (ids_in frame.now.nodes) (map (node_needs zone.now) frame.now.nodes) rows) }
 {
     if !frame.is_conditional() {
         return frame.needs().copy();
     }
     let mut needs = Rows::new(alloc);
-    let mut places = Vec::new(alloc);
-    for (place, node) in frame.nodes().iter().enumerate() {
+    let mut indices = Vec::new(alloc);
+    for (index, node) in frame.nodes().iter().enumerate() {
         put_needs(
-            &mut places,
-            frame.needs().row(place),
+            &mut indices,
+            frame.needs().row(index),
             frame.ids(),
             zone,
             node,
         )?;
-        needs.push_row(&places)?;
+        needs.push_row(&indices)?;
     }
     Ok(needs)
 }
 
-// Makes a list that of the places of what a node needs in the zone, given those of what it always needs.
+// Makes a list that of the indices of what a node needs in the zone, given those of what it always needs.
 fn put_needs(
-    places: &mut Vec<usize>,
+    indices: &mut Vec<usize>,
     always: &[usize],
     ids: &[Id],
     zone: &Zone,
     node: &FrameNode,
 ) -> Result<(), NoMemory>
     requires { Ascend ids.now }
-    ensures { OnOk result (ArePlacesOf ids.now node.now.needs always.now
-        → ArePlacesOf ids.now (node_needs zone.now node.now) places.new.items) }
+    ensures { OnOk result (AreIndicesOf ids.now node.now.needs always.now
+        → AreIndicesOf ids.now (node_needs zone.now node.now) indices.new.items) }
 {
-    places.clear();
-    places.extend_from_slice(always)?;
-    push_places_where(places, ids, zone, node.conds.as_slice())
+    indices.clear();
+    indices.extend_from_slice(always)?;
+    push_indices_where(indices, ids, zone, node.conds.as_slice())
 }
 
 // Which nodes may be installed.
@@ -130,15 +130,15 @@ pub fn good(alloc: Global, frame: &Frame, zone: &Zone) -> Result<Vec<Id>, NoMemo
     marked_ids(alloc, frame.ids(), &resolution.good)
 }
 
-// The ids at the places that are marked.
+// The ids at the indices that are marked.
 fn marked_ids(alloc: Global, ids: &[Id], marks: &[bool]) -> Result<Vec<Id>, NoMemory>
     ensures { IfOk result (λ those. (f : List ℕ → Bool)
         → ((p : ℕ) → p < length ids.now → mark_of marks.now p ≡ f (id_at ids.now p))
         → those.items ≡ filter f ids.now) }
 {
     let mut those = Vec::new(alloc);
-    for (place, id) in ids.iter().enumerate() {
-        if is_marked(marks, place) {
+    for (index, id) in ids.iter().enumerate() {
+        if is_marked(marks, index) {
             those.push(*id)?;
         }
     }

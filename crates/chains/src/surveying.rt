@@ -10,12 +10,12 @@ ghost use Rattle.chains.specs.Verdicts.{verdict_of};
 ghost use Rattle.zone_lists.specs.declared.zones.ZoneRow.{ZoneRow};
 
 use crate::cut::Cut;
+use crate::indices::{by_ids, index_of};
 use crate::listing::{Listing, listing_of};
-use crate::places::{by_ids, place_of};
 use crate::{Status, Verdict};
 use catalogue::{Published, SourceFault};
 use mcs_reader::{Id, NoMemory};
-use requisites::{Resolution, is_marked, resolve, verdict_of_place};
+use requisites::{Resolution, is_marked, resolve, verdict_of_node};
 use std::alloc::Global;
 use std::marker::Model;
 use supersede::Zone;
@@ -64,10 +64,10 @@ impl Survey {
             → IsSurvey content rows self.now
             → judge.judged_by verdict ≡ verdict_of content rows id.now) }
     {
-        let Some(place) = place_of(&self.cut.members, id) else {
+        let Some(index) = index_of(&self.cut.members, id) else {
             return Ok(Verdict::Lack);
         };
-        let verdict = verdict_of_place(alloc, &self.cut.nodes, &self.resolution, place)?;
+        let verdict = verdict_of_node(alloc, &self.cut.nodes, &self.resolution, index)?;
         by_ids(alloc, &self.cut.members, verdict)
     }
 
@@ -93,16 +93,16 @@ impl Survey {
         ensures { (content : Content) (rows : List ZoneRow) → IsSurvey content rows self.now
             → result ≡ judge.status_of (verdict_of content rows id.now) }
     {
-        let Some(place) = place_of(&self.cut.members, id) else {
+        let Some(index) = index_of(&self.cut.members, id) else {
             return Status::Lack;
         };
-        let good = is_marked(&self.resolution.good, place);
-        let candidate = is_marked(&self.cut.nodes.candidates, place);
+        let good = is_marked(&self.resolution.good, index);
+        let candidate = is_marked(&self.cut.nodes.candidates, index);
         status_by(good, candidate)
     }
 }
 
-// Which verdict it is, by the marks of a place.
+// Which verdict it is, by the marks of a node.
 fn status_by(good: bool, candidate: bool) -> Status
     ensures { result ≡ status_by good candidate }
 {

@@ -8,7 +8,7 @@ ghost use Rattle.chains.specs.Frames.{AreApart, FramesStay, ids_in};
 
 use crate::frames::Frame;
 use mcs_reader::Id;
-use supersede::place_among;
+use supersede::index_among;
 
 /// Whether a frame has one of some ids. `ascending` says that these are known to ascend: then each node is
 /// looked for among them by halves.
@@ -41,7 +41,7 @@ fn is_among(ids: &[Id], ascending: bool, id: &Id) -> bool
     ensures { result ≡ list_any (same_id id.now) ids.now }
 {
     if ascending {
-        return place_among(ids, id).is_some();
+        return index_among(ids, id).is_some();
     }
     ids.iter().any(|other| *id == *other)
 }

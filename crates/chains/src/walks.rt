@@ -1,4 +1,4 @@
-//! Walks by rows of places, many after one another over the same places.
+//! Walks by rows of indices, many after one another over the same indices.
 ghost use Rattle.std.specs.Prelude.{◌≡◌, ◌<◌, ◌≤◌, ◌↔◌, ℕ, [], ◌∷◌, Contains, IfOk, OnOk, length, slice_index};
 ghost use Rattle.requisites.specs.Leads.{Leads};
 ghost use Rattle.requisites.specs.Nodes.{Links};
@@ -8,17 +8,17 @@ use mcs_reader::NoMemory;
 use requisites::Rows;
 use std::alloc::Global;
 
-/// Walks that have numbers. A walk costs what it comes to, and nothing for the other places.
+/// Walks that have numbers. A walk costs what it comes to, and nothing for the other indices.
 #[derive(Debug, Drop)]
 pub(crate) struct Walks {
-    // For each place the number of the last walk that came to it.
+    // For each index the number of the last walk that came to it.
     seen: Vec<usize>,
-    // The places to which the last walk came.
+    // The indices to which the last walk came.
     order: Vec<usize>,
 }
 
 impl Walks {
-    /// No walks over so many places.
+    /// No walks over so many indices.
     pub(crate) fn over(alloc: Global, len: usize) -> Result<Walks, NoMemory>
         ensures len { IfOk result (λ walks. length walks.seen.items ≡ len) }
         ensures fresh { IfOk result (λ walks. (q : ℕ) → slice_index walks.seen.items q ≡ 0) }
@@ -29,14 +29,14 @@ impl Walks {
         })
     }
 
-    /// The places to which the last walk came, each once.
-    pub(crate) fn places(&self) -> &[usize]
+    /// The indices to which the last walk came, each once.
+    pub(crate) fn indices(&self) -> &[usize]
         ensures { result.now ≡ self.now.order.items }
     {
         self.order.as_slice()
     }
 
-    /// Walks from a place to all to which rows lead, itself among them. Its number is higher than those before.
+    /// Walks from an index to all to which rows lead, itself among them. Its number is higher than those before.
     pub(crate) fn walk(&mut self, rows: &Rows, turn: usize, start: usize) -> Result<(), NoMemory>
         requires fresh { (q : ℕ) → slice_index self.old.seen.items q < turn }
         requires start { start < length self.old.seen.items }
@@ -56,24 +56,24 @@ impl Walks {
         Ok(())
     }
 
-    // Comes to each place of a row to which the walk has not come.
+    // Comes to each index of a row to which the walk has not come.
     fn take_row(&mut self, turn: usize, row: &[usize]) -> Result<(), NoMemory>
         ensures { OnOk result (AreTaken turn row.now self.old.seen.items self.new.seen.items
             self.old.order.items self.new.order.items) }
     {
-        for place in row {
-            self.take(turn, *place)?;
+        for index in row {
+            self.take(turn, *index)?;
         }
         Ok(())
     }
 
-    fn take(&mut self, turn: usize, place: usize) -> Result<(), NoMemory>
-        ensures { OnOk result (AreTaken turn (place ∷ []) self.old.seen.items self.new.seen.items
+    fn take(&mut self, turn: usize, index: usize) -> Result<(), NoMemory>
+        ensures { OnOk result (AreTaken turn (index ∷ []) self.old.seen.items self.new.seen.items
             self.old.order.items self.new.order.items) }
     {
-        if place < self.seen.len() && self.seen[place] != turn {
-            self.seen[place] = turn;
-            self.order.push(place)?;
+        if index < self.seen.len() && self.seen[index] != turn {
+            self.seen[index] = turn;
+            self.order.push(index)?;
         }
         Ok(())
     }

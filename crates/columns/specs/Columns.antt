@@ -1,4 +1,4 @@
--- Text in columns, as reports print it. A column is a pair: the place where it begins, counted from 1, and
+-- Text in columns, as reports print it. A column is a pair: its start, counted from 1, and
 -- its name. The first column begins at 1, so no blank stands before it.
 use Rattle.std.specs.Prelude.{ℕ, ◌-◌, List, [], ◌∷◌, ◌++◌, length, drop, replicate, map, codes, decimal, Option, Some, None}
 use Rattle.std.specs.Borrow.{Bor}
@@ -7,7 +7,7 @@ use Rattle.columns.specs.declared.column.Column.{Column}
 
 -- the columns that the code's list names
 abbrev pub columns_of : List Column → List (ℕ × List ℕ)
-columns_of columns = map (λ column. (column.place, column.name.now)) columns
+columns_of columns = map (λ column. (column.start, column.name.now)) columns
 
 -- the bytes of each field
 abbrev pub texts_of : List (Bor (List ℕ)) → List (List ℕ)

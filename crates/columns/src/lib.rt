@@ -5,7 +5,7 @@
 //!
 //! ```
 //! use columns::{Column, Table};
-//! let columns = [Column { place: 1, name: b"ZONE" }, Column { place: 10, name: b"SYSMODS" }];
+//! let columns = [Column { start: 1, name: b"ZONE" }, Column { start: 10, name: b"SYSMODS" }];
 //! let mut table = Table::new(alloc, &columns, Some(b"ZONES OF ALPHA"))?;
 //! table.push(&[b"TGT1", b"2"])?;
 //! table.push(&[b"TGT2", b"20000"])?;

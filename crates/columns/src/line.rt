@@ -64,7 +64,7 @@ pub(crate) fn push_count(text: &mut Vec<u8>, rows: usize) -> Result<(), NoMemory
 
 // How long a row is whose fields fit their columns, with its line end, so that it takes one growth.
 fn row_len(columns: &[Column], fields: &[&[u8]]) -> usize {
-    let before_last = columns.last().map_or(0, |column| usize::from(column.place));
+    let before_last = columns.last().map_or(0, |column| usize::from(column.start));
     let last = fields.last().map_or(0, |field| field.len());
     before_last.saturating_add(last).saturating_add(1)
 }
@@ -74,7 +74,7 @@ fn width(columns: &[Column]) -> u16
     ensures { result ≡ width_of (columns_of columns.now) }
 {
     match columns {
-        [column, next, ..] => next.place.saturating_sub(column.place),
+        [column, next, ..] => next.start.saturating_sub(column.start),
         _ => 0,
     }
 }

@@ -14,11 +14,11 @@ use Rattle.holddata.specs.declared.hold.Hold.{Hold}
 use Rattle.holddata.specs.declared.hold.HoldChange.{HoldChange}
 use Rattle.holddata.specs.declared.hold.HoldChange.TheVariants.{Release}
 use Rattle.holddata.specs.HoldKey.{key_cmp, is_same_key}
-use Rattle.holddata.specs.BookPlace.{place_of, place_cmp}
+use Rattle.holddata.specs.SortKey.{sort_key_of, sort_key_cmp}
 use Rattle.holddata.specs.HoldChange.{key_of, names, hold_put, hold_left, IsRearranged}
 use Rattle.holddata.specs.HoldBook.{book_of, IsLeft}
 use Rattle.holddata.proofs.KeyFacts.{keys_total, same_is}
-use Rattle.holddata.proofs.PlaceFacts.{place_order}
+use Rattle.holddata.proofs.SortKeyFacts.{sort_key_order}
 use Rattle.holddata.proofs.BookFacts.{book_of_is_left, book_of_only}
 
 pub map_itself : (changes : List HoldChange) → map (λ change. change) changes ≡ changes
@@ -64,12 +64,12 @@ left_by book before changes others same left = record { in_key_order = left.in_k
 pub book_by : (old new : List Hold) (changes : List HoldChange) → ((before : List HoldChange) → IsLeft before old → IsLeft (before ++ changes) new) → (before : List HoldChange) → old ≡ book_of before → new ≡ book_of (before ++ changes)
 book_by old new changes left before was = book_of_only (before ++ changes) new (left before (subst (IsLeft before) (sym was) (book_of_is_left before)))
 
--- ---- a stable sort by the places of the keys rearranges
+-- ---- a stable sort by the sort keys rearranges
 
-neither : (k q : HoldKey) → (not (is_lt (place_cmp (place_of k) (place_of q))) && not (is_lt (place_cmp (place_of q) (place_of k)))) ≡ is_same_key q k
+neither : (k q : HoldKey) → (not (is_lt (sort_key_cmp (sort_key_of k) (sort_key_of q))) && not (is_lt (sort_key_cmp (sort_key_of q) (sort_key_of k)))) ≡ is_same_key q k
 neither k q =
-    ap (λ o. not (is_lt o) && not (is_lt (place_cmp (place_of q) (place_of k)))) (place_order k q ∙ keys_total.antisymm k q)
-    ∙ ap (λ o. not (is_lt (ordering_reverse (key_cmp q k))) && not (is_lt o)) (place_order q k)
+    ap (λ o. not (is_lt o) && not (is_lt (sort_key_cmp (sort_key_of q) (sort_key_of k)))) (sort_key_order k q ∙ keys_total.antisymm k q)
+    ∙ ap (λ o. not (is_lt (ordering_reverse (key_cmp q k))) && not (is_lt o)) (sort_key_order q k)
     ∙ by (key_cmp q k)
     ∙ same_is q k
   where
@@ -78,7 +78,7 @@ neither k q =
     by Equal = refl
     by Greater = refl
 
-pub rearranged : (changes others : List HoldChange) → IsStableByKey (λ change. place_of (key_of change)) place_cmp changes others → IsRearranged changes others
+pub rearranged : (changes others : List HoldChange) → IsStableByKey (λ change. sort_key_of (key_of change)) sort_key_cmp changes others → IsRearranged changes others
 rearranged changes others stable key =
-    let same : ties (λ (x y : HoldChange). is_lt (place_cmp (place_of (key_of x)) (place_of (key_of y)))) (Release key) ≡ names key = λ i change. neither key (key_of change) i in
+    let same : ties (λ (x y : HoldChange). is_lt (sort_key_cmp (sort_key_of (key_of x)) (sort_key_of (key_of y)))) (Release key) ≡ names key = λ i change. neither key (key_of change) i in
     ap (λ (test : HoldChange → Bool). filter test others) (sym same) ∙ stable (Release key) ∙ ap (λ (test : HoldChange → Bool). filter test changes) same

@@ -1,4 +1,4 @@
--- On a list in order into which a key is put at its place.
+-- On a list in order into which a key is put where it belongs.
 use Rattle.std.proofs.Common.{◌≡◌, Bool, true, false, ◌||◌, ◌&&◌, List, [], ◌∷◌, refl, sym, ◌∙◌, ap}
 use Rattle.std.specs.declared.cmp.Ordering.{Ordering}
 use Rattle.std.specs.declared.cmp.Ordering.TheVariants.{Less, Equal, Greater}
@@ -64,7 +64,7 @@ sorted_insert {K} cmp total (x ∷ xs) k h = by (sorted_insert cmp total xs k h.
     by rest Equal is = h
     by rest Greater is = (all_insert cmp (λ y. cmp x y ≡ Less) xs k h.0 (turned total k x is), rest)
 
--- ---- all keys of a list, each put at its place
+-- ---- all keys of a list, each put where it belongs
 
 pub sorted_puts : {K : Type 0} (cmp : K → K → Ordering) → IsTotalOrder cmp → (ks more : List K) → IsStrictlySortedBy cmp ks → IsStrictlySortedBy cmp (fold (insert_key cmp) ks more)
 sorted_puts cmp total ks [] h = h

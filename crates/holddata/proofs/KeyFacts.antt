@@ -12,26 +12,26 @@ use Rattle.std.proofs.lemmas.Map.Lookups.{CmpEqualImpliesEq, exact_unsigned, exa
 use Rattle.holddata.specs.declared.key.Kind.{Kind}
 use Rattle.holddata.specs.declared.key.Kind.TheVariants.{ErrorHold, SystemHold, UserHold, FixcatHold}
 use Rattle.holddata.specs.declared.key.HoldKey.{HoldKey}
-use Rattle.holddata.specs.HoldKey.{kind_place, kind_cmp, key_cmp, is_same_kind, is_same_key}
+use Rattle.holddata.specs.HoldKey.{kind_order, kind_cmp, key_cmp, is_same_kind, is_same_key}
 use Rattle.holddata.proofs.FoundFacts as found
 use Rattle.holddata.proofs.FoundFacts.{IsKeyOrder, one_key}
 
--- the kind at a place
+-- the kind of a number in the order of kinds
 kind_at : ℕ → Kind
 kind_at zero = ErrorHold
 kind_at (suc zero) = SystemHold
 kind_at (suc (suc zero)) = UserHold
 kind_at (suc (suc (suc n))) = FixcatHold
 
-kind_at_place : (kind : Kind) → kind_at (kind_place kind) ≡ kind
+kind_at_order : (kind : Kind) → kind_at (kind_order kind) ≡ kind
 unfolding kind_at
-kind_at_place ErrorHold = refl
-kind_at_place SystemHold = refl
-kind_at_place UserHold = refl
-kind_at_place FixcatHold = refl
+kind_at_order ErrorHold = refl
+kind_at_order SystemHold = refl
+kind_at_order UserHold = refl
+kind_at_order FixcatHold = refl
 
 exact_kinds : CmpEqualImpliesEq kind_cmp
-exact_kinds a b h = sym (kind_at_place a) ∙ ap kind_at (exact_unsigned (kind_place a) (kind_place b) h) ∙ kind_at_place b
+exact_kinds a b h = sym (kind_at_order a) ∙ ap kind_at (exact_unsigned (kind_order a) (kind_order b) h) ∙ kind_at_order b
 
 pub exact_keys : CmpEqualImpliesEq key_cmp
 exact_keys a b h =
@@ -43,7 +43,7 @@ exact_keys a b h =
 pub keys_total : IsTotalOrder key_cmp
 keys_total =
     then_total (on_total (λ (k : HoldKey). k.sysmod) nat_list_cmp_total)
-    (then_total (on_total (λ (k : HoldKey). kind_place k.kind) nat_cmp_total) (on_total (λ (k : HoldKey). k.reason) nat_list_cmp_total))
+    (then_total (on_total (λ (k : HoldKey). kind_order k.kind) nat_cmp_total) (on_total (λ (k : HoldKey). k.reason) nat_list_cmp_total))
 
 -- ---- the comparison decides whether keys are one
 
@@ -60,7 +60,7 @@ same_is a b =
     then_eq sysmods (ordering_then kinds reasons)
     ∙ ap (λ e. e && is_eq (ordering_then kinds reasons)) (is_eq-slice_cmp a.sysmod b.sysmod)
     ∙ ap (λ e. bytes_eq a.sysmod b.sysmod && e) (then_eq kinds reasons)
-    ∙ ap (λ e. bytes_eq a.sysmod b.sysmod && (e && is_eq reasons)) (unsigned_tied (kind_place a.kind) (kind_place b.kind))
+    ∙ ap (λ e. bytes_eq a.sysmod b.sysmod && (e && is_eq reasons)) (unsigned_tied (kind_order a.kind) (kind_order b.kind))
     ∙ ap (λ e. bytes_eq a.sysmod b.sysmod && (is_same_kind a.kind b.kind && e)) (is_eq-slice_cmp a.reason b.reason)
 
 pub key_order : IsKeyOrder key_cmp is_same_key

@@ -12,17 +12,17 @@ use Rattle.holddata.specs.declared.hold.Hold.{Hold}
 use Rattle.holddata.specs.declared.hold.HoldChange.{HoldChange}
 use Rattle.holddata.specs.declared.hold.HoldChange.TheVariants.{Put, Release}
 use Rattle.holddata.specs.HoldKey.{key_cmp, is_same_key}
-use Rattle.holddata.specs.BookPlace.{place_of, place_cmp}
+use Rattle.holddata.specs.SortKey.{sort_key_of, sort_key_cmp}
 use Rattle.holddata.specs.HoldChange.{key_of, names, hold_put, hold_left, IsRearranged}
 use Rattle.holddata.specs.HoldBook.{keys_in, hold_under, book_of, IsInKeyOrder}
 use Rattle.holddata.specs.Last.{IsAtMost, BeginsNoLower, AscendByKey, is_renamed, put_last, holds_last}
 use Rattle.holddata.proofs.KeyFacts.{exact_keys, keys_total, same_is, same_key, itself, turned_same}
-use Rattle.holddata.proofs.PlaceFacts.{place_order}
+use Rattle.holddata.proofs.SortKeyFacts.{sort_key_order}
 use Rattle.holddata.proofs.BookFacts.{book_of_only}
 use Rattle.holddata.proofs.FoundFacts.{none_last}
 use Rattle.holddata.proofs.BatchFacts.{last_found, left_by}
 
--- ---- a sort by the places of the keys puts them in order
+-- ---- a sort by the sort keys puts them in order
 
 at_most : (a b : HoldKey) → is_lt (key_cmp b a) ≡ false → IsAtMost a b
 at_most a b h = by (key_cmp a b) refl
@@ -32,20 +32,20 @@ at_most a b h = by (key_cmp a b) refl
     by Equal is = inr (exact_keys a b is)
     by Greater is = let e : true ≡ false = sym (ap is_lt (keys_total.antisymm b a ∙ ap ordering_reverse is)) ∙ h in absurd (cc)
 
-pub ascend : (changes : List HoldChange) → IsSortedByKey (λ change. place_of (key_of change)) place_cmp changes → AscendByKey changes
+pub ascend : (changes : List HoldChange) → IsSortedByKey (λ change. sort_key_of (key_of change)) sort_key_cmp changes → AscendByKey changes
 ascend [] up = tt
 ascend (change ∷ changes) up = (first changes up, ascend changes (λ k d low high. later k d (omega arith) high))
   where
     later : (k : ℕ) (d : HoldChange) → 0 ≤ suc k → k + 1 < length changes
-        → is_lt (place_cmp (place_of (key_of (slice_index_or changes (k + 1) d))) (place_of (key_of (slice_index_or changes k d)))) ≡ false
+        → is_lt (sort_key_cmp (sort_key_of (key_of (slice_index_or changes (k + 1) d))) (sort_key_of (key_of (slice_index_or changes k d)))) ≡ false
     later k d low high =
         let next : suc k + 1 ≡ suc (k + 1) = omega arith in
-        subst (λ n. is_lt (place_cmp (place_of (key_of (slice_index_or (change ∷ changes) n d))) (place_of (key_of (slice_index_or changes k d)))) ≡ false) next
+        subst (λ n. is_lt (sort_key_cmp (sort_key_of (key_of (slice_index_or (change ∷ changes) n d))) (sort_key_of (key_of (slice_index_or changes k d)))) ≡ false) next
         (up (suc k) d low (omega arith))
 
-    first : (rest : List HoldChange) → IsSortedByKey (λ change. place_of (key_of change)) place_cmp (change ∷ rest) → BeginsNoLower (key_of change) rest
+    first : (rest : List HoldChange) → IsSortedByKey (λ change. sort_key_of (key_of change)) sort_key_cmp (change ∷ rest) → BeginsNoLower (key_of change) rest
     first [] sorted = tt
-    first (next ∷ rest) sorted = at_most (key_of change) (key_of next) (ap is_lt (sym (place_order (key_of next) (key_of change))) ∙ sorted 0 change (omega arith) (omega arith))
+    first (next ∷ rest) sorted = at_most (key_of change) (key_of next) (ap is_lt (sym (sort_key_order (key_of next) (key_of change))) ∙ sorted 0 change (omega arith) (omega arith))
 
 -- ---- keys after a change
 

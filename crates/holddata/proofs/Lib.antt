@@ -6,7 +6,7 @@ pub mod OperandFacts
 pub mod AskedFacts
 pub mod StatementFacts
 pub mod KeyFacts
-pub mod PlaceFacts
+pub mod SortKeyFacts
 pub mod EntryFacts
 pub mod TextFacts
 pub mod BookFacts

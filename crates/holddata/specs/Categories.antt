@@ -16,7 +16,7 @@ ascends (x ∷ y ∷ rest) = is_lt (slice_cmp nat_cmp x y) && ascends (y ∷ res
 abbrev pub are_categories : List (List ℕ) → Bool
 are_categories texts = list_all is_category texts && ascends texts
 
--- texts in ascending order, with more put at their places, unless they are there
+-- texts in ascending order, with more put where they belong, unless they are there
 abbrev pub with_each : List (List ℕ) → List (List ℕ) → List (List ℕ)
 with_each kept texts = fold (insert_key (slice_cmp nat_cmp)) kept texts
 

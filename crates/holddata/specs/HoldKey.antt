@@ -14,22 +14,22 @@ kind_name SystemHold = codes "SYSTEM"
 kind_name UserHold = codes "USER"
 kind_name FixcatHold = codes "FIXCAT"
 
--- a kind's place in the order of kinds
-abbrev pub kind_place : Kind → ℕ
-kind_place ErrorHold = 0
-kind_place SystemHold = 1
-kind_place UserHold = 2
-kind_place FixcatHold = 3
+-- a kind's number in the order of kinds, from 0
+abbrev pub kind_order : Kind → ℕ
+kind_order ErrorHold = 0
+kind_order SystemHold = 1
+kind_order UserHold = 2
+kind_order FixcatHold = 3
 
 abbrev pub is_same_kind : Kind → Kind → Bool
-is_same_kind a b = kind_place a == kind_place b
+is_same_kind a b = kind_order a == kind_order b
 
 -- whether two keys are one: the same SYSMOD, kind and reason
 abbrev pub is_same_key : HoldKey → HoldKey → Bool
 is_same_key a b = bytes_eq a.sysmod b.sysmod && (is_same_kind a.kind b.kind && bytes_eq a.reason b.reason)
 
 abbrev pub kind_cmp : Kind → Kind → Ordering
-kind_cmp a b = nat_cmp (kind_place a) (kind_place b)
+kind_cmp a b = nat_cmp (kind_order a) (kind_order b)
 
 -- by SYSMOD, then by kind, then by reason; ids by their bytes
 abbrev pub key_cmp : HoldKey → HoldKey → Ordering

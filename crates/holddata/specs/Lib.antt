@@ -8,7 +8,7 @@ pub mod Given
 pub mod HoldChange
 pub mod Statements
 pub mod HoldBook
-pub mod BookPlace
+pub mod SortKey
 pub mod BookText
 pub mod Last
 pub mod Joined

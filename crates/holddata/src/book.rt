@@ -15,9 +15,9 @@ ghost use Rattle.mcs_reader.specs.declared.statement.Statement.{Statement};
 ghost use Rattle.faults.specs.Refusal.{IsRefusal};
 
 use crate::map::{HoldMap, copy_holds, hold_at, holds_around, make_change};
-use crate::place::place_of;
 use crate::print::{hold_table, push_hold};
-use crate::{BookPlace, Hold, HoldChange, HoldFault, HoldKey, NoMemory, change};
+use crate::sort_key::sort_key_of;
+use crate::{Hold, HoldChange, HoldFault, HoldKey, NoMemory, SortKey, change};
 use mcs_reader::{Id, Statement};
 use std::alloc::Global;
 use std::collections::btree_map::Values;
@@ -35,15 +35,15 @@ impl Model for HoldBook {
     ghost use Rattle.std.specs.BTreeMap.{IsOrdered};
     ghost use Rattle.std.specs.Map.{values_of};
     ghost use Rattle.holddata.specs.declared.hold.Hold.{Hold};
-    ghost use Rattle.holddata.specs.BookPlace.{place_cmp, IsPlaced};
+    ghost use Rattle.holddata.specs.SortKey.{sort_key_cmp, HasSortKeys};
 
     ghost Value = { List Hold };
 
     ghost view = { λ book. values_of book.holds.entries };
 
     ghost invariant = { λ book. record {
-      ordered : IsOrdered place_cmp book.holds;
-      placed : IsPlaced book.holds.entries;
+      ordered : IsOrdered sort_key_cmp book.holds;
+      sort_keys : HasSortKeys book.holds.entries;
     } };
 }
 
@@ -66,7 +66,7 @@ impl HoldBook {
     }
 
     /// The holds in the order of their keys. It takes no memory.
-    pub fn iter(&self) -> Values<'_, BookPlace, Hold>
+    pub fn iter(&self) -> Values<'_, SortKey, Hold>
         ensures holds { result ≡ self.now }
         ensures runs { ShowsInOrder (deref {X = Hold}) }
         ensures in_key_order { IsInKeyOrder self.now }
@@ -218,5 +218,5 @@ pub(crate) fn sort_by_key(changes: &mut Vec<HoldChange>) -> Result<(), NoMemory>
     ensures same { IsRearranged changes.old.items changes.new.items }
     ensures ascending { OnOk result (AscendByKey changes.new.items) }
 {
-    changes.sort_by_cached_key(|change| place_of(&change.key()))
+    changes.sort_by_cached_key(|change| sort_key_of(&change.key()))
 }

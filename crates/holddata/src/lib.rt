@@ -6,7 +6,7 @@
 //! - [`hold_operands`]: the operands that are read, for those who ask for these alone; [`sole_value`]: the one value
 //!   that operands of one name give
 //! - [`HoldBook`]: takes changes one by one or many at a time, and gives its holds by key, by SYSMOD, in key order,
-//!   and as text; [`BookPlace`]: its order
+//!   and as text; [`SortKey`]: its order
 //! - [`book_left`]: the book that a list of changes leaves; [`book_text_left`]: its text
 //! - [`Hold`], [`HoldKey`]: a hold, and what it is known by; [`Kind`], [`Date`], [`Categories`]: parts of it;
 //!   [`join_with_commas`]: texts with commas between
@@ -37,9 +37,9 @@ mod key;
 mod last;
 mod map;
 mod operands;
-mod place;
 mod print;
 mod reading;
+mod sort_key;
 
 pub use asked::hold_operands;
 pub use book::{HoldBook, book_left};
@@ -51,5 +51,5 @@ pub use hold::{Hold, HoldChange};
 pub use key::{HoldKey, Kind};
 pub use last::book_text_left;
 pub use operands::sole_value;
-pub use place::BookPlace;
 pub use reading::{change, changes};
+pub use sort_key::SortKey;

@@ -7,15 +7,15 @@ ghost use Rattle.std.specs.Option.{option_copied};
 ghost use Rattle.holddata.specs.HoldKey.{is_same_key};
 ghost use Rattle.holddata.specs.HoldChange.{hold_put};
 ghost use Rattle.holddata.specs.HoldBook.{hold_under, holds_on, IsChanged};
-ghost use Rattle.holddata.specs.BookPlace.{IsPlaced, place_cmp};
+ghost use Rattle.holddata.specs.SortKey.{HasSortKeys, sort_key_cmp};
 
-use crate::place::{BookPlace, place_of, places_around};
+use crate::sort_key::{SortKey, sort_key_of, sort_keys_around};
 use crate::{Hold, HoldChange, HoldKey, NoMemory};
 use mcs_reader::Id;
 use std::collections::BTreeMap;
 use std::collections::btree_map::Range;
 
-pub(crate) type HoldMap = BTreeMap<BookPlace, Hold>;
+pub(crate) type HoldMap = BTreeMap<SortKey, Hold>;
 
 /// The same map once more.
 pub(crate) fn copy_holds(holds: &HoldMap) -> Result<HoldMap, NoMemory>
@@ -26,28 +26,28 @@ pub(crate) fn copy_holds(holds: &HoldMap) -> Result<HoldMap, NoMemory>
 
 /// The hold under a key.
 pub(crate) fn hold_at<'a>(holds: &'a HoldMap, key: &HoldKey) -> Option<&'a Hold>
-    requires { IsPlaced holds.now.entries }
+    requires { HasSortKeys holds.now.entries }
     ensures { option_copied result ≡ hold_under (values_of holds.now.entries) key.now }
 {
-    holds.get(&place_of(key))
+    holds.get(&sort_key_of(key))
 }
 
 /// The holds on a SYSMOD.
-pub(crate) fn holds_around<'a>(holds: &'a HoldMap, sysmod: &Id) -> Range<'a, BookPlace, Hold>
-    requires { IsPlaced holds.now.entries }
+pub(crate) fn holds_around<'a>(holds: &'a HoldMap, sysmod: &Id) -> Range<'a, SortKey, Hold>
+    requires { HasSortKeys holds.now.entries }
     ensures { values_of result ≡ holds_on (values_of holds.now.entries) sysmod.now }
 {
-    let (before, after) = places_around(sysmod);
+    let (before, after) = sort_keys_around(sysmod);
     holds.range(before..after)
 }
 
 /// Makes one change.
 pub(crate) fn make_change(holds: &mut HoldMap, change: HoldChange) -> Result<(), NoMemory>
-    requires { IsPlaced holds.old.entries }
+    requires { HasSortKeys holds.old.entries }
     ensures changed { OnOk result
         (IsChanged change (values_of holds.old.entries) (values_of holds.new.entries)) }
-    ensures ordered { IsOrdered place_cmp holds.new }
-    ensures placed { IsPlaced holds.new.entries }
+    ensures ordered { IsOrdered sort_key_cmp holds.new }
+    ensures sort_keys { HasSortKeys holds.new.entries }
     ensures err { OnErr result (holds.new.entries ≡ holds.old.entries) }
     ensures release { hold_put change ≡ None → IsOk result }
 {
@@ -61,25 +61,25 @@ pub(crate) fn make_change(holds: &mut HoldMap, change: HoldChange) -> Result<(),
 }
 
 fn put(holds: &mut HoldMap, hold: Hold) -> Result<(), NoMemory>
-    requires { IsPlaced holds.old.entries }
+    requires { HasSortKeys holds.old.entries }
     ensures updates { OnOk result ((key : HoldKey) →
         hold_under (values_of holds.new.entries) key
         ≡ (if is_same_key hold.key key then Some hold else hold_under (values_of holds.old.entries) key)) }
-    ensures ordered { IsOrdered place_cmp holds.new }
-    ensures placed { IsPlaced holds.new.entries }
+    ensures ordered { IsOrdered sort_key_cmp holds.new }
+    ensures sort_keys { HasSortKeys holds.new.entries }
     ensures err { OnErr result (holds.new.entries ≡ holds.old.entries) }
 {
-    holds.insert(place_of(&hold.key), hold)?;
+    holds.insert(sort_key_of(&hold.key), hold)?;
     Ok(())
 }
 
 fn release(holds: &mut HoldMap, key: &HoldKey)
-    requires { IsPlaced holds.old.entries }
+    requires { HasSortKeys holds.old.entries }
     ensures updates { (q : HoldKey) →
         hold_under (values_of holds.new.entries) q
         ≡ (if is_same_key key.now q then None else hold_under (values_of holds.old.entries) q) }
-    ensures ordered { IsOrdered place_cmp holds.new }
-    ensures placed { IsPlaced holds.new.entries }
+    ensures ordered { IsOrdered sort_key_cmp holds.new }
+    ensures sort_keys { HasSortKeys holds.new.entries }
 {
-    holds.remove(&place_of(key));
+    holds.remove(&sort_key_of(key));
 }

@@ -16,35 +16,35 @@ use std::alloc::Global;
 // Where each column begins, and its name.
 const COLUMNS: [Column; 8] = [
     Column {
-        place: 1,
+        start: 1,
         name: b"SYSMOD",
     },
     Column {
-        place: 10,
+        start: 10,
         name: b"KIND",
     },
     Column {
-        place: 18,
+        start: 18,
         name: b"REASON",
     },
     Column {
-        place: 27,
+        start: 27,
         name: b"FMID",
     },
     Column {
-        place: 36,
+        start: 36,
         name: b"CLASS",
     },
     Column {
-        place: 45,
+        start: 45,
         name: b"DATE",
     },
     Column {
-        place: 52,
+        start: 52,
         name: b"RESOLVER",
     },
     Column {
-        place: 61,
+        start: 61,
         name: b"CATEGORY",
     },
 ];

@@ -10,7 +10,7 @@ use Rattle.mcs_reader.specs.Run.{begins_value, value_run, after_value}
 use Rattle.mcs_reader.specs.Scan.{after_comment}
 use Rattle.mcs_reader.proofs.RoleFacts.{both, role_of-42, role_of-47, never_comment}
 
--- the role of a byte at its place
+-- the role of a byte at its position
 
 pub here_of : (b : ℕ) (text : List ℕ) (role : ByteRole) → role_of b ≡ role → role ≢ Other → role_here b text ≡ role
 here_of b text role is other = by_test (b == 47) refl where

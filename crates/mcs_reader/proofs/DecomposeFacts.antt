@@ -47,7 +47,7 @@ abbrev pub At : ℕ → Before → Bool → List ℕ → Type 0
 At zero before begun text = Outer before begun text
 At (suc depth) before begun text = Closes (At depth no_name false) text ⊎ Unclosed text
 
--- what holds at every place further on, holds after a front
+-- what holds at every position further on, holds after a front
 at_rest : (P : List ℕ → Type 0) (text front rest : List ℕ) → text ≡ front ++ rest → ((skip : ℕ) → P (drop skip text)) → P rest
 at_rest P text front rest whole after = subst P (ap (drop (length front)) whole ∙ drop-append_seam front rest) (after (length front))
 
@@ -121,7 +121,7 @@ outer_gap before begun b text is r = record {
 comment_begins : (b : ℕ) (text : List ℕ) (at : CommentAt b text) → b ∷ text ≡ 47 ∷ 42 ∷ at.rest
 comment_begins b text at = ap (λ n. n ∷ text) at.byte_is ∙ ap (λ t. 47 ∷ t) at.whole
 
--- what stands after a comment, as a place further on
+-- what stands after a comment, as a position further on
 after_ended : (b : ℕ) (text : List ℕ) (at : CommentAt b text) (c : Ended at.rest) → text ≡ (42 ∷ (c.body ++ 42 ∷ 47 ∷ [])) ++ c.rest
 after_ended b text at c = at.whole ∙ ap (λ t. 42 ∷ t) (c.whole ∙ sym (append_assoc c.body (42 ∷ 47 ∷ []) c.rest))
 
@@ -329,7 +329,7 @@ at_end : (depth : ℕ) (before : Before) (begun : Bool) → At depth before begu
 at_end zero before begun = record { pieces = nothing; stop = text_ends; outside = tt; stops = tt; whole = refl }
 at_end (suc depth) before begun = inr (record { pieces = nothing; deeper = []; end = None; inside = tt; all = tt; ends = tt; whole = refl })
 
--- from the cuts at every place further on, that at a place
+-- from the cuts at every position further on, that at a position
 abbrev After : List ℕ → Type 0
 After text = (skip depth : ℕ) (before : Before) (begun : Bool) → At depth before begun (drop skip text)
 

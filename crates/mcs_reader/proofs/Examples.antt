@@ -5,7 +5,7 @@ use Rattle.mcs_reader.specs.Byte.{role_of}
 use Rattle.mcs_reader.specs.Id.{padded}
 use Rattle.mcs_reader.specs.Line.{text_of}
 use Rattle.mcs_reader.specs.OperandText.{OperandText}
-use Rattle.mcs_reader.specs.Place.{verb_at}
+use Rattle.mcs_reader.specs.Position.{verb_at}
 use Rattle.mcs_reader.specs.ReadLines.{read_lines, read_text}
 use Rattle.mcs_reader.specs.Reading.{most_bytes, IsReading, IsFirstFault}
 use Rattle.mcs_reader.specs.Pieces.{is_comment_name}

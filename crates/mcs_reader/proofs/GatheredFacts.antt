@@ -9,7 +9,7 @@ use Rattle.mcs_reader.specs.Gathered.{is_wanted, operands_for, reading_for, stat
 use Rattle.mcs_reader.specs.Byte.{is_name_byte}
 use Rattle.mcs_reader.specs.OperandText.{OperandText}
 use Rattle.mcs_reader.specs.Pieces.{named_before, no_name}
-use Rattle.mcs_reader.specs.Place.{role_at}
+use Rattle.mcs_reader.specs.Position.{role_at}
 use Rattle.mcs_reader.specs.Run.{run, after_run}
 use Rattle.mcs_reader.specs.Scan.{Found, Outcome, on_found, scan, with_name, with_operands}
 use Rattle.mcs_reader.specs.declared.byte.ByteRole.TheVariants.{Name}

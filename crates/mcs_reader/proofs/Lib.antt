@@ -13,9 +13,9 @@ pub mod SegmentFacts
 pub mod CutFacts
 pub mod OutcomeFacts
 pub mod LineFacts
-pub mod PlaceFacts
+pub mod PositionFacts
 pub mod PassFacts
-pub mod ScanPlaceFacts
+pub mod ScanPositionFacts
 pub mod AloneFacts
 pub mod OutsideFacts
 pub mod StepCountFacts

@@ -1,4 +1,4 @@
--- What the machine does outside lists, at a place of each role.
+-- What the machine does outside lists, at a position of each role.
 use Rattle.std.proofs.Common.{◌≡◌, ◌≢◌, ℕ, zero, suc, ◌-◌, ◌==◌, ◌<◌, inl, inr, Bool, true, false, List, [], ◌∷◌, length, drop, Option, Some, None, unwrap_or, Result, Ok, Err, IsErr, refl, sym, ◌∙◌, ap, subst}
 use Rattle.mcs_reader.specs.Byte.{is_name_byte}
 use Rattle.mcs_reader.specs.Comment.{role_here}
@@ -7,7 +7,7 @@ use Rattle.mcs_reader.specs.declared.byte.ByteRole.TheVariants.{Gap, Comment, Na
 use Rattle.mcs_reader.specs.declared.fault.McsFault.TheVariants.{NoPeriod, Unbalanced, BadByte}
 use Rattle.mcs_reader.specs.Lists.{OpensList, after_raw_list}
 use Rattle.mcs_reader.specs.Pieces.{Before, no_name, a_name, name_comment, named_before}
-use Rattle.mcs_reader.specs.Place.{role_at}
+use Rattle.mcs_reader.specs.Position.{role_at}
 use Rattle.mcs_reader.specs.Run.{run, after_run}
 use Rattle.mcs_reader.specs.Scan.{pass, scan, Found, Outcome, on_found, with_name, with_list_after, with_operands, stray, after_comment, after_raw, past}
 use Rattle.mcs_reader.proofs.RoleFacts.{role-is_name, role-is_open}
@@ -16,7 +16,7 @@ use Rattle.mcs_reader.proofs.RawFacts.{RawAt, raw_cut, after_raw-ends, after_raw
 use Rattle.mcs_reader.proofs.RunFacts.{run-append-after_run, begins_with-after_run, is_word-run}
 use Rattle.mcs_reader.proofs.ScanFacts.{skip-step, scan-gap, scan-comment_step, scan-name_step, scan-open, scan-close, scan-period, scan-other}
 use Rattle.mcs_reader.proofs.ScanPiecesFacts.{scan-word, scan-raw_list, scan-open_raw}
-use Rattle.mcs_reader.proofs.ScanPlaceFacts.{here, shorter_after_run}
+use Rattle.mcs_reader.proofs.ScanPositionFacts.{here, shorter_after_run}
 
 -- without a name before it, no list comes before the next name
 
@@ -77,7 +77,7 @@ operand_found name list values r h is =
       by_case (Some vs) (Ok found) e = ap (λ vs. Ok (record { values = None; operands = record { name = name; values = vs } ∷ found.operands; rest = found.rest })) e
       by_case (Some vs) (Err fault) e = refl
 
--- places outside lists
+-- positions outside lists
 
 values_opened : (line : ℕ) (text : List ℕ) → role_at text ≡ Some Open → scan line zero a_name false text ≡ scan line 1 no_name false (drop 1 text)
 values_opened line text h =

@@ -1,6 +1,6 @@
 -- One step of the machine that reads line by line.
 use Rattle.std.proofs.Common.{◌≡◌, ℕ, zero, suc, List, [], ◌∷◌, ◌++◌, Ok, Err, refl, sym, ap, append_assoc}
-use Rattle.mcs_reader.specs.Place.{verb_at}
+use Rattle.mcs_reader.specs.Position.{verb_at}
 use Rattle.mcs_reader.specs.ReadLines.{at_verb, read_lines}
 use Rattle.mcs_reader.specs.Unread.{Read, with_statements}
 use Rattle.mcs_reader.specs.declared.statement.Statement.{Statement}

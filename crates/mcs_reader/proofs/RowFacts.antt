@@ -10,7 +10,7 @@ use Rattle.mcs_reader.specs.Pieces.{spell}
 use Rattle.mcs_reader.specs.StatementText.{StatementText, IsStatementText, spell_statement}
 use Rattle.mcs_reader.specs.Segment.{IsLine, IsPassed, AllPassed, spell_lines}
 use Rattle.mcs_reader.specs.declared.statement.Verb.{Verb}
-use Rattle.mcs_reader.specs.Place.{name_after, text_after, verb_at}
+use Rattle.mcs_reader.specs.Position.{name_after, text_after, verb_at}
 use Rattle.mcs_reader.specs.Run.{run, after_run}
 use Rattle.mcs_reader.proofs.RunFacts.{run_is, after_run_is, begins_with-append, after_line-line, IsLine-append, IsLine-of, in_line, line_ends-append, line_ends-line, begins_statement-line}
 use Rattle.mcs_reader.specs.ReadLines.{at_verb, read_lines}

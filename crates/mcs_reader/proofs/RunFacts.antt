@@ -7,7 +7,7 @@ use Rattle.mcs_reader.specs.Line.{line_ends, begins_statement}
 use Rattle.mcs_reader.specs.Verb.{begins_with}
 use Rattle.mcs_reader.specs.Segment.{IsLine}
 use Rattle.mcs_reader.specs.Pieces.{is_word}
-use Rattle.mcs_reader.specs.Place.{after_line}
+use Rattle.mcs_reader.specs.Position.{after_line}
 use Rattle.mcs_reader.specs.Run.{run, after_run}
 
 pub run-append-after_run : (test : ℕ → Bool) (text : List ℕ) → run test text ++ after_run test text ≡ text

@@ -12,7 +12,7 @@ use Rattle.mcs_reader.specs.declared.fault.McsFault.TheVariants.{BadVerbSubject}
 use Rattle.mcs_reader.specs.declared.statement.Verb.{Verb}
 use Rattle.mcs_reader.specs.declared.statement.Statement.{Statement}
 use Rattle.mcs_reader.specs.Scan.{scan, Found, Stated, stated, with_subject}
-use Rattle.mcs_reader.specs.Place.{after_line, verb_at}
+use Rattle.mcs_reader.specs.Position.{after_line, verb_at}
 use Rattle.mcs_reader.proofs.ScanPiecesFacts.{begins_name, scan-statement, scan-fault, scan-stop, no_name_after, IsFlaw}
 use Rattle.mcs_reader.proofs.RunFacts.{begins_with-append, after_line-line, IsLine-append, line_ends-append, line_ends-line}
 use Rattle.mcs_reader.specs.ReadLines.{go_on, at_verb, read_lines}

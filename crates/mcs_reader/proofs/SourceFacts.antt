@@ -3,7 +3,7 @@ use Rattle.std.proofs.Common.{◌≡◌, ℕ, suc, ◌+◌, ◌-◌, ◌==◌, �
 use Rattle.mcs_reader.specs.Byte.{line_end}
 use Rattle.mcs_reader.specs.Line.{with_front, lines, without_return, columns_1_to_72, text_of, text_of_lines, line_ends}
 use Rattle.mcs_reader.specs.Pieces.{a_name}
-use Rattle.mcs_reader.specs.Place.{Place, IsAfter, after_line, verb_at}
+use Rattle.mcs_reader.specs.Position.{Position, IsAfter, after_line, verb_at}
 use Rattle.mcs_reader.specs.ReadLines.{at_verb, go_on, read_after, read_lines}
 use Rattle.mcs_reader.specs.Unread.{with_statements}
 use Rattle.mcs_reader.specs.Scan.{scan, stated}
@@ -77,10 +77,10 @@ line_ends-le-length (b ∷ text) = by_test (b == line_end) (line_ends-le-length 
   by_test true fits = omega arith
   by_test false fits = omega arith
 
--- a place within a source that isn't too long has headroom for its numbers
-pub headroom : (source : List ℕ) (place : Place) → length source ≤ 67108864 → IsAfter place (record { text = line_end ∷ text_of source; line = 0 })
-    → (length place.text ≤ 67108866) × (place.line + line_ends place.text ≤ 67108866)
-headroom source place fits after =
+-- a position within a source that isn't too long has headroom for its numbers
+pub headroom : (source : List ℕ) (position : Position) → length source ≤ 67108864 → IsAfter position (record { text = line_end ∷ text_of source; line = 0 })
+    → (length position.text ≤ 67108866) × (position.line + line_ends position.text ≤ 67108866)
+headroom source position fits after =
     let size = length-text_of source in
     let ends = line_ends-le-length (text_of source) in
     (omega (arith, after.text), omega (arith, after.lines))
@@ -107,17 +107,17 @@ next_lines m line_before line_now before now (b ∷ after) at sums passed =
 
 -- What is left to read at the beginning of a line, and after it.
 
--- one place begins the line after another
-pub record Begins (now last : Place) : Type 0 where
+-- one position begins the line after another
+pub record Begins (now last : Position) : Type 0 where
   pub text : now.text ≡ after_line last.text
   pub line : now.line ≡ last.line + 1
   pub more : 0 < length now.text
 
 -- the step at the beginning of the line, with more steps after it than are needed
-abbrev Step : Place → Place → Type 0
+abbrev Step : Position → Position → Type 0
 Step last now = (m : ℕ) × (length now.text ≤ suc m) × (read_after last ≡ at_verb (read_lines m) now.line now.text (verb_at now.text))
 
-step_at : (last now : Place) → Begins now last → Step last now
+step_at : (last now : Position) → Begins now last → Step last now
 step_at last now at =
     let once = step (length now.text) now.line now.text at.more (omega arith) in (
       once.0,
@@ -126,7 +126,7 @@ step_at last now at =
     )
 
 -- a line that is passed over
-pub passed_line : (last now : Place) → Begins now last → verb_at now.text ≡ None → read_after last ≡ read_after now
+pub passed_line : (last now : Position) → Begins now last → verb_at now.text ≡ None → read_after last ≡ read_after now
 passed_line last now at none =
     let once = step_at last now at in
     once.2
@@ -134,7 +134,7 @@ passed_line last now at none =
     ∙ any_steps once.0 (length (after_line now.text)) (now.line + 1) (after_line now.text) (fits_after now.text (after_line now.text) once.0 refl once.1) (omega arith)
 
 -- a statement
-pub statement_line : (last now end : Place) (what : Verb) (after : List ℕ) (statement : Statement) → Begins now last → verb_at now.text ≡ Some (what, after)
+pub statement_line : (last now end : Position) (what : Verb) (after : List ℕ) (statement : Statement) → Begins now last → verb_at now.text ≡ Some (what, after)
     → stated what now.line (scan now.line 0 a_name false after) ≡ Ok (statement, end.text) → IsAfter end now
     → read_after last ≡ with_statements (statement ∷ []) (read_after end)
 statement_line last now end what after statement at verb_is read is =
@@ -148,7 +148,7 @@ statement_line last now end what after statement at verb_is read is =
     ∙ any_steps once.0 (length (after_line end.text)) (end.line + 1) (after_line end.text) (fits_after end.text (after_line end.text) once.0 refl (omega (arith, once.1, shorter))) (omega arith))
 
 -- a statement that is refused
-pub refused_line : (last now : Place) (what : Verb) (after : List ℕ) (fault : McsFault) → Begins now last → verb_at now.text ≡ Some (what, after)
+pub refused_line : (last now : Position) (what : Verb) (after : List ℕ) (fault : McsFault) → Begins now last → verb_at now.text ≡ Some (what, after)
     → stated what now.line (scan now.line 0 a_name false after) ≡ Err fault → read_after last ≡ Err fault
 refused_line last now what after fault at verb_is refused =
     let once = step_at last now at in
@@ -157,5 +157,5 @@ refused_line last now what after fault at verb_is refused =
     ∙ ap (go_on (read_lines once.0) now.line now.text) refused
 
 -- the end of the text
-pub no_line : (last : Place) → after_line last.text ≡ [] → read_after last ≡ Ok []
+pub no_line : (last : Position) → after_line last.text ≡ [] → read_after last ≡ Ok []
 no_line last end = ap (λ t. read_lines (length t) (last.line + 1) t) end ∙ read_lines-end 0 (last.line + 1)

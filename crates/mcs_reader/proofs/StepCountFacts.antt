@@ -4,7 +4,7 @@ use Rattle.mcs_reader.specs.Byte.{is_blank, is_name_byte, line_end}
 use Rattle.mcs_reader.specs.declared.byte.ByteRole.{ByteRole}
 use Rattle.mcs_reader.specs.declared.byte.ByteRole.TheVariants.{Gap, Comment, Name, Open, Close, Period, Other}
 use Rattle.mcs_reader.specs.Line.{begins_statement, line_ends}
-use Rattle.mcs_reader.specs.Place.{after_line, name_after, text_after, verb_at}
+use Rattle.mcs_reader.specs.Position.{after_line, name_after, text_after, verb_at}
 use Rattle.mcs_reader.specs.Run.{run, after_run, value_run}
 use Rattle.mcs_reader.specs.ReadLines.{at_verb, go_on, read_lines}
 use Rattle.mcs_reader.specs.Comment.{role_here}
@@ -17,7 +17,7 @@ use Rattle.mcs_reader.specs.declared.statement.Statement.{Statement}
 use Rattle.mcs_reader.specs.declared.statement.Verb.{Verb}
 use Rattle.mcs_reader.proofs.ReadFacts.{read_lines-end, read_lines-step}
 use Rattle.mcs_reader.proofs.RunFacts.{run-append-after_run}
-use Rattle.mcs_reader.proofs.ScanPlaceFacts.{shorter_after_line}
+use Rattle.mcs_reader.proofs.ScanPositionFacts.{shorter_after_line}
 use Rattle.mcs_reader.proofs.ScanFacts.{skip-step}
 
 -- what is after the statement is no longer than this

@@ -19,7 +19,7 @@ abbrev pub ends_comment : List ℕ → Bool
 ends_comment [] = false
 ends_comment (b ∷ text) = if b == 42 then next_is 47 text else false
 
--- whether a text passes a test at some place in it
+-- whether a text passes a test at some position in it
 abbrev pub somewhere : (List ℕ → Bool) → List ℕ → Bool
 somewhere test [] = false
 somewhere test (b ∷ text) = if test (b ∷ text) then true else somewhere test text

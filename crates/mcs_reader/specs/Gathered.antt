@@ -4,7 +4,7 @@ use Rattle.mcs_reader.specs.Asking.{is_asked, reading_asking}
 use Rattle.mcs_reader.specs.Bytes.{bytes_of_each}
 use Rattle.mcs_reader.specs.OperandText.{OperandText}
 use Rattle.mcs_reader.specs.Pieces.{named_before, no_name}
-use Rattle.mcs_reader.specs.Place.{Place}
+use Rattle.mcs_reader.specs.Position.{Position}
 use Rattle.mcs_reader.specs.ReadLines.{GivesNext}
 use Rattle.mcs_reader.specs.Scan.{Stated, on_found, scan, with_list_after, with_operands}
 use Rattle.mcs_reader.specs.Unread.{Read}
@@ -53,7 +53,7 @@ pub record States (asked : Asked) (outcome : Stated) (statement : Statement) (af
   pub statement_is : statement ≡ statement_for asked whole
 
 -- the statement that comes next, with what is gathered of it
-pub record GivesNextFor (asked : Asked) (before : Place) (statement : Statement) (now : Place) : Type 0 where
+pub record GivesNextFor (asked : Asked) (before : Position) (statement : Statement) (now : Position) : Type 0 where
   pub whole : Statement
   pub gives : GivesNext before whole now
   pub statement_is : statement ≡ statement_for asked whole

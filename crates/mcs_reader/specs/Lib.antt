@@ -12,7 +12,7 @@ pub mod McsFault
 pub mod Operand
 pub mod OperandText
 pub mod Pieces
-pub mod Place
+pub mod Position
 pub mod Raw
 pub mod ReadLines
 pub mod Reading

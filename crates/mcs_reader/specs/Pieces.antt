@@ -53,7 +53,7 @@ IsInside (word w rest) = IsTrue (is_word is_value_byte w) × (somewhere begins_c
 IsInside (list inside rest) = IsInside inside × IsInside rest
 IsInside (raw_list raw rest) = ⊥
 
--- What stands before a place outside lists, gaps and comments aside: no name, a name, or the name COMMENT.
+-- What stands before a position outside lists, gaps and comments aside: no name, a name, or the name COMMENT.
 pub data Before : Type 0 where
   no_name : Before
   a_name : Before
@@ -78,7 +78,7 @@ IsOutside before (word w rest) = IsTrue (is_word is_name_byte w) × (begins_word
 IsOutside before (list inside rest) = (before ≡ a_name) × IsInside inside × IsOutside no_name rest
 IsOutside before (raw_list raw rest) = (before ≡ name_comment) × IsRaw raw × IsOutside no_name rest
 
--- what stands before the place after the pieces
+-- what stands before the position after the pieces
 abbrev pub ends_with : Before → Pieces → Before
 ends_with before nothing = before
 ends_with before (gap b rest) = ends_with before rest

@@ -6,7 +6,7 @@ use Rattle.mcs_reader.specs.declared.statement.Statement.{Statement}
 use Rattle.mcs_reader.specs.declared.statement.Verb.{Verb}
 use Rattle.mcs_reader.specs.Pieces.{a_name}
 use Rattle.mcs_reader.specs.Scan.{scan, Stated, stated}
-use Rattle.mcs_reader.specs.Place.{Place, after_line, verb_at}
+use Rattle.mcs_reader.specs.Position.{Position, after_line, verb_at}
 use Rattle.mcs_reader.specs.Unread.{Read, with_statements}
 
 -- what comes after a statement
@@ -28,11 +28,11 @@ read_lines (suc n) line (b ∷ text) = at_verb (read_lines n) line (b ∷ text) 
 abbrev pub read_text : List ℕ → Read
 read_text text = read_lines (length text) 1 text
 
--- what the machine makes of the lines after the one on which a place lies
-abbrev pub read_after : Place → Read
-read_after place = read_lines (length (after_line place.text)) (place.line + 1) (after_line place.text)
+-- what the machine makes of the lines after the one on which a position lies
+abbrev pub read_after : Position → Read
+read_after position = read_lines (length (after_line position.text)) (position.line + 1) (after_line position.text)
 
--- the statement is the first after one place, and another place, further on, stands after it
-pub record GivesNext (before : Place) (statement : Statement) (now : Place) : Type 0 where
+-- the statement is the first after one position, and another position, further on, stands after it
+pub record GivesNext (before : Position) (statement : Statement) (now : Position) : Type 0 where
   pub first : read_after before ≡ with_statements (statement ∷ []) (read_after now)
   pub further : length now.text < length before.text

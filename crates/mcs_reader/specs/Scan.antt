@@ -15,7 +15,7 @@ use Rattle.mcs_reader.specs.StatementText.{subject_of}
 use Rattle.mcs_reader.specs.declared.statement.Verb.{Verb}
 use Rattle.mcs_reader.specs.declared.statement.Statement.{Statement}
 
--- What is found from a place in a statement to its period: the values of the list that is open there,
+-- What is found from a position in a statement to its period: the values of the list that is open there,
 -- or that follows there before any name; the operands that follow; the text after the period.
 pub record Found : Type 0 where
   pub values : Option (List (List ℕ))
@@ -82,8 +82,8 @@ opening line no_name text inside next = Err (BadByte line)
 opening line a_name text inside next = inside
 opening line name_comment text inside next = past_raw line text (after_raw zero text) next
 
--- The statement that begins on `line`, from a place on that lies `skip` bytes further, at this depth.
--- Outside lists `before` says what stands before the place, and `begun` whether the place begins a line.
+-- The statement that begins on `line`, from a position on that lies `skip` bytes further, at this depth.
+-- Outside lists `before` says what stands before the position, and `begun` whether the position begins a line.
 unfoldable pub pass : ℕ → ℕ → ℕ → Before → Bool → List ℕ → Outcome
 pass line skip zero before begun [] = Err (NoPeriod line)
 pass line skip (suc depth) before begun [] = Err (Unbalanced line)
@@ -107,7 +107,7 @@ pass line zero (suc depth) before begun (b ∷ text) = elim (role_here b text) [
   | Other ↦ on_found (with_values (value_run (b ∷ text) ∷ [])) (pass line (length (value_run text)) (suc depth) no_name false text)
 ]
 
--- from this place on
+-- from this position on
 abbrev pub scan : ℕ → ℕ → Before → Bool → List ℕ → Outcome
 scan line depth before begun text = pass line zero depth before begun text
 

@@ -1,11 +1,11 @@
-//! A place in the text of a source: the joined columns of its lines.
+//! A position in the text of a source: the joined columns of its lines.
 ghost use Rattle.std.specs.Prelude.{◌≡◌, ◌+◌, ◌^◌, ◌<◌, ◌≤◌, [], ◌∷◌, None, Some, Ok, Err, IsSome, IfErr, MatchOption, MatchResult, length, take, drop};
 ghost use Rattle.std.specs.Bool.{OnTrue, OnFalse};
 ghost use Rattle.std.specs.List.{prefix_len};
 ghost use Rattle.mcs_reader.specs.Byte.{is_blank, is_name_byte, line_end};
 ghost use Rattle.mcs_reader.specs.Line.{begins_statement as begins_statement_at, text_of};
 ghost use Rattle.mcs_reader.specs.Comment.{next_is};
-ghost use Rattle.mcs_reader.specs.Place.{HasHeadroom, IsAfter, after_line, role_at, verb_at};
+ghost use Rattle.mcs_reader.specs.Position.{HasHeadroom, IsAfter, after_line, role_at, verb_at};
 ghost use Rattle.mcs_reader.specs.Run.{begins_value, after_run, after_value, run, value_run};
 ghost use Rattle.mcs_reader.specs.Scan.{after_comment, after_raw};
 ghost use Rattle.mcs_reader.specs.Segment.{IsLine};
@@ -15,7 +15,7 @@ use crate::byte::{ByteRole, is_blank_byte, role_of, stands_in_name, stands_in_va
 use crate::line::{columns_of, split_line};
 use std::marker::Model;
 
-/// A contract sees the text from the place on, in which a line end stands after each line's columns,
+/// A contract sees the text from the position on, in which a line end stands after each line's columns,
 /// and the line's number. The first line is line 1; before it stands a line end of line 0.
 #[derive(Drop)]
 pub(crate) struct Cursor<'a> {
@@ -30,10 +30,10 @@ impl<'a> Model for Cursor<'a> {
     ghost use Rattle.std.specs.Prelude.{◌∷◌, ◌++◌};
     ghost use Rattle.mcs_reader.specs.Byte.{line_end};
     ghost use Rattle.mcs_reader.specs.Line.{text_of};
-    ghost use Rattle.mcs_reader.specs.Place.{HasHeadroom, Place};
+    ghost use Rattle.mcs_reader.specs.Position.{HasHeadroom, Position};
     ghost use Rattle.mcs_reader.specs.Segment.{IsLine};
 
-    ghost Value = { Place };
+    ghost Value = { Position };
 
     ghost view = { λ c. record { text = c.columns.now ++ line_end ∷ text_of c.after.now; line = c.line } };
 
@@ -57,7 +57,7 @@ impl<'a> Cursor<'a> {
         }
     }
 
-    /// The same place once more.
+    /// The same position once more.
     pub(crate) fn copy(&self) -> Self
         ensures { result ≡ self.now }
     {
@@ -219,7 +219,7 @@ impl<'a> Cursor<'a> {
 
 /// `++`, blanks and a verb that is known: the verb, and what stands after it.
 #[inline]
-#[tactic(auto, unfolding(crate::specs::Place::verb_at))]
+#[tactic(auto, unfolding(crate::specs::Position::verb_at))]
 fn split_verb(columns: &[u8]) -> Option<(Verb, &[u8])>
     ensures { MatchOption result
         (verb_at columns.now ≡ None)
@@ -244,7 +244,7 @@ fn has_pluses(columns: &[u8]) -> bool
 }
 
 #[inline]
-#[tactic(auto, using(crate::proofs::PlaceFacts::take_run, crate::proofs::PlaceFacts::drop_run))]
+#[tactic(auto, using(crate::proofs::PositionFacts::take_run, crate::proofs::PositionFacts::drop_run))]
 fn after_blanks(columns: &[u8]) -> &[u8]
     ensures { result.now ≡ after_run is_blank columns.now }
 {
@@ -253,7 +253,7 @@ fn after_blanks(columns: &[u8]) -> &[u8]
 }
 
 #[inline]
-#[tactic(auto, using(crate::proofs::PlaceFacts::take_run, crate::proofs::PlaceFacts::drop_run))]
+#[tactic(auto, using(crate::proofs::PositionFacts::take_run, crate::proofs::PositionFacts::drop_run))]
 fn split_name(columns: &[u8]) -> (&[u8], &[u8])
     ensures name { result.0.now ≡ run is_name_byte columns.now }
     ensures rest { result.1.now ≡ after_run is_name_byte columns.now }
@@ -363,7 +363,7 @@ fn value_len(columns: &[u8]) -> usize
     len
 }
 
-/// Whether a value has the byte at this place.
+/// Whether a value has the byte at this position.
 #[inline]
 fn goes_on(columns: &[u8], at: usize) -> bool
     requires { at < length columns.now }

@@ -2,7 +2,7 @@
 ghost use Rattle.std.specs.Prelude.{◌≡◌, ◌+◌, ◌^◌, ◌<◌, [], false, Err, Some, None, IfOk, IfErr, MatchOption, length, option_map};
 ghost use Rattle.faults.specs.Refusal.{IsRefusal};
 ghost use Rattle.mcs_reader.specs.Pieces.{no_name};
-ghost use Rattle.mcs_reader.specs.Place.{IsAfter};
+ghost use Rattle.mcs_reader.specs.Position.{IsAfter};
 ghost use Rattle.mcs_reader.specs.Scan.{on_found, scan, with_list};
 ghost use Rattle.mcs_reader.specs.Lists.{GivesValue, HasSoleValue};
 ghost use Rattle.mcs_reader.specs.declared.fault.McsFault.TheVariants.{Memory};

@@ -5,7 +5,7 @@ ghost use Rattle.mcs_reader.specs.Lists.{HasSubject, OpensList};
 ghost use Rattle.mcs_reader.specs.Gathered.{GathersOperand, HasOperands, PassesList};
 ghost use Rattle.mcs_reader.specs.Operand.{operand_texts};
 ghost use Rattle.mcs_reader.specs.Pieces.{Before, a_name, named_before, is_comment_name, no_name};
-ghost use Rattle.mcs_reader.specs.Place.{IsAfter, role_at};
+ghost use Rattle.mcs_reader.specs.Position.{IsAfter, role_at};
 ghost use Rattle.mcs_reader.specs.Scan.{on_found, scan, with_list_after, with_name, with_operands};
 ghost use Rattle.mcs_reader.specs.StatementText.{sole, subject_alone as subject_alone_of, subject_by as subject_by_list};
 ghost use Rattle.mcs_reader.specs.declared.byte.ByteRole.TheVariants.{Gap, Comment, Name};

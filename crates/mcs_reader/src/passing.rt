@@ -1,6 +1,6 @@
 //! What a statement passes over: comments, and the lists of operands COMMENT.
 ghost use Rattle.std.specs.Prelude.{◌≡◌, ◌^◌, ◌<◌, Ok, Some, None, OnOk, IfErr, IsErr, length, drop};
-ghost use Rattle.mcs_reader.specs.Place.{IsAfter, role_at};
+ghost use Rattle.mcs_reader.specs.Position.{IsAfter, role_at};
 ghost use Rattle.mcs_reader.specs.Scan.{after_comment, after_raw};
 ghost use Rattle.mcs_reader.specs.declared.byte.ByteRole.TheVariants.{Comment};
 ghost use Rattle.mcs_reader.specs.declared.fault.McsFault.TheVariants.{Unbalanced};

@@ -25,7 +25,7 @@ pub const MOST_BYTES: usize = 67_108_864;
 /// # Errors
 ///
 /// The source's first fault: [`McsFault::TooLong`] where it has more than [`MOST_BYTES`] bytes; else that of the first
-/// statement that has one, and in it the first place at which the text can't go on, or else its subject. Nothing is
+/// statement that has one, and in it the first position at which the text can't go on, or else its subject. Nothing is
 /// returned of the other statements. [`McsFault::Memory`] where memory runs out.
 pub fn read(alloc: Global, source: &[u8]) -> Result<Vec<Statement<'_>>, McsFault>
     // What is returned is the source's reading, or its first fault.

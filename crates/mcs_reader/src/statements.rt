@@ -5,7 +5,7 @@ ghost use Rattle.mcs_reader.specs.Asking.{reading_asking};
 ghost use Rattle.mcs_reader.specs.Bytes.{bytes_of_each};
 ghost use Rattle.mcs_reader.specs.Gathered.{GivesNextFor, States, reading_for};
 ghost use Rattle.mcs_reader.specs.Pieces.{a_name};
-ghost use Rattle.mcs_reader.specs.Place.{IsAfter};
+ghost use Rattle.mcs_reader.specs.Position.{IsAfter};
 ghost use Rattle.mcs_reader.specs.ReadLines.{read_after};
 ghost use Rattle.mcs_reader.specs.Reading.{HasOneOutcome, IsFirstFault};
 ghost use Rattle.mcs_reader.specs.ReadingOf.{reading_of};

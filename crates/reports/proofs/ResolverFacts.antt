@@ -15,7 +15,7 @@ use Rattle.catalogue.proofs.IdFacts.{in_order_any, itself}
 use Rattle.reports.specs.Resolvers.{each_or_none, found_by}
 use Rattle.reports.proofs.ErrorFacts.{has_more, map_map, or_right}
 
--- what stands at a place of a list stands, mapped, at that place of the mapped list
+-- what stands at an index of a list stands, mapped, at that index of the mapped list
 pub get_mapped : {X Y : Type 0} → (f : X → Y) (xs : List X) (k : ℕ) (x : X) → slice_get xs k ≡ Some x → slice_get (map f xs) k ≡ Some (f x)
 get_mapped f [] k x at = absurd (cc at)
 get_mapped f (y ∷ ys) zero x at = let is : y ≡ x = cc at in ap (λ z. Some (f z)) is
@@ -37,7 +37,7 @@ pub if_some : {X : Type 0} (P : X → Type 0) (o : Option X) → ((x : X) → o 
 if_some P None holds = tt
 if_some P (Some x) holds = holds x refl
 
--- one more key is put in its place
+-- one more key is put among others, in order
 pub keys_more : {X K : Type 0} → (cmp : K → K → Ordering) (key : X → K) (xs : List X) (i : ℕ) (x : X) (old new : List K) → i < length xs → x ≡ get_or xs i x
     → old ≡ fold (insert_key cmp) [] (map key (take i xs)) → new ≡ insert_key cmp old (key x) → new ≡ fold (insert_key cmp) [] (map key (take (i + 1) xs))
 keys_more cmp key xs i x old new below at was now =
@@ -57,7 +57,7 @@ flat_map_more f xs i x old new below at was now =
     ∙ sym (flat_map-append f (take i xs) (x ∷ []))
     ∙ ap (flat_map f) (sym (take_more xs i x below ∙ ap (λ z. take i xs ++ z ∷ []) (sym at)))
 
--- what one more names is put in its place
+-- what one more names is put among others, in order
 pub named_more : {X : Type 0} → (names : X → List (List ℕ)) (xs : List X) (i : ℕ) (x : X) (old new : List (List ℕ)) → i < length xs → x ≡ get_or xs i x
     → old ≡ in_order (flat_map names (take i xs)) → new ≡ put_among old (names x) → new ≡ in_order (flat_map names (take (i + 1) xs))
 named_more names xs i x old new below at was now =
@@ -79,7 +79,7 @@ pub named_asked : {X : Type 0} → (names : X → List (List ℕ)) (xs : List X)
 named_asked names xs i x asked id below at are h =
     ap (λ ids. has ids id) are ∙ in_order_any (same_id id) (flat_map names xs) ∙ names_has names xs i x id below (ap (λ one. has (names one) id) (sym at) ∙ h)
 
--- the resolver of one more, if it has one, is put in its place
+-- the resolver of one more, if it has one, is put among others, in order
 pub resolvers_more : {X : Type 0} → (resolver : X → Option (List ℕ)) (xs : List X) (i : ℕ) (x : X) (old new : List (List ℕ)) → i < length xs → x ≡ get_or xs i x
     → old ≡ in_order (filter_map resolver (take i xs)) → new ≡ put_among old (filter_map resolver (x ∷ [])) → new ≡ in_order (filter_map resolver (take (i + 1) xs))
 resolvers_more resolver xs i x old new below at was now =
@@ -116,7 +116,7 @@ module _ {Found : Type 0} (resolver : Found → Option (List ℕ)) (asked : List
   pub all_in_order : (founds : List Found) → asked ≡ in_order (filter_map resolver founds) → AllAsked resolver asked founds
   all_in_order founds are = all_asked founds (λ id h. ap (λ ids. has ids id) are ∙ in_order_any (same_id id) (filter_map resolver founds) ∙ h)
 
--- what stands at a place of a mapped list is what stands there, mapped
+-- what stands at an index of a mapped list is what stands there, mapped
 pub get_unmapped : {X Y : Type 0} → (f : X → Y) (xs : List X) (k : ℕ) (y : Y) → slice_get (map f xs) k ≡ Some y → (x : X) × (slice_get xs k ≡ Some x) × (f x ≡ y)
 get_unmapped f [] k y at = absurd (cc at)
 get_unmapped f (x ∷ xs) zero y at = (x, refl, cc at)

@@ -3,7 +3,7 @@ use Rattle.std.specs.Prelude.{ℕ, ◌==◌, List, [], ◌∷◌, codes, filter,
 use Rattle.serde_json.specs.Data.{Data, Items, Members, array, item, member, no_items, no_members, object, string}
 use Rattle.serde_json.specs.Written.{compact_text}
 use Rattle.mcs_reader.specs.Id.{text_of}
-use Rattle.holddata.specs.HoldKey.{kind_place}
+use Rattle.holddata.specs.HoldKey.{kind_order}
 use Rattle.holddata.specs.declared.key.Kind.{Kind}
 use Rattle.holddata.specs.declared.hold.Hold.{Hold}
 use Rattle.holddata.specs.declared.key.Kind.TheVariants.{SystemHold, UserHold}
@@ -17,7 +17,7 @@ texts (id ∷ ids) = item (string (text_of id)) (texts ids)
 
 -- the reasons of the holds of a kind, which an installer is to heed; they don't bear on the verdict
 abbrev pub reasons_in : Kind → List Hold → List (List ℕ)
-reasons_in kind holds = map (λ hold. hold.key.reason) (filter (λ hold. kind_place hold.key.kind == kind_place kind) holds)
+reasons_in kind holds = map (λ hold. hold.key.reason) (filter (λ hold. kind_order hold.key.kind == kind_order kind) holds)
 
 -- a member of a plan, with the holds on it
 abbrev pub member_with : List ℕ → List Hold → Data

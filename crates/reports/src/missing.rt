@@ -83,7 +83,7 @@ fn in_report_order(
     held.into_iter().collect(alloc)
 }
 
-// Puts the categories of a hold that patterns match in their places.
+// Puts the categories of a hold that patterns match among others, in order.
 fn put_asked(
     alloc: Global,
     held: &mut BTreeSet<MissingHeld>,

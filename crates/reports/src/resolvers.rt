@@ -18,7 +18,7 @@ use faults::NoMemory;
 use mcs_reader::Id;
 use std::alloc::Global;
 use std::collections::BTreeSet;
-use supersede::{Zone, place_among};
+use supersede::{Zone, index_among};
 
 /// The candidates that give a SYSMOD, ascending, unless it is there.
 pub(crate) type Answer = Option<Vec<Id>>;
@@ -34,7 +34,7 @@ pub(crate) trait Reported<Found> {
     /// What is found where a SYSMOD resolves it, or where none does.
     ghost found_with: { Self → Option (List ℕ) → Found };
 
-    /// Puts the SYSMODs that are asked for in their places.
+    /// Puts the SYSMODs that are asked for among others, in order.
     fn put_named(&self, ids: &mut BTreeSet<Id>) -> Result<(), NoMemory>
         ensures { OnOk result (ids.new.keys ≡ put_among ids.old.keys (named_by self.now)) };
 
@@ -206,7 +206,7 @@ fn row_told<R, F: Resolved<R>>(found: F, asked: &[Id], statuses: &[Status], rece
     }
 }
 
-// Puts an id in its place, if there is one.
+// Puts an id among others, in order, if there is one.
 pub(crate) fn put_any(ids: &mut BTreeSet<Id>, id: Option<Id>) -> Result<(), NoMemory>
     ensures { OnOk result (ids.new.keys ≡ put_among ids.old.keys (cons_option id [])) }
 {
@@ -228,7 +228,7 @@ pub(crate) fn answer_among<'a>(
         → map (option_map (λ ids. ids.items)) answers.now ≡ map f asked.now
         → has asked.now id.now ≡ true → option_map (λ ids. ids.items) result.now ≡ f id.now }
 {
-    match place_among(asked, id) {
+    match index_among(asked, id) {
         Some(at) => answer_at(answers, other, at),
         None => other,
     }
@@ -260,7 +260,7 @@ pub(crate) fn status_among(asked: &[Id], statuses: &[Status], id: &Id) -> Status
     ensures { (f : List ℕ → Status) → statuses.now ≡ map f asked.now
         → list_any (same_id id.now) asked.now ≡ true → result ≡ f id.now }
 {
-    match place_among(asked, id) {
+    match index_among(asked, id) {
         Some(at) => status_at(statuses, at),
         None => Status::Lack,
     }
@@ -280,5 +280,5 @@ pub(crate) fn is_among(ids: &[Id], id: &Id) -> bool
     requires { Ascend ids.now }
     ensures { result ≡ list_any (same_id id.now) ids.now }
 {
-    place_among(ids, id).is_some()
+    index_among(ids, id).is_some()
 }

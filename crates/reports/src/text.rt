@@ -14,31 +14,31 @@ use std::alloc::Global;
 // Where each column of the exception SYSMOD report begins, and its name.
 const ERR_COLUMNS: [Column; 7] = [
     Column {
-        place: 1,
+        start: 1,
         name: b"FMID",
     },
     Column {
-        place: 10,
+        start: 10,
         name: b"SYSMOD",
     },
     Column {
-        place: 19,
+        start: 19,
         name: b"REASON",
     },
     Column {
-        place: 28,
+        start: 28,
         name: b"RESOLVER",
     },
     Column {
-        place: 37,
+        start: 37,
         name: b"STATUS",
     },
     Column {
-        place: 44,
+        start: 44,
         name: b"RECEIVED",
     },
     Column {
-        place: 53,
+        start: 53,
         name: b"CLASS",
     },
 ];
@@ -46,27 +46,27 @@ const ERR_COLUMNS: [Column; 7] = [
 // The same of the missing fix report. The held SYSMOD stands under FMID.
 const MISSING_COLUMNS: [Column; 6] = [
     Column {
-        place: 1,
+        start: 1,
         name: b"CATEGORY",
     },
     Column {
-        place: 67,
+        start: 67,
         name: b"FMID",
     },
     Column {
-        place: 76,
+        start: 76,
         name: b"REASON",
     },
     Column {
-        place: 85,
+        start: 85,
         name: b"RESOLVER",
     },
     Column {
-        place: 94,
+        start: 94,
         name: b"STATUS",
     },
     Column {
-        place: 101,
+        start: 101,
         name: b"RECEIVED",
     },
 ];

@@ -8,8 +8,8 @@ use Rattle.std.specs.Result.{result_ok}
 use Rattle.requests.specs.HeadEnd.{IsAtHand, empty_lines_len, front_of, front_with, head_limit, whole_len}
 use Rattle.requests.specs.Search.{ended, ends_clean, resumed, search}
 use Rattle.requests.specs.declared.front.Front.TheVariants.{Head, CleanEnd, EndInside, TooLarge}
-use Rattle.requests.specs.declared.head_end.Place.{Place}
-use Rattle.requests.specs.declared.head_end.Place.TheVariants.{EmptyLines, EmptyLinesReturn, Line, Feed, FeedReturn}
+use Rattle.requests.specs.declared.head_end.Ending.{Ending}
+use Rattle.requests.specs.declared.head_end.Ending.TheVariants.{EmptyLines, EmptyLinesReturn, Line, Feed, FeedReturn}
 use Rattle.requests.proofs.HeadEndFacts.{search_clean, search_finds}
 use Rattle.requests.proofs.SearchFacts.{search_append}
 
@@ -36,9 +36,9 @@ front_and_more limit held more = elim (order (nat_le limit (length held)) limit 
 
 -- ---- what the search in the front decides
 
-settled : (n : ℕ) (first : Result ℕ Place) (m : ℕ) (more : List ℕ) → first ≡ Ok m → resumed n first more ≡ Ok m
+settled : (n : ℕ) (first : Result ℕ Ending) (m : ℕ) (more : List ℕ) → first ≡ Ok m → resumed n first more ≡ Ok m
 settled n (Ok k) m more e = e
-settled n (Err place) m more e = cc
+settled n (Err ending) m more e = cc
 
 -- the end of a head was found
 pub found : (limit n : ℕ) (held more : List ℕ) → search EmptyLines (take limit held) ≡ Ok n → Head n ≡ front_of limit (held ++ more)
@@ -52,9 +52,9 @@ found limit n held more e =
     ap (λ o. front_with o limit (held ++ more)) len
 
 -- as many bytes as a head may have are there, without its end
-pub too_large : (limit : ℕ) (held more : List ℕ) (place : Place) → search EmptyLines (take limit held) ≡ Err place → limit ≤ length held
+pub too_large : (limit : ℕ) (held more : List ℕ) (ending : Ending) → search EmptyLines (take limit held) ≡ Err ending → limit ≤ length held
     → TooLarge ≡ front_of limit (held ++ more)
-too_large limit held more place e full =
+too_large limit held more ending e full =
     let same : take limit held ≡ take limit (held ++ more) = sym (take-append-le limit held more full) in
     let len : None ≡ whole_len (take limit (held ++ more)) =
     sym (ap result_ok e) ∙ search_finds (take limit held) EmptyLines ∙ ap whole_len same in
@@ -63,7 +63,7 @@ too_large limit held more place e full =
     ap (λ t. if t then TooLarge else if empty_lines_len (held ++ more) == length (held ++ more) then CleanEnd else EndInside) over
     ∙ ap (λ o. front_with o limit (held ++ more)) len
 
-clean_or : (place : Place) → ended place ≡ (if ends_clean (Err place) then CleanEnd else EndInside)
+clean_or : (ending : Ending) → ended ending ≡ (if ends_clean (Err ending) then CleanEnd else EndInside)
 clean_or EmptyLines = refl
 clean_or EmptyLinesReturn = refl
 clean_or Line = refl
@@ -71,18 +71,18 @@ clean_or Feed = refl
 clean_or FeedReturn = refl
 
 -- the input ended before
-pub at_end : (limit : ℕ) (held : List ℕ) (place : Place) → search EmptyLines held ≡ Err place → length held < limit
-    → ended place ≡ front_of limit held
-at_end limit held place e short =
+pub at_end : (limit : ℕ) (held : List ℕ) (ending : Ending) → search EmptyLines held ≡ Err ending → length held < limit
+    → ended ending ≡ front_of limit held
+at_end limit held ending e short =
     let all : held ≡ take limit held = sym (take_all limit held (omega arith)) in
     let len : None ≡ whole_len (take limit held) = sym (ap result_ok e) ∙ search_finds held EmptyLines ∙ ap whole_len all in
-    let clean : ends_clean (Err place) ≡ (empty_lines_len held == length held) = sym (ap ends_clean e) ∙ search_clean held EmptyLines in
+    let clean : ends_clean (Err ending) ≡ (empty_lines_len held == length held) = sym (ap ends_clean e) ∙ search_clean held EmptyLines in
     let under : false ≡ nat_le limit (length held) = grind (arith, nat_tests) in
-    clean_or place ∙ ap (λ t. if t then CleanEnd else EndInside) clean
+    clean_or ending ∙ ap (λ t. if t then CleanEnd else EndInside) clean
     ∙ ap (λ t. if t then TooLarge else if empty_lines_len held == length held then CleanEnd else EndInside) under
     ∙ ap (λ o. front_with o limit held) len
 
-none_at_end : (place : Place) → IsAtHand (ended place) → ⊥
+none_at_end : (ending : Ending) → IsAtHand (ended ending) → ⊥
 none_at_end EmptyLines at = at
 none_at_end EmptyLinesReturn at = at
 none_at_end Line at = at
@@ -90,14 +90,14 @@ none_at_end Feed at = at
 none_at_end FeedReturn at = at
 
 -- bytes in which the search found no end, fewer than a head may have
-pub record HasNoEnd (shown held : List ℕ) (next : Place) : Type 0 where
+pub record HasNoEnd (shown held : List ℕ) (next : Ending) : Type 0 where
   pub whole : shown ≡ held
   pub count : length shown ≡ length held
   pub short : length held < head_limit
   pub none : search EmptyLines held ≡ Err next
 
 -- where fewer bytes than a head may have are shown, they are all that are held
-pub no_end : (shown bytes held : List ℕ) (next : Place) → (length shown < 16384 → shown ≡ bytes) → bytes ≡ held → length shown < 16384
+pub no_end : (shown bytes held : List ℕ) (next : Ending) → (length shown < 16384 → shown ≡ bytes) → bytes ≡ held → length shown < 16384
     → search EmptyLines shown ≡ Err next → HasNoEnd shown held next
 no_end shown bytes held next all same less none =
     let whole : shown ≡ held = all less ∙ same in
@@ -109,10 +109,10 @@ no_end shown bytes held next all same less none =
     }
 
 -- where fewer bytes than a head may have show no head's end, no head was at hand
-pub not_at_hand : (limit : ℕ) (held first : List ℕ) (place : Place) → search EmptyLines held ≡ Err place → length held < limit → held ≡ first
+pub not_at_hand : (limit : ℕ) (held first : List ℕ) (ending : Ending) → search EmptyLines held ≡ Err ending → length held < limit → held ≡ first
     → IsAtHand (front_of limit first) → ⊥
-not_at_hand limit held first place e short same at =
-    none_at_end place (subst IsAtHand (sym (at_end limit held place e short ∙ ap (front_of limit) same)) at)
+not_at_hand limit held first ending e short same at =
+    none_at_end ending (subst IsAtHand (sym (at_end limit held ending e short ∙ ap (front_of limit) same)) at)
 
 -- ---- the bytes that are held and those that are left to read
 
@@ -156,9 +156,9 @@ ended_before (Some b) (Some a) bytes read none end = read ∙ ap (λ l. l ++ a) 
 pub found_so_far : (limit n : ℕ) (held : List ℕ) → search EmptyLines (take limit held) ≡ Ok n → Head n ≡ front_of limit held
 found_so_far limit n held e = subst (λ bytes. Head n ≡ front_of limit bytes) (append-nil held) (found limit n held [] e)
 
-pub too_large_so_far : (limit : ℕ) (held : List ℕ) (place : Place) → search EmptyLines (take limit held) ≡ Err place → limit ≤ length held
+pub too_large_so_far : (limit : ℕ) (held : List ℕ) (ending : Ending) → search EmptyLines (take limit held) ≡ Err ending → limit ≤ length held
     → TooLarge ≡ front_of limit held
-too_large_so_far limit held place e full = subst (λ bytes. TooLarge ≡ front_of limit bytes) (append-nil held) (too_large limit held [] place e full)
+too_large_so_far limit held ending e full = subst (λ bytes. TooLarge ≡ front_of limit bytes) (append-nil held) (too_large limit held [] ending e full)
 
 never_without : (t u : Bool) (n : ℕ) → (if t then TooLarge else if u then CleanEnd else EndInside) ≡ Head n → ⊥
 never_without true u n e = absurd (cc)
@@ -170,9 +170,9 @@ ends_at None limit n held e =
     absurd (never_without (nat_le limit (length held)) (empty_lines_len held == length held) n e)
 ends_at (Some m) limit n held e = let same : m ≡ n = cc in ap (λ k. Some k) same
 
-found_by : (first : Result ℕ Place) (n : ℕ) → result_ok first ≡ Some n → first ≡ Ok n
+found_by : (first : Result ℕ Ending) (n : ℕ) → result_ok first ≡ Some n → first ≡ Ok n
 found_by (Ok m) n e = let same : m ≡ n = cc in ap (λ k. Ok k) same
-found_by (Err place) n e = absurd (cc)
+found_by (Err ending) n e = absurd (cc)
 
 -- a head's end stays where it is when more bytes come
 pub head_stays : (limit n : ℕ) (held more : List ℕ) → front_of limit held ≡ Head n → front_of limit (held ++ more) ≡ Head n

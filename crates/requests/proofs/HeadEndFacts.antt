@@ -6,8 +6,8 @@ use Rattle.std.specs.Result.{result_ok}
 use Rattle.requests.specs.HeadEnd.{line_end_len, empty_lines_len, head_len, whole_len, line_feed, carriage_return}
 use Rattle.requests.specs.Search.{search, after, go_on, counted, ends_clean}
 use Rattle.requests.specs.Text.{begins_with}
-use Rattle.requests.specs.declared.head_end.Place.{Place}
-use Rattle.requests.specs.declared.head_end.Place.TheVariants.{EmptyLines, EmptyLinesReturn, Line, Feed, FeedReturn}
+use Rattle.requests.specs.declared.head_end.Ending.{Ending}
+use Rattle.requests.specs.declared.head_end.Ending.TheVariants.{EmptyLines, EmptyLinesReturn, Line, Feed, FeedReturn}
 
 test : (t : Bool) → (t ≡ true) ⊎ (t ≡ false)
 test true = inl refl
@@ -16,17 +16,17 @@ test false = inr refl
 abbrev one_more : Option ℕ → Option ℕ
 one_more o = option_map (λ n. 1 + n) o
 
--- ---- where the head ends that goes on after a place
+-- ---- where the head ends that goes on after an ending
 
-abbrev found : Place → List ℕ → Option ℕ
+abbrev found : Ending → List ℕ → Option ℕ
 found EmptyLines bytes = whole_len bytes
 found EmptyLinesReturn bytes = if begins_with line_feed bytes then whole_len bytes else head_len bytes
 found Line bytes = head_len bytes
 found Feed bytes = if nat_lt 0 (line_end_len bytes) then Some (line_end_len bytes) else head_len bytes
 found FeedReturn bytes = if begins_with line_feed bytes then Some 1 else head_len bytes
 
--- whether only empty lines are there after a place
-abbrev clean : Place → List ℕ → Bool
+-- whether only empty lines are there after an ending
+abbrev clean : Ending → List ℕ → Bool
 clean EmptyLines bytes = empty_lines_len bytes == length bytes
 clean EmptyLinesReturn bytes = begins_with line_feed bytes && (empty_lines_len bytes == length bytes)
 clean Line bytes = false
@@ -34,25 +34,25 @@ clean Feed bytes = false
 clean FeedReturn bytes = false
 
 -- a search in these bytes finds that end, and says whether only empty lines were there
-abbrev Agrees : Place → List ℕ → Result ℕ Place → Type 0
-Agrees place bytes says = (result_ok says ≡ found place bytes) × (ends_clean says ≡ clean place bytes)
+abbrev Agrees : Ending → List ℕ → Result ℕ Ending → Type 0
+Agrees ending bytes says = (result_ok says ≡ found ending bytes) × (ends_clean says ≡ clean ending bytes)
 
 abbrev AgreesIn : List ℕ → Type 0
-AgreesIn rest = (place : Place) → Agrees place rest (search place rest)
+AgreesIn rest = (ending : Ending) → Agrees ending rest (search ending rest)
 
-counted_ok : (r : Result ℕ Place) → result_ok (counted r) ≡ one_more (result_ok r)
+counted_ok : (r : Result ℕ Ending) → result_ok (counted r) ≡ one_more (result_ok r)
 counted_ok (Ok n) = ap (λ m. Some m) (omega arith)
-counted_ok (Err place) = refl
+counted_ok (Err ending) = refl
 
-counted_clean : (r : Result ℕ Place) → ends_clean (counted r) ≡ ends_clean r
+counted_clean : (r : Result ℕ Ending) → ends_clean (counted r) ≡ ends_clean r
 counted_clean (Ok n) = refl
-counted_clean (Err place) = refl
+counted_clean (Err ending) = refl
 
 -- what the search in the bytes after the next one says
-further : (place : Place) (rest : List ℕ) → AgreesIn rest
-    → (result_ok (counted (search place rest)) ≡ one_more (found place rest)) × (ends_clean (counted (search place rest)) ≡ clean place rest)
-further place rest e =
-    (counted_ok (search place rest) ∙ ap one_more (e place).0, counted_clean (search place rest) ∙ (e place).1)
+further : (ending : Ending) (rest : List ℕ) → AgreesIn rest
+    → (result_ok (counted (search ending rest)) ≡ one_more (found ending rest)) × (ends_clean (counted (search ending rest)) ≡ clean ending rest)
+further ending rest e =
+    (counted_ok (search ending rest) ∙ ap one_more (e ending).0, counted_clean (search ending rest) ∙ (e ending).1)
 
 -- ---- how many bytes the head has
 
@@ -172,9 +172,9 @@ agrees (b ∷ rest) Feed = step_feed b rest (agrees rest)
 agrees (b ∷ rest) FeedReturn = step_feed_return b rest (agrees rest)
 
 -- the search finds the end
-pub search_finds : (bytes : List ℕ) (place : Place) → result_ok (search place bytes) ≡ found place bytes
-search_finds bytes place = (agrees bytes place).0
+pub search_finds : (bytes : List ℕ) (ending : Ending) → result_ok (search ending bytes) ≡ found ending bytes
+search_finds bytes ending = (agrees bytes ending).0
 
 -- the search says whether only empty lines were there
-pub search_clean : (bytes : List ℕ) (place : Place) → ends_clean (search place bytes) ≡ clean place bytes
-search_clean bytes place = (agrees bytes place).1
+pub search_clean : (bytes : List ℕ) (ending : Ending) → ends_clean (search ending bytes) ≡ clean ending bytes
+search_clean bytes ending = (agrees bytes ending).1

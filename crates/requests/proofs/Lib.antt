@@ -9,5 +9,5 @@ mod RequestFacts
 mod RouteFacts
 mod SearchFacts
 mod TextFacts
-mod TurnFacts
+mod NextRequestFacts
 mod ReadingFacts

@@ -4,7 +4,7 @@ use Rattle.httparse.proofs.GrammarLemmas.{request_unique}
 use Rattle.httparse.specs.Grammar.{RequestHead}
 use Rattle.requests.specs.HeadEnd.{front_of, head_limit, lines_between}
 use Rattle.requests.specs.Order.{Decision, IsDecided, IsDecidedBy, IsRead, by_head}
-use Rattle.requests.specs.Turn.{IsNext, IsNextBy, Next, after_head}
+use Rattle.requests.specs.NextRequest.{IsNext, IsNextBy, Next, after_head}
 use Rattle.requests.specs.declared.front.Front.{Front}
 use Rattle.requests.specs.declared.front.Front.TheVariants.{Head, CleanEnd, EndInside, TooLarge}
 

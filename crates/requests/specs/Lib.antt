@@ -9,4 +9,4 @@ pub mod Routes
 pub mod Search
 pub mod Status
 pub mod Text
-pub mod Turn
+pub mod NextRequest

@@ -18,13 +18,13 @@ pub enum Action {
     Counts,
     /// Lists the caller's zones.
     ListZones,
-    /// Puts the zone in the body in the place of this one.
+    /// Puts the zone in the body in place of this one.
     PutZone(Id),
     /// Takes this zone away.
     DropZone(Id),
-    /// Puts the fix categories in the body in the place of this zone's.
+    /// Puts the fix categories in the body in place of this zone's.
     PutPatterns(Id),
-    /// Puts the received SYSMODs in the body in the place of the caller's.
+    /// Puts the received SYSMODs in the body in place of the caller's.
     PutReceived,
     /// Reports the exception SYSMODs of this zone.
     ErrSysmods(Id),

@@ -5,7 +5,7 @@ ghost use Rattle.requests.specs.HeadEnd.{front_of, head_limit, EndsWithin, IsAtH
 ghost use Rattle.requests.specs.Search.{ended, search};
 ghost use Rattle.transfer.specs.Transfer.{IsGivenUp};
 
-use crate::head_end::{Place, find_end};
+use crate::head_end::{Ending, find_end};
 use std::io::Read;
 use transfer::{Intake, TransferFault};
 
@@ -52,20 +52,20 @@ pub fn read_front<R: Read>(
     ensures given_up { IfErr result (λ fault. IsGivenUp fault retries.new) }
     ensures counted { retries.new ≤ retries.old }
 {
-    let mut place = Place::EmptyLines;
+    let mut ending = Ending::EmptyLines;
     let mut seen = 0;
     loop {
         let shown = within_limit(intake.bytes());
-        match find_on(shown, seen, place) {
+        match find_on(shown, seen, ending) {
             Ok(count) => return Ok(Front::Head(count)),
-            Err(next) => place = next,
+            Err(next) => ending = next,
         }
         seen = shown.len();
         if seen == HEAD_LIMIT {
             return Ok(Front::TooLarge);
         }
         if intake.read_more(reader, HEAD_LIMIT - seen, retries)? == 0 {
-            return Ok(at_end(place));
+            return Ok(at_end(ending));
         }
     }
 }
@@ -86,24 +86,24 @@ fn within_limit(bytes: &[u8]) -> &[u8]
 }
 
 // Goes on with a search in bytes of which the first were seen.
-fn find_on(bytes: &[u8], seen: usize, place: Place) -> Result<usize, Place>
+fn find_on(bytes: &[u8], seen: usize, ending: Ending) -> Result<usize, Ending>
     requires within { seen ≤ length bytes.now }
-    requires seen { search Place.EmptyLines (take seen bytes.now) ≡ Err place }
-    ensures found { result ≡ search Place.EmptyLines bytes.now }
+    requires seen { search Ending.EmptyLines (take seen bytes.now) ≡ Err ending }
+    ensures found { result ≡ search Ending.EmptyLines bytes.now }
     ensures part { IfOk result (λ count. count ≤ length bytes.now) }
 {
     let (_, fresh) = bytes.split_at(seen);
-    match find_end(place, fresh) {
+    match find_end(ending, fresh) {
         Ok(count) => Ok(seen + count),
         Err(next) => Err(next),
     }
 }
 
 // What the end of the input makes of a head that has no end.
-fn at_end(place: Place) -> Front
-    ensures { result ≡ ended place }
+fn at_end(ending: Ending) -> Front
+    ensures { result ≡ ended ending }
 {
-    if place == Place::EmptyLines {
+    if ending == Ending::EmptyLines {
         Front::CleanEnd
     } else {
         Front::EndInside

@@ -7,7 +7,7 @@ use crate::text::begins_with;
 
 /// What stands before the next byte of a connection, as far as the end of a head is concerned.
 #[derive(Clone, Copy, Debug, PartialEq, Eq)]
-pub(crate) enum Place {
+pub(crate) enum Ending {
     /// Empty lines, or nothing.
     EmptyLines,
     /// Empty lines and a CR.
@@ -20,35 +20,35 @@ pub(crate) enum Place {
     FeedReturn,
 }
 
-impl Place {
-    // The place after a byte, or `None` where the head ends with it.
-    fn after(self, byte: u8) -> Option<Place>
+impl Ending {
+    // The ending after a byte, or `None` where the head ends with it.
+    fn after(self, byte: u8) -> Option<Ending>
         ensures { result ≡ after self byte }
     {
         match (self, byte) {
-            (Place::Feed | Place::FeedReturn, b'\n') => None,
-            (Place::EmptyLines | Place::EmptyLinesReturn, b'\n') => Some(Place::EmptyLines),
-            (Place::Line, b'\n') => Some(Place::Feed),
-            (Place::EmptyLines, b'\r') => Some(Place::EmptyLinesReturn),
-            (Place::Feed, b'\r') => Some(Place::FeedReturn),
-            _ => Some(Place::Line),
+            (Ending::Feed | Ending::FeedReturn, b'\n') => None,
+            (Ending::EmptyLines | Ending::EmptyLinesReturn, b'\n') => Some(Ending::EmptyLines),
+            (Ending::Line, b'\n') => Some(Ending::Feed),
+            (Ending::EmptyLines, b'\r') => Some(Ending::EmptyLinesReturn),
+            (Ending::Feed, b'\r') => Some(Ending::FeedReturn),
+            _ => Some(Ending::Line),
         }
     }
 }
 
-/// How many bytes there are up to the end of a head, or else the place after them all.
-pub(crate) fn find_end(start: Place, bytes: &[u8]) -> Result<usize, Place>
+/// How many bytes there are up to the end of a head, or else the ending after them all.
+pub(crate) fn find_end(start: Ending, bytes: &[u8]) -> Result<usize, Ending>
     ensures found { result ≡ search start bytes.now }
     ensures within { IfOk result (λ count. count ≤ length bytes.now) }
 {
-    let mut place = start;
+    let mut ending = start;
     for (i, b) in bytes.iter().enumerate() {
-        match place.after(*b) {
-            Some(next) => place = next,
+        match ending.after(*b) {
+            Some(next) => ending = next,
             None => return Ok(i + 1),
         }
     }
-    Err(place)
+    Err(ending)
 }
 
 // How many lines a head has between its first and its blank one.

@@ -6,7 +6,7 @@
 //!
 //! - [`read_front`], [`Front`]: what the bytes of a connection begin with
 //! - [`decide`]: a whole [`Head`] and the length of its body, or why it is [`Refused`]
-//! - [`read_turn`], [`Turn`], [`Request`]: all of this together; [`one_reading`]: it can be read in one way only
+//! - [`read_next`], [`NextRequest`], [`Request`]: all of this together; [`one_reading`]: it can be read in one way only
 //! - [`Head`]: the token, the number and the [`Action`] that a request asks for, by its [`Routes`]
 //! - [`Resource`]: what a path names
 //! - [`read_whole`]: so many bytes, or all that there are
@@ -14,11 +14,11 @@
 //! - [`ReplyHead`], [`head_text`]: the head of a reply
 //!
 //! ```
-//! use requests::{Action, Routes, Turn, read_turn};
+//! use requests::{Action, NextRequest, Routes, read_next};
 //! use transfer::{Intake, RETRIES};
 //! let (routes, mut intake) = (Routes::new(alloc)?, Intake::new(alloc));
 //! let mut reader: &[u8] = b"GET /zones HTTP/1.1\r\nbureau-token: alpha-token\r\n\r\n";
-//! let Turn::Whole(request) = read_turn(&mut intake, &mut reader, &mut { RETRIES })? else {
+//! let NextRequest::Whole(request) = read_next(&mut intake, &mut reader, &mut { RETRIES })? else {
 //!     return Err("a whole request".into());
 //! };
 //! assert_eq!(rt; request.token(intake.bytes()), Some(b"alpha-token".as_slice()));
@@ -33,6 +33,7 @@ mod head;
 mod head_end;
 mod headers;
 mod law;
+mod next_request;
 mod order;
 mod refusal;
 mod reply;
@@ -41,16 +42,15 @@ mod resource;
 mod routes;
 mod status;
 mod text;
-mod turn;
 
 pub use action::Action;
 pub use front::{Front, read_front, read_whole};
 pub use head::Head;
 pub use law::one_reading;
+pub use next_request::{NextRequest, Request, read_next};
 pub use order::{Refused, decide};
 pub use refusal::Refusal;
 pub use reply::{ReplyHead, head_text};
 pub use resource::Resource;
 pub use routes::Routes;
 pub use status::Status;
-pub use turn::{Request, Turn, read_turn};

@@ -16,25 +16,25 @@ use Rattle.requisites.proofs.SourceFacts.{marked_inside}
 use Rattle.requisites.proofs.SweepFacts.{count_falls, mark_left, mark_stays}
 use Rattle.requisites.proofs.VerdictFacts.{good_inside}
 
--- ---- places read one after the other
+-- ---- nodes read one after the other
 
 pub unmarked_none : (marks : List Bool) → AreUnmarked marks []
 unmarked_none marks = record { each = λ p inside. absurd (omega (arith, inside.1)) }
 
-pub unmarked_more : (marks : List Bool) (places : List ℕ) (i : ℕ) → i < length places → AreUnmarked marks (take i places) → mark_of marks (get_or places i 0) ≡ false → AreUnmarked marks (take (i + 1) places)
-unmarked_more marks places i h a off = rw (take_more places i 0 h) (record {
-  each = λ p inside. elim (Contains-push_cases (take i places) (get_or places i 0) p inside) [
+pub unmarked_more : (marks : List Bool) (indices : List ℕ) (i : ℕ) → i < length indices → AreUnmarked marks (take i indices) → mark_of marks (get_or indices i 0) ≡ false → AreUnmarked marks (take (i + 1) indices)
+unmarked_more marks indices i h a off = rw (take_more indices i 0 h) (record {
+  each = λ p inside. elim (Contains-push_cases (take i indices) (get_or indices i 0) p inside) [
     | inl before ↦ a.each p before
     | inr same ↦ (let P : ℕ → Type 0 = λ k. mark_of marks k ≡ false in subst P same off)
   ];
 })
 
-pub unmarked_all : (marks : List Bool) (places : List ℕ) (i : ℕ) → length places ≤ i → AreUnmarked marks (take i places) → AreUnmarked marks places
-unmarked_all marks places i h a = let P : List ℕ → Type 0 = λ l. AreUnmarked marks l in subst P (take_all i places h) a
+pub unmarked_all : (marks : List Bool) (indices : List ℕ) (i : ℕ) → length indices ≤ i → AreUnmarked marks (take i indices) → AreUnmarked marks indices
+unmarked_all marks indices i h a = let P : List ℕ → Type 0 = λ l. AreUnmarked marks l in subst P (take_all i indices h) a
 
 -- ---- what falls
 
--- a good place has no closed need
+-- a good node has no closed need
 good_needs_open : (nodes : Nodes) (opens : List Bool) (p : ℕ) → AreOpen nodes opens → IsGood (world nodes) p → HasClosedNeed nodes opens p → ⊥
 good_needs_open nodes opens p a good closed = elim (good.plan.needs_met p closed.need good.member closed.needs) [
   | inl there ↦ unmarked nodes.there.items closed.need closed.absent there
@@ -59,7 +59,7 @@ left_falls_inside nodes opens marks p on left a closed = left_falls nodes opens 
 
 -- ---- what closes
 
--- no good place gives one of a ring that can close
+-- no good node gives one of a ring that can close
 pub ring_ungiven : (nodes : Nodes) (superseders : List (List ℕ)) (marks opens : List Bool) (ring : List ℕ) (p : ℕ) → AreReversed nodes.supersedes (length nodes.candidates.items) superseders → AreMarksLeft nodes marks → AreOpen nodes opens → CanClose superseders marks opens ring p → AreUngiven nodes ring
 ring_ungiven nodes superseders marks opens ring p turned left a can = record {
   each = λ r z inside giver. (leads_closed (Outside z) (handed z giver.good) (λ stands. unmarked marks z (can.unmarked.each z stands) (left.keep z giver.good), leads_itself Step z) giver.gives).0 inside;
@@ -80,7 +80,7 @@ ring_ungiven nodes superseders marks opens ring p turned left a can = record {
     leads_more held.1 link,
   )
 
--- what no good place gives may close
+-- what no good node gives may close
 pub open_shut : (nodes : Nodes) (ring : List ℕ) (old new : List Bool) (p : ℕ) → AreUngiven nodes ring → Contains ring p → AreOpen nodes old → IsShut p old new → AreOpen nodes new
 open_shut nodes ring old new p none inside a shut = record {
   given = λ r z giver. elim (cases_eq r p) [
@@ -103,47 +103,47 @@ ring_read nodes superseders marks opens read ring p same turned left a can =
 pub ring_begins : (nodes : Nodes) (superseders : List (List ℕ)) (marks opens read : List Bool) (ring : List ℕ) (p : ℕ) → read ≡ opens → AreReversed nodes.supersedes (length nodes.candidates.items) superseders → AreMarksLeft nodes marks → AreOpen nodes opens → CanClose superseders marks read ring p → AreOpen nodes (set opens p false)
 ring_begins nodes superseders marks opens read ring p same turned left a can =
     let here = (let P : List Bool → Type 0 = λ o. CanClose superseders marks o ring p in subst P same can) in
-    open_shut nodes ring opens (set opens p false) p (ring_ungiven nodes superseders marks opens ring p turned left a here) here.member a (shut_one opens p here.place here.was_open)
+    open_shut nodes ring opens (set opens p false) p (ring_ungiven nodes superseders marks opens ring p turned left a here) here.member a (shut_one opens p here.index here.was_open)
 
--- ---- places of a ring read one after the other
+-- ---- nodes of a ring read one after the other
 
 pub closed_but_none : (opens : List Bool) (ring : List ℕ) → AreClosedBut opens ring []
 closed_but_none opens ring = record { each = λ p inside. absurd (omega (arith, inside.1)) }
 
-pub closed_but_more : (opens : List Bool) (ring places : List ℕ) (i : ℕ) → i < length places → AreClosedBut opens ring (take i places) → (mark_of opens (get_or places i 0) ≡ false) ⊎ Contains ring (get_or places i 0) → AreClosedBut opens ring (take (i + 1) places)
-closed_but_more opens ring places i h a so = rw (take_more places i 0 h) (record {
-  each = λ p inside. elim (Contains-push_cases (take i places) (get_or places i 0) p inside) [
+pub closed_but_more : (opens : List Bool) (ring indices : List ℕ) (i : ℕ) → i < length indices → AreClosedBut opens ring (take i indices) → (mark_of opens (get_or indices i 0) ≡ false) ⊎ Contains ring (get_or indices i 0) → AreClosedBut opens ring (take (i + 1) indices)
+closed_but_more opens ring indices i h a so = rw (take_more indices i 0 h) (record {
+  each = λ p inside. elim (Contains-push_cases (take i indices) (get_or indices i 0) p inside) [
     | inl before ↦ a.each p before
     | inr same ↦ (let P : ℕ → Type 0 = λ k. (mark_of opens k ≡ false) ⊎ Contains ring k in subst P same so)
   ];
 })
 
-pub closed_but_all : (opens : List Bool) (ring places : List ℕ) (i : ℕ) → length places ≤ i → AreClosedBut opens ring (take i places) → AreClosedBut opens ring places
-closed_but_all opens ring places i h a = let P : List ℕ → Type 0 = λ l. AreClosedBut opens ring l in subst P (take_all i places h) a
+pub closed_but_all : (opens : List Bool) (ring indices : List ℕ) (i : ℕ) → length indices ≤ i → AreClosedBut opens ring (take i indices) → AreClosedBut opens ring indices
+closed_but_all opens ring indices i h a = let P : List ℕ → Type 0 = λ l. AreClosedBut opens ring l in subst P (take_all i indices h) a
 
 pub shut_off_none : (superseders : List (List ℕ)) (opens : List Bool) (ring : List ℕ) → AreShutOff superseders opens ring []
 shut_off_none superseders opens ring = record { each = λ p inside. absurd (omega (arith, inside.1)) }
 
-pub shut_off_more : (superseders : List (List ℕ)) (opens : List Bool) (ring places above : List ℕ) (i : ℕ) → i < length places → AreShutOff superseders opens ring (take i places) → above ≡ row superseders (get_or places i 0) → AreClosedBut opens ring above → AreShutOff superseders opens ring (take (i + 1) places)
-shut_off_more superseders opens ring places above i h a same so = rw (take_more places i 0 h) (record {
-  each = λ p inside. elim (Contains-push_cases (take i places) (get_or places i 0) p inside) [
+pub shut_off_more : (superseders : List (List ℕ)) (opens : List Bool) (ring indices above : List ℕ) (i : ℕ) → i < length indices → AreShutOff superseders opens ring (take i indices) → above ≡ row superseders (get_or indices i 0) → AreClosedBut opens ring above → AreShutOff superseders opens ring (take (i + 1) indices)
+shut_off_more superseders opens ring indices above i h a same so = rw (take_more indices i 0 h) (record {
+  each = λ p inside. elim (Contains-push_cases (take i indices) (get_or indices i 0) p inside) [
     | inl before ↦ a.each p before
     | inr at ↦ (let P : ℕ → Type 0 = λ k. AreClosedBut opens ring (row superseders k) in let Q : List ℕ → Type 0 = λ l. AreClosedBut opens ring l in subst P at (subst Q same so))
   ];
 })
 
-pub shut_off_all : (superseders : List (List ℕ)) (opens : List Bool) (ring places : List ℕ) (i : ℕ) → length places ≤ i → AreShutOff superseders opens ring (take i places) → AreShutOff superseders opens ring places
-shut_off_all superseders opens ring places i h a = let P : List ℕ → Type 0 = λ l. AreShutOff superseders opens ring l in subst P (take_all i places h) a
+pub shut_off_all : (superseders : List (List ℕ)) (opens : List Bool) (ring indices : List ℕ) (i : ℕ) → length indices ≤ i → AreShutOff superseders opens ring (take i indices) → AreShutOff superseders opens ring indices
+shut_off_all superseders opens ring indices i h a = let P : List ℕ → Type 0 = λ l. AreShutOff superseders opens ring l in subst P (take_all i indices h) a
 
 -- closing brings the end nearer
 pub closing_is_nearer : (opens : List Bool) (p work work' : ℕ) → p < length opens → IsMarked opens p → ComesNearer opens (set opens p false) work work'
 closing_is_nearer opens p work work' h marked = inl (count_falls opens p h marked)
 
--- so does the closing of a ring with an open place
+-- so does the closing of a ring with an open node
 pub ring_is_nearer : (opens read new : List Bool) {superseders : List (List ℕ)} {marks : List Bool} {ring : List ℕ} (p work work' : ℕ) → read ≡ opens → CanClose superseders marks read ring p → marked_count new ≤ marked_count (set opens p false) → ComesNearer opens new work work'
 ring_is_nearer opens read new {superseders} {marks} {ring} p work work' same can fewer =
     let here = (let P : List Bool → Type 0 = λ o. CanClose superseders marks o ring p in subst P same can) in
-    inl (omega (arith, count_falls opens p here.place here.was_open, fewer))
+    inl (omega (arith, count_falls opens p here.index here.was_open, fewer))
 
 pub same_is_near : (opens : List Bool) (work work' : ℕ) → work' ≤ work → ComesNearer opens opens work work'
 same_is_near opens work work' h = inr (refl, h)
@@ -156,7 +156,7 @@ open_begins nodes n len = record {
   inside : (r z : ℕ) → IsGoodGiver (world nodes) r z → r < n
   inside r z giver = elim (leads_last giver.gives) [
     | inl same ↦ (let h : z < length nodes.candidates.items = good_inside nodes z giver.good in omega arith)
-    | inr last ↦ omega (arith, last.step.place)
+    | inr last ↦ omega (arith, last.step.index)
   ]
 
 -- the measure falls where the end comes nearer

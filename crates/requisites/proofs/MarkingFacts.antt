@@ -1,4 +1,4 @@
--- Walks by picks, over places that are marked.
+-- Walks by picks, over nodes that are marked.
 use Rattle.std.proofs.Common.{◌≡◌, ◌↔◌, ◌∙◌, ℕ, ◌+◌, ◌<◌, ◌≤◌, List, [], ◌∷◌, ◌++◌, Bool, true, false, length, get_or, set, replicate, take, refl, sym, ap, subst, inl, inr, arith}
 use Rattle.std.specs.List.{Contains}
 use Rattle.std.specs.List.Sorted.{IsStrictlyIncreasing}
@@ -29,7 +29,7 @@ no_marks len p marked = let on : mark_of (replicate len false) p ≡ true = mark
     | inr past ↦ get_or_past (replicate len false) p false (let e : length (replicate len false) ≡ len = grind (arith, common_steps) in omega arith)
   ]
 
--- ---- places of a row
+-- ---- nodes of a row
 
 pub marked_none : (marks : List Bool) (order : List ℕ) → AreMarked [] marks marks order order
 marked_none marks order = record {
@@ -43,65 +43,65 @@ marked_none marks order = record {
   len = refl;
 }
 
--- a place that had no mark
-pub marked_now : (place : ℕ) (marks : List Bool) (order order' : List ℕ) → place < length marks → order' ≡ order ++ place ∷ []
-    → AreMarked (place ∷ []) marks (set marks place true) order order'
-marked_now place marks order order' within now = record {
-  more = place ∷ [];
+-- a node that had no mark
+pub marked_now : (node : ℕ) (marks : List Bool) (order order' : List ℕ) → node < length marks → order' ≡ order ++ node ∷ []
+    → AreMarked (node ∷ []) marks (set marks node true) order order'
+marked_now node marks order order' within now = record {
+  more = node ∷ [];
   goes_on = now;
   drawn = λ q inside. inside;
-  put = λ were q is. listed q (elim (cases_eq q place) [
-    | inl same ↦ (let Q : ℕ → Type 0 = λ k. Contains (order ++ place ∷ []) k in subst Q (sym same) (Contains-push order place))
-    | inr other ↦ Contains-append_left order (place ∷ []) q (were q (record { is = sym (elsewhere q other) ∙ is.is }))
+  put = λ were q is. listed q (elim (cases_eq q node) [
+    | inl same ↦ (let Q : ℕ → Type 0 = λ k. Contains (order ++ node ∷ []) k in subst Q (sym same) (Contains-push order node))
+    | inr other ↦ Contains-append_left order (node ∷ []) q (were q (record { is = sym (elsewhere q other) ∙ is.is }))
   ]);
-  marked = λ were q inside. (let P : List ℕ → Type 0 = λ l. Contains l q in elim (Contains-push_cases order place q (subst P now inside)) [
+  marked = λ were q inside. (let P : List ℕ → Type 0 = λ l. Contains l q in elim (Contains-push_cases order node q (subst P now inside)) [
     | inl before ↦ kept q (were q before)
-    | inr same ↦ (let Q : ℕ → Type 0 = λ k. IsMarked (set marks place true) k in subst Q same here)
+    | inr same ↦ (let Q : ℕ → Type 0 = λ k. IsMarked (set marks node true) k in subst Q same here)
   ]);
-  whole = λ q inside below. (let Q : ℕ → Type 0 = λ k. IsMarked (set marks place true) k in subst Q (in_one place q inside) here);
+  whole = λ q inside below. (let Q : ℕ → Type 0 = λ k. IsMarked (set marks node true) k in subst Q (in_one node q inside) here);
   stays = kept;
-  len = length-set marks place true;
+  len = length-set marks node true;
 } where
-  listed : (q : ℕ) → Contains (order ++ place ∷ []) q → Contains order' q
+  listed : (q : ℕ) → Contains (order ++ node ∷ []) q → Contains order' q
   listed q inside = let P : List ℕ → Type 0 = λ l. Contains l q in subst P (sym now) inside
 
-  elsewhere : (q : ℕ) → (q ≡ place → ⊥) → mark_of (set marks place true) q ≡ mark_of marks q
-  elsewhere q other = get_or-set_other marks place q true false other
+  elsewhere : (q : ℕ) → (q ≡ node → ⊥) → mark_of (set marks node true) q ≡ mark_of marks q
+  elsewhere q other = get_or-set_other marks node q true false other
 
-  here : IsMarked (set marks place true) place
-  here = record { is = get_or-set_same marks place true false within }
+  here : IsMarked (set marks node true) node
+  here = record { is = get_or-set_same marks node true false within }
 
-  kept : (q : ℕ) → IsMarked marks q → IsMarked (set marks place true) q
-  kept q is = elim (cases_eq q place) [
-    | inl same ↦ (let Q : ℕ → Type 0 = λ k. IsMarked (set marks place true) k in subst Q (sym same) here)
+  kept : (q : ℕ) → IsMarked marks q → IsMarked (set marks node true) q
+  kept q is = elim (cases_eq q node) [
+    | inl same ↦ (let Q : ℕ → Type 0 = λ k. IsMarked (set marks node true) k in subst Q (sym same) here)
     | inr other ↦ record { is = elsewhere q other ∙ is.is }
   ]
 
--- a place that has a mark, or that is no place
-pub marked_before : (place : ℕ) (marks : List Bool) (order : List ℕ) → (place < length marks → mark_of marks place ≡ true) → AreMarked (place ∷ []) marks marks order order
-marked_before place marks order here = record {
+-- a node that has a mark, or that is no node
+pub marked_before : (node : ℕ) (marks : List Bool) (order : List ℕ) → (node < length marks → mark_of marks node ≡ true) → AreMarked (node ∷ []) marks marks order order
+marked_before node marks order here = record {
   more = [];
   goes_on = sym (append-nil order);
   drawn = λ q inside. absurd (none_inside q inside);
   put = λ were. were;
   marked = λ were. were;
-  whole = λ q inside within. (let P : ℕ → Type 0 = λ k. k < length marks → mark_of marks k ≡ true in record { is = subst P (in_one place q inside) here within });
+  whole = λ q inside within. (let P : ℕ → Type 0 = λ k. k < length marks → mark_of marks k ≡ true in record { is = subst P (in_one node q inside) here within });
   stays = λ q is. is;
   len = refl;
 }
 
-pub marked_more : (listed : List ℕ) (i place : ℕ) (a b c : List Bool) (x y z : List ℕ) → i < length listed → place ≡ get_or listed i 0
-    → AreMarked (take i listed) a b x y → AreMarked (place ∷ []) b c y z → AreMarked (take (i + 1) listed) a c x z
-marked_more listed i place a b c x y z below at first second =
-    let front : take (i + 1) listed ≡ take i listed ++ place ∷ [] = take_more listed i 0 below ∙ ap (λ k. take i listed ++ k ∷ []) (sym at) in
+pub marked_more : (listed : List ℕ) (i node : ℕ) (a b c : List Bool) (x y z : List ℕ) → i < length listed → node ≡ get_or listed i 0
+    → AreMarked (take i listed) a b x y → AreMarked (node ∷ []) b c y z → AreMarked (take (i + 1) listed) a c x z
+marked_more listed i node a b c x y z below at first second =
+    let front : take (i + 1) listed ≡ take i listed ++ node ∷ [] = take_more listed i 0 below ∙ ap (λ k. take i listed ++ k ∷ []) (sym at) in
     let T : List ℕ → Type 0 = λ l. AreMarked l a c x z in
     subst T (sym front) (record {
       more = first.more ++ second.more;
       goes_on = second.goes_on ∙ ap (λ l. l ++ second.more) first.goes_on ∙ append_assoc x first.more second.more;
-      drawn = drawn_both first.more second.more (take i listed) (place ∷ []) first.drawn second.drawn;
+      drawn = drawn_both first.more second.more (take i listed) (node ∷ []) first.drawn second.drawn;
       put = λ were. second.put (first.put were);
       marked = λ were. second.marked (first.marked were);
-      whole = λ q inside within. elim (Contains-append_cases (take i listed) (place ∷ []) q inside) [
+      whole = λ q inside within. elim (Contains-append_cases (take i listed) (node ∷ []) q inside) [
         | inl before ↦ second.stays q (first.whole q before within)
         | inr now ↦ second.whole q now (omega (arith, within, first.len))
       ];
@@ -148,8 +148,8 @@ module _ (nodes : Nodes) (x : ℕ) where
       | inl before ↦ on.kept z (was.followed p z before picks_for)
       | inr same ↦
           let R : ℕ → Type 0 = λ k. PicksFor (world nodes) k z in
-          let place = good_inside nodes z (good_of_pick nodes picks_for.need z picks_for.pick) in
-          put z (now.whole z (picks.whole z (subst R (sym same) picks_for)) (omega (arith, place, was.len)))
+          let node = good_inside nodes z (good_of_pick nodes picks_for.need z picks_for.pick) in
+          put z (now.whole z (picks.whole z (subst R (sym same) picks_for)) (omega (arith, node, was.len)))
     ];
     chosen = λ q inside. (
         let L : List ℕ → Type 0 = λ l. Contains l q in
@@ -176,7 +176,7 @@ module _ (nodes : Nodes) (x : ℕ) where
         let Q : List ℕ → Type 0 = λ l. Contains l p in
         was.followed p z (subst Q (sym (take_all at order whole)) here) picks_for
 
-  -- the marked places are the chosen plan
+  -- the marked nodes are the chosen plan
   pub plan_marked : (marks : List Bool) (plan : List ℕ) → IsGood (world nodes) x → AreChosenMarks nodes x marks
       → ((p : ℕ) → Contains plan p ↔ IsMarked marks p) → IsChosenPlan (world nodes) x plan
   plan_marked marks plan good chosen are = record {
@@ -185,17 +185,17 @@ module _ (nodes : Nodes) (x : ℕ) where
     whole = λ y is. (are y).1 (chosen.whole y is);
   }
 
--- ---- the marked places, ascending
+-- ---- the marked nodes, ascending
 
 -- a mark that is read through a reference
 pub mark_read : (seen marks : List Bool) (i : ℕ) (b : Bool) → seen ≡ marks → mark_of seen i ≡ b → mark_of marks i ≡ b
 mark_read seen marks i b same is = let P : List Bool → Type 0 = λ l. mark_of l i ≡ b in subst P same is
 
-pub record AreMarkedBelow (marks : List Bool) (i : ℕ) (places : List ℕ) : Type 0 where
-  pub marked : (p : ℕ) → Contains places p → IsMarked marks p
-  pub below : (p : ℕ) → Contains places p → p < i
-  pub whole : (p : ℕ) → p < i → IsMarked marks p → Contains places p
-  pub ascends : IsStrictlyIncreasing places
+pub record AreMarkedBelow (marks : List Bool) (i : ℕ) (indices : List ℕ) : Type 0 where
+  pub marked : (p : ℕ) → Contains indices p → IsMarked marks p
+  pub below : (p : ℕ) → Contains indices p → p < i
+  pub whole : (p : ℕ) → p < i → IsMarked marks p → Contains indices p
+  pub ascends : IsStrictlyIncreasing indices
 
 pub below_none : (marks : List Bool) → AreMarkedBelow marks 0 []
 below_none marks = record {
@@ -221,27 +221,27 @@ increasing_push xs y up below k h = elim (cases_lt (k + 1) (length xs)) [
       omega arith)
 ]
 
-pub below_more : (marks : List Bool) (i : ℕ) (places places' : List ℕ) → places' ≡ places ++ i ∷ [] → mark_of marks i ≡ true → AreMarkedBelow marks i places → AreMarkedBelow marks (i + 1) places'
-below_more marks i places places' now on was =
+pub below_more : (marks : List Bool) (i : ℕ) (indices indices' : List ℕ) → indices' ≡ indices ++ i ∷ [] → mark_of marks i ≡ true → AreMarkedBelow marks i indices → AreMarkedBelow marks (i + 1) indices'
+below_more marks i indices indices' now on was =
     let T : List ℕ → Type 0 = λ l. AreMarkedBelow marks (i + 1) l in
     subst T (sym now) (record {
-      marked = λ p inside. elim (Contains-push_cases places i p inside) [
+      marked = λ p inside. elim (Contains-push_cases indices i p inside) [
         | inl before ↦ was.marked p before
         | inr same ↦ (let P : ℕ → Type 0 = λ k. IsMarked marks k in subst P same (record { is = on }))
       ];
-      below = λ p inside. elim (Contains-push_cases places i p inside) [
+      below = λ p inside. elim (Contains-push_cases indices i p inside) [
         | inl before ↦ omega (arith, was.below p before)
         | inr same ↦ omega arith
       ];
       whole = λ p h is. elim (cases_lt p i) [
-        | inl before ↦ Contains-append_left places (i ∷ []) p (was.whole p before is)
-        | inr after ↦ (let same : i ≡ p = omega arith in let P : ℕ → Type 0 = λ k. Contains (places ++ i ∷ []) k in subst P same (Contains-push places i))
+        | inl before ↦ Contains-append_left indices (i ∷ []) p (was.whole p before is)
+        | inr after ↦ (let same : i ≡ p = omega arith in let P : ℕ → Type 0 = λ k. Contains (indices ++ i ∷ []) k in subst P same (Contains-push indices i))
       ];
-      ascends = increasing_push places i was.ascends was.below;
+      ascends = increasing_push indices i was.ascends was.below;
     })
 
-pub below_skip : (marks : List Bool) (i : ℕ) (places places' : List ℕ) → places' ≡ places → mark_of marks i ≡ false → AreMarkedBelow marks i places → AreMarkedBelow marks (i + 1) places'
-below_skip marks i places places' same off was =
+pub below_skip : (marks : List Bool) (i : ℕ) (indices indices' : List ℕ) → indices' ≡ indices → mark_of marks i ≡ false → AreMarkedBelow marks i indices → AreMarkedBelow marks (i + 1) indices'
+below_skip marks i indices indices' same off was =
     let T : List ℕ → Type 0 = λ l. AreMarkedBelow marks (i + 1) l in
     subst T (sym same) (record {
       marked = was.marked;
@@ -257,8 +257,8 @@ below_skip marks i places places' same off was =
       ascends = was.ascends;
     })
 
-pub below_whole : (marks : List Bool) (i : ℕ) (places : List ℕ) → length marks ≤ i → AreMarkedBelow marks i places → (p : ℕ) → Contains places p ↔ IsMarked marks p
-below_whole marks i places end was p = (was.marked p, λ is. was.whole p (inside is) is) where
+pub below_whole : (marks : List Bool) (i : ℕ) (indices : List ℕ) → length marks ≤ i → AreMarkedBelow marks i indices → (p : ℕ) → Contains indices p ↔ IsMarked marks p
+below_whole marks i indices end was p = (was.marked p, λ is. was.whole p (inside is) is) where
   inside : IsMarked marks p → p < i
   inside is = elim (cases_lt p (length marks)) [
     | inl within ↦ omega arith

@@ -1,4 +1,4 @@
--- A list of places that grows at its end, where a walk takes one place after the other from it.
+-- A list of nodes that grows at its end, where a walk takes one node after the other from it.
 use Rattle.std.proofs.Common.{◌≡◌, ◌∙◌, ◌⊎◌, ℕ, ◌+◌, ◌<◌, ◌≤◌, List, [], ◌∷◌, ◌++◌, length, get_or, take, inl, inr, sym, ap, subst, arith}
 use Rattle.std.specs.List.{Contains}
 use Rattle.std.proofs.lemmas.List.{length-append, take-append-le, take_more}
@@ -12,7 +12,7 @@ drawn_both first second one other by_first by_second q inside = elim (Contains-a
   | inr now ↦ Contains-append_right one other q (by_second q now)
 ]
 
--- A list from which a place is taken next, and what it grows to.
+-- A list from which a node is taken next, and what it grows to.
 pub record Takes (order order' : List ℕ) (at next : ℕ) : Type 0 where
   pub kept : (q : ℕ) → Contains order q → Contains order' q
   pub here : Contains order next
@@ -27,7 +27,7 @@ module _ (order order' more : List ℕ) (goes_on : order' ≡ order ++ more) whe
   order_grows : length order ≤ length order'
   order_grows = omega (arith, ap length goes_on ∙ length-append order more)
 
-  -- what was taken, with the place that is taken next
+  -- what was taken, with the node that is taken next
   order_front : (at next : ℕ) → at < length order → next ≡ get_or order at next → take (at + 1) order' ≡ take at order ++ next ∷ []
   order_front at next below is =
       ap (take (at + 1)) goes_on ∙ take-append-le (at + 1) order more (omega (arith, below)) ∙ take_more order at next below

@@ -25,16 +25,16 @@ pick_least nodes good givers need z a absent off e = record {
   pick = inr (
     (λ is_good. unmarked good need off (a.unmarked need is_good)),
     record {
-      holds = record { good = a.marked z source.marked; gives = at_places (length good) (length nodes.candidates.items) a.len source.leads };
-      least = λ y giver. source.least y (a.unmarked y giver.good) (at_places (length nodes.candidates.items) (length good) (sym a.len) giver.gives);
+      holds = record { good = a.marked z source.marked; gives = at_indices (length good) (length nodes.candidates.items) a.len source.leads };
+      least = λ y giver. source.least y (a.unmarked y giver.good) (at_indices (length nodes.candidates.items) (length good) (sym a.len) giver.gives);
     },
   );
 } where
   source : IsLeastSource nodes.supersedes good (length good) need z
   source = a.given_by.reached need z e
 
-  at_places : (m n : ℕ) {u : ℕ} → m ≡ n → Leads (Links nodes.supersedes m) u need → Leads (Links nodes.supersedes n) u need
-  at_places m n {u} same leads = let P : ℕ → Type 0 = λ k. Leads (Links nodes.supersedes k) u need in subst P same leads
+  at_indices : (m n : ℕ) {u : ℕ} → m ≡ n → Leads (Links nodes.supersedes m) u need → Leads (Links nodes.supersedes n) u need
+  at_indices m n {u} same leads = let P : ℕ → Type 0 = λ k. Leads (Links nodes.supersedes k) u need in subst P same leads
 
 pub pick_none : (nodes : Nodes) (good : List Bool) (givers : List (Option ℕ)) (need : ℕ) → AreGood nodes good givers → source_of givers need ≡ None → (z : ℕ) → IsGoodGiver (world nodes) need z → ⊥
 pick_none nodes good givers need a e z giver =

@@ -11,7 +11,7 @@ use Rattle.requisites.specs.Good.{AreGood, AreMarksLeft, AreMet, AreSwept, HasOp
 use Rattle.requisites.specs.declared.nodes.Nodes.{Nodes}
 use Rattle.requisites.proofs.SourceFacts.{marked_inside}
 
--- the marked places, counted from k
+-- the marked nodes, counted from k
 marked_from : List Bool → ℕ → List ℕ
 marked_from [] k = []
 marked_from (true ∷ marks) k = k ∷ marked_from marks (k + 1)
@@ -37,35 +37,35 @@ marked_listed (true ∷ marks) k (suc i) q e on = contains_rest k q (marked_from
 marked_listed (false ∷ marks) k zero q e on = absurd (cc)
 marked_listed (false ∷ marks) k (suc i) q e on = marked_listed marks (k + 1) i q (omega arith) on
 
--- the place of a listed one, counted from k
+-- the index of a listed one, counted from k
 record IsAt (marks : List Bool) (k q : ℕ) : Type 0 where
   index : ℕ
-  place : q ≡ k + index
+  is : q ≡ k + index
   marked : mark_of marks index ≡ true
 
 one_on : (b : Bool) (marks : List Bool) (k q : ℕ) → IsAt marks (k + 1) q → IsAt (b ∷ marks) k q
-one_on b marks k q a = record { index = suc a.index; place = omega (arith, a.place); marked = a.marked }
+one_on b marks k q a = record { index = suc a.index; is = omega (arith, a.is); marked = a.marked }
 
 listed_marked : (marks : List Bool) (k q : ℕ) → Contains (marked_from marks k) q → IsAt marks k q
 unfolding marked_from
 listed_marked [] k q inside = absurd (omega (arith, inside.1))
 listed_marked (true ∷ marks) k q inside = elim (contains_cases k q (marked_from marks (k + 1)) inside) [
-  | inl same ↦ record { index = zero; place = omega arith; marked = refl }
+  | inl same ↦ record { index = zero; is = omega arith; marked = refl }
   | inr later ↦ one_on true marks k q (listed_marked marks (k + 1) q later)
 ]
 listed_marked (false ∷ marks) k q inside = one_on false marks k q (listed_marked marks (k + 1) q inside)
 
--- the marked places as a list
-pub marked_places : List Bool → List ℕ
-marked_places marks = marked_from marks 0
+-- the marked nodes as a list
+pub marked_indices : List Bool → List ℕ
+marked_indices marks = marked_from marks 0
 
-pub marked-places : (marks : List Bool) (p : ℕ) → IsMarked marks p → Contains (marked_places marks) p
-unfolding marked_places
-marked-places marks p marked = marked_listed marks 0 p p (omega arith) marked.is
+pub marked-indices : (marks : List Bool) (p : ℕ) → IsMarked marks p → Contains (marked_indices marks) p
+unfolding marked_indices
+marked-indices marks p marked = marked_listed marks 0 p p (omega arith) marked.is
 
-pub places-marked : (marks : List Bool) (p : ℕ) → Contains (marked_places marks) p → IsMarked marks p
-unfolding marked_places
-places-marked marks p inside = let at = listed_marked marks 0 p inside in let same : at.index ≡ p = omega (arith, at.place) in record { is = (let P : ℕ → Type 0 = λ j. mark_of marks j ≡ true in subst P same at.marked) }
+pub indices-marked : (marks : List Bool) (p : ℕ) → Contains (marked_indices marks) p → IsMarked marks p
+unfolding marked_indices
+indices-marked marks p inside = let at = listed_marked marks 0 p inside in let same : at.index ≡ p = omega (arith, at.is) in record { is = (let P : ℕ → Type 0 = λ j. mark_of marks j ≡ true in subst P same at.marked) }
 
 pub left_begins : (nodes : Nodes) (marks : List Bool) → marks ≡ nodes.candidates.items → AreMarksLeft nodes marks
 left_begins nodes marks e = let P : List Bool → Type 0 = λ m. AreMarksLeft nodes m in subst P (sym e) (record {
@@ -74,7 +74,7 @@ left_begins nodes marks e = let P : List Bool → Type 0 = λ m. AreMarksLeft no
   keep = λ p good. good.plan.candidates p good.member;
 })
 
--- a good place has no open need
+-- a good node has no open need
 pub good_has_none : (nodes : Nodes) (marks : List Bool) (givers : List (Option ℕ)) (p : ℕ) → AreMarksLeft nodes marks → AreLeastSources nodes.supersedes marks givers → IsGood (world nodes) p → HasOpenNeed nodes givers p → ⊥
 good_has_none nodes marks givers p left sources good unmet =
     let r = unmet.need in
@@ -95,15 +95,15 @@ left_swept nodes i old new givers fell left sources swept = record {
   ];
 }
 
--- where each need of each marked place is met, the marked places are a plan
-pub left_is_plan : (nodes : Nodes) (marks : List Bool) (givers : List (Option ℕ)) → AreMarksLeft nodes marks → AreLeastSources nodes.supersedes marks givers → ((p : ℕ) → IsMarked marks p → AreMet nodes givers (row nodes.needs p)) → IsPlan (world nodes) (marked_places marks)
+-- where each need of each marked node is met, the marked nodes are a plan
+pub left_is_plan : (nodes : Nodes) (marks : List Bool) (givers : List (Option ℕ)) → AreMarksLeft nodes marks → AreLeastSources nodes.supersedes marks givers → ((p : ℕ) → IsMarked marks p → AreMet nodes givers (row nodes.needs p)) → IsPlan (world nodes) (marked_indices marks)
 left_is_plan nodes marks givers left sources met = record {
-  candidates = λ p inside. left.candidates p (places-marked marks p inside);
-  needs_met = λ p r inside needs. elim ((met p (places-marked marks p inside)).met r needs) [
+  candidates = λ p inside. left.candidates p (indices-marked marks p inside);
+  needs_met = λ p r inside needs. elim ((met p (indices-marked marks p inside)).met r needs) [
     | inl there ↦ inl there
     | inr had ↦ (let least = sources.reached r had.source had.is in inr (record {
       giver = had.source;
-      member = marked-places marks had.source least.marked;
+      member = marked-indices marks had.source least.marked;
       gives = (let P : ℕ → Type 0 = λ n. Leads (Links nodes.supersedes n) had.source r in subst P left.len least.leads);
     }))
   ];
@@ -115,9 +115,9 @@ good_found nodes i old new givers fell none whole left sources swept =
     subst P (sym (swept.same none)) (record {
       len = left.len;
       marked = λ p marked. record {
-        members = marked_places old;
+        members = marked_indices old;
         plan = left_is_plan nodes old givers left sources (λ q on. swept.met none q (omega (arith, marked_inside old q on)) on);
-        member = marked-places old p marked;
+        member = marked-indices old p marked;
       };
       unmarked = left.keep;
       given_by = sources;

@@ -11,20 +11,20 @@ use Rattle.requisites.specs.Nodes.{AreReversed, Links, row}
 use Rattle.requisites.specs.Reversed.{AreChained, RowAdded, chain, chains_of}
 use Rattle.requisites.specs.declared.reversed.Chains.{Chains}
 
-pub added_none : (place : ℕ) (rows : List (List ℕ)) → RowAdded [] place rows rows
-added_none place rows = record {
+pub added_none : (node : ℕ) (rows : List (List ℕ)) → RowAdded [] node rows rows
+added_none node rows = record {
   len = refl;
   keeps = λ q p inside. inside;
   added = λ q inside h. absurd (omega (arith, inside.1));
   only = λ q p inside. inl inside;
 }
 
-pub added_more : (listed : List ℕ) (i place : ℕ) (old mid new : List (List ℕ)) → i < length listed → RowAdded (take i listed) place old mid → RowAdded (get_or listed i 0 ∷ []) place mid new → RowAdded (take (i + 1) listed) place old new
-added_more listed i place old mid new h a b = rw (take_more listed i 0 h) (record {
+pub added_more : (listed : List ℕ) (i node : ℕ) (old mid new : List (List ℕ)) → i < length listed → RowAdded (take i listed) node old mid → RowAdded (get_or listed i 0 ∷ []) node mid new → RowAdded (take (i + 1) listed) node old new
+added_more listed i node old mid new h a b = rw (take_more listed i 0 h) (record {
   len = b.len ∙ a.len;
   keeps = λ q p inside. b.keeps q p (a.keeps q p inside);
   added = λ q inside below. elim (Contains-push_cases (take i listed) (get_or listed i 0) q inside) [
-    | inl before ↦ b.keeps q place (a.added q before below)
+    | inl before ↦ b.keeps q node (a.added q before below)
     | inr same ↦ b.added q (let P : ℕ → Type 0 = λ k. Contains (get_or listed i 0 ∷ []) k in subst P same (Contains-push [] (get_or listed i 0))) (omega (arith, a.len))
   ];
   only = λ q p inside. elim (b.only q p inside) [
@@ -36,10 +36,10 @@ added_more listed i place old mid new h a b = rw (take_more listed i 0 h) (recor
   ];
 })
 
-pub added_all : (listed : List ℕ) (i place : ℕ) (old new : List (List ℕ)) → length listed ≤ i → RowAdded (take i listed) place old new → RowAdded listed place old new
-added_all listed i place old new h a = let P : List ℕ → Type 0 = λ l. RowAdded l place old new in subst P (take_all i listed h) a
+pub added_all : (listed : List ℕ) (i node : ℕ) (old new : List (List ℕ)) → length listed ≤ i → RowAdded (take i listed) node old new → RowAdded listed node old new
+added_all listed i node old new h a = let P : List ℕ → Type 0 = λ l. RowAdded l node old new in subst P (take_all i listed h) a
 
--- the links of the places below i are turned
+-- the links of the nodes below i are turned
 pub record AreTurnedBelow (lists : List (List ℕ)) (n i : ℕ) (rows : List (List ℕ)) : Type 0 where
   pub len : length rows ≡ n
   pub turned : (p q : ℕ) → p < i → Links lists n p q → Contains (row rows q) p
@@ -52,14 +52,14 @@ turned_more lists n i own old new same a b = record {
     | inl before ↦ b.keeps q p (a.turned p q before link)
     | inr after ↦ (let at : i ≡ p = omega arith in
         let P : ℕ → Type 0 = λ k. Contains (row new q) k in
-        subst P at (b.added q (let Q : ℕ → Type 0 = λ k. Contains (row lists k) q in let R : List ℕ → Type 0 = λ l. Contains l q in subst R (sym same) (subst Q (sym at) link.listed)) (omega (arith, link.place, a.len))))
+        subst P at (b.added q (let Q : ℕ → Type 0 = λ k. Contains (row lists k) q in let R : List ℕ → Type 0 = λ l. Contains l q in subst R (sym same) (subst Q (sym at) link.listed)) (omega (arith, link.index, a.len))))
   ];
   only = λ p q inside. elim (b.only q p inside) [
     | inl before ↦ a.only p q before
     | inr now ↦
         let P : List ℕ → Type 0 = λ l. Contains l q in
         let Q : ℕ → Type 0 = λ k. Contains (row lists k) q in
-        record { listed = subst Q now.is (subst P same now.inside); place = (let w = now.within in omega (arith, w, a.len)) }
+        record { listed = subst Q now.is (subst P same now.inside); index = (let w = now.within in omega (arith, w, a.len)) }
   ];
 }
 
@@ -206,7 +206,7 @@ chained_none lists chains none = record {
 abbrev pub nought : ℕ
 nought = 0
 
--- where no place has a link, no row has an entry
+-- where no node has a link, no row has an entry
 pub no_links : (chains : Chains) (n : ℕ) → chains.last.items ≡ replicate n nought → (q p : ℕ) → Contains (row (chains_of chains) q) p → ⊥
 no_links chains n is q p inside =
     let P : List ℕ → Type 0 = λ l. Contains l p in

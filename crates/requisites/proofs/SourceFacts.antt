@@ -9,7 +9,7 @@ use Rattle.requisites.specs.Spread.{AreClosed, IsSpread, SourcesSpread}
 use Rattle.requisites.proofs.LeadsFacts.{leads_closed}
 use Rattle.requisites.proofs.SpreadFacts.{none≢some}
 
--- the sources as far as the marked places below p are done
+-- the sources as far as the marked nodes below p are done
 pub record AreSourcesBelow (lists : List (List ℕ)) (marks : List Bool) (n p : ℕ) (sources : List (Option ℕ)) : Type 0 where
   pub len : length sources ≡ n
   pub reached : (q s : ℕ) → source_of sources q ≡ Some s → IsLeastSource lists marks n q s
@@ -27,7 +27,7 @@ sources_begin lists marks n sources len none = record {
 at_length : (lists : List (List ℕ)) (m n p q : ℕ) → m ≡ n → Leads (Links lists m) p q → Leads (Links lists n) p q
 at_length lists m n p q e leads = let P : ℕ → Type 0 = λ k. Leads (Links lists k) p q in subst P e leads
 
--- a marked place is done
+-- a marked node is done
 pub sources_more : (lists : List (List ℕ)) (marks : List Bool) (n p : ℕ) (old new : List (Option ℕ)) → AreSourcesBelow lists marks n p old → p < n → IsMarked marks p → SourcesSpread lists p old new → AreClosed lists new [] → AreSourcesBelow lists marks n (p + 1) new
 sources_more lists marks n p old new a inside marked spread closed = record {
   len = spread.len ∙ a.len;
@@ -56,7 +56,7 @@ sources_more lists marks n p old new a inside marked spread closed = record {
 
   onward : (u v : ℕ) → HasSource new u → Links lists n u v → HasSource new v
   onward u v had link =
-      elim (closed.closed u v had (record { listed = link.listed; place = omega (arith, link.place, spread.len, a.len) })) [
+      elim (closed.closed u v had (record { listed = link.listed; index = omega (arith, link.index, spread.len, a.len) })) [
         | inl has ↦ has
         | inr none ↦ absurd (omega (arith, none.1))
       ]
@@ -64,7 +64,7 @@ sources_more lists marks n p old new a inside marked spread closed = record {
   reach : (q : ℕ) → Leads (Links lists n) p q → HasSource new q
   reach q leads = leads_closed (HasSource new) onward (spread.begun (omega (arith, a.len))) leads
 
--- an unmarked place is passed over
+-- an unmarked node is passed over
 pub sources_skip : (lists : List (List ℕ)) (marks : List Bool) (n p : ℕ) (sources : List (Option ℕ)) → AreSourcesBelow lists marks n p sources → mark_of marks p ≡ false → AreSourcesBelow lists marks n (p + 1) sources
 sources_skip lists marks n p sources a unmarked = record {
   len = a.len;
@@ -76,7 +76,7 @@ sources_skip lists marks n p sources a unmarked = record {
   ];
 }
 
--- a marked place is a place
+-- a marked node is a node
 pub marked_inside : (marks : List Bool) (m : ℕ) → IsMarked marks m → m < length marks
 marked_inside marks m marked =
     elim (cases_lt m (length marks)) [

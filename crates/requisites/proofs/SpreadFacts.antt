@@ -41,7 +41,7 @@ pub none_from_test : {X : Type 0} (o : Option X) → is_some o ≡ false → o �
 none_from_test None e = refl
 none_from_test (Some t) e = absurd (cc)
 
--- a place whose source was found
+-- a node whose source was found
 pub some_from_test : (sources : List (Option ℕ)) (q : ℕ) (o : Option ℕ) → source_of sources q ≡ o → is_some o ≡ true → HasSource sources q
 some_from_test sources q None is e = absurd (cc)
 some_from_test sources q (Some t) is e = record { source = t; is = is }
@@ -49,7 +49,7 @@ some_from_test sources q (Some t) is e = record { source = t; is = is }
 pub none≢some : {X : Type 0} (o : Option X) (t : X) → o ≡ None → o ≡ Some t → ⊥
 none≢some o t a b = cc
 
--- a place that had no source takes s
+-- a node that had no source takes s
 pub taken_put : (s p : ℕ) (old : List (Option ℕ)) (work : List ℕ) → p < length old → source_of old p ≡ None → SourcesTaken (p ∷ []) s old (set old p (Some s)) work (work ++ p ∷ [])
 taken_put s p old work h none = record {
   len = grind (arith, common_steps);
@@ -62,7 +62,7 @@ taken_put s p old work h none = record {
     | inl same ↦ inr (record {
       source = (let u : Some t ≡ Some s = sym e ∙ same.1 in cc);
       in_row = (let P : ℕ → Type 0 = λ k. Contains (p ∷ []) k in subst P same.0 (Contains-push [] p));
-      place = (let P : ℕ → Type 0 = λ k. k < length old in subst P same.0 h);
+      index = (let P : ℕ → Type 0 = λ k. k < length old in subst P same.0 h);
       before = (let P : ℕ → Type 0 = λ k. source_of old k ≡ None in subst P same.0 none);
       put = (let P : ℕ → Type 0 = λ k. Contains (work ++ p ∷ []) k in subst P same.0 (Contains-push work p));
     })
@@ -74,7 +74,7 @@ taken_put s p old work h none = record {
     | inr same ↦ inr (record {
       source = refl;
       in_row = (let P : ℕ → Type 0 = λ k. Contains (p ∷ []) k in subst P same (Contains-push [] p));
-      place = (let P : ℕ → Type 0 = λ k. k < length old in subst P same h);
+      index = (let P : ℕ → Type 0 = λ k. k < length old in subst P same h);
       before = (let P : ℕ → Type 0 = λ k. source_of old k ≡ None in subst P same none);
       put = inside;
     })
@@ -90,7 +90,7 @@ taken_put s p old work h none = record {
       let longer : length (work ++ p ∷ []) ≡ length work + 1 = grind (arith, common_steps) in
       omega arith
 
--- a place that has a source, or is none, takes nothing
+-- a node that has a source, or is none, takes nothing
 pub taken_skip : (s p : ℕ) (old : List (Option ℕ)) (work : List ℕ) → (p < length old → HasSource old p) → SourcesTaken (p ∷ []) s old old work work
 taken_skip s p old work had = record {
   len = refl;
@@ -103,7 +103,7 @@ taken_skip s p old work had = record {
   count = refl;
 }
 
--- a row, and then one more place
+-- a row, and then one more node
 pub taken_more : (row : List ℕ) (s p : ℕ) (old mid new : List (Option ℕ)) (w wm w' : List ℕ) → SourcesTaken row s old mid w wm → SourcesTaken (p ∷ []) s mid new wm w' → SourcesTaken (row ++ p ∷ []) s old new w w'
 taken_more row s p old mid new w wm w' a b = record {
   len = b.len ∙ a.len;
@@ -131,7 +131,7 @@ taken_more row s p old mid new w wm w' a b = record {
   count = omega (arith, a.count, b.count);
 } where
   wider : (q t : ℕ) → IsTaken row s old wm q t → Contains w' q → IsTaken (row ++ p ∷ []) s old w' q t
-  wider q t taken put = record { source = taken.source; in_row = Contains-append_left row (p ∷ []) q taken.in_row; place = taken.place; before = taken.before; put = put }
+  wider q t taken put = record { source = taken.source; in_row = Contains-append_left row (p ∷ []) q taken.in_row; index = taken.index; before = taken.before; put = put }
 
   none_before : (q : ℕ) → source_of mid q ≡ None → (o : Option ℕ) → source_of old q ≡ o → o ≡ None
   none_before q none None e = refl
@@ -141,7 +141,7 @@ taken_more row s p old mid new w wm w' a b = record {
   later q t taken = record {
     source = taken.source;
     in_row = (let P : ℕ → Type 0 = λ k. Contains (row ++ p ∷ []) k in subst P (in_one p q taken.in_row) (Contains-push row p));
-    place = omega (arith, taken.place, a.len);
+    index = omega (arith, taken.index, a.len);
     before = none_before q taken.before (source_of old q) refl;
     put = taken.put;
   }
@@ -164,7 +164,7 @@ still_had : (row : List ℕ) (s p : ℕ) (old new : List (Option ℕ)) (w work :
 still_had row s p old new w work taken had = record { source = had.source; is = taken.stays p had.source had.is }
 
 same_links : (lists : List (List ℕ)) (m n p q : ℕ) → m ≡ n → Links lists m p q → Links lists n p q
-same_links lists m n p q e link = record { listed = link.listed; place = omega (arith, link.place) }
+same_links lists m n p q e link = record { listed = link.listed; index = omega (arith, link.index) }
 
 -- the start has a source, and is worked on where it had none
 pub spreading_begins : (lists : List (List ℕ)) (s : ℕ) (old new : List (Option ℕ)) (work : List ℕ) → AreClosed lists old [] → SourcesTaken (s ∷ []) s old new [] work → IsSpreading lists s old new work
@@ -197,7 +197,7 @@ spreading_begins lists s old new work closed taken = record {
   from_start : (q : ℕ) → s ≡ q → Leads (Links lists (length old)) s q
   from_start q same = let P : ℕ → Type 0 = λ k. Leads (Links lists (length old)) s k in subst P same (leads_itself (Links lists (length old)) s)
 
--- one place of the work is done
+-- one node of the work is done
 pub spreading_more : (lists : List (List ℕ)) (s p : ℕ) (old mid new : List (Option ℕ)) (rest work : List ℕ) → IsSpreading lists s old mid (rest ++ p ∷ []) → SourcesTaken (row lists p) s mid new rest work → IsSpreading lists s old new work
 spreading_more lists s p old mid new rest work a taken = record {
   spread = record {
@@ -215,7 +215,7 @@ spreading_more lists s p old mid new rest work a taken = record {
         | inl has ↦ inl (still_had (row lists p) s q mid new rest work taken has)
         | inr before ↦ elim (Contains-push_cases rest p u before) [
           | inl inside ↦ inr (taken.work_stays u inside)
-          | inr same ↦ inl (taken.row_taken q (let P : ℕ → Type 0 = λ k. Contains (row lists k) q in subst P (sym same) link.listed) (omega (arith, link.place, taken.len)))
+          | inr same ↦ inl (taken.row_taken q (let P : ℕ → Type 0 = λ k. Contains (row lists k) q in subst P (sym same) link.listed) (omega (arith, link.index, taken.len)))
         ]
       ]
       | inr put ↦ inr put
@@ -229,7 +229,7 @@ spreading_more lists s p old mid new rest work a taken = record {
   };
 } where
   onward : (q : ℕ) {t : ℕ} → IsTaken (row lists p) s mid work q t → Leads (Links lists (length old)) s q
-  onward q new = leads_more (a.reached.reached p (Contains-push rest p)) (record { listed = new.in_row; place = omega (arith, new.place, a.spread.len) })
+  onward q new = leads_more (a.reached.reached p (Contains-push rest p)) (record { listed = new.in_row; index = omega (arith, new.index, a.spread.len) })
 
   none_before : (q : ℕ) → source_of mid q ≡ None → (o : Option ℕ) → source_of old q ≡ o → o ≡ None
   none_before q none None e = refl
@@ -243,8 +243,8 @@ spreading_starts lists s old new w work idle closed taken =
     (let P : List ℕ → Type 0 = λ u. SourcesTaken (s ∷ []) s old new u work in subst P idle taken)
 
 -- the same, of work that is known to end with p
-pub spreading_steps : (lists : List (List ℕ)) (s p : ℕ) (old mid new : List (Option ℕ)) (places before rest work : List ℕ) → IsSpreading lists s old mid before → before ≡ rest ++ p ∷ [] → places ≡ row lists p → SourcesTaken places s mid new rest work → IsSpreading lists s old new work
-spreading_steps lists s p old mid new places before rest work a is_before is_row taken =
+pub spreading_steps : (lists : List (List ℕ)) (s p : ℕ) (old mid new : List (Option ℕ)) (indices before rest work : List ℕ) → IsSpreading lists s old mid before → before ≡ rest ++ p ∷ [] → indices ≡ row lists p → SourcesTaken indices s mid new rest work → IsSpreading lists s old new work
+spreading_steps lists s p old mid new indices before rest work a is_before is_row taken =
     spreading_more lists s p old mid new rest work
     (let P : List ℕ → Type 0 = λ u. IsSpreading lists s old mid u in subst P is_before a)
     (let P : List ℕ → Type 0 = λ u. SourcesTaken u s mid new rest work in subst P is_row taken)

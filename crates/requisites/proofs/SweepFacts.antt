@@ -1,4 +1,4 @@
--- Places that lose their marks.
+-- Nodes that lose their marks.
 use Rattle.std.proofs.Common.{◌≡◌, ◌≢◌, ℕ, ◌+◌, ◌<◌, List, Bool, true, false, Option, length, get_or, set, refl, sym, ap, ◌∙◌, subst, inl, inr, arith}
 use Rattle.std.specs.Prelude.{if◌then◌else◌}
 use Rattle.std.proofs.lemmas.Bool.{cases_eq, cases_lt}
@@ -38,7 +38,7 @@ swept_none nodes givers marks = record {
   met = λ e p h marked. absurd (omega arith);
 }
 
--- the place i has an open need
+-- the node i has an open need
 pub swept_falls : (nodes : Nodes) (givers : List (Option ℕ)) (i : ℕ) (old marks : List Bool) (fell : Bool) → AreSwept nodes givers i old marks fell → i < length marks → IsMarked marks i → HasOpenNeed nodes givers i → AreSwept nodes givers (i + 1) old (set marks i false) true
 swept_falls nodes givers i old marks fell a h marked unmet = record {
   len = (let e : length (set marks i false) ≡ length marks = grind (arith, common_steps) in e ∙ a.len);
@@ -56,7 +56,7 @@ swept_falls nodes givers i old marks fell a h marked unmet = record {
   met = λ e p below was. absurd (cc);
 }
 
--- the needs of the place i are met, if it is marked
+-- the needs of the node i are met, if it is marked
 pub swept_stays : (nodes : Nodes) (givers : List (Option ℕ)) (i : ℕ) (old marks : List Bool) (fell : Bool) → AreSwept nodes givers i old marks fell → (IsMarked marks i → AreMet nodes givers (row nodes.needs i)) → AreSwept nodes givers (i + 1) old marks fell
 swept_stays nodes givers i old marks fell a met = record {
   len = a.len;

@@ -1,4 +1,4 @@
--- Verdicts by place.
+-- Verdicts by node.
 use Rattle.std.proofs.Common.{◌≡◌, ℕ, ◌<◌, List, [], ◌∷◌, ◌++◌, Bool, true, false, Option, Some, None, length, refl, sym, subst, inl, inr}
 use Rattle.std.specs.List.{Contains}
 use Rattle.std.proofs.lemmas.List.Elements.{Contains-append_left, Contains-push, Contains-push_cases}
@@ -9,7 +9,7 @@ use Rattle.requisites.specs.Sources.{source_of}
 use Rattle.requisites.specs.Good.{AreGood, AreMet, IsLeastOpen}
 use Rattle.requisites.specs.declared.nodes.Nodes.{Nodes}
 use Rattle.requisites.proofs.SourceFacts.{marked_inside}
-use Rattle.requisites.proofs.PlanFacts.{marked_places, marked-places, places-marked}
+use Rattle.requisites.proofs.PlanFacts.{marked_indices, marked-indices, indices-marked}
 use Rattle.requisites.proofs.PickFacts.{pick_none, unmarked}
 
 -- ---- the chosen plan
@@ -50,24 +50,24 @@ held_for nodes good givers x need a off candidate least = record {
       let source = a.given_by.reached y s e in
       absurd (ungiven s (record { good = a.marked s source.marked; gives = (let P : ℕ → Type 0 = λ k. Leads (Links nodes.supersedes k) s y in subst P a.len source.leads) }))
 
--- a candidate each of whose needs is there or given by a good place is good
+-- a candidate each of whose needs is there or given by a good node is good
 pub met_is_good : (nodes : Nodes) (good : List Bool) (givers : List (Option ℕ)) (x : ℕ) → AreGood nodes good givers → mark_of nodes.candidates.items x ≡ true → AreMet nodes givers (row nodes.needs x) → IsGood (world nodes) x
-met_is_good nodes good givers x a candidate met = record { members = with_x; plan = plan; member = Contains-push (marked_places good) x } where
+met_is_good nodes good givers x a candidate met = record { members = with_x; plan = plan; member = Contains-push (marked_indices good) x } where
   with_x : List ℕ
-  with_x = marked_places good ++ x ∷ []
+  with_x = marked_indices good ++ x ∷ []
 
-  plan : IsPlan (world nodes) (marked_places good ++ x ∷ [])
+  plan : IsPlan (world nodes) (marked_indices good ++ x ∷ [])
   plan = record {
-    candidates = λ y inside. elim (Contains-push_cases (marked_places good) x y inside) [
-      | inl before ↦ (let is_good = a.marked y (places-marked good y before) in is_good.plan.candidates y is_good.member)
+    candidates = λ y inside. elim (Contains-push_cases (marked_indices good) x y inside) [
+      | inl before ↦ (let is_good = a.marked y (indices-marked good y before) in is_good.plan.candidates y is_good.member)
       | inr same ↦ (let P : ℕ → Type 0 = λ k. IsMarked nodes.candidates.items k in subst P same (record { is = candidate }))
     ];
-    needs_met = λ y r inside needs. elim (Contains-push_cases (marked_places good) x y inside) [
-      | inl before ↦ (let is_good = a.marked y (places-marked good y before) in elim (is_good.plan.needs_met y r is_good.member needs) [
+    needs_met = λ y r inside needs. elim (Contains-push_cases (marked_indices good) x y inside) [
+      | inl before ↦ (let is_good = a.marked y (indices-marked good y before) in elim (is_good.plan.needs_met y r is_good.member needs) [
         | inl there ↦ inl there
         | inr given ↦ inr (record {
           giver = given.giver;
-          member = Contains-append_left (marked_places good) (x ∷ []) given.giver (marked-places good given.giver (a.unmarked given.giver (record { members = is_good.members; plan = is_good.plan; member = given.member })));
+          member = Contains-append_left (marked_indices good) (x ∷ []) given.giver (marked-indices good given.giver (a.unmarked given.giver (record { members = is_good.members; plan = is_good.plan; member = given.member })));
           gives = given.gives;
         })
       ])
@@ -75,7 +75,7 @@ met_is_good nodes good givers x a candidate met = record { members = with_x; pla
         | inl there ↦ inl there
         | inr had ↦ (let source = a.given_by.reached r had.source had.is in inr (record {
           giver = had.source;
-          member = Contains-append_left (marked_places good) (x ∷ []) had.source (marked-places good had.source source.marked);
+          member = Contains-append_left (marked_indices good) (x ∷ []) had.source (marked-indices good had.source source.marked);
           gives = (let P : ℕ → Type 0 = λ k. Leads (Links nodes.supersedes k) had.source r in subst P a.len source.leads);
         }))
       ]

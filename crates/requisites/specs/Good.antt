@@ -1,11 +1,11 @@
--- Which places are good, and what gives what.
+-- Which nodes are good, and what gives what.
 use Rattle.std.specs.Prelude.{◌≡◌, ◌<◌, ◌≤◌, ◌⊎◌, ℕ, List, Bool, true, false, Option, None, length, Contains, sum_by, if◌then◌else◌}
 use Rattle.requisites.specs.World.{IsGood, IsGoodGiver}
 use Rattle.requisites.specs.Nodes.{IsMarked, mark_of, row, world}
 use Rattle.requisites.specs.Sources.{AreLeastSources, HasSource, source_of}
 use Rattle.requisites.specs.declared.nodes.Nodes.{Nodes}
 
--- the marks are those of the good places, and each place's giver is the least good one
+-- the marks are those of the good nodes, and each node's giver is the least good one
 pub record AreGood (nodes : Nodes) (good : List Bool) (givers : List (Option ℕ)) : Type 0 where
   pub len : length good ≡ length nodes.candidates.items
   pub marked : (p : ℕ) → IsMarked good p → IsGood (world nodes) p
@@ -29,7 +29,7 @@ pub record IsLeastOpen (nodes : Nodes) (givers : List (Option ℕ)) (needs : Lis
   pub is_open : IsOpenNeed nodes givers needs r
   pub least : (s : ℕ) → IsOpenNeed nodes givers needs s → r ≤ s
 
--- how many places are marked
+-- how many nodes are marked
 abbrev pub marked_count : List Bool → ℕ
 marked_count marks = sum_by (λ b. if b then 1 else 0) marks
 
@@ -38,7 +38,7 @@ pub record HasOpenNeed (nodes : Nodes) (givers : List (Option ℕ)) (p : ℕ) : 
   pub need : ℕ
   pub is_open : IsOpenNeed nodes givers (row nodes.needs p) need
 
--- what is left when the marked places below i with an open need have lost their marks
+-- what is left when the marked nodes below i with an open need have lost their marks
 pub record AreSwept (nodes : Nodes) (givers : List (Option ℕ)) (i : ℕ) (old new : List Bool) (fell : Bool) : Type 0 where
   pub len : length new ≡ length old
   pub falls : (p : ℕ) → IsMarked new p → IsMarked old p
@@ -48,13 +48,13 @@ pub record AreSwept (nodes : Nodes) (givers : List (Option ℕ)) (i : ℕ) (old 
   pub same : fell ≡ false → new ≡ old
   pub met : fell ≡ false → (p : ℕ) → p < i → IsMarked old p → AreMet nodes givers (row nodes.needs p)
 
--- the marks that are left: of candidates alone, and of each good place
+-- the marks that are left: of candidates alone, and of each good node
 pub record AreMarksLeft (nodes : Nodes) (marks : List Bool) : Type 0 where
   pub len : length marks ≡ length nodes.candidates.items
   pub candidates : (p : ℕ) → IsMarked marks p → IsMarked nodes.candidates.items p
   pub keep : (p : ℕ) → IsGood (world nodes) p → IsMarked marks p
 
--- open: each place that a good one gives is
+-- open: each node that a good one gives is
 pub record AreOpen (nodes : Nodes) (marks : List Bool) : Type 0 where
   pub given : (r z : ℕ) → IsGoodGiver (world nodes) r z → IsMarked marks r
 
@@ -66,34 +66,34 @@ pub record HasClosedNeed (nodes : Nodes) (marks : List Bool) (p : ℕ) : Type 0 
   pub closed : mark_of marks need ≡ false
 
 -- none of these is marked
-pub record AreUnmarked (marks : List Bool) (places : List ℕ) : Type 0 where
-  pub each : (p : ℕ) → Contains places p → mark_of marks p ≡ false
+pub record AreUnmarked (marks : List Bool) (indices : List ℕ) : Type 0 where
+  pub each : (p : ℕ) → Contains indices p → mark_of marks p ≡ false
 
--- each of these places is among others
-pub record AreAmong (places others : List ℕ) : Type 0 where
-  pub each : (p : ℕ) → Contains places p → Contains others p
+-- each of these nodes is among others
+pub record AreAmong (indices others : List ℕ) : Type 0 where
+  pub each : (p : ℕ) → Contains indices p → Contains others p
 
--- each of these places is closed, or one of a ring
-pub record AreClosedBut (opens : List Bool) (ring places : List ℕ) : Type 0 where
-  pub each : (p : ℕ) → Contains places p → (mark_of opens p ≡ false) ⊎ Contains ring p
+-- each of these nodes is closed, or one of a ring
+pub record AreClosedBut (opens : List Bool) (ring indices : List ℕ) : Type 0 where
+  pub each : (p : ℕ) → Contains indices p → (mark_of opens p ≡ false) ⊎ Contains ring p
 
--- what supersedes one of these places is closed, or one of a ring
-pub record AreShutOff (superseders : List (List ℕ)) (opens : List Bool) (ring places : List ℕ) : Type 0 where
-  pub each : (p : ℕ) → Contains places p → AreClosedBut opens ring (row superseders p)
+-- what supersedes one of these nodes is closed, or one of a ring
+pub record AreShutOff (superseders : List (List ℕ)) (opens : List Bool) (ring indices : List ℕ) : Type 0 where
+  pub each : (p : ℕ) → Contains indices p → AreClosedBut opens ring (row superseders p)
 
--- a ring in which an open place stands, of which none is marked, and that nothing open from outside supersedes
+-- a ring in which an open node stands, of which none is marked, and that nothing open from outside supersedes
 pub record CanClose (superseders : List (List ℕ)) (marks opens : List Bool) (ring : List ℕ) (p : ℕ) : Type 0 where
-  pub place : p < length opens
+  pub index : p < length opens
   pub was_open : IsMarked opens p
   pub member : Contains ring p
   pub unmarked : AreUnmarked marks ring
   pub above : AreShutOff superseders opens ring ring
 
--- no good place gives one of these
-pub record AreUngiven (nodes : Nodes) (places : List ℕ) : Type 0 where
-  pub each : (r z : ℕ) → Contains places r → IsGoodGiver (world nodes) r z → ⊥
+-- no good node gives one of these
+pub record AreUngiven (nodes : Nodes) (indices : List ℕ) : Type 0 where
+  pub each : (r z : ℕ) → Contains indices r → IsGoodGiver (world nodes) r z → ⊥
 
--- no other place has lost its mark
+-- no other node has lost its mark
 pub record IsShut (p : ℕ) (old new : List Bool) : Type 0 where
   pub others : (q : ℕ) → (q ≡ p → ⊥) → IsMarked old q → IsMarked new q
   pub fewer : marked_count new ≤ marked_count old

@@ -4,7 +4,7 @@ use Rattle.requisites.specs.Nodes.{IsMarked, world}
 use Rattle.requisites.specs.World.{IsChosen, PicksFor}
 use Rattle.requisites.specs.declared.nodes.Nodes.{Nodes}
 
--- each place of a row is marked now; those that had no mark are put to the order, and nothing else is
+-- each node of a row is marked now; those that had no mark are put to the order, and nothing else is
 pub record AreMarked (row : List ℕ) (marks marks' : List Bool) (order order' : List ℕ) : Type 0 where
   pub more : List ℕ
   pub goes_on : order' ≡ order ++ more
@@ -15,7 +15,7 @@ pub record AreMarked (row : List ℕ) (marks marks' : List Bool) (order order' :
   pub stays : (q : ℕ) → IsMarked marks q → IsMarked marks' q
   pub len : length marks' ≡ length marks
 
--- the order has x and what picks lead to from there; of those before a place of it all picks are in it
+-- the order has x and what picks lead to from there; of those before a node of it all picks are in it
 pub record IsPicking (nodes : Nodes) (x : ℕ) (marks : List Bool) (order : List ℕ) (at : ℕ) : Type 0 where
   pub begun : Contains order x
   pub put : (q : ℕ) → IsMarked marks q → Contains order q

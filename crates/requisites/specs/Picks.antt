@@ -1,4 +1,4 @@
--- No part of what is promised: private contracts cite it. Picks by place.
+-- No part of what is promised: private contracts cite it. Picks by node.
 use Rattle.std.specs.Prelude.{◌⊎◌, ℕ, List, Contains}
 use Rattle.requisites.specs.World.{IsGoodGiver, IsPick, PicksFor}
 use Rattle.requisites.specs.Nodes.{IsMarked, world}
@@ -9,7 +9,7 @@ pub record IsNeedPick (nodes : Nodes) (need z : ℕ) : Type 0 where
   pub absent : IsMarked nodes.there.items need → ⊥
   pub pick : IsPick (world nodes) need z
 
--- the need is there, or no good place gives it
+-- the need is there, or no good node gives it
 abbrev pub HasNoPick : Nodes → ℕ → Type 0
 HasNoPick nodes need = IsMarked nodes.there.items need ⊎ ((z : ℕ) → IsGoodGiver (world nodes) need z → ⊥)
 

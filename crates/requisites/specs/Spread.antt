@@ -4,7 +4,7 @@ use Rattle.requisites.specs.Leads.{Leads}
 use Rattle.requisites.specs.Nodes.{Links}
 use Rattle.requisites.specs.Sources.{source_of, HasSource}
 
--- how many places have no source
+-- how many nodes have no source
 abbrev pub sourceless : List (Option ℕ) → ℕ
 sourceless sources = sum_by (λ o. if is_none o then 1 else 0) sources
 
@@ -12,11 +12,11 @@ sourceless sources = sum_by (λ o. if is_none o then 1 else 0) sources
 pub record IsTaken (row : List ℕ) (s : ℕ) (old : List (Option ℕ)) (work : List ℕ) (q t : ℕ) : Type 0 where
   pub source : t ≡ s
   pub in_row : Contains row q
-  pub place : q < length old
+  pub index : q < length old
   pub before : source_of old q ≡ None
   pub put : Contains work q
 
--- each place of a row has a source now; those that had none have s, and are put to the work
+-- each node of a row has a source now; those that had none have s, and are put to the work
 pub record SourcesTaken (row : List ℕ) (s : ℕ) (old new : List (Option ℕ)) (work work' : List ℕ) : Type 0 where
   pub len : length new ≡ length old
   pub stays : (q t : ℕ) → source_of old q ≡ Some t → source_of new q ≡ Some t
@@ -27,7 +27,7 @@ pub record SourcesTaken (row : List ℕ) (s : ℕ) (old new : List (Option ℕ))
   pub grows : length work ≤ length work'
   pub count : length work' + sourceless new ≡ length work + sourceless old
 
--- what a place with a source links to has one too, unless the place is still to be worked on
+-- what a node with a source links to has one too, unless the node is still to be worked on
 pub record AreClosed (lists : List (List ℕ)) (sources : List (Option ℕ)) (work : List ℕ) : Type 0 where
   pub closed : (p q : ℕ) → HasSource sources p → Links lists (length sources) p q → HasSource sources q ⊎ Contains work p
 
@@ -41,7 +41,7 @@ pub record IsSpread (lists : List (List ℕ)) (s : ℕ) (old : List (Option ℕ)
   pub leads : Leads (Links lists (length old)) s q
   pub before : source_of old q ≡ None
 
--- the places to which lists lead from s have sources; those that had none have s
+-- the nodes to which lists lead from s have sources; those that had none have s
 pub record SourcesSpread (lists : List (List ℕ)) (s : ℕ) (old new : List (Option ℕ)) : Type 0 where
   pub len : length new ≡ length old
   pub stays : (q t : ℕ) → source_of old q ≡ Some t → source_of new q ≡ Some t

@@ -1,4 +1,4 @@
--- The verdict on a place.
+-- The verdict on a node.
 use Rattle.std.specs.Prelude.{ℕ}
 use Rattle.std.specs.List.Sorted.{IsStrictlyIncreasing}
 use Rattle.requisites.specs.World.{IsChosenPlan, IsHeldFor}

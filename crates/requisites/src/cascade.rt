@@ -1,7 +1,7 @@
 //! What falls with what: a quick way to all that isn't good.
 //!
-//! A ring of superseding closes where none of its places is left and nothing open from outside supersedes
-//! any; what needs a closed place falls. Each fall and each closing wakes those that it may concern, so that the
+//! A ring of superseding closes where none of its nodes is left and nothing open from outside supersedes
+//! any; what needs a closed node falls. Each fall and each closing wakes those that it may concern, so that the
 //! whole takes time in proportion to the nodes and their links.
 ghost use Rattle.std.specs.Prelude.{◌≡◌, ◌≤◌, ◌⊎◌, false, length, Contains, IfOk, OnOk};
 ghost use Rattle.std.specs.Bool.{OnTrue};
@@ -14,7 +14,7 @@ use crate::rings::Rings;
 use crate::{NoMemory, Rows};
 use std::alloc::Global;
 
-/// What leads to each place: what supersedes it, and what needs it.
+/// What leads to each node: what supersedes it, and what needs it.
 #[derive(Debug, Drop)]
 pub(crate) struct Around {
     pub(crate) superseders: Rows,
@@ -36,7 +36,7 @@ impl Around {
     }
 }
 
-// What is open, how much keeps the ring called after each place open, and what is to be looked at.
+// What is open, how much keeps the ring called after each node open, and what is to be looked at.
 #[derive(Debug, Drop)]
 struct Opening {
     open: Vec<bool>,
@@ -44,7 +44,7 @@ struct Opening {
     work: Vec<usize>,
 }
 
-/// Takes the marks from places that no plan holds.
+/// Takes the marks from nodes that no plan holds.
 pub(crate) fn cascade(
     alloc: Global,
     nodes: &Nodes,
@@ -63,16 +63,16 @@ pub(crate) fn cascade(
         supports: first_supports(alloc, around, rings, marks)?,
         work: Vec::new(alloc),
     };
-    'first: for place in 0..marks.len() {
-        look(nodes, around, rings, marks, &mut opening, place)?;
+    'first: for node in 0..marks.len() {
+        look(nodes, around, rings, marks, &mut opening, node)?;
     }
-    'rest: while let Some(place) = opening.work.pop() {
-        look(nodes, around, rings, marks, &mut opening, place)?;
+    'rest: while let Some(node) = opening.work.pop() {
+        look(nodes, around, rings, marks, &mut opening, node)?;
     }
     Ok(())
 }
 
-// For the ring called after each place how many from outside supersede one of it, and how many of it are
+// For the ring called after each node how many from outside supersede one of it, and how many of it are
 // marked.
 fn first_supports(
     alloc: Global,
@@ -81,12 +81,12 @@ fn first_supports(
     marks: &[bool],
 ) -> Result<Vec<usize>, NoMemory> {
     let mut supports = vec![in alloc; 0; marks.len()]?;
-    for place in 0..marks.len() {
-        let name = rings.name_of(place);
-        if is_marked(marks, place) {
+    for node in 0..marks.len() {
+        let name = rings.name_of(node);
+        if is_marked(marks, node) {
             add_support(&mut supports, name);
         }
-        support_from_outside(&mut supports, around, rings, name, place);
+        support_from_outside(&mut supports, around, rings, name, node);
     }
     Ok(supports)
 }
@@ -96,9 +96,9 @@ fn support_from_outside(
     around: &Around,
     rings: &Rings,
     name: usize,
-    place: usize,
+    node: usize,
 ) {
-    for above in around.superseders.row(place) {
+    for above in around.superseders.row(node) {
         if rings.name_of(*above) != name {
             add_support(supports, name);
         }
@@ -111,14 +111,14 @@ fn add_support(supports: &mut [usize], name: usize) {
     }
 }
 
-// Lets a place fall, and its ring close, where they have to.
+// Lets a node fall, and its ring close, where they have to.
 fn look(
     nodes: &Nodes,
     around: &Around,
     rings: &Rings,
     marks: &mut [bool],
     opening: &mut Opening,
-    place: usize,
+    node: usize,
 ) -> Result<(), NoMemory>
     requires left { AreMarksLeft nodes.now marks.old }
     requires opens { AreOpen nodes.now opening.old.open.items }
@@ -136,10 +136,10 @@ fn look(
         &opening.open,
         marks,
         &mut opening.supports,
-        place,
+        node,
     );
-    let alone = [place];
-    let ring = rings.ring_of(place, &alone);
+    let alone = [node];
+    let ring = rings.ring_of(node, &alone);
     if can_close(
         around,
         rings,
@@ -147,38 +147,38 @@ fn look(
         &opening.open,
         &opening.supports,
         ring,
-        place,
+        node,
     ) {
-        opening.open[place] = false;
+        opening.open[node] = false;
         close(nodes, around, rings, opening, ring)?;
     }
     Ok(())
 }
 
-// Takes the mark from a place that needs what is closed and isn't there.
+// Takes the mark from a node that needs what is closed and isn't there.
 fn fall(
     nodes: &Nodes,
     rings: &Rings,
     opens: &[bool],
     marks: &mut [bool],
     supports: &mut [usize],
-    place: usize,
+    node: usize,
 )
     requires left { AreMarksLeft nodes.now marks.old }
     requires opens { AreOpen nodes.now opens.now }
     ensures left { AreMarksLeft nodes.now marks.new }
     ensures fewer { marked_count marks.new ≤ marked_count marks.old }
 {
-    if is_marked(marks, place) && has_closed_need(nodes, opens, place) {
-        marks[place] = false;
-        lose_support(supports, rings.name_of(place));
+    if is_marked(marks, node) && has_closed_need(nodes, opens, node) {
+        marks[node] = false;
+        lose_support(supports, rings.name_of(node));
     }
 }
 
-fn has_closed_need(nodes: &Nodes, opens: &[bool], place: usize) -> bool
-    ensures { OnTrue result (HasClosedNeed nodes.now opens.now place) }
+fn has_closed_need(nodes: &Nodes, opens: &[bool], node: usize) -> bool
+    ensures { OnTrue result (HasClosedNeed nodes.now opens.now node) }
 {
-    for need in nodes.needs_of(place) {
+    for need in nodes.needs_of(node) {
         if !nodes.is_there(*need) && !is_marked(opens, *need) {
             return true;
         }
@@ -186,7 +186,7 @@ fn has_closed_need(nodes: &Nodes, opens: &[bool], place: usize) -> bool
     false
 }
 
-// Whether nothing keeps a ring open in which an open place stands.
+// Whether nothing keeps a ring open in which an open node stands.
 fn can_close(
     around: &Around,
     rings: &Rings,
@@ -194,61 +194,61 @@ fn can_close(
     opens: &[bool],
     supports: &[usize],
     ring: &[usize],
-    place: usize,
+    node: usize,
 ) -> bool
-    ensures { OnTrue result (CanClose around.now.superseders marks.now opens.now ring.now place) }
+    ensures { OnTrue result (CanClose around.now.superseders marks.now opens.now ring.now node) }
 {
-    supports.get(rings.name_of(place)).copied() == Some(0)
-        && is_marked(opens, place)
-        && rings.is_in(ring, place)
+    supports.get(rings.name_of(node)).copied() == Some(0)
+        && is_marked(opens, node)
+        && rings.is_in(ring, node)
         && are_unmarked(marks, ring)
         && are_shut_off(around, rings, opens, ring)
 }
 
-fn are_unmarked(marks: &[bool], places: &[usize]) -> bool
-    ensures { OnTrue result (AreUnmarked marks.now places.now) }
+fn are_unmarked(marks: &[bool], indices: &[usize]) -> bool
+    ensures { OnTrue result (AreUnmarked marks.now indices.now) }
 {
-    for place in places {
-        if is_marked(marks, *place) {
+    for node in indices {
+        if is_marked(marks, *node) {
             return false;
         }
     }
     true
 }
 
-// Whether what supersedes a place of a ring is closed or stands in the ring.
+// Whether what supersedes a node of a ring is closed or stands in the ring.
 fn are_shut_off(around: &Around, rings: &Rings, opens: &[bool], ring: &[usize]) -> bool
     ensures { OnTrue result (AreShutOff around.now.superseders opens.now ring.now ring.now) }
 {
-    for place in ring {
-        if !are_closed_but(rings, opens, ring, around.superseders.row(*place)) {
+    for node in ring {
+        if !are_closed_but(rings, opens, ring, around.superseders.row(*node)) {
             return false;
         }
     }
     true
 }
 
-fn are_closed_but(rings: &Rings, opens: &[bool], ring: &[usize], places: &[usize]) -> bool
-    ensures { OnTrue result (AreClosedBut opens.now ring.now places.now) }
+fn are_closed_but(rings: &Rings, opens: &[bool], ring: &[usize], indices: &[usize]) -> bool
+    ensures { OnTrue result (AreClosedBut opens.now ring.now indices.now) }
 {
-    for place in places {
-        if !is_closed_or_in(rings, opens, ring, *place) {
+    for node in indices {
+        if !is_closed_or_in(rings, opens, ring, *node) {
             return false;
         }
     }
     true
 }
 
-fn is_closed_or_in(rings: &Rings, opens: &[bool], ring: &[usize], place: usize) -> bool
-    ensures { OnTrue result ((mark_of opens.now place ≡ false) ⊎ Contains ring.now place) }
+fn is_closed_or_in(rings: &Rings, opens: &[bool], ring: &[usize], node: usize) -> bool
+    ensures { OnTrue result ((mark_of opens.now node ≡ false) ⊎ Contains ring.now node) }
 {
-    if !is_marked(opens, place) {
+    if !is_marked(opens, node) {
         return true;
     }
-    rings.is_in(ring, place)
+    rings.is_in(ring, node)
 }
 
-// Closes the places of a ring.
+// Closes the nodes of a ring.
 fn close(
     nodes: &Nodes,
     around: &Around,
@@ -261,49 +261,49 @@ fn close(
     ensures opens { AreOpen nodes.now opening.new.open.items }
     ensures fewer { marked_count opening.new.open.items ≤ marked_count opening.old.open.items }
 {
-    for place in ring {
-        shut(opening, *place);
+    for node in ring {
+        shut(opening, *node);
         wake(
             nodes,
             around,
             rings,
             &mut opening.supports,
             &mut opening.work,
-            *place,
+            *node,
         )?;
     }
     Ok(())
 }
 
-fn shut(opening: &mut Opening, place: usize)
-    ensures { IsShut place opening.old.open.items opening.new.open.items }
+fn shut(opening: &mut Opening, node: usize)
+    ensures { IsShut node opening.old.open.items opening.new.open.items }
 {
-    if is_marked(&opening.open, place) {
-        opening.open[place] = false;
+    if is_marked(&opening.open, node) {
+        opening.open[node] = false;
     }
 }
 
-// Puts what the closing of a place may concern to the work.
+// Puts what the closing of a node may concern to the work.
 fn wake(
     nodes: &Nodes,
     around: &Around,
     rings: &Rings,
     supports: &mut [usize],
     work: &mut Vec<usize>,
-    place: usize,
+    node: usize,
 ) -> Result<(), NoMemory>
-    ensures needed { OnOk result (mark_of nodes.now.there.items place ≡ false
-        → AreAmong (row around.now.needed_by place) work.new.items) }
+    ensures needed { OnOk result (mark_of nodes.now.there.items node ≡ false
+        → AreAmong (row around.now.needed_by node) work.new.items) }
 {
-    let name = rings.name_of(place);
-    for below in nodes.supersedes.row(place) {
+    let name = rings.name_of(node);
+    for below in nodes.supersedes.row(node) {
         let below_name = rings.name_of(*below);
         if below_name != name && lose_support(supports, below_name) {
             work.push(*below)?;
         }
     }
-    if !nodes.is_there(place) {
-        work.extend_from_slice(around.needed_by.row(place))?;
+    if !nodes.is_there(node) {
+        work.extend_from_slice(around.needed_by.row(node))?;
     }
     Ok(())
 }

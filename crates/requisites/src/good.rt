@@ -1,4 +1,4 @@
-//! Which places are good.
+//! Which nodes are good.
 ghost use Rattle.std.specs.Prelude.{◌≡◌, ◌⊎◌, [], ◌∷◌, length, min, IfNone, IfOk, IfSome};
 ghost use Rattle.std.specs.Bool.{OnFalse, OnTrue};
 ghost use Rattle.std.specs.Option.{option_map_or};
@@ -13,20 +13,20 @@ use crate::rings::Rings;
 use crate::sources::{least_sources, source_at};
 use std::alloc::Global;
 
-/// Which places are good, and what gives what.
+/// Which nodes are good, and what gives what.
 #[derive(Debug, Drop)]
 pub struct Resolution {
-    /// Whether some plan holds the place.
+    /// Whether some plan holds the node.
     pub good: Vec<bool>,
-    /// The least good place that gives it.
+    /// The least good node that gives it.
     pub givers: Vec<Option<usize>>,
 }
 
 impl Resolution {
-    pub(crate) fn is_good(&self, place: usize) -> bool
-        ensures { result ≡ mark_of self.now.good.items place }
+    pub(crate) fn is_good(&self, node: usize) -> bool
+        ensures { result ≡ mark_of self.now.good.items node }
     {
-        is_marked(&self.good, place)
+        is_marked(&self.good, node)
     }
 
     pub(crate) fn giver(&self, need: usize) -> Option<usize>
@@ -36,7 +36,7 @@ impl Resolution {
     }
 }
 
-/// Finds the good places: those that are left when what has a need that isn't there, and that
+/// Finds the good nodes: those that are left when what has a need that isn't there, and that
 /// nothing left gives, is taken away for as long as there is any.
 ///
 /// # Errors
@@ -52,7 +52,7 @@ pub fn resolve(alloc: Global, nodes: &Nodes) -> Result<Resolution, NoMemory>
 }
 
 // Takes the marks from what isn't good, and finds what gives what among the rest. Where nothing falls,
-// what leads to each place isn't asked for.
+// what leads to each node isn't asked for.
 fn fall(alloc: Global, nodes: &Nodes, marks: &mut [bool]) -> Result<Vec<Option<usize>>, NoMemory>
     requires { marks.old ≡ nodes.now.candidates.items }
     ensures good { IfOk result (λ givers. AreGood nodes.now marks.new givers.items) }
@@ -84,40 +84,36 @@ fn fall_on(alloc: Global, nodes: &Nodes, marks: &mut [bool]) -> Result<Vec<Optio
     }
 }
 
-// Takes the mark from each place with an open need. Whether there was one.
+// Takes the mark from each node with an open need. Whether there was one.
 fn sweep(nodes: &Nodes, givers: &[Option<usize>], marks: &mut [bool]) -> bool
     ensures { AreSwept nodes.now givers.now (length marks.old) marks.old marks.new result }
 {
     let mut fell = false;
-    for place in 0..marks.len() {
-        if must_fall(nodes, givers, marks, place) {
-            marks[place] = false;
+    for node in 0..marks.len() {
+        if must_fall(nodes, givers, marks, node) {
+            marks[node] = false;
             fell = true;
         }
     }
     fell
 }
 
-// Whether a place is marked and has an open need.
-fn must_fall(nodes: &Nodes, givers: &[Option<usize>], marks: &[bool], place: usize) -> bool
-    ensures yes { OnTrue result (IsMarked marks.now place × HasOpenNeed nodes.now givers.now place) }
-    ensures no { OnFalse result (IsMarked marks.now place
-        → AreMet nodes.now givers.now (row nodes.now.needs place)) }
+// Whether a node is marked and has an open need.
+fn must_fall(nodes: &Nodes, givers: &[Option<usize>], marks: &[bool], node: usize) -> bool
+    ensures yes { OnTrue result (IsMarked marks.now node × HasOpenNeed nodes.now givers.now node) }
+    ensures no { OnFalse result (IsMarked marks.now node
+        → AreMet nodes.now givers.now (row nodes.now.needs node)) }
 {
-    is_marked(marks, place) && least_open_need(nodes, givers, place).is_some()
+    is_marked(marks, node) && least_open_need(nodes, givers, node).is_some()
 }
 
-// The least need of a place that isn't there and has no giver.
-pub(crate) fn least_open_need(
-    nodes: &Nodes,
-    givers: &[Option<usize>],
-    place: usize,
-) -> Option<usize>
-    ensures some { IfSome result (λ need. IsLeastOpen nodes.now givers.now (row nodes.now.needs place) need) }
-    ensures none { IfNone result (AreMet nodes.now givers.now (row nodes.now.needs place)) }
+// The least need of a node that isn't there and has no giver.
+pub(crate) fn least_open_need(nodes: &Nodes, givers: &[Option<usize>], node: usize) -> Option<usize>
+    ensures some { IfSome result (λ need. IsLeastOpen nodes.now givers.now (row nodes.now.needs node) need) }
+    ensures none { IfNone result (AreMet nodes.now givers.now (row nodes.now.needs node)) }
 {
     let mut least = None;
-    for need in nodes.needs_of(place) {
+    for need in nodes.needs_of(node) {
         if !is_met(nodes, givers, *need) {
             least = Some(lesser(least, *need));
         }

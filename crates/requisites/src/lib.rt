@@ -1,15 +1,15 @@
 //! What can be installed together, by what each needs and what supersedes what (IBM z/OS SMP/E
-//! Reference, `++VER`, operands PRE, REQ and SUP), over nodes by their places in a list.
+//! Reference, `++VER`, operands PRE, REQ and SUP), over nodes by their indices in a list.
 //!
-//! - [`Nodes`]: what a zone and the catalogue say of each place; [`Rows`]: for each place a row of places
-//! - [`resolve`]: which places some plan holds, and what gives what, as a [`Resolution`]
-//! - [`verdict_of_place`]: a place's chosen plan or its blocked need, as a [`Verdict`]
-//! - [`least_sources`]: for each place the least marked one that leads to it
-//! - [`turned`]: for each place those in whose rows it stands
-//! - [`is_marked`]: whether a place is marked
+//! - [`Nodes`]: what a zone and the catalogue say of each node; [`Rows`]: for each node a row of nodes
+//! - [`resolve`]: which nodes some plan holds, and what gives what, as a [`Resolution`]
+//! - [`verdict_of_node`]: a node's chosen plan or its blocked need, as a [`Verdict`]
+//! - [`least_sources`]: for each node the least marked one that leads to it
+//! - [`turned`]: for each node those in whose rows it stands
+//! - [`is_marked`]: whether a node is marked
 //!
 //! ```
-//! use requisites::{Nodes, Rows, Verdict, resolve, verdict_of_place};
+//! use requisites::{Nodes, Rows, Verdict, resolve, verdict_of_node};
 //! let (mut needs, mut supersedes) = (Rows::new(alloc), Rows::new(alloc));
 //! needs.push_row(&[1])?; // 0 needs 1, which is no candidate
 //! for row in [&[], &[], &[1usize] as &[usize]] {
@@ -17,7 +17,7 @@
 //! }
 //! let candidates = Vec::from_slice(alloc, &[true, false, true])?;
 //! let nodes = Nodes { candidates, there: Vec::new(alloc), needs, supersedes };
-//! let verdict = verdict_of_place(alloc, &nodes, &resolve(alloc, &nodes)?, 0)?;
+//! let verdict = verdict_of_node(alloc, &nodes, &resolve(alloc, &nodes)?, 0)?;
 //! assert!(rt; matches!(verdict, Verdict::Good(plan) if plan.as_slice() == [0, 2].as_slice()));
 //! ```
 #![tactic(auto)]
@@ -39,4 +39,4 @@ pub use rows::Rows;
 pub use sources::least_sources;
 /// Memory ran out.
 pub use std::alloc::AllocError as NoMemory;
-pub use verdict::{Verdict, verdict_of_place};
+pub use verdict::{Verdict, verdict_of_node};

@@ -1,4 +1,4 @@
-//! Places that are marked, in the order in which they came.
+//! Nodes that are marked, in the order in which they came.
 ghost use Rattle.std.specs.Prelude.{◌≡◌, ◌↔◌, false, [], ◌∷◌, ℕ, Contains, IfOk, OnOk, replicate};
 ghost use Rattle.std.specs.List.Sorted.{IsStrictlyIncreasing};
 ghost use Rattle.requisites.specs.Marking.{AreMarked};
@@ -8,16 +8,16 @@ use crate::NoMemory;
 use crate::nodes::is_marked;
 use std::alloc::Global;
 
-/// Some of so many places. Each comes once.
+/// Some of so many nodes. Each comes once.
 #[derive(Debug, Drop)]
 pub(crate) struct Marked {
     marks: Vec<bool>,
-    /// The places that are marked, in the order in which they came.
+    /// The nodes that are marked, in the order in which they came.
     pub(crate) order: Vec<usize>,
 }
 
 impl Marked {
-    /// None of so many places.
+    /// None of so many nodes.
     pub(crate) fn none(alloc: Global, len: usize) -> Result<Marked, NoMemory>
         ensures marks { IfOk result (λ marked. marked.marks.items ≡ replicate len false) }
         ensures order { IfOk result (λ marked. marked.order.items ≡ []) }
@@ -28,41 +28,41 @@ impl Marked {
         })
     }
 
-    /// Marks each place of a row that has no mark, and puts it at the end of the order.
+    /// Marks each node of a row that has no mark, and puts it at the end of the order.
     pub(crate) fn mark_row(&mut self, row: &[usize]) -> Result<(), NoMemory>
         ensures { OnOk result (AreMarked row.now self.old.marks.items self.new.marks.items
             self.old.order.items self.new.order.items) }
     {
-        for place in row {
-            self.mark(*place)?;
+        for node in row {
+            self.mark(*node)?;
         }
         Ok(())
     }
 
-    /// The same for one place. What is past the end of the marks is no place.
-    pub(crate) fn mark(&mut self, place: usize) -> Result<(), NoMemory>
-        ensures { OnOk result (AreMarked (place ∷ []) self.old.marks.items self.new.marks.items
+    /// The same for one node. What is past the end of the marks is no node.
+    pub(crate) fn mark(&mut self, node: usize) -> Result<(), NoMemory>
+        ensures { OnOk result (AreMarked (node ∷ []) self.old.marks.items self.new.marks.items
             self.old.order.items self.new.order.items) }
     {
-        if place < self.marks.len() && !self.marks[place] {
-            self.marks[place] = true;
-            self.order.push(place)?;
+        if node < self.marks.len() && !self.marks[node] {
+            self.marks[node] = true;
+            self.order.push(node)?;
         }
         Ok(())
     }
 
-    /// The places that are marked, ascending.
+    /// The nodes that are marked, ascending.
     pub(crate) fn ascending(&self, alloc: Global) -> Result<Vec<usize>, NoMemory>
         ensures marked { IfOk result
-            (λ places. (p : ℕ) → Contains places.items p ↔ IsMarked self.now.marks.items p) }
-        ensures ascends { IfOk result (λ places. IsStrictlyIncreasing places.items) }
+            (λ indices. (p : ℕ) → Contains indices.items p ↔ IsMarked self.now.marks.items p) }
+        ensures ascends { IfOk result (λ indices. IsStrictlyIncreasing indices.items) }
     {
-        let mut places = Vec::with_capacity(alloc, self.order.len())?;
-        for place in 0..self.marks.len() {
-            if is_marked(&self.marks, place) {
-                places.push(place)?;
+        let mut indices = Vec::with_capacity(alloc, self.order.len())?;
+        for node in 0..self.marks.len() {
+            if is_marked(&self.marks, node) {
+                indices.push(node)?;
             }
         }
-        Ok(places)
+        Ok(indices)
     }
 }

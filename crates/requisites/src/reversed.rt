@@ -6,9 +6,9 @@ ghost use Rattle.requisites.specs.Reversed.{AreChained, RowAdded, chain, chains_
 use crate::{NoMemory, Rows};
 use std::alloc::Global;
 
-/// For each of `len` places those in whose rows it is listed.
+/// For each of `len` nodes those in whose rows it is listed.
 ///
-/// It takes time in proportion to the places and the links.
+/// It takes time in proportion to the nodes and the links.
 ///
 /// # Errors
 ///
@@ -25,8 +25,8 @@ pub fn turned(alloc: Global, lists: &Rows, len: usize) -> Result<Rows, NoMemory>
     rows_of(alloc, &chains)
 }
 
-// Links by the places to which they lead: of each place the last one that was found, and of each link the place
-// from which it comes and the link to the same place that was found before it. Links are counted from 1; 0 is none.
+// Links by the nodes to which they lead: of each node the last one that was found, and of each link the node
+// from which it comes and the link to the same node that was found before it. Links are counted from 1; 0 is none.
 #[derive(Debug, Drop)]
 struct Chains {
     last: Vec<usize>,
@@ -41,31 +41,31 @@ fn turn(lists: &Rows, chains: &mut Chains) -> Result<(), NoMemory>
     ensures turned { OnOk result
         (AreReversed lists.now (length chains.old.last.items) (chains_of chains.new)) }
 {
-    for place in 0..lists.len() {
-        add_row(chains, lists.row(place), place)?;
+    for node in 0..lists.len() {
+        add_row(chains, lists.row(node), node)?;
     }
     Ok(())
 }
 
-// Adds a link from a place to each that is listed for it.
-fn add_row(chains: &mut Chains, listed: &[usize], place: usize) -> Result<(), NoMemory>
+// Adds a link from a node to each that is listed for it.
+fn add_row(chains: &mut Chains, listed: &[usize], node: usize) -> Result<(), NoMemory>
     requires { AreChained chains.old }
     ensures chained { OnOk result (AreChained chains.new) }
-    ensures added { OnOk result (RowAdded listed.now place (chains_of chains.old) (chains_of chains.new)) }
+    ensures added { OnOk result (RowAdded listed.now node (chains_of chains.old) (chains_of chains.new)) }
 {
     for below in listed {
-        add_link(chains, *below, place)?;
+        add_link(chains, *below, node)?;
     }
     Ok(())
 }
 
-fn add_link(chains: &mut Chains, below: usize, place: usize) -> Result<(), NoMemory>
+fn add_link(chains: &mut Chains, below: usize, node: usize) -> Result<(), NoMemory>
     requires { AreChained chains.old }
     ensures chained { OnOk result (AreChained chains.new) }
-    ensures added { OnOk result (RowAdded (below ∷ []) place (chains_of chains.old) (chains_of chains.new)) }
+    ensures added { OnOk result (RowAdded (below ∷ []) node (chains_of chains.old) (chains_of chains.new)) }
 {
     if below < chains.last.len() {
-        chains.from.push(place)?;
+        chains.from.push(node)?;
         chains.before.push(chains.last[below])?;
         chains.last[below] = chains.from.len();
     }
@@ -85,7 +85,7 @@ fn rows_of(alloc: Global, chains: &Chains) -> Result<Rows, NoMemory>
     Ok(rows)
 }
 
-// Makes a row that of the places from which a link and those before it come.
+// Makes a row that of the nodes from which a link and those before it come.
 fn put_chain(row: &mut Vec<usize>, chains: &Chains, last: usize) -> Result<(), NoMemory>
     requires chained { AreChained chains.now }
     requires within { last ≤ length chains.now.from.items }

@@ -1,6 +1,6 @@
-//! Rings: places that supersede each other.
+//! Rings: nodes that supersede each other.
 //!
-//! No clause says that what is found are the rings: who closes the places of one together looks whether
+//! No clause says that what is found are the rings: who closes the nodes of one together looks whether
 //! they may be closed. Rings make that quick.
 ghost use Rattle.std.specs.Prelude.{◌≡◌, ℕ, None, length, Contains, OnOk};
 ghost use Rattle.std.specs.Bool.{OnTrue};
@@ -12,18 +12,18 @@ use crate::sources::{source_at, spread};
 use crate::{NoMemory, Rows};
 use std::alloc::Global;
 
-/// Places in rings: those that lead to each other stand together, and each other place alone.
+/// Nodes in rings: those that lead to each other stand together, and each other node alone.
 #[derive(Debug, Drop)]
 pub(crate) struct Rings {
-    // For each place the one after which its ring is called, and where it stands in the ring.
+    // For each node the one after which its ring is called, and where it stands in the ring.
     named: Vec<usize>,
     at: Vec<usize>,
-    // For each place the ring that is called after it.
+    // For each node the ring that is called after it.
     members: Vec<Vec<usize>>,
 }
 
 impl Rings {
-    /// Each place alone. It takes no memory.
+    /// Each node alone. It takes no memory.
     pub(crate) fn none(alloc: Global) -> Rings {
         Rings {
             named: Vec::new(alloc),
@@ -39,34 +39,34 @@ impl Rings {
         rings_by(alloc, &names)
     }
 
-    /// The place after which the ring of a place is called.
-    pub(crate) fn name_of(&self, place: usize) -> usize {
-        self.named.get(place).copied().unwrap_or(place)
+    /// The node after which the ring of a node is called.
+    pub(crate) fn name_of(&self, node: usize) -> usize {
+        self.named.get(node).copied().unwrap_or(node)
     }
 
-    /// The ring of a place, or what is handed where the place stands alone.
-    pub(crate) fn ring_of<'a>(&'a self, place: usize, alone: &'a [usize]) -> &'a [usize] {
-        match self.members.get(self.name_of(place)) {
+    /// The ring of a node, or what is handed where the node stands alone.
+    pub(crate) fn ring_of<'a>(&'a self, node: usize, alone: &'a [usize]) -> &'a [usize] {
+        match self.members.get(self.name_of(node)) {
             Some(members) => members.as_slice(),
             None => alone,
         }
     }
 
-    /// Whether a place stands in a ring. It is looked for where it stands in its own.
-    pub(crate) fn is_in(&self, ring: &[usize], place: usize) -> bool
-        ensures { OnTrue result (Contains ring.now place) }
+    /// Whether a node stands in a ring. It is looked for where it stands in its own.
+    pub(crate) fn is_in(&self, ring: &[usize], node: usize) -> bool
+        ensures { OnTrue result (Contains ring.now node) }
     {
-        stands_at(ring, self.at.get(place).copied().unwrap_or(0), place)
+        stands_at(ring, self.at.get(node).copied().unwrap_or(0), node)
     }
 }
 
-fn stands_at(ring: &[usize], at: usize, place: usize) -> bool
-    ensures { OnTrue result (Contains ring.now place) }
+fn stands_at(ring: &[usize], at: usize, node: usize) -> bool
+    ensures { OnTrue result (Contains ring.now node) }
 {
-    at < ring.len() && ring[at] == place
+    at < ring.len() && ring[at] == node
 }
 
-// A place that a walk comes to, or that it leaves.
+// A node that a walk comes to, or that it leaves.
 #[derive(Clone, Copy, Debug)]
 enum Step {
     Enter(usize),
@@ -80,7 +80,7 @@ struct Walk {
     order: Vec<usize>,
 }
 
-// The places in the order in which walks along the links leave them.
+// The nodes in the order in which walks along the links leave them.
 fn left_in_order(alloc: Global, lists: &Rows, len: usize) -> Result<Vec<usize>, NoMemory> {
     let mut walk = Walk {
         unseen: vec![in alloc; true; len]?,
@@ -106,32 +106,32 @@ fn take_step(walk: &mut Walk, lists: &Rows, step: Step) -> Result<(), NoMemory>
         (length walk.old.work.items) (length walk.new.work.items)) }
 {
     match step {
-        Step::Enter(place) => enter(walk, lists, place),
-        Step::Leave(place) => Ok(walk.order.push(place)?),
+        Step::Enter(node) => enter(walk, lists, node),
+        Step::Leave(node) => Ok(walk.order.push(node)?),
     }
 }
 
-fn enter(walk: &mut Walk, lists: &Rows, place: usize) -> Result<(), NoMemory>
+fn enter(walk: &mut Walk, lists: &Rows, node: usize) -> Result<(), NoMemory>
     ensures { OnOk result (ComesNearer walk.old.unseen.items walk.new.unseen.items
         (length walk.old.work.items) (length walk.new.work.items)) }
 {
-    if is_marked(&walk.unseen, place) {
-        walk.unseen[place] = false;
-        put_steps(&mut walk.work, lists.row(place), place)?;
+    if is_marked(&walk.unseen, node) {
+        walk.unseen[node] = false;
+        put_steps(&mut walk.work, lists.row(node), node)?;
     }
     Ok(())
 }
 
-// Puts what is listed for a place to the work, to be entered before the place is left.
-fn put_steps(work: &mut Vec<Step>, listed: &[usize], place: usize) -> Result<(), NoMemory> {
-    work.push(Step::Leave(place))?;
+// Puts what is listed for a node to the work, to be entered before the node is left.
+fn put_steps(work: &mut Vec<Step>, listed: &[usize], node: usize) -> Result<(), NoMemory> {
+    work.push(Step::Leave(node))?;
     for below in listed {
         work.push(Step::Enter(*below))?;
     }
     Ok(())
 }
 
-// For each place the one after which its ring is called: of all that lead to it the last that was left.
+// For each node the one after which its ring is called: of all that lead to it the last that was left.
 fn names_of(
     alloc: Global,
     reversed: &Rows,
@@ -163,17 +163,17 @@ fn rings_by(alloc: Global, names: &[Option<usize>]) -> Result<Rings, NoMemory> {
         at: Vec::with_capacity(alloc, names.len())?,
         members: vec![in alloc; Vec::new(alloc); names.len()]?,
     };
-    for place in 0..names.len() {
-        add_member(&mut rings, place, source_at(names, place).unwrap_or(place))?;
+    for node in 0..names.len() {
+        add_member(&mut rings, node, source_at(names, node).unwrap_or(node))?;
     }
     Ok(rings)
 }
 
-fn add_member(rings: &mut Rings, place: usize, name: usize) -> Result<(), NoMemory> {
+fn add_member(rings: &mut Rings, node: usize, name: usize) -> Result<(), NoMemory> {
     rings.named.push(name)?;
     if name < rings.members.len() {
         rings.at.push(rings.members[name].len())?;
-        rings.members[name].push(place)?;
+        rings.members[name].push(node)?;
     }
     Ok(())
 }

@@ -8,7 +8,7 @@ use crate::NoMemory;
 use std::alloc::Global;
 use std::marker::Model;
 
-/// For each place a row of places, all of them in one list. A contract sees the list of the rows.
+/// For each node a row of nodes, all of them in one list. A contract sees the list of the rows.
 #[derive(Debug, Drop)]
 pub struct Rows {
     // The entries of all rows, and where each row ends among them: there the next one starts.
@@ -45,15 +45,15 @@ impl Rows {
         self.ends.len()
     }
 
-    /// The row of a place. It has no entries where there are fewer rows.
-    pub fn row(&self, place: usize) -> &[usize]
-        ensures { result.now ≡ row self.now place }
+    /// The row of a node. It has no entries where there are fewer rows.
+    pub fn row(&self, node: usize) -> &[usize]
+        ensures { result.now ≡ row self.now node }
     {
-        if place >= self.ends.len() {
+        if node >= self.ends.len() {
             return &[];
         }
-        let start = start_of(&self.ends, place);
-        let end = end_of(&self.ends, place);
+        let start = start_of(&self.ends, node);
+        let end = end_of(&self.ends, node);
         between(&self.entries, start, end)
     }
 
@@ -89,23 +89,23 @@ impl Rows {
     }
 }
 
-// Where the row of a place starts.
-fn start_of(ends: &[usize], place: usize) -> usize
-    requires { place < length ends.now }
-    ensures { result ≡ start_at 0 ends.now place }
+// Where the row of a node starts.
+fn start_of(ends: &[usize], node: usize) -> usize
+    requires { node < length ends.now }
+    ensures { result ≡ start_at 0 ends.now node }
 {
-    if place == 0 {
+    if node == 0 {
         return 0;
     }
-    ends[place - 1]
+    ends[node - 1]
 }
 
 // Where it ends.
-fn end_of(ends: &[usize], place: usize) -> usize
-    requires { place < length ends.now }
-    ensures { result ≡ slice_index ends.now place }
+fn end_of(ends: &[usize], node: usize) -> usize
+    requires { node < length ends.now }
+    ensures { result ≡ slice_index ends.now node }
 {
-    ends[place]
+    ends[node]
 }
 
 fn between(entries: &[usize], start: usize, end: usize) -> &[usize]

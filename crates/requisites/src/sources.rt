@@ -1,4 +1,4 @@
-//! From which marked place each place is reached first.
+//! From which marked node each node is reached first.
 ghost use Rattle.std.specs.Prelude.{◌≡◌, ℕ, [], ◌∷◌, length, IfOk, OnOk, vec_len};
 ghost use Rattle.requisites.specs.Sources.{AreLeastSources, source_of};
 ghost use Rattle.requisites.specs.Spread.{AreClosed, SourcesSpread, SourcesTaken};
@@ -7,8 +7,8 @@ use crate::nodes::is_marked;
 use crate::{NoMemory, Rows};
 use std::alloc::Global;
 
-/// For each place the least marked place from which a list of links leads to it, by way of nothing
-/// or of others, or `None` where no marked place leads there.
+/// For each node the least marked node from which a list of links leads to it, by way of nothing
+/// or of others, or `None` where no marked node leads there.
 ///
 /// It takes time in proportion to the marks and the links.
 ///
@@ -47,7 +47,7 @@ fn spread_all(
     Ok(())
 }
 
-/// Gives the source `start` to each place that has none yet and that a list leads to from there.
+/// Gives the source `start` to each node that has none yet and that a list leads to from there.
 pub(crate) fn spread(
     sources: &mut [Option<usize>],
     work: &mut Vec<usize>,
@@ -61,13 +61,13 @@ pub(crate) fn spread(
     ensures idle { OnOk result (work.new.items ≡ []) }
 {
     take_row(sources, work, &[start], start)?;
-    while let Some(place) = work.pop() {
-        take_row(sources, work, lists.row(place), start)?;
+    while let Some(node) = work.pop() {
+        take_row(sources, work, lists.row(node), start)?;
     }
     Ok(())
 }
 
-// Gives the source to each place of a row that has none yet, and puts it to the work.
+// Gives the source to each node of a row that has none yet, and puts it to the work.
 fn take_row(
     sources: &mut [Option<usize>],
     work: &mut Vec<usize>,
@@ -77,31 +77,31 @@ fn take_row(
     ensures { OnOk result
         (SourcesTaken row.now source sources.old sources.new work.old.items work.new.items) }
 {
-    for place in row {
-        take_place(sources, work, *place, source)?;
+    for node in row {
+        take_node(sources, work, *node, source)?;
     }
     Ok(())
 }
 
-fn take_place(
+fn take_node(
     sources: &mut [Option<usize>],
     work: &mut Vec<usize>,
-    place: usize,
+    node: usize,
     source: usize,
 ) -> Result<(), NoMemory>
     ensures { OnOk result
-        (SourcesTaken (place ∷ []) source sources.old sources.new work.old.items work.new.items) }
+        (SourcesTaken (node ∷ []) source sources.old sources.new work.old.items work.new.items) }
 {
-    if place < sources.len() && source_at(sources, place).is_none() {
-        sources[place] = Some(source);
-        work.push(place)?;
+    if node < sources.len() && source_at(sources, node).is_none() {
+        sources[node] = Some(source);
+        work.push(node)?;
     }
     Ok(())
 }
 
-// The source of a place, where it has one.
-pub(crate) fn source_at(sources: &[Option<usize>], place: usize) -> Option<usize>
-    ensures { result ≡ source_of sources.now place }
+// The source of a node, where it has one.
+pub(crate) fn source_at(sources: &[Option<usize>], node: usize) -> Option<usize>
+    ensures { result ≡ source_of sources.now node }
 {
-    sources.get(place).copied().flatten()
+    sources.get(node).copied().flatten()
 }

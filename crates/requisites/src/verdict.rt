@@ -1,4 +1,4 @@
-//! The verdict on one place: its chosen plan, or why it has none.
+//! The verdict on one node: its chosen plan, or why it has none.
 ghost use Rattle.std.specs.Prelude.{IfNone, IfOk, IfSome, OnOk};
 ghost use Rattle.std.specs.List.Sorted.{IsStrictlyIncreasing};
 ghost use Rattle.requisites.specs.Good.{AreGood};
@@ -13,7 +13,7 @@ use crate::marking::Marked;
 use crate::nodes::Nodes;
 use std::alloc::Global;
 
-/// Whether a place can be installed, and with what, or why not.
+/// Whether a node can be installed, and with what, or why not.
 #[derive(Debug, Drop)]
 pub enum Verdict {
     /// It is good, with its chosen plan, ascending.
@@ -24,47 +24,47 @@ pub enum Verdict {
     Lack,
 }
 
-/// The verdict on a place, by the resolution of its nodes.
+/// The verdict on a node, by the resolution of its nodes.
 ///
 /// # Errors
 ///
 /// `NoMemory` where memory ran out.
-pub fn verdict_of_place(
+pub fn verdict_of_node(
     alloc: Global,
     nodes: &Nodes,
     resolution: &Resolution,
-    place: usize,
+    node: usize,
 ) -> Result<Verdict, NoMemory>
     requires { AreGood nodes.now resolution.now.good.items resolution.now.givers.items }
-    ensures { IfOk result (λ verdict. IsVerdict nodes.now place verdict) }
+    ensures { IfOk result (λ verdict. IsVerdict nodes.now node verdict) }
 {
-    if resolution.is_good(place) {
-        return Ok(Verdict::Good(chosen_plan(alloc, nodes, resolution, place)?));
+    if resolution.is_good(node) {
+        return Ok(Verdict::Good(chosen_plan(alloc, nodes, resolution, node)?));
     }
-    if !nodes.is_candidate(place) {
+    if !nodes.is_candidate(node) {
         return Ok(Verdict::Lack);
     }
-    match least_open_need(nodes, &resolution.givers, place) {
+    match least_open_need(nodes, &resolution.givers, node) {
         Some(need) => Ok(Verdict::Held(need)),
         None => unreachable!(),
     }
 }
 
-// The chosen plan of a good place, ascending: all to which a list of picks leads. The needs of no other place
+// The chosen plan of a good node, ascending: all to which a list of picks leads. The needs of no other node
 // are looked at.
 fn chosen_plan(
     alloc: Global,
     nodes: &Nodes,
     resolution: &Resolution,
-    place: usize,
+    node: usize,
 ) -> Result<Vec<usize>, NoMemory>
     requires good { AreGood nodes.now resolution.now.good.items resolution.now.givers.items }
-    requires marked { IsMarked resolution.now.good.items place }
-    ensures chosen { IfOk result (λ plan. IsChosenPlan (world nodes.now) place plan.items) }
+    requires marked { IsMarked resolution.now.good.items node }
+    ensures chosen { IfOk result (λ plan. IsChosenPlan (world nodes.now) node plan.items) }
     ensures ascends { IfOk result (λ plan. IsStrictlyIncreasing plan.items) }
 {
     let mut chosen = Marked::none(alloc, nodes.candidates.len())?;
-    chosen.mark(place)?;
+    chosen.mark(node)?;
     let mut picks = Vec::new(alloc);
     let mut at = 0;
     while at < chosen.order.len() {
@@ -76,18 +76,18 @@ fn chosen_plan(
     chosen.ascending(alloc)
 }
 
-// Makes a list that of the picks for the needs of a place that aren't there.
+// Makes a list that of the picks for the needs of a node that aren't there.
 fn put_picks(
     picks: &mut Vec<usize>,
     nodes: &Nodes,
     resolution: &Resolution,
-    place: usize,
+    node: usize,
 ) -> Result<(), NoMemory>
     requires { AreGood nodes.now resolution.now.good.items resolution.now.givers.items }
-    ensures { OnOk result (ArePicksFor nodes.now place picks.new.items) }
+    ensures { OnOk result (ArePicksFor nodes.now node picks.new.items) }
 {
     picks.clear();
-    for need in nodes.needs_of(place) {
+    for need in nodes.needs_of(node) {
         if let Some(picked) = pick(nodes, resolution, *need) {
             picks.push(picked)?;
         }
@@ -96,7 +96,7 @@ fn put_picks(
 }
 
 // The pick for a need that isn't there: the need itself where it is good, else the least good
-// place that gives it.
+// node that gives it.
 fn pick(nodes: &Nodes, resolution: &Resolution, need: usize) -> Option<usize>
     requires { AreGood nodes.now resolution.now.good.items resolution.now.givers.items }
     ensures some { IfSome result (λ z. IsNeedPick nodes.now need z) }

@@ -6,7 +6,7 @@ use Rattle.std.specs.List.Sorted.{IsStrictlySortedBy}
 use Rattle.std.specs.Ordering.{is_eq, is_lt}
 use Rattle.mcs_reader.specs.Id.{IsId, text_of}
 use Rattle.holddata.specs.HoldBook.{IsInKeyOrder}
-use Rattle.holddata.specs.HoldKey.{kind_place}
+use Rattle.holddata.specs.HoldKey.{kind_order}
 use Rattle.holddata.specs.declared.hold.Hold.{Hold}
 use Rattle.holddata.specs.declared.key.HoldKey.{HoldKey}
 use Rattle.holddata.specs.declared.key.Kind.{Kind}
@@ -35,7 +35,7 @@ use Rattle.sql_tables.specs.InTrees.{columns_of, stored_in}
 use Rattle.sql_tables.specs.Rows.{hold_found, hold_row, zone_row, zone_row_found}
 use Rattle.sql_tables.specs.Stored.{Stored, is_named, is_of_both, rows_as_stored, shown, tables_of, zone_of, zone_rows_of}
 use Rattle.sql_tables.specs.Values.{hold_kind_value, id_value, state_value}
-use Rattle.sql_tables.specs.Whole.{AreRowsOf, HaveOwnKeys, IsPlace, IsWhole, Place, row_of_place}
+use Rattle.sql_tables.specs.Whole.{AreRowsOf, HaveOwnKeys, IsWhole, IsZoneSysmod, ZoneSysmod, row_of_zone_sysmod}
 use Rattle.sql_tables.proofs.ClientFacts.{made_here, zone_found}
 use Rattle.sql_tables.proofs.MemberFacts.{found_in, none_found}
 use Rattle.sql_tables.proofs.OrderFacts.{by_key_with, with_key}
@@ -62,7 +62,7 @@ state_compared Applied = ap (λ o. is_true (from_truth (Some (is_lt o)))) (value
 state_compared Accepted = ap (λ o. is_true (from_truth (Some (is_lt o)))) (value_cmp-Int (pos 1) (pos 2))
 state_compared Superseded = ap (λ o. is_true (from_truth (Some (is_lt o)))) (value_cmp-Int (pos 2) (pos 2))
 
-kinds_alike : (a b : Kind) → is_eq (int_cmp (pos (kind_place a)) (pos (kind_place b))) ≡ (kind_place a == kind_place b)
+kinds_alike : (a b : Kind) → is_eq (int_cmp (pos (kind_order a)) (pos (kind_order b))) ≡ (kind_order a == kind_order b)
 kinds_alike ErrorHold ErrorHold = refl
 kinds_alike ErrorHold SystemHold = refl
 kinds_alike ErrorHold UserHold = refl
@@ -80,9 +80,9 @@ kinds_alike FixcatHold SystemHold = refl
 kinds_alike FixcatHold UserHold = refl
 kinds_alike FixcatHold FixcatHold = refl
 
-kind_compared : (a b : Kind) → is_true (binary (Compare Eq Binary) (hold_kind_value a) (hold_kind_value b)) ≡ (kind_place a == kind_place b)
+kind_compared : (a b : Kind) → is_true (binary (Compare Eq Binary) (hold_kind_value a) (hold_kind_value b)) ≡ (kind_order a == kind_order b)
 unfolding binary
-kind_compared a b = ap (λ o. is_true (from_truth (Some (is_eq o)))) (value_cmp-Int (pos (kind_place a)) (pos (kind_place b))) ∙ back _ ∙ kinds_alike a b
+kind_compared a b = ap (λ o. is_true (from_truth (Some (is_eq o)))) (value_cmp-Int (pos (kind_order a)) (pos (kind_order b))) ∙ back _ ∙ kinds_alike a b
 
 id_compared : (id : List ℕ) (value : Value) → IsId id → (text : Value) → text ≡ Text (text_of id) → is_true (binary (Compare Eq Binary) value text) ≡ is_named id value
 id_compared id value is text same = ap (λ t. is_true (binary (Compare Eq Binary) value t)) same ∙ same_text value (text_of id) ∙ text_named id is value
@@ -90,17 +90,17 @@ id_compared id value is text same = ap (λ t. is_true (binary (Compare Eq Binary
 -- ---- the rows of a zone
 
 -- a row of a client's zone is that of a SYSMOD there
-place_of : (client zone : List ℕ) (row : Row) → (p : Place) × IsPlace p × (row ≡ row_of_place p) → is_of_both client zone row ≡ true → (r : ZoneRow) × IsId r.sysmod × (row ≡ zone_row client zone r)
-place_of client zone row (p, fit, is) h =
+sysmod_there : (client zone : List ℕ) (row : Row) → (p : ZoneSysmod) × IsZoneSysmod p × (row ≡ row_of_zone_sysmod p) → is_of_both client zone row ≡ true → (r : ZoneRow) × IsId r.sysmod × (row ≡ zone_row client zone r)
+sysmod_there client zone row (p, fit, is) h =
     let parts = both _ _ (ap (is_of_both client zone) (sym is) ∙ h) in
     let first : p.client ≡ client = one_id p.client client (sym (named_value p.client client fit.0) ∙ parts.0) in
     let second : p.zone ≡ zone = one_id p.zone zone (sym (named_value p.zone zone fit.1) ∙ parts.1) in
     (p.row, fit.2, is ∙ ap (λ n. zone_row n p.zone p.row) first ∙ ap (λ n. zone_row client n p.row) second)
 
-place_said : (client zone : List ℕ) (r : ZoneRow) → IsId r.sysmod → zone_row_found (shown (2 ∷ 3 ∷ []) (zone_row client zone r)) ≡ Some r
-place_said client zone r is = rw (id_again r.sysmod is, state_again r.state) refl
+sysmod_said : (client zone : List ℕ) (r : ZoneRow) → IsId r.sysmod → zone_row_found (shown (2 ∷ 3 ∷ []) (zone_row client zone r)) ≡ Some r
+sysmod_said client zone r is = rw (id_again r.sysmod is, state_again r.state) refl
 
-module _ (rows : List Row) (client zone : List ℕ) (is_client : IsId client) (is_zone : IsId zone) (written : AreRowsOf row_of_place IsPlace rows) (own : HaveOwnKeys 3 rows) where
+module _ (rows : List Row) (client zone : List ℕ) (is_client : IsId client) (is_zone : IsId zone) (written : AreRowsOf row_of_zone_sysmod IsZoneSysmod rows) (own : HaveOwnKeys 3 rows) where
   abbrev stored_rows : List ZoneRow
   stored_rows = rows_as_stored rows client zone
 
@@ -109,25 +109,25 @@ module _ (rows : List Row) (client zone : List ℕ) (is_client : IsId client) (i
   row_from r inside =
       let it = read_from (λ row. zone_row_found (shown (2 ∷ 3 ∷ []) row)) (filter (is_of_both client zone) rows) r inside in
       let row = filtered (is_of_both client zone) rows it.0 it.1 in
-      let place = place_of client zone it.0 (all_of (λ x. (p : Place) × IsPlace p × (x ≡ row_of_place p)) rows it.0 written row.0) row.1 in
-      let e : Some place.0 ≡ Some r = sym (place_said client zone place.0 place.1) ∙ ap (λ x. zone_row_found (shown (2 ∷ 3 ∷ []) x)) (sym place.2) ∙ it.2 in
-      let same : place.0 ≡ r = cc in
-      (subst (Contains rows) (place.2 ∙ ap (zone_row client zone) same) row.0, subst (λ (x : ZoneRow). IsId x.sysmod) same place.1)
+      let stands = sysmod_there client zone it.0 (all_of (λ x. (p : ZoneSysmod) × IsZoneSysmod p × (x ≡ row_of_zone_sysmod p)) rows it.0 written row.0) row.1 in
+      let e : Some stands.0 ≡ Some r = sym (sysmod_said client zone stands.0 stands.1) ∙ ap (λ x. zone_row_found (shown (2 ∷ 3 ∷ []) x)) (sym stands.2) ∙ it.2 in
+      let same : stands.0 ≡ r = cc in
+      (subst (Contains rows) (stands.2 ∙ ap (zone_row client zone) same) row.0, subst (λ (x : ZoneRow). IsId x.sysmod) same stands.1)
 
   row_to : (r : ZoneRow) → IsId r.sysmod → Contains rows (zone_row client zone r) → Contains stored_rows r
   row_to r is inside =
       read_to (λ row. zone_row_found (shown (2 ∷ 3 ∷ []) row)) (filter (is_of_both client zone) rows) (zone_row client zone r) r
       (passed (is_of_both client zone) rows (zone_row client zone r) inside (made_here client zone is_client is_zone (id_value r.sysmod ∷ state_value r.state ∷ [])))
-      (place_said client zone r is)
+      (sysmod_said client zone r is)
 
   -- the first row of a SYSMOD is the one that it has
-  one_place : (r other : ZoneRow) → Contains stored_rows r → Contains stored_rows other → other.sysmod ≡ r.sysmod → other ≡ r
-  one_place r other first second same =
+  one_row : (r other : ZoneRow) → Contains stored_rows r → Contains stored_rows other → other.sysmod ≡ r.sysmod → other ≡ r
+  one_row r other first second same =
       let a = row_from r first in
       let b = row_from other second in
       let e : zone_row client zone other ≡ zone_row client zone r =
       one_key 3 rows (zone_row client zone other) (zone_row client zone r) own b.0 a.0 (ap (λ s. id_value client ∷ id_value zone ∷ id_value s ∷ []) same) in
-      let f : Some other ≡ Some r = sym (place_said client zone other b.1) ∙ ap (λ x. zone_row_found (shown (2 ∷ 3 ∷ []) x)) e ∙ place_said client zone r a.1 in cc
+      let f : Some other ≡ Some r = sym (sysmod_said client zone other b.1) ∙ ap (λ x. zone_row_found (shown (2 ∷ 3 ∷ []) x)) e ∙ sysmod_said client zone r a.1 in cc
 
   zone_from : (r : ZoneRow) → Contains (zone_rows_of rows client zone) r → Contains stored_rows r
   zone_from r inside =
@@ -143,7 +143,7 @@ module _ (rows : List Row) (client zone : List ℕ) (is_client : IsId client) (i
       by (Some other) at =
           let here = found_in (λ (x : ZoneRow). same_id x.sysmod r.sysmod) stored_rows other (sym (by_key_with (λ (x : ZoneRow). x.sysmod) stored_rows r.sysmod) ∙ at) in
           let there = found_in (λ (x : ZoneRow). same_id x.sysmod r.sysmod) (zone_rows_of rows client zone) other at in
-          subst (Contains (zone_rows_of rows client zone)) (one_place r other inside here.0 (one_id other.sysmod r.sysmod here.1)) there.0
+          subst (Contains (zone_rows_of rows client zone)) (one_row r other inside here.0 (one_id other.sysmod r.sysmod here.1)) there.0
 
   -- a SYSMOD is installed just if a row of the zone says so
   pub installed_from : (id : List ℕ) → is_installed (zone_rows_of rows client zone) id ≡ true
@@ -175,9 +175,9 @@ module _ (trees : Trees) (client zone : List ℕ) (kind : Kind) (is_client : IsI
   all_tests a b c d e = a && (b && (c && (d && (e && true))))
 
   -- which rows pass together
-  together : (z h : Row) (p : Place) (hold : Hold) → IsPlace p → IsHold hold → drop 1 z ≡ row_of_place p → drop 1 h ≡ hold_row hold
+  together : (z h : Row) (p : ZoneSysmod) (hold : Hold) → IsZoneSysmod p → IsHold hold → drop 1 z ≡ row_of_zone_sysmod p → drop 1 h ≡ hold_row hold
       → passes_with params tests z h
-      ≡ all_tests (same_id hold.key.sysmod p.row.sysmod) (same_id p.client client) (same_id p.zone zone) (is_installed_state p.row.state) (kind_place hold.key.kind == kind_place kind)
+      ≡ all_tests (same_id hold.key.sysmod p.row.sysmod) (same_id p.client client) (same_id p.zone zone) (is_installed_state p.row.state) (kind_order hold.key.kind == kind_order kind)
   together z h p hold fit is zone_is hold_is =
       five _ _ _ _ _ _ _ _ _ _
       (ap (λ v. is_true (binary (Compare Eq Binary) v (column z 3))) (sym (column_after h 0) ∙ ap (λ r. column r 0) hold_is)
@@ -193,8 +193,8 @@ module _ (trees : Trees) (client zone : List ℕ) (kind : Kind) (is_client : IsI
       five : (a b c d e f g i j k : Bool) → a ≡ f → b ≡ g → c ≡ i → d ≡ j → e ≡ k → all_tests a b c d e ≡ all_tests f g i j k
       five a b c d e f g i j k l m n o q = rw (l, m, n, o, q) refl
 
-  abbrev zone_places : List Row
-  zone_places = columns_of (trees 15)
+  abbrev rows_of_zones : List Row
+  rows_of_zones = columns_of (trees 15)
 
   abbrev held_rows : List Row
   held_rows = columns_of (trees 11)
@@ -203,7 +203,7 @@ module _ (trees : Trees) (client zone : List ℕ) (kind : Kind) (is_client : IsI
   joined = flat_map (λ first. pairs_shown params tests project first (trees 11)) (trees 15)
 
   abbrev asked : HoldKey → Bool
-  asked key = is_installed (zone_rows_of (columns_of (trees 15)) client zone) key.sysmod && (kind_place key.kind == kind_place kind)
+  asked key = is_installed (zone_rows_of (columns_of (trees 15)) client zone) key.sysmod && (kind_order key.kind == kind_order kind)
 
   -- what is shown of a row is read as the row
   shown_hold : (z h : Row) → hold_found (eval_all project (params ∷ z ∷ h ∷ [])) ≡ hold_found (drop 1 h)
@@ -217,8 +217,8 @@ module _ (trees : Trees) (client zone : List ℕ) (kind : Kind) (is_client : IsI
       let made = made_from (λ second. eval_all project (params ∷ z.0 ∷ second ∷ [])) (filter (passes_with params tests z.0) (trees 11)) row.0 z.2 in
       let h = filtered (passes_with params tests z.0) (trees 11) made.0 made.1 in
       let here : Contains held_rows (drop 1 made.0) = made_to (drop 1) (trees 11) made.0 h.0 in
-      let there : Contains zone_places (drop 1 z.0) = made_to (drop 1) (trees 15) z.0 z.1 in
-      let p = all_of (λ x. (p : Place) × IsPlace p × (x ≡ row_of_place p)) zone_places (drop 1 z.0) whole.rows there in
+      let there : Contains rows_of_zones (drop 1 z.0) = made_to (drop 1) (trees 15) z.0 z.1 in
+      let p = all_of (λ x. (p : ZoneSysmod) × IsZoneSysmod p × (x ≡ row_of_zone_sysmod p)) rows_of_zones (drop 1 z.0) whole.rows there in
       let k = all_of (λ x. (k : Hold) × IsHold k × (x ≡ hold_row k)) held_rows (drop 1 made.0) whole.holds here in
       let read_again : hold_found (drop 1 made.0) ≡ Some hold = sym (shown_hold z.0 made.0) ∙ ap hold_found made.2 ∙ row.2 in
       let e : Some k.0 ≡ Some hold = sym (hold_again k.0 k.1) ∙ ap hold_found (sym k.2) ∙ read_again in
@@ -230,13 +230,13 @@ module _ (trees : Trees) (client zone : List ℕ) (kind : Kind) (is_client : IsI
       let f = both _ _ d.1 in
       let of_client : p.0.client ≡ client = one_id p.0.client client b.0 in
       let of_zone : p.0.zone ≡ zone = one_id p.0.zone zone c.0 in
-      let place : Contains zone_places (zone_row client zone p.0.row) =
-      subst (Contains zone_places) (p.2 ∙ ap (λ n. zone_row n p.0.zone p.0.row) of_client ∙ ap (λ n. zone_row client n p.0.row) of_zone) there in
+      let stands : Contains rows_of_zones (zone_row client zone p.0.row) =
+      subst (Contains rows_of_zones) (p.2 ∙ ap (λ n. zone_row n p.0.zone p.0.row) of_client ∙ ap (λ n. zone_row client n p.0.row) of_zone) there in
       let named : p.0.row.sysmod ≡ hold.key.sysmod = sym (one_id k.0.key.sysmod p.0.row.sysmod a.0) ∙ ap (λ (x : Hold). x.key.sysmod) same in (
         read_to hold_found held_rows (drop 1 made.0) hold here read_again,
         both_back _ _
-            (installed_to zone_places client zone is_client is_zone whole.rows whole.row_keys hold.key.sysmod p.0.row p.1.2 place named d.0)
-            (ap (λ (x : Hold). kind_place x.key.kind == kind_place kind) (sym same) ∙ f.0),
+            (installed_to rows_of_zones client zone is_client is_zone whole.rows whole.row_keys hold.key.sysmod p.0.row p.1.2 stands named d.0)
+            (ap (λ (x : Hold). kind_order x.key.kind == kind_order kind) (sym same) ∙ f.0),
       )
 
   held_so : (hold : Hold) → Contains (filter_map hold_found held_rows) hold → asked hold.key ≡ true → Contains (filter_map hold_found joined) hold
@@ -246,13 +246,13 @@ module _ (trees : Trees) (client zone : List ℕ) (kind : Kind) (is_client : IsI
       let k = all_of (λ x. (k : Hold) × IsHold k × (x ≡ hold_row k)) held_rows row.0 whole.holds row.1 in
       let e : Some k.0 ≡ Some hold = sym (hold_again k.0 k.1) ∙ ap hold_found (sym k.2) ∙ row.2 in
       let same : k.0 ≡ hold = cc in
-      let r = installed_from zone_places client zone is_client is_zone whole.rows whole.row_keys hold.key.sysmod parts.0 in
+      let r = installed_from rows_of_zones client zone is_client is_zone whole.rows whole.row_keys hold.key.sysmod parts.0 in
       let z = made_from (drop 1) (trees 15) (zone_row client zone r.0) r.2 in
       let h = made_from (drop 1) (trees 11) row.0 row.1 in
       let passes : passes_with params tests z.0 h.0 ≡ true =
       together z.0 h.0 (record { client = client; zone = zone; row = r.0 }) k.0 (is_client, is_zone, r.1) k.1 z.2 (h.2 ∙ k.2)
       ∙ both_back _ _ (ap (same_id k.0.key.sysmod) (r.3 ∙ ap (λ (x : Hold). x.key.sysmod) (sym same)) ∙ itself k.0.key.sysmod)
-      (both_back _ _ (itself client) (both_back _ _ (itself zone) (both_back _ _ r.4 (both_back _ _ (ap (λ (x : Hold). kind_place x.key.kind == kind_place kind) same ∙ parts.1) refl)))) in
+      (both_back _ _ (itself client) (both_back _ _ (itself zone) (both_back _ _ r.4 (both_back _ _ (ap (λ (x : Hold). kind_order x.key.kind == kind_order kind) same ∙ parts.1) refl)))) in
       read_to hold_found joined (eval_all project (params ∷ z.0 ∷ h.0 ∷ [])) hold
       (joined_to (λ first. pairs_shown params tests project first (trees 11)) (trees 15) z.0 (eval_all project (params ∷ z.0 ∷ h.0 ∷ [])) z.1
       (made_to (λ second. eval_all project (params ∷ z.0 ∷ second ∷ [])) (filter (passes_with params tests z.0) (trees 11)) h.0 (passed (passes_with params tests z.0) (trees 11) h.0 h.1 passes)))
@@ -278,7 +278,7 @@ held_there stored client zone kind found holds said is same =
     by true at = same ∙ sym (ap (λ o. held_in (tables_of stored).content (rows_of o) kind) at)
     by false at = let e : true ≡ false = sym is ∙ said ∙ ap is_some at in cc
 
-none_held : (holds : List Hold) (kind : Kind) → ◌≡◌ {A = List Hold} [] (filter (λ hold. is_installed [] hold.key.sysmod && (kind_place hold.key.kind == kind_place kind)) holds)
+none_held : (holds : List Hold) (kind : Kind) → ◌≡◌ {A = List Hold} [] (filter (λ hold. is_installed [] hold.key.sysmod && (kind_order hold.key.kind == kind_order kind)) holds)
 none_held [] kind = refl
 none_held (hold ∷ holds) kind = none_held holds kind
 

@@ -28,7 +28,7 @@ use Rattle.sql_tables.specs.Fit.{IsHold, IsRecord}
 use Rattle.sql_tables.specs.Rows.{hold_found, hold_row, sysmod_row, zone_row, zone_row_found}
 use Rattle.sql_tables.specs.Stored.{beside_of, Stored, is_named, is_of, is_of_both, names_of, rows_in_order, shown, sysmods_of, tables_of, zone_rows_of}
 use Rattle.sql_tables.specs.Values.{hold_kind_value, id_in, id_value, state_value, texts_value}
-use Rattle.sql_tables.specs.Whole.{AreRowsOf, HaveOwnKeys, Head, IsHead, IsPlace, IsWhole, Place, row_of_head, row_of_place}
+use Rattle.sql_tables.specs.Whole.{AreRowsOf, HaveOwnKeys, Head, IsHead, IsWhole, IsZoneSysmod, ZoneSysmod, row_of_head, row_of_zone_sysmod}
 use Rattle.sql_tables.proofs.ContentFacts.{key_itself, last_under, left_put}
 use Rattle.sql_tables.proofs.MemberFacts.{first_in, none_found, rest_in}
 use Rattle.sql_tables.proofs.RecordFacts.{catalogue_ids}
@@ -222,11 +222,11 @@ module _ (stored : Stored) (whole : IsWhole stored) where
     abbrev name_in : Row → Option (List ℕ)
     name_in row = option_map (λ (r : ZoneRow). r.sysmod) (row_in row)
 
-    rows_here : (rows : List Row) → AreRowsOf row_of_place IsPlace rows → AllByRecursion IsZoneRow (filter (is_of_both client zone) rows)
+    rows_here : (rows : List Row) → AreRowsOf row_of_zone_sysmod IsZoneSysmod rows → AllByRecursion IsZoneRow (filter (is_of_both client zone) rows)
     rows_here [] all = tt
     rows_here (row ∷ rows) all = by (is_of_both client zone row) refl (rows_here rows all.1) all.0
       where
-        by : (b : Bool) → is_of_both client zone row ≡ b → AllByRecursion IsZoneRow (filter (is_of_both client zone) rows) → (p : Place) × IsPlace p × (row ≡ row_of_place p)
+        by : (b : Bool) → is_of_both client zone row ≡ b → AllByRecursion IsZoneRow (filter (is_of_both client zone) rows) → (p : ZoneSysmod) × IsZoneSysmod p × (row ≡ row_of_zone_sysmod p)
             → AllByRecursion IsZoneRow (cond b (row ∷ filter (is_of_both client zone) rows) (filter (is_of_both client zone) rows))
         by true at rest (p, fit, is) =
             let named = both (is_named client (id_value p.client)) (is_named zone (id_value p.zone)) (ap (is_of_both client zone) (sym is) ∙ at) in

@@ -104,17 +104,17 @@ finds_so old new a b First Fact first step = record { reads = first.reads; is_op
 
 -- ---- the rows of one table
 
-shown_later : (places : List ℕ) (rows : List Row) → map (shown (map suc places)) rows ≡ map (shown places) (columns_of rows)
-shown_later places [] = refl
-shown_later places (row ∷ rows) = ap (λ first. first ∷ map (shown (map suc places)) rows) (sym (shown_after places row)) ∙ ap (λ others. shown places (drop 1 row) ∷ others) (shown_later places rows)
+shown_later : (indices : List ℕ) (rows : List Row) → map (shown (map suc indices)) rows ≡ map (shown indices) (columns_of rows)
+shown_later indices [] = refl
+shown_later indices (row ∷ rows) = ap (λ first. first ∷ map (shown (map suc indices)) rows) (sym (shown_after indices row)) ∙ ap (λ others. shown indices (drop 1 row) ∷ others) (shown_later indices rows)
 
-pub table_found : (tree : ℕ) (tests : List Term) (places order : List ℕ) (params : Row) (trees : Trees) (rows : List Row) (test : Row → Bool)
-    → ((row : Row) → passes params tests row ≡ test (drop 1 row)) → IsAnswer (from_table tree tests (map suc places) order) trees params rows
-    → IsPermutation (map (shown places) (filter test (columns_of (trees tree)))) rows
-table_found tree tests places order params trees rows test alike answer =
+pub table_found : (tree : ℕ) (tests : List Term) (indices order : List ℕ) (params : Row) (trees : Trees) (rows : List Row) (test : Row → Bool)
+    → ((row : Row) → passes params tests row ≡ test (drop 1 row)) → IsAnswer (from_table tree tests (map suc indices) order) trees params rows
+    → IsPermutation (map (shown indices) (filter test (columns_of (trees tree)))) rows
+table_found tree tests indices order params trees rows test alike answer =
     subst (λ found. IsPermutation found rows)
-    (shown_later places (filter (passes params tests) (trees tree)) ∙ ap (map (shown places)) (filter_after (passes params tests) test alike (trees tree)))
-    (table_answer tree tests (map suc places) order trees params rows answer)
+    (shown_later indices (filter (passes params tests) (trees tree)) ∙ ap (map (shown indices)) (filter_after (passes params tests) test alike (trees tree)))
+    (table_answer tree tests (map suc indices) order trees params rows answer)
 
 -- tests that agree on all rows there are
 pub filter_alike : (p q : Row → Bool) (rows : List Row) → AllByRecursion (λ row. p row ≡ q row) rows → filter p rows ≡ filter q rows

@@ -5,7 +5,7 @@ ghost use Rattle.sqlite_value.specs.Order as order;
 ghost use Rattle.bureau_store.specs.Caller.{IsProper, caller_named, is_publisher};
 ghost use Rattle.bureau_store.specs.Tables.{PatternsAscend, no_change};
 ghost use Rattle.holddata.specs.HoldBook.{IsInKeyOrder};
-ghost use Rattle.holddata.specs.HoldKey.{key_cmp, kind_place};
+ghost use Rattle.holddata.specs.HoldKey.{key_cmp, kind_order};
 ghost use Rattle.catalogue.specs.Conditional.{CondsAscend};
 ghost use Rattle.catalogue.specs.Ids.{Ascend};
 ghost use Rattle.zone_lists.specs.ZoneList.{RowsAscend};
@@ -303,7 +303,7 @@ fn holds_ascend(holds: &[Hold]) -> bool
 fn is_below(key: &HoldKey, next: &HoldKey) -> bool
     ensures { result ≡ is_lt (key_cmp key.now next.now) }
 {
-    let kinds = place(key.kind).cmp(&place(next.kind));
+    let kinds = kind_order(key.kind).cmp(&kind_order(next.kind));
     let reasons = key.reason.cmp(&next.reason);
     key.sysmod
         .cmp(&next.sysmod)
@@ -311,8 +311,8 @@ fn is_below(key: &HoldKey, next: &HoldKey) -> bool
         .is_lt()
 }
 
-fn place(kind: Kind) -> u8
-    ensures { result ≡ kind_place kind }
+fn kind_order(kind: Kind) -> u8
+    ensures { result ≡ kind_order kind }
 {
     match kind {
         Kind::ErrorHold => 0,

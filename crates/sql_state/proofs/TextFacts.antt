@@ -52,14 +52,14 @@ text_named id is (Text t) = by (is_id_text t) refl
     by false none = false_from_ne_true _ (never none)
 
 -- a column is the text of an id just if it names the id
-pub text_given : (id : List ℕ) → IsId id → (row : Row) (place : ℕ) → is_true (binary (Compare Eq Binary) (column row (suc place)) (Text (text_of id))) ≡ is_named id (column (drop 1 row) place)
-text_given id is row place = same_text (column row (suc place)) (text_of id) ∙ text_named id is (column row (suc place)) ∙ ap (is_named id) (sym (column_after row place))
+pub text_given : (id : List ℕ) → IsId id → (row : Row) (index : ℕ) → is_true (binary (Compare Eq Binary) (column row (suc index)) (Text (text_of id))) ≡ is_named id (column (drop 1 row) index)
+text_given id is row index = same_text (column row (suc index)) (text_of id) ∙ text_named id is (column row (suc index)) ∙ ap (is_named id) (sym (column_after row index))
 
 -- ---- which rows are found
 
 -- those with a text in a column
-pub one_given : (place : ℕ) (text : List ℕ) (row : Row) → passes (Text text ∷ []) (is_given place 0 ∷ []) row ≡ is_text text (column row place)
-one_given place text row = and-true _ ∙ same_text (column row place) text
+pub one_given : (index : ℕ) (text : List ℕ) (row : Row) → passes (Text text ∷ []) (is_given index 0 ∷ []) row ≡ is_text text (column row index)
+one_given index text row = and-true _ ∙ same_text (column row index) text
 
 -- those of an id
 pub of_given : (id : List ℕ) → IsId id → (row : Row) → passes (id_value id ∷ []) (is_given 1 0 ∷ []) row ≡ is_of id (drop 1 row)

@@ -32,7 +32,7 @@ use Rattle.sql_tables.proofs.ZoneFacts.{heads_other, rows_other, same_zones, zon
 
 -- ---- one row for a name
 
--- the row of a name, after one is put in its place
+-- the row of a name, after one is put instead
 own_row : (name : List ℕ) (row : Row) (rows : List Row) → is_of name row ≡ true → filter (is_of name) (replaced (is_of name) (row ∷ []) rows) ≡ row ∷ []
 own_row name row rows is = filter_same (is_of name) (row ∷ []) rows ∙ ap (λ b. cond b (row ∷ []) []) is
 

@@ -10,9 +10,9 @@ pub column_after : (row : Row) (at : ℕ) → column (drop 1 row) at ≡ column 
 column_after [] at = refl
 column_after (rowid ∷ row) at = refl
 
-pub shown_after : (places : List ℕ) (row : Row) → shown places (drop 1 row) ≡ shown (map suc places) row
+pub shown_after : (indices : List ℕ) (row : Row) → shown indices (drop 1 row) ≡ shown (map suc indices) row
 shown_after [] row = refl
-shown_after (at ∷ places) row = ap (λ value. value ∷ shown places (drop 1 row)) (column_after row at) ∙ ap (λ values. column row (suc at) ∷ values) (shown_after places row)
+shown_after (at ∷ indices) row = ap (λ value. value ∷ shown indices (drop 1 row)) (column_after row at) ∙ ap (λ values. column row (suc at) ∷ values) (shown_after indices row)
 
 -- a filter of rows with their rowids is one of rows without
 pub filter_after : (with_rowid without : Row → Bool) → ((row : Row) → with_rowid row ≡ without (drop 1 row)) → (rows : List Row)

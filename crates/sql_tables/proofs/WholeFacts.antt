@@ -25,7 +25,7 @@ use Rattle.sql_tables.specs.Fit.{CanBeWritten, IsCond, IsFit, IsFitChange, IsHol
 use Rattle.sql_tables.specs.Rows.{caller_row, cond_row, head_row, hold_row, sup_row, sysmod_row, zone_row}
 use Rattle.sql_tables.specs.Stored.{Stored, is_named, is_of, is_of_both, opened}
 use Rattle.sql_tables.specs.Values.{id_in, id_value, state_value, texts_value}
-use Rattle.sql_tables.specs.Whole.{AreRowsOf, HaveOwnKeys, Head, IsCondition, IsHead, IsMember, IsPlace, IsWhole, condition_row, member_row, row_of_head, row_of_place}
+use Rattle.sql_tables.specs.Whole.{AreRowsOf, HaveOwnKeys, Head, IsCondition, IsHead, IsMember, IsWhole, IsZoneSysmod, condition_row, member_row, row_of_head, row_of_zone_sysmod}
 use Rattle.sql_tables.proofs.ClientFacts.{made_here}
 use Rattle.sql_tables.proofs.ContentFacts.{key_itself, row_under}
 use Rattle.sql_tables.proofs.ValueFacts.{id_again, named_itself}
@@ -120,8 +120,8 @@ by_zone client zone a b same =
     ap (λ v. is_named client v && is_named zone (column a 1)) (same_column 2 0 (omega arith) a b same)
     ∙ ap (λ v. is_named client (column b 0) && is_named zone v) (same_column 2 1 (omega arith) a b same)
 
-by_place : (client zone : List ℕ) (a b : Row) → take 3 a ≡ take 3 b → is_of_both client zone a ≡ is_of_both client zone b
-by_place client zone a b same =
+by_zone_sysmod : (client zone : List ℕ) (a b : Row) → take 3 a ≡ take 3 b → is_of_both client zone a ≡ is_of_both client zone b
+by_zone_sysmod client zone a b same =
     ap (λ v. is_named client v && is_named zone (column a 1)) (same_column 3 0 (omega arith) a b same)
     ∙ ap (λ v. is_named client (column b 0) && is_named zone v) (same_column 3 1 (omega arith) a b same)
 
@@ -224,15 +224,15 @@ module _ (client : List ℕ) (is_client : IsId client) where
       own_replaced 2 (is_of_both client zone) (by_zone client zone) (head_row client zone patterns ∷ []) heads
       (made_here client zone is_client fit.0 (texts_value patterns ∷ []), tt) (tt, tt) own
 
-  places_written : (zone : List ℕ) (rows : List ZoneRow) → IsId zone → AllByRecursion (λ (row : ZoneRow). IsId row.sysmod) rows → AreRowsOf row_of_place IsPlace (map (zone_row client zone) rows)
-  places_written zone [] is all = tt
-  places_written zone (row ∷ rows) is all = ((record { client = client; zone = zone; row = row }, (is_client, is, all.0), refl), places_written zone rows is all.1)
+  zone_sysmods_written : (zone : List ℕ) (rows : List ZoneRow) → IsId zone → AllByRecursion (λ (row : ZoneRow). IsId row.sysmod) rows → AreRowsOf row_of_zone_sysmod IsZoneSysmod (map (zone_row client zone) rows)
+  zone_sysmods_written zone [] is all = tt
+  zone_sysmods_written zone (row ∷ rows) is all = ((record { client = client; zone = zone; row = row }, (is_client, is, all.0), refl), zone_sysmods_written zone rows is all.1)
 
-  rows_written : (e : Effect) (rows : List Row) → IsFit e → AreRowsOf row_of_place IsPlace rows → AreRowsOf row_of_place IsPlace (rows_after client e rows)
+  rows_written : (e : Effect) (rows : List Row) → IsFit e → AreRowsOf row_of_zone_sysmod IsZoneSysmod rows → AreRowsOf row_of_zone_sysmod IsZoneSysmod (rows_after client e rows)
   rows_written (publication changes) rows fit all = all
   rows_written (zone_put zone news) rows fit all =
-      written_again row_of_place IsPlace (is_of_both client zone) (map (zone_row client zone) news) rows all (places_written zone news fit.0 fit.1.ids)
-  rows_written (zone_dropped zone) rows fit all = written_again row_of_place IsPlace (is_of_both client zone) [] rows all tt
+      written_again row_of_zone_sysmod IsZoneSysmod (is_of_both client zone) (map (zone_row client zone) news) rows all (zone_sysmods_written zone news fit.0 fit.1.ids)
+  rows_written (zone_dropped zone) rows fit all = written_again row_of_zone_sysmod IsZoneSysmod (is_of_both client zone) [] rows all tt
   rows_written (received_put ids) rows fit all = all
   rows_written (patterns_put zone patterns) rows fit all = all
 
@@ -262,8 +262,8 @@ module _ (client : List ℕ) (is_client : IsId client) where
   rows_own : (e : Effect) (rows : List Row) → IsFit e → HaveOwnKeys 3 rows → HaveOwnKeys 3 (rows_after client e rows)
   rows_own (publication changes) rows fit own = own
   rows_own (zone_put zone news) rows fit own =
-      own_replaced 3 (is_of_both client zone) (by_place client zone) (map (zone_row client zone) news) rows (put_here zone news fit.0) (put_own zone news fit.1.ids fit.1.ascend) own
-  rows_own (zone_dropped zone) rows fit own = own_replaced 3 (is_of_both client zone) (by_place client zone) [] rows tt tt own
+      own_replaced 3 (is_of_both client zone) (by_zone_sysmod client zone) (map (zone_row client zone) news) rows (put_here zone news fit.0) (put_own zone news fit.1.ids fit.1.ascend) own
+  rows_own (zone_dropped zone) rows fit own = own_replaced 3 (is_of_both client zone) (by_zone_sysmod client zone) [] rows tt tt own
   rows_own (received_put ids) rows fit own = own
   rows_own (patterns_put zone patterns) rows fit own = own
 

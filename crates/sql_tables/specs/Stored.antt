@@ -48,9 +48,9 @@ opened callers = record {
   received = [];
 }
 
--- the columns at these places, as a read shows them
+-- the columns at these indices, as a read shows them
 abbrev pub shown : List ℕ → Row → Row
-shown places row = map (column row) places
+shown indices row = map (column row) indices
 
 -- whether a value is the text of an id
 abbrev pub is_named : List ℕ → Value → Bool

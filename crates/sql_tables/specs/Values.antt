@@ -5,7 +5,7 @@ use Rattle.std.specs.Prelude.{ℕ, pos, negsuc, ◌==◌, Bool, List, [], ◌∷
 use Rattle.std.specs.List.{join_with_byte, slice_split}
 use Rattle.holddata.specs.Categories.{are_categories}
 use Rattle.holddata.specs.Date.{date_with}
-use Rattle.holddata.specs.HoldKey.{kind_place}
+use Rattle.holddata.specs.HoldKey.{kind_order}
 use Rattle.holddata.specs.declared.key.Kind.{Kind}
 use Rattle.holddata.specs.declared.key.Kind.TheVariants.{ErrorHold, SystemHold, UserHold, FixcatHold}
 use Rattle.mcs_reader.specs.Id.{id_of, text_of}
@@ -124,40 +124,40 @@ with_number [] number = None
 with_number (entry ∷ entries) number = if number == entry.0 then Some entry.1 else with_number entries number
 
 -- 0 for a function, 1 for a PTF, 2 for an APAR, 3 for a USERMOD
-abbrev pub sysmod_kind_place : SysmodKind → ℕ
-sysmod_kind_place Func = 0
-sysmod_kind_place Ptf = 1
-sysmod_kind_place Apar = 2
-sysmod_kind_place Usermod = 3
+abbrev pub sysmod_kind_order : SysmodKind → ℕ
+sysmod_kind_order Func = 0
+sysmod_kind_order Ptf = 1
+sysmod_kind_order Apar = 2
+sysmod_kind_order Usermod = 3
 
 abbrev pub sysmod_kind_in : Value → Option SysmodKind
 sysmod_kind_in value =
     option_and_then (with_number ((0, Func) ∷ (1, Ptf) ∷ (2, Apar) ∷ (3, Usermod) ∷ [])) (number_in value)
 
 abbrev pub sysmod_kind_value : SysmodKind → Value
-sysmod_kind_value kind = Int (pos (sysmod_kind_place kind))
+sysmod_kind_value kind = Int (pos (sysmod_kind_order kind))
 
--- 0 for ERROR, 1 for SYSTEM, 2 for USER, 3 for FIXCAT: the places in the order of kinds
+-- 0 for ERROR, 1 for SYSTEM, 2 for USER, 3 for FIXCAT: the order of kinds
 abbrev pub hold_kind_in : Value → Option Kind
 hold_kind_in value =
     option_and_then (with_number ((0, ErrorHold) ∷ (1, SystemHold) ∷ (2, UserHold) ∷ (3, FixcatHold) ∷ []))
     (number_in value)
 
 abbrev pub hold_kind_value : Kind → Value
-hold_kind_value kind = Int (pos (kind_place kind))
+hold_kind_value kind = Int (pos (kind_order kind))
 
 -- 0 for APPLIED, 1 for ACCEPTED, 2 for SUPERSEDED
-abbrev pub state_place : ZoneState → ℕ
-state_place Applied = 0
-state_place Accepted = 1
-state_place Superseded = 2
+abbrev pub state_order : ZoneState → ℕ
+state_order Applied = 0
+state_order Accepted = 1
+state_order Superseded = 2
 
 abbrev pub state_in : Value → Option ZoneState
 state_in value =
     option_and_then (with_number ((0, Applied) ∷ (1, Accepted) ∷ (2, Superseded) ∷ [])) (number_in value)
 
 abbrev pub state_value : ZoneState → Value
-state_value state = Int (pos (state_place state))
+state_value state = Int (pos (state_order state))
 
 -- a date is the number yyddd, and an absent one is -1
 abbrev pub date_in : Value → Option (Option ℕ)

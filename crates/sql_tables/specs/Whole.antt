@@ -54,16 +54,16 @@ abbrev pub IsHead : Head → Type 0
 IsHead head = IsId head.client × IsId head.zone × (list_all is_pattern head.patterns ≡ true)
 
 -- a SYSMOD of a client's zone
-pub record Place : Type 0 where
+pub record ZoneSysmod : Type 0 where
   pub client : List ℕ
   pub zone : List ℕ
   pub row : ZoneRow
 
-abbrev pub row_of_place : Place → Row
-row_of_place place = zone_row place.client place.zone place.row
+abbrev pub row_of_zone_sysmod : ZoneSysmod → Row
+row_of_zone_sysmod sysmod = zone_row sysmod.client sysmod.zone sysmod.row
 
-abbrev pub IsPlace : Place → Type 0
-IsPlace place = IsId place.client × IsId place.zone × IsId place.row.sysmod
+abbrev pub IsZoneSysmod : ZoneSysmod → Type 0
+IsZoneSysmod sysmod = IsId sysmod.client × IsId sysmod.zone × IsId sysmod.row.sysmod
 
 pub record IsWhole (stored : Stored) : Type 0 where
   pub callers : AreRowsOf caller_row (λ (caller : CallerRow). IsId caller.name) stored.callers
@@ -75,5 +75,5 @@ pub record IsWhole (stored : Stored) : Type 0 where
   pub hold_keys : HaveOwnKeys 3 stored.holds
   pub heads : AreRowsOf row_of_head IsHead stored.heads
   pub head_keys : HaveOwnKeys 2 stored.heads
-  pub rows : AreRowsOf row_of_place IsPlace stored.rows
+  pub rows : AreRowsOf row_of_zone_sysmod IsZoneSysmod stored.rows
   pub row_keys : HaveOwnKeys 3 stored.rows

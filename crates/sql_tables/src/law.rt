@@ -147,5 +147,5 @@ pub fn ids()
 /// What a read shows of a row in its tree, where the rowid stands first, is what it shows of the row alone.
 #[tactic(auto, using(crate::proofs::TreeFacts::shown_after))]
 pub fn columns()
-    ensures { (places : List ℕ) (row : Row) → shown places (drop 1 row) ≡ shown (map suc places) row }
+    ensures { (indices : List ℕ) (row : Row) → shown indices (drop 1 row) ≡ shown (map suc indices) row }
 {}

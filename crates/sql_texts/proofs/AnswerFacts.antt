@@ -38,9 +38,9 @@ show_matches : (tree : ℕ) (tests : List Term) (project order : List ℕ) (para
 show_matches tree tests project order params [] = refl
 show_matches tree tests project order params (row ∷ rows) = by (list_all (holds (params ∷ row ∷ [])) tests) (show_matches tree tests project order params rows)
   where
-    terms : (places : List ℕ) → eval_all (map (col 1) places) (params ∷ row ∷ []) ≡ map (column row) places
+    terms : (indices : List ℕ) → eval_all (map (col 1) indices) (params ∷ row ∷ []) ≡ map (column row) indices
     terms [] = refl
-    terms (place ∷ places) = ap (λ values. column row place ∷ values) (terms places)
+    terms (index ∷ indices) = ap (λ values. column row index ∷ values) (terms indices)
 
     by : (b : Bool)
         → map (λ (o : Output). o.1) (map (output (from_table tree tests project order)) (flat_map (λ r. cond (list_all (holds (params ∷ r ∷ [])) tests) ((params ∷ r ∷ []) ∷ []) []) rows)) ≡ map (shown project) (filter (passes params tests) rows)

@@ -8,9 +8,9 @@ use Rattle.sqlite.specs.declared.types.Value.TheVariants.{Null, Int, Real, Text,
 use Rattle.sqlite_sql.specs.Term.{eval_all, holds}
 use Rattle.sqlite_value.specs.Order.{Row, column}
 
--- the columns at these places
+-- the columns at these indices
 abbrev pub shown : List ℕ → Row → Row
-shown places row = map (column row) places
+shown indices row = map (column row) indices
 
 -- a row passes each test, with these parameters
 abbrev pub passes : Row → List Term → Row → Bool

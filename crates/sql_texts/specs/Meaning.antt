@@ -49,9 +49,9 @@ pub record MakesTable (before : Schema) (text : List ℕ) (table : Table) (after
   pub defined : table_defined_by text ≡ Ok (record table { tree = 0 })
   pub made : created before table ≡ after
 
--- the text makes this index on the table at this place, which takes one schema to the next
-pub record MakesIndex (before : Schema) (text : List ℕ) (place : ℕ) (table : Table) (index : Index)
+-- the text makes this index on the table that stands there in the schema, which takes one schema to the next
+pub record MakesIndex (before : Schema) (text : List ℕ) (table_index : ℕ) (table : Table) (index : Index)
     (after : Schema) : Type 0 where
-  pub statement : understood before text ≡ Ok (statement (CreateIndex place) 0 text)
+  pub statement : understood before text ≡ Ok (statement (CreateIndex table_index) 0 text)
   pub defined : index_defined_by table text ≡ Ok (record index { tree = 0 })
   pub made : indexed before table index ≡ after

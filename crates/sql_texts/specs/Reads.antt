@@ -14,9 +14,9 @@ use Rattle.sqlite_value.specs.Keys.{ascending}
 abbrev pub same : Term → Term → Term
 same = op2 (Compare Eq Binary)
 
--- the column at a place is the parameter of a number from 0 on
+-- the column at an index is the parameter of a number from 0 on
 abbrev pub is_given : ℕ → ℕ → Term
-is_given place parameter = same (col 1 place) (col 0 parameter)
+is_given index parameter = same (col 1 index) (col 0 parameter)
 
 -- the terms of the rows that a filter keeps, all of them, ordered by other terms
 abbrev pub query_of : Join → List Term → List Term → List Term → Query
@@ -32,7 +32,7 @@ query_of from filter project order = record {
   offset = lit (Int (pos 0));
 }
 
--- of one table's rows the columns at these places, ordered by the columns at the others
+-- of one table's rows the columns at these indices, ordered by the columns at the others
 abbrev pub from_table : ℕ → List Term → List ℕ → List ℕ → Query
 from_table tree filter project order =
     query_of (inner tree end) filter (map (col 1) project) (map (col 1) order)

@@ -1,5 +1,5 @@
 -- The bureau's tables, version 2, as the database keeps them; those of version 1 are all but the last. A row is its rowid and then its columns, so
--- that a table's first column has place 1.
+-- that a table's first column has index 1.
 use Rattle.std.specs.Prelude.{ℕ, List, [], ◌∷◌, codes, map, take, Some, None, true, false, pos}
 use Rattle.sqlite.specs.Collation.TheVariants.{Binary}
 use Rattle.sqlite.specs.Kind.{Kind}
@@ -31,7 +31,7 @@ text_column = column_of Text
 abbrev pub number_column : List ℕ → Column
 number_column = column_of Integer
 
--- a table in this tree, with a primary key of these places, and these rules on a row
+-- a table in this tree, with a primary key of the columns at these indices, and these rules on a row
 abbrev pub table_of : List ℕ → ℕ → List Column → List ℕ → List Term → Table
 table_of name tree columns primary checks = record {
   name = name;
@@ -48,11 +48,11 @@ table_of name tree columns primary checks = record {
   is_counted = false;
 }
 
--- the number at a place is at least this and at most that
+-- the number at an index is at least this and at most that
 abbrev pub is_between : ℕ → ℕ → ℕ → Term
-is_between place low high =
-    op2 And (op2 (Compare Ge Binary) (col 1 place) (lit (Int (pos low))))
-    (op2 (Compare Le Binary) (col 1 place) (lit (Int (pos high))))
+is_between index low high =
+    op2 And (op2 (Compare Ge Binary) (col 1 index) (lit (Int (pos low))))
+    (op2 (Compare Le Binary) (col 1 index) (lit (Int (pos high))))
 
 -- the version of these tables, in one row
 abbrev pub bureau_version : Table

@@ -1,4 +1,4 @@
--- What is written, as commands on the tables by their places in the schema.
+-- What is written, as commands on the tables by their indices in the schema.
 use Rattle.std.specs.Prelude.{ℕ, ◌+◌, List, [], ◌∷◌, map, pos}
 use Rattle.std.specs.List.{range_with_len}
 use Rattle.sqlite.specs.Command.{Command}
@@ -16,23 +16,23 @@ use Rattle.sql_texts.specs.declared.write.TableByZone.TheVariants.{ZoneHead, Zon
 abbrev pub this_version : Command
 this_version = Insert 0 (Values (lit (Int (pos 1)) ∷ lit Null ∷ lit (Int (pos 2)) ∷ []) 3)
 
--- one row of all parameters, which are so many, goes into the table at a place; its rowid is chosen
+-- one row of all parameters, which are so many, goes into the table at an index; its rowid is chosen
 abbrev pub insert_given : ℕ → ℕ → Command
-insert_given place columns =
-    Insert place (Values (lit Null ∷ map (col 0) (range_with_len 0 columns)) (1 + columns))
+insert_given table_index columns =
+    Insert table_index (Values (lit Null ∷ map (col 0) (range_with_len 0 columns)) (1 + columns))
 
--- the rows of a tree that a filter keeps leave the table at a place
+-- the rows of a tree that a filter keeps leave the table at an index
 abbrev pub delete_of : ℕ → ℕ → List Term → Command
-delete_of place tree filter = Delete place (record { lets = []; body = from_table tree filter (0 ∷ []) [] })
+delete_of table_index tree filter = Delete table_index (record { lets = []; body = from_table tree filter (0 ∷ []) [] })
 
 -- where a table stands in the schema, in which tree its rows are, and how many columns they have
 pub record Written : Type 0 where
-  pub place : ℕ
+  pub table_index : ℕ
   pub tree : ℕ
   pub columns : ℕ
 
 abbrev pub written : ℕ → ℕ → ℕ → Written
-written place tree columns = record { place = place; tree = tree; columns = columns }
+written table_index tree columns = record { table_index = table_index; tree = tree; columns = columns }
 
 -- the tables whose first column is an id
 abbrev pub by_id : TableById → Written

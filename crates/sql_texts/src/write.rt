@@ -29,7 +29,7 @@ pub enum TableById {
 impl TableById {
     /// The text by which a row comes, with the columns from ?1 on in the order of the table.
     pub fn insertion(self) -> &'static str
-        ensures { Means bureau result.now (insert_given (by_id self).place (by_id self).columns)
+        ensures { Means bureau result.now (insert_given (by_id self).table_index (by_id self).columns)
             (by_id self).columns }
     {
         match self {
@@ -50,7 +50,7 @@ impl TableById {
     /// The text by which the rows of the id ?1 go.
     pub fn deletion(self) -> &'static str
         ensures { Means bureau result.now
-            (delete_of (by_id self).place (by_id self).tree (is_given 1 0 ∷ [])) 1 }
+            (delete_of (by_id self).table_index (by_id self).tree (is_given 1 0 ∷ [])) 1 }
     {
         match self {
             TableById::LastChange => "DELETE FROM last_change WHERE caller = ?1",
@@ -74,7 +74,7 @@ pub enum TableByZone {
 impl TableByZone {
     /// The text by which a row comes, with the columns from ?1 on in the order of the table.
     pub fn insertion(self) -> &'static str
-        ensures { Means bureau result.now (insert_given (by_zone self).place (by_zone self).columns)
+        ensures { Means bureau result.now (insert_given (by_zone self).table_index (by_zone self).columns)
             (by_zone self).columns }
     {
         match self {
@@ -90,7 +90,7 @@ impl TableByZone {
     /// The text by which the rows of the zone ?2 of the client ?1 go.
     pub fn deletion(self) -> &'static str
         ensures { Means bureau result.now
-            (delete_of (by_zone self).place (by_zone self).tree (is_given 1 0 ∷ is_given 2 1 ∷ [])) 2 }
+            (delete_of (by_zone self).table_index (by_zone self).tree (is_given 1 0 ∷ is_given 2 1 ∷ [])) 2 }
     {
         match self {
             TableByZone::ZoneHead => "DELETE FROM zone_head WHERE client = ?1 AND zone = ?2",

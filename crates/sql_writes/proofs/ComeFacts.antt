@@ -1,6 +1,6 @@
 -- What a statement that inserts makes of the rows of its table.
 use Rattle.std.proofs.Common.{◌≡◌, ℕ, pos, List, [], ◌∷◌, Option, Some, None, Result, refl, ◌∙◌, ap, subst, arith}
-use Rattle.holddata.specs.HoldKey.{kind_place}
+use Rattle.holddata.specs.HoldKey.{kind_order}
 use Rattle.holddata.specs.declared.hold.Hold.{Hold}
 use Rattle.catalogue.specs.declared.conditional.CondNeed.{CondNeed}
 use Rattle.catalogue.specs.declared.sysmod.Sysmod.{Sysmod}
@@ -20,7 +20,7 @@ use Rattle.sql_texts.specs.Schema as schema
 use Rattle.sql_texts.specs.Schema.{bureau}
 use Rattle.sql_texts.specs.Writes.{insert_given}
 use Rattle.sql_tables.specs.Rows.{caller_row, change_row, cond_row, head_row, hold_row, received_row, sup_row, sysmod_row, zone_row}
-use Rattle.sql_tables.specs.Values.{date_value, hold_kind_value, id_value, ids_value, optional_id_value, state_place, state_value, sysmod_kind_place, sysmod_kind_value, texts_value}
+use Rattle.sql_tables.specs.Values.{date_value, hold_kind_value, id_value, ids_value, optional_id_value, state_order, state_value, sysmod_kind_order, sysmod_kind_value, texts_value}
 use Rattle.sql_state.specs.Ours.{held_by}
 use Rattle.sql_state.specs.Writing.{Changes}
 use Rattle.sql_writes.specs.Parts.{with_callers, with_conds, with_head, with_hold, with_last, with_received, with_rows, with_sups, with_sysmod}
@@ -80,7 +80,7 @@ module _ {A F : Type 0} (old new : State) (text : List ℕ) (result : Result A F
       let rows = old.now.trees 6 in
       let values = sysmod_row sysmod in
       changed_by old new text values result (with_sysmod sysmod) (subst (λ row. Ran text row old new result) (λ i. bound_value (at_a i) ∷ bound_value (at_b i) ∷ bound_value (at_c i) ∷ bound_value (at_d i) ∷ bound_value (at_e i) ∷ []) ran) (λ clean count known executes.
-      let set = inserts text 3 schema.sysmod 5 values values old new count (means clean) refl refl refl (λ i. cast_null i ∷ id_value sysmod.id ∷ cast_int (pos (sysmod_kind_place sysmod.kind)) i ∷ ids_value sysmod.fmids ∷ ids_value sysmod.pre ∷ ids_value sysmod.req ∷ []) known.schema known.numbered.1.1.1.0 executes in (
+      let set = inserts text 3 schema.sysmod 5 values values old new count (means clean) refl refl refl (λ i. cast_null i ∷ id_value sysmod.id ∷ cast_int (pos (sysmod_kind_order sysmod.kind)) i ∷ ids_value sysmod.fmids ∷ ids_value sysmod.pre ∷ ids_value sysmod.req ∷ []) known.schema known.numbered.1.1.1.0 executes in (
         known_after 6 _ old.now new.now known.numbered set,
         held_set 6 _ old.now new.now set ∙ ap (λ all. record (held_by old.now) { sysmods = all }) (come rows (Int (next_rowid rows) ∷ values)),
         set.others.0 (λ e. omega (arith, e)),
@@ -116,7 +116,7 @@ module _ {A F : Type 0} (old new : State) (text : List ℕ) (result : Result A F
       let rows = old.now.trees 11 in
       let values = hold_row hold in
       changed_by old new text values result (with_hold hold) (subst (λ row. Ran text row old new result) (λ i. bound_value (at_a i) ∷ bound_value (at_b i) ∷ bound_value (at_c i) ∷ (ap bound_value at_d ∙ bound_optional hold.fmid) i ∷ (ap bound_value at_e ∙ bound_optional hold.class) i ∷ (ap bound_value at_f ∙ bound_date hold.dated) i ∷ (ap bound_value at_h ∙ bound_optional hold.resolver) i ∷ bound_value (at_k i) ∷ []) ran) (λ clean count known executes.
-      let set = inserts text 5 schema.hold_row 8 values values old new count (means clean) refl refl refl (λ i. cast_null i ∷ id_value hold.key.sysmod ∷ cast_int (pos (kind_place hold.key.kind)) i ∷ id_value hold.key.reason ∷ cast_optional hold.fmid i ∷ cast_optional hold.class i ∷ cast_date hold.dated i ∷ cast_optional hold.resolver i ∷ texts_value hold.categories ∷ []) known.schema known.numbered.1.1.1.1.1.0 executes in (
+      let set = inserts text 5 schema.hold_row 8 values values old new count (means clean) refl refl refl (λ i. cast_null i ∷ id_value hold.key.sysmod ∷ cast_int (pos (kind_order hold.key.kind)) i ∷ id_value hold.key.reason ∷ cast_optional hold.fmid i ∷ cast_optional hold.class i ∷ cast_date hold.dated i ∷ cast_optional hold.resolver i ∷ texts_value hold.categories ∷ []) known.schema known.numbered.1.1.1.1.1.0 executes in (
         known_after 11 _ old.now new.now known.numbered set,
         held_set 11 _ old.now new.now set ∙ ap (λ all. record (held_by old.now) { holds = all }) (come rows (Int (next_rowid rows) ∷ values)),
         set.others.0 (λ e. omega (arith, e)),
@@ -140,7 +140,7 @@ module _ {A F : Type 0} (old new : State) (text : List ℕ) (result : Result A F
       let rows = old.now.trees 15 in
       let values = zone_row client zone row in
       changed_by old new text values result (with_rows client zone (row ∷ [])) (subst (λ row. Ran text row old new result) (λ i. bound_value (at_a i) ∷ bound_value (at_b i) ∷ bound_value (at_c i) ∷ bound_value (at_d i) ∷ []) ran) (λ clean count known executes.
-      let set = inserts text 7 schema.zone_row 4 values values old new count (means clean) refl refl refl (λ i. cast_null i ∷ id_value client ∷ id_value zone ∷ id_value row.sysmod ∷ cast_int (pos (state_place row.state)) i ∷ []) known.schema known.numbered.1.1.1.1.1.1.1.0 executes in (
+      let set = inserts text 7 schema.zone_row 4 values values old new count (means clean) refl refl refl (λ i. cast_null i ∷ id_value client ∷ id_value zone ∷ id_value row.sysmod ∷ cast_int (pos (state_order row.state)) i ∷ []) known.schema known.numbered.1.1.1.1.1.1.1.0 executes in (
         known_after 15 _ old.now new.now known.numbered set,
         held_set 15 _ old.now new.now set ∙ ap (λ all. record (held_by old.now) { rows = all }) (come rows (Int (next_rowid rows) ∷ values)),
         set.others.0 (λ e. omega (arith, e)),

@@ -5,7 +5,7 @@ use Rattle.std.specs.Ordering.{is_eq}
 use Rattle.std.proofs.Math.Bool.{and-true}
 use Rattle.std.proofs.lemmas.Bool.{and_parts, eqb-true, false≢true}
 use Rattle.std.proofs.lemmas.Bool.Decides.{nat_tests}
-use Rattle.holddata.specs.HoldKey.{is_same_kind, kind_place}
+use Rattle.holddata.specs.HoldKey.{is_same_kind, kind_order}
 use Rattle.holddata.specs.declared.key.HoldKey.{HoldKey}
 use Rattle.holddata.specs.declared.key.Kind.{Kind}
 use Rattle.holddata.specs.declared.key.Kind.TheVariants.{ErrorHold, SystemHold, UserHold, FixcatHold}
@@ -30,7 +30,7 @@ use Rattle.sql_state.proofs.TextFacts.{text_given}
 -- ---- which kind a number is
 
 abbrev IsSo : Kind → ℕ → Type 0
-IsSo kind m = (m == kind_place kind) ≡ unwrap_or (option_map (λ found. is_same_kind found kind) (hold_kind_in (Int (pos m)))) false
+IsSo kind m = (m == kind_order kind) ≡ unwrap_or (option_map (λ found. is_same_kind found kind) (hold_kind_in (Int (pos m)))) false
 
 at_0 : (kind : Kind) → IsSo kind 0
 at_0 = elim [ ErrorHold ↦ refl | SystemHold ↦ refl | UserHold ↦ refl | FixcatHold ↦ refl ]
@@ -44,7 +44,7 @@ at_2 = elim [ ErrorHold ↦ refl | SystemHold ↦ refl | UserHold ↦ refl | Fix
 at_3 : (kind : Kind) → IsSo kind 3
 at_3 = elim [ ErrorHold ↦ refl | SystemHold ↦ refl | UserHold ↦ refl | FixcatHold ↦ refl ]
 
-elsewhere : (kind : Kind) (m : ℕ) → (m == 0) ≡ false → (m == 1) ≡ false → (m == 2) ≡ false → (m == 3) ≡ false → (m == kind_place kind) ≡ false
+elsewhere : (kind : Kind) (m : ℕ) → (m == 0) ≡ false → (m == 1) ≡ false → (m == 2) ≡ false → (m == 3) ≡ false → (m == kind_order kind) ≡ false
 elsewhere ErrorHold m a b c d = a
 elsewhere SystemHold m a b c d = b
 elsewhere UserHold m a b c d = c
@@ -75,8 +75,8 @@ IsNoReal (Blob b) = Unit {0}
 one_number : (m p : ℕ) → is_eq (int_cmp (pos m) (pos p)) ≡ (m == p)
 one_number m p = grind (arith, nat_tests)
 
-whole_kind : (kind : Kind) (n : ℤ) → is_eq (int_cmp n (pos (kind_place kind))) ≡ is_kind kind (Int n)
-whole_kind kind (pos m) = one_number m (kind_place kind) ∙ number_kind kind m
+whole_kind : (kind : Kind) (n : ℤ) → is_eq (int_cmp n (pos (kind_order kind))) ≡ is_kind kind (Int n)
+whole_kind kind (pos m) = one_number m (kind_order kind) ∙ number_kind kind m
 whole_kind kind (negsuc m) = refl
 
 back : (b : Bool) → is_true (from_truth (Some b)) ≡ b
@@ -85,7 +85,7 @@ back false = refl
 
 number_compared : (kind : Kind) (n : ℤ) → is_true (binary (Compare Eq Binary) (Int n) (hold_kind_value kind)) ≡ is_kind kind (Int n)
 unfolding binary
-number_compared kind n = ap (λ o. is_true (from_truth (Some (is_eq o)))) (value_cmp-Int n (pos (kind_place kind))) ∙ back _ ∙ whole_kind kind n
+number_compared kind n = ap (λ o. is_true (from_truth (Some (is_eq o)))) (value_cmp-Int n (pos (kind_order kind))) ∙ back _ ∙ whole_kind kind n
 
 kind_compared : (kind : Kind) (value : Value) → IsNoReal value → is_true (binary (Compare Eq Binary) value (hold_kind_value kind)) ≡ is_kind kind value
 unfolding binary value_cmp

@@ -68,14 +68,14 @@ record HasIndex (before after : Schema) (old new : Database) : Type 0 where
   pub sound : IsDatabase new
   pub others : KeepsRows before.tables old.trees new.trees
 
-makes_index : (before after : Schema) (place : ℕ) (text : List ℕ) (table : Table) (index : Index) (old new : State) (count : ℕ) → MakesIndex before text place table index after
-    → slice_get before.tables place ≡ Some table → old.now.schema ≡ before → Executes text [] old new (Ok count) → HasIndex before after old.now new.now
-makes_index before after place text table index old new count makes at has h =
+makes_index : (before after : Schema) (table_index : ℕ) (text : List ℕ) (table : Table) (index : Index) (old new : State) (count : ℕ) → MakesIndex before text table_index table index after
+    → slice_get before.tables table_index ≡ Some table → old.now.schema ≡ before → Executes text [] old new (Ok count) → HasIndex before after old.now new.now
+makes_index before after table_index text table index old new count makes at has h =
     let plain = subst IsPlain (sym makes.statement) (refl, refl) in
-    let ran = runs_as text [] old new before has (CreateIndex place) (ap command_of makes.statement) plain count h in
-    let w = subst (λ t. Writes old new None (CreateIndex place) t [] count) (ap (statement_of text) makes.statement ∙ whole_text text) ran in
-    let here : slice_get old.now.schema.tables place ≡ Some table = ap (λ s. slice_get s.tables place) has ∙ at in
-    let all = went (on_table old.step_limit (mode_of old) [] old.now place (λ task. Defines (mode_of old) (IndexMade text old.now task.table)) table (w.tally, new.now) here w.changed) in
+    let ran = runs_as text [] old new before has (CreateIndex table_index) (ap command_of makes.statement) plain count h in
+    let w = subst (λ t. Writes old new None (CreateIndex table_index) t [] count) (ap (statement_of text) makes.statement ∙ whole_text text) ran in
+    let here : slice_get old.now.schema.tables table_index ≡ Some table = ap (λ s. slice_get s.tables table_index) has ∙ at in
+    let all = went (on_table old.step_limit (mode_of old) [] old.now table_index (λ task. Defines (mode_of old) (IndexMade text old.now task.table)) table (w.tally, new.now) here w.changed) in
     let it = all.1 in
     let same : it.index ≡ record index { tree = 0 } = same_value (sym it.defined ∙ makes.defined) in
     let schema : all.0.schema ≡ after = it.is ∙ ap (λ s. indexed s table it.index) has ∙ ap (indexed before table) same ∙ makes.made in
@@ -126,12 +126,12 @@ table_comes From n m n′ m′ text table old new result begins makes unlacking 
     })
 
 -- the index, where so many tables are there
-pub index_comes : {A F : Type 0} (n m m′ place : ℕ) (text : List ℕ) (table : Table) (index : Index) (old new : State) (result : Result A F)
-    → MakesIndex (made n m) text place table index (made n m′) → slice_get (made n m).tables place ≡ Some table
+pub index_comes : {A F : Type 0} (n m m′ table_index : ℕ) (text : List ℕ) (table : Table) (index : Index) (old new : State) (result : Result A F)
+    → MakesIndex (made n m) text table_index table index (made n m′) → slice_get (made n m).tables table_index ≡ Some table
     → Ran text [] old new result → Leads old new result (IsMade n m) (IsMade n m′)
-index_comes n m m′ place text table index old new result makes at ran =
+index_comes n m m′ table_index text table index old new result makes at ran =
     leads_by text [] old new result (IsMade n m) (IsMade n m′) ran (λ count executes so_far.
-    let has = makes_index (made n m) (made n m′) place text table index old new count makes at so_far.schema executes in
+    let has = makes_index (made n m) (made n m′) table_index text table index old new count makes at so_far.schema executes in
     record { schema = has.schema; sound = has.sound; empty = emptied old.now.trees new.now.trees (take n tables) so_far.empty has.others })
 
 pub leads_then : {A B E F : Type 0} (old mid new : State) (a : A) (result : Result B F) (One Two Three : Database → Type 0) → Leads {Fault = E} old mid (Ok a) One Two → Leads mid new result Two Three

@@ -54,11 +54,11 @@ went (inr on) = on
 pub same_value : {B E : Type 0} {a b : B} → ◌≡◌ {A = Result B E} (Ok a) (Ok b) → a ≡ b
 same_value e = cc
 
--- the table at a place of the schema
-pub on_table : (limit : Option ℕ) (mode : Mode) (params : Row) (db : Database) (place : ℕ) (P : Task → Part (Tally × Database)) (table : Table) (done : Tally × Database)
-    → slice_get db.schema.tables place ≡ Some table → OnTable limit mode params db place P (Ok done)
+-- the table at an index of the schema
+pub on_table : (limit : Option ℕ) (mode : Mode) (params : Row) (db : Database) (table_index : ℕ) (P : Task → Part (Tally × Database)) (table : Table) (done : Tally × Database)
+    → slice_get db.schema.tables table_index ≡ Some table → OnTable limit mode params db table_index P (Ok done)
     → P (record { limit = limit; keys = mode.keys; schema = db.schema; table = table; params = params }) (Ok done)
-on_table limit mode params db place P table done at h =
+on_table limit mode params db table_index P table done at h =
     subst (λ found. AtPlace (λ t. P (record { limit = limit; keys = mode.keys; schema = db.schema; table = t; params = params })) found (Ok done)) at h
 
 -- no table here counts its rowids
@@ -84,18 +84,18 @@ cast_int n = either _ (Int n)
 
 -- ---- DELETE
 
-pub deletes : (text : List ℕ) (place : ℕ) (table : Table) (tests : List Term) (parameters : ℕ) (params : Row) (old new : State) (count : ℕ)
-    → Means bureau text (delete_of place table.tree tests) parameters → slice_get tables place ≡ Some table → old.now.schema ≡ bureau
+pub deletes : (text : List ℕ) (table_index : ℕ) (table : Table) (tests : List Term) (parameters : ℕ) (params : Row) (old new : State) (count : ℕ)
+    → Means bureau text (delete_of table_index table.tree tests) parameters → slice_get tables table_index ≡ Some table → old.now.schema ≡ bureau
     → IsNumbered (old.now.trees table.tree) → Executes text params old new (Ok count)
     → IsSet table.tree (filter (λ row. not (passes params tests row)) (old.now.trees table.tree)) old.now new.now
-deletes text place table tests parameters params old new count means at ours numbered h =
+deletes text table_index table tests parameters params old new count means at ours numbered h =
     let db = old.now.trees in
     let query = from_table table.tree tests (0 ∷ []) [] in
-    let command = delete_of place table.tree tests in
+    let command = delete_of table_index table.tree tests in
     let plain = subst IsPlain (sym means.statement) (refl, refl) in
     let w = runs_as text params old new bureau ours command (ap command_of means.statement) plain count h in
     let ran = subst (λ s. Does old.step_limit (mode_of old) params (record old.now { schema = s }) (statement_of text (understood bureau text)) None command (Ok (w.tally, new.now))) ours w.changed in
-    let done = went (on_table old.step_limit (mode_of old) params (record old.now { schema = bureau }) place (λ task. OnRows task (mode_of old) None command db) table (w.tally, new.now) at ran) in
+    let done = went (on_table old.step_limit (mode_of old) params (record old.now { schema = bureau }) table_index (λ task. OnRows task (mode_of old) None command db) table (w.tally, new.now) at ran) in
     let now = ap (λ (p : Tally × Database). p.1) (same_value (went (went done.2).2).2) in
     let given = went done.1 in
     let edits = went given.2 in
@@ -115,22 +115,22 @@ deletes text place table tests parameters params old new count means at ours num
 
 -- ---- INSERT
 
-pub inserts : (text : List ℕ) (place : ℕ) (table : Table) (columns : ℕ) (values params : Row) (old new : State) (count : ℕ)
-    → Means bureau text (insert_given place columns) columns → slice_get tables place ≡ Some table → table.is_counted ≡ false
+pub inserts : (text : List ℕ) (table_index : ℕ) (table : Table) (columns : ℕ) (values params : Row) (old new : State) (count : ℕ)
+    → Means bureau text (insert_given table_index columns) columns → slice_get tables table_index ≡ Some table → table.is_counted ≡ false
     → value_rows (stamped table params) (1 + columns) (length (lit Null ∷ map (col 0) (range_with_len 0 columns)) / (1 + columns)) (lit Null ∷ map (col 0) (range_with_len 0 columns))
     ≡ (Null ∷ values) ∷ []
     → cast_row table (Null ∷ values) ≡ Null ∷ values → old.now.schema ≡ bureau
     → IsNumbered (old.now.trees table.tree) → Executes text params old new (Ok count)
     → IsSet table.tree (old.now.trees table.tree ++ (Int (next_rowid (old.now.trees table.tree)) ∷ values) ∷ []) old.now new.now
-inserts text place table columns values params old new count means at uncounted source cast ours numbered h =
+inserts text table_index table columns values params old new count means at uncounted source cast ours numbered h =
     let db = old.now.trees in
     let rows = db table.tree in
     let terms = lit Null ∷ map (col 0) (range_with_len 0 columns) in
-    let command = insert_given place columns in
+    let command = insert_given table_index columns in
     let plain = subst IsPlain (sym means.statement) (refl, refl) in
     let w = runs_as text params old new bureau ours command (ap command_of means.statement) plain count h in
     let ran = subst (λ s. Does old.step_limit (mode_of old) params (record old.now { schema = s }) (statement_of text (understood bureau text)) None command (Ok (w.tally, new.now))) ours w.changed in
-    let done = went (on_table old.step_limit (mode_of old) params (record old.now { schema = bureau }) place (λ task. OnRows task (mode_of old) None command db) table (w.tally, new.now) at ran) in
+    let done = went (on_table old.step_limit (mode_of old) params (record old.now { schema = bureau }) table_index (λ task. OnRows task (mode_of old) None command db) table (w.tally, new.now) at ran) in
     let now = ap (λ (p : Tally × Database). p.1) (same_value (went (went done.2).2).2) in
     let given = went done.1 in
     let counted = went given.2 in

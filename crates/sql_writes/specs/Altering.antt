@@ -19,6 +19,6 @@ Alters ghosts old new result change = Changes (state ghosts old) (state ghosts n
 abbrev pub Turns : {S Answer Fault : Type 0} → Ghosts S → Held S → Held S → Result Answer Fault → (Database → Type 0) → (Database → Type 0) → Type 0
 Turns ghosts old new result From To = Leads (state ghosts old) (state ghosts new) result From To
 
--- a text inserts one row of so many given columns into the table at this place, where the disk is clean
+-- a text inserts one row of so many given columns into the table at this index, where the disk is clean
 abbrev pub Inserts : {S : Type 0} → Ghosts S → Held S → List ℕ → ℕ → ℕ → Type 0
-Inserts ghosts held text place columns = HasCleanDisk (state ghosts held) → Means bureau text (insert_given place columns) columns
+Inserts ghosts held text table_index columns = HasCleanDisk (state ghosts held) → Means bureau text (insert_given table_index columns) columns

@@ -21,11 +21,11 @@ rises_by a b id Greater at below = most (id_cmp a id)
     most Equal = omega arith
     most Greater = omega arith
 
--- what holds of every key holds of the one at a place
-pub at_place : {X : Type 0} → (key : X → List ℕ) (P : List ℕ → Type 0) (xs : List X) → AllByRecursion P (map key xs) → (k : ℕ) (d : X) → k < length xs → P (key (get_or xs k d))
-at_place key P [] all k d within = absurd (omega arith)
-at_place key P (x ∷ xs) all zero d within = all.0
-at_place key P (x ∷ xs) all (suc k) d within = at_place key P xs all.1 k d (omega arith)
+-- what holds of every key holds of the one at an index
+pub at_index : {X : Type 0} → (key : X → List ℕ) (P : List ℕ → Type 0) (xs : List X) → AllByRecursion P (map key xs) → (k : ℕ) (d : X) → k < length xs → P (key (get_or xs k d))
+at_index key P [] all k d within = absurd (omega arith)
+at_index key P (x ∷ xs) all zero d within = all.0
+at_index key P (x ∷ xs) all (suc k) d within = at_index key P xs all.1 k d (omega arith)
 
 -- the comparison with an id rises along what ascends by its key
 pub rises : {X : Type 0} → (key : X → List ℕ) (xs : List X) (id : List ℕ) → Ascend (map key xs) → IsNonDecreasingBy (λ x. ordering_index (id_cmp (key x) id)) xs
@@ -33,7 +33,7 @@ unfolding IsStrictlySortedBy
 rises key [] id ascend i j d le within = absurd (omega arith)
 rises key (x ∷ xs) id ascend zero zero d le within = omega arith
 rises key (x ∷ xs) id ascend zero (suc j) d le within =
-    rises_by (key x) (key (get_or xs j d)) id (id_cmp (key (get_or xs j d)) id) refl (at_place key (λ other. id_cmp (key x) other ≡ Less) xs ascend.0 j d (omega arith))
+    rises_by (key x) (key (get_or xs j d)) id (id_cmp (key (get_or xs j d)) id) refl (at_index key (λ other. id_cmp (key x) other ≡ Less) xs ascend.0 j d (omega arith))
 rises key (x ∷ xs) id ascend (suc i) zero d le within = absurd (omega arith)
 rises key (x ∷ xs) id ascend (suc i) (suc j) d le within = rises key xs id ascend.1 i j d (omega arith) (omega arith)
 
@@ -55,8 +55,8 @@ got [] id k within equal = absurd (omega arith)
 got (x ∷ ids) id zero within equal = ap Some (exact_ids x id (equal x))
 got (x ∷ ids) id (suc k) within equal = got ids id k (omega arith) equal
 
-pub place_found : (ids : List (List ℕ)) (id : List ℕ) (at : ℕ) → at < length ids → IsBinarySearchResult (λ other. id_cmp other id) ids (Ok at) → slice_get ids at ≡ Some id
-place_found ids id at within found = got ids id at within found
+pub index_found : (ids : List (List ℕ)) (id : List ℕ) (at : ℕ) → at < length ids → IsBinarySearchResult (λ other. id_cmp other id) ids (Ok at) → slice_get ids at ≡ Some id
+index_found ids id at within found = got ids id at within found
 
 pub not_found : (ids : List (List ℕ)) (id : List ℕ) (at : ℕ) → Ascend ids → IsBinarySearchResult (λ other. id_cmp other id) ids (Err at) → has ids id ≡ false
 not_found ids id at ascend parted =

@@ -16,7 +16,7 @@ use Rattle.zone_lists.specs.ZoneList.{RowsAscend}
 use Rattle.zone_lists.specs.declared.zones.ZoneRow.{ZoneRow}
 use Rattle.zone_lists.specs.declared.zones.ZoneState.{ZoneState}
 use Rattle.supersede.specs.Zone.{state_in}
-use Rattle.supersede.proofs.SearchFacts.{at_place, rises}
+use Rattle.supersede.proofs.SearchFacts.{at_index, rises}
 
 -- the order of ids
 abbrev cmp : List ℕ → List ℕ → Ordering
@@ -41,10 +41,10 @@ unfolding IsStrictlySortedBy
 has_at [] id k d ascend within same = absurd (omega arith)
 has_at (row ∷ rows) id zero d ascend within same = rw same refl
 has_at (row ∷ rows) id (suc k) d ascend within same =
-    let other : bytes_eq row.sysmod id ≡ false = before_differs row.sysmod (get_or rows k d).sysmod id (at_place (λ row. row.sysmod) (λ other. cmp row.sysmod other ≡ Less) rows ascend.0 k d (omega arith)) same in
+    let other : bytes_eq row.sysmod id ≡ false = before_differs row.sysmod (get_or rows k d).sysmod id (at_index (λ row. row.sysmod) (λ other. cmp row.sysmod other ≡ Less) rows ascend.0 k d (omega arith)) same in
     rw other (has_at rows id k d ascend.1 (omega arith) same)
 
--- a search by halves that found a place
+-- a search by halves that found an index
 pub found_at : (rows : List ZoneRow) (id : List ℕ) (k : ℕ) (d : ZoneRow) → RowsAscend rows → k < length rows → ((e : ZoneRow) → cmp (get_or rows k e).sysmod id ≡ Equal) → state_in rows id ≡ Some (get_or rows k d).state
 found_at rows id k d ascend within equal = has_at rows id k d ascend within (same_by (get_or rows k d).sysmod id Equal (equal d))
 

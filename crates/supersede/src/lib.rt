@@ -2,7 +2,7 @@
 //!
 //! - [`Zone`]: the rows of a zone, in which SYSMODs are looked up
 //! - [`givers`]: the SYSMODs that give one
-//! - [`place_among`]: where a SYSMOD stands among others
+//! - [`index_among`]: where a SYSMOD stands among others
 //! - [`there`]: whether a SYSMOD is there in a zone, itself or by one that supersedes it
 //!
 //! ```
@@ -27,5 +27,5 @@ mod zone;
 
 pub use giving::givers;
 pub use presence::there;
-pub use search::place_among;
+pub use search::index_among;
 pub use zone::Zone;

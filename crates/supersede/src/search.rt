@@ -8,10 +8,10 @@ use mcs_reader::Id;
 
 /// Where a SYSMOD stands among SYSMODs that ascend, each once, if it does. It is found by halves, and takes
 /// no memory.
-pub fn place_among(ids: &[Id], id: &Id) -> Option<usize>
+pub fn index_among(ids: &[Id], id: &Id) -> Option<usize>
     requires { Ascend ids.now }
     ensures stands { is_some result ≡ has ids.now id.now }
-    ensures place { IfSome result (λ at. slice_get ids.now at ≡ Some id.now) }
+    ensures index { IfSome result (λ at. slice_get ids.now at ≡ Some id.now) }
 {
     match ids.binary_search(id) {
         Ok(at) => Some(at),

@@ -106,14 +106,14 @@ fn state_in(rows: &[ZoneRow], id: &Id) -> Option<ZoneState>
     requires { RowsAscend rows.now }
     ensures { result ≡ Spec.state_in rows.now id.now }
 {
-    match place_of(rows, id) {
+    match row_index(rows, id) {
         Ok(at) => Some(rows[at].state),
         Err(_) => None,
     }
 }
 
 // Where the row of a SYSMOD is, or where it would stand.
-fn place_of(rows: &[ZoneRow], id: &Id) -> Result<usize, usize>
+fn row_index(rows: &[ZoneRow], id: &Id) -> Result<usize, usize>
     ensures within { IsSearchInRange result (length rows.now) }
     ensures found { IsBinarySearchResult (λ row. slice_cmp nat_cmp row.sysmod id.now) rows.now result }
 {

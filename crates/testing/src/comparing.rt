@@ -20,13 +20,13 @@ pub fn assert_equal<T: PartialEq + Debug + Drop>(got: T, wanted: T) -> Result<()
     )
 }
 
-/// Whether `got` equals `wanted`, at a place such as the row of a table.
+/// Whether `got` equals `wanted`, in a case such as the row of a table.
 ///
 /// # Errors
 ///
-/// A failure that says the place and both, where they differ.
+/// A failure that says the case and both, where they differ.
 pub fn assert_equal_at<T: PartialEq + Debug + Drop, P: Debug + Drop>(
-    place: P,
+    case: P,
     got: T,
     wanted: T,
 ) -> Result<(), Fail>
@@ -35,7 +35,7 @@ pub fn assert_equal_at<T: PartialEq + Debug + Drop, P: Debug + Drop>(
 {
     assert_so(
         got == wanted,
-        format_args!("{place:?}: {got:?} in place of {wanted:?}"),
+        format_args!("{case:?}: {got:?} in place of {wanted:?}"),
     )
 }
 

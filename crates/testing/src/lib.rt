@@ -6,7 +6,7 @@
 //! condition is asserted by `std`'s `assert!`, which costs little.
 //!
 //! - [`assert_equal`]: of two values
-//! - [`assert_equal_at`]: the same, and what is said has the place too, such as the row of a table
+//! - [`assert_equal_at`]: the same, and what is said has the case too, such as the row of a table
 //! - [`Pieces`] and [`Slow`]: a reader and a writer of a piece at a time, whose calls fail as [`Failures`] says
 //! - [`Ticking`]: a clock by which the same time passes before each look
 //! - [`Exchange`]: a request with its reply, of which [`request_text`] and [`reply_text`] make the bytes

@@ -48,7 +48,7 @@ in_append_last : {X : Type 0} → (xs : List X) (y : X) → In (xs ++ y ∷ []) 
 in_append_last [] y = inl refl
 in_append_last (z ∷ zs) y = inr (in_append_last zs y)
 
--- ---- an entry put in its place
+-- ---- an entry put where it belongs
 
 module _ {X : Type 0} (order : X → X → Ordering) where
   put_cases : (xs : List X) (k x : X) → In (insert_key order xs k) x → In xs x ⊎ (k ≡ x)
@@ -107,7 +107,7 @@ module _ {Entry : Type 0} (kind : ListKind Entry) where
   abbrev Same : List Entry → Type 0
   Same earlier = (x : Entry) → (In (in_order kind earlier) x → In earlier x) × (In earlier x → In (in_order kind earlier) x)
 
-  -- an entry at the place of another contradicts it, or is the same
+  -- an entry that ties with another contradicts it, or is the same
   abbrev pub IsExact : Type 0
   IsExact = (a b : Entry) → kind.order a b ≡ Equal → kind.contradicts a b ≡ false → b ≡ a
 

@@ -18,10 +18,10 @@ pub calm : {Entry : Type 0} (entry : Entry) (came : List Entry) → list_any (ne
 calm entry [] = refl
 calm entry (x ∷ xs) = calm entry xs
 
--- one more entry, put in its place in a set
+-- one more entry, put into a set in order
 pub key_added : (kind : ListKind (List ℕ)) (came keys keys2 : List (List ℕ)) (key : List ℕ) → keys ≡ in_order kind came → keys2 ≡ insert_key kind.order keys key
     → keys2 ≡ in_order kind (came ++ key ∷ [])
-key_added kind came keys keys2 key placed added = added ∙ ap (λ places. insert_key kind.order places key) placed ∙ sym (in_order_more kind came key)
+key_added kind came keys keys2 key listed added = added ∙ ap (λ entries. insert_key kind.order entries key) listed ∙ sym (in_order_more kind came key)
 
 -- ---- keys as entries of a list
 

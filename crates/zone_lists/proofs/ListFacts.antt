@@ -37,7 +37,7 @@ module _ {Entry : Type 0} (kind : ListKind Entry) where
   answer_after earlier [] = Ok (in_order kind earlier)
   answer_after earlier (fields ∷ rest) = go_on (λ entry. answer_after (earlier ++ entry ∷ []) rest) (next_entry earlier fields)
 
-  -- one more entry, put in its place
+  -- one more entry, put where it belongs
   pub in_order_more : (earlier : List Entry) (entry : Entry) → in_order kind (earlier ++ entry ∷ []) ≡ insert_key kind.order (in_order kind earlier) entry
   in_order_more earlier entry = fold-append (insert_key kind.order) [] earlier (entry ∷ [])
 

@@ -28,7 +28,7 @@ use Rattle.zone_lists.proofs.ListFacts.{in_order_more}
 
 -- no rows
 pub no_rows : (entries : List (List ℕ × ZoneState)) → entries ≡ [] → HasRows entries []
-no_rows entries none = record { placed = rw none refl; agrees = λ row. rw none refl }
+no_rows entries none = record { listed = rw none refl; agrees = λ row. rw none refl }
 
 same_state-is : (a b : ZoneState) → same_state a b ≡ true → a ≡ b
 same_state-is Applied Applied same = refl
@@ -45,20 +45,20 @@ not_false : (b : Bool) → not b ≡ false → b ≡ true
 not_false true h = refl
 not_false false h = sym h
 
--- a row at its place, after a comparison of its SYSMOD with that of an entry
-place : (e : List ℕ × ZoneState) (es : List (List ℕ × ZoneState)) (row : ZoneRow) (o : Ordering) → has_other_state row.state (cond (is_eq o) (Some e.1) (state_at row.sysmod es)) ≡ false
+-- a row put where it belongs, after a comparison of its SYSMOD with that of an entry
+row_put : (e : List ℕ × ZoneState) (es : List (List ℕ × ZoneState)) (row : ZoneRow) (o : Ordering) → has_other_state row.state (cond (is_eq o) (Some e.1) (state_at row.sysmod es)) ≡ false
     → (has_other_state row.state (state_at row.sysmod es) ≡ false → map row_of (insert_entry (slice_cmp nat_cmp) es row.sysmod row.state) ≡ insert_key row_order (map row_of es) row)
     → map row_of (match_ordering o ((row.sysmod, row.state) ∷ e ∷ es) ((e.0, row.state) ∷ es) (e ∷ insert_entry (slice_cmp nat_cmp) es row.sysmod row.state))
     ≡ match_ordering o (row ∷ row_of e ∷ map row_of es) (row_of e ∷ map row_of es) (row_of e ∷ insert_key row_order (map row_of es) row)
-place e es row Less same later = refl
-place e es row Equal same later = ap (λ state. row_of (e.0, state) ∷ map row_of es) (same_state-is row.state e.1 (not_false (same_state row.state e.1) same))
-place e es row Greater same later = ap (λ rows. row_of e ∷ rows) (later same)
+row_put e es row Less same later = refl
+row_put e es row Equal same later = ap (λ state. row_of (e.0, state) ∷ map row_of es) (same_state-is row.state e.1 (not_false (same_state row.state e.1) same))
+row_put e es row Greater same later = ap (λ rows. row_of e ∷ rows) (later same)
 
--- a row whose SYSMOD has no other state in the map is put in its place among the rows
-placed_more : (entries : List (List ℕ × ZoneState)) (row : ZoneRow) → has_other_state row.state (state_at row.sysmod entries) ≡ false
+-- a row whose SYSMOD has no other state in the map is put among the rows where it belongs
+row_put_more : (entries : List (List ℕ × ZoneState)) (row : ZoneRow) → has_other_state row.state (state_at row.sysmod entries) ≡ false
     → map row_of (insert_entry (slice_cmp nat_cmp) entries row.sysmod row.state) ≡ insert_key row_order (map row_of entries) row
-placed_more [] row same = refl
-placed_more (e ∷ es) row same = place e es row (slice_cmp nat_cmp row.sysmod e.0) same (λ h. placed_more es row h)
+row_put_more [] row same = refl
+row_put_more (e ∷ es) row same = row_put e es row (slice_cmp nat_cmp row.sysmod e.0) same (λ h. row_put_more es row h)
 
 -- whether a row contradicts one of these or one more
 contradicts_more : (other row : ZoneRow) (seen : List ZoneRow) → list_any (other_state other) (seen ++ row ∷ []) ≡ (list_any (other_state other) seen || other_state other row)
@@ -94,7 +94,7 @@ pub row_added : (came : List ZoneRow) (entries entries2 : List (List ℕ × Zone
     → has_other_state row.state (state_at row.sysmod entries) ≡ false
     → HasRows entries2 (came ++ row ∷ [])
 row_added came entries entries2 row rows added updates same = record {
-  placed = ap (λ es. map row_of es) added ∙ placed_more entries row same ∙ ap (λ placed. insert_key row_order placed row) rows.placed ∙ sym (in_order_more zone_list came row);
+  listed = ap (λ es. map row_of es) added ∙ row_put_more entries row same ∙ ap (λ listed. insert_key row_order listed row) rows.listed ∙ sym (in_order_more zone_list came row);
   agrees = agrees_more came entries entries2 row rows.agrees updates same;
 }
 

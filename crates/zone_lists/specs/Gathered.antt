@@ -23,7 +23,7 @@ abbrev pub has_other_state : ZoneState → Option ZoneState → Bool
 has_other_state state None = false
 has_other_state state (Some before) = not (same_state state before)
 
--- a map has the rows that came: each in its place, and what a row contradicts is what the map says
+-- a map has the rows that came, in order, and what a row contradicts is what the map says
 pub record HasRows (entries : List (List ℕ × ZoneState)) (came : List ZoneRow) : Type 0 where
-  pub placed : map row_of entries ≡ in_order zone_list came
+  pub listed : map row_of entries ≡ in_order zone_list came
   pub agrees : (row : ZoneRow) → list_any (other_state row) came ≡ has_other_state row.state (state_at row.sysmod entries)

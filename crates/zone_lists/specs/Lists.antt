@@ -26,7 +26,7 @@ pub record ListKind (Entry : Type 0) : Type 0 where
   pub limit : ℕ
   -- what a record stands for by itself: an entry, or a fault
   pub entry : Record → Result Entry Numbered
-  -- the order of an answer, in which each place has one entry
+  -- the order of an answer, in which no two entries tie
   pub order : Entry → Entry → Ordering
   -- whether an entry contradicts an earlier one
   pub contradicts : Entry → Entry → Bool

@@ -6,7 +6,7 @@ use super::conditional::{
     WITH_REQUIRED,
 };
 use super::desks::{Bench, fresh};
-use super::stores::{Lists, Place};
+use super::stores::{Lists, StoreKind};
 use super::trial::Trial;
 use super::worked::SUPERSEDING;
 use bureau::{Bureau, Call, Reply};
@@ -253,13 +253,13 @@ impl Script for Calls {
 pub(crate) struct OverEachJudge;
 
 impl Trial for OverEachJudge {
-    fn assert_in<P: Place>(&self, bench: &mut Bench<P>) -> Result<(), Fail> {
+    fn assert_in<P: StoreKind>(&self, bench: &mut Bench<P>) -> Result<(), Fail> {
         let (all, only) = (all_drawn(bench.alloc)?, None);
         bench.assert_script(&Calls { all, only })
     }
 }
 
-fn assert_alone<P: Place>(bench: &mut Bench<P>, calls: &Calls) -> Result<(), Fail> {
+fn assert_alone<P: StoreKind>(bench: &mut Bench<P>, calls: &Calls) -> Result<(), Fail> {
     let judge = bench.cache(2)?;
     bench.assert_script_by(judge, calls)
 }
@@ -268,7 +268,7 @@ fn assert_alone<P: Place>(bench: &mut Bench<P>, calls: &Calls) -> Result<(), Fai
 pub(crate) struct Alone;
 
 impl Trial for Alone {
-    fn assert_in<P: Place>(&self, bench: &mut Bench<P>) -> Result<(), Fail> {
+    fn assert_in<P: StoreKind>(&self, bench: &mut Bench<P>) -> Result<(), Fail> {
         for caller in 0..4usize {
             let (all, only) = (all_drawn(bench.alloc)?, Some(caller));
             assert_alone(bench, &Calls { all, only })?;

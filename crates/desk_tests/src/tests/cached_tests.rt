@@ -9,7 +9,7 @@ use super::conditional::{
     WITH_REQUIRED,
 };
 use super::desks::Bench;
-use super::stores::{Lists, Place};
+use super::stores::{Lists, StoreKind};
 use super::trial::Trial;
 use super::verdicts::{HOLD_ACCEPTED, RESTART, RESTART_PLAN};
 use super::worked::{GOING_ON, ONE_ACCEPTED, SUPERSEDING, TWO_ZONES};
@@ -41,7 +41,7 @@ ROWS 3
 ";
 
 // A bureau there in which nothing is published yet, with room for so many frames.
-fn with_room<P: Place>(
+fn with_room<P: StoreKind>(
     bench: &mut Bench<P>,
     capacity: u32,
 ) -> Checked<Bureau<P::Kept, ChainCache>> {
@@ -69,7 +69,7 @@ static FRAMED: [Built; 4] = [
     (ALPHA, Ask::Chain(b"TGT1", b"UA10002"), SHORT_PLAN, 1),
 ];
 
-fn with_frame<P: Place>(bench: &mut Bench<P>) -> Result<Bureau<P::Kept, ChainCache>, Fail> {
+fn with_frame<P: StoreKind>(bench: &mut Bench<P>) -> Result<Bureau<P::Kept, ChainCache>, Fail> {
     let mut bureau = with_room(bench, 16)?;
     assert_built(&mut bureau, &FRAMED)?;
     Ok(bureau)
@@ -95,7 +95,7 @@ fn assert_run_of_three<S: Store>(bureau: &mut Bureau<S, ChainCache>) -> Result<(
 pub(crate) struct Shared;
 
 impl Trial for Shared {
-    fn assert_in<P: Place>(&self, bench: &mut Bench<P>) -> Result<(), Fail> {
+    fn assert_in<P: StoreKind>(&self, bench: &mut Bench<P>) -> Result<(), Fail> {
         assert_built(&mut with_room(bench, 1)?, &OF_TWO_CLIENTS)?;
         assert_run_of_three(&mut with_room(bench, 16)?)
     }
@@ -124,7 +124,7 @@ static WITHOUT_GIVER: [Built; 3] = [
 ];
 
 // The rows are answered as they say where a frame was kept before.
-fn assert_after_frame<P: Place>(bench: &mut Bench<P>, rows: &[Built]) -> Result<(), Fail> {
+fn assert_after_frame<P: StoreKind>(bench: &mut Bench<P>, rows: &[Built]) -> Result<(), Fail> {
     assert_built(&mut with_frame(bench)?, rows)
 }
 
@@ -132,7 +132,7 @@ fn assert_after_frame<P: Place>(bench: &mut Bench<P>, rows: &[Built]) -> Result<
 pub(crate) struct Dropped;
 
 impl Trial for Dropped {
-    fn assert_in<P: Place>(&self, bench: &mut Bench<P>) -> Result<(), Fail> {
+    fn assert_in<P: StoreKind>(&self, bench: &mut Bench<P>) -> Result<(), Fail> {
         assert_after_frame(bench, &APART_FIRST)?;
         assert_after_frame(bench, &RESTARTED)?;
         assert_after_frame(bench, &WITHOUT_GIVER)
@@ -157,7 +157,7 @@ static OF_TWO_ZONES: [Built; 9] = [
 pub(crate) struct Conditional;
 
 impl Trial for Conditional {
-    fn assert_in<P: Place>(&self, bench: &mut Bench<P>) -> Result<(), Fail> {
+    fn assert_in<P: StoreKind>(&self, bench: &mut Bench<P>) -> Result<(), Fail> {
         assert_built(&mut with_room(bench, 16)?, &OF_TWO_ZONES)
     }
 }
@@ -206,7 +206,7 @@ fn a_store_that_fails_leaves_chains_right(rt: HostRuntime) -> Result<(), Fail> {
     let mut bench = Bench {
         alloc: rt.alloc(),
         keys: RandomState::new(&rt)?,
-        place: Lists,
+        kind: Lists,
     };
     let mut is_dropped = false;
     for calls in 0..64u64 {

@@ -1,6 +1,6 @@
 //! Rows over each judge: all give the same answers.
 use super::asked::{CALLERS, Checked, Parts, Row, Rows, Script, assert_rows};
-use super::stores::Place;
+use super::stores::StoreKind;
 use bureau::Bureau;
 use bureau_store::{CallerRow, callers};
 use chain_cache::ChainCache;
@@ -18,9 +18,9 @@ pub(crate) fn known(alloc: Global) -> Checked<Vec<CallerRow>> {
 }
 
 /// A store there in which nothing is published yet.
-pub(crate) fn fresh<P: Place>(alloc: Global, place: &mut P) -> Checked<P::Kept> {
+pub(crate) fn fresh<P: StoreKind>(alloc: Global, kind: &mut P) -> Checked<P::Kept> {
     let callers = known(alloc)?;
-    place.new_store(alloc, callers.as_slice())
+    kind.new_store(alloc, callers.as_slice())
 }
 
 /// Where stores are made, and what else a bureau over one is made of.
@@ -28,16 +28,16 @@ pub(crate) fn fresh<P: Place>(alloc: Global, place: &mut P) -> Checked<P::Kept> 
 pub(crate) struct Bench<P> {
     pub(crate) alloc: Global,
     pub(crate) keys: RandomState,
-    pub(crate) place: P,
+    pub(crate) kind: P,
 }
 
-impl<P: Place> Bench<P> {
+impl<P: StoreKind> Bench<P> {
     /// A bureau over a store in which nothing is published yet.
     pub(crate) fn bureau<J: Judge<P::Kept> + Drop>(
         &mut self,
         judge: J,
     ) -> Checked<Bureau<P::Kept, J>> {
-        let store = fresh(self.alloc, &mut self.place)?;
+        let store = fresh(self.alloc, &mut self.kind)?;
         Ok(Bureau::new(self.alloc, store, judge))
     }
 
@@ -81,7 +81,7 @@ impl<P: Place> Bench<P> {
         rows: &[Row],
     ) -> Result<(P::Kept, J), Fail> {
         for row in rows {
-            let opened = self.place.opened_again(self.alloc, store)?;
+            let opened = self.kind.opened_again(self.alloc, store)?;
             let mut bureau = Bureau::new(self.alloc, opened, judge);
             assert_rows(&mut bureau, slice::from_ref(row))?;
             (store, judge) = bureau.into_parts();
@@ -95,7 +95,7 @@ impl<P: Place> Bench<P> {
         mut judge: J,
         parts: Parts<'_>,
     ) -> Result<(), Fail> {
-        let mut store = fresh(self.alloc, &mut self.place)?;
+        let mut store = fresh(self.alloc, &mut self.kind)?;
         for rows in parts {
             (store, judge) = self.assert_rows_opened_again(store, judge, rows)?;
         }

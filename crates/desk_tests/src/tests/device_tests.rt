@@ -114,8 +114,8 @@ fn told_in_whole(alloc: Global, asked: &Asked) -> Result<Reply, Fail> {
     Ok(told)
 }
 
-// At how many places a call is answered 503, since the store fails there.
-fn places_of(rt: &impl Abort, alloc: Global, asked: &Asked) -> Result<u64, Fail> {
+// At how many calls of its store a call is answered 503, since that one fails.
+fn failures_of(rt: &impl Abort, alloc: Global, asked: &Asked) -> Result<u64, Fail> {
     let told = told_in_whole(alloc, asked)?;
     for left in 0..64u64 {
         if !is_refused(rt, alloc, left, asked, &told)? {
@@ -144,8 +144,8 @@ static CALLS: [Asked; 11] = [
 #[test]
 fn a_device_that_fails_in_a_call_closes_the_desk(rt: HostRuntime) -> Result<(), Fail> {
     for asked in &CALLS {
-        let places = places_of(&rt, rt.alloc(), asked)?;
-        assert!(rt; places > 0);
+        let failures = failures_of(&rt, rt.alloc(), asked)?;
+        assert!(rt; failures > 0);
     }
     Ok(())
 }

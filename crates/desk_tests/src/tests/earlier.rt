@@ -1,7 +1,7 @@
 //! Stores of version 1, with what the first six requests of a run of three callers leave. Each is refused for its
 //! version, and then migrated.
 use super::asked::Checked;
-use super::stores::{Place, opened};
+use super::stores::{StoreKind, opened};
 use bureau_sql::SqlStore;
 use bureau_store::{CallerRow, StoreFault};
 use sqlite::{Alter, Connection};
@@ -65,7 +65,7 @@ impl<S: Alter> Earlier<S> {
     }
 }
 
-impl<S: Alter + Drop> Place for Earlier<S> {
+impl<S: Alter + Drop> StoreKind for Earlier<S> {
     type Kept = SqlStore<S>;
 
     fn new_store(&mut self, alloc: Global, _callers: &[CallerRow]) -> Checked<SqlStore<S>> {

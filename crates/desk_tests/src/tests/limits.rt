@@ -4,7 +4,7 @@ use super::asked::{
     put_zone,
 };
 use super::desks::Bench;
-use super::stores::Place;
+use super::stores::StoreKind;
 use super::trial::Trial;
 use bureau::Bureau;
 use bureau_store::Store;
@@ -111,7 +111,7 @@ impl Script for FullZone {
 pub(crate) struct Limits;
 
 impl Trial for Limits {
-    fn assert_in<P: Place>(&self, bench: &mut Bench<P>) -> Result<(), Fail> {
+    fn assert_in<P: StoreKind>(&self, bench: &mut Bench<P>) -> Result<(), Fail> {
         let alloc = bench.alloc;
         bench.assert_script(&Zones { alloc })?;
         bench.assert_script(&FullZone { alloc })

@@ -3,7 +3,7 @@ use super::asked::{ALPHA, Ask, BETA, BOTH, FUNCTION, PUBLISHER, Row};
 use super::conditional::CONDITIONAL;
 use super::desks::Bench;
 use super::earlier::Earlier;
-use super::stores::{Place, in_files, in_memory};
+use super::stores::{StoreKind, in_files, in_memory};
 use super::trial::Trial;
 use super::worked::GOING_ON;
 use sqlite::{Alter, Connection};
@@ -38,7 +38,7 @@ static KEPT: [Row; 9] = [
 struct Migrated;
 
 impl Trial for Migrated {
-    fn assert_in<P: Place>(&self, bench: &mut Bench<P>) -> Result<(), Fail> {
+    fn assert_in<P: StoreKind>(&self, bench: &mut Bench<P>) -> Result<(), Fail> {
         bench.assert_parts(&[&SENT_AGAIN, &GOING_ON[1..]])?;
         bench.assert_opened_again(&[&SENT_AGAIN, &GOING_ON[1..]])?;
         bench.assert_parts(&[&KEPT])?;
@@ -52,8 +52,8 @@ fn assert_migrated<S: Alter + Drop>(
     keys: RandomState,
     spare: Vec<Connection<S>>,
 ) -> Result<(), Fail> {
-    let place = Earlier::new(spare);
-    Migrated.assert_in(&mut Bench { alloc, keys, place })
+    let kind = Earlier::new(spare);
+    Migrated.assert_in(&mut Bench { alloc, keys, kind })
 }
 
 #[test]

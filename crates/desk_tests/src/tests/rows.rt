@@ -8,7 +8,7 @@ use super::asked::{
 use super::conditional::CONDITIONAL;
 use super::desks::{Bench, CAPACITIES};
 use super::numbers::{LISTS, NUMBERS, PATTERNS, REFUSALS};
-use super::stores::Place;
+use super::stores::StoreKind;
 use super::trial::Trial;
 use super::verdicts::{SHARED, VERDICTS};
 use super::worked::{GOING_ON, RECEIVED, SUPERSEDING, TWO_ZONES};
@@ -20,14 +20,14 @@ use testing::{BASE, assert_equal, assert_equal_at};
 
 // ---- one by one
 
-fn assert_numbers_and_lists<P: Place>(bench: &mut Bench<P>) -> Result<(), Fail> {
+fn assert_numbers_and_lists<P: StoreKind>(bench: &mut Bench<P>) -> Result<(), Fail> {
     bench.assert_parts(&[&NUMBERS])?;
     bench.assert_parts(&[&REFUSALS])?;
     bench.assert_parts(&[&LISTS])?;
     bench.assert_parts(&[&PATTERNS])
 }
 
-fn assert_verdicts<P: Place>(bench: &mut Bench<P>) -> Result<(), Fail> {
+fn assert_verdicts<P: StoreKind>(bench: &mut Bench<P>) -> Result<(), Fail> {
     bench.assert_parts(&[&TWO_ZONES, &GOING_ON, &RECEIVED])?;
     bench.assert_parts(&[&TWO_ZONES, &SHARED])?;
     bench.assert_parts(&[&VERDICTS])?;
@@ -38,7 +38,7 @@ fn assert_verdicts<P: Place>(bench: &mut Bench<P>) -> Result<(), Fail> {
 pub(crate) struct Worked;
 
 impl Trial for Worked {
-    fn assert_in<P: Place>(&self, bench: &mut Bench<P>) -> Result<(), Fail> {
+    fn assert_in<P: StoreKind>(&self, bench: &mut Bench<P>) -> Result<(), Fail> {
         assert_numbers_and_lists(bench)?;
         assert_verdicts(bench)
     }
@@ -80,7 +80,7 @@ fn assert_replies(replies: &[Reply]) -> Result<(), Fail> {
     assert_each_told(replies.get(5..).ok_or("replies")?, &GOING_ON)
 }
 
-fn assert_run_by<P: Place, J: Judge<P::Kept> + Drop>(
+fn assert_run_by<P: StoreKind, J: Judge<P::Kept> + Drop>(
     bench: &mut Bench<P>,
     judge: J,
 ) -> Result<(), Fail> {
@@ -92,7 +92,7 @@ fn assert_run_by<P: Place, J: Judge<P::Kept> + Drop>(
 pub(crate) struct Run;
 
 impl Trial for Run {
-    fn assert_in<P: Place>(&self, bench: &mut Bench<P>) -> Result<(), Fail> {
+    fn assert_in<P: StoreKind>(&self, bench: &mut Bench<P>) -> Result<(), Fail> {
         assert_run_by(bench, Whole::new())?;
         for capacity in CAPACITIES {
             let judge = bench.cache(capacity)?;
@@ -108,7 +108,7 @@ impl Trial for Run {
 pub(crate) struct OpenedAgain;
 
 impl Trial for OpenedAgain {
-    fn assert_in<P: Place>(&self, bench: &mut Bench<P>) -> Result<(), Fail> {
+    fn assert_in<P: StoreKind>(&self, bench: &mut Bench<P>) -> Result<(), Fail> {
         bench.assert_opened_again(&[&TWO_ZONES, &GOING_ON, &RECEIVED])?;
         bench.assert_opened_again(&[&NUMBERS])?;
         bench.assert_opened_again(&[&PATTERNS])?;
@@ -142,7 +142,7 @@ fn assert_tokens<S: Store, J: Judge<S>>(bureau: &mut Bureau<S, J>) -> Result<(),
 pub(crate) struct Tokens;
 
 impl Trial for Tokens {
-    fn assert_in<P: Place>(&self, bench: &mut Bench<P>) -> Result<(), Fail> {
+    fn assert_in<P: StoreKind>(&self, bench: &mut Bench<P>) -> Result<(), Fail> {
         let mut bureau = bench.bureau(Whole::new())?;
         assert_tokens(&mut bureau)
     }

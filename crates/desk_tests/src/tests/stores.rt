@@ -12,12 +12,12 @@ use std::alloc::Global;
 // How many stores a test may ask for.
 const MOST: u32 = 64;
 
-/// Where stores are kept.
-pub(crate) trait Place {
-    /// A store that is kept there.
+/// A kind of store.
+pub(crate) trait StoreKind {
+    /// A store of this kind.
     type Kept: Store + Drop;
 
-    /// A new store there with these callers.
+    /// A new one with these callers.
     fn new_store(&mut self, alloc: Global, callers: &[CallerRow]) -> Checked<Self::Kept>;
 
     /// The store, closed and opened again where that can be done.
@@ -41,7 +41,7 @@ impl<S: Alter> InDatabases<S> {
     }
 }
 
-impl Place for Lists {
+impl StoreKind for Lists {
     type Kept = ListStore;
 
     fn new_store(&mut self, alloc: Global, callers: &[CallerRow]) -> Checked<ListStore> {
@@ -53,7 +53,7 @@ impl Place for Lists {
     }
 }
 
-impl<S: Alter + Drop> Place for InDatabases<S> {
+impl<S: Alter + Drop> StoreKind for InDatabases<S> {
     type Kept = SqlStore<S>;
 
     fn new_store(&mut self, alloc: Global, callers: &[CallerRow]) -> Checked<SqlStore<S>> {

@@ -1,17 +1,17 @@
 //! What is tried over stores in lists, in memory and in files.
 //!
-//! A trial speaks of any place, so its proof looks at no database, and it is tried over each by one function.
+//! A trial speaks of stores of any kind, so its proof looks at no database, and it is tried over each by one function.
 use super::desks::Bench;
-use super::stores::{InDatabases, Lists, Place, in_files, in_memory};
+use super::stores::{InDatabases, Lists, StoreKind, in_files, in_memory};
 use sqlite::{Alter, Connection};
 use std::alloc::Global;
 use std::hash::RandomState;
 use std::test::Fail;
 
-/// What is tried over stores in one place.
+/// What is tried over stores of one kind.
 pub(crate) trait Trial {
     /// It is as it should be over new stores there.
-    fn assert_in<P: Place>(&self, bench: &mut Bench<P>) -> Result<(), Fail>;
+    fn assert_in<P: StoreKind>(&self, bench: &mut Bench<P>) -> Result<(), Fail>;
 }
 
 /// What keeps the stores that are tried.
@@ -30,8 +30,8 @@ pub(crate) enum Over {
 pub(crate) fn assert_over<T: Trial>(rt: &HostRuntime, over: Over, trial: &T) -> Result<(), Fail> {
     let (alloc, keys) = (rt.alloc(), RandomState::new(rt)?);
     if matches!(over, Over::Lists | Over::Each) {
-        let place = Lists;
-        trial.assert_in(&mut Bench { alloc, keys, place })?;
+        let kind = Lists;
+        trial.assert_in(&mut Bench { alloc, keys, kind })?;
     }
     if matches!(over, Over::Memory | Over::Each) {
         assert_in_databases(alloc, keys, in_memory(alloc)?, trial)?;
@@ -48,6 +48,6 @@ fn assert_in_databases<T: Trial, S: Alter + Drop>(
     spare: Vec<Connection<S>>,
     trial: &T,
 ) -> Result<(), Fail> {
-    let place = InDatabases::new(spare);
-    trial.assert_in(&mut Bench { alloc, keys, place })
+    let kind = InDatabases::new(spare);
+    trial.assert_in(&mut Bench { alloc, keys, kind })
 }

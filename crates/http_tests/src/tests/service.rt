@@ -152,9 +152,9 @@ fn a_service_ends_where_its_device_fails(rt: HostRuntime) -> Result<(), Fail> {
     for left in 0..64u64 {
         match assert_ended(&rt, rt.alloc(), left)? {
             // the more calls are answered, the more connections are served
-            Some(place) => {
-                assert!(rt; place == at || place == at.saturating_add(1), "{left:?}");
-                at = place;
+            Some(index) => {
+                assert!(rt; index == at || index == at.saturating_add(1), "{left:?}");
+                at = index;
             }
             None => {
                 assert_equal(at, 2)?;

@@ -4,7 +4,7 @@ use std::test::Fail;
 use testing::assert_equal;
 
 #[rattlefmt::skip]
-static ZONES: [Column; 2] = [Column { place: 1, name: b"ZONE" }, Column { place: 10, name: b"SYSMODS" }];
+static ZONES: [Column; 2] = [Column { start: 1, name: b"ZONE" }, Column { start: 10, name: b"SYSMODS" }];
 
 #[test]
 fn a_table_has_its_columns(rt: HostRuntime) -> Result<(), Fail> {

@@ -2,8 +2,8 @@
 use faults::NoMemory;
 use mcs_reader::Id;
 use requests::{
-    Action, Front, Refusal, ReplyHead, Resource, Routes, Status, Turn, decide, head_text,
-    read_front, read_turn, read_whole,
+    Action, Front, NextRequest, Refusal, ReplyHead, Resource, Routes, Status, decide, head_text,
+    read_front, read_next, read_whole,
 };
 use std::alloc::Global;
 use std::process::Abort;
@@ -376,8 +376,8 @@ fn assert_whole(
     let mut intake = Intake::new(alloc);
     let mut retries = RETRIES;
     let mut reader = Pieces::new(text, piece, Failures::none());
-    match read_turn(&mut intake, &mut reader, &mut retries)? {
-        Turn::Whole(request) => {
+    match read_next(&mut intake, &mut reader, &mut retries)? {
+        NextRequest::Whole(request) => {
             let bytes = intake.bytes();
             assert!(rt; request.body(bytes) == body, "{piece:?}");
             assert!(rt; request.token(bytes) == Some(token), "{piece:?}");

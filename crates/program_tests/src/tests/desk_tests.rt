@@ -186,9 +186,9 @@ fn run_over<W: Write>(
     (status, errors)
 }
 
-// These connections have this on standard output, and nothing fails. A failure says the place.
+// These connections have this on standard output, and nothing fails. A failure says the case.
 fn assert_replayed<P: Debug + Copy + Drop>(
-    place: P,
+    case: P,
     alloc: Global,
     keys: RandomState,
     cache: u32,
@@ -197,9 +197,9 @@ fn assert_replayed<P: Debug + Copy + Drop>(
 ) -> Result<(), Fail> {
     let mut output = Vec::new(alloc);
     let (status, errors) = run_over(alloc, keys, cache, CALLERS, files, &mut output);
-    assert_equal_at(place, (status, errors.as_slice()), (0, b"".as_slice()))?;
+    assert_equal_at(case, (status, errors.as_slice()), (0, b"".as_slice()))?;
     let written = str::from_utf8(output.as_slice());
-    assert_equal_at(place, written, str::from_utf8(wanted))
+    assert_equal_at(case, written, str::from_utf8(wanted))
 }
 
 fn keys_of(rt: &impl RandomSource) -> Result<RandomState, Fail> {
@@ -231,7 +231,7 @@ fn script_in_one_connection_and_in_ten(rt: HostRuntime) -> Result<(), Fail> {
 
 // A connection and the next one have these replies.
 fn assert_both_replayed<P: Debug + Copy + Drop>(
-    place: P,
+    case: P,
     alloc: Global,
     keys: RandomState,
     opening: &[u8],
@@ -239,7 +239,7 @@ fn assert_both_replayed<P: Debug + Copy + Drop>(
     wanted: &[u8],
 ) -> Result<(), Fail> {
     let files = files_of(alloc, &[opening, next])?;
-    assert_replayed(place, alloc, keys, 1_024, files, wanted)
+    assert_replayed(case, alloc, keys, 1_024, files, wanted)
 }
 
 // After these whole requests a further one is cut after any byte, and no byte of a reply to it is written.

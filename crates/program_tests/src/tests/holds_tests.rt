@@ -75,17 +75,17 @@ static WORKED: [Row; 11] = [
     ),
 ];
 
-// What a run gives is this. A failure says the place.
+// What a run gives is this. A failure says the case.
 fn assert_run<P: Debug + Copy + Drop>(
-    place: P,
+    case: P,
     run: &Run,
     status: u8,
     output: &str,
     errors: &str,
 ) -> Result<(), Fail> {
-    assert_equal_at(place, run.status, status)?;
-    assert_equal_at(place, str::from_utf8(run.output.as_slice()), Ok(output))?;
-    assert_equal_at(place, str::from_utf8(run.errors.as_slice()), Ok(errors))
+    assert_equal_at(case, run.status, status)?;
+    assert_equal_at(case, str::from_utf8(run.output.as_slice()), Ok(output))?;
+    assert_equal_at(case, str::from_utf8(run.errors.as_slice()), Ok(errors))
 }
 
 // The source is printed so, or refused so with nothing printed.
@@ -261,17 +261,17 @@ fn writers_that_are_interrupted_or_fail(rt: HostRuntime) -> Result<(), Fail> {
 // A run over the source writes the first bytes of this whole text.
 fn assert_written(rt: &impl Abort, alloc: Global, row: &Writing, whole: &[u8]) -> Result<(), Fail> {
     let (piece, interruptions, room, is_failing, status, taken, errors) = *row;
-    let place = (piece, interruptions, room);
+    let case = (piece, interruptions, room);
     let mut writer = Slow::new(alloc, piece, room, Failures::interruptions(interruptions));
     if is_failing {
         writer.full = Some(ErrorKind::StorageFull);
     }
     let mut told = Vec::new(alloc);
     let got = run_holds(alloc, &mut SOURCE.as_bytes(), &mut writer, &mut told);
-    assert_equal_at(place, got, status)?;
-    assert_equal_at(place, writer.taken.len(), taken)?;
-    assert!(rt; whole.starts_with(writer.taken.as_slice()), "{place:?}");
-    assert_equal_at(place, str::from_utf8(told.as_slice()), Ok(errors))
+    assert_equal_at(case, got, status)?;
+    assert_equal_at(case, writer.taken.len(), taken)?;
+    assert!(rt; whole.starts_with(writer.taken.as_slice()), "{case:?}");
+    assert_equal_at(case, str::from_utf8(told.as_slice()), Ok(errors))
 }
 
 #[test]

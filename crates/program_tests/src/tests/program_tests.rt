@@ -38,12 +38,12 @@ fn files_that_are_interrupted_and_the_name_of_a_store(rt: HostRuntime) -> Result
 // The run ends so, and writes nothing to standard output.
 fn assert_ended(alloc: Global, keys: RandomState, row: &Row) -> Result<(), Fail> {
     let (words, interruptions, status, told) = *row;
-    let place = (words, interruptions);
+    let case = (words, interruptions);
     let around = Around::reading(words, interruptions, keys);
     let (mut output, mut errors) = (Vec::new(alloc), Vec::new(alloc));
     let mut input = b"".as_slice();
     let ended = run(&around, alloc, &mut input, &mut output, &mut errors);
-    assert_equal_at(place, ended, status)?;
-    assert_equal_at(place, output.as_slice(), b"".as_slice())?;
-    assert_equal_at(place, str::from_utf8(errors.as_slice()), Ok(told))
+    assert_equal_at(case, ended, status)?;
+    assert_equal_at(case, output.as_slice(), b"".as_slice())?;
+    assert_equal_at(case, str::from_utf8(errors.as_slice()), Ok(told))
 }

@@ -25,9 +25,9 @@ pub(crate) fn judged(
     verdict_text(alloc, &verdict)
 }
 
-// The verdict on an id over the whole catalogue is this, at a place.
+// The verdict on an id over the whole catalogue is this, in a case.
 fn assert_judged<P: Debug + Copy + Drop>(
-    place: P,
+    case: P,
     alloc: Global,
     lists: &mut ListPublished,
     zone: &Zone,
@@ -35,7 +35,7 @@ fn assert_judged<P: Debug + Copy + Drop>(
     wanted: &str,
 ) -> Result<(), Fail> {
     let text = judged(alloc, lists, zone, &id)?;
-    assert_equal_at((place, id), text.as_str(), wanted)
+    assert_equal_at((case, id), text.as_str(), wanted)
 }
 
 // A judge that is asked for one verdict after the other.
@@ -58,9 +58,9 @@ impl Judge<ListPublished> for OneByOne {
     fn drop_touched(&mut self, _ids: &[Id]) {}
 }
 
-// Whether the statuses of ids, asked for together, are those of their verdicts, at a place.
+// Whether the statuses of ids, asked for together, are those of their verdicts, in a case.
 fn assert_statuses<P: Debug + Drop>(
-    place: P,
+    case: P,
     alloc: Global,
     lists: &mut ListPublished,
     zone: &Zone,
@@ -68,7 +68,7 @@ fn assert_statuses<P: Debug + Drop>(
 ) -> Result<(), Fail> {
     let together = Whole::new().statuses(alloc, lists, zone, ids)?;
     let each = OneByOne.statuses(alloc, lists, zone, ids)?;
-    assert_equal_at(place, together.as_slice(), each.as_slice())
+    assert_equal_at(case, together.as_slice(), each.as_slice())
 }
 
 // The verdict from a frame alone, in print.
@@ -79,7 +79,7 @@ fn planned(alloc: Global, frame: &Frame, zone: &Zone, id: &Id) -> Result<String,
 
 // The status of an id, whose verdict from a frame alone is that over the whole catalogue.
 fn status_by_both<P: Debug + Copy + Drop>(
-    place: P,
+    case: P,
     alloc: Global,
     lists: &mut ListPublished,
     frame: &Frame,
@@ -89,7 +89,7 @@ fn status_by_both<P: Debug + Copy + Drop>(
     let whole = Whole::new().verdict(alloc, lists, zone, id)?;
     let text = planned(alloc, frame, zone, id)?;
     assert_equal_at(
-        (place, *id),
+        (case, *id),
         text.as_str(),
         verdict_text(alloc, &whole)?.as_str(),
     )?;
@@ -98,7 +98,7 @@ fn status_by_both<P: Debug + Copy + Drop>(
 
 // The good ones among all that a frame has.
 fn good_by_both<P: Debug + Copy + Drop>(
-    place: P,
+    case: P,
     alloc: Global,
     lists: &mut ListPublished,
     frame: &Frame,
@@ -106,34 +106,34 @@ fn good_by_both<P: Debug + Copy + Drop>(
 ) -> Result<Vec<Id>, Fail> {
     let mut those: Vec<Id> = Vec::new(alloc);
     for node in frame.nodes() {
-        if status_by_both(place, alloc, lists, frame, zone, &node.id)? == Status::Good {
+        if status_by_both(case, alloc, lists, frame, zone, &node.id)? == Status::Good {
             those.push(node.id)?;
         }
     }
     Ok(those)
 }
 
-// The good ones in a frame are these, at a place.
+// The good ones in a frame are these, in a case.
 fn assert_good<P: Debug + Drop>(
-    place: P,
+    case: P,
     alloc: Global,
     frame: &Frame,
     zone: &Zone,
     those: &[Id],
 ) -> Result<(), Fail> {
     let good = good(alloc, frame, zone)?;
-    assert_equal_at(place, good.as_slice(), those)
+    assert_equal_at(case, good.as_slice(), those)
 }
 
-// Whether the verdicts on all that an id reaches, from its frame alone, are those over the whole catalogue, at a place.
+// Whether the verdicts on all that an id reaches, from its frame alone, are those over the whole catalogue, in a case.
 fn assert_as_whole<P: Debug + Copy + Drop>(
-    place: P,
+    case: P,
     alloc: Global,
     lists: &mut ListPublished,
     zone: &Zone,
     id: &Id,
 ) -> Result<(), Fail> {
     let frame = frame(alloc, lists, id)?;
-    let those = good_by_both(place, alloc, lists, &frame, zone)?;
-    assert_good((place, *id), alloc, &frame, zone, &those)
+    let those = good_by_both(case, alloc, lists, &frame, zone)?;
+    assert_good((case, *id), alloc, &frame, zone, &those)
 }

@@ -1,5 +1,5 @@
-//! Verdicts on places: worked cases, and hard shapes at length.
-use requisites::{NoMemory, Nodes, Rows, Verdict, resolve, verdict_of_place};
+//! Verdicts on nodes: worked cases, and hard shapes at length.
+use requisites::{NoMemory, Nodes, Rows, Verdict, resolve, verdict_of_node};
 use std::alloc::Global;
 use std::test::Fail;
 use testing::assert_equal_at;
@@ -25,7 +25,7 @@ fn rows(alloc: Global, links: &[(usize, usize)], len: usize) -> Result<Rows, NoM
     Ok(rows)
 }
 
-// All places are candidates, and none is there.
+// All nodes are candidates, and none is there.
 fn nodes(
     alloc: Global,
     len: usize,
@@ -42,39 +42,39 @@ fn nodes(
     })
 }
 
-fn verdict(alloc: Global, nodes: &Nodes, place: usize) -> Result<Verdict, NoMemory> {
+fn verdict(alloc: Global, nodes: &Nodes, node: usize) -> Result<Verdict, NoMemory> {
     let resolution = resolve(alloc, nodes)?;
-    verdict_of_place(alloc, nodes, &resolution, place)
+    verdict_of_node(alloc, nodes, &resolution, node)
 }
 
-fn plan(alloc: Global, nodes: &Nodes, place: usize) -> Result<Option<Vec<usize>>, NoMemory> {
-    match verdict(alloc, nodes, place)? {
+fn plan(alloc: Global, nodes: &Nodes, node: usize) -> Result<Option<Vec<usize>>, NoMemory> {
+    match verdict(alloc, nodes, node)? {
         Verdict::Good(plan) => Ok(Some(plan)),
         Verdict::Held(_) | Verdict::Lack => Ok(None),
     }
 }
 
-// A place is good, with this plan.
-fn assert_plan(alloc: Global, nodes: &Nodes, place: usize, wanted: &[usize]) -> Result<(), Fail> {
-    let plan = plan(alloc, nodes, place)?.ok_or("a plan")?;
-    assert_equal_at(place, plan.as_slice(), wanted)
+// A node is good, with this plan.
+fn assert_plan(alloc: Global, nodes: &Nodes, node: usize, wanted: &[usize]) -> Result<(), Fail> {
+    let plan = plan(alloc, nodes, node)?.ok_or("a plan")?;
+    assert_equal_at(node, plan.as_slice(), wanted)
 }
 
-// A place is good, with a plan that has all.
-fn assert_all(alloc: Global, nodes: &Nodes, place: usize) -> Result<(), Fail> {
-    let plan = plan(alloc, nodes, place)?.ok_or("a plan")?;
-    assert_equal_at(place, plan.len(), LONG)
+// A node is good, with a plan that has all.
+fn assert_all(alloc: Global, nodes: &Nodes, node: usize) -> Result<(), Fail> {
+    let plan = plan(alloc, nodes, node)?.ok_or("a plan")?;
+    assert_equal_at(node, plan.len(), LONG)
 }
 
-fn held_for(alloc: Global, nodes: &Nodes, place: usize) -> Result<Option<usize>, NoMemory> {
-    match verdict(alloc, nodes, place)? {
+fn held_for(alloc: Global, nodes: &Nodes, node: usize) -> Result<Option<usize>, NoMemory> {
+    match verdict(alloc, nodes, node)? {
         Verdict::Held(need) => Ok(Some(need)),
         Verdict::Good(_) | Verdict::Lack => Ok(None),
     }
 }
 
-fn assert_held(alloc: Global, nodes: &Nodes, place: usize, need: usize) -> Result<(), Fail> {
-    assert_equal_at(place, held_for(alloc, nodes, place)?, Some(need))
+fn assert_held(alloc: Global, nodes: &Nodes, node: usize, need: usize) -> Result<(), Fail> {
+    assert_equal_at(node, held_for(alloc, nodes, node)?, Some(need))
 }
 
 #[test]
@@ -104,11 +104,11 @@ fn the_blocked_need_is_the_least_that_nothing_good_gives(rt: HostRuntime) -> Res
     Ok(())
 }
 
-// Links from each place to the next, and what the last needs or supersedes.
+// Links from each node to the next, and what the last needs or supersedes.
 fn chain(alloc: Global, last: usize) -> Result<Vec<(usize, usize)>, NoMemory> {
     let mut links = Vec::with_capacity(alloc, LONG)?;
-    for place in 1..LONG {
-        links.push((place - 1, place))?;
+    for node in 1..LONG {
+        links.push((node - 1, node))?;
     }
     links.push((LONG - 1, last))?;
     Ok(links)
@@ -136,20 +136,20 @@ fn superseding_in_a_row(rt: HostRuntime) -> Result<(), Fail> {
     assert_plan(alloc, &nodes, 0, &[0, LONG - 1])
 }
 
-// Links from all places but the last to the last.
+// Links from all nodes but the last to the last.
 fn to_last(alloc: Global) -> Result<Vec<(usize, usize)>, NoMemory> {
     let mut links = Vec::with_capacity(alloc, LONG)?;
-    for place in 0..LONG - 1 {
-        links.push((place, LONG - 1))?;
+    for node in 0..LONG - 1 {
+        links.push((node, LONG - 1))?;
     }
     Ok(links)
 }
 
-// Links from the last place to all others.
+// Links from the last node to all others.
 fn from_last(alloc: Global) -> Result<Vec<(usize, usize)>, NoMemory> {
     let mut links = Vec::with_capacity(alloc, LONG)?;
-    for place in 0..LONG - 1 {
-        links.push((LONG - 1, place))?;
+    for node in 0..LONG - 1 {
+        links.push((LONG - 1, node))?;
     }
     Ok(links)
 }
@@ -177,7 +177,7 @@ fn one_that_all_need_and_that_is_held(rt: HostRuntime) -> Result<(), Fail> {
     assert_held(alloc, &nodes, 0, LONG - 1)
 }
 
-// Two places supersede each other, and each needs the first of the next two.
+// Two nodes supersede each other, and each needs the first of the next two.
 fn put_pair(
     needs: &mut Vec<(usize, usize)>,
     supersedes: &mut Vec<(usize, usize)>,

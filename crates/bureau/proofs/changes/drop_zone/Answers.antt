@@ -13,19 +13,19 @@ pub returns-in-Err-clause-outcome : goal.returns-in-Err-clause-outcome
 returns-in-Err-clause-outcome g c =
     out_of_turn (Client c.args.client.now) (call.drop_zone c.args.number c.args.zone.now) c.args.number c.in_ok-number.field-0 c.in-Err.reply
     (λ this. of_zone (zone_named c.args.zone.now (this.zones c.args.client.now)) (λ table. accepted (zone_dropped c.args.zone.now) (zone_dropped_text c.args.zone.now)))
-    (λ this. refl) c.in_ok-number.ensures.turn c.in-Err.is
+    (λ this. refl) c.in_ok-number.ensures.order c.in-Err.is
 
 pub returns-then-not-branch-clause-outcome : goal.returns-then-not-branch-clause-outcome
 returns-then-not-branch-clause-outcome g c =
     answered_after g.met.S.Store.tables_lawful (Client c.args.client.now) (call.drop_zone c.args.number c.args.zone.now) c.args.number c.in_ok-number.field-0 c.in-Ok.number c.in_ok-not_found.field-0
     (λ this. of_zone (zone_named c.args.zone.now (this.zones c.args.client.now)) (λ table. accepted (zone_dropped c.args.zone.now) (zone_dropped_text c.args.zone.now)))
-    (λ this. refl) c.in_ok-number.ensures.reads.keeps c.in_ok-is_zone.ensures.reads.keeps c.in_ok-number.ensures.turn c.in-Ok.is c.in_ok-is_zone.ensures.there (λ this there. zone_missing (zone_named c.args.zone.now (this.zones c.args.client.now)) _ (sym there ∙ c.if-not-branch.true) ∙ ap answered (sym c.in_ok-not_found.ensures))
+    (λ this. refl) c.in_ok-number.ensures.reads.keeps c.in_ok-is_zone.ensures.reads.keeps c.in_ok-number.ensures.order c.in-Ok.is c.in_ok-is_zone.ensures.there (λ this there. zone_missing (zone_named c.args.zone.now (this.zones c.args.client.now)) _ (sym there ∙ c.if-not-branch.true) ∙ ap answered (sym c.in_ok-not_found.ensures))
 
 pub returns-clause-outcome : goal.returns-clause-outcome
 returns-clause-outcome g c =
     accepted_after g.met.S.Store.tables_lawful (Client c.args.client.now) (call.drop_zone c.args.number c.args.zone.now) c.args.number c.in_ok-number.field-0 (record { number = c.in-Ok.number; reply = c.in_ok-reply.reply; effect = ZoneDropped c.args.client.now c.args.zone.now })
     (λ this. of_zone (zone_named c.args.zone.now (this.zones c.args.client.now)) (λ table. accepted (zone_dropped c.args.zone.now) (zone_dropped_text c.args.zone.now)))
-    (λ this. refl) c.in_ok-number.ensures.reads.keeps c.in_ok-is_zone.ensures.reads.keeps c.in_ok-number.ensures.turn c.in-Ok.is refl c.in_ok-is_zone.ensures.there (λ this there. (
+    (λ this. refl) c.in_ok-number.ensures.reads.keeps c.in_ok-is_zone.ensures.reads.keeps c.in_ok-number.ensures.order c.in-Ok.is refl c.in_ok-is_zone.ensures.there (λ this there. (
       zone_there (zone_named c.args.zone.now (this.zones c.args.client.now)) _ (sym there ∙ c.if-not-branch.false) ∙ ap (λ text. accepted (zone_dropped c.args.zone.now) text) (sym c.in_ok-reply.ensures),
       (sym there ∙ c.if-not-branch.false, λ order. tt),
     ))

@@ -25,14 +25,14 @@ pub returns-in-Err-clause-outcome : goal.returns-in-Err-clause-outcome
 returns-in-Err-clause-outcome g c =
     out_of_turn (Publisher) (call.publish c.args.number c.args.body.now) c.args.number c.in_ok-number.field-0 c.in-Err.reply
     (λ this. said (changes_in c.args.body.now) (λ changes. accepted (publication changes) (publication_text changes)))
-    (λ this. refl) c.in_ok-number.ensures.turn c.in-Err.is
+    (λ this. refl) c.in_ok-number.ensures.order c.in-Err.is
 
 pub returns-in-Err-changes_in-clause-outcome : goal.returns-in-Err-changes_in-clause-outcome
 returns-in-Err-changes_in-clause-outcome g c =
     let refusal = c.in_ok-refusal-in-Err-changes_in in
     answered_in_turn (Publisher) (call.publish c.args.number c.args.body.now) c.args.number c.in_ok-number.field-0 c.in-Ok.number refusal.field-0
     (λ this. said (changes_in c.args.body.now) (λ changes. accepted (publication changes) (publication_text changes)))
-    (λ this. refl) c.in_ok-number.ensures.turn c.in-Ok.is
+    (λ this. refl) c.in_ok-number.ensures.order c.in-Ok.is
     (record { told = λ ours clean this stands. said_not (changes_in c.args.body.now) _ c.in-Err-changes_in.fault refusal.field-0 c.in-Err-changes_in.ensures.fault refusal.ensures.input refusal.ensures.reply })
 
 pub returns-clause-outcome : goal.returns-clause-outcome
@@ -43,7 +43,7 @@ returns-clause-outcome g c =
     let changes = c.in-Ok-changes_in.changes.items in
     accepted_in_turn (Publisher) (call.publish c.args.number c.args.body.now) c.args.number c.in_ok-number.field-0 (record { number = c.in-Ok.number; reply = c.in_ok-reply.reply; effect = Publication c.in-Ok-changes_in.changes c.in_ok-touched.touched })
     (λ this. said (changes_in c.args.body.now) (λ changes. accepted (publication changes) (publication_text changes)))
-    (λ this. refl) (told_sooner c.in_ok-number.ensures.turn later) c.in-Ok.is refl
+    (λ this. refl) (told_sooner c.in_ok-number.ensures.order later) c.in-Ok.is refl
     (told_so (told_later sooner later (shown_tells law.shows_content c.in_ok-touched.ensures.touched)) (λ this touched. (
       said_so (changes_in c.args.body.now) _ changes c.in-Ok-changes_in.ensures.changes
           ∙ ap (λ text. accepted (publication changes) text) (sym (c.in_ok-reply.ensures ∙ ap (publication_text) c.deref.ensures.value)),

@@ -16,13 +16,13 @@ pub returns-in-Err-clause-outcome : goal.returns-in-Err-clause-outcome
 returns-in-Err-clause-outcome g c =
     out_of_turn (Client c.args.client.now) (call.put_patterns c.args.number c.args.zone.now c.args.body.now) c.args.number c.in_ok-number.field-0 c.in-Err.reply
     (λ this. of_zone (zone_named c.args.zone.now (this.zones c.args.client.now)) (λ table. said (patterns_in c.args.body.now) (λ patterns. accepted (patterns_put c.args.zone.now patterns) (patterns_text c.args.zone.now patterns))))
-    (λ this. refl) c.in_ok-number.ensures.turn c.in-Err.is
+    (λ this. refl) c.in_ok-number.ensures.order c.in-Err.is
 
 pub returns-then-not-branch-clause-outcome : goal.returns-then-not-branch-clause-outcome
 returns-then-not-branch-clause-outcome g c =
     answered_after g.met.S.Store.tables_lawful (Client c.args.client.now) (call.put_patterns c.args.number c.args.zone.now c.args.body.now) c.args.number c.in_ok-number.field-0 c.in-Ok.number c.in_ok-not_found.field-0
     (λ this. of_zone (zone_named c.args.zone.now (this.zones c.args.client.now)) (λ table. said (patterns_in c.args.body.now) (λ patterns. accepted (patterns_put c.args.zone.now patterns) (patterns_text c.args.zone.now patterns))))
-    (λ this. refl) c.in_ok-number.ensures.reads.keeps c.in_ok-is_zone.ensures.reads.keeps c.in_ok-number.ensures.turn c.in-Ok.is c.in_ok-is_zone.ensures.there (λ this there.
+    (λ this. refl) c.in_ok-number.ensures.reads.keeps c.in_ok-is_zone.ensures.reads.keeps c.in_ok-number.ensures.order c.in-Ok.is c.in_ok-is_zone.ensures.there (λ this there.
     zone_missing (zone_named c.args.zone.now (this.zones c.args.client.now)) _ (sym there ∙ c.if-not-branch.true) ∙ ap answered (sym c.in_ok-not_found.ensures))
 
 pub returns-in-Err-patterns-clause-outcome : goal.returns-in-Err-patterns-clause-outcome
@@ -31,7 +31,7 @@ returns-in-Err-patterns-clause-outcome g c =
     let refusal = c.in_ok-refusal-in-Err-patterns in
     answered_after g.met.S.Store.tables_lawful (Client c.args.client.now) (call.put_patterns c.args.number c.args.zone.now c.args.body.now) c.args.number c.in_ok-number.field-0 c.in-Ok.number refusal.field-0
     (λ this. of_zone (zone_named c.args.zone.now (this.zones c.args.client.now)) (λ table. said (patterns_in c.args.body.now) (λ patterns. accepted (patterns_put c.args.zone.now patterns) (patterns_text c.args.zone.now patterns))))
-    (λ this. refl) c.in_ok-number.ensures.reads.keeps c.in_ok-is_zone.ensures.reads.keeps c.in_ok-number.ensures.turn c.in-Ok.is c.in_ok-is_zone.ensures.there (λ this there.
+    (λ this. refl) c.in_ok-number.ensures.reads.keeps c.in_ok-is_zone.ensures.reads.keeps c.in_ok-number.ensures.order c.in-Ok.is c.in_ok-is_zone.ensures.there (λ this there.
     zone_there (zone_named c.args.zone.now (this.zones c.args.client.now)) _ (sym there ∙ c.if-not-branch.false)
     ∙ said_not (patterns_in c.args.body.now) _ c.from.result refusal.field-0 told refusal.ensures.input refusal.ensures.reply)
 
@@ -40,7 +40,7 @@ returns-clause-outcome g c =
     let patterns = c.in-Ok-patterns.patterns.items in
     accepted_after g.met.S.Store.tables_lawful (Client c.args.client.now) (call.put_patterns c.args.number c.args.zone.now c.args.body.now) c.args.number c.in_ok-number.field-0 (record { number = c.in-Ok.number; reply = c.in_ok-reply.reply; effect = PatternsPut c.args.client.now c.args.zone.now c.in-Ok-patterns.patterns })
     (λ this. of_zone (zone_named c.args.zone.now (this.zones c.args.client.now)) (λ table. said (patterns_in c.args.body.now) (λ patterns. accepted (patterns_put c.args.zone.now patterns) (patterns_text c.args.zone.now patterns))))
-    (λ this. refl) c.in_ok-number.ensures.reads.keeps c.in_ok-is_zone.ensures.reads.keeps c.in_ok-number.ensures.turn c.in-Ok.is refl c.in_ok-is_zone.ensures.there (λ this there. (
+    (λ this. refl) c.in_ok-number.ensures.reads.keeps c.in_ok-is_zone.ensures.reads.keeps c.in_ok-number.ensures.order c.in-Ok.is refl c.in_ok-is_zone.ensures.there (λ this there. (
       zone_there (zone_named c.args.zone.now (this.zones c.args.client.now)) _ (sym there ∙ c.if-not-branch.false)
           ∙ said_so (patterns_in c.args.body.now) _ patterns (ap list_said c.in-Ok-patterns.ensures.rows)
           ∙ ap (λ text. accepted (patterns_put c.args.zone.now patterns) text) (sym (c.in_ok-reply.ensures ∙ ap (patterns_text c.args.zone.now) c.deref.ensures.value)),

@@ -15,7 +15,7 @@ pub returns-in-Err-clause-outcome : goal.returns-in-Err-clause-outcome
 returns-in-Err-clause-outcome g c =
     out_of_turn (Client c.args.client.now) (call.put_received c.args.number c.args.body.now) c.args.number c.in_ok-number.field-0 c.in-Err.reply
     (λ this. said (ids_in c.args.body.now) (λ ids. accepted (received_put ids) (received_text ids)))
-    (λ this. refl) c.in_ok-number.ensures.turn c.in-Err.is
+    (λ this. refl) c.in_ok-number.ensures.order c.in-Err.is
 
 pub returns-in-Err-received_rows-clause-outcome : goal.returns-in-Err-received_rows-clause-outcome
 returns-in-Err-received_rows-clause-outcome g c =
@@ -23,7 +23,7 @@ returns-in-Err-received_rows-clause-outcome g c =
     let refusal = c.in_ok-refusal-in-Err-received_rows in
     answered_in_turn (Client c.args.client.now) (call.put_received c.args.number c.args.body.now) c.args.number c.in_ok-number.field-0 c.in-Ok.number refusal.field-0
     (λ this. said (ids_in c.args.body.now) (λ ids. accepted (received_put ids) (received_text ids)))
-    (λ this. refl) c.in_ok-number.ensures.turn c.in-Ok.is
+    (λ this. refl) c.in_ok-number.ensures.order c.in-Ok.is
     (record { told = λ ours clean this stands. said_not (ids_in c.args.body.now) _ c.from.result refusal.field-0 told refusal.ensures.input refusal.ensures.reply })
 
 pub returns-clause-outcome : goal.returns-clause-outcome
@@ -31,7 +31,7 @@ returns-clause-outcome g c =
     let ids = c.in-Ok-received_rows.ids.items in
     accepted_in_turn (Client c.args.client.now) (call.put_received c.args.number c.args.body.now) c.args.number c.in_ok-number.field-0 (record { number = c.in-Ok.number; reply = c.in_ok-reply.reply; effect = ReceivedPut c.args.client.now c.in-Ok-received_rows.ids })
     (λ this. said (ids_in c.args.body.now) (λ ids. accepted (received_put ids) (received_text ids)))
-    (λ this. refl) c.in_ok-number.ensures.turn c.in-Ok.is refl
+    (λ this. refl) c.in_ok-number.ensures.order c.in-Ok.is refl
     (record {
       told = λ ours clean this stands. (
         said_so (ids_in c.args.body.now) _ ids (ap list_said c.in-Ok-received_rows.ensures.rows)

@@ -16,7 +16,7 @@ pub returns-in-Err-clause-outcome : goal.returns-in-Err-clause-outcome
 returns-in-Err-clause-outcome g c =
     out_of_turn (Client c.args.client.now) (call.put_zone c.args.number c.args.zone.now c.args.body.now) c.args.number c.in_ok-number.field-0 c.in-Err.reply
     (λ this. put_of_zone (this.zones c.args.client.now) c.args.zone.now c.args.body.now)
-    (λ this. refl) c.in_ok-number.ensures.turn c.in-Err.is
+    (λ this. refl) c.in_ok-number.ensures.order c.in-Err.is
 
 pub returns-in-Err-zone_rows-clause-outcome : goal.returns-in-Err-zone_rows-clause-outcome
 returns-in-Err-zone_rows-clause-outcome g c =
@@ -24,7 +24,7 @@ returns-in-Err-zone_rows-clause-outcome g c =
     let refusal = c.in_ok-refusal-in-Err-zone_rows in
     answered_in_turn (Client c.args.client.now) (call.put_zone c.args.number c.args.zone.now c.args.body.now) c.args.number c.in_ok-number.field-0 c.in-Ok.number refusal.field-0
     (λ this. put_of_zone (this.zones c.args.client.now) c.args.zone.now c.args.body.now)
-    (λ this. refl) c.in_ok-number.ensures.turn c.in-Ok.is
+    (λ this. refl) c.in_ok-number.ensures.order c.in-Ok.is
     (record { told = λ ours clean this stands. said_not (rows_in c.args.body.now) _ c.from.result refusal.field-0 told refusal.ensures.input refusal.ensures.reply })
 
 pub returns-then-not-branch-clause-outcome : goal.returns-then-not-branch-clause-outcome
@@ -33,7 +33,7 @@ returns-then-not-branch-clause-outcome g c =
     let zone = c.args.zone.now in
     answered_after g.met.S.Store.tables_lawful (Client c.args.client.now) (call.put_zone c.args.number c.args.zone.now c.args.body.now) c.args.number c.in_ok-number.field-0 c.in-Ok.number c.in_ok-plain.field-0
     (λ this. put_of_zone (this.zones c.args.client.now) c.args.zone.now c.args.body.now)
-    (λ this. refl) c.in_ok-number.ensures.reads.keeps c.in_ok-has_room_for.ensures.reads.keeps c.in_ok-number.ensures.turn c.in-Ok.is c.in_ok-has_room_for.ensures.room (λ this room.
+    (λ this. refl) c.in_ok-number.ensures.reads.keeps c.in_ok-has_room_for.ensures.reads.keeps c.in_ok-number.ensures.order c.in-Ok.is c.in_ok-has_room_for.ensures.room (λ this room.
     said_so (rows_in c.args.body.now) _ rows (ap list_said c.in-Ok-zone_rows.ensures.rows)
     ∙ ap (λ b. if b then accepted (zone_put zone rows) (zone_put_text zone rows) else refused (codes "FAULT 61\n")) (sym room ∙ c.if-not-branch.true)
     ∙ ap answered (sym c.in_ok-plain.ensures))
@@ -44,7 +44,7 @@ returns-clause-outcome g c =
     let zone = c.args.zone.now in
     accepted_after g.met.S.Store.tables_lawful (Client c.args.client.now) (call.put_zone c.args.number c.args.zone.now c.args.body.now) c.args.number c.in_ok-number.field-0 (record { number = c.in-Ok.number; reply = c.in_ok-reply.reply; effect = ZonePut c.args.client.now c.args.zone.now c.in-Ok-zone_rows.rows })
     (λ this. put_of_zone (this.zones c.args.client.now) c.args.zone.now c.args.body.now)
-    (λ this. refl) c.in_ok-number.ensures.reads.keeps c.in_ok-has_room_for.ensures.reads.keeps c.in_ok-number.ensures.turn c.in-Ok.is refl c.in_ok-has_room_for.ensures.room (λ this room. (
+    (λ this. refl) c.in_ok-number.ensures.reads.keeps c.in_ok-has_room_for.ensures.reads.keeps c.in_ok-number.ensures.order c.in-Ok.is refl c.in_ok-has_room_for.ensures.room (λ this room. (
       said_so (rows_in c.args.body.now) _ rows (ap list_said c.in-Ok-zone_rows.ensures.rows)
           ∙ ap (λ b. if b then accepted (zone_put zone rows) (zone_put_text zone rows) else refused (codes "FAULT 61\n")) (sym room ∙ c.if-not-branch.false)
           ∙ ap (λ text. accepted (zone_put zone rows) text) (sym (c.in_ok-reply.ensures ∙ ap (zone_put_text zone) c.deref.ensures.value)),

@@ -4,7 +4,7 @@ use Rattle.bureau.specs.Call.{Call}
 use Rattle.bureau.specs.Calls.{call_as}
 use Rattle.bureau.specs.Replies.{reply_as}
 use Rattle.bureau_http.specs.Asked.{call_of, what_of}
-use Rattle.requests.specs.Turn.{body_in, parts_in}
+use Rattle.requests.specs.NextRequest.{body_in, parts_in}
 use Rattle.bureau_http.proofs.AskingFacts.{among, call_run, looked_at, made}
 use Rattle.bureau_http.proofs.asking.answer_to.Goals as goal
 
@@ -20,7 +20,7 @@ returns-in-Ok-action-clause-told g c = record {
       let is_caller = sym c.in-Some-found.is ∙ c.in-Ok.ensures.caller.told ours before this stands in
       let is_action = sym c.in-Ok-action.is ∙ c.action-action.ensures.action in
       let looked = looked_at view c.args.desk.now c.caller_of.new.self this keeps ours before stands in
-      let step = c.answer.ensures.turn_made.told (keeps.goes.ours ours before) clean this looked.stands (among this.callers _ _ is_caller) in
+      let step = c.answer.ensures.call_made.told (keeps.goes.ours ours before) clean this looked.stands (among this.callers _ _ is_caller) in
       let call = c.call_of-call.ensures ∙ ap (call_of c.in-Ok-action.action c.number.result) c.body.ensures in
       let asked : Caller × Call = (c.in-Some-found.caller, call_as c.call_of-call.result) in
       let what : what_of this.callers parts body ≡ Ok asked = made this.callers parts body c.in-Some.token.now c.in-Some-found.caller c.in-Ok-action.action c.number.result is_token is_caller is_action c.number.ensures

@@ -8,4 +8,4 @@ returns-in-Ok-clause-served c =
     let store = c.new-bureau.result.store in
     let same : store ≡ c.args.store = ap (λ parts. parts.store) c.new-bureau.ensures in
     let served = c.in-Ok.ensures.served.told (subst IsOurs (sym same) c.requires) tt (tables_of store) (refl, tt) in
-    from_store _ _ _ _ same (untold _ (λ this next turns run. run.run) _ _ _ served)
+    from_store _ _ _ _ same (untold _ (λ this next calls run. run.run) _ _ _ served)

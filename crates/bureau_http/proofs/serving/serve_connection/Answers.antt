@@ -20,7 +20,7 @@ returns-in_err-serve_next-clause-served g c =
     (IsServed (IsKeptRun view old new) this (g.R.Read.remaining c.serve_next.new.reader) (g.W.Write.contents c.args.writer.now) (g.W.Write.contents c.serve_next.new.writer) r)))
     c.from_residual.result fault fault (err_from_is_err_and c.from_residual.result c.from_residual.ensures.1) refl
     (failed_served g.D.Desk.tables_view c.args.desk.now c.loop-intake.desk c.serve_next.new.desk c.loop-intake.invariant.goes c.serve_next.ensures.goes
-    (acts_once c.repeats.ensures.once c.repeats.ensures.stale) c.loop-intake.place c.serve_next.new.intake
+    (acts_once c.repeats.ensures.once c.repeats.ensures.stale) c.loop-intake.ordinal c.serve_next.new.intake
     (g.R.Read.remaining c.args.reader.now) (prepend_known c.loop-intake.intake (g.R.Read.remaining c.loop-intake.reader)) (g.R.Read.remaining c.serve_next.new.reader)
     (g.W.Write.contents c.args.writer.now) (g.W.Write.contents c.loop-intake.writer) (g.W.Write.contents c.serve_next.new.writer)
     c.serve_next.result c.loop-intake.invariant.so_far c.serve_next.ensures.next
@@ -30,16 +30,16 @@ pub returns-in-CleanEnd-clause-served : goal.returns-in-CleanEnd-clause-served
 returns-in-CleanEnd-clause-served g c =
     let at = c.loop-intake.invariant.first in
     ended_served g.D.Desk.tables_view c.args.desk.now c.loop-intake.desk c.serve_next.new.desk c.loop-intake.invariant.goes c.serve_next.ensures.goes
-    (acts_once c.repeats.ensures.once c.repeats.ensures.stale) c.loop-intake.place c.serve_next.new.intake
+    (acts_once c.repeats.ensures.once c.repeats.ensures.stale) c.loop-intake.ordinal c.serve_next.new.intake
     (g.R.Read.remaining c.args.reader.now) (prepend_known c.loop-intake.intake (g.R.Read.remaining c.loop-intake.reader)) (g.R.Read.remaining c.serve_next.new.reader)
     (g.W.Write.contents c.args.writer.now) (g.W.Write.contents c.loop-intake.writer) (g.W.Write.contents c.serve_next.new.writer)
     c.serve_next.result c.loop-intake.invariant.so_far c.serve_next.ensures.next
-    (c.loop-intake.place - 1) (omega arith) (c.in_ok-serve_next.was ∙ ap (λ s. Ok s) c.in-CleanEnd.is)
+    (c.loop-intake.ordinal - 1) (omega arith) (c.in_ok-serve_next.was ∙ ap (λ s. Ok s) c.in-CleanEnd.is)
 
 pub returns-in-Ends-clause-served : goal.returns-in-Ends-clause-served
 returns-in-Ends-clause-served g c =
     last_served g.D.Desk.tables_view c.args.desk.now c.loop-intake.desk c.serve_next.new.desk c.loop-intake.invariant.goes c.serve_next.ensures.goes
-    (acts_once c.repeats.ensures.once c.repeats.ensures.stale) c.loop-intake.place c.serve_next.new.intake
+    (acts_once c.repeats.ensures.once c.repeats.ensures.stale) c.loop-intake.ordinal c.serve_next.new.intake
     (g.R.Read.remaining c.args.reader.now) (prepend_known c.loop-intake.intake (g.R.Read.remaining c.loop-intake.reader)) (g.R.Read.remaining c.serve_next.new.reader)
     (g.W.Write.contents c.args.writer.now) (g.W.Write.contents c.loop-intake.writer) (g.W.Write.contents c.serve_next.new.writer)
     c.serve_next.result c.loop-intake.invariant.so_far c.serve_next.ensures.next
@@ -53,7 +53,7 @@ loop-intake-init g c =
       goes = record { clean = λ h. h; ours = λ h _. h; failures_rise = omega arith };
       first = omega arith;
       last = omega arith;
-      ran = record { told = λ ours clean this stand. record { turns = []; closing = this; run = (refl, idle view desk this stand) } };
+      ran = record { told = λ ours clean this stand. record { calls = []; closing = this; run = (refl, idle view desk this stand) } };
       so_far = record {
         told = λ ours clean this stand.
             nothing_yet (IsKeptRun view desk desk) this (prepend_known c.new-intake.result (g.R.Read.remaining c.args.reader.now)) (g.R.Read.remaining c.args.reader.now) (g.W.Write.contents c.args.writer.now)
@@ -72,7 +72,7 @@ loop-intake-preserved g c =
       ran = ran_next g.D.Desk.tables_view c.args.desk.now c.loop-intake.desk c.serve_next.new.desk c.loop-intake.invariant.goes c.serve_next.ensures.goes
           c.loop-intake.invariant.ran c.serve_next.ensures.ran;
       so_far = one_served g.D.Desk.tables_view c.args.desk.now c.loop-intake.desk c.serve_next.new.desk c.loop-intake.invariant.goes c.serve_next.ensures.goes
-          (acts_once c.repeats.ensures.once c.repeats.ensures.stale) c.loop-intake.place c.serve_next.new.intake
+          (acts_once c.repeats.ensures.once c.repeats.ensures.stale) c.loop-intake.ordinal c.serve_next.new.intake
           (g.R.Read.remaining c.args.reader.now) (prepend_known c.loop-intake.intake (g.R.Read.remaining c.loop-intake.reader)) (g.R.Read.remaining c.serve_next.new.reader)
           (g.W.Write.contents c.args.writer.now) (g.W.Write.contents c.loop-intake.writer) (g.W.Write.contents c.serve_next.new.writer)
           c.serve_next.result c.loop-intake.invariant.so_far c.serve_next.ensures.next

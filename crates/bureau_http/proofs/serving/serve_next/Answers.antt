@@ -1,7 +1,7 @@
 use Rattle.std.proofs.Common.{refl, ap, ◌∙◌, subst, ◌||◌, nat_le, drop, ◌++◌}
 use Rattle.std.specs.Io.KnownBytes.{Appends}
 use Rattle.std.proofs.lemmas.Result.{err_from_is_err_and}
-use Rattle.requests.specs.Turn.{IsNext, IsReadAs, body_in, parts_in, request_len}
+use Rattle.requests.specs.NextRequest.{IsNext, IsReadAs, body_in, parts_in, request_len}
 use Rattle.requests.specs.Order.{is_bare}
 use Rattle.std.proofs.KnownBytes.{Appends-nil}
 use Rattle.bureau.proofs.KeptFacts.{idle}
@@ -18,54 +18,54 @@ pub returns-in_err-write-in-Refused-clause-next : goal.returns-in_err-write-in-R
 returns-in_err-write-in-Refused-clause-next g c = record {
   told = λ ours clean this stands.
       let failed = c.in_err-write-in-Refused.ensures.err in
-      map_some _ c.in_ok-read_turn.ensures.turn (λ bytes read.
-      let turn = subst (λ t. IsReadAs IsNext c.read_turn.new.intake (g.R.Read.remaining c.read_turn.new.reader) t bytes) c.in-Refused.is read in
-      exit_as (λ r. Serves (IsKeptRun g.D.Desk.tables_view c.args.desk.now c.args.desk.now) this c.args.place c.read_turn.new.intake (g.R.Read.remaining c.read_turn.new.reader) (g.W.Write.contents c.args.writer.now) (g.W.Write.contents c.write.new.writer) r bytes)
+      map_some _ c.in_ok-read_next.ensures.next (λ bytes read.
+      let as_read = subst (λ t. IsReadAs IsNext c.read_next.new.intake (g.R.Read.remaining c.read_next.new.reader) t bytes) c.in-Refused.is read in
+      exit_as (λ r. Serves (IsKeptRun g.D.Desk.tables_view c.args.desk.now c.args.desk.now) this c.args.ordinal c.read_next.new.intake (g.R.Read.remaining c.read_next.new.reader) (g.W.Write.contents c.args.writer.now) (g.W.Write.contents c.write.new.writer) r bytes)
       c.from_residual-in_err-write-in-Refused.result c.in_err-write-in-Refused.field-0.0 Write
       (err_from_is_err_and c.from_residual-in_err-write-in-Refused.result c.from_residual-in_err-write-in-Refused.ensures.1) failed.0
-      (also_asked _ this c.args.place bytes _ (head_refused (IsKeptRun g.D.Desk.tables_view c.args.desk.now c.args.desk.now) this c.args.place c.in-Refused.refused.refusal c.in-Refused.refused.is_bare bytes
-      (AppendsFront (g.W.Write.contents c.args.writer.now) (g.W.Write.contents c.write.new.writer)) (refl, idle g.D.Desk.tables_view c.args.desk.now this stands) turn.next failed.1)));
+      (also_asked _ this c.args.ordinal bytes _ (head_refused (IsKeptRun g.D.Desk.tables_view c.args.desk.now c.args.desk.now) this c.args.ordinal c.in-Refused.refused.refusal c.in-Refused.refused.is_bare bytes
+      (AppendsFront (g.W.Write.contents c.args.writer.now) (g.W.Write.contents c.write.new.writer)) (refl, idle g.D.Desk.tables_view c.args.desk.now this stands) as_read.next failed.1)));
 }
 
 pub returns-in_ok-write-in-Refused-clause-next : goal.returns-in_ok-write-in-Refused-clause-next
 returns-in_ok-write-in-Refused-clause-next g c = record {
   told = λ ours clean this stands.
-      map_some _ c.in_ok-read_turn.ensures.turn (λ bytes read.
-      let turn = subst (λ t. IsReadAs IsNext c.read_turn.new.intake (g.R.Read.remaining c.read_turn.new.reader) t bytes) c.in-Refused.is read in
-      head_refused (IsKeptRun g.D.Desk.tables_view c.args.desk.now c.args.desk.now) this c.args.place c.in-Refused.refused.refusal c.in-Refused.refused.is_bare bytes
-      (Appends (g.W.Write.contents c.args.writer.now) (g.W.Write.contents c.write.new.writer)) (refl, idle g.D.Desk.tables_view c.args.desk.now this stands) turn.next c.in_ok-write-in-Refused.ensures.ok);
+      map_some _ c.in_ok-read_next.ensures.next (λ bytes read.
+      let as_read = subst (λ t. IsReadAs IsNext c.read_next.new.intake (g.R.Read.remaining c.read_next.new.reader) t bytes) c.in-Refused.is read in
+      head_refused (IsKeptRun g.D.Desk.tables_view c.args.desk.now c.args.desk.now) this c.args.ordinal c.in-Refused.refused.refusal c.in-Refused.refused.is_bare bytes
+      (Appends (g.W.Write.contents c.args.writer.now) (g.W.Write.contents c.write.new.writer)) (refl, idle g.D.Desk.tables_view c.args.desk.now this stands) as_read.next c.in_ok-write-in-Refused.ensures.ok);
 }
 
 pub returns-in_err-serve_request-in-Whole-clause-next : goal.returns-in_err-serve_request-in-Whole-clause-next
 returns-in_err-serve_request-in-Whole-clause-next g c = record {
   told = λ ours clean this stands.
       let request = c.in-Whole.request in
-      let held = c.read_turn.new.intake in
+      let held = c.read_next.new.intake in
       let parts = parts_in held request in
       let done = subst (λ h. IsExchanged (IsKeptRun g.D.Desk.tables_view c.args.desk.now c.serve_request.new.desk) this (what_of this.callers (parts_in h request) (body_in h request)) (has_token (parts_in h request)) (is_bare (parts_in h request))
       c.ends_after-closes.result (g.W.Write.contents c.args.writer.now) (g.W.Write.contents c.serve_request.new.writer) c.serve_request.result)
       c.bytes.ensures (c.serve_request.ensures.exchanged.told ours clean this stands) in
       let ends = c.ends_after-closes.ensures in
-      map_some _ c.in_ok-read_turn.ensures.turn (λ bytes read.
-      let turn = subst (λ t. IsReadAs IsNext held (g.R.Read.remaining c.read_turn.new.reader) t bytes) c.in-Whole.is read in
-      let cut = whole_cut (IsKeptRun g.D.Desk.tables_view c.args.desk.now c.serve_request.new.desk) this c.args.place bytes parts (body_in held request) (drop (request_len request) held ++ turn.more)
+      map_some _ c.in_ok-read_next.ensures.next (λ bytes read.
+      let as_read = subst (λ t. IsReadAs IsNext held (g.R.Read.remaining c.read_next.new.reader) t bytes) c.in-Whole.is read in
+      let cut = whole_cut (IsKeptRun g.D.Desk.tables_view c.args.desk.now c.serve_request.new.desk) this c.args.ordinal bytes parts (body_in held request) (drop (request_len request) held ++ as_read.more)
       c.ends_after-closes.result (g.W.Write.contents c.args.writer.now) (g.W.Write.contents c.serve_request.new.writer) c.serve_request.result
-      c.in_err-serve_request-in-Whole.field-0.0 turn.next ends c.in_err-serve_request-in-Whole.was done in
-      exit_as (λ r. Serves (IsKeptRun g.D.Desk.tables_view c.args.desk.now c.serve_request.new.desk) this c.args.place held (g.R.Read.remaining c.read_turn.new.reader) (g.W.Write.contents c.args.writer.now) (g.W.Write.contents c.serve_request.new.writer) r bytes)
+      c.in_err-serve_request-in-Whole.field-0.0 as_read.next ends c.in_err-serve_request-in-Whole.was done in
+      exit_as (λ r. Serves (IsKeptRun g.D.Desk.tables_view c.args.desk.now c.serve_request.new.desk) this c.args.ordinal held (g.R.Read.remaining c.read_next.new.reader) (g.W.Write.contents c.args.writer.now) (g.W.Write.contents c.serve_request.new.writer) r bytes)
       c.from_residual-in_err-serve_request-in-Whole.result c.in_err-serve_request-in-Whole.field-0.0 Write
       (err_from_is_err_and c.from_residual-in_err-serve_request-in-Whole.result c.from_residual-in_err-serve_request-in-Whole.ensures.1) cut.0 cut.1);
 }
 
-pub returns-in_err-read_turn-clause-next : goal.returns-in_err-read_turn-clause-next
-returns-in_err-read_turn-clause-next g c = record {
+pub returns-in_err-read_next-clause-next : goal.returns-in_err-read_next-clause-next
+returns-in_err-read_next-clause-next g c = record {
   told = λ ours clean this stands.
       let runs = IsKeptRun g.D.Desk.tables_view c.args.desk.now c.args.desk.now in
-      let held = c.read_turn.new.intake in
-      let left = g.R.Read.remaining c.read_turn.new.reader in
+      let held = c.read_next.new.intake in
+      let left = g.R.Read.remaining c.read_next.new.reader in
       let kept = g.W.Write.contents c.args.writer.now in
-      let fault = c.in_err-read_turn.field-0.0 in
-      map_some _ (unfinished_of _ held left c.in_err-read_turn.ensures.kept c.in_err-read_turn.ensures.unfinished) (λ bytes unfinished.
-      exit_as (λ r. Serves runs this c.args.place held left kept kept r bytes) c.from_residual.result (of_transfer fault) (of_transfer fault)
+      let fault = c.in_err-read_next.field-0.0 in
+      map_some _ (unfinished_of _ held left c.in_err-read_next.ensures.kept c.in_err-read_next.ensures.unfinished) (λ bytes unfinished.
+      exit_as (λ r. Serves runs this c.args.ordinal held left kept kept r bytes) c.from_residual.result (of_transfer fault) (of_transfer fault)
       (err_from_is_err_and c.from_residual.result c.from_residual.ensures.1) refl
-      (read_failed runs this c.args.place held left kept kept bytes fault (refl, idle g.D.Desk.tables_view c.args.desk.now this stands) (Appends-nil kept) unfinished));
+      (read_failed runs this c.args.ordinal held left kept kept bytes fault (refl, idle g.D.Desk.tables_view c.args.desk.now this stands) (Appends-nil kept) unfinished));
 }

@@ -15,9 +15,9 @@ returns-in_err-routes-clause-served g c = record {
       let view = g.D.Desk.tables_view in
       let desk = c.args.desk.now in
       let runs = IsKeptRun g.D.Desk.tables_view c.args.desk.now c.args.desk.now in
-      let once : ActOnce runs = λ this next turns run.
-      let plain = kept_run g.D.Desk.tables_view c.args.desk.now c.args.desk.now this turns next run in
-      (c.repeats.ensures.once this next turns plain, c.repeats.ensures.stale this next turns plain) in
+      let once : ActOnce runs = λ this next calls run.
+      let plain = kept_run g.D.Desk.tables_view c.args.desk.now c.args.desk.now this calls next run in
+      (c.repeats.ensures.once this next calls plain, c.repeats.ensures.stale this next calls plain) in
       let left = g.R.Read.remaining c.args.reader.now in
       let kept = g.W.Write.contents c.args.writer.now in
       each_is _ left (λ bytes is_left.
@@ -31,7 +31,7 @@ returns-in_err-routes-clause-ran g c = record {
   told = λ ours clean this stands.
       let view = g.D.Desk.tables_view in
       let desk = c.args.desk.now in
-      ran_lawful view desk desk this (record { turns = []; closing = this; run = (refl, idle view desk this stands) });
+      ran_lawful view desk desk this (record { calls = []; closing = this; run = (refl, idle view desk this stands) });
 }
 
 pub returns-clause-ran : goal.returns-clause-ran

@@ -6,7 +6,7 @@ use Rattle.bureau_http.specs.Told.{answer_told, told_text}
 use Rattle.bureau_http.proofs.ServingFacts.{written_as, failed_as}
 use Rattle.requests.specs.Order.{is_bare}
 use Rattle.bureau_http.specs.Asked.{has_token, what_of}
-use Rattle.requests.specs.Turn.{body_in, parts_in}
+use Rattle.requests.specs.NextRequest.{body_in, parts_in}
 use Rattle.bureau_http.proofs.serving.serve_request.Goals as goal
 
 pub returns-clause-exchanged : goal.returns-clause-exchanged

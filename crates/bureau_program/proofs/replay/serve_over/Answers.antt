@@ -19,7 +19,7 @@ returns-in-Ok-served-clause-served g c = λ always rights.
     let ours = subst (IsOurStore over) store (made.ours clean) in
     let stands = subst (λ at. (sql_view over).stands at this) store (made.tables clean) in
     let right = subst (λ at. IsRightFor at this.content) judge (rights this.content) in
-    untold _ (λ at next turns run. run.run) _ _ _ (c.in-Ok-served.ensures.served.told ours (ap doubt (always _)) this (stands, right))
+    untold _ (λ at next calls run. run.run) _ _ _ (c.in-Ok-served.ensures.served.told ours (ap doubt (always _)) this (stands, right))
 
 pub returns-then-device_failed-clause-fault : goal.returns-then-device_failed-clause-fault
 returns-then-device_failed-clause-fault g c = device_not_served c.of_store-then-device_failed.result c.of_store-then-device_failed.ensures

@@ -19,7 +19,7 @@ loop-id-preserved c =
     let now : M c.match-absent_at.marks.items = elim c.match-absent_at.branch [
       | in-Some w ↦
           subst M (sym (ap (λ v. v.items) w.marks-is))
-          (length-set old w.in-Some.place true ∙ was.len, marks_put ids asked there i id c.requires c.loop-id-test.true c.id-item.is old w.in-Some.place was.len w.in-Some.ensures.some was.marked)
+          (length-set old w.in-Some.index true ∙ was.len, marks_put ids asked there i id c.requires c.loop-id-test.true c.id-item.is old w.in-Some.index was.len w.in-Some.ensures.some was.marked)
       | in_default w ↦
           subst M (sym (ap (λ v. v.items) w.marks-is))
           (was.len, marks_pass ids asked there i id c.requires c.loop-id-test.true c.id-item.is old w.in_default.ensures.none was.marked)

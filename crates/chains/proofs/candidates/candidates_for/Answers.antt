@@ -4,7 +4,7 @@ use Rattle.requisites.specs.Sources.{AreLeastSources, HasSource}
 use Rattle.supersede.specs.Giving.{is_candidate}
 use Rattle.chains.specs.Climbs.{IsFound}
 use Rattle.chains.specs.Cuts.{id_at}
-use Rattle.chains.specs.Places.{AreThere, MarksAre}
+use Rattle.chains.specs.Indices.{AreThere, MarksAre}
 use Rattle.chains.proofs.AnswerFacts.{AreMarked, found_is, one_inside}
 use Rattle.chains.proofs.candidates.candidates_for.Goals as goal
 

@@ -15,8 +15,8 @@ loop-turn-preserved c =
           answers_more _ f asked turn id c.loop-turn.found.items c.push.new.self.items c.in_ok-found_from.field-0 c.loop-turn-test.true c.index-asked-turn.is (c.loop-turn.invariant.found f is)
           c.in_ok-push.ensures.items
           (is id _ (turn, c.loop-turn-test.true, sym c.index-asked-turn.is)
-          (answer_from c.args.ids.now c.args.above.now c.args.there.now c.args.candidates.now id c.absent_at-place.result _
-          c.absent_at-place.ensures.some c.absent_at-place.ensures.absent c.absent_at-place.ensures.none c.in_ok-found_from.ensures.found));
+          (answer_from c.args.ids.now c.args.above.now c.args.there.now c.args.candidates.now id c.absent_at-index.result _
+          c.absent_at-index.ensures.some c.absent_at-index.ensures.absent c.absent_at-index.ensures.none c.in_ok-found_from.ensures.found));
     }
 
 pub returns : goal.returns

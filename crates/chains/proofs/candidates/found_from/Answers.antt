@@ -8,31 +8,31 @@ use Rattle.requisites.proofs.LeadsFacts.{leads_closed}
 use Rattle.chains.specs.Climbs.{AreFrom}
 use Rattle.chains.specs.Cuts.{id_at}
 use Rattle.chains.proofs.AnswerFacts.{marked_are}
-use Rattle.chains.proofs.PlaceFacts.{some_is}
+use Rattle.chains.proofs.IndexFacts.{some_is}
 use Rattle.chains.proofs.candidates.found_from.Goals as goal
 
 pub ids_marked-requires : goal.ids_marked-requires
 ids_marked-requires c = λ q inside.
     let P : List ℕ → Type 0 = λ l. Contains l q in
     let n = length c.args.walks.now.seen.items in
-    let start : c.in-Some.place < length c.args.ids.now = some_is (λ p. p < length c.args.ids.now) c.args.place c.in-Some.place c.in-Some.is c.requires.within in
-    let leads = (c.in_ok-walk.ensures.each q).0 (subst P c.places.ensures inside) in
-    let L : ℕ → Type 0 = λ m. Leads (Links c.args.above.now m) c.in-Some.place q in
-    leads_closed (λ p. p < length c.args.ids.now) (λ u v here link. link.place) start (subst L c.requires.len leads)
+    let start : c.in-Some.index < length c.args.ids.now = some_is (λ p. p < length c.args.ids.now) c.args.index c.in-Some.index c.in-Some.is c.requires.within in
+    let leads = (c.in_ok-walk.ensures.each q).0 (subst P c.indices.ensures inside) in
+    let L : ℕ → Type 0 = λ m. Leads (Links c.args.above.now m) c.in-Some.index q in
+    leads_closed (λ p. p < length c.args.ids.now) (λ u v here link. link.index) start (subst L c.requires.len leads)
 
 pub returns-clause-found : goal.returns-clause-found
 returns-clause-found c =
     let ids = c.args.ids.now in
     let above = c.args.above.now in
     let marks = c.args.marks.now in
-    let place = c.in-Some.place in
+    let index = c.in-Some.index in
     let order = c.walk.new.self.order.items in
     let found = c.in_ok-ids_marked.field-0.items in
-    let start : place < length ids = some_is (λ p. p < length ids) c.args.place place c.in-Some.is c.requires.within in
+    let start : index < length ids = some_is (λ p. p < length ids) c.args.index index c.in-Some.is c.requires.within in
     let A : Option ℕ → Type 0 = λ o. AreFrom ids above marks o (Some found) in
-    let E : ℕ → Type 0 = λ m. (q : ℕ) → Contains order q ↔ Leads (Links above m) place q in
+    let E : ℕ → Type 0 = λ m. (q : ℕ) → Contains order q ↔ Leads (Links above m) index q in
     subst A (sym c.in-Some.is) (
       c.in_ok-ids_marked.ensures.ascend,
-      marked_are ids above marks place order found start (subst E c.requires.len c.in_ok-walk.ensures.each)
-          (c.in_ok-ids_marked.ensures.ids ∙ ap (λ places. in_order (map (id_at ids) (filter (mark_of marks) places))) c.places.ensures),
+      marked_are ids above marks index order found start (subst E c.requires.len c.in_ok-walk.ensures.each)
+          (c.in_ok-ids_marked.ensures.ids ∙ ap (λ indices. in_order (map (id_at ids) (filter (mark_of marks) indices))) c.indices.ensures),
     )

@@ -4,33 +4,33 @@ use Rattle.requisites.specs.Sources.{HasSource}
 use Rattle.supersede.specs.Giving.{is_candidate}
 use Rattle.supersede.proofs.TellingFacts.{tells_on}
 use Rattle.chains.specs.Cuts.{id_at}
-use Rattle.chains.specs.Places.{MarksAre}
-use Rattle.chains.proofs.PlaceFacts.{get_any, length-push, marks_more}
+use Rattle.chains.specs.Indices.{MarksAre}
+use Rattle.chains.proofs.IndexFacts.{get_any, length-push, marks_more}
 use Rattle.chains.proofs.candidates.wanted_candidates.Goals as goal
 
-pub loop-place-preserved : goal.loop-place-preserved
-loop-place-preserved g c =
-    let was = c.loop-place.invariant in
+pub loop-index-preserved : goal.loop-index-preserved
+loop-index-preserved g c =
+    let was = c.loop-index.invariant in
     let ids = c.args.ids.now in
     let wanted = c.args.wanted.now in
     let rows = c.args.zone.now in
-    let place = c.loop-place.place in
-    let id = c.index-ids-place.result in
+    let index = c.loop-index.index in
+    let id = c.index-ids-index.result in
     let mark = c.in_ok-is_wanted_candidate.field-0 in
     let asks = c.in_ok-is_wanted_candidate.ensures.asks in
     record {
       has_told = tells_on g.met.P.Published.lawful was.has_told asks.keeps (asks.stays_open (no_fault _)) c.in_ok-is_wanted_candidate.ensures.candidate (λ content so_far candidate.
-          marks_more (λ p m. HasSource wanted p → m ≡ is_candidate content rows (id_at ids p)) place c.loop-place.marks.items c.push.new.self.items mark so_far
+          marks_more (λ p m. HasSource wanted p → m ≡ is_candidate content rows (id_at ids p)) index c.loop-index.marks.items c.push.new.self.items mark so_far
           (λ has.
           let own : mark ≡ is_candidate content rows id = candidate (c.has_source.ensures.1 has) in
-          own ∙ ap (is_candidate content rows) (c.index-ids-place.is ∙ get_any ids place id [] c.loop-place-test.true))
+          own ∙ ap (is_candidate content rows) (c.index-ids-index.is ∙ get_any ids index id [] c.loop-index-test.true))
           c.in_ok-push.ensures.items);
-      len = ap length c.in_ok-push.ensures.items ∙ length-push c.loop-place.marks.items mark ∙ ap (λ (k : ℕ). k + 1) was.len;
+      len = ap length c.in_ok-push.ensures.items ∙ length-push c.loop-index.marks.items mark ∙ ap (λ (k : ℕ). k + 1) was.len;
     }
 
 pub returns-clause-marks : goal.returns-clause-marks
 returns-clause-marks g c =
-    let all : c.loop-place.place ≡ length c.args.ids.now = omega arith in
-    told_so c.loop-place.invariant.has_told.told (λ content marks.
-    let M : ℕ → Type 0 = λ n. MarksAre (λ p mark. HasSource c.args.wanted.now p → mark ≡ is_candidate content c.args.zone.now (id_at c.args.ids.now p)) n c.loop-place.marks.items in
+    let all : c.loop-index.index ≡ length c.args.ids.now = omega arith in
+    told_so c.loop-index.invariant.has_told.told (λ content marks.
+    let M : ℕ → Type 0 = λ n. MarksAre (λ p mark. HasSource c.args.wanted.now p → mark ≡ is_candidate content c.args.zone.now (id_at c.args.ids.now p)) n c.loop-index.marks.items in
     subst M all marks)

@@ -1,6 +1,6 @@
-use Rattle.chains.specs.FramePlaces.{list_at}
-use Rattle.chains.specs.Places.{ArePlacesOf, RowsAre}
+use Rattle.chains.specs.FrameIndices.{list_at}
+use Rattle.chains.specs.Indices.{AreIndicesOf, RowsAre}
 use Rattle.chains.proofs.climbing.rows_of.Given as goal
 
-abbrev pub invariant-loop-place : goal.invariant-loop-place
-invariant-loop-place l = RowsAre (λ p places. ArePlacesOf l.ids (list_at l.lists p) places) l.place l.rows
+abbrev pub invariant-loop-index : goal.invariant-loop-index
+invariant-loop-index l = RowsAre (λ p indices. AreIndicesOf l.ids (list_at l.lists p) indices) l.index l.rows

@@ -1,7 +1,7 @@
 use Rattle.std.proofs.Common.{◌≡◌}
 use Rattle.zone_lists.specs.Installed.{is_installed}
 use Rattle.chains.specs.Cuts.{id_at}
-use Rattle.chains.specs.Places.{MarksAre}
+use Rattle.chains.specs.Indices.{MarksAre}
 use Rattle.chains.proofs.cut.installed_marks.Given as goal
 
 abbrev pub invariant-loop-member : goal.invariant-loop-member

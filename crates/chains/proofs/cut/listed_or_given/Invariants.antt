@@ -1,6 +1,6 @@
 use Rattle.requisites.specs.Sources.{HasSource}
-use Rattle.chains.specs.Places.{IsThereAt, MarksAre}
+use Rattle.chains.specs.Indices.{IsThereAt, MarksAre}
 use Rattle.chains.proofs.cut.listed_or_given.Given as goal
 
-abbrev pub invariant-loop-place : goal.invariant-loop-place
-invariant-loop-place l = MarksAre (IsThereAt l.zone l.members (HasSource l.sources)) l.place l.marks.items
+abbrev pub invariant-loop-index : goal.invariant-loop-index
+invariant-loop-index l = MarksAre (IsThereAt l.zone l.members (HasSource l.sources)) l.index l.marks.items

@@ -1,14 +1,14 @@
 use Rattle.std.proofs.Common.{◌∙◌, ap, map}
 use Rattle.std.specs.List.{filter}
 use Rattle.chains.specs.Cuts.{id_at}
-use Rattle.chains.specs.FramePlaces.{is_catalogued_at}
-use Rattle.chains.proofs.LinkFacts.{each_giver, givers_up, places_inside}
+use Rattle.chains.specs.FrameIndices.{is_catalogued_at}
+use Rattle.chains.proofs.LinkFacts.{each_giver, givers_up, indices_inside}
 use Rattle.chains.proofs.links.givers_at.Goals as goal
 
 pub ids_at-requires : goal.ids_at-requires
 ids_at-requires c = λ q inside.
-    places_inside c.args.ids.now c.args.all.now c.args.above.now c.args.place c.requires.ascend c.requires.within c.requires.placed
-    c.in_ok-places.places.items c.in_ok-places.ensures.ascend c.in_ok-places.ensures.each q c.deref-2.result.now
+    indices_inside c.args.ids.now c.args.all.now c.args.above.now c.args.index c.requires.ascend c.requires.within c.requires.indexed
+    c.in_ok-indices.indices.items c.in_ok-indices.ensures.ascend c.in_ok-indices.ensures.each q c.deref-2.result.now
     (c.deref-2.ensures.value ∙ c.in_ok-givers.ensures ∙ ap (filter (is_catalogued_at c.args.all.now)) c.deref.ensures.value) inside
 
 pub ascending-requires : goal.ascending-requires
@@ -16,13 +16,13 @@ ascending-requires c =
     let are =
     c.in_ok-ids_at.ensures
     ∙ ap (map (id_at c.args.ids.now)) (c.deref-2.ensures.value ∙ c.in_ok-givers.ensures ∙ ap (filter (is_catalogued_at c.args.all.now)) c.deref.ensures.value) in
-    givers_up c.args.ids.now c.args.all.now c.args.above.now c.args.place c.requires.ascend c.requires.within c.requires.placed
-    c.in_ok-places.places.items c.in_ok-places.ensures.ascend c.in_ok-places.ensures.each c.in_ok-ids_at.field-0.items are
+    givers_up c.args.ids.now c.args.all.now c.args.above.now c.args.index c.requires.ascend c.requires.within c.requires.indexed
+    c.in_ok-indices.indices.items c.in_ok-indices.ensures.ascend c.in_ok-indices.ensures.each c.in_ok-ids_at.field-0.items are
 
 pub returns-clause-each : goal.returns-clause-each
 returns-clause-each c =
     let are =
     c.in_ok-ids_at.ensures
     ∙ ap (map (id_at c.args.ids.now)) (c.deref-2.ensures.value ∙ c.in_ok-givers.ensures ∙ ap (filter (is_catalogued_at c.args.all.now)) c.deref.ensures.value) in
-    each_giver c.args.ids.now c.args.all.now c.args.above.now c.args.place c.requires.ascend c.requires.within c.requires.placed
-    c.in_ok-places.places.items c.in_ok-places.ensures.ascend c.in_ok-places.ensures.each c.ascending.result (c.ascending.ensures ∙ are)
+    each_giver c.args.ids.now c.args.all.now c.args.above.now c.args.index c.requires.ascend c.requires.within c.requires.indexed
+    c.in_ok-indices.indices.items c.in_ok-indices.ensures.ascend c.in_ok-indices.ensures.each c.ascending.result (c.ascending.ensures ∙ are)

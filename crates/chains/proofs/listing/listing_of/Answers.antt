@@ -3,7 +3,7 @@ use Rattle.std.proofs.lemmas.List.{take_all}
 use Rattle.catalogue.proofs.SourceFacts.{no_fault, told_so}
 use Rattle.supersede.proofs.TellingFacts.{tells_on}
 use Rattle.chains.specs.Sights.{sight_of}
-use Rattle.chains.proofs.PlaceFacts.{length-push, made_more}
+use Rattle.chains.proofs.IndexFacts.{length-push, made_more}
 use Rattle.chains.proofs.listing.listing_of.Goals as goal
 
 pub loop-id-init : goal.loop-id-init

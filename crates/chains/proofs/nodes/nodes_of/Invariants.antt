@@ -1,5 +1,5 @@
-use Rattle.chains.specs.FramePlaces.{AreNodesOf}
+use Rattle.chains.specs.FrameIndices.{AreNodesOf}
 use Rattle.chains.proofs.nodes.nodes_of.Given as goal
 
-abbrev pub invariant-loop-place : goal.invariant-loop-place
-invariant-loop-place l = AreNodesOf l.ids l.all l.place l.nodes.items
+abbrev pub invariant-loop-index : goal.invariant-loop-index
+invariant-loop-index l = AreNodesOf l.ids l.all l.index l.nodes.items

@@ -4,7 +4,7 @@ use Rattle.requisites.specs.Nodes.{mark_of}
 use Rattle.chains.specs.Cuts.{id_at}
 use Rattle.chains.specs.Frames.{ids_in}
 use Rattle.chains.specs.Verdicts.{is_good}
-use Rattle.chains.proofs.PlaceFacts.{ok_so}
+use Rattle.chains.proofs.IndexFacts.{ok_so}
 use Rattle.chains.proofs.PlanFacts.{marks_good}
 use Rattle.chains.proofs.planning.good.Goals as goal
 

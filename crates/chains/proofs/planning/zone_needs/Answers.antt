@@ -1,21 +1,21 @@
 use Rattle.std.proofs.Common.{List, ℕ, [], ◌∷◌, ◌++◌, ◌∙◌, ◌≡◌, ◌<◌, ap, get_or, length, subst, sym, map}
-use Rattle.chains.specs.FramePlaces.{ArePlaced, node_needs}
+use Rattle.chains.specs.FrameIndices.{AreIndexed, node_needs}
 use Rattle.chains.specs.Frames.{ids_in}
 use Rattle.chains.specs.declared.frames.FrameNode.{FrameNode}
-use Rattle.chains.proofs.PlaceFacts.{ok_so}
-use Rattle.chains.proofs.PlanFacts.{needs_more, unconditional_placed}
+use Rattle.chains.proofs.IndexFacts.{ok_so}
+use Rattle.chains.proofs.PlanFacts.{needs_more, unconditional_indexed}
 use Rattle.chains.proofs.planning.zone_needs.Goals as goal
 
 pub returns-then-not-is_conditional : goal.returns-then-not-is_conditional
 returns-then-not-is_conditional c =
     let nodes = c.args.frame.now.nodes in
-    let P : List (List ℕ) → Type 0 = λ rows. ArePlaced (ids_in nodes) (map (node_needs c.args.zone.now) nodes) rows in
-    ok_so c.copy.result c.copy.ensures (λ rows same. subst P (sym same) (unconditional_placed c.args.zone.now nodes _ (sym c.is_conditional.ensures ∙ c.if-not-is_conditional.true) c.needs.ensures))
+    let P : List (List ℕ) → Type 0 = λ rows. AreIndexed (ids_in nodes) (map (node_needs c.args.zone.now) nodes) rows in
+    ok_so c.copy.result c.copy.ensures (λ rows same. subst P (sym same) (unconditional_indexed c.args.zone.now nodes _ (sym c.is_conditional.ensures ∙ c.if-not-is_conditional.true) c.needs.ensures))
 
-pub loop-place-preserved : goal.loop-place-preserved
-loop-place-preserved c =
-    let L : List FrameNode → Type 0 = λ l. c.loop-place.place < length l in
-    let A : List FrameNode → Type 0 = λ l. c.node-item.result ≡ get_or l c.loop-place.place c.node-item.result in
-    needs_more c.args.zone.now c.args.frame.now.nodes c.ids.result.now c.loop-place.place c.node-item.result c.row.result.now c.put_needs.new.places.items c.needs-in-loop-place.result.now c.loop-place.needs _
-    (subst L c.nodes-node-items.ensures.value c.loop-place-test.true) (subst A c.nodes-node-items.ensures.value c.node-item.is) c.ids.ensures.value c.needs-in-loop-place.ensures c.row.ensures c.in_ok-put_needs.ensures c.loop-place.invariant
-    (c.in_ok-push_row.ensures.rows ∙ ap (λ (row : List ℕ). c.loop-place.needs ++ row ∷ []) c.deref.ensures.value)
+pub loop-index-preserved : goal.loop-index-preserved
+loop-index-preserved c =
+    let L : List FrameNode → Type 0 = λ l. c.loop-index.index < length l in
+    let A : List FrameNode → Type 0 = λ l. c.node-item.result ≡ get_or l c.loop-index.index c.node-item.result in
+    needs_more c.args.zone.now c.args.frame.now.nodes c.ids.result.now c.loop-index.index c.node-item.result c.row.result.now c.put_needs.new.indices.items c.needs-in-loop-index.result.now c.loop-index.needs _
+    (subst L c.nodes-node-items.ensures.value c.loop-index-test.true) (subst A c.nodes-node-items.ensures.value c.node-item.is) c.ids.ensures.value c.needs-in-loop-index.ensures c.row.ensures c.in_ok-put_needs.ensures c.loop-index.invariant
+    (c.in_ok-push_row.ensures.rows ∙ ap (λ (row : List ℕ). c.loop-index.needs ++ row ∷ []) c.deref.ensures.value)

@@ -1,7 +1,7 @@
 use Rattle.std.proofs.Common.{◌≡◌, ◌+◌, ◌<◌, ◌≤◌, false, length}
 use Rattle.mcs_reader.specs.Pieces.{no_name}
 use Rattle.mcs_reader.specs.Bytes.{bytes_of_each}
-use Rattle.mcs_reader.specs.Place.{IsAfter}
+use Rattle.mcs_reader.specs.Position.{IsAfter}
 use Rattle.mcs_reader.specs.Scan.{on_found, scan, with_values}
 use Rattle.mcs_reader.proofs.list.gather_values.Given as goal
 

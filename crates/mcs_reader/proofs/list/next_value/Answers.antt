@@ -3,7 +3,7 @@ use Rattle.std.proofs.Common.{◌+◌, ◌-◌, [], ◌∷◌, false, Some, Err,
 use Rattle.mcs_reader.specs.Pieces.{no_name}
 use Rattle.mcs_reader.specs.Run.{after_value}
 use Rattle.mcs_reader.specs.Scan.{on_found, scan, with_list, with_values}
-use Rattle.mcs_reader.proofs.ScanPlaceFacts.{inside_blanks, inside_end, inside_last, inside_gap, inside_comment, inside_open_comment, inside_open, inside_close_last, inside_close, inside_value, shorter_at, IsAfter-trans, else_value}
+use Rattle.mcs_reader.proofs.ScanPositionFacts.{inside_blanks, inside_end, inside_last, inside_gap, inside_comment, inside_open_comment, inside_open, inside_close_last, inside_close, inside_value, shorter_at, IsAfter-trans, else_value}
 use Rattle.mcs_reader.proofs.list.next_value.Goals as goal
 
 pub bytes-preserved-then-next_line : goal.bytes-preserved-then-next_line

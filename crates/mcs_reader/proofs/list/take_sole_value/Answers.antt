@@ -3,7 +3,7 @@ use Rattle.mcs_reader.specs.Pieces.{no_name}
 use Rattle.mcs_reader.specs.Scan.{on_found, scan, with_values}
 use Rattle.mcs_reader.proofs.AloneFacts.{not_nil, on_found-list, sole_first}
 use Rattle.mcs_reader.proofs.ScanPiecesFacts.{on_found-values}
-use Rattle.mcs_reader.proofs.ScanPlaceFacts.{IsAfter-trans}
+use Rattle.mcs_reader.proofs.ScanPositionFacts.{IsAfter-trans}
 use Rattle.mcs_reader.proofs.list.take_sole_value.Goals as goal
 
 pub others-preserved : goal.others-preserved

@@ -1,6 +1,6 @@
 use Rattle.std.proofs.Common.{◌≡◌, ◌+◌, ◌<◌, ◌≤◌, ℕ, List, ◌∷◌, false, length}
 use Rattle.mcs_reader.specs.Pieces.{no_name}
-use Rattle.mcs_reader.specs.Place.{IsAfter}
+use Rattle.mcs_reader.specs.Position.{IsAfter}
 use Rattle.mcs_reader.specs.Scan.{on_found, scan, with_values}
 use Rattle.mcs_reader.proofs.AloneFacts.{is_nil}
 use Rattle.mcs_reader.proofs.list.take_sole_value.Given as goal

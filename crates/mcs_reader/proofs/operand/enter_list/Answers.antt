@@ -9,13 +9,13 @@ returns-in-Open-clause-list c = λ opened.
 
 pub returns-in_default : goal.returns-in_default
 returns-in_default c =
-    let place = c.in_ok-skip_gap.ensures in
+    let position = c.in_ok-skip_gap.ensures in
     record {
       list = λ opened. absurd (cc);
       none = λ closed before.
-          place.ok before
-          ∙ outside_no_list c.args.line before c.skip_gap.new.cursor.text c.in_ok-skip_gap.field-0 place.role place.no_gap place.no_comment c.in_default.not-Open;
+          position.ok before
+          ∙ outside_no_list c.args.line before c.skip_gap.new.cursor.text c.in_ok-skip_gap.field-0 position.role position.no_gap position.no_comment c.in_default.not-Open;
       depth_headroom = λ opened. absurd (cc);
       fault = tt;
-      after = place.after;
+      after = position.after;
     }

@@ -5,7 +5,7 @@ use Rattle.mcs_reader.specs.Pieces.{no_name}
 use Rattle.mcs_reader.specs.Scan.{on_found, scan, with_operands}
 use Rattle.mcs_reader.proofs.GatheredFacts.{both_for, operands_then}
 use Rattle.mcs_reader.proofs.OutsideFacts.{outside_period, outside_close, outside_else}
-use Rattle.mcs_reader.proofs.ScanPlaceFacts.{IsAfter-trans}
+use Rattle.mcs_reader.proofs.ScanPositionFacts.{IsAfter-trans}
 use Rattle.mcs_reader.proofs.operand.gather_operands.Goals as goal
 
 pub names-preserved : goal.names-preserved

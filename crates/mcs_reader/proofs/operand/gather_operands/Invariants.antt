@@ -3,7 +3,7 @@ use Rattle.mcs_reader.specs.Gathered.{operands_for}
 use Rattle.mcs_reader.specs.Operand.{operand_texts}
 use Rattle.mcs_reader.specs.OperandText.{OperandText}
 use Rattle.mcs_reader.specs.Pieces.{no_name}
-use Rattle.mcs_reader.specs.Place.{IsAfter}
+use Rattle.mcs_reader.specs.Position.{IsAfter}
 use Rattle.mcs_reader.specs.Scan.{on_found, scan, with_operands}
 use Rattle.mcs_reader.proofs.operand.gather_operands.Given as goal
 

@@ -2,7 +2,7 @@ use Rattle.std.proofs.lemmas.Result.{err_from_is_err_and}
 use Rattle.std.proofs.Common.{ℕ, ◌<◌, List, false, Some, Err, length, sym, ◌∙◌, ap, subst}
 use Rattle.mcs_reader.specs.Scan.{scan}
 use Rattle.mcs_reader.specs.Line.{begins_statement}
-use Rattle.mcs_reader.proofs.ScanPlaceFacts.{IsAfter-trans, outside_blanks, outside_gap, outside_comment, outside_open_comment, outside_line, outside_statement, outside_last}
+use Rattle.mcs_reader.proofs.ScanPositionFacts.{IsAfter-trans, outside_blanks, outside_gap, outside_comment, outside_open_comment, outside_line, outside_statement, outside_last}
 use Rattle.mcs_reader.proofs.operand.skip_gap.Goals as goal
 use Rattle.mcs_reader.proofs.operand.skip_gap.Goals.{then-not-next_line-via-then-not-next_line, then-not-next_line-via-else-not-next_line+then-begins_statement}
 

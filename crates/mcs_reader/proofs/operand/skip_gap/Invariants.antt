@@ -1,6 +1,6 @@
 use Rattle.std.proofs.Common.{◌≡◌, false, length}
 use Rattle.mcs_reader.specs.Pieces.{Before}
-use Rattle.mcs_reader.specs.Place.{IsAfter}
+use Rattle.mcs_reader.specs.Position.{IsAfter}
 use Rattle.mcs_reader.specs.Scan.{scan}
 use Rattle.mcs_reader.proofs.operand.skip_gap.Given as goal
 

@@ -1,6 +1,6 @@
 use Rattle.std.proofs.Common.{List, ℕ, IsSome, sym, subst}
-use Rattle.mcs_reader.specs.Place.{role_at}
-use Rattle.mcs_reader.proofs.ScanPlaceFacts.{comment_goes_on}
+use Rattle.mcs_reader.specs.Position.{role_at}
+use Rattle.mcs_reader.proofs.ScanPositionFacts.{comment_goes_on}
 use Rattle.mcs_reader.proofs.passing.pass_comment.Goals as goal
 
 pub advance-requires-2 : goal.advance-requires-2

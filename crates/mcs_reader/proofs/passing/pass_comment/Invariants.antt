@@ -1,5 +1,5 @@
 use Rattle.std.proofs.Common.{◌≡◌, ◌<◌, length, drop}
-use Rattle.mcs_reader.specs.Place.{IsAfter}
+use Rattle.mcs_reader.specs.Position.{IsAfter}
 use Rattle.mcs_reader.specs.Scan.{after_comment}
 use Rattle.mcs_reader.proofs.passing.pass_comment.Given as goal
 

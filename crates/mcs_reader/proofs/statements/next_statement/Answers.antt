@@ -1,21 +1,21 @@
 use Rattle.std.proofs.Common.{◌≡◌, ◌+◌, ◌<◌, length, false, Ok, Err, sym, ◌∙◌, ap, subst, arith}
 use Rattle.std.proofs.lemmas.Result.{err_from_is_err_and}
 use Rattle.mcs_reader.specs.Pieces.{a_name}
-use Rattle.mcs_reader.specs.Place.{Place, IsAfter, after_line}
+use Rattle.mcs_reader.specs.Position.{Position, IsAfter, after_line}
 use Rattle.mcs_reader.specs.ReadLines.{read_after}
 use Rattle.mcs_reader.specs.Scan.{Stated, scan, stated}
 use Rattle.mcs_reader.specs.declared.statement.Verb.{Verb}
 use Rattle.mcs_reader.proofs.GatheredFacts.{refusal_so}
-use Rattle.mcs_reader.proofs.ScanPlaceFacts.{IsAfter-trans}
+use Rattle.mcs_reader.proofs.ScanPositionFacts.{IsAfter-trans}
 use Rattle.mcs_reader.proofs.SourceFacts.{Begins, no_line, passed_line, refused_line, statement_line}
 use Rattle.mcs_reader.proofs.statements.next_statement.Goals as goal
 
 -- a verb moves nothing but the text
-same_line : (verb : Verb) (now moved : Place) (found : Stated) → moved.line ≡ now.line → stated verb moved.line (scan moved.line 0 a_name false moved.text) ≡ found
+same_line : (verb : Verb) (now moved : Position) (found : Stated) → moved.line ≡ now.line → stated verb moved.line (scan moved.line 0 a_name false moved.text) ≡ found
     → stated verb now.line (scan now.line 0 a_name false moved.text) ≡ found
 same_line verb now moved found unmoved is = ap (λ l. stated verb l (scan l 0 a_name false moved.text)) (sym unmoved) ∙ is
 
-begins : (now last : Place) → now.text ≡ after_line last.text → now.line ≡ last.line + 1 → 0 < length now.text → Begins now last
+begins : (now last : Position) → now.text ≡ after_line last.text → now.line ≡ last.line + 1 → 0 < length now.text → Begins now last
 begins now last text line more = record { text = text; line = line; more = more }
 
 pub returns-in_err-read_statement-clause-fault : goal.returns-in_err-read_statement-clause-fault
@@ -59,7 +59,7 @@ lines-preserved c =
     let last = c.lines.cursor in
     let now = c.next_line.new.self in
     let start = c.args.cursor.now in
-    let P : Place → Type 0 = λ place. record { read : read_after start ≡ read_after place; after : IsAfter place start } in
+    let P : Position → Type 0 = λ position. record { read : read_after start ≡ read_after position; after : IsAfter position start } in
     let here : P now = record {
       read =
           c.lines.invariant.read

@@ -1,5 +1,5 @@
 use Rattle.std.proofs.Common.{◌≡◌, length}
-use Rattle.mcs_reader.specs.Place.{IsAfter}
+use Rattle.mcs_reader.specs.Position.{IsAfter}
 use Rattle.mcs_reader.specs.ReadLines.{read_after}
 use Rattle.mcs_reader.proofs.statements.next_statement.Given as goal
 

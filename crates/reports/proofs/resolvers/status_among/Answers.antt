@@ -5,4 +5,4 @@ use Rattle.reports.proofs.resolvers.status_among.Goals as goal
 
 pub returns-in-Some : goal.returns-in-Some
 returns-in-Some c =
-    λ f are among. c.status_at.ensures (f c.args.id.now) (ap (λ statuses. slice_get statuses c.in-Some.at) are ∙ get_mapped f c.args.asked.now c.in-Some.at c.args.id.now c.in-Some.ensures.place)
+    λ f are among. c.status_at.ensures (f c.args.id.now) (ap (λ statuses. slice_get statuses c.in-Some.at) are ∙ get_mapped f c.args.asked.now c.in-Some.at c.args.id.now c.in-Some.ensures.index)

@@ -4,7 +4,7 @@ use Rattle.std.proofs.lemmas.List.{take-append-le, take-take, take_all}
 use Rattle.requests.specs.HeadEnd.{front_of, head_limit}
 use Rattle.requests.specs.Search.{search}
 use Rattle.requests.specs.declared.front.Front.TheVariants.{Head, TooLarge}
-use Rattle.requests.specs.declared.head_end.Place.TheVariants.{EmptyLines}
+use Rattle.requests.specs.declared.head_end.Ending.TheVariants.{EmptyLines}
 use Rattle.requests.proofs.FrontFacts.{any_err, at_end, ended_before, found, found_so_far, limit_is, no_end, none_read, not_at_hand, taken, told, told_at_end, too_large, too_large_so_far}
 use Rattle.requests.proofs.SearchFacts.{search_nil}
 use Rattle.requests.proofs.front.read_front.Goals as goal

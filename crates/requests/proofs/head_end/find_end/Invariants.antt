@@ -4,4 +4,4 @@ use Rattle.requests.specs.Search.{search, further}
 use Rattle.requests.proofs.head_end.find_end.Given as goal
 
 abbrev pub invariant-loop-i : goal.invariant-loop-i
-invariant-loop-i l = record { same : search l.fn.start l.bytes ≡ further l.i (search l.place (drop l.i l.bytes)) }
+invariant-loop-i l = record { same : search l.fn.start l.bytes ≡ further l.i (search l.ending (drop l.i l.bytes)) }

@@ -3,11 +3,11 @@ use Rattle.requisites.proofs.CascadeFacts.{closed_but_all, closed_but_more, clos
 use Rattle.requisites.proofs.TestFacts.{from_true}
 use Rattle.requisites.proofs.cascade.are_closed_but.Goals as goal
 
-pub loop-place-init : goal.loop-place-init
-loop-place-init c = closed_but_none c.args.opens.now c.args.ring.now
+pub loop-node-init : goal.loop-node-init
+loop-node-init c = closed_but_none c.args.opens.now c.args.ring.now
 
-pub loop-place-preserved : goal.loop-place-preserved
-loop-place-preserved c = closed_but_more c.args.opens.now c.args.ring.now c.args.places.now c.loop-place.place-index (omega arith) c.loop-place.invariant (from_true c.is_closed_or_in.result c.is_closed_or_in.ensures c.if-not-is_closed_or_in.false)
+pub loop-node-preserved : goal.loop-node-preserved
+loop-node-preserved c = closed_but_more c.args.opens.now c.args.ring.now c.args.indices.now c.loop-node.node-index (omega arith) c.loop-node.invariant (from_true c.is_closed_or_in.result c.is_closed_or_in.ensures c.if-not-is_closed_or_in.false)
 
 pub returns : goal.returns
-returns c = closed_but_all c.args.opens.now c.args.ring.now c.args.places.now c.loop-place.place-index (omega arith) c.loop-place.invariant
+returns c = closed_but_all c.args.opens.now c.args.ring.now c.args.indices.now c.loop-node.node-index (omega arith) c.loop-node.invariant

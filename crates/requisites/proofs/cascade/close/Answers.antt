@@ -5,12 +5,12 @@ use Rattle.requisites.proofs.cascade.close.Goals as goal
 
 pub returns-in_err-wake-clause-opens : goal.returns-in_err-wake-clause-opens
 returns-in_err-wake-clause-opens c =
-    open_shut c.args.nodes.now c.args.ring.now c.loop-place.opening.open.items c.shut.new.opening.open.items (get_or c.args.ring.now c.loop-place.place-index 0)
-    c.requires.ungiven (Contains-get_or c.args.ring.now c.loop-place.place-index 0 (omega arith)) c.loop-place.invariant.opens c.shut.ensures
+    open_shut c.args.nodes.now c.args.ring.now c.loop-node.opening.open.items c.shut.new.opening.open.items (get_or c.args.ring.now c.loop-node.node-index 0)
+    c.requires.ungiven (Contains-get_or c.args.ring.now c.loop-node.node-index 0 (omega arith)) c.loop-node.invariant.opens c.shut.ensures
 
-pub loop-place-preserved : goal.loop-place-preserved
-loop-place-preserved c = record {
-  opens = open_shut c.args.nodes.now c.args.ring.now c.loop-place.opening.open.items c.shut.new.opening.open.items (get_or c.args.ring.now c.loop-place.place-index 0)
-      c.requires.ungiven (Contains-get_or c.args.ring.now c.loop-place.place-index 0 (omega arith)) c.loop-place.invariant.opens c.shut.ensures;
-  fewer = omega (arith, c.loop-place.invariant.fewer, c.shut.ensures.fewer);
+pub loop-node-preserved : goal.loop-node-preserved
+loop-node-preserved c = record {
+  opens = open_shut c.args.nodes.now c.args.ring.now c.loop-node.opening.open.items c.shut.new.opening.open.items (get_or c.args.ring.now c.loop-node.node-index 0)
+      c.requires.ungiven (Contains-get_or c.args.ring.now c.loop-node.node-index 0 (omega arith)) c.loop-node.invariant.opens c.shut.ensures;
+  fewer = omega (arith, c.loop-node.invariant.fewer, c.shut.ensures.fewer);
 }

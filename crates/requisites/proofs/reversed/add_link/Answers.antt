@@ -12,6 +12,6 @@ returns-in_ok-push-2-clause-added c =
     let new : Chains = record { last = with_item old.last b c.len-then-below-len.result; from = c.push.new.self; before = c.push-then-below-len.new.self } in
     let inside : b < length old.last.items = omega arith in
     let many : c.len-then-below-len.result ≡ length c.push.new.self.items = omega arith in
-    link_added old new b c.args.place c.requires inside c.in_ok-push.ensures.items
+    link_added old new b c.args.node c.requires inside c.in_ok-push.ensures.items
     (c.in_ok-push-2.ensures.items ∙ ap (λ (k : ℕ). old.before.items ++ k ∷ []) (c.index.ensures ∙ get_or_default_zero old.last.items b c.index.result.now inside))
     (ap (λ (k : ℕ). set old.last.items b k) many)

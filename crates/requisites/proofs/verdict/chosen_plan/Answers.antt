@@ -7,7 +7,7 @@ use Rattle.requisites.proofs.verdict.chosen_plan.Goals as goal
 pub loop-at-init : goal.loop-at-init
 loop-at-init c =
     let nodes = c.args.nodes.now in
-    let x = c.args.place in
+    let x = c.args.node in
     let M : List Bool → Type 0 = λ l. AreMarked (x ∷ []) l c.mark.new.self.marks.items c.in_ok-chosen.chosen.order.items c.mark.new.self.order.items in
     let T : List ℕ → Type 0 = λ l. AreMarked (x ∷ []) (replicate c.len.result false) c.mark.new.self.marks.items l c.mark.new.self.order.items in
     let N : ℕ → Type 0 = λ n. AreMarked (x ∷ []) (replicate n false) c.mark.new.self.marks.items [] c.mark.new.self.order.items in
@@ -21,13 +21,13 @@ loop-at-preserved c =
     let below : c.loop-at.at < length order = search rules in
     let is : next ≡ get_or order c.loop-at.at next = search rules in
     let P : List ℕ → Type 0 = λ l. AreMarked l c.loop-at.chosen.marks.items c.mark_row.new.self.marks.items order c.mark_row.new.self.order.items in
-    picking_goes_on c.args.nodes.now c.args.place c.loop-at.chosen.marks.items c.mark_row.new.self.marks.items order c.mark_row.new.self.order.items
+    picking_goes_on c.args.nodes.now c.args.node c.loop-at.chosen.marks.items c.mark_row.new.self.marks.items order c.mark_row.new.self.order.items
     c.put_picks.new.picks.items c.loop-at.at next below is c.in_ok-put_picks.ensures (subst P c.deref.ensures.value c.in_ok-mark_row.ensures) c.loop-at.invariant
 
 pub returns-clause-chosen : goal.returns-clause-chosen
 returns-clause-chosen c =
     let nodes = c.args.nodes.now in
-    let x = c.args.place in
+    let x = c.args.node in
     let marks = c.loop-at.chosen.marks.items in
     ok_then c.ascending.result c.ascending.ensures.marked
     (λ plan are. plan_marked nodes x marks plan.items (c.requires.good.marked x c.requires.marked)

@@ -27,4 +27,4 @@ loop-need-preserved c =
     ])
 
 pub returns : goal.returns
-returns c = picked_listed c.args.nodes.now c.args.place c.needs_of-need-items.result.now c.loop-need.need-index c.loop-need.picks.items c.needs_of-need-items.ensures (omega arith) c.loop-need.invariant
+returns c = picked_listed c.args.nodes.now c.args.node c.needs_of-need-items.result.now c.loop-need.need-index c.loop-need.picks.items c.needs_of-need-items.ensures (omega arith) c.loop-need.invariant

@@ -7,7 +7,7 @@ use Rattle.zone_lists.proofs.zones.zone_rows.Goals as goal
 pub returns-clause-rows : goal.returns-clause-rows
 returns-clause-rows c =
     let read = c.in_ok-list.ensures.entries in
-    read.2 ∙ ap (λ rows. Ok rows) (sym (c.in_ok-rows.ensures.rows ∙ read.1.placed))
+    read.2 ∙ ap (λ rows. Ok rows) (sym (c.in_ok-rows.ensures.rows ∙ read.1.listed))
 
 pub returns-clause-ascending : goal.returns-clause-ascending
 returns-clause-ascending c =

@@ -6,15 +6,15 @@ use Rattle.std.proofs.lemmas.List.Elements.{All-get_or}
 use Rattle.catalogue.proofs.SourceFacts.{goes_on}
 use Rattle.bureau_store.specs.Caller.{IsAmong, IsProper}
 use Rattle.bureau_store.specs.declared.caller.Caller.{Caller}
-use Rattle.bureau.specs.Answering.{bureau_view, turns_of}
+use Rattle.bureau.specs.Answering.{bureau_view, calls_of}
 use Rattle.bureau.specs.Calls.{call_as}
-use Rattle.bureau.specs.Joint.{Turn}
+use Rattle.bureau.specs.Joint.{CallBy}
 use Rattle.bureau.specs.Kept.{IsKeptRun}
 use Rattle.bureau.specs.Replies.{reply_as}
 use Rattle.bureau.specs.declared.call.Call as declared
 use Rattle.bureau.specs.declared.reply.Reply.{Reply}
 use Rattle.bureau.proofs.KeptFacts.{kept_on, kept_run, one_kept, stands_after}
-use Rattle.bureau.proofs.RunFacts.{lawful_run, one_more, run_callers, turns_more}
+use Rattle.bureau.proofs.RunFacts.{calls_more, lawful_run, one_more, run_callers}
 use Rattle.bureau.proofs.bureau.Bureau.run.Goals as goal
 
 pub answer-reply-requires : goal.answer-reply-requires
@@ -33,11 +33,11 @@ loop-asked-preserved g c =
     let next : take (at + 1) calls ≡ take at calls ++ asked ∷ [] = take_more calls at asked c.loop-asked-test.true ∙ ap (λ (a : Caller × declared.Call). take at calls ++ a ∷ []) (sym c.asked-item.is) in
     let below : vec_len c.loop-asked.replies < vec_capacity c.loop-asked.replies = omega (arith, so_far.room, so_far.counted, c.loop-asked-test.true) in
     let pushed : c.push.new.self.items ≡ replies ++ c.answer-reply.result ∷ [] = c.push.ensures.items ∙ ap (λ b. if b then replies ++ c.answer-reply.result ∷ [] else replies) (c.push.ensures.succeeds below) in
-    let turn : Turn = record { caller = asked.0; call = call_as asked.1; answer = reply_as c.answer-reply.result } in
-    let turns : turns_of (take (at + 1) calls) c.push.new.self.items ≡ turns_of (take at calls) replies ++ turn ∷ [] =
-    ap (λ (rs : List Reply). turns_of (take (at + 1) calls) rs) pushed
-    ∙ ap (λ (cs : List (Caller × declared.Call)). turns_of cs (replies ++ c.answer-reply.result ∷ [])) next
-    ∙ turns_more (take at calls) replies asked c.answer-reply.result so_far.answered in
+    let call_by : CallBy = record { caller = asked.0; call = call_as asked.1; answer = reply_as c.answer-reply.result } in
+    let added : calls_of (take (at + 1) calls) c.push.new.self.items ≡ calls_of (take at calls) replies ++ call_by ∷ [] =
+    ap (λ (rs : List Reply). calls_of (take (at + 1) calls) rs) pushed
+    ∙ ap (λ (cs : List (Caller × declared.Call)). calls_of cs (replies ++ c.answer-reply.result ∷ [])) next
+    ∙ calls_more (take at calls) replies asked c.answer-reply.result so_far.answered in
     record {
       goes = goes_on so_far.goes c.answer-reply.ensures.goes;
       answered = ap length pushed ∙ one_more replies c.answer-reply.result (take at calls) asked so_far.answered ∙ ap length (sym next);
@@ -50,10 +50,10 @@ loop-asked-preserved g c =
             let mid = earlier.0 in
             let by_caller = subst (λ rows. IsAmong rows asked.0) (sym (run_callers this mid _ (kept_run view c.args.self.now c.loop-asked.self this _ mid earlier.1)))
             (subst (λ (a : Caller × declared.Call). IsAmong this.callers a.0) (sym c.asked-item.is) (All-get_or (λ (a : Caller × declared.Call). IsAmong this.callers a.0) calls at _ c.loop-asked-test.true among)) in
-            let step = c.answer-reply.ensures.turn_made.told (so_far.goes.ours ours before) clean mid (stands_after view c.args.self.now c.loop-asked.self this _ mid earlier.1) by_caller in
-            let one = one_kept view c.loop-asked.self c.answer-reply.new.self mid turn step.0 step.1 in (
+            let step = c.answer-reply.ensures.call_made.told (so_far.goes.ours ours before) clean mid (stands_after view c.args.self.now c.loop-asked.self this _ mid earlier.1) by_caller in
+            let one = one_kept view c.loop-asked.self c.answer-reply.new.self mid call_by step.0 step.1 in (
               step.0,
-              subst (λ (ts : List Turn). IsKeptRun view c.args.self.now c.answer-reply.new.self this ts step.0) (sym turns)
+              subst (λ (ts : List CallBy). IsKeptRun view c.args.self.now c.answer-reply.new.self this ts step.0) (sym added)
                   (kept_on view c.args.self.now c.loop-asked.self c.answer-reply.new.self this mid step.0 _ _ earlier.1 one),
             );
       };
@@ -62,11 +62,11 @@ loop-asked-preserved g c =
 pub returns-clause-run : goal.returns-clause-run
 returns-clause-run g c =
     let view = bureau_view g.S.Store.tables_view g.J.Judge.is_right in
-    let all = turns_of c.args.calls.now c.loop-asked.replies.items in
+    let all = calls_of c.args.calls.now c.loop-asked.replies.items in
     let whole = take_all c.loop-asked.asked-index c.args.calls.now c.loop-asked-test.false in
     record {
       told = λ ours clean this stands among.
           let ran = c.loop-asked.invariant.run.told ours clean this stands among in
-          let kept = subst (λ (cs : List (Caller × declared.Call)). IsKeptRun view c.args.self.now c.loop-asked.self this (turns_of cs c.loop-asked.replies.items) ran.0) whole ran.1 in
+          let kept = subst (λ (cs : List (Caller × declared.Call)). IsKeptRun view c.args.self.now c.loop-asked.self this (calls_of cs c.loop-asked.replies.items) ran.0) whole ran.1 in
           (ran.0, lawful_run view c.args.self.now c.loop-asked.self this all ran.0 kept);
     }

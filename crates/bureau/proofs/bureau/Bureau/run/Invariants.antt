@@ -2,7 +2,7 @@ use Rattle.std.proofs.Common.{◌≡◌, ◌≤◌, length, take}
 use Rattle.std.specs.Vec.{vec_capacity, vec_len}
 use Rattle.catalogue.specs.View.{Goes, Tells}
 use Rattle.bureau_store.specs.Tables.{Tables}
-use Rattle.bureau.specs.Answering.{AreAmong, bureau_view, turns_of}
+use Rattle.bureau.specs.Answering.{AreAmong, bureau_view, calls_of}
 use Rattle.bureau.specs.Kept.{IsKeptRun}
 use Rattle.bureau.proofs.bureau.Bureau.run.Given as goal
 
@@ -16,5 +16,5 @@ invariant-loop-asked g l =
       counted : vec_len l.replies ≡ l.asked-index;
       room : length l.calls ≤ vec_capacity l.replies;
       run : Tells view l.initial.self l.self (λ this. AreAmong this.callers l.calls
-          → (mid : Tables) × IsKeptRun view l.initial.self l.self this (turns_of (take l.asked-index l.calls) l.replies.items) mid);
+          → (mid : Tables) × IsKeptRun view l.initial.self l.self this (calls_of (take l.asked-index l.calls) l.replies.items) mid);
     }

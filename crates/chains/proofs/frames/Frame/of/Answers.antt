@@ -1,6 +1,6 @@
 use Rattle.std.proofs.Common.{◌∙◌, refl, sym, ap}
 use Rattle.std.specs.List.{list_any}
-use Rattle.chains.specs.FramePlaces.{has_conds}
+use Rattle.chains.specs.FrameIndices.{has_conds}
 use Rattle.chains.proofs.NodeFacts.{frame_found, framed_found}
 use Rattle.chains.proofs.frames.Frame.of.Goals as goal
 

@@ -1,25 +1,25 @@
 use Rattle.std.proofs.Common.{◌∙◌, ◌++◌, ◌∷◌, [], List, ℕ, ap, map}
-use Rattle.chains.specs.FramePlaces.{list_at}
-use Rattle.chains.specs.Places.{ArePlacesOf}
-use Rattle.chains.proofs.LinkFacts.{placed_here}
-use Rattle.chains.proofs.PlaceFacts.{rows_more}
+use Rattle.chains.specs.FrameIndices.{list_at}
+use Rattle.chains.specs.Indices.{AreIndicesOf}
+use Rattle.chains.proofs.LinkFacts.{indexed_here}
+use Rattle.chains.proofs.IndexFacts.{rows_more}
 use Rattle.chains.proofs.links.Links.of.Goals as goal
 
-pub loop-place-preserved : goal.loop-place-preserved
-loop-place-preserved c =
+pub loop-index-preserved : goal.loop-index-preserved
+loop-index-preserved c =
     let ids = c.args.ids.now in
     let all = c.args.all.now in
-    let place = c.loop-place.place in
-    let g = c.index-all-place.result in
-    let was = c.loop-place.invariant in
+    let index = c.loop-index.index in
+    let g = c.index-all-index.result in
+    let was = c.loop-index.invariant in
     record {
-      needs = rows_more (λ p places. ArePlacesOf ids (list_at (map (λ g. g.needs) all) p) places) place c.loop-place.needs _ c.put_places.new.places.items was.needs
-          (placed_here (λ g. g.needs) all place g ids c.as_slice.result.now c.put_places.new.places.items c.loop-place-test.true c.index-all-place.is c.as_slice.ensures.value c.in_ok-put_places.ensures)
-          (c.in_ok-push_row.ensures.rows ∙ ap (λ (row : List ℕ). c.loop-place.needs ++ row ∷ []) c.deref.ensures.value);
-      supersedes = rows_more (λ p places. ArePlacesOf ids (list_at (map (λ g. g.superseded) all) p) places) place c.loop-place.supersedes _ c.put_places-in-loop-place.new.places.items was.supersedes
-          (placed_here (λ g. g.superseded) all place g ids c.as_slice-in-loop-place.result.now c.put_places-in-loop-place.new.places.items c.loop-place-test.true c.index-all-place.is c.as_slice-in-loop-place.ensures.value c.in_ok-put_places-2.ensures)
-          (c.in_ok-push_row-2.ensures.rows ∙ ap (λ (row : List ℕ). c.loop-place.supersedes ++ row ∷ []) c.deref-in-loop-place.ensures.value);
-      above = rows_more (λ p places. ArePlacesOf ids (list_at (map (λ g. g.above) all) p) places) place c.loop-place.above _ c.put_places-in-loop-place-2.new.places.items was.above
-          (placed_here (λ g. g.above) all place g ids c.as_slice-in-loop-place-2.result.now c.put_places-in-loop-place-2.new.places.items c.loop-place-test.true c.index-all-place.is c.as_slice-in-loop-place-2.ensures.value c.in_ok-put_places-3.ensures)
-          (c.in_ok-push_row-3.ensures.rows ∙ ap (λ (row : List ℕ). c.loop-place.above ++ row ∷ []) c.deref-in-loop-place-2.ensures.value);
+      needs = rows_more (λ p indices. AreIndicesOf ids (list_at (map (λ g. g.needs) all) p) indices) index c.loop-index.needs _ c.put_indices.new.indices.items was.needs
+          (indexed_here (λ g. g.needs) all index g ids c.as_slice.result.now c.put_indices.new.indices.items c.loop-index-test.true c.index-all-index.is c.as_slice.ensures.value c.in_ok-put_indices.ensures)
+          (c.in_ok-push_row.ensures.rows ∙ ap (λ (row : List ℕ). c.loop-index.needs ++ row ∷ []) c.deref.ensures.value);
+      supersedes = rows_more (λ p indices. AreIndicesOf ids (list_at (map (λ g. g.superseded) all) p) indices) index c.loop-index.supersedes _ c.put_indices-in-loop-index.new.indices.items was.supersedes
+          (indexed_here (λ g. g.superseded) all index g ids c.as_slice-in-loop-index.result.now c.put_indices-in-loop-index.new.indices.items c.loop-index-test.true c.index-all-index.is c.as_slice-in-loop-index.ensures.value c.in_ok-put_indices-2.ensures)
+          (c.in_ok-push_row-2.ensures.rows ∙ ap (λ (row : List ℕ). c.loop-index.supersedes ++ row ∷ []) c.deref-in-loop-index.ensures.value);
+      above = rows_more (λ p indices. AreIndicesOf ids (list_at (map (λ g. g.above) all) p) indices) index c.loop-index.above _ c.put_indices-in-loop-index-2.new.indices.items was.above
+          (indexed_here (λ g. g.above) all index g ids c.as_slice-in-loop-index-2.result.now c.put_indices-in-loop-index-2.new.indices.items c.loop-index-test.true c.index-all-index.is c.as_slice-in-loop-index-2.ensures.value c.in_ok-put_indices-3.ensures)
+          (c.in_ok-push_row-3.ensures.rows ∙ ap (λ (row : List ℕ). c.loop-index.above ++ row ∷ []) c.deref-in-loop-index-2.ensures.value);
     }

@@ -1,11 +1,11 @@
 use Rattle.std.proofs.Common.{map}
-use Rattle.chains.specs.FramePlaces.{list_at}
-use Rattle.chains.specs.Places.{ArePlacesOf, RowsAre}
+use Rattle.chains.specs.FrameIndices.{list_at}
+use Rattle.chains.specs.Indices.{AreIndicesOf, RowsAre}
 use Rattle.chains.proofs.links.Links.of.Given as goal
 
-abbrev pub invariant-loop-place : goal.invariant-loop-place
-invariant-loop-place l = record {
-  needs : RowsAre (λ p places. ArePlacesOf l.ids (list_at (map (λ g. g.needs) l.all) p) places) l.place l.needs;
-  supersedes : RowsAre (λ p places. ArePlacesOf l.ids (list_at (map (λ g. g.superseded) l.all) p) places) l.place l.supersedes;
-  above : RowsAre (λ p places. ArePlacesOf l.ids (list_at (map (λ g. g.above) l.all) p) places) l.place l.above;
+abbrev pub invariant-loop-index : goal.invariant-loop-index
+invariant-loop-index l = record {
+  needs : RowsAre (λ p indices. AreIndicesOf l.ids (list_at (map (λ g. g.needs) l.all) p) indices) l.index l.needs;
+  supersedes : RowsAre (λ p indices. AreIndicesOf l.ids (list_at (map (λ g. g.superseded) l.all) p) indices) l.index l.supersedes;
+  above : RowsAre (λ p indices. AreIndicesOf l.ids (list_at (map (λ g. g.above) l.all) p) indices) l.index l.above;
 }

@@ -29,4 +29,4 @@ returns-clause-book c =
     (on_ok_weaker c.make_change.result (book_of_more old new c.args.change) c.make_change.ensures.changed)
 
 pub returns-clause-in_key_order : goal.returns-clause-in_key_order
-returns-clause-in_key_order c = holds_in_order c.make_change.new.holds.entries c.make_change.ensures.placed c.make_change.ensures.ordered
+returns-clause-in_key_order c = holds_in_order c.make_change.new.holds.entries c.make_change.ensures.sort_keys c.make_change.ensures.ordered

@@ -1,11 +1,11 @@
 use Rattle.std.proofs.Common.{List, ℕ, ◌∷◌, ◌++◌, refl, sym, ◌∙◌, ap, subst}
 use Rattle.mcs_reader.specs.Byte.{is_blank, line_end}
 use Rattle.mcs_reader.specs.Line.{text_of}
-use Rattle.mcs_reader.specs.Place.{Place}
+use Rattle.mcs_reader.specs.Position.{Position}
 use Rattle.mcs_reader.specs.Run.{run, after_run}
 use Rattle.mcs_reader.specs.Segment.{IsLine}
 use Rattle.mcs_reader.proofs.RunFacts.{run-append-after_run}
-use Rattle.mcs_reader.proofs.PlaceFacts.{after_run-line, HasHeadroom-rest, IsAfter-columns, IsLine-after_run}
+use Rattle.mcs_reader.proofs.PositionFacts.{after_run-line, HasHeadroom-rest, IsAfter-columns, IsLine-after_run}
 use Rattle.mcs_reader.proofs.cursor.Cursor.pass_blanks.Goals as goal
 
 pub invariant_of-self : goal.invariant_of-self
@@ -21,7 +21,7 @@ pub returns-clause-text : goal.returns-clause-text
 returns-clause-text c =
     ap (λ rest. rest ++ line_end ∷ text_of c.self.inside.after.now) c.after_blanks-rest.ensures
     ∙ sym (after_run-line is_blank c.self.inside.columns.now (text_of c.self.inside.after.now) refl)
-    ∙ ap (λ (place : Place). after_run is_blank place.text) c.self.view_is
+    ∙ ap (λ (position : Position). after_run is_blank position.text) c.self.view_is
 
 pub returns-clause-after : goal.returns-clause-after
 returns-clause-after c =

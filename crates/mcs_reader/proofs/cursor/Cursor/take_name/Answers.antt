@@ -1,11 +1,11 @@
 use Rattle.std.proofs.Common.{List, ℕ, ◌∷◌, ◌++◌, refl, sym, ◌∙◌, ap, subst}
 use Rattle.mcs_reader.specs.Byte.{is_name_byte, line_end}
 use Rattle.mcs_reader.specs.Line.{text_of}
-use Rattle.mcs_reader.specs.Place.{Place}
+use Rattle.mcs_reader.specs.Position.{Position}
 use Rattle.mcs_reader.specs.Run.{run, after_run}
 use Rattle.mcs_reader.specs.Segment.{IsLine}
 use Rattle.mcs_reader.proofs.RunFacts.{run-append-after_run}
-use Rattle.mcs_reader.proofs.PlaceFacts.{run-line, after_run-line, HasHeadroom-rest, IsAfter-columns, IsLine-after_run}
+use Rattle.mcs_reader.proofs.PositionFacts.{run-line, after_run-line, HasHeadroom-rest, IsAfter-columns, IsLine-after_run}
 use Rattle.mcs_reader.proofs.cursor.Cursor.take_name.Goals as goal
 
 pub invariant_of-self : goal.invariant_of-self
@@ -21,13 +21,13 @@ pub returns-clause-name : goal.returns-clause-name
 returns-clause-name c =
     c.split_name.ensures.name
     ∙ sym (run-line is_name_byte c.self.inside.columns.now (text_of c.self.inside.after.now) refl)
-    ∙ ap (λ (place : Place). run is_name_byte place.text) c.self.view_is
+    ∙ ap (λ (position : Position). run is_name_byte position.text) c.self.view_is
 
 pub returns-clause-text : goal.returns-clause-text
 returns-clause-text c =
     ap (λ rest. rest ++ line_end ∷ text_of c.self.inside.after.now) c.split_name.ensures.rest
     ∙ sym (after_run-line is_name_byte c.self.inside.columns.now (text_of c.self.inside.after.now) refl)
-    ∙ ap (λ (place : Place). after_run is_name_byte place.text) c.self.view_is
+    ∙ ap (λ (position : Position). after_run is_name_byte position.text) c.self.view_is
 
 pub returns-clause-after : goal.returns-clause-after
 returns-clause-after c =

@@ -1,5 +1,5 @@
 use Rattle.mcs_reader.specs.Line.{text_of}
-use Rattle.mcs_reader.proofs.PlaceFacts.{verb_at-place, verb_at-rest, IsLine-verb, HasHeadroom-rest, IsAfter-columns}
+use Rattle.mcs_reader.proofs.PositionFacts.{verb_at-position, verb_at-rest, IsLine-verb, HasHeadroom-rest, IsAfter-columns}
 use Rattle.mcs_reader.proofs.cursor.Cursor.take_verb.Goals as goal
 
 pub invariant_of-self : goal.invariant_of-self
@@ -13,7 +13,7 @@ invariant_of-self c =
 
 pub returns-in-Some-clause-verb : goal.returns-in-Some-clause-verb
 returns-in-Some-clause-verb c =
-    verb_at-place c.self.inside.line c.self.inside.columns.now (text_of c.self.inside.after.now) c.args.self.now _ c.self.view_is c.in-Some.ensures
+    verb_at-position c.self.inside.line c.self.inside.columns.now (text_of c.self.inside.after.now) c.args.self.now _ c.self.view_is c.in-Some.ensures
 
 pub returns-in-Some-clause-after : goal.returns-in-Some-clause-after
 returns-in-Some-clause-after c =
@@ -23,4 +23,4 @@ returns-in-Some-clause-after c =
 
 pub returns-in-None-clause-verb : goal.returns-in-None-clause-verb
 returns-in-None-clause-verb c =
-    verb_at-place c.self.inside.line c.self.inside.columns.now (text_of c.self.inside.after.now) c.args.self.now _ c.self.view_is c.in-None.ensures
+    verb_at-position c.self.inside.line c.self.inside.columns.now (text_of c.self.inside.after.now) c.args.self.now _ c.self.view_is c.in-None.ensures

@@ -2,17 +2,17 @@ use Rattle.std.proofs.Common.{◌≡◌, ◌+◌, ◌∷◌, List, ℕ, length, 
 use Rattle.mcs_reader.specs.Byte.{line_end}
 use Rattle.mcs_reader.specs.Gathered.{reading_for}
 use Rattle.mcs_reader.specs.Line.{text_of}
-use Rattle.mcs_reader.specs.Place.{Place, after_line}
+use Rattle.mcs_reader.specs.Position.{Position, after_line}
 use Rattle.mcs_reader.specs.ReadLines.{read_after, read_lines, read_text}
 use Rattle.mcs_reader.proofs.OutcomeFacts.{has_one_outcome, has_outcome, reading_of-fits, reading_of-too_long}
 use Rattle.mcs_reader.proofs.SourceFacts.{length-text_of, line_ends-le-length}
 use Rattle.mcs_reader.proofs.statements.Statements.begin.Goals as goal
 
 -- before the first line, the whole text is left
-before_first : (source : List ℕ) (place : Place) → place.text ≡ line_end ∷ text_of source → place.line ≡ 0 → read_text (text_of source) ≡ read_after place
-before_first source place text line =
+before_first : (source : List ℕ) (position : Position) → position.text ≡ line_end ∷ text_of source → position.line ≡ 0 → read_text (text_of source) ≡ read_after position
+before_first source position text line =
     ap (λ l. read_lines (length (text_of source)) (l + 1) (text_of source)) (sym line)
-    ∙ ap (λ t. read_lines (length (after_line t)) (place.line + 1) (after_line t)) (sym text)
+    ∙ ap (λ t. read_lines (length (after_line t)) (position.line + 1) (after_line t)) (sym text)
 
 pub new-requires : goal.new-requires
 new-requires c =

@@ -4,5 +4,5 @@ use Rattle.requisites.proofs.marking.Marked.mark.Goals as goal
 
 pub returns-in_ok-push : goal.returns-in_ok-push
 returns-in_ok-push c =
-    let inside : c.args.place < length c.args.self.now.marks.items = omega arith in
-    marked_now c.args.place c.args.self.now.marks.items c.args.self.now.order.items c.push.new.self.items inside c.in_ok-push.ensures.items
+    let inside : c.args.node < length c.args.self.now.marks.items = omega arith in
+    marked_now c.args.node c.args.self.now.marks.items c.args.self.now.order.items c.push.new.self.items inside c.in_ok-push.ensures.items

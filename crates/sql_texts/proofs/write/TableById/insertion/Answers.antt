@@ -9,4 +9,4 @@ use Rattle.sql_texts.proofs.write.TableById.insertion.Goals as goal
 pub returns-in-Sysmod : goal.returns-in-Sysmod
 unfolding understood everything
 returns-in-Sysmod c =
-    subst (λ table. Means bureau _ (insert_given (by_id table).place (by_id table).columns) (by_id table).columns) (sym c.in-Sysmod.is) (record { statement = refl })
+    subst (λ table. Means bureau _ (insert_given (by_id table).table_index (by_id table).columns) (by_id table).columns) (sym c.in-Sysmod.is) (record { statement = refl })

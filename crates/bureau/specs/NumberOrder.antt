@@ -1,0 +1,13 @@
+-- No part of what is promised: private contracts cite it. What comes of a change by its order; `Outcome` says it by numbers.
+use Rattle.bureau_store.specs.Tables.{LastChange}
+use Rattle.bureau.specs.Outcome.{Outcome, answered, bad_number, gap, stale, told}
+use Rattle.bureau.specs.declared.number_order.NumberOrder.{NumberOrder}
+use Rattle.bureau.specs.declared.number_order.NumberOrder.TheVariants.{Next, Again, Stale, Gap, NoNumber}
+
+-- the change itself where it comes in its turn; else what is told instead
+abbrev pub outcome_in : NumberOrder → LastChange → Outcome → Outcome
+outcome_in Next last change = change
+outcome_in Again last change = told last.reply
+outcome_in Stale last change = answered stale
+outcome_in Gap last change = answered (gap last.number)
+outcome_in NoNumber last change = answered bad_number

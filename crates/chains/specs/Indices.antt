@@ -1,0 +1,80 @@
+-- No part of what is promised: private contracts cite it. Ids by their indices in a list that ascends, and what is
+-- listed for each index.
+use Rattle.std.specs.Prelude.{◌≡◌, ◌<◌, ◌↔◌, ◌⊎◌, ℕ, Bool, true, List, length, map, Contains}
+use Rattle.std.specs.List.{list_any}
+use Rattle.zone_lists.specs.Installed.{is_installed, is_listed}
+use Rattle.zone_lists.specs.declared.zones.ZoneRow.{ZoneRow}
+use Rattle.requisites.specs.Leads.{Leads}
+use Rattle.requisites.specs.Nodes.{Links, mark_of, row}
+use Rattle.requisites.specs.declared.nodes.Nodes.{Nodes}
+use Rattle.requisites.specs.declared.verdict.Verdict.{Verdict}
+use Rattle.requisites.specs.declared.verdict.Verdict.TheVariants.{Good, Held, Lack}
+use Rattle.chains.specs.Cuts.{id_at}
+use Rattle.chains.specs.Sights.{IsSeen, Sight, needs_seen}
+use Rattle.chains.specs.Verdicts.{Judged, good, held, lack}
+
+-- an id stands at an index
+pub record IsAt (members : List (List ℕ)) (id : List ℕ) (index : ℕ) : Type 0 where
+  pub within : index < length members
+  pub is : id_at members index ≡ id
+
+-- indices are those of the ids that stand somewhere
+pub record AreIndicesOf (members : List (List ℕ)) (ids : List (List ℕ)) (indices : List ℕ) : Type 0 where
+  pub within : (q : ℕ) → Contains indices q → q < length members
+  pub listed : (q : ℕ) → Contains indices q → Contains ids (id_at members q)
+  pub whole : (q : ℕ) → q < length members → Contains ids (id_at members q) → Contains indices q
+
+-- something is so of what is seen of an id
+pub record SeenAs (f : List ℕ → Sight) (ids : List (List ℕ)) (id : List ℕ) (Q : Sight → Type 0) : Type 0 where
+  pub sight : Sight
+  pub seen : IsSeen f ids id sight
+  pub so : Q sight
+
+-- there are n rows, and of each P says what it has
+pub record RowsAre (P : ℕ → List ℕ → Type 0) (n : ℕ) (rows : List (List ℕ)) : Type 0 where
+  pub len : length rows ≡ n
+  pub each : (p : ℕ) → p < n → P p (row rows p)
+
+-- there are n marks, and of each P says what it is
+pub record MarksAre (P : ℕ → Bool → Type 0) (n : ℕ) (marks : List Bool) : Type 0 where
+  pub len : length marks ≡ n
+  pub each : (p : ℕ) → p < n → P p (mark_of marks p)
+
+-- the marks and the rows of the first n members, by what is seen of each: it may be installed in a zone that has a function of it,
+-- and needs what it needs in that zone
+pub record AreSeen (rows : List ZoneRow) (f : List ℕ → Sight) (ids members : List (List ℕ)) (n : ℕ) (candidates : List Bool) (needs supersedes : List (List ℕ)) : Type 0 where
+  pub candidates_are : MarksAre (λ p mark. SeenAs f ids (id_at members p) (λ sight. mark ≡ list_any (λ fmid. is_installed rows fmid) sight.fmids)) n candidates
+  pub needs_are : RowsAre (λ p indices. SeenAs f ids (id_at members p) (λ sight. AreIndicesOf members (needs_seen rows sight) indices)) n needs
+  pub supersedes_are : RowsAre (λ p indices. SeenAs f ids (id_at members p) (λ sight. AreIndicesOf members sight.superseded indices)) n supersedes
+
+-- a member is there: it is listed, or something gives it
+abbrev pub IsThereAt : List ZoneRow → List (List ℕ) → (ℕ → Type 0) → ℕ → Bool → Type 0
+IsThereAt rows members Given p mark = (mark ≡ true) ↔ ((is_listed rows (id_at members p) ≡ true) ⊎ Given p)
+
+-- an installed member, from which a list of superseded ones leads to an index
+pub record InstalledAt (rows : List ZoneRow) (members : List (List ℕ)) (supersedes : List (List ℕ)) (q : ℕ) : Type 0 where
+  pub source : ℕ
+  pub within : source < length members
+  pub installed : is_installed rows (id_at members source) ≡ true
+  pub leads : Leads (Links supersedes (length members)) source q
+
+-- the marks of the members that are there
+abbrev pub AreThere : List ZoneRow → List (List ℕ) → List (List ℕ) → List Bool → Type 0
+AreThere rows members supersedes marks = MarksAre (IsThereAt rows members (InstalledAt rows members supersedes)) (length members) marks
+
+-- nodes over some members name no other indices
+pub record AreNodesWithin (members : List (List ℕ)) (nodes : Nodes) : Type 0 where
+  pub len : length nodes.candidates.items ≡ length members
+  pub needs : RowsAre (λ p indices. (q : ℕ) → Contains indices q → q < length members) (length members) nodes.needs
+
+-- a verdict on a node names indices of members alone
+abbrev pub IsWithin : List (List ℕ) → Verdict → Type 0
+IsWithin members (Good plan) = (q : ℕ) → Contains plan.items q → q < length members
+IsWithin members (Held need) = need < length members
+IsWithin members Lack = Unit {0}
+
+-- the same verdict on the id that stands there
+abbrev pub verdict_at : List (List ℕ) → Verdict → Judged
+verdict_at members (Good plan) = good (map (id_at members) plan.items)
+verdict_at members (Held need) = held (id_at members need)
+verdict_at members Lack = lack
