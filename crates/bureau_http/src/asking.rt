@@ -9,6 +9,7 @@ ghost use Rattle.bureau.specs.Kept.{IsKeptRun};
 ghost use Rattle.catalogue.specs.View.{Goes, IsOpen, Tells};
 ghost use Rattle.bureau_store.specs.Tables.{Tables};
 ghost use Rattle.requests.specs.NextRequest.{IsAt, body_in, parts_in};
+ghost use Rattle.requests.specs.Request.{number_of};
 
 use crate::desk::Desk;
 use crate::reply::Told;
@@ -48,25 +49,44 @@ pub(crate) fn answer_to<D: Desk>(
     };
     match action {
         Ok(action) => {
-            let call = call_of(action, request.number(bytes), request.body(bytes));
+            let call = call_of(action, request, bytes);
             Told::Answered(desk.answer(&caller, &call))
         }
         Err(refusal) => Told::Refused(refusal),
     }
 }
 
-// The call of an action, with its number and its body.
-fn call_of<'a>(action: Action, number: Option<u64>, body: &'a [u8]) -> Call<'a>
-    ensures { call_as result ≡ Spec.call_of action number body.now }
+// The call of an action. Only a change reads its number and its body.
+fn call_of<'a>(action: Action, request: &Request, bytes: &'a [u8]) -> Call<'a>
+    requires { IsAt bytes.now request.now }
+    ensures { call_as result
+        ≡ Spec.call_of action (number_of (parts_in bytes.now request.now)) (body_in bytes.now request.now) }
 {
     match action {
-        Action::Publish => Call::Publish { number, body },
+        Action::Publish => Call::Publish {
+            number: request.number(bytes),
+            body: request.body(bytes),
+        },
         Action::Counts => Call::Counts,
         Action::ListZones => Call::ListZones,
-        Action::PutZone(zone) => Call::PutZone { number, zone, body },
-        Action::DropZone(zone) => Call::DropZone { number, zone },
-        Action::PutPatterns(zone) => Call::PutPatterns { number, zone, body },
-        Action::PutReceived => Call::PutReceived { number, body },
+        Action::PutZone(zone) => Call::PutZone {
+            number: request.number(bytes),
+            zone,
+            body: request.body(bytes),
+        },
+        Action::DropZone(zone) => Call::DropZone {
+            number: request.number(bytes),
+            zone,
+        },
+        Action::PutPatterns(zone) => Call::PutPatterns {
+            number: request.number(bytes),
+            zone,
+            body: request.body(bytes),
+        },
+        Action::PutReceived => Call::PutReceived {
+            number: request.number(bytes),
+            body: request.body(bytes),
+        },
         Action::ErrSysmods(zone) => Call::ErrSysmods { zone },
         Action::MissingFix(zone) => Call::MissingFix { zone },
         Action::Chain(zone, sysmod) => Call::Chain { zone, sysmod },

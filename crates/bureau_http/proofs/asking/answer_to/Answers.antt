@@ -1,10 +1,11 @@
-use Rattle.std.proofs.Common.{◌≡◌, sym, ap, ◌∙◌, Ok}
+use Rattle.std.proofs.Common.{◌≡◌, refl, sym, ap, ◌∙◌, Ok}
 use Rattle.bureau_store.specs.declared.caller.Caller.{Caller}
 use Rattle.bureau.specs.Call.{Call}
 use Rattle.bureau.specs.Calls.{call_as}
 use Rattle.bureau.specs.Replies.{reply_as}
-use Rattle.bureau_http.specs.Asked.{call_of, what_of}
+use Rattle.bureau_http.specs.Asked.{what_of}
 use Rattle.requests.specs.NextRequest.{body_in, parts_in}
+use Rattle.requests.specs.Request.{number_of}
 use Rattle.bureau_http.proofs.AskingFacts.{among, call_run, looked_at, made}
 use Rattle.bureau_http.proofs.asking.answer_to.Goals as goal
 
@@ -21,9 +22,9 @@ returns-in-Ok-action-clause-told g c = record {
       let is_action = sym c.in-Ok-action.is ∙ c.action-action.ensures.action in
       let looked = looked_at view c.args.desk.now c.caller_of.new.self this keeps ours before stands in
       let step = c.answer.ensures.call_made.told (keeps.goes.ours ours before) clean this looked.stands (among this.callers _ _ is_caller) in
-      let call = c.call_of-call.ensures ∙ ap (call_of c.in-Ok-action.action c.number.result) c.body.ensures in
+      let call = c.call_of-call.ensures in
       let asked : Caller × Call = (c.in-Some-found.caller, call_as c.call_of-call.result) in
-      let what : what_of this.callers parts body ≡ Ok asked = made this.callers parts body c.in-Some.token.now c.in-Some-found.caller c.in-Ok-action.action c.number.result is_token is_caller is_action c.number.ensures
+      let what : what_of this.callers parts body ≡ Ok asked = made this.callers parts body c.in-Some.token.now c.in-Some-found.caller c.in-Ok-action.action (number_of parts) is_token is_caller is_action refl
       ∙ ap (λ k. Ok (c.in-Some-found.caller, k)) (sym call) in (
         step.0,
         (asked, what, step.1.step),
