@@ -13,7 +13,7 @@ pub record IsRequest (rows : List CallerRow) (ordinal : ℕ) (bytes : List ℕ) 
   pub is : asked ≡ asked_whole rows ordinal parts body
   pub stays : asked.closes ≡ false
 
--- requests that don't end the connection, from a ordinal on, and the bytes after them
+-- requests that don't end the connection, from an ordinal on, and the bytes after them
 abbrev pub ReadsTo : List CallerRow → ℕ → List ℕ → List Asked → List ℕ → Type 0
 ReadsTo rows ordinal bytes [] following = following ≡ bytes
 ReadsTo rows ordinal bytes (asked ∷ more) following =

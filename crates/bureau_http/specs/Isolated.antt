@@ -21,7 +21,7 @@ own_exchange opening viewer call before exchange = record {
   answer = own_answer (opening_of viewer opening) (own_history viewer (calls_of before)) viewer call;
 }
 
--- at every ordinal, a caller's call is answered 503, or its reply has the bytes of the own answer
+-- at every point of a run, a caller's call is answered 503, or its reply has the bytes of the own answer
 abbrev pub AreOwnBytes : Tables → List Exchange → Type 0
 AreOwnBytes opening exchanges =
     (viewer : Caller) (call : Call) (before : List Exchange) (exchange : Exchange) (after : List Exchange) →

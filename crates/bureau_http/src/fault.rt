@@ -28,7 +28,7 @@ pub enum ConnFault {
 impl Fault for ConnFault {
     ghost told = { conn_told };
 
-    /// Its number is from 51 to 54. It has no ordinal.
+    /// Its number is from 51 to 54. It has no place.
     fn told(self) -> AnyFault {
         match self {
             ConnFault::Read => AnyFault::of_machine(51),
@@ -71,7 +71,7 @@ pub enum RunFault {
 impl Fault for RunFault {
     ghost told = { run_told };
 
-    /// Its number is 54. It has no ordinal.
+    /// Its number is 54. It has no place.
     fn told(self) -> AnyFault {
         AnyFault::of_machine(54)
     }

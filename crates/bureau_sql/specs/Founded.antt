@@ -23,7 +23,7 @@ pub record IsLed {Answer Fault : Type 0} (old new : State) (result : Result Answ
 abbrev pub AreFounded : State → List CallerRow → Trees → Type 0
 AreFounded old callers = AreLed old IsEmpty (IsOpened callers)
 
--- Why a store isn't made: it is taken just where the database of an open connection isn't empty.
+-- Why a store isn't made: of an open connection the fault is `Shape` just where the database isn't empty.
 pub record IsNotMade (at : State) (fault : StoreFault) : Type 0 where
   pub taken : IsTrue at.is_open → (fault ≡ Shape) ↔ (IsEmpty at.committed → ⊥)
   pub other : fault ≢ Shape → IsOfCall fault
