@@ -1,5 +1,5 @@
 -- Kept frames. An entry is an id with its frame; the one that was used last stands first.
-use Rattle.std.specs.Prelude.{◌⊎◌, [], ◌≡◌, ◌+◌, ◌-◌, ℕ, Bool, true, false, List, ◌∷◌, Contains, IfSome, None, Option, Some, filter, is_some, min, not, slice_get, take}
+use Rattle.std.specs.Prelude.{◌⊎◌, [], ◌≡◌, ◌≤◌, ◌+◌, ◌-◌, ℕ, Bool, true, false, List, ◌∷◌, Contains, IfSome, None, Option, Some, filter, is_some, length, min, not, slice_get, take}
 use Rattle.std.specs.Map.{lookup}
 use Rattle.lru.specs.LruCache.{promoted}
 use Rattle.zone_lists.specs.declared.zones.ZoneRow.{ZoneRow}
@@ -21,6 +21,10 @@ pub record SurveyedLists : Type 0 where
 
 abbrev pub nothing_surveyed : SurveyedLists
 nothing_surveyed = record { listing = None; zones = [] }
+
+-- surveys are kept of at most 16 zones
+abbrev pub AreFew : SurveyedLists → Type 0
+AreFew surveys = length surveys.zones ≤ 16
 
 -- what is kept: frames, for how many of them there is room, how many were put so far, and what is kept of the whole catalogue
 pub record CacheLists : Type 0 where

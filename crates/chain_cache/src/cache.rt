@@ -6,7 +6,7 @@ ghost use Rattle.catalogue.specs.Content.{Content, IsInOrder};
 ghost use Rattle.catalogue.specs.Touched.{AgreeOutside};
 ghost use Rattle.catalogue.specs.View.{MayAsk, Tells};
 ghost use Rattle.catalogue.specs.declared.fault.SourceFault.TheVariants.{Device};
-ghost use Rattle.chain_cache.specs.Cache.{AreFilled, CacheLists, IsAsked, IsFilled, IsRightFor, KeepsFrames, after_hit, has, nothing_surveyed, untouched};
+ghost use Rattle.chain_cache.specs.Cache.{AreFew, AreFilled, CacheLists, IsAsked, IsFilled, IsRightFor, KeepsFrames, after_hit, has, nothing_surveyed, untouched};
 ghost use Rattle.chain_cache.specs.Lent.{ends_filled};
 ghost use Rattle.chains.specs.Frames.{FrameLists, IsFrame};
 ghost use Rattle.chains.specs.Judge as judge;
@@ -49,7 +49,7 @@ pub struct ChainCache {
 }
 
 impl Model for ChainCache {
-    ghost use Rattle.chain_cache.specs.Cache.{CacheLists};
+    ghost use Rattle.chain_cache.specs.Cache.{AreFew, CacheLists};
 
     ghost Value = { CacheLists };
 
@@ -59,6 +59,8 @@ impl Model for ChainCache {
       built = cache.built;
       surveys = cache.surveys;
     } };
+
+    ghost invariant = { λ cache. AreFew cache.surveys };
 }
 
 impl ChainCache {
@@ -163,6 +165,7 @@ impl ChainCache {
         ensures right { Tells P.content_view source.old source.new
             (λ content. IsRightFor self.old content → IsRightFor self.new content) }
         ensures err { OnErr result (self.new ≡ self.old) }
+        ensures few { AreFew self.new.surveys }
     {
         if self.use_kept(id) {
             return Ok(true);
@@ -183,6 +186,7 @@ impl ChainCache {
         ensures filled { result ≡ true → (frame : FrameLists) × IsFilled id.now frame self.old self.new }
         ensures same { result ≡ false → self.new ≡ self.old }
         ensures right { (content : Content) → IsRightFor self.old content → IsRightFor self.new content }
+        ensures few { AreFew self.new.surveys }
     {
         self.frames.promote(id)
     }
@@ -238,6 +242,7 @@ impl ChainCache {
         ensures right { Tells P.content_view source.old source.new
             (λ content. IsRightFor self.old content → IsRightFor self.new content) }
         ensures frames { KeepsFrames self.old self.new }
+        ensures few { AreFew self.new.surveys }
     {
         self.surveys.read_listing(alloc, source)?;
         let survey = self.surveys.survey(alloc, zone)?;
@@ -261,6 +266,7 @@ impl ChainCache {
         ensures right { Tells P.content_view source.old source.new
             (λ content. IsRightFor self.old content → IsRightFor self.new content) }
         ensures frames { KeepsFrames self.old self.new }
+        ensures few { AreFew self.new.surveys }
     {
         self.surveys.read_listing(alloc, source)?;
         let survey = self.surveys.survey(alloc, zone)?;
@@ -322,6 +328,7 @@ impl<P: Published> Judge<P> for ChainCache {
         ensures right { Tells P.content_view source.old source.new
             (λ content. IsRightFor self.old content → IsRightFor self.new content) }
         ensures asked { IsAsked id.now self.old self.new }
+        ensures few { AreFew self.new.surveys }
     {
         if self.use_kept(id) {
             return Ok(self.first_verdict(alloc, zone, id)?);
@@ -353,6 +360,7 @@ impl<P: Published> Judge<P> for ChainCache {
             (λ content. IsRightFor self.old content → IsRightFor self.new content) }
         ensures filled { (n : ℕ) × (between : CacheLists) × AreFilled (take n ids.now) self.old between
             × KeepsFrames between self.new }
+        ensures few { AreFew self.new.surveys }
     {
         if let Some(survey) = self.surveys.of(zone) {
             return Ok(survey.statuses(alloc, ids)?);

@@ -1,9 +1,9 @@
 //! What is kept of the whole catalogue: what was read of it, and surveys of zones.
-ghost use Rattle.std.specs.Prelude.{◌≡◌, true, IfOk, Some, IfOk, IfSome, IsSome, OnOk, Contains};
+ghost use Rattle.std.specs.Prelude.{◌≡◌, ◌<◌, true, IfOk, Some, IfSome, IsSome, OnOk, Contains, length};
 ghost use Rattle.catalogue.specs.Content.{Content};
 ghost use Rattle.catalogue.specs.View.{MayAsk, Tells};
 ghost use Rattle.catalogue.specs.declared.fault.SourceFault.TheVariants.{Device};
-ghost use Rattle.chain_cache.specs.Cache.{AreSurveys, ZoneSurvey, nothing_surveyed};
+ghost use Rattle.chain_cache.specs.Cache.{AreFew, AreSurveys, ZoneSurvey, nothing_surveyed};
 ghost use Rattle.chains.specs.Surveys.{IsSurvey};
 
 use catalogue::{Published, SourceFault};
@@ -94,6 +94,7 @@ impl Surveys {
         ensures right { Tells P.content_view source.old source.new
             (λ content. AreSurveys content self.old → AreSurveys content self.new) }
         ensures kept { OnOk result (IsSome self.new.listing) }
+        ensures zones { self.new.zones ≡ self.old.zones }
     {
         if self.listing.is_none() {
             let listing = listing_of(alloc, source)?;
@@ -125,6 +126,7 @@ impl Surveys {
     pub(crate) fn keep(&mut self, zone: &Zone, survey: Survey) -> Result<(), NoMemory>
         ensures right { (content : Content) → IsSurvey content zone.now survey
             → AreSurveys content self.old → AreSurveys content self.new }
+        ensures few { AreFew self.old → AreFew self.new }
     {
         let zone = zone.copy()?;
         self.make_room();
@@ -135,6 +137,7 @@ impl Surveys {
     fn make_room(&mut self)
         ensures listing { self.new.listing ≡ self.old.listing }
         ensures zones { (kept : ZoneSurvey) → Contains self.new.zones kept → Contains self.old.zones kept }
+        ensures room { length self.new.zones < 16 }
     {
         if self.kept.len() >= MOST {
             self.kept.clear();
