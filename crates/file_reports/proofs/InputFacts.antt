@@ -24,13 +24,13 @@ refused_in input said fault (inl machine) = inl (ap (input_at_fault input) machi
 refused_in {A} input said fault (inr is) = inr (is.0, (input, ap (input_at_fault input) is.0, ap (λ (result : Result A (List ℕ)). said_in input result) is.1))
 
 -- what is refused first is refused of all
-pub refused_first : {A B : Type 0} (first : Result A Refused) (then : A → Result B Refused) (told : InputFault) → IsRefused first told → IsRefused (and_then first then) told
-refused_first first then told (inl machine) = inl machine
-refused_first {A} {B} first then told (inr is) = inr (is.0, (is.1.0, is.1.1, ap (λ (result : Result A Refused). and_then result then) is.1.2))
+pub refused_first : {A B : Type 0} (first : Result A Refused) (next : A → Result B Refused) (told : InputFault) → IsRefused first told → IsRefused (and_then first next) told
+refused_first first next told (inl machine) = inl machine
+refused_first {A} {B} first next told (inr is) = inr (is.0, (is.1.0, is.1.1, ap (λ (result : Result A Refused). and_then result next) is.1.2))
 
 -- what is said first, and what is refused then
-pub refused_then : {A B : Type 0} (first : Result A Refused) (then : A → Result B Refused) (what : A) (told : InputFault) → first ≡ Ok what → IsRefused (then what) told → IsRefused (and_then first then) told
-refused_then {A} {B} first then what told is refused = subst (λ (result : Result B Refused). IsRefused result told) (sym (ap (λ (result : Result A Refused). and_then result then) is)) refused
+pub refused_then : {A B : Type 0} (first : Result A Refused) (next : A → Result B Refused) (what : A) (told : InputFault) → first ≡ Ok what → IsRefused (next what) told → IsRefused (and_then first next) told
+refused_then {A} {B} first next what told is refused = subst (λ (result : Result B Refused). IsRefused result told) (sym (ap (λ (result : Result A Refused). and_then result next) is)) refused
 
 -- a refusal that is passed on
 pub passed_on : {T A : Type 0} (result : Result T InputFault) (said : Result A Refused) (told : InputFault) → IsErrAnd result (λ fault. fault ≡ told) → IsRefused said told → IfErr result (IsRefused said)
@@ -38,8 +38,8 @@ passed_on (Ok value) said told is refused = absurd is
 passed_on {T} {A} (Err fault) said told is refused = subst (λ (told : InputFault). IsRefused said told) (sym is) refused
 
 -- what is said first, and what is said then
-pub said_then : {A B : Type 0} (first : Result A Refused) (then : A → Result B Refused) (what : A) (all : B) → first ≡ Ok what → then what ≡ Ok all → and_then first then ≡ Ok all
-said_then {A} first then what all is next = ap (λ (result : Result A Refused). and_then result then) is ∙ next
+pub said_then : {A B : Type 0} (first : Result A Refused) (next : A → Result B Refused) (what : A) (all : B) → first ≡ Ok what → next what ≡ Ok all → and_then first next ≡ Ok all
+said_then {A} first next what all is later = ap (λ (result : Result A Refused). and_then result next) is ∙ later
 
 -- ---- publications
 

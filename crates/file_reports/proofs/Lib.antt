@@ -1,1 +1,2 @@
+mod DeskFacts
 mod InputFacts

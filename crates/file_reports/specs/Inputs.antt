@@ -27,8 +27,8 @@ said_in input (Err line) = Err (record { input = input; line = line })
 
 -- what is said first and then what is said with it, or the first fault
 abbrev pub and_then : {A B : Type 0} → Result A Refused → (A → Result B Refused) → Result B Refused
-and_then (Ok what) then = then what
-and_then (Err refused) then = Err refused
+and_then (Ok what) next = next what
+and_then (Err refused) next = Err refused
 
 -- ---- the inputs
 
