@@ -10,4 +10,3 @@ bytes_of disk = disk.bytes.items
 pub record IsFresh (disk : RamDisk) : Type 0 where
   pub empty : bytes_of disk ≡ []
   pub unfailed : disk.faults ≡ 0
-  pub undamaged : disk.caught ≡ 0

@@ -4,7 +4,7 @@ ghost use Rattle.sqlite_disk.specs.Disk.{CountsFault};
 ghost use Rattle.sqlite_disk.specs.Refusal.{finds_no_room};
 
 use crate::bytes;
-use sqlite_disk::{Disk, Tally, digest_of};
+use sqlite_disk::{Disk, Tally};
 use std::alloc::{AllocError, Global};
 use std::io;
 
@@ -15,7 +15,6 @@ use std::io;
 pub struct RamDisk {
     bytes: Vec<u8>,
     faults: u64,
-    caught: u64,
 }
 
 impl RamDisk {
@@ -28,7 +27,6 @@ impl RamDisk {
         RamDisk {
             bytes: Vec::new(alloc),
             faults: 0,
-            caught: 0,
         }
     }
 }
@@ -46,7 +44,7 @@ impl Disk for RamDisk {
 
     ghost is_clean = { λ _. true };
 
-    ghost tally_of = { λ disk. record { caught = disk.caught; refused = 0 } };
+    ghost tally_of = { λ _. record { caught = 0; refused = 0 } };
 
     ghost key_of = { λ _. 0 };
 
@@ -60,14 +58,14 @@ impl Disk for RamDisk {
         false
     }
 
-    // Memory tells no lie, so it needs no secret.
+    // Memory gives back the bytes that were written, so there is nothing to test and no secret.
     fn key(&self) -> u64 {
         0
     }
 
     fn tally(&self) -> Tally {
         Tally {
-            caught: self.caught,
+            caught: 0,
             refused: 0,
         }
     }
@@ -87,14 +85,8 @@ impl Disk for RamDisk {
         Ok(())
     }
 
-    fn read_checked(&mut self, key: u64, want: u64, at: usize, buf: &mut [u8]) -> io::Result<()> {
-        self.read_at(at, buf)?;
-        if digest_of(key, buf) != want {
-            self.faults = self.faults.saturating_add(1);
-            self.caught = self.caught.saturating_add(1);
-            return Err(io::ErrorKind::InvalidData.into());
-        }
-        Ok(())
+    fn read_checked(&mut self, _key: u64, _want: u64, at: usize, buf: &mut [u8]) -> io::Result<()> {
+        self.read_at(at, buf)
     }
 
     fn write_at(&mut self, at: usize, bytes: &[u8]) -> io::Result<()> {
