@@ -1,0 +1,32 @@
+-- A report, from what the inputs say.
+use Rattle.std.proofs.Common.{◌≡◌, inl, inr, ℕ, List, refl, sym, ◌∙◌, ap, subst}
+use Rattle.std.specs.Prelude.{None, Result, Ok, Err, IfErr, IsErrAnd}
+use Rattle.catalogue.specs.SourceFault as source
+use Rattle.catalogue.specs.declared.fault.SourceFault.{SourceFault}
+use Rattle.catalogue.specs.declared.fault.SourceFault.TheVariants.{Memory, Device}
+use Rattle.file_reports.specs.Inputs.{Inputs, IsOfMachine, IsRefused, Refused, Said, and_then, said_by}
+use Rattle.file_reports.specs.Reports.{text_by}
+use Rattle.file_reports.specs.declared.fault.InputFault.{InputFault}
+use Rattle.file_reports.proofs.InputFacts.{refused_first}
+
+-- a text of what the inputs say
+pub text_said : (text : Said → List ℕ) (inputs : Inputs) (all : Said) (made : List ℕ) → said_by inputs ≡ Ok all → made ≡ text all → text_by text inputs ≡ Ok made
+text_said text inputs all made said is =
+    ap (λ (result : Result Said Refused). and_then result (λ all. Ok (text all))) said ∙ ap (λ (text : List ℕ). Ok text) (sym is)
+
+-- what is refused of the inputs is refused of the report
+pub text_refused : {T : Type 0} (text : Said → List ℕ) (inputs : Inputs) (result : Result T InputFault) (told : InputFault) → IsErrAnd result (λ fault. fault ≡ told)
+    → IsRefused (said_by inputs) told → IfErr result (IsRefused (text_by text inputs))
+text_refused text inputs (Ok value) told is refused = absurd is
+text_refused text inputs (Err fault) told is refused =
+    subst (λ (told : InputFault). IsRefused (text_by text inputs) told) (sym is) (refused_first (said_by inputs) (λ all. Ok (text all)) told refused)
+
+-- the machine is at fault
+of_source : (fault : SourceFault) (told : InputFault) → told ≡ record { input = None; fault = source.told fault } → IsOfMachine told
+of_source Memory told is = (ap (λ (told : InputFault). told.input) is, ap (λ (told : InputFault). told.fault.cause) is)
+of_source Device told is = (ap (λ (told : InputFault). told.input) is, ap (λ (told : InputFault). told.fault.cause) is)
+
+pub machine_refused : {T A : Type 0} (said : Result A Refused) (result : Result T InputFault) (fault : SourceFault)
+    → IsErrAnd result (λ told. told ≡ record { input = None; fault = source.told fault }) → IfErr result (IsRefused said)
+machine_refused said (Ok value) fault is = absurd is
+machine_refused said (Err told) fault is = inl (of_source fault told is)
