@@ -21,8 +21,8 @@ mod fault;
 mod held;
 mod inputs;
 mod publications;
-mod reports;
+mod texts;
 
 pub use fault::{Input, InputFault};
 pub use inputs::Lists;
-pub use reports::{chain_report, err_report, missing_report};
+pub use texts::{chain_report, err_report, missing_report};

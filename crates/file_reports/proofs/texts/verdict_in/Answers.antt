@@ -1,7 +1,7 @@
 use Rattle.std.proofs.Common.{refl}
 use Rattle.requisites.proofs.LeadsFacts.{leads_itself}
 use Rattle.chains.specs.Frames.{StepsTo}
-use Rattle.file_reports.proofs.reports.verdict_in.Goals as goal
+use Rattle.file_reports.proofs.texts.verdict_in.Goals as goal
 
 -- a frame has the SYSMOD from which it begins
 pub returns-in_ok-plan-in-Some-clause-verdict : goal.returns-in_ok-plan-in-Some-clause-verdict

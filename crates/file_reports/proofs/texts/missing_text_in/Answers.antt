@@ -1,7 +1,7 @@
 use Rattle.std.proofs.Common.{refl}
 use Rattle.file_reports.specs.Read.{said_of}
 use Rattle.file_reports.proofs.ReportFacts.{missing_made}
-use Rattle.file_reports.proofs.reports.missing_text_in.Goals as goal
+use Rattle.file_reports.proofs.texts.missing_text_in.Goals as goal
 
 pub returns : goal.returns
 returns c =

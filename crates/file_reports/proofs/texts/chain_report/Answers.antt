@@ -4,7 +4,7 @@ use Rattle.file_reports.specs.Read.{said_of}
 use Rattle.file_reports.specs.Reports.{chain_text_said}
 use Rattle.file_reports.proofs.DeskFacts.{chain_answered}
 use Rattle.file_reports.proofs.ReportFacts.{text_said}
-use Rattle.file_reports.proofs.reports.chain_report.Goals as goal
+use Rattle.file_reports.proofs.texts.chain_report.Goals as goal
 
 pub returns-clause-desk : goal.returns-clause-desk
 returns-clause-desk c =

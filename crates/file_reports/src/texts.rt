@@ -1,4 +1,4 @@
-//! The reports on a zone, and the verdict on a SYSMOD.
+//! The texts of the reports on a zone, and of the verdict on a SYSMOD.
 ghost use Rattle.std.specs.Prelude.{◌≡◌, Ok, IfOk, IfErr, map};
 ghost use Rattle.catalogue.specs.Content.{IsInOrder};
 ghost use Rattle.catalogue.specs.Ids.{Ascend};

@@ -4,7 +4,7 @@ use Rattle.file_reports.specs.Read.{said_of}
 use Rattle.file_reports.specs.Reports.{missing_text_said}
 use Rattle.file_reports.proofs.DeskFacts.{missing_answered}
 use Rattle.file_reports.proofs.ReportFacts.{text_said}
-use Rattle.file_reports.proofs.reports.missing_report.Goals as goal
+use Rattle.file_reports.proofs.texts.missing_report.Goals as goal
 
 pub returns-clause-desk : goal.returns-clause-desk
 returns-clause-desk c =

@@ -4,7 +4,7 @@ use Rattle.file_reports.specs.Read.{said_of}
 use Rattle.file_reports.specs.Reports.{err_text_said}
 use Rattle.file_reports.proofs.DeskFacts.{err_answered}
 use Rattle.file_reports.proofs.ReportFacts.{text_said}
-use Rattle.file_reports.proofs.reports.err_report.Goals as goal
+use Rattle.file_reports.proofs.texts.err_report.Goals as goal
 
 pub returns-clause-desk : goal.returns-clause-desk
 returns-clause-desk c =

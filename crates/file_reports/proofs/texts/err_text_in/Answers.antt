@@ -1,7 +1,7 @@
 use Rattle.std.proofs.Common.{refl}
 use Rattle.file_reports.specs.Read.{said_of}
 use Rattle.file_reports.proofs.ReportFacts.{err_made}
-use Rattle.file_reports.proofs.reports.err_text_in.Goals as goal
+use Rattle.file_reports.proofs.texts.err_text_in.Goals as goal
 
 pub returns : goal.returns
 returns c =
