@@ -85,7 +85,7 @@ client_more client zone changes content number rows patterns received effect tex
     record {
       content_is = content_more new_desk change changes ∙ ap (content_after effect) stands.content_is;
       number_is = ap (λ (last : LastChange). last.number) (last_more new_desk (Client client) change changes true (own_caller (Client client)))
-      ∙ ap (λ n. n + 1) stands.number_is;
+          ∙ ap (λ n. n + 1) stands.number_is;
       rows_are = ap (unwrap_or (says_rows zone effect)) stands.rows_are;
       patterns_are = ap (unwrap_or (says_patterns zone effect)) stands.patterns_are;
       received_are = received_more new_desk change changes ∙ ap (received_after effect) stands.received_are;

@@ -15,9 +15,9 @@ ghost use Rattle.file_reports.specs.Read.{said_of};
 ghost use Rattle.file_reports.specs.Reports.{chain_text_said, err_text_said, missing_text_said, text_by};
 ghost use Rattle.holddata.specs.declared.key.Kind.TheVariants.{ErrorHold, FixcatHold};
 
-use crate::inputs::{Lists, Read, read_all};
-use crate::held::held_in;
 use crate::InputFault;
+use crate::held::held_in;
+use crate::inputs::{Lists, Read, read_all};
 use catalogue::{ListPublished, SourceFault};
 use chains::{Judge, Verdict, Whole, frame_within, plan};
 use holddata::Kind;
@@ -124,7 +124,12 @@ fn err_text_in(alloc: Global, zone: &Id, read: Read) -> Result<Vec<u8>, SourceFa
     let holds = held_in(alloc, content.book(), &installed, Kind::ErrorHold)?;
     let mut judge = Whole::new();
     let rows = err_rows(
-        alloc, &mut content, &mut judge, &installed, &received, &holds,
+        alloc,
+        &mut content,
+        &mut judge,
+        &installed,
+        &received,
+        &holds,
     )?;
     Ok(err_text(alloc, zone, &rows)?)
 }
@@ -144,18 +149,19 @@ fn missing_text_in(alloc: Global, zone: &Id, read: Read) -> Result<Vec<u8>, Sour
     let holds = held_in(alloc, content.book(), &installed, Kind::FixcatHold)?;
     let mut judge = Whole::new();
     let rows = missing_rows(
-        alloc, &mut content, &mut judge, &installed, &received, &patterns, &holds,
+        alloc,
+        &mut content,
+        &mut judge,
+        &installed,
+        &received,
+        &patterns,
+        &holds,
     )?;
     Ok(missing_text(alloc, zone, &rows)?)
 }
 
 // The verdict of what was read.
-fn chain_text_in(
-    alloc: Global,
-    zone: &Id,
-    sysmod: &Id,
-    read: Read,
-) -> Result<Vec<u8>, SourceFault>
+fn chain_text_in(alloc: Global, zone: &Id, sysmod: &Id, read: Read) -> Result<Vec<u8>, SourceFault>
     requires { IsInOrder read.content }
     ensures { IfOk result (λ text. text.items ≡ chain_text_said zone.now sysmod.now (said_of read)) }
 {
