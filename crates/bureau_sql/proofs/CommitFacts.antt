@@ -1,7 +1,8 @@
 -- What a transaction writes and commits is a change of the connection.
 use Rattle.std.proofs.Common.{◌≡◌, ◌∙◌, Err, IfErr, IsOk, IsTrue, Ok, OnErr, OnOk, Result, ap, false, inl, inr, refl, subst, sym, true}
 use Rattle.sqlite.specs.Held.{Held, state}
-use Rattle.sqlite.specs.State.{HasCleanDisk, IsLive, KeepsCommit, Shows, State, Survives}
+use Rattle.sqlite.specs.State.{HasCleanDisk, KeepsCommit, Shows, State, Survives}
+use Rattle.sqlite_catalog.specs.Listing.{IsSound}
 use Rattle.sqlite.specs.Steps.{FailsToCommit}
 use Rattle.sqlite.specs.declared.error.Error.{Error}
 use Rattle.sqlite.proofs.Callers.{survives_begin}
@@ -10,6 +11,7 @@ use Rattle.sqlite_trees.specs.declared.store.Store.{Ghosts}
 use Rattle.sql_texts.specs.Schema.{bureau}
 use Rattle.sql_tables.specs.Stored.{Stored}
 use Rattle.sql_state.specs.Ours.{IsOurs, held_by}
+use Rattle.sql_state.proofs.OursFacts as own
 use Rattle.sql_state.specs.Writing.{Changes, IsKnown}
 use Rattle.bureau_sql.specs.Committed.{AreChanged, HaveChange, IsCommitted}
 use Rattle.sql_state.proofs.StopFacts.{kept_begun, kept_failing, kept_then, kept_unchanged, no_read, was_clean}
@@ -25,9 +27,9 @@ refused_commit old new (Err e) fails = λ clean. failed_commit_keeps old new e (
 
 -- The connection at rest, as its transaction begins, after what was written, and after the end.
 module _ (old begun mid new : State) (change : Stored → Stored) (same_now : begun.now ≡ old.now) (same_committed : begun.committed ≡ old.committed)
-    (same_open : begun.is_open ≡ old.is_open) (inside : IsTrue begun.in_transaction) (settled : IsTrue old.is_open → old.now ≡ old.committed) (live : IsLive old) where
+    (same_open : begun.is_open ≡ old.is_open) (inside : IsTrue begun.in_transaction) (settled : IsTrue old.is_open → old.now ≡ old.committed) where
   known : IsTrue old.is_open → IsOurs old.committed → IsKnown begun.now
-  known is_open ours = subst IsKnown (sym (same_now ∙ settled is_open)) (record { schema = ours.schema; sound = (live is_open).1; numbered = ours.rows.numbered })
+  known is_open ours = subst IsKnown (sym (same_now ∙ settled is_open)) (own.known old.committed ours)
 
   kept : KeepsCommit begun mid → KeepsCommit mid new → KeepsCommit old new
   kept first then = kept_then old begun new (kept_begun old begun same_committed same_open) (kept_then begun mid new first then)
@@ -46,6 +48,7 @@ module _ (old begun mid new : State) (change : Stored → Stored) (same_now : be
             let it = made.2 (known was ours) in (
               it.0.schema,
               record {
+                sound = subst (λ schema. IsSound schema mid.now.trees) it.0.schema it.0.sound;
                 numbered = it.0.numbered;
                 version = it.2 ∙ ap (λ database. database.trees 0) (same_now ∙ settled was);
                 rows = it.1 ∙ ap (λ database. change (held_by database)) (same_now ∙ settled was);
@@ -87,12 +90,12 @@ module _ (old begun mid new : State) (change : Stored → Stored) (same_now : be
 
 -- a transaction that is begun on a connection at rest, written into, and ended
 pub transaction_made : {S : Type 0} (g : Ghosts S) (old begun mid last : Held S) (change : Stored → Stored) → begun ≡ record old { in_transaction = true }
-    → (IsTrue (state g old).is_open → (state g old).now ≡ (state g old).committed) → IsLive (state g old) → {Answer Fault Done Refusal : Type 0} (written : Result Answer Fault) (result : Result Done Refusal)
+    → (IsTrue (state g old).is_open → (state g old).now ≡ (state g old).committed) → {Answer Fault Done Refusal : Type 0} (written : Result Answer Fault) (result : Result Done Refusal)
     → Changes (state g begun) (state g mid) written change → OnOk result (IsOk written × (HasCleanDisk (state g last) → Shows (state g mid) (state g last) (state g mid).now (state g mid).now false))
     → OnErr result (HasCleanDisk (state g last) → KeepsCommit (state g mid) (state g last))
     → Survives (state g mid) (state g last) (λ trees. IsOk written × (trees ≡ (state g mid).now.trees)) → IsCommitted (state g old) (state g last) result change
-transaction_made g old begun mid last change is settled live written result changes ends refused survives =
+transaction_made g old begun mid last change is settled written result changes ends refused survives =
     is_committed (state g old) (state g begun) (state g mid) (state g last) change (ap (λ h. (state g h).now) is) (ap (λ h. (state g h).committed) is) (ap (λ h. (state g h).is_open) is)
-    (subst (λ h. IsTrue h.in_transaction) (sym is) refl) settled live written result
+    (subst (λ h. IsTrue h.in_transaction) (sym is) refl) settled written result
     (subst (λ h. Survives (state g old) (state g h) (λ trees. ⊥)) (sym is) (survives_begin g old (state g (record old { in_transaction = true })) (λ trees. ⊥) (no_read (state g (record old { in_transaction = true }))).survives))
     changes ends refused survives

@@ -1,10 +1,11 @@
 -- What a transaction that makes tables leaves of the connection.
-use Rattle.std.proofs.Common.{◌≡◌, ◌∙◌, Err, IsOk, IsTrue, List, Ok, OnErr, OnOk, Result, ap, false, refl, subst, sym, true}
+use Rattle.std.proofs.Common.{◌≡◌, ◌∙◌, Err, IsOk, IsTrue, List, Ok, OnErr, OnOk, Result, ap, false, inl, inr, refl, subst, sym, true}
 use Rattle.sqlite.specs.Effect.{Database}
 use Rattle.sqlite.specs.Held.{Held, state}
 use Rattle.sqlite.specs.State.{HasCleanDisk, KeepsCommit, Shows, State, Survives}
 use Rattle.sqlite.proofs.Callers.{survives_begin}
 use Rattle.sqlite.proofs.StateLemmas.{survives_then}
+use Rattle.sqlite_catalog.specs.Listing.{IsSound}
 use Rattle.sqlite_trees.specs.declared.store.Store.{Ghosts}
 use Rattle.std.specs.List.{AllByRecursion}
 use Rattle.mcs_reader.specs.Id.{IsId}
@@ -15,8 +16,8 @@ use Rattle.sql_tables.proofs.ChangeFacts.{opened_tables}
 use Rattle.sql_tables.proofs.WholeFacts.{whole_opened}
 use Rattle.sql_tables.specs.Stored.{tables_of}
 use Rattle.sql_tables.specs.Whole.{IsWhole}
-use Rattle.sql_writes.specs.Making.{IsOpened, Leads}
-use Rattle.bureau_sql.specs.Founded.{AreLed, IsLed}
+use Rattle.sql_writes.specs.Making.{IsEmpty, IsOpened, Leads}
+use Rattle.bureau_sql.specs.Founded.{AreFounded, AreLed, IsLed}
 use Rattle.bureau_sql.specs.SqlState.{SqlState}
 use Rattle.bureau_sql.specs.SqlView.{IsAtRest, IsOurStore, shown, sql_view}
 use Rattle.sql_state.proofs.StopFacts.{kept_begun, kept_then, no_read, was_clean}
@@ -43,7 +44,9 @@ module _ (old begun mid new : State) (From To : Database → Type 0) (same_now :
     refused = as_before result refused;
     survives = survives_then old begun new (λ trees. ⊥) (AreLed old From To) (AreLed old From To) (λ clean trees none. absurd none) (λ clean trees made. made) begins
         (survives_then begun mid new (λ trees. ⊥) (λ trees. IsOk written × (trees ≡ mid.now.trees)) (AreLed old From To) (λ clean trees none. absurd none)
-        (λ clean trees left was from. (mid.now, (written_so written leads left.0 (before clean)).2 from, sym left.1)) leads.survives survives);
+        (λ clean trees left.
+        let made = written_so written leads left.0 (before clean) in
+        (made.0, λ from. (mid.now, made.2 from, sym left.1))) leads.survives survives);
   }
     where
       before : HasCleanDisk new → HasCleanDisk mid
@@ -73,12 +76,28 @@ transaction_led g old begun mid last From To is settled written result leads end
     (subst (λ h. Survives (state g old) (state g h) (λ trees. ⊥)) (sym is) (survives_begin g old (state g (record old { in_transaction = true })) (λ trees. ⊥) (no_read (state g (record old { in_transaction = true }))).survives))
     leads ends refused survives
 
+-- in an empty database a store is founded
+pub founded : (old new : State) (callers : List CallerRow) → (IsTrue old.is_open → IsEmpty old.committed) → Survives old new (AreLed old IsEmpty (IsOpened callers))
+    → Survives old new (AreFounded old callers)
+founded old new callers empty survives = record {
+  clean = survives.clean;
+  shield = survives.shield;
+  counts = survives.counts;
+  limit = survives.limit;
+  closes = survives.closes;
+  crash = λ clean trees may. elim (survives.crash clean trees may) [
+    | inl was ↦ inl was
+    | inr led ↦ let from = empty led.0 in inr (led.0, from, led.1 from)
+  ];
+}
+
 -- ---- a store with callers alone is ours
 
 ours_new : (callers : List CallerRow) (database : Database) → AllByRecursion (λ (caller : CallerRow). IsId caller.name) callers → IsOpened callers database → IsOurs database
 ours_new callers database named is = record {
   schema = is.known.schema;
   rows = record {
+    sound = subst (λ schema. IsSound schema database.trees) is.known.schema is.known.sound;
     numbered = is.known.numbered;
     version = is.version;
     whole = subst IsWhole (sym is.held) (whole_opened callers named);

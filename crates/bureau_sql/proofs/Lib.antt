@@ -1,9 +1,11 @@
 pub mod PlainFacts
+pub mod RefusedFacts
 pub mod ToldFacts
 pub mod RecentFacts
 pub mod CommitFacts
 pub mod MadeFacts
 pub mod MigratedFacts
+pub mod FilesFacts
 pub mod FitFacts
 pub mod OpenFacts
 pub mod FoundedFacts

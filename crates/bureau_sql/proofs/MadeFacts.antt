@@ -66,6 +66,7 @@ module _ {S : Type 0} (g : Ghosts S) (update : Update) (can : CanBeWritten updat
     -- rows with the change are ours
     ours_rows : IsOurs (shown g old).committed → (trees : Trees) → HaveChange (shown g old).committed (change_of update) trees → AreOurs trees
     ours_rows were trees changed = record {
+      sound = changed.sound;
       numbered = changed.numbered;
       version = changed.version ∙ were.rows.version;
       whole = subst IsWhole (sym changed.rows) (whole_after update.caller update.effect update.last (held_by (shown g old).committed) can were.rows.whole);

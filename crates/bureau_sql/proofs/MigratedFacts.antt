@@ -1,5 +1,5 @@
 -- What is left of a file of version 1 that was made one of version 2, or was not.
-use Rattle.std.proofs.Common.{◌≡◌, ◌∙◌, Err, IsTrue, Ok, OnErr, OnOk, Result, ap, inl, inr, refl, subst, sym}
+use Rattle.std.proofs.Common.{◌≡◌, ◌∙◌, ℕ, Err, IsTrue, List, Ok, OnErr, OnOk, Result, Some, ap, inl, inr, refl, subst, sym}
 use Rattle.bureau_store.specs.Store.{IsOfCall}
 use Rattle.bureau_store.specs.declared.fault.StoreFault.{StoreFault}
 use Rattle.bureau_store.specs.declared.fault.StoreFault.TheVariants.{Device, Memory, Shape, Size, Version}
@@ -7,6 +7,7 @@ use Rattle.sqlite.specs.Effect.{Database}
 use Rattle.sqlite.specs.Held.{Held, state}
 use Rattle.sqlite.specs.State.{HasCleanDisk, KeepsCommit, State, Survives}
 use Rattle.sqlite.proofs.StateLemmas.{survives_then}
+use Rattle.sqlite_catalog.specs.Listing.{IsSound}
 use Rattle.sqlite_trees.specs.declared.store.Store.{Ghosts}
 use Rattle.sql_state.specs.Earlier.{IsOfVersion1, held_by_version_1}
 use Rattle.sql_state.specs.Ours.{AreOurs, IsOurs, version_rows}
@@ -15,8 +16,11 @@ use Rattle.sql_tables.specs.Stored.{tables_of}
 use Rattle.sql_tables.specs.Whole.{IsWhole}
 use Rattle.sql_writes.specs.Migrating.{HeldEarlier, HoldsAll}
 use Rattle.sql_state.proofs.StopFacts.{kept_then, was_clean}
+use Rattle.bureau_sql.specs.Founded.{AreLed}
 use Rattle.bureau_sql.specs.Migrated.{AreMigrated, IsMigrated, IsUntouched}
-use Rattle.bureau_sql.specs.Opening.{IsNotEarlier}
+use Rattle.bureau_sql.specs.Opening.{HasTables, IsNotEarlier, IsTaken, IsUnderstood, TellsVersion}
+use Rattle.sql_texts.specs.Meaning.{MakesTable}
+use Rattle.sql_texts.specs.Schema.{bureau, bureau_1, sysmod_cond}
 use Rattle.bureau_sql.specs.SqlState.{SqlState}
 use Rattle.bureau_sql.specs.SqlView.{IsAtRest, IsOurStore, shown, sql_view}
 
@@ -46,21 +50,34 @@ reads_survive old new reads = record {
 
 -- ---- the transaction, after the connection was looked at
 
-module _ (old mid new : State) (reads : OnlyReads old mid) (is_open : HasCleanDisk mid → IsTrue mid.is_open) {A F : Type 0} (result : Result A F) (led : IsMigrated mid new result) where
+-- what was seen of the database, where a text that makes the table of version 2 means something
+pub taken_so : (text : List ℕ) (new : State) (database : Database) → MakesTable bureau_1 text sysmod_cond bureau → (HasCleanDisk new → TellsVersion (Some 1) database)
+    → (HasCleanDisk new → HasTables database.schema) → (HasCleanDisk new → IsUnderstood database.schema text) → HasCleanDisk new → IsTaken database
+taken_so text new database makes version tables means clean =
+    record { version = (version clean).has; tables = tables clean; conditions = (text, makes, means clean) }
+
+module _ (old mid new : State) (reads : OnlyReads old mid) (is_open : HasCleanDisk mid → IsTrue mid.is_open)
+    (taken : HasCleanDisk mid → IsTaken old.committed) {A F : Type 0} (result : Result A F) (led : IsMigrated mid new result) where
   at_mid : HasCleanDisk new → HasCleanDisk mid
-  at_mid = was_clean mid new (AreMigrated mid) led.survives
+  at_mid = was_clean mid new (AreLed mid (HeldEarlier (held_by_version_1 mid.committed)) (HoldsAll (version_rows 2) (held_by_version_1 mid.committed))) led.survives
 
   same : HasCleanDisk mid → mid.committed ≡ old.committed
   same clean = (reads.keeps clean).committed (is_open clean)
 
   pub brought_survives : Survives old new (AreMigrated old)
   brought_survives =
-      survives_then old mid new (λ trees. ⊥) (AreMigrated mid) (AreMigrated old) (λ clean trees none. absurd none)
-      (λ clean trees made was from.
+      survives_then old mid new (λ trees. ⊥) (AreLed mid (HeldEarlier (held_by_version_1 mid.committed)) (HoldsAll (version_rows 2) (held_by_version_1 mid.committed))) (AreMigrated old)
+      (λ clean trees none. absurd none)
+      (λ clean trees made.
       let before = at_mid clean in
       let is = same before in
-      subst (λ database. (after : Database) × HoldsAll (version_rows 2) (held_by_version_1 database) after × (after.trees ≡ trees)) is
-      (made (is_open before) (record { ours = subst IsOfVersion1 (sym is) from.ours; held = refl })))
+      record {
+        was_open = (reads.keeps before).was_open made.0;
+        taken = taken before;
+        led = λ from.
+            subst (λ database. (after : Database) × HoldsAll (version_rows 2) (held_by_version_1 database) after × (after.trees ≡ trees)) is
+            (made.1 (record { ours = subst IsOfVersion1 (sym is) from; held = refl }));
+      })
       reads.survives led.survives
 
   pub brought_held : OnOk result (HasCleanDisk new → IsOfVersion1 old.committed → HoldsAll (version_rows 2) (held_by_version_1 old.committed) new.committed)
@@ -103,20 +120,25 @@ module _ (old mid new : State) (reads : OnlyReads mid new) where
         inr (kept.was_open here, rests trees here may ∙ ap (λ (database : Database). database.trees) (kept.committed here));
   }
 
--- it is refused for want of memory or room, or the device failed
-pub of_call : (old : State) (fault : StoreFault) → IsOfCall fault → IsNotEarlier old fault
-of_call old Memory of = tt
-of_call old Device of = tt
-of_call old Size of = tt
-of_call old Shape of = absurd of
-of_call old Version of = absurd of
+-- the change was begun, and is refused for want of memory or room, or the device failed
+pub of_call : (old new : State) (fault : StoreFault) → IsOfCall fault → IsTaken old.committed → IsNotEarlier old new fault
+of_call old new Memory of taken = tt
+of_call old new Device of taken = inr (inr taken)
+of_call old new Size of taken = taken
+of_call old new Shape of taken = absurd of
+of_call old new Version of taken = absurd of
 
 -- ---- a file that was made one of version 2 is ours
 
 after_is_ours : (before after : Database) → IsOfVersion1 before → HoldsAll (version_rows 2) (held_by_version_1 before) after → IsOurs after
 after_is_ours before after was is = record {
   schema = is.known.schema;
-  rows = record { numbered = is.known.numbered; version = is.version; whole = subst IsWhole (sym is.held) was.rows.whole };
+  rows = record {
+    sound = subst (λ schema. IsSound schema after.trees) is.known.schema is.known.sound;
+    numbered = is.known.numbered;
+    version = is.version;
+    whole = subst IsWhole (sym is.held) was.rows.whole;
+  };
 }
 
 module _ {S : Type 0} (g : Ghosts S) (conn : Held S) (store : SqlState S) (is_open : HasCleanDisk (shown g store) → IsTrue (shown g store).is_open)

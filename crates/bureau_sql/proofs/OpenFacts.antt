@@ -1,7 +1,8 @@
 -- What is looked at before a connection is taken for a store leaves it as it was, and says why it isn't.
-use Rattle.std.proofs.Common.{◌≡◌, ◌≢◌, ◌∙◌, ◌+◌, ◌<◌, ◌≤◌, ℕ, Bor, List, [], Err, IfErr, IsTrue, Ok, OnOk, Result, Some, ap, arith, get_or, inl, inr, length, refl, subst, suc, sym, take, zero}
-use Rattle.std.specs.List.{AllByRecursion}
+use Rattle.std.proofs.Common.{◌≡◌, ◌≢◌, ◌+◌, ◌<◌, ◌≤◌, ℕ, Bor, List, [], Err, IfErr, IsTrue, Ok, OnOk, Result, Some, ap, arith, get_or, inl, inr, length, refl, subst, suc, sym, take, zero}
+use Rattle.std.specs.List.{AllByRecursion, Contains}
 use Rattle.std.specs.Prelude.{◌∷◌, Option, codes, unwrap_or}
+use Rattle.std.proofs.lemmas.Bool.{cases_Bool}
 use Rattle.bureau_store.specs.Store.{IsOfRead}
 use Rattle.bureau_store.specs.declared.fault.StoreFault.{StoreFault}
 use Rattle.bureau_store.specs.declared.fault.StoreFault.TheVariants.{Device, Memory, Shape, Size, Version}
@@ -10,24 +11,23 @@ use Rattle.sqlite.specs.Held.{Held, state}
 use Rattle.sqlite.specs.Listing.{understood}
 use Rattle.sqlite.specs.Schema.{Schema}
 use Rattle.sqlite.specs.Outline.{Outline}
-use Rattle.sqlite.specs.State.{HasCleanDisk, IsNoStatement, IsNotRun, IsUnchanged, KeepsCommit, State, store_error}
+use Rattle.sqlite.specs.State.{HasCleanDisk, IsUnchanged, KeepsCommit, State}
 use Rattle.sqlite.specs.Steps.{Outlines}
-use Rattle.sqlite.specs.declared.error.Error.{Error}
-use Rattle.sqlite.specs.declared.error.Error.TheVariants.{SqlInputError}
+use Rattle.sqlite.specs.Query.{Query}
 use Rattle.sqlite_resolve.specs.declared.compiled.Compiled.{Compiled}
 use Rattle.sqlite_resolve.specs.declared.error.CompileError.{CompileError}
-use Rattle.sqlite_trees.specs.declared.error.StoreError.{StoreError}
-use Rattle.sqlite_trees.specs.declared.error.StoreError.TheVariants.{OutOfMemory, Io, Corrupt, Full, Broken, Unstorable}
 use Rattle.sqlite_trees.specs.declared.store.Store.{Ghosts}
 use Rattle.sql_state.specs.Earlier.{IsOfVersion1}
 use Rattle.sql_state.specs.Ours.{AreOurs, IsOurs, held_by}
-use Rattle.sql_state.specs.Reading.{OnlyReads}
+use Rattle.sql_state.specs.Reading.{HasFailed, OnlyReads}
+use Rattle.sql_reads.specs.Version.{WithholdsVersion}
 use Rattle.sql_tables.specs.Stored.{tables_of}
+use Rattle.sql_tables.proofs.MemberFacts.{cases_in, first_in, none_in, rest_in}
 use Rattle.sql_texts.specs.Meaning.{MakesTable, Reads}
 use Rattle.sql_texts.specs.Reads as read
 use Rattle.sql_texts.specs.Schema.{bureau, bureau_1, sysmod_cond}
-use Rattle.sql_state.proofs.StopFacts.{no_read, read_on, was_clean}
-use Rattle.bureau_sql.specs.Opening.{CanMakeConditions, HasConditions, HasTables, IsNoStore, IsNone, IsNotEarlier, IsNotOf, IsOfBureau, IsOther, IsSeen, IsUnderstood, LacksTables, TellsVersion}
+use Rattle.sql_state.proofs.StopFacts.{failed_after, no_read, read_on, was_clean}
+use Rattle.bureau_sql.specs.Opening.{Asked, CanAsk, CanMakeConditions, CannotAsk, CannotMakeConditions, HasConditions, HasOtherShape, HasTables, IsAskedBy, IsNoStore, IsNotEarlier, IsNotOf, IsOfBureau, IsOneStatement, IsOther, IsSeen, IsTaken, IsUnderstood, LacksConditions, LacksMore, LacksTables, LacksText, LacksVersion, TellsVersion, of_conditions, of_tables, of_version}
 use Rattle.bureau_sql.specs.SqlState.{SqlState}
 use Rattle.bureau_sql.specs.SqlView.{IsAtRest, IsOurStore, shown, sql_view}
 use Rattle.bureau_sql.proofs.FitFacts.{all_seen, all_so_far}
@@ -104,49 +104,6 @@ found_before Fact old first second last one two three is_open fact clean =
     let was_open = (two.keeps at_second).was_open (is_open at_second) in
     subst Fact ((one.keeps at_first).committed was_open) (fact at_second)
 
--- ---- why a connection isn't taken for a store
-
-no_store_error : (fault : CompileError) (cause : StoreError) → SqlInputError fault ≡ store_error cause → ⊥
-no_store_error fault OutOfMemory is = cc
-no_store_error fault Io is = cc
-no_store_error fault Corrupt is = cc
-no_store_error fault Full is = cc
-no_store_error fault Broken is = cc
-no_store_error fault Unstorable is = cc
-
--- a text that tables give a meaning is not understood
-other_tables : (at : State) (text : List ℕ) (fault : CompileError) (schema : Schema) → IsUnderstood schema text → at.now.schema ≡ schema → IsNoStatement at text [] (SqlInputError fault) → ⊥
-other_tables at text fault schema means is (inl it) =
-    let one : understood schema text ≡ Err it.0 = ap (λ s. understood s text) (sym is) ∙ it.1 in
-    let two : Ok means.0 ≡ Err it.0 = sym means.1 ∙ one in
-    cc
-other_tables at text fault schema means is (inr it) = elim it.2 [
-  | inl more ↦ let is_it = more.1 in cc
-  | inr rest ↦ elim rest [
-    | inl given ↦ let is_it = given.1 in cc
-    | inr timed ↦ let is_it = timed.1 in cc
-  ]
-]
-
-not_understood : (old new : State) (text : List ℕ) (fault : CompileError) → (IsTrue old.is_open → old.now ≡ old.committed)
-    → IsNotRun old new text [] (SqlInputError fault) → IsTrue old.is_open × IsNone (λ schema. IsUnderstood schema text) old.committed
-unfolding IsNotRun
-not_understood old new text fault settled (inl it) =
-    let was = it.1.0.was_open in
-    (was, λ schema means is. other_tables old text fault schema means (ap (λ database. database.schema) (settled was) ∙ is) it.0)
-not_understood old new text fault settled (inr failed) = absurd (no_store_error fault failed.0 failed.1)
-
-pub unread : (old new : State) (text : List ℕ) (e : Error) (fault : StoreFault) → (IsTrue old.is_open → old.now ≡ old.committed)
-    → IsNotRun old new text [] e → (fault ≡ Shape → (why : CompileError) × (e ≡ SqlInputError why)) → (fault ≢ Shape → IsOfRead fault)
-    → IsSeen (IsNone (λ schema. IsUnderstood schema text)) (λ database. ⊥) old fault
-unread old new text e Memory settled not_run shape other = tt
-unread old new text e Device settled not_run shape other = tt
-unread old new text e Size settled not_run shape other = other (λ is. cc)
-unread old new text e Version settled not_run shape other = absurd (other (λ is. cc))
-unread old new text e Shape settled not_run shape other =
-    let why = shape refl in
-    not_understood old new text why.0 settled (subst (IsNotRun old new text []) why.1 not_run)
-
 -- ---- the version
 
 pub same_version : {A : Type 0} (version : Option ℕ) (wanted : ℕ) (new : State) (database : Database) (result : Result A StoreFault) → OnOk result (version ≡ Some wanted)
@@ -156,57 +113,126 @@ same_version version wanted new database (Err e) same tells = tt
 
 pub other_version : {A : Type 0} (version : Option ℕ) (wanted : ℕ) (old new : State) (result : Result A StoreFault) → IfErr result (λ fault. (fault ≡ Version) × (version ≢ Some wanted))
     → (HasCleanDisk new → IsTrue old.is_open) → (HasCleanDisk new → TellsVersion version old.committed)
-    → IfErr result (λ fault. HasCleanDisk new → IsSeen (λ database. ⊥) (IsOther wanted) old fault)
+    → IfErr result (λ fault. HasCleanDisk new → IsSeen (λ database. ⊥) (IsOther wanted) old new fault)
 other_version version wanted old new (Ok a) other is_open tells = tt
 other_version version wanted old new (Err fault) other is_open tells = λ clean.
-    subst (IsSeen (λ database. ⊥) (IsOther wanted) old) (sym other.0) (is_open clean, (version, other.1, tells clean))
+    subst (IsSeen (λ database. ⊥) (IsOther wanted) old new) (sym other.0) (is_open clean, (version, other.1, tells clean))
 
 -- ---- what was seen
 
 -- what was seen after a read was so before, and may say more there
 pub seen_before : (Shaped Versioned Shape_there Version_there : Database → Type 0) (old mid last : State) (fault : StoreFault) → OnlyReads old mid → OnlyReads mid last
     → (HasCleanDisk last → Shaped old.committed → Shape_there old.committed) → (HasCleanDisk last → Versioned old.committed → Version_there old.committed)
-    → (HasCleanDisk last → IsSeen Shaped Versioned mid fault) → HasCleanDisk last → IsSeen Shape_there Version_there old fault
+    → (HasCleanDisk last → IsSeen Shaped Versioned mid last fault) → HasCleanDisk last → IsSeen Shape_there Version_there old last fault
 seen_before Shaped Versioned Shape_there Version_there old mid last fault sooner later shape version seen clean = by fault (seen clean)
   where
-    kept : KeepsCommit old mid
-    kept = sooner.keeps (was_clean mid last (λ trees. ⊥) later.survives clean)
+    before : HasCleanDisk mid
+    before = was_clean mid last (λ trees. ⊥) later.survives clean
 
-    by : (fault : StoreFault) → IsSeen Shaped Versioned mid fault → IsSeen Shape_there Version_there old fault
+    kept : KeepsCommit old mid
+    kept = sooner.keeps before
+
+    by : (fault : StoreFault) → IsSeen Shaped Versioned mid last fault → IsSeen Shape_there Version_there old last fault
     by Memory it = tt
-    by Device it = tt
+    by Device (inl failed) = inl (failed_after old mid last sooner before later.survives.counts failed)
+    by Device (inr withheld) = elim (cases_Bool mid.is_open) [
+      | inl on ↦ inr (subst (λ (d : Database). WithholdsVersion old.step_limit d) (kept.committed on)
+          (subst (λ (limit : Option ℕ). WithholdsVersion limit mid.committed) sooner.survives.limit withheld))
+      | inr shut ↦ inl (failed_after old mid last sooner before later.survives.counts (inr shut))
+    ]
     by Size it = it
     by Shape it = (kept.was_open it.0, shape clean (subst Shaped (kept.committed it.0) it.1))
     by Version it = (kept.was_open it.0, version clean (subst Versioned (kept.committed it.0) it.1))
 
+pub seen_after : {A : Type 0} (Shaped Versioned Shape_there Version_there : Database → Type 0) (old mid last : State) (result : Result A StoreFault) → OnlyReads old mid
+    → OnlyReads mid last → ((database : Database) → Shaped database → Shape_there database) → ((database : Database) → Versioned database → Version_there database)
+    → IfErr result (λ fault. HasCleanDisk last → IsSeen Shaped Versioned mid last fault) → IfErr result (λ fault. HasCleanDisk last → IsSeen Shape_there Version_there old last fault)
+seen_after Shaped Versioned Shape_there Version_there old mid last (Ok a) sooner later shape version seen = tt
+seen_after Shaped Versioned Shape_there Version_there old mid last (Err fault) sooner later shape version seen =
+    seen_before Shaped Versioned Shape_there Version_there old mid last fault sooner later (λ clean. shape old.committed) (λ clean. version old.committed) seen
+
+-- and so was a failure that the probe saw
+pub probe_seen : {A : Type 0} (Shaped Versioned : Database → Type 0) (old mid last : State) (result : Result A StoreFault) → OnlyReads old mid → OnlyReads mid last
+    → IfErr result IsOfRead → IfErr result (λ fault. HasCleanDisk last → fault ≡ Device → HasFailed mid last)
+    → IfErr result (λ fault. HasCleanDisk last → IsSeen Shaped Versioned old last fault)
+probe_seen Shaped Versioned old mid last (Ok a) sooner later of failed = tt
+probe_seen Shaped Versioned old mid last (Err Memory) sooner later of failed = λ clean. tt
+probe_seen Shaped Versioned old mid last (Err Device) sooner later of failed = λ clean.
+    inl (failed_after old mid last sooner (was_clean mid last (λ trees. ⊥) later.survives clean) later.survives.counts (failed clean refl))
+probe_seen Shaped Versioned old mid last (Err Size) sooner later of failed = absurd of
+probe_seen Shaped Versioned old mid last (Err Shape) sooner later of failed = absurd of
+probe_seen Shaped Versioned old mid last (Err Version) sooner later of failed = absurd of
+
 -- the same at once
-pub seen_so : (Shaped Versioned Shape_there Version_there : Database → Type 0) (at : State) (fault : StoreFault) → ((database : Database) → Shaped database → Shape_there database)
-    → ((database : Database) → Versioned database → Version_there database) → IsSeen Shaped Versioned at fault → IsSeen Shape_there Version_there at fault
-seen_so Shaped Versioned Shape_there Version_there at Memory shape version it = tt
-seen_so Shaped Versioned Shape_there Version_there at Device shape version it = tt
-seen_so Shaped Versioned Shape_there Version_there at Size shape version it = it
-seen_so Shaped Versioned Shape_there Version_there at Shape shape version it = (it.0, shape at.committed it.1)
-seen_so Shaped Versioned Shape_there Version_there at Version shape version it = (it.0, version at.committed it.1)
+pub seen_so : (Shaped Versioned Shape_there Version_there : Database → Type 0) (at new : State) (fault : StoreFault) → ((database : Database) → Shaped database → Shape_there database)
+    → ((database : Database) → Versioned database → Version_there database) → IsSeen Shaped Versioned at new fault → IsSeen Shape_there Version_there at new fault
+seen_so Shaped Versioned Shape_there Version_there at new Memory shape version it = tt
+seen_so Shaped Versioned Shape_there Version_there at new Device shape version it = it
+seen_so Shaped Versioned Shape_there Version_there at new Size shape version it = it
+seen_so Shaped Versioned Shape_there Version_there at new Shape shape version it = (it.0, shape at.committed it.1)
+seen_so Shaped Versioned Shape_there Version_there at new Version shape version it = (it.0, version at.committed it.1)
 
--- texts that mean something with the bureau's tables were not all understood
-pub seen_texts : {A X : Type 0} (text_of : X → List ℕ) (texts : List X) (old new : State) (result : Result A StoreFault)
-    → IfErr result (λ fault. HasCleanDisk new → IsSeen (IsNone (λ schema. AllByRecursion (λ text. IsUnderstood schema (text_of text)) texts)) (λ database. ⊥) old fault)
-    → AllByRecursion (λ text. IsUnderstood bureau (text_of text)) texts → AllByRecursion (λ text. IsUnderstood bureau_1 (text_of text)) texts
-    → IfErr result (λ fault. HasCleanDisk new → IsSeen (IsNone IsOfBureau) (λ database. ⊥) old fault)
-seen_texts text_of texts old new (Ok a) seen here before = tt
-seen_texts text_of texts old new (Err fault) seen here before = λ clean.
-    seen_so (IsNone (λ schema. AllByRecursion (λ text. IsUnderstood schema (text_of text)) texts)) (λ database. ⊥) (IsNone IsOfBureau) (λ database. ⊥) old fault
-    (λ database none schema of is. elim of [
-      | inl it ↦ none bureau here (is ∙ it)
-      | inr it ↦ none bureau_1 before (is ∙ it)
-    ]) (λ database none. none) (seen clean)
+-- ---- what is asked of the tables
 
--- what is none of the bureau's databases lacks tables
-pub other_than_ours : (text : List ℕ) (database : Database) (wanted : ℕ) → IsNone IsOfBureau database → LacksTables wanted text database
-other_than_ours text database wanted none = (
-  λ schema means. none schema means.0,
-  λ ours. absurd (none bureau (inl refl) ours.schema),
-  λ earlier. absurd (none bureau_1 (inr refl) earlier.schema),
+-- a text that reads is one statement
+pub one_of_asked : (schema : Schema) (text : List ℕ) (query : Query) (names : List (List ℕ)) (parameters : ℕ) → Reads schema text query names parameters → IsOneStatement schema text
+one_of_asked schema text query names parameters reads = (_, reads.statement, omega arith, refl)
+
+-- these texts ask these things, one each
+abbrev pub AreAskedBy : List Asked → List (Bor (List ℕ)) → Type 0
+AreAskedBy [] [] = Unit {0}
+AreAskedBy [] (text ∷ texts) = ⊥
+AreAskedBy (what ∷ more) [] = ⊥
+AreAskedBy (what ∷ more) (text ∷ texts) = IsAskedBy what text.now × AreAskedBy more texts
+
+pub all_asked : (schema : Schema) (what : List Asked) (texts : List (Bor (List ℕ))) → AreAskedBy what texts → AllByRecursion (λ text. IsUnderstood schema text.now) texts
+    → AllByRecursion (CanAsk schema) what
+all_asked schema [] [] asked all = tt
+all_asked schema [] (text ∷ texts) asked all = absurd asked
+all_asked schema (one ∷ more) [] asked all = absurd asked
+all_asked schema (one ∷ more) (text ∷ texts) asked all = ((text.now, asked.0, all.0), all_asked schema more texts asked.1 all.1)
+
+one_not_asked : (schema : Schema) (what : List Asked) (texts : List (Bor (List ℕ))) → AreAskedBy what texts → (text : Bor (List ℕ)) → Contains texts text
+    → (IsOneStatement schema text.now → ⊥) → (one : Asked) × Contains what one × CannotAsk schema one
+one_not_asked schema [] [] asked text inside none = absurd (none_in text inside)
+one_not_asked schema [] (first ∷ texts) asked text inside none = absurd asked
+one_not_asked schema (one ∷ more) [] asked text inside none = absurd asked
+one_not_asked schema (one ∷ more) (first ∷ texts) asked text inside none = elim (cases_in first text texts inside) [
+  | inl same ↦ (one, first_in one more, (text.now, subst (λ (t : Bor (List ℕ)). IsAskedBy one t.now) same asked.0, none))
+  | inr later ↦ let it = one_not_asked schema more texts asked.1 text later none in (it.0, rest_in one it.0 more it.1, it.2)
+]
+
+all_in : {X : Type 0} (P : X → Type 0) (xs : List X) → AllByRecursion P xs → (x : X) → Contains xs x → P x
+all_in P [] all x inside = absurd (none_in x inside)
+all_in P (y ∷ ys) all x inside = elim (cases_in y x ys inside) [ inl same ↦ subst P same all.0 | inr later ↦ all_in P ys all.1 x later ]
+
+-- one of the texts is no statement, so one of the tables lacks, and the tables are the bureau's of no version
+table_lacks : (texts : List (Bor (List ℕ))) → AreAskedBy of_tables texts → AllByRecursion (λ text. IsOneStatement bureau text.now) texts
+    → AllByRecursion (λ text. IsOneStatement bureau_1 text.now) texts → (database : Database) → LacksText texts database → LacksTables database
+table_lacks texts asked here before database lacks = (
+  λ of. lacks.2 (elim of [
+    | inl is ↦ subst (λ s. IsOneStatement s lacks.0.now) (sym is) (all_in (λ text. IsOneStatement bureau text.now) texts here lacks.0 lacks.1)
+    | inr is ↦ subst (λ s. IsOneStatement s lacks.0.now) (sym is) (all_in (λ text. IsOneStatement bureau_1 text.now) texts before lacks.0 lacks.1)
+  ]),
+  one_not_asked database.schema of_tables texts asked lacks.0 lacks.1 lacks.2,
+)
+
+pub seen_tables : {A : Type 0} (texts : List (Bor (List ℕ))) (old new : State) (result : Result A StoreFault)
+    → IfErr result (λ fault. HasCleanDisk new → IsSeen (LacksText texts) (λ database. ⊥) old new fault) → AreAskedBy of_tables texts
+    → AllByRecursion (λ text. IsOneStatement bureau text.now) texts → AllByRecursion (λ text. IsOneStatement bureau_1 text.now) texts
+    → IfErr result (λ fault. HasCleanDisk new → IsSeen LacksTables (λ database. ⊥) old new fault)
+seen_tables texts old new (Ok a) seen asked here before = tt
+seen_tables texts old new (Err fault) seen asked here before = λ clean.
+    seen_so (LacksText texts) (λ database. ⊥) LacksTables (λ database. ⊥) old new fault (table_lacks texts asked here before) (λ database none. none) (seen clean)
+
+-- a text that asks for the version of the bureau's tables, of either version, is no statement
+pub version_lacks : (text : List ℕ) → IsAskedBy of_version text → IsOneStatement bureau_1 text → (database : Database) → (IsOneStatement database.schema text → ⊥) → LacksVersion database
+version_lacks text asks before database none = (
+  λ of. none (elim of [
+    | inl is ↦ subst (λ s. IsOneStatement s text) (sym is) (one_of_asked bureau text _ _ _ asks)
+    | inr is ↦ subst (λ s. IsOneStatement s text) (sym is) before
+  ]),
+  (text, asks, none),
 )
 
 -- what `open` found: the text that it looked at asks for the requisites under a condition
@@ -221,25 +247,50 @@ conditions_to_make text schema tables means makes = (tables, (text, makes, means
 
 -- ---- what is looked for by a store, and by what makes a file of version 1 one of version 2
 
-module _ (wanted : ℕ) (schema : Schema) (IsIt IsOtherOurs : Database → Type 0) (WantsRoom : Type 0) (text : List ℕ) (of_bureau : IsOfBureau schema) (means : IsUnderstood schema text)
-    (apart : (database : Database) → LacksTables wanted text database → IsOtherOurs database → ⊥)
+module _ (wanted : ℕ) (schema : Schema) (Lacks : Schema → Type 0) (IsIt IsOtherOurs IsChanged : Database → Type 0) (text : List ℕ) (of_bureau : IsOfBureau schema)
+    (means : IsOneStatement schema text) (lacks_more : (other : Schema) → (IsOneStatement other text → ⊥) → Lacks other)
+    (its_schema : (database : Database) → IsIt database → database.schema ≡ schema) (other_schema : (database : Database) → IsOtherOurs database → IsOfBureau database.schema)
+    (apart : (database : Database) → TellsVersion (Some wanted) database → IsOtherOurs database → ⊥)
     (tells : (version : Option ℕ) (database : Database) → TellsVersion version database → IsIt database → version ≡ Some wanted) where
-  not_of : (at : State) (fault : StoreFault) → IsSeen (LacksTables wanted text) (IsOther wanted) at fault → IsNotOf wanted schema IsIt IsOtherOurs WantsRoom at fault
-  not_of at Memory it = tt
-  not_of at Device it = tt
-  not_of at Size it = absurd it
-  not_of at Shape it = (it.0, it.1.0 schema (of_bureau, means), apart at.committed it.1)
-  not_of at Version it = (it.0, λ is. it.1.1 (tells it.1.0 at.committed it.1.2 is), it.1.0, it.1.1, it.1.2.has)
+  other_shape : (database : Database) → LacksMore wanted text database → HasOtherShape wanted Lacks database
+  other_shape database (inl version) = inl version.1
+  other_shape database (inr more) = elim more.1 [
+    | inl table ↦ inr (more.0.has, inl table.1)
+    | inr none ↦ inr (more.0.has, inr (lacks_more database.schema none))
+  ]
 
-pub no_store : (text : List ℕ) (at : State) (fault : StoreFault) → IsUnderstood bureau text → IsSeen (LacksTables 2 text) (IsOther 2) at fault → IsNoStore at fault
-no_store text at fault means =
-    not_of 2 bureau IsOurs IsOfVersion1 ⊥ text (inl refl) means (λ database lacks earlier. omega (arith, ap (λ (o : Option ℕ). unwrap_or o 0) (lacks.2 earlier)))
-    (λ version database told. told.ours) at fault
+  not_it : (database : Database) → LacksMore wanted text database → IsIt database → ⊥
+  not_it database (inl version) is = version.0 (subst IsOfBureau (sym (its_schema database is)) of_bureau)
+  not_it database (inr more) is = elim more.1 [
+    | inl table ↦ table.0 (subst IsOfBureau (sym (its_schema database is)) of_bureau)
+    | inr none ↦ none (subst (λ s. IsOneStatement s text) (sym (its_schema database is)) means)
+  ]
 
-pub not_earlier : (text : List ℕ) (at : State) (fault : StoreFault) → IsUnderstood bureau_1 text → IsSeen (LacksTables 1 text) (IsOther 1) at fault → IsNotEarlier at fault
-not_earlier text at fault means =
-    not_of 1 bureau_1 IsOfVersion1 IsOurs (Unit {0}) text (inr refl) means (λ database lacks ours. omega (arith, ap (λ (o : Option ℕ). unwrap_or o 0) (lacks.1 ours)))
-    (λ version database told. told.earlier) at fault
+  not_other : (database : Database) → LacksMore wanted text database → IsOtherOurs database → ⊥
+  not_other database (inl version) is = version.0 (other_schema database is)
+  not_other database (inr more) is = apart database more.0 is
+
+  not_of : (at new : State) (fault : StoreFault) → IsSeen (LacksMore wanted text) (IsOther wanted) at new fault → IsNotOf wanted Lacks IsIt IsOtherOurs IsChanged at new fault
+  not_of at new Memory it = tt
+  not_of at new Device (inl failed) = inl failed
+  not_of at new Device (inr withheld) = inr (inl withheld)
+  not_of at new Size it = absurd it
+  not_of at new Shape it = (it.0, other_shape at.committed it.1, not_it at.committed it.1, not_other at.committed it.1)
+  not_of at new Version it = (it.0, λ is. it.1.1 (tells it.1.0 at.committed it.1.2 is), it.1.0, it.1.1, it.1.2.has)
+
+-- one version is not another
+two_versions : (one other : ℕ) → Some one ≡ Some other → one ≡ other
+two_versions one other is = ap (λ (o : Option ℕ). unwrap_or o 0) is
+
+pub no_store : (text : List ℕ) (at new : State) (fault : StoreFault) → IsAskedBy of_conditions text → IsSeen (LacksMore 2 text) (IsOther 2) at new fault → IsNoStore at new fault
+no_store text at new fault asks =
+    not_of 2 bureau LacksConditions IsOurs IsOfVersion1 (λ database. ⊥) text (inl refl) (one_of_asked bureau text _ _ _ asks) (λ other none. (text, asks, none)) (λ database is. is.schema) (λ database is. inr is.schema)
+    (λ database told earlier. omega (arith, two_versions 2 1 (told.earlier earlier))) (λ version database told. told.ours) at new fault
+
+pub not_earlier : (text : List ℕ) (at new : State) (fault : StoreFault) → MakesTable bureau_1 text sysmod_cond bureau → IsSeen (LacksMore 1 text) (IsOther 1) at new fault → IsNotEarlier at new fault
+not_earlier text at new fault makes =
+    not_of 1 bureau_1 CannotMakeConditions IsOfVersion1 IsOurs IsTaken text (inr refl) (_, makes.statement, omega arith, refl) (λ other none. (text, makes, none)) (λ database is. is.schema) (λ database is. inl is.schema)
+    (λ database told ours. omega (arith, two_versions 1 2 (told.ours ours))) (λ version database told. told.earlier) at new fault
 
 -- ---- what is taken for a store
 

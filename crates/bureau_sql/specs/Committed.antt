@@ -2,6 +2,7 @@
 use Rattle.std.specs.Prelude.{◌≡◌, IsTrue, OnErr, OnOk, Result}
 use Rattle.sqlite.specs.Effect.{Database}
 use Rattle.sqlite.specs.State.{HasCleanDisk, KeepsCommit, State, Survives}
+use Rattle.sqlite_catalog.specs.Listing.{IsSound}
 use Rattle.sqlite_trees.specs.Tree.{Trees}
 use Rattle.sql_texts.specs.Schema.{bureau}
 use Rattle.sql_tables.specs.InTrees.{stored_in}
@@ -9,8 +10,10 @@ use Rattle.sql_tables.specs.Stored.{Stored}
 use Rattle.sql_state.specs.Numbered.{AreNumbered}
 use Rattle.sql_state.specs.Ours.{IsOurs, held_by}
 
--- the rows of these trees are those of a database with this change, under numbers that rise, and the version is the same
+-- The trees list the tables of version 2 and obey them. Their rows are those of a database with this change, under numbers that
+-- rise, and the version is the same.
 pub record HaveChange (database : Database) (change : Stored → Stored) (trees : Trees) : Type 0 where
+  pub sound : IsSound bureau trees
   pub numbered : AreNumbered trees
   pub version : trees 0 ≡ database.trees 0
   pub rows : stored_in trees ≡ change (held_by database)

@@ -9,9 +9,9 @@ use Rattle.sqlite.specs.State.{HasCleanDisk, KeepsCommit, State, Survives}
 use Rattle.sqlite_trees.specs.Tree.{Trees}
 use Rattle.sql_writes.specs.Making.{IsEmpty, IsOpened}
 
--- the trees are those of a database of the second kind, where what was committed is of the first
+-- the connection was open, and the trees are those of a database of the second kind where what was committed is of the first
 abbrev pub AreLed : State → (Database → Type 0) → (Database → Type 0) → Trees → Type 0
-AreLed old From To trees = IsTrue old.is_open → From old.committed → (database : Database) × To database × (database.trees ≡ trees)
+AreLed old From To trees = IsTrue old.is_open × (From old.committed → (database : Database) × To database × (database.trees ≡ trees))
 
 pub record IsLed {Answer Fault : Type 0} (old new : State) (result : Result Answer Fault) (From To : Database → Type 0) : Type 0 where
   pub done : OnOk result (HasCleanDisk new → IsTrue old.is_open × IsTrue new.is_open × (From old.committed → To new.committed))
@@ -19,9 +19,10 @@ pub record IsLed {Answer Fault : Type 0} (old new : State) (result : Result Answ
   -- a stop may leave such a database, and else what it might have left before
   pub survives : Survives old new (AreLed old From To)
 
--- the trees are those of a store with these callers and nothing else, where what was committed is an empty database
+-- what was committed is an empty database, and the trees are those of a store with these callers and nothing else
 abbrev pub AreFounded : State → List CallerRow → Trees → Type 0
-AreFounded old callers = AreLed old IsEmpty (IsOpened callers)
+AreFounded old callers trees =
+    IsTrue old.is_open × IsEmpty old.committed × ((database : Database) × IsOpened callers database × (database.trees ≡ trees))
 
 -- Why a store isn't made: of an open connection the fault is `Shape` just where the database isn't empty.
 pub record IsNotMade (at : State) (fault : StoreFault) : Type 0 where

@@ -1,15 +1,20 @@
 -- What is left of a file of version 1 by the transaction that makes it one of version 2.
 use Rattle.std.specs.Prelude.{◌≡◌, ◌⊎◌, IsTrue, Result}
+use Rattle.sqlite.specs.Effect.{Database}
 use Rattle.sqlite.specs.State.{HasCleanDisk, KeepsCommit, State}
 use Rattle.sqlite_trees.specs.Tree.{Trees}
-use Rattle.sql_state.specs.Earlier.{held_by_version_1}
+use Rattle.sql_state.specs.Earlier.{IsOfVersion1, held_by_version_1}
 use Rattle.sql_state.specs.Ours.{version_rows}
 use Rattle.sql_writes.specs.Migrating.{HeldEarlier, HoldsAll}
-use Rattle.bureau_sql.specs.Founded.{AreLed, IsLed}
+use Rattle.bureau_sql.specs.Founded.{IsLed}
+use Rattle.bureau_sql.specs.Opening.{IsTaken}
 
--- the trees are those of version 2 with the rows that were committed in a database of version 1, where it is ours
-abbrev pub AreMigrated : State → Trees → Type 0
-AreMigrated old = AreLed old (HeldEarlier (held_by_version_1 old.committed)) (HoldsAll (version_rows 2) (held_by_version_1 old.committed))
+-- What was committed was taken for a database of version 1. If it is ours, the trees are those of version 2 with its rows.
+pub record AreMigrated (old : State) (trees : Trees) : Type 0 where
+  pub was_open : IsTrue old.is_open
+  pub taken : IsTaken old.committed
+  pub led : IsOfVersion1 old.committed
+      → (database : Database) × HoldsAll (version_rows 2) (held_by_version_1 old.committed) database × (database.trees ≡ trees)
 
 abbrev pub IsMigrated : {Answer Fault : Type 0} → State → State → Result Answer Fault → Type 0
 IsMigrated old new result = IsLed old new result (HeldEarlier (held_by_version_1 old.committed)) (HoldsAll (version_rows 2) (held_by_version_1 old.committed))

@@ -1,39 +1,25 @@
 -- Why a connection isn't taken for a store, or its file not made one of version 2.
-use Rattle.std.specs.Prelude.{◌≡◌, ◌≢◌, ◌⊎◌, ℕ, IsTrue, List, [], ◌∷◌, Ok, Option, Some, codes}
+use Rattle.std.specs.Prelude.{◌≡◌, ◌≢◌, ◌≤◌, ◌⊎◌, ℕ, IsTrue, List, [], ◌∷◌, Ok, Option, Some, codes, length}
+use Rattle.std.specs.Borrow.{Bor}
+use Rattle.std.specs.List.{AllByRecursion, Contains}
 use Rattle.bureau_store.specs.declared.fault.StoreFault.{StoreFault}
 use Rattle.bureau_store.specs.declared.fault.StoreFault.TheVariants.{Device, Memory, Shape, Size, Version}
 use Rattle.sqlite.specs.Effect.{Database}
 use Rattle.sqlite.specs.Listing.{understood}
 use Rattle.sqlite.specs.Query.{Query}
 use Rattle.sqlite.specs.Schema.{Schema}
-use Rattle.sqlite.specs.State.{State}
+use Rattle.sqlite.specs.State.{State, store_error}
+use Rattle.sqlite.specs.declared.error.Error.{Error}
 use Rattle.sqlite_resolve.specs.declared.compiled.Compiled.{Compiled}
-use Rattle.sql_reads.specs.Version.{HasVersion}
+use Rattle.sqlite_trees.specs.declared.error.StoreError.{StoreError}
+use Rattle.sqlite_trees.specs.declared.error.StoreError.TheVariants.{Broken, Corrupt, Full, Io, OutOfMemory, Unstorable}
+use Rattle.sql_reads.specs.Version.{HasVersion, WithholdsVersion}
 use Rattle.sql_state.specs.Earlier.{IsOfVersion1}
 use Rattle.sql_state.specs.Ours.{IsOurs}
+use Rattle.sql_state.specs.Reading.{HasFailed}
 use Rattle.sql_texts.specs.Meaning.{MakesTable, Reads}
 use Rattle.sql_texts.specs.Reads as read
 use Rattle.sql_texts.specs.Schema.{bureau, bureau_1, hold_columns, sysmod_columns, sysmod_cond}
-
-module _ (wanted : ℕ) (schema : Schema) (IsIt IsOtherOurs : Database → Type 0) (WantsRoom : Type 0) where
-  -- Its tables are other ones than those of a version, and none of ours of the other version either; or they are of
-  -- another version, which no database of ours of this one has; or memory ran out, or the device failed; or there is
-  -- no room, where some is wanted.
-  abbrev pub IsNotOf : State → StoreFault → Type 0
-  IsNotOf at Shape = IsTrue at.is_open × (at.committed.schema ≢ schema) × (IsOtherOurs at.committed → ⊥)
-  IsNotOf at Version = IsTrue at.is_open × (IsIt at.committed → ⊥)
-      × (version : Option ℕ) × (version ≢ Some wanted) × HasVersion version at.committed
-  IsNotOf at Memory = Unit {0}
-  IsNotOf at Device = Unit {0}
-  IsNotOf at Size = WantsRoom
-
--- it isn't of version 2, which takes no room to see
-abbrev pub IsNoStore : State → StoreFault → Type 0
-IsNoStore = IsNotOf 2 bureau IsOurs IsOfVersion1 ⊥
-
--- it isn't of version 1, or it wasn't made one of version 2
-abbrev pub IsNotEarlier : State → StoreFault → Type 0
-IsNotEarlier = IsNotOf 1 bureau_1 IsOfVersion1 IsOurs (Unit {0})
 
 -- ---- what is there where a connection is taken
 
@@ -41,43 +27,131 @@ IsNotEarlier = IsNotOf 1 bureau_1 IsOfVersion1 IsOurs (Unit {0})
 abbrev pub IsUnderstood : Schema → List ℕ → Type 0
 IsUnderstood schema text = (compiled : Compiled) × (understood schema text ≡ Ok compiled)
 
--- Some text that asks this of the bureau's tables means something under these too: each table and column is there that it names.
-abbrev pub CanAsk : Query → List (List ℕ) → ℕ → Schema → Type 0
-CanAsk query names parameters schema = (text : List ℕ) × Reads bureau text query names parameters × IsUnderstood schema text
+-- what is asked of the bureau's tables: a query, the names of its columns, and how many parameters it takes
+pub record Asked : Type 0 where
+  pub query : Query
+  pub names : List (List ℕ)
+  pub parameters : ℕ
+
+abbrev pub asked : Query → List (List ℕ) → ℕ → Asked
+asked query names parameters = record { query = query; names = names; parameters = parameters }
+
+-- the text asks it
+abbrev pub IsAskedBy : Asked → List ℕ → Type 0
+IsAskedBy what text = Reads bureau text what.query what.names what.parameters
+
+-- Some text that asks it means something under these tables too: each table and column is there that it names.
+abbrev pub CanAsk : Schema → Asked → Type 0
+CanAsk schema what = (text : List ℕ) × IsAskedBy what text × IsUnderstood schema text
+
+-- the text is one statement under these tables, which does not read the time
+abbrev pub IsOneStatement : Schema → List ℕ → Type 0
+IsOneStatement schema text =
+    (compiled : Compiled) × (understood schema text ≡ Ok compiled) × (length text ≤ compiled.tail) × (compiled.formats ≡ [])
+
+-- Some text that asks it isn't one under these tables.
+abbrev pub CannotAsk : Schema → Asked → Type 0
+CannotAsk schema what = (text : List ℕ) × IsAskedBy what text × (IsOneStatement schema text → ⊥)
+
+-- the version
+abbrev pub of_version : Asked
+of_version = asked read.version (codes "version" ∷ []) 0
+
+-- of each other table of version 1 what a store asks of it, with all columns that a store reads
+abbrev pub of_tables : List Asked
+of_tables =
+    asked read.caller_with_token (codes "name" ∷ []) 1
+    ∷ asked read.last_change (codes "number" ∷ codes "body" ∷ []) 1
+    ∷ asked read.sysmod sysmod_columns 1
+    ∷ asked read.superseded (codes "member" ∷ []) 1
+    ∷ asked read.holds_on hold_columns 1
+    ∷ asked read.patterns (codes "patterns" ∷ []) 2
+    ∷ asked read.zone_rows (codes "sysmod" ∷ codes "state" ∷ []) 2
+    ∷ asked read.received (codes "ids" ∷ []) 1
+    ∷ []
+
+-- and of that of version 2, of requisites under a condition
+abbrev pub of_conditions : Asked
+of_conditions = asked read.conditional (codes "fmid" ∷ codes "member" ∷ []) 1
 
 -- The tables of version 1 are there besides that of the version itself, each with the columns that a store reads.
-pub record HasTables (schema : Schema) : Type 0 where
-  pub callers : CanAsk read.caller_with_token (codes "name" ∷ []) 1 schema
-  pub last_changes : CanAsk read.last_change (codes "number" ∷ codes "body" ∷ []) 1 schema
-  pub sysmods : CanAsk read.sysmod sysmod_columns 1 schema
-  pub superseded : CanAsk read.superseded (codes "member" ∷ []) 1 schema
-  pub holds : CanAsk read.holds_on hold_columns 1 schema
-  pub zones : CanAsk read.patterns (codes "patterns" ∷ []) 2 schema
-  pub zone_rows : CanAsk read.zone_rows (codes "sysmod" ∷ codes "state" ∷ []) 2 schema
-  pub received : CanAsk read.received (codes "ids" ∷ []) 1 schema
+abbrev pub HasTables : Schema → Type 0
+HasTables schema = AllByRecursion (CanAsk schema) of_tables
 
--- And that of version 2, of requisites under a condition.
+-- One of them isn't there, or lacks a column.
+abbrev pub LacksTable : Schema → Type 0
+LacksTable schema = (what : Asked) × Contains of_tables what × CannotAsk schema what
+
+-- And that of version 2 is there; or it isn't.
 abbrev pub HasConditions : Schema → Type 0
-HasConditions = CanAsk read.conditional (codes "fmid" ∷ codes "member" ∷ []) 1
+HasConditions schema = CanAsk schema of_conditions
 
--- The text that makes that table means something under these, so it can be made: no table of its name is there.
+abbrev pub LacksConditions : Schema → Type 0
+LacksConditions schema = CannotAsk schema of_conditions
+
+-- The text that makes that table means something under these, so it can be made: no table of its name is there. Or it isn't
+-- a statement.
 abbrev pub CanMakeConditions : Schema → Type 0
 CanMakeConditions schema = (text : List ℕ) × MakesTable bureau_1 text sysmod_cond bureau × IsUnderstood schema text
 
+abbrev pub CannotMakeConditions : Schema → Type 0
+CannotMakeConditions schema = (text : List ℕ) × MakesTable bureau_1 text sysmod_cond bureau × (IsOneStatement schema text → ⊥)
+
+-- It tells version 1, has the tables of it, and lacks the one that version 2 has besides.
+pub record IsTaken (database : Database) : Type 0 where
+  pub version : HasVersion (Some 1) database
+  pub tables : HasTables database.schema
+  pub conditions : CanMakeConditions database.schema
+
+-- ---- why it isn't taken
+
+-- The version can't be asked. Or it is this one, and one of the tables that every version has isn't there, or what this
+-- version wants besides.
+abbrev pub HasOtherShape : ℕ → (Schema → Type 0) → Database → Type 0
+HasOtherShape wanted Lacks database =
+    CannotAsk database.schema of_version
+    ⊎ (HasVersion (Some wanted) database × (LacksTable database.schema ⊎ Lacks database.schema))
+
+module _ (wanted : ℕ) (Lacks : Schema → Type 0) (IsIt IsOtherOurs IsChanged : Database → Type 0) where
+  -- Its tables are other ones than those of a version, and no database of ours of either version is refused so; or they are
+  -- of another version, which no database of ours of this one has; or memory ran out; or the device failed or was shut, or
+  -- the tables of the version show nothing; or a change was begun, for which there was no room, or which failed.
+  abbrev pub IsNotOf : State → State → StoreFault → Type 0
+  IsNotOf old new Shape = IsTrue old.is_open × HasOtherShape wanted Lacks old.committed × (IsIt old.committed → ⊥) × (IsOtherOurs old.committed → ⊥)
+  IsNotOf old new Version = IsTrue old.is_open × (IsIt old.committed → ⊥)
+      × (version : Option ℕ) × (version ≢ Some wanted) × HasVersion version old.committed
+  IsNotOf old new Memory = Unit {0}
+  IsNotOf old new Device = HasFailed old new ⊎ (WithholdsVersion old.step_limit old.committed ⊎ IsChanged old.committed)
+  IsNotOf old new Size = IsChanged old.committed
+
+-- it isn't of version 2, which is seen without a change
+abbrev pub IsNoStore : State → State → StoreFault → Type 0
+IsNoStore = IsNotOf 2 LacksConditions IsOurs IsOfVersion1 (λ database. ⊥)
+
+-- it isn't of version 1, or it wasn't made one of version 2
+abbrev pub IsNotEarlier : State → State → StoreFault → Type 0
+IsNotEarlier = IsNotOf 1 CannotMakeConditions IsOfVersion1 IsOurs IsTaken
+
 -- ---- No part of what is promised: private contracts cite it.
 
--- What a look saw of the committed tables, where it is refused for their shape or for their version; or memory ran out, or
--- the device failed.
-abbrev pub IsSeen : (Database → Type 0) → (Database → Type 0) → State → StoreFault → Type 0
-IsSeen Shaped Versioned at Shape = IsTrue at.is_open × Shaped at.committed
-IsSeen Shaped Versioned at Version = IsTrue at.is_open × Versioned at.committed
-IsSeen Shaped Versioned at Memory = Unit {0}
-IsSeen Shaped Versioned at Device = Unit {0}
-IsSeen Shaped Versioned at Size = ⊥
+-- What a look saw of the committed tables, where it is refused for their shape or for their version; or memory ran out; or
+-- the device failed, or the tables of the version show nothing.
+abbrev pub IsSeen : (Database → Type 0) → (Database → Type 0) → State → State → StoreFault → Type 0
+IsSeen Shaped Versioned old new Shape = IsTrue old.is_open × Shaped old.committed
+IsSeen Shaped Versioned old new Version = IsTrue old.is_open × Versioned old.committed
+IsSeen Shaped Versioned old new Memory = Unit {0}
+IsSeen Shaped Versioned old new Device = HasFailed old new ⊎ WithholdsVersion old.step_limit old.committed
+IsSeen Shaped Versioned old new Size = ⊥
 
--- it is of none of these schemas
-abbrev pub IsNone : (Schema → Type 0) → Database → Type 0
-IsNone Those database = (schema : Schema) → Those schema → database.schema ≢ schema
+-- What an error of the database is told as: of a failure of the store below it is told what failed, and all else as the shape
+-- of the tables.
+abbrev pub IsToldOf : Error → StoreFault → Type 0
+IsToldOf error Memory = error ≡ store_error OutOfMemory
+IsToldOf error Device =
+    (error ≡ store_error Io) ⊎ (error ≡ store_error Corrupt) ⊎ (error ≡ store_error Full) ⊎ (error ≡ store_error Broken)
+IsToldOf error Shape = (cause : StoreError) → error ≡ store_error cause → cause ≡ Unstorable
+IsToldOf error Version = ⊥
+IsToldOf error Size = ⊥
 
 -- the schema of version 2, or that of version 1
 abbrev pub IsOfBureau : Schema → Type 0
@@ -93,8 +167,20 @@ pub record TellsVersion (version : Option ℕ) (database : Database) : Type 0 wh
 abbrev pub IsOther : ℕ → Database → Type 0
 IsOther wanted database = (version : Option ℕ) × (version ≢ Some wanted) × TellsVersion version database
 
--- It has not the bureau's tables with which this text means something, and is of no other version than this if it is ours.
-abbrev pub LacksTables : ℕ → List ℕ → Database → Type 0
-LacksTables wanted text database =
-    IsNone (λ schema. IsOfBureau schema × IsUnderstood schema text) database
-    × (IsOurs database → Some wanted ≡ Some 2) × (IsOfVersion1 database → Some wanted ≡ Some 1)
+-- one of these texts isn't a statement here
+abbrev pub LacksText : List (Bor (List ℕ)) → Database → Type 0
+LacksText texts database = (text : Bor (List ℕ)) × Contains texts text × (IsOneStatement database.schema text.now → ⊥)
+
+-- the tables are the bureau's of no version, and can't be asked for their version
+abbrev pub LacksVersion : Database → Type 0
+LacksVersion database = (IsOfBureau database.schema → ⊥) × CannotAsk database.schema of_version
+
+-- or one of the other tables isn't there
+abbrev pub LacksTables : Database → Type 0
+LacksTables database = (IsOfBureau database.schema → ⊥) × LacksTable database.schema
+
+-- or the version is the wanted one, and another text isn't a statement here
+abbrev pub LacksMore : ℕ → List ℕ → Database → Type 0
+LacksMore wanted text database =
+    LacksVersion database
+    ⊎ (TellsVersion (Some wanted) database × (LacksTables database ⊎ (IsOneStatement database.schema text → ⊥)))

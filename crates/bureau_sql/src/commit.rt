@@ -1,7 +1,7 @@
 //! A change begins and ends here, and it is committed here alone.
 ghost use Rattle.std.specs.Prelude.{◌≡◌, IsOk, IsTrue, OnErr, OnOk, false, true};
 ghost use Rattle.sqlite.specs.Held.{state};
-ghost use Rattle.sqlite.specs.State.{HasCleanDisk, IsLive, KeepsCommit, Shows, Survives};
+ghost use Rattle.sqlite.specs.State.{HasCleanDisk, KeepsCommit, Shows, Survives};
 
 use sqlite::{Connection, Error, Transaction};
 use sqlite_trees::store::Alter;
@@ -13,10 +13,8 @@ pub(crate) fn begin<S: Alter>(conn: &mut Connection<S>) -> Transaction<'_, S>
     ensures begun { result.conn.now ≡ record conn.old { in_transaction = true } }
     ensures settled { IsTrue (state S.Store conn.old).is_open
         → (state S.Store conn.old).now ≡ (state S.Store conn.old).committed }
-    ensures live { IsLive (state S.Store conn.old) }
 {
     let _settled = conn.is_autocommit();
-    let _live = conn.schema();
     conn.transaction()
 }
 

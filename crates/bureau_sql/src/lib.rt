@@ -3,9 +3,11 @@
 //! - [`SqlStore`]: the store, over a connection of the kit's `sqlite`: [`SqlStore::init`], [`SqlStore::open`],
 //!   [`SqlStore::migrate`], [`SqlStore::into_connection`]. It is a `Published` and a `Store`
 //!
+//! - [`end`]: a run over files ends; [`law`]: what the next one finds in them
+//!
 //! `specs/` says how such a store is looked at (`SqlView`), how what a connection gives is told (`Told`), what a change
-//! of it leaves (`Committed`), how it is made (`Founded`), why a connection isn't taken for one (`Opening`), and what
-//! is left of a file of version 1 that becomes one of version 2 (`Migrated`).
+//! of it leaves (`Committed`), how it is made (`Founded`), why a connection isn't taken for one (`Opening`), what is left
+//! of a file of version 1 that becomes one of version 2 (`Migrated`), and what the files hold between two runs (`Files`).
 //!
 //! ```
 //! use bureau_sql::SqlStore;
@@ -25,8 +27,10 @@
 
 mod changes;
 mod commit;
+mod files;
 mod fit;
 mod init;
+pub mod law;
 mod migrate;
 mod open;
 mod probe;
@@ -35,4 +39,5 @@ mod recent;
 mod store;
 mod tables;
 
+pub use files::end;
 pub use store::SqlStore;

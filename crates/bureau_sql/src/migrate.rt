@@ -76,7 +76,7 @@ fn bring<S: Alter>(conn: &mut Connection<S>) -> Result<(), StoreFault>
     ensures refused { OnErr result (HasCleanDisk (state S.Store conn.new)
         → KeepsCommit (state S.Store conn.old) (state S.Store conn.new)) }
     ensures cause { IfErr result (λ fault. HasCleanDisk (state S.Store conn.new)
-        → IsNotEarlier (state S.Store conn.old) fault) }
+        → IsNotEarlier (state S.Store conn.old) (state S.Store conn.new) fault) }
     ensures untouched { IfErr result (λ fault. fault ≢ Device
         → IsUntouched (state S.Store conn.old) (state S.Store conn.new)) }
 {
@@ -126,7 +126,7 @@ impl<S: Alter> SqlStore<S> {
         ensures untouched { IfErr result (λ refused. refused.0 ≢ Device
             → IsUntouched (state S.Store conn) (state S.Store refused.1)) }
         ensures cause { IfErr result (λ refused. HasCleanDisk (state S.Store refused.1)
-            → IsNotEarlier (state S.Store conn) refused.0) }
+            → IsNotEarlier (state S.Store conn) (state S.Store refused.1) refused.0) }
         ensures rest { IfErr result (λ refused. refused.1.in_transaction ≡ false) }
         ensures stopped { IfErr result (λ refused. Survives (state S.Store conn) (state S.Store refused.1)
             (AreMigrated (state S.Store conn))) }

@@ -1,17 +1,14 @@
 //! What is looked at before a connection is taken for a store.
-ghost use Rattle.std.specs.Prelude.{◌≡◌, ◌≢◌, ℕ, IfErr, IfOk, IsTrue, OnOk, Some, false};
+ghost use Rattle.std.specs.Prelude.{◌≡◌, ◌≢◌, IfErr, IfOk, IsTrue, OnOk, Some, false};
 ghost use Rattle.std.specs.List.{AllByRecursion};
-ghost use Rattle.bureau_store.specs.Store.{IsOfRead};
-ghost use Rattle.bureau_store.specs.declared.fault.StoreFault.TheVariants.{Shape, Version};
+ghost use Rattle.bureau_store.specs.declared.fault.StoreFault.TheVariants.{Version};
 ghost use Rattle.sqlite.specs.Held.{state};
 ghost use Rattle.sqlite.specs.State.{HasCleanDisk};
-ghost use Rattle.sqlite.specs.declared.error.Error.TheVariants.{SqlInputError};
-ghost use Rattle.sqlite_resolve.specs.declared.error.CompileError.{CompileError};
 ghost use Rattle.sql_state.specs.Ours.{IsOurs, held_by};
 ghost use Rattle.sql_state.specs.Reading.{OnlyReads};
 ghost use Rattle.sql_reads.specs.Version.{HasVersion};
 ghost use Rattle.sql_tables.specs.Stored.{tables_of};
-ghost use Rattle.bureau_sql.specs.Opening.{HasConditions, HasTables, IsNoStore, IsNone, IsOfBureau, IsOther, IsSeen, IsUnderstood, LacksTables, TellsVersion};
+ghost use Rattle.bureau_sql.specs.Opening.{HasConditions, HasTables, IsNoStore, IsOneStatement, IsOther, IsSeen, IsToldOf, IsUnderstood, LacksMore, LacksTables, LacksText, LacksVersion, TellsVersion};
 ghost use Rattle.bureau_sql.specs.SqlView.{IsAtRest, IsOurStore, shown, sql_view};
 
 use crate::SqlStore;
@@ -31,8 +28,8 @@ fn can_read<S: Alter>(conn: &mut Connection<S>, text: &str) -> Result<(), StoreF
     ensures understood { OnOk result (HasCleanDisk (state S.Store conn.new)
         → IsUnderstood (state S.Store conn.old).committed.schema text.now) }
     ensures cause { IfErr result (λ fault. HasCleanDisk (state S.Store conn.new)
-        → IsSeen (IsNone (λ schema. IsUnderstood schema text.now))
-        (λ database. ⊥) (state S.Store conn.old) fault) }
+        → IsSeen (λ database. IsOneStatement database.schema text.now → ⊥) (λ database. ⊥)
+        (state S.Store conn.old) (state S.Store conn.new) fault) }
 {
     let _settled = conn.is_autocommit();
     match conn.prepare(text) {
@@ -41,15 +38,17 @@ fn can_read<S: Alter>(conn: &mut Connection<S>, text: &str) -> Result<(), StoreF
     }
 }
 
-// Why a text can't be read.
+// Why a text isn't taken: the store below has failed, or the text isn't one statement with these tables.
 fn fault_of(error: Error) -> StoreFault
-    ensures shape { result ≡ Shape → (fault : CompileError) × (error ≡ SqlInputError fault) }
-    ensures other { result ≢ Shape → IsOfRead result }
+    ensures { IsToldOf error result }
 {
     match error {
-        Error::SqlInputError(_) => StoreFault::Shape,
         Error::SqliteFailure(ErrorCode::OutOfMemory) => StoreFault::Memory,
-        _ => StoreFault::Device,
+        Error::SqliteFailure(ErrorCode::SystemIoFailure) => StoreFault::Device,
+        Error::SqliteFailure(ErrorCode::DatabaseCorrupt) => StoreFault::Device,
+        Error::SqliteFailure(ErrorCode::DiskFull) => StoreFault::Device,
+        Error::SqliteFailure(ErrorCode::Closed) => StoreFault::Device,
+        _ => StoreFault::Shape,
     }
 }
 
@@ -74,7 +73,7 @@ fn is_version<S: Alter>(conn: &mut Connection<S>, wanted: u64) -> Result<(), Sto
     ensures version { OnOk result (HasCleanDisk (state S.Store conn.new)
         → TellsVersion (Some wanted) (state S.Store conn.old).committed) }
     ensures cause { IfErr result (λ fault. HasCleanDisk (state S.Store conn.new)
-        → IsSeen (λ database. ⊥) (IsOther wanted) (state S.Store conn.old) fault) }
+        → IsSeen (λ database. ⊥) (IsOther wanted) (state S.Store conn.old) (state S.Store conn.new) fault) }
 {
     match version(conn) {
         Ok(version) => same(version, wanted),
@@ -94,9 +93,8 @@ fn can_read_all<S: Alter>(conn: &mut Connection<S>, texts: &[&str]) -> Result<()
         → AllByRecursion
         (λ text. IsUnderstood (state S.Store conn.old).committed.schema text.now) texts.now) }
     ensures cause { IfErr result (λ fault. HasCleanDisk (state S.Store conn.new)
-        → IsSeen (IsNone (λ schema. AllByRecursion (λ text. IsUnderstood schema text.now) texts.now))
-        (λ database. ⊥)
-        (state S.Store conn.old) fault) }
+        → IsSeen (LacksText texts.now) (λ database. ⊥)
+        (state S.Store conn.old) (state S.Store conn.new) fault) }
 {
     for text in texts {
         can_read(conn, text)?;
@@ -113,7 +111,7 @@ fn has_tables<S: Alter>(conn: &mut Connection<S>) -> Result<(), StoreFault>
         → IsTrue (state S.Store conn.new).is_open
         → HasTables (state S.Store conn.old).committed.schema) }
     ensures cause { IfErr result (λ fault. HasCleanDisk (state S.Store conn.new)
-        → IsSeen (IsNone IsOfBureau) (λ database. ⊥) (state S.Store conn.old) fault) }
+        → IsSeen LacksTables (λ database. ⊥) (state S.Store conn.old) (state S.Store conn.new) fault) }
 {
     can_read_all(
         conn,
@@ -138,7 +136,7 @@ fn has_version<S: Alter>(conn: &mut Connection<S>, wanted: u64) -> Result<(), St
     ensures version { OnOk result (HasCleanDisk (state S.Store conn.new)
         → TellsVersion (Some wanted) (state S.Store conn.old).committed) }
     ensures cause { IfErr result (λ fault. HasCleanDisk (state S.Store conn.new)
-        → IsSeen (IsNone IsOfBureau) (IsOther wanted) (state S.Store conn.old) fault) }
+        → IsSeen LacksVersion (IsOther wanted) (state S.Store conn.old) (state S.Store conn.new) fault) }
 {
     can_read(conn, read::version())?;
     is_version(conn, wanted)
@@ -162,7 +160,8 @@ pub(crate) fn holds<S: Alter>(
     ensures understood { OnOk result (HasCleanDisk (state S.Store conn.new)
         → IsUnderstood (state S.Store conn.old).committed.schema text.now) }
     ensures cause { IfErr result (λ fault. HasCleanDisk (state S.Store conn.new)
-        → IsSeen (LacksTables wanted text.now) (IsOther wanted) (state S.Store conn.old) fault) }
+        → IsSeen (LacksMore wanted text.now) (IsOther wanted)
+        (state S.Store conn.old) (state S.Store conn.new) fault) }
 {
     has_version(conn, wanted)?;
     has_tables(conn)?;
@@ -202,7 +201,7 @@ impl<S: Alter> SqlStore<S> {
         ensures refused { IfErr result (λ refused. OnlyReads (state S.Store conn) (state S.Store refused.1)) }
         ensures rest { IfErr result (λ refused. refused.1.in_transaction ≡ false) }
         ensures cause { IfErr result (λ refused. HasCleanDisk (state S.Store refused.1)
-            → IsNoStore (state S.Store conn) refused.0) }
+            → IsNoStore (state S.Store conn) (state S.Store refused.1) refused.0) }
     {
         match holds(&mut conn, 2, read::conditional()) {
             Ok(()) => Ok(SqlStore::over(alloc, conn)),

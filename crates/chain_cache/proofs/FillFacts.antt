@@ -1,5 +1,6 @@
 -- What a hit and a miss leave.
 use Rattle.std.proofs.Common.{◌≡◌, ◌∙◌, ◌-◌, ◌+◌, ◌<◌, ◌++◌, ℕ, true, false, List, [], ◌∷◌, get_or, length, min, take, OnErr, Some, Result, Ok, Err, refl, sym, ap, subst, inl, inr}
+use Rattle.std.proofs.lemmas.Bool.{cases_Bool}
 use Rattle.std.proofs.lemmas.List.{take_more}
 use Rattle.catalogue.specs.Content.{Content}
 use Rattle.catalogue.specs.Ids.{same_id}
@@ -93,3 +94,14 @@ pub filled_on : (ids : List (List ℕ)) (i : ℕ) (id : List ℕ) (frame : Frame
 filled_on ids i id frame old between new below at so_far is =
     let P : List (List ℕ) → Type 0 = λ l. AreFilled l old new in
     subst P (sym (take_more ids i id below ∙ ap (λ (x : List ℕ). take i ids ++ x ∷ []) (sym at))) (filled_more (take i ids) id frame old between new so_far is)
+
+-- what is kept of the whole catalogue stays, where frames are asked for
+filled_keeps : (id : List ℕ) (frame : FrameLists) (old new : CacheLists) → IsFilled id frame old new → new.surveys ≡ old.surveys
+filled_keeps id frame old new filled = elim (cases_Bool (has old.entries id)) [
+  | inl kept ↦ ap (λ cache. cache.surveys) (filled.hit kept)
+  | inr absent ↦ ap (λ cache. cache.surveys) (filled.miss absent)
+]
+
+pub all_filled_keep : (ids : List (List ℕ)) (old new : CacheLists) → AreFilled ids old new → new.surveys ≡ old.surveys
+all_filled_keep [] old new same = ap (λ cache. cache.surveys) same
+all_filled_keep (id ∷ ids) old new filled = all_filled_keep ids filled.0 new filled.3 ∙ filled_keeps id filled.1 old filled.0 filled.2

@@ -1,5 +1,5 @@
 -- What a text that reads leaves of a connection, and what it shows.
-use Rattle.std.proofs.Common.{◌≡◌, ℕ, List, refl, sym, ◌∙◌, ap, subst, Ok, Err, None, IsTrue}
+use Rattle.std.proofs.Common.{◌≡◌, ◌≤◌, ◌⊎◌, ℕ, List, [], length, refl, sym, ◌∙◌, ap, subst, inl, inr, Ok, Err, None, IsTrue}
 use Rattle.std.specs.Prelude.{Vec}
 use Rattle.std.specs.declared.alloc.Global.{Global}
 use Rattle.std.proofs.Math.Path.{fun_ext}
@@ -8,16 +8,20 @@ use Rattle.sqlite.specs.Listing.{understood}
 use Rattle.sqlite.specs.declared.error.Error.{Error}
 use Rattle.sqlite.specs.Query.{IsAnswer, Query}
 use Rattle.sqlite.specs.Schema.{Schema}
-use Rattle.sqlite.specs.State.{CommitsShowing, FailsToQuery, HasCleanDisk, Shown, State, Survives}
+use Rattle.sqlite.specs.Clock.{timed}
+use Rattle.sqlite.specs.State.{CommitsShowing, FailsToQuery, FailsToShow, HasCleanDisk, IsNoStatement, IsNotRun, Shown, ShowsRows, State, Survives, store_error}
 use Rattle.sqlite.specs.Tree.{Trees}
 use Rattle.sqlite_resolve.specs.declared.compiled.Compiled.{Compiled}
+use Rattle.sqlite_trees.specs.declared.error.StoreError.TheVariants.{OutOfMemory}
 use Rattle.sqlite_value.specs.Order.{Row}
 use Rattle.sqlite_value.specs.declared.value.Value.TheVariants.{Null}
 use Rattle.sql_texts.specs.Meaning.{Reads, selection}
 use Rattle.sql_texts.proofs.AnswerFacts.{plain_trees}
 use Rattle.sql_state.proofs.ReadFacts.{refused_keeps, shown_unchanged, survives_read}
-use Rattle.sql_state.proofs.StopFacts.{kept_unchanged}
+use Rattle.sql_state.proofs.StopFacts.{failed_by, kept_unchanged}
+use Rattle.sql_state.specs.Reading.{HasFailed}
 use Rattle.sql_reads.specs.Answering.{Answers, IsRead}
+use Rattle.sql_reads.specs.Version.{Shows, Withholds}
 use Rattle.sql_reads.proofs.QuietFacts.{quiet}
 
 -- what is shown is an answer over what is committed
@@ -32,6 +36,41 @@ answered text params old new rows settled shown schema has query names parameter
 plain : (text : List ℕ) (old : State) → IsRead text → (c : Compiled) → understood old.now.schema text ≡ Ok c → c.returning ≡ None
 plain text old read = quiet text read.0 read.1 read.2 read.3 old.now.schema
 
+-- what is shown, whatever the tables are
+shows : (text : List ℕ) (params : Row) (old new : State) (rows : List Row) → IsRead text → Shown text params old new rows → Shows text params old.now rows
+unfolding Shown
+shows text params old new rows read shown =
+    let it = shown.1 in
+    let answer : ShowsRows old new text shown.0 (timed params shown.0.formats it.now) rows None =
+    subst (ShowsRows old new text shown.0 (timed params shown.0.formats it.now) rows) (plain text old read shown.0 it.is) shown.2 in
+    record { compiled = shown.0; means = it.is; source = answer.0; from = answer.1; now = it.now; answer = answer.2 }
+
+-- why it is refused, other than for want of memory
+withheld : (text : List ℕ) (params : Row) (old : State) (e : Error) → IsNoStatement old text params e → Withholds old.step_limit text params old.now
+withheld text params old e (inl fault) = inl (λ compiled means whole given timeless. let none = sym fault.1 ∙ means in cc)
+withheld text params old e (inr it) = inl (λ compiled means whole given timeless.
+    let both = sym it.1 ∙ means in
+    let same : it.0 ≡ compiled = cc in
+    elim it.2 [
+      | inl more ↦ more.0 (subst (λ (c : Compiled). length text ≤ c.tail) (sym same) whole)
+      | inr rest ↦ elim rest [
+        | inl other ↦ other.0 (subst (λ (c : Compiled). length params ≡ length c.names) (sym same) given)
+        | inr reads_time ↦ reads_time.0 (subst (λ (c : Compiled). c.formats ≡ []) (sym same) timeless)
+      ]
+    ])
+
+pub refused_for : (text : List ℕ) (params : Row) (old new : State) → IsRead text → (IsTrue old.is_open → old.now ≡ old.committed) → (e : Error) → FailsToQuery text params old new e
+    → (e ≡ store_error OutOfMemory → ⊥) → HasFailed old new ⊎ Withholds old.step_limit text params old.committed
+unfolding FailsToQuery IsNotRun
+refused_for text params old new read settled e (inl (inl none)) known =
+    inr (subst (Withholds old.step_limit text params) (settled none.1.0.was_open) (withheld text params old e none.0))
+refused_for text params old new read settled e (inl (inr failed)) known = inl (failed_by old new e failed known)
+refused_for text params old new read settled e (inr it) known =
+    let why : FailsToShow old new text it.0 (timed params it.0.formats it.1.now) e None =
+    subst (FailsToShow old new text it.0 (timed params it.0.formats it.1.now) e) (plain text old read it.0 it.1.is) it.2 in
+    let seen : Withholds old.step_limit text params old.now = inr (it.0, it.1.is, why.0, why.1, it.1.now, e, why.2) in
+    inr (subst (Withholds old.step_limit text params) (settled why.3.0.was_open) seen)
+
 module _ {Fault : Type 0} (text : List ℕ) (params : Row) (old new : State) (read : IsRead text) (kept : Survives old new (CommitsShowing text params old)) where
   pub answers_rows : (rows : Vec Row Global) → (IsTrue old.is_open → old.now ≡ old.committed) → (HasCleanDisk new → Shown text params old new rows.items)
       → Answers {Fault = Fault} text params old new (Ok rows)
@@ -41,6 +80,8 @@ module _ {Fault : Type 0} (text : List ℕ) (params : Row) (old new : State) (re
         is_open = λ clean. (same clean).0.is_open;
         told = λ clean schema has query names parameters reads.
             answered text params old new rows.items (settled (same clean).0.was_open) (shown clean) schema has query names parameters reads;
+        shown = λ clean.
+            subst (λ database. Shows text params database rows.items) (settled (same clean).0.was_open) (shows text params old new rows.items read (shown clean));
       }
 
   pub answers_fault : (e : Error) (fault : Fault) → (HasCleanDisk new → FailsToQuery text params old new e) → Answers {Fault = Fault} text params old new (Err fault)
@@ -48,4 +89,5 @@ module _ {Fault : Type 0} (text : List ℕ) (params : Row) (old new : State) (re
     reads = record { keeps = λ clean. refused_keeps text params old new (plain text old read) e (fails clean); survives = survives_read text params old new (plain text old read) kept };
     is_open = tt;
     told = tt;
+    shown = tt;
   }

@@ -22,13 +22,10 @@ use Rattle.sql_reads.specs.Answering.{Answers}
 use Rattle.sql_reads.specs.Version.{HasVersion, version_in}
 
 pub version_told : {Fault : Type 0} (text : List ℕ) (old new : State) (rows : Vec Row Global) (seen : List Row) → Reads bureau text read.version (codes "version" ∷ []) 0
-    → Reads bureau_1 text read.version (codes "version" ∷ []) 0 → seen ≡ rows.items
-    → Answers {Fault = Fault} text [] old new (Ok rows) → (told : Option ℕ) → told ≡ version_in seen
+    → seen ≡ rows.items → Answers {Fault = Fault} text [] old new (Ok rows) → (told : Option ℕ) → told ≡ version_in seen
     → HasCleanDisk new → HasVersion told old.committed
-version_told text old new rows seen reads reads_1 same answers told is clean (inl schema) =
-    (rows.items, answers.told clean bureau schema read.version (codes "version" ∷ []) 0 reads, is ∙ ap version_in same)
-version_told text old new rows seen reads reads_1 same answers told is clean (inr schema) =
-    (rows.items, answers.told clean bureau_1 schema read.version (codes "version" ∷ []) 0 reads_1, is ∙ ap version_in same)
+version_told text old new rows seen reads same answers told is clean =
+    record { text = text; asks = reads; rows = rows.items; shown = answers.shown clean; told = is ∙ ap version_in same }
 
 -- a list of one is in no other order
 one_again : (row : Row) (rows : List Row) → IsPermutation (row ∷ []) rows → rows ≡ row ∷ []

@@ -1,5 +1,5 @@
 -- No part of what is promised: private contracts cite it. What a text that reads gives of a connection at rest.
-use Rattle.std.specs.Prelude.{◌≡◌, ℕ, List, [], ◌∷◌, IsTrue, Option, Some, None, option_map, Result, IfOk, Vec}
+use Rattle.std.specs.Prelude.{◌≡◌, ◌⊎◌, ℕ, List, [], ◌∷◌, IsTrue, Option, Some, None, option_map, Result, IfOk, Vec}
 use Rattle.std.specs.declared.alloc.Global.{Global}
 use Rattle.sqlite.specs.Query.{IsAnswer, Query}
 use Rattle.sqlite.specs.Schema.{Schema}
@@ -10,9 +10,12 @@ use Rattle.sqlite_value.specs.declared.value.Value.TheVariants.{Text}
 use Rattle.mcs_reader.specs.Id.{IsId, text_of}
 use Rattle.bureau_store.specs.declared.caller.Caller.{Caller}
 use Rattle.sql_tables.specs.Stored.{name_of}
-use Rattle.sql_state.specs.Reading.{OnlyReads}
+use Rattle.sql_state.specs.Reading.{HasFailed, OnlyReads}
 use Rattle.sql_texts.specs.Meaning.{Reads}
 use Rattle.sql_texts.specs.Schema.{bureau}
+use Rattle.sql_reads.specs.Version.{Shows, Withholds}
+use Rattle.sql_reads.specs.declared.fault.ReadFault.{ReadFault}
+use Rattle.sql_reads.specs.declared.fault.ReadFault.TheVariants.{Device}
 
 -- the text is a query of the bureau's tables
 abbrev pub IsRead : List ℕ → Type 0
@@ -25,6 +28,11 @@ pub record Answers {Fault : Type 0} (text : List ℕ) (params : Row) (old new : 
   pub told : IfOk result (λ rows. HasCleanDisk new → (schema : Schema) → old.committed.schema ≡ schema
       → (query : Query) (names : List (List ℕ)) (parameters : ℕ) → Reads schema text query names parameters
       → IsAnswer query old.committed.trees params rows.items)
+  pub shown : IfOk result (λ rows. HasCleanDisk new → Shows text params old.committed rows.items)
+
+-- Why a text is refused: for want of memory; or the device has failed, or the text shows nothing of these rows.
+abbrev pub IsRefusedFor : List ℕ → Row → State → State → ReadFault → Type 0
+IsRefusedFor text params old new fault = fault ≡ Device → HasFailed old new ⊎ Withholds old.step_limit text params old.committed
 
 -- what one row says, or nothing where there is no row; no answer where the row says nothing, or where there are more
 abbrev pub one_of : {A : Type 0} → (Row → Option A) → List Row → Option (Option A)

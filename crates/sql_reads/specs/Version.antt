@@ -1,11 +1,16 @@
 -- The version of the tables in a database.
-use Rattle.std.specs.Prelude.{◌≡◌, ◌⊎◌, ℕ, List, [], ◌∷◌, None, Option}
-use Rattle.sqlite.specs.Effect.{Database}
-use Rattle.sqlite.specs.Query.{IsAnswer}
+use Rattle.std.specs.Prelude.{◌≡◌, ◌≤◌, ◌⊎◌, ℕ, List, [], ◌∷◌, None, Ok, Option, codes, length}
+use Rattle.sqlite.specs.Clock.{timed}
+use Rattle.sqlite.specs.Effect as effect
+use Rattle.sqlite.specs.Effect.{Database, RefusesToRead}
+use Rattle.sqlite.specs.Listing.{IsSourceOf, reads_listing, understood}
+use Rattle.sqlite.specs.declared.error.Error.{Error}
+use Rattle.sqlite_resolve.specs.declared.compiled.Compiled.{Compiled}
 use Rattle.sqlite_value.specs.Order.{Row, column}
 use Rattle.sql_tables.specs.Values.{number_in}
+use Rattle.sql_texts.specs.Meaning.{Reads}
 use Rattle.sql_texts.specs.Reads as read
-use Rattle.sql_texts.specs.Schema.{bureau, bureau_1}
+use Rattle.sql_texts.specs.Schema.{bureau}
 
 -- the number of the one row, where there is just one
 abbrev pub version_in : List Row → Option ℕ
@@ -13,9 +18,34 @@ version_in [] = None
 version_in (row ∷ []) = number_in (column row 0)
 version_in (row ∷ other ∷ rows) = None
 
--- In a database with the bureau's tables, or with those of version 1, the query of the version answers rows that tell
--- this version, or none.
-abbrev pub HasVersion : Option ℕ → Database → Type 0
-HasVersion version database =
-    (database.schema ≡ bureau) ⊎ (database.schema ≡ bureau_1)
-    → (rows : List Row) × IsAnswer read.version database.trees [] rows × (version ≡ version_in rows)
+-- Whatever tables a database has: the text means something under them, and with these parameters its query answers these rows.
+-- A text that reads the time is given that too.
+pub record Shows (text : List ℕ) (params : Row) (database : Database) (rows : List Row) : Type 0 where
+  pub compiled : Compiled
+  pub means : understood database.schema text ≡ Ok compiled
+  pub source : Database
+  pub from : IsSourceOf (reads_listing database.schema text) database source
+  pub now : ℕ
+  pub answer : effect.Reads compiled.command source (timed params compiled.formats now) rows
+
+-- Or it isn't one statement with so many parameters, and none that reads the time; or its query is refused over these rows.
+abbrev pub Withholds : Option ℕ → List ℕ → Row → Database → Type 0
+Withholds limit text params database =
+    ((compiled : Compiled) → understood database.schema text ≡ Ok compiled → length text ≤ compiled.tail
+    → length params ≡ length compiled.names → compiled.formats ≡ [] → ⊥)
+    ⊎ ((compiled : Compiled) × (understood database.schema text ≡ Ok compiled) × (source : Database)
+    × IsSourceOf (reads_listing database.schema text) database source
+    × (now : ℕ) × (error : Error) × RefusesToRead limit compiled.command source (timed params compiled.formats now) error)
+
+-- A text that asks the bureau's tables for their version shows rows here that tell this version, or none.
+pub record HasVersion (version : Option ℕ) (database : Database) : Type 0 where
+  pub text : List ℕ
+  pub asks : Reads bureau text read.version (codes "version" ∷ []) 0
+  pub rows : List Row
+  pub shown : Shows text [] database rows
+  pub told : version ≡ version_in rows
+
+-- Such a text shows nothing here.
+abbrev pub WithholdsVersion : Option ℕ → Database → Type 0
+WithholdsVersion limit database =
+    (text : List ℕ) × Reads bureau text read.version (codes "version" ∷ []) 0 × Withholds limit text [] database

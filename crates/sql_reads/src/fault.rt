@@ -37,6 +37,13 @@ impl<T: Drop> From<AllocFailed<T>> for ReadFault {
 }
 
 impl From<Error> for ReadFault {
+    ghost use Rattle.std.specs.Prelude.{◌≡◌};
+    ghost use Rattle.sqlite.specs.declared.error.Error.TheVariants.{SqliteFailure};
+    ghost use Rattle.sqlite.specs.declared.error.ErrorCode.TheVariants.{OutOfMemory};
+    ghost use Rattle.sql_reads.specs.declared.fault.ReadFault.TheVariants.{Device};
+
+    ghost from_gives = { λ error fault. fault ≡ Device → error ≡ SqliteFailure OutOfMemory → ⊥ };
+
     fn from(error: Error) -> ReadFault {
         match error {
             Error::SqliteFailure(ErrorCode::OutOfMemory) => ReadFault::Memory,

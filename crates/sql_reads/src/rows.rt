@@ -2,7 +2,8 @@
 ghost use Rattle.std.specs.Prelude.{◌≡◌, false, IfErr};
 ghost use Rattle.sqlite.specs.Held.{state};
 ghost use Rattle.sqlite.specs.Values.{bound};
-ghost use Rattle.sql_reads.specs.Answering.{Answers, IsRead};
+ghost use Rattle.sqlite.specs.State.{HasCleanDisk};
+ghost use Rattle.sql_reads.specs.Answering.{Answers, IsRead, IsRefusedFor};
 
 use crate::ReadFault;
 use sqlite::types::ValueRef;
@@ -19,6 +20,8 @@ pub(crate) fn rows_of<S: Alter>(
     ensures mode { conn.new.in_transaction ≡ false }
     ensures answers { Answers text.now (bound params.now)
         (state S.Store conn.old) (state S.Store conn.new) result }
+    ensures cause { IfErr result (λ fault. HasCleanDisk (state S.Store conn.new)
+        → IsRefusedFor text.now (bound params.now) (state S.Store conn.old) (state S.Store conn.new) fault) }
 {
     let _at_rest = conn.is_autocommit();
     match conn.query_all(text, params) {

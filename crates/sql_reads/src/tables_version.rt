@@ -1,11 +1,12 @@
 //! The version of the tables.
-ghost use Rattle.std.specs.Prelude.{◌≡◌, IfOk, IsTrue, Some, false};
+ghost use Rattle.std.specs.Prelude.{◌≡◌, ◌⊎◌, IfErr, IfOk, IsTrue, Some, false};
 ghost use Rattle.sqlite.specs.Held.{state};
 ghost use Rattle.sqlite.specs.State.{HasCleanDisk};
-ghost use Rattle.sql_reads.specs.Version.{HasVersion, version_in};
+ghost use Rattle.sql_reads.specs.Version.{HasVersion, WithholdsVersion, version_in};
+ghost use Rattle.sql_reads.specs.declared.fault.ReadFault.TheVariants.{Device};
 ghost use Rattle.sql_state.specs.Earlier.{IsOfVersion1};
 ghost use Rattle.sql_state.specs.Ours.{IsOurs};
-ghost use Rattle.sql_state.specs.Reading.{OnlyReads};
+ghost use Rattle.sql_state.specs.Reading.{HasFailed, OnlyReads};
 
 use crate::ReadFault;
 use crate::rows::rows_of;
@@ -31,6 +32,9 @@ pub fn version<S: Alter>(conn: &mut Connection<S>) -> Result<Option<u64>, ReadFa
         → IsOurs (state S.Store conn.old).committed → version ≡ Some 2) }
     ensures earlier { IfOk result (λ version. HasCleanDisk (state S.Store conn.new)
         → IsOfVersion1 (state S.Store conn.old).committed → version ≡ Some 1) }
+    ensures cause { IfErr result (λ fault. HasCleanDisk (state S.Store conn.new) → fault ≡ Device
+        → HasFailed (state S.Store conn.old) (state S.Store conn.new)
+        ⊎ WithholdsVersion (state S.Store conn.old).step_limit (state S.Store conn.old).committed) }
 {
     let rows = rows_of(conn, read::version(), &[])?;
     Ok(told(rows.as_slice()))

@@ -1,3 +1,4 @@
+pub mod OursFacts
 pub mod ReadFacts
 pub mod StopFacts
 pub mod TextFacts

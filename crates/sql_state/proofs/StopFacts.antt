@@ -1,11 +1,14 @@
 -- What is committed, and what a stop leaves, over one step of a connection and over two.
-use Rattle.std.proofs.Common.{◌≡◌, ◌∙◌, ℕ, IsTrue, List, arith, inl, inr, refl, subst}
+use Rattle.std.proofs.Common.{◌≡◌, ◌∙◌, ◌≤◌, ℕ, IsTrue, List, arith, inl, inr, refl, subst, sym}
+use Rattle.std.proofs.lemmas.Bool.{cases_Bool}
 use Rattle.sqlite.specs.Order.{Row}
-use Rattle.sqlite.specs.State.{Fails, HasCleanDisk, IsNotRun, IsUnchanged, KeepsCommit, State, Survives}
+use Rattle.sqlite.specs.State.{Fails, HasCause, HasCleanDisk, IsNotRun, IsUnchanged, KeepsCommit, State, Survives, store_error}
 use Rattle.sqlite.specs.Tree.{Trees}
+use Rattle.sqlite_trees.specs.declared.error.StoreError.{StoreError}
+use Rattle.sqlite_trees.specs.declared.error.StoreError.TheVariants.{Broken, Corrupt, Full, Io, OutOfMemory, Unstorable}
 use Rattle.sqlite.specs.declared.error.Error.{Error}
 use Rattle.sqlite.proofs.StateLemmas.{survives_then}
-use Rattle.sql_state.specs.Reading.{OnlyReads}
+use Rattle.sql_state.specs.Reading.{HasFailed, OnlyReads}
 
 -- the disk was clean before, where it is clean now
 pub was_clean : (old new : State) (Leaves : Trees → Type 0) → Survives old new Leaves → HasCleanDisk new → HasCleanDisk old
@@ -49,6 +52,36 @@ survives_itself at = record {
 -- over two steps
 pub survives_both : (old mid new : State) → Survives old mid (λ trees. ⊥) → Survives mid new (λ trees. ⊥) → Survives old new (λ trees. ⊥)
 survives_both old mid new = survives_then old mid new (λ trees. ⊥) (λ trees. ⊥) (λ trees. ⊥) (λ _ trees none. none) (λ _ trees none. none)
+
+-- ---- a failure
+
+-- a call that the store failed, other than for want of memory
+pub failed_by : (old new : State) (e : Error) → Fails old new ⊥ e → (e ≡ store_error OutOfMemory → ⊥) → HasFailed old new
+failed_by old new e failed known = by failed.0 failed.1 failed.2
+  where
+    by : (cause : StoreError) → e ≡ store_error cause → HasCause old new ⊥ cause → HasFailed old new
+    by OutOfMemory is why = absurd (known is)
+    by Io is why = inl why
+    by Corrupt is why = inl why
+    by Full is why = inl why
+    by Broken is why = inr why
+    by Unstorable is why = absurd why
+
+-- a failure after a step is one since before it
+pub failed_after : (old mid new : State) → OnlyReads old mid → HasCleanDisk mid → mid.faults ≤ new.faults → HasFailed mid new → HasFailed old new
+failed_after old mid new reads clean counts (inl more) = let rose = reads.survives.counts in inl (omega (arith, more, rose, counts))
+failed_after old mid new reads clean counts (inr shut) = elim (cases_Bool old.is_open) [
+  | inl on ↦ elim (reads.survives.closes clean on) [
+    | inl here ↦ absurd (let never = sym shut ∙ here in cc)
+    | inr more ↦ inl (omega (arith, more, counts))
+  ]
+  | inr off ↦ inr off
+]
+
+-- and a failure before a step is one up to its end
+pub failed_before : (old mid new : State) → HasFailed old mid → mid.faults ≤ new.faults → HasFailed old new
+failed_before old mid new (inl more) counts = inl (omega (arith, more, counts))
+failed_before old mid new (inr shut) counts = inr shut
 
 -- ---- a read leaves what is committed
 

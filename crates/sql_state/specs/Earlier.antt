@@ -3,6 +3,7 @@ use Rattle.std.specs.Prelude.{◌≡◌, [], take}
 use Rattle.std.specs.List.{AllByRecursion}
 use Rattle.sqlite.specs.Effect.{Database}
 use Rattle.sqlite.specs.Tree.{Trees}
+use Rattle.sqlite_catalog.specs.Listing.{IsSound}
 use Rattle.sql_texts.specs.Schema.{bureau_1, tables}
 use Rattle.sql_tables.specs.InTrees.{stored_in}
 use Rattle.sql_tables.specs.Stored.{Stored}
@@ -14,8 +15,10 @@ use Rattle.sql_state.specs.Ours.{version_rows}
 abbrev pub held_by_version_1 : Database → Stored
 held_by_version_1 database = record (stored_in database.trees) { conds = [] }
 
--- In the trees of its tables stand rows that the bureau wrote, under numbers that rise, and the row of version 1.
+-- The trees list the tables of version 1 and obey them. In them stand rows that the bureau wrote, under numbers that rise,
+-- and the row of version 1.
 pub record AreOfVersion1 (trees : Trees) : Type 0 where
+  pub sound : IsSound bureau_1 trees
   pub numbered : AllByRecursion (λ table. IsNumbered (trees table.tree)) (take 9 tables)
   pub version : trees 0 ≡ version_rows 1
   pub whole : IsWhole (record (stored_in trees) { conds = [] })

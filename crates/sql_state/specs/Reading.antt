@@ -1,10 +1,15 @@
 -- What a read leaves of a connection, and what it tells.
-use Rattle.std.specs.Prelude.{IsTrue, Result, IfOk}
+use Rattle.std.specs.Prelude.{◌≡◌, ◌⊎◌, IsTrue, Result, IfOk, false}
 use Rattle.sqlite.specs.State.{HasCleanDisk, KeepsCommit, State, Survives}
+use Rattle.sqlite_disk.specs.Disk.{MoreFaults}
 use Rattle.sql_tables.specs.Stored.{Stored}
 use Rattle.sql_state.specs.Ours.{IsOurs, held_by}
 
 module _ (old new : State) where
+  -- the device has failed since, or the connection was shut
+  abbrev pub HasFailed : Type 0
+  HasFailed = MoreFaults old.faults new.faults ⊎ (old.is_open ≡ false)
+
   -- nothing is committed, and a stop leaves what it would have left
   pub record OnlyReads : Type 0 where
     pub keeps : HasCleanDisk new → KeepsCommit old new

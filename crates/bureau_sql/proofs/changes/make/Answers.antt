@@ -5,6 +5,6 @@ use Rattle.bureau_sql.proofs.changes.make.Goals as goal
 pub returns-clause-committed : goal.returns-clause-committed
 returns-clause-committed g c =
     let made = transaction_made g.S.Store c.args.conn.now c.begin-tx.result.conn.now c.write-written.new.tx.conn.now c.end.new.tx.0 _ c.begin-tx.ensures.begun
-    c.begin-tx.ensures.settled c.begin-tx.ensures.live c.write-written.result c.end.result c.write-written.ensures.changes
+    c.begin-tx.ensures.settled c.write-written.result c.end.result c.write-written.ensures.changes
     c.end.ensures.written c.end.ensures.refused c.end.ensures.survives in
     search (rules, made)

@@ -1,19 +1,31 @@
 use Rattle.std.proofs.Common.{Err, rules}
 use Rattle.sqlite.specs.Held.{state}
 use Rattle.sqlite.specs.State.{HasCleanDisk}
+use Rattle.sql_state.proofs.StopFacts.{was_clean}
 use Rattle.bureau_sql.specs.Opening.{IsNotEarlier}
-use Rattle.bureau_sql.proofs.MigratedFacts.{brought_survives, refused_survives}
+use Rattle.bureau_sql.proofs.MigratedFacts.{brought_survives, of_call, refused_survives, taken_so}
 use Rattle.bureau_sql.proofs.OpenFacts.{not_earlier}
 use Rattle.bureau_sql.proofs.migrate.bring.Goals as goal
 
 pub returns-in_err-holds-clause-cause : goal.returns-in_err-holds-clause-cause
 returns-in_err-holds-clause-cause g c =
-    let cause : HasCleanDisk (state g.S.Store c.holds.new.conn) → IsNotEarlier (state g.S.Store c.args.conn.now) c.in_err-holds.field-0.0 =
-    λ clean. not_earlier c.sysmod_cond.result.now (state g.S.Store c.args.conn.now) c.in_err-holds.field-0.0 (_, c.sysmod_cond.ensures.statement) (c.in_err-holds.ensures.cause clean) in
+    let cause : HasCleanDisk (state g.S.Store c.holds.new.conn) → IsNotEarlier (state g.S.Store c.args.conn.now) (state g.S.Store c.holds.new.conn) c.in_err-holds.field-0.0 =
+    λ clean. not_earlier c.sysmod_cond.result.now (state g.S.Store c.args.conn.now) (state g.S.Store c.holds.new.conn) c.in_err-holds.field-0.0 c.sysmod_cond.ensures (c.in_err-holds.ensures.cause clean) in
     search (rules, cause, c.from_residual.ensures)
 
 pub returns-in-Err-clause-survives : goal.returns-in-Err-clause-survives
 returns-in-Err-clause-survives g c =
     refused_survives (state g.S.Store c.args.conn.now) (state g.S.Store c.migrated.new.conn) (state g.S.Store c.refusal.new.conn) c.refusal.ensures.reads
     (brought_survives (state g.S.Store c.args.conn.now) (state g.S.Store c.holds.new.conn) (state g.S.Store c.migrated.new.conn) c.in_ok-holds.ensures.reads c.in_ok-holds.ensures.is_open
+    (taken_so c.sysmod_cond.result.now (state g.S.Store c.holds.new.conn) (state g.S.Store c.args.conn.now).committed c.sysmod_cond.ensures c.in_ok-holds.ensures.version c.in_ok-holds.ensures.tables c.in_ok-holds.ensures.understood)
     (Err c.in-Err.error) c.in-Err.ensures.migrated)
+
+pub returns-in-Err-clause-cause : goal.returns-in-Err-clause-cause
+returns-in-Err-clause-cause g c clean =
+    let old = state g.S.Store c.args.conn.now in
+    let held = state g.S.Store c.holds.new.conn in
+    let migrated = state g.S.Store c.migrated.new.conn in
+    let last = state g.S.Store c.refusal.new.conn in
+    let at_held = was_clean held migrated _ c.in-Err.ensures.migrated.survives (was_clean migrated last (λ trees. ⊥) c.refusal.ensures.reads.survives clean) in
+    of_call old last c.refusal.result c.refusal.ensures.call
+    (taken_so c.sysmod_cond.result.now held old.committed c.sysmod_cond.ensures c.in_ok-holds.ensures.version c.in_ok-holds.ensures.tables c.in_ok-holds.ensures.understood at_held)

@@ -1,8 +1,9 @@
-use Rattle.std.proofs.Common.{◌≡◌, [], IfErr, IsTrue, OnOk, rules, subst, sym}
+use Rattle.std.proofs.Common.{◌≡◌, IfErr, IsTrue, OnOk, rules, subst, sym}
 use Rattle.sqlite.specs.Held.{state}
 use Rattle.sqlite.specs.State.{HasCleanDisk}
-use Rattle.bureau_sql.specs.Opening.{IsNone, IsSeen, IsUnderstood}
-use Rattle.bureau_sql.proofs.OpenFacts.{means_here, unread}
+use Rattle.bureau_sql.specs.Opening.{IsOneStatement, IsSeen, IsUnderstood}
+use Rattle.bureau_sql.proofs.OpenFacts.{means_here}
+use Rattle.bureau_sql.proofs.RefusedFacts.{unread}
 use Rattle.bureau_sql.proofs.PlainFacts.{prepare_reads}
 use Rattle.bureau_sql.proofs.open.can_read.Goals as goal
 use Rattle.bureau_sql.proofs.open.can_read.Goals.{in-Ok, in-Err}
@@ -21,8 +22,8 @@ returns-clause-cause g c =
     elim c.match-prepare.branch [
       | in-Ok w ↦ search (rules, w.result-is)
       | in-Err w ↦
-          subst (λ result. IfErr result (λ fault. HasCleanDisk new → IsSeen (IsNone (λ schema. IsUnderstood schema c.args.text.now)) (λ database. ⊥) old fault)) (sym w.result-is)
-          (λ clean. unread old new c.args.text.now _ w.fault_of.result settled (w.in-Err.ensures.err clean []) w.fault_of.ensures.shape w.fault_of.ensures.other)
+          subst (λ result. IfErr result (λ fault. HasCleanDisk new → IsSeen (λ database. IsOneStatement database.schema c.args.text.now → ⊥) (λ database. ⊥) old new fault)) (sym w.result-is)
+          (λ clean. unread old new c.args.text.now _ settled w.fault_of.result (w.in-Err.ensures.err clean) w.fault_of.ensures)
     ]
 
 pub returns-clause-understood : goal.returns-clause-understood

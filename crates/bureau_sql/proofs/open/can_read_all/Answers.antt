@@ -1,20 +1,19 @@
 use Rattle.std.proofs.Common.{[], get_or, rules}
-use Rattle.std.specs.List.{AllByRecursion}
+use Rattle.std.proofs.lemmas.List.Elements.{Contains-get_or}
 use Rattle.sqlite.specs.Held.{state}
 use Rattle.sqlite.specs.State.{HasCleanDisk}
-use Rattle.sqlite_trees.proofs.ListLemmas.{all-get_or}
-use Rattle.bureau_sql.specs.Opening.{IsNone, IsSeen, IsUnderstood}
+use Rattle.bureau_sql.specs.Opening.{IsOneStatement, IsSeen, LacksText}
 use Rattle.bureau_sql.proofs.OpenFacts.{meant_so_far, reads_after, seen_before}
 use Rattle.bureau_sql.proofs.open.can_read_all.Goals as goal
 
 pub returns-in_err-can_read-clause-cause : goal.returns-in_err-can_read-clause-cause
 returns-in_err-can_read-clause-cause g c =
     let cause : HasCleanDisk (state g.S.Store c.can_read.new.conn)
-    → IsSeen (IsNone (λ schema. AllByRecursion (λ text. IsUnderstood schema text.now) c.args.texts.now)) (λ database. ⊥) (state g.S.Store c.args.conn.now) c.in_err-can_read.field-0.0 =
-    seen_before (IsNone (λ schema. IsUnderstood schema (get_or c.args.texts.now c.loop-text.text-index (record { ref_ptr = (0, 0); now = [] })).now)) (λ database. ⊥) (IsNone (λ schema. AllByRecursion (λ text. IsUnderstood schema text.now) c.args.texts.now)) (λ database. ⊥)
+    → IsSeen (LacksText c.args.texts.now) (λ database. ⊥) (state g.S.Store c.args.conn.now) (state g.S.Store c.can_read.new.conn) c.in_err-can_read.field-0.0 =
+    seen_before (λ database. IsOneStatement database.schema (get_or c.args.texts.now c.loop-text.text-index (record { ref_ptr = (0, 0); now = [] })).now → ⊥) (λ database. ⊥) (LacksText c.args.texts.now) (λ database. ⊥)
     (state g.S.Store c.args.conn.now) (state g.S.Store c.loop-text.conn) (state g.S.Store c.can_read.new.conn) c.in_err-can_read.field-0.0
     c.loop-text.invariant.reads c.in_err-can_read.ensures.reads
-    (λ clean none schema all. none schema (all-get_or (λ text. IsUnderstood schema text.now) c.args.texts.now c.loop-text.text-index (record { ref_ptr = (0, 0); now = [] }) all c.loop-text-test.true)) (λ clean none. none)
+    (λ clean none. (_, Contains-get_or c.args.texts.now c.loop-text.text-index (record { ref_ptr = (0, 0); now = [] }) c.loop-text-test.true, none)) (λ clean none. none)
     c.in_err-can_read.ensures.cause in
     search (rules, cause, c.from_residual.ensures)
 

@@ -1,26 +1,21 @@
-use Rattle.std.proofs.Common.{Bor, List, [], ◌∷◌, ℕ}
+use Rattle.std.proofs.Common.{[], ◌∷◌}
 use Rattle.sqlite.specs.Held.{state}
-use Rattle.bureau_sql.proofs.OpenFacts.{seen_texts, tables_found}
+use Rattle.sql_texts.specs.Schema.{bureau, bureau_1}
+use Rattle.bureau_sql.specs.Opening.{of_tables}
+use Rattle.bureau_sql.proofs.OpenFacts.{all_asked, one_of_asked, seen_tables, tables_found}
 use Rattle.bureau_sql.proofs.open.has_tables.Goals as goal
 
 pub returns-clause-cause : goal.returns-clause-cause
 returns-clause-cause g c =
-    seen_texts (λ (text : Bor (List ℕ)). text.now)
-    (c.caller_with_token.result ∷ c.last_change.result ∷ c.sysmod.result ∷ c.superseded.result ∷ c.holds_on.result ∷ c.patterns.result ∷ c.zone_rows.result ∷ c.received.result ∷ [])
+    seen_tables (c.caller_with_token.result ∷ c.last_change.result ∷ c.sysmod.result ∷ c.superseded.result ∷ c.holds_on.result ∷ c.patterns.result ∷ c.zone_rows.result ∷ c.received.result ∷ [])
     (state g.S.Store c.args.conn.now) (state g.S.Store c.can_read_all.new.conn) c.can_read_all.result c.can_read_all.ensures.cause
-    ((_, c.caller_with_token.ensures.reads.statement), ((_, c.last_change.ensures.reads.statement), ((_, c.sysmod.ensures.reads.statement), ((_, c.superseded.ensures.reads.statement), ((_, c.holds_on.ensures.reads.statement), ((_, c.patterns.ensures.reads.statement), ((_, c.zone_rows.ensures.reads.statement), ((_, c.received.ensures.reads.statement), tt))))))))
-    ((_, c.caller_with_token.ensures.version_1.statement), ((_, c.last_change.ensures.version_1.statement), ((_, c.sysmod.ensures.version_1.statement), ((_, c.superseded.ensures.version_1.statement), ((_, c.holds_on.ensures.version_1.statement), ((_, c.patterns.ensures.version_1.statement), ((_, c.zone_rows.ensures.version_1.statement), ((_, c.received.ensures.version_1.statement), tt))))))))
+    (c.caller_with_token.ensures.reads, (c.last_change.ensures.reads, (c.sysmod.ensures.reads, (c.superseded.ensures.reads, (c.holds_on.ensures.reads, (c.patterns.ensures.reads, (c.zone_rows.ensures.reads, (c.received.ensures.reads, tt))))))))
+    (one_of_asked bureau c.caller_with_token.result.now _ _ _ c.caller_with_token.ensures.reads, (one_of_asked bureau c.last_change.result.now _ _ _ c.last_change.ensures.reads, (one_of_asked bureau c.sysmod.result.now _ _ _ c.sysmod.ensures.reads, (one_of_asked bureau c.superseded.result.now _ _ _ c.superseded.ensures.reads, (one_of_asked bureau c.holds_on.result.now _ _ _ c.holds_on.ensures.reads, (one_of_asked bureau c.patterns.result.now _ _ _ c.patterns.ensures.reads, (one_of_asked bureau c.zone_rows.result.now _ _ _ c.zone_rows.ensures.reads, (one_of_asked bureau c.received.result.now _ _ _ c.received.ensures.reads, tt))))))))
+    (one_of_asked bureau_1 c.caller_with_token.result.now _ _ _ c.caller_with_token.ensures.version_1, (one_of_asked bureau_1 c.last_change.result.now _ _ _ c.last_change.ensures.version_1, (one_of_asked bureau_1 c.sysmod.result.now _ _ _ c.sysmod.ensures.version_1, (one_of_asked bureau_1 c.superseded.result.now _ _ _ c.superseded.ensures.version_1, (one_of_asked bureau_1 c.holds_on.result.now _ _ _ c.holds_on.ensures.version_1, (one_of_asked bureau_1 c.patterns.result.now _ _ _ c.patterns.ensures.version_1, (one_of_asked bureau_1 c.zone_rows.result.now _ _ _ c.zone_rows.ensures.version_1, (one_of_asked bureau_1 c.received.result.now _ _ _ c.received.ensures.version_1, tt))))))))
 
 pub returns-clause-tables : goal.returns-clause-tables
 returns-clause-tables g c =
-    tables_found (state g.S.Store c.args.conn.now).committed.schema (state g.S.Store c.can_read_all.new.conn) c.can_read_all.result
-    (λ all. record {
-      callers = (_, c.caller_with_token.ensures.reads, all.0);
-      last_changes = (_, c.last_change.ensures.reads, all.1.0);
-      sysmods = (_, c.sysmod.ensures.reads, all.1.1.0);
-      superseded = (_, c.superseded.ensures.reads, all.1.1.1.0);
-      holds = (_, c.holds_on.ensures.reads, all.1.1.1.1.0);
-      zones = (_, c.patterns.ensures.reads, all.1.1.1.1.1.0);
-      zone_rows = (_, c.zone_rows.ensures.reads, all.1.1.1.1.1.1.0);
-      received = (_, c.received.ensures.reads, all.1.1.1.1.1.1.1.0);
-    }) c.can_read_all.ensures.understood
+    let schema = (state g.S.Store c.args.conn.now).committed.schema in
+    tables_found schema (state g.S.Store c.can_read_all.new.conn) c.can_read_all.result
+    (all_asked schema of_tables (c.caller_with_token.result ∷ c.last_change.result ∷ c.sysmod.result ∷ c.superseded.result ∷ c.holds_on.result ∷ c.patterns.result ∷ c.zone_rows.result ∷ c.received.result ∷ [])
+    (c.caller_with_token.ensures.reads, (c.last_change.ensures.reads, (c.sysmod.ensures.reads, (c.superseded.ensures.reads, (c.holds_on.ensures.reads, (c.patterns.ensures.reads, (c.zone_rows.ensures.reads, (c.received.ensures.reads, tt))))))))) c.can_read_all.ensures.understood

@@ -21,4 +21,4 @@ returns-in-Ok-clause-ours g c =
 
 pub returns-in-Err-clause-cause : goal.returns-in-Err-clause-cause
 returns-in-Err-clause-cause g c clean =
-    no_store c.conditional.result.now (state g.S.Store c.args.conn) c.in-Err.fault (_, c.conditional.ensures.statement) (c.in-Err.ensures.cause clean)
+    no_store c.conditional.result.now (state g.S.Store c.args.conn) (state g.S.Store c.holds.new.conn) c.in-Err.fault c.conditional.ensures (c.in-Err.ensures.cause clean)
