@@ -5,3 +5,4 @@ pub mod MigratingFacts
 pub mod OutputFacts
 pub mod ReadFacts
 mod ReplayFacts
+mod ReportingFacts

@@ -5,4 +5,5 @@ pub mod Migrating
 pub mod Program
 pub mod ProgramFault
 pub mod Replay
+pub mod Reporting
 pub mod Surroundings

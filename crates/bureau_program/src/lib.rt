@@ -27,6 +27,7 @@ mod line;
 mod migrating;
 mod program;
 mod replay;
+mod reporting;
 mod surroundings;
 
 pub use desk::{Service, open_and_serve, run_init, run_open};
@@ -35,4 +36,5 @@ pub use line::{Line, LineFault, line_of};
 pub use migrating::run_migrate;
 pub use program::run;
 pub use replay::run_replay;
+pub use reporting::{Asked, Names, Report, run_report};
 pub use surroundings::{StoreFile, Surroundings};

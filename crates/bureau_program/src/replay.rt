@@ -18,8 +18,8 @@ use bureau_sql::SqlStore;
 use bureau_store::{CallerRow, Store, StoreFault};
 use chain_cache::ChainCache;
 use faults::AnyFault;
+use ram_disk::RamDisk;
 use sqlite::{Alter, Connection, FileStore, Files, Options};
-use sqlite_disk::Memory;
 use std::alloc::Global;
 use std::hash::RandomState;
 use std::io::Write;
@@ -27,6 +27,10 @@ use transfer::{RETRIES, write_whole};
 
 // How many pages are kept besides those in the files, which stand in memory too: one mebibyte of them.
 const PAGES: usize = 256;
+
+// How many pages of a change are kept before they go to the log: four gibibytes of them, more than a change writes. The
+// log stands in memory too, so a page that goes there early and is written again stands there twice.
+const CHANGED_PAGES: usize = 1 << 20;
 
 /// Serves connections one after the other over a store in memory that has these callers and nothing else, and
 /// prints what is written to each. Returns the exit status.
@@ -138,13 +142,14 @@ fn serve_over<S: Alter + Drop>(
 }
 
 // A database in memory, made of the same pages as one in a file.
-fn database_in_memory(alloc: Global) -> Result<Connection<FileStore<Memory>>, StoreFault>
+fn database_in_memory(alloc: Global) -> Result<Connection<FileStore<RamDisk>>, StoreFault>
     ensures rest { IfOk result (λ conn. conn.in_transaction ≡ false) }
 {
-    let log = Memory::new(alloc);
-    let db = Memory::new(alloc);
+    let log = RamDisk::new(alloc);
+    let db = RamDisk::new(alloc);
     let mut options = Options::new(1);
     options.cache_pages = PAGES;
+    options.spill_pages = CHANGED_PAGES;
     match Connection::open_files(alloc, Files { log, db }, options) {
         Ok(conn) => Ok(conn),
         Err(_) => Err(StoreFault::Memory),

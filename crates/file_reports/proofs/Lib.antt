@@ -1,0 +1,3 @@
+mod DeskFacts
+mod InputFacts
+mod ReportFacts

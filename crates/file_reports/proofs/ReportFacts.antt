@@ -1,0 +1,64 @@
+-- A report, from what the inputs say.
+use Rattle.std.proofs.Common.{◌≡◌, inl, inr, ℕ, ◌==◌, ◌&&◌, List, filter, refl, sym, ◌∙◌, ap, subst}
+use Rattle.std.specs.Prelude.{None, Result, Ok, Err, IfErr, IsErrAnd}
+use Rattle.holddata.specs.HoldKey.{kind_order}
+use Rattle.holddata.specs.declared.hold.Hold.{Hold}
+use Rattle.holddata.specs.declared.key.Kind.TheVariants.{ErrorHold, FixcatHold}
+use Rattle.zone_lists.specs.Installed.{is_installed}
+use Rattle.catalogue.specs.SourceFault as source
+use Rattle.catalogue.specs.declared.fault.SourceFault.{SourceFault}
+use Rattle.catalogue.specs.declared.fault.SourceFault.TheVariants.{Memory, Device}
+use Rattle.reports.specs.ErrRows.{err_rows_of}
+use Rattle.reports.specs.MissingRows.{missing_rows_of}
+use Rattle.reports.specs.ReportText.{err_text_of, missing_text_of}
+use Rattle.reports.specs.declared.rows.ErrRow.{ErrRow}
+use Rattle.reports.specs.declared.rows.MissingRow.{MissingRow}
+use Rattle.file_reports.specs.Inputs.{Inputs, IsOfMachine, IsRefused, Refused, Said, and_then, said_by}
+use Rattle.file_reports.specs.Reports.{err_text_said, missing_text_said, text_by}
+use Rattle.file_reports.specs.declared.fault.InputFault.{InputFault}
+use Rattle.file_reports.proofs.InputFacts.{refused_first}
+
+-- a text of what the inputs say
+pub text_said : (text : Said → List ℕ) (inputs : Inputs) (all : Said) (made : List ℕ) → said_by inputs ≡ Ok all → made ≡ text all → text_by text inputs ≡ Ok made
+text_said text inputs all made said is =
+    ap (λ (result : Result Said Refused). and_then result (λ all. Ok (text all))) said ∙ ap (λ (text : List ℕ). Ok text) (sym is)
+
+-- what is refused of the inputs is refused of the report
+pub text_refused : {T : Type 0} (text : Said → List ℕ) (inputs : Inputs) (result : Result T InputFault) (told : InputFault) → IsErrAnd result (λ fault. fault ≡ told)
+    → IsRefused (said_by inputs) told → IfErr result (IsRefused (text_by text inputs))
+text_refused text inputs (Ok value) told is refused = absurd is
+text_refused text inputs (Err fault) told is refused =
+    subst (λ (told : InputFault). IsRefused (text_by text inputs) told) (sym is) (refused_first (said_by inputs) (λ all. Ok (text all)) told refused)
+
+-- the machine is at fault
+of_source : (fault : SourceFault) (told : InputFault) → told ≡ record { input = None; fault = source.told fault } → IsOfMachine told
+of_source Memory told is = (ap (λ (told : InputFault). told.input) is, ap (λ (told : InputFault). told.fault.cause) is)
+of_source Device told is = (ap (λ (told : InputFault). told.input) is, ap (λ (told : InputFault). told.fault.cause) is)
+
+pub machine_refused : {T A : Type 0} (said : Result A Refused) (result : Result T InputFault) (fault : SourceFault)
+    → IsErrAnd result (λ told. told ≡ record { input = None; fault = source.told fault }) → IfErr result (IsRefused said)
+machine_refused said (Ok value) fault is = absurd is
+machine_refused said (Err told) fault is = inl (of_source fault told is)
+
+-- the exception SYSMOD report, from its parts
+pub err_made : (zone : List ℕ) (said : Said) (ids : List (List ℕ)) (held holds book : List Hold) (rows shown : List ErrRow) (text : List ℕ)
+    → text ≡ err_text_of zone shown → shown ≡ rows → rows ≡ err_rows_of said.content said.rows ids held → ids ≡ said.received → held ≡ holds
+    → holds ≡ filter (λ hold. is_installed said.rows hold.key.sysmod && (kind_order hold.key.kind == kind_order ErrorHold)) book → book ≡ said.content.holds
+    → text ≡ err_text_said zone said
+err_made zone said ids held holds book rows shown text printed shows made has same are of =
+    printed ∙ ap (err_text_of zone)
+    (shows ∙ made ∙ ap (λ ids. err_rows_of said.content said.rows ids held) has
+    ∙ ap (err_rows_of said.content said.rows said.received)
+    (same ∙ are ∙ ap (filter (λ hold. is_installed said.rows hold.key.sysmod && (kind_order hold.key.kind == kind_order ErrorHold))) of))
+
+-- the missing fix report, from its parts
+pub missing_made : (zone : List ℕ) (said : Said) (ids patterns : List (List ℕ)) (held holds book : List Hold) (rows shown : List MissingRow) (text : List ℕ)
+    → text ≡ missing_text_of zone shown → shown ≡ rows → rows ≡ missing_rows_of said.content said.rows ids patterns held → ids ≡ said.received → patterns ≡ said.patterns → held ≡ holds
+    → holds ≡ filter (λ hold. is_installed said.rows hold.key.sysmod && (kind_order hold.key.kind == kind_order FixcatHold)) book → book ≡ said.content.holds
+    → text ≡ missing_text_said zone said
+missing_made zone said ids patterns held holds book rows shown text printed shows made has asks same are of =
+    printed ∙ ap (missing_text_of zone)
+    (shows ∙ made ∙ ap (λ ids. missing_rows_of said.content said.rows ids patterns held) has
+    ∙ ap (λ patterns. missing_rows_of said.content said.rows said.received patterns held) asks
+    ∙ ap (missing_rows_of said.content said.rows said.received said.patterns)
+    (same ∙ are ∙ ap (filter (λ hold. is_installed said.rows hold.key.sysmod && (kind_order hold.key.kind == kind_order FixcatHold))) of))

@@ -1,0 +1,5 @@
+pub mod Desk
+pub mod Inputs
+pub mod Lists
+pub mod Read
+pub mod Reports

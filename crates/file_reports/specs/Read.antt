@@ -1,0 +1,11 @@
+-- No part of what is promised: private contracts cite it. What the inputs say, as it was read.
+use Rattle.file_reports.specs.Inputs.{Said}
+use Rattle.file_reports.specs.declared.inputs.Read.{Read}
+
+abbrev pub said_of : Read → Said
+said_of read = record {
+  rows = read.installed;
+  patterns = read.patterns.items;
+  received = read.received.items;
+  content = read.content;
+}

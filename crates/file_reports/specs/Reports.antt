@@ -1,0 +1,25 @@
+-- The reports of inputs: what a desk says of the content that all publications leave, in the zone.
+use Rattle.std.specs.Prelude.{ℕ, List, Result, Ok}
+use Rattle.bureau_store.specs.Tables.{ZoneTable}
+use Rattle.bureau.specs.Texts as desk
+use Rattle.file_reports.specs.Inputs.{Inputs, Refused, Said, and_then, said_by}
+
+-- the zone as a desk keeps it
+abbrev pub zone_said : Said → ZoneTable
+zone_said said = record { rows = said.rows; patterns = said.patterns }
+
+-- the exception SYSMOD report on a zone of this name
+abbrev pub err_text_said : List ℕ → Said → List ℕ
+err_text_said zone said = desk.err_report said.content zone (zone_said said) said.received
+
+-- the missing fix report
+abbrev pub missing_text_said : List ℕ → Said → List ℕ
+missing_text_said zone said = desk.missing_report said.content zone (zone_said said) said.received
+
+-- the verdict on a SYSMOD
+abbrev pub chain_text_said : List ℕ → List ℕ → Said → List ℕ
+chain_text_said zone sysmod said = desk.chain_text said.content zone (zone_said said) sysmod
+
+-- a text of what the inputs say, or the first fault
+abbrev pub text_by : (Said → List ℕ) → Inputs → Result (List ℕ) Refused
+text_by text inputs = and_then (said_by inputs) (λ said. Ok (text said))

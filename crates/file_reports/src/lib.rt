@@ -1,0 +1,28 @@
+//! Reports from files, with no desk: from the bytes of publications and of a zone's lists to the text that a new desk
+//! answers after the same publications and lists.
+//!
+//! - [`Lists`]: a zone's lists: its SYSMODs, and what the client has received and asks for, where these are given
+//! - [`err_report`], [`missing_report`]: the two reports on a zone
+//! - [`chain_report`]: the verdict on a SYSMOD in a zone
+//! - [`Input`]: which of the inputs has a fault; [`InputFault`]: the first fault, and the input that it is in
+//!
+//! ```
+//! // what isn't named here is of mcs_reader
+//! use file_reports::{Lists, err_report};
+//! let source = Vec::from_slice(alloc, b"++HOLD(UJ90101) ERROR FMID(HBB77E0) REASON(AJ00001).\n")?;
+//! let lists = Lists::of_zone(b"SYSMOD,STATE\nUJ90101,APPLIED\n");
+//! let zone = Id::new(b"NORTH").ok_or("an id")?;
+//! let text = err_report(alloc, &zone, lists, vec![in alloc; source]?)?;
+//! assert!(rt; text.ends_with(b"HBB77E0  UJ90101  AJ00001  - NONE -  -     -        -\nROWS 1\n"));
+//! ```
+#![tactic(auto)]
+
+mod fault;
+mod held;
+mod inputs;
+mod publications;
+mod texts;
+
+pub use fault::{Input, InputFault};
+pub use inputs::Lists;
+pub use texts::{chain_report, err_report, missing_report};

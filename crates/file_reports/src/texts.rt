@@ -1,0 +1,194 @@
+//! The texts of the reports on a zone, and of the verdict on a SYSMOD.
+ghost use Rattle.std.specs.Prelude.{◌≡◌, Ok, IfOk, IfErr, map};
+ghost use Rattle.catalogue.specs.Content.{IsInOrder};
+ghost use Rattle.catalogue.specs.Ids.{Ascend};
+ghost use Rattle.chains.specs.Judge as judge;
+ghost use Rattle.chains.specs.Verdicts.{verdict_of};
+ghost use Rattle.bureau.specs.Call as call;
+ghost use Rattle.bureau.specs.Outcome.{as_json, plain};
+ghost use Rattle.bureau.specs.Texts as desk;
+ghost use Rattle.bureau_store.specs.Held.{held_in};
+ghost use Rattle.file_reports.specs.Desk.{IsDesksAnswer};
+ghost use Rattle.file_reports.specs.Inputs.{IsRefused};
+ghost use Rattle.file_reports.specs.Lists.{inputs_of};
+ghost use Rattle.file_reports.specs.Read.{said_of};
+ghost use Rattle.file_reports.specs.Reports.{chain_text_said, err_text_said, missing_text_said, text_by};
+ghost use Rattle.holddata.specs.declared.key.Kind.TheVariants.{ErrorHold, FixcatHold};
+
+use crate::InputFault;
+use crate::held::held_in;
+use crate::inputs::{Lists, Read, read_all};
+use catalogue::{ListPublished, SourceFault};
+use chains::{Judge, Verdict, Whole, frame_within, plan};
+use holddata::Kind;
+use mcs_reader::Id;
+use reports::{err_rows, err_text, missing_rows, missing_text, plan_json};
+use std::alloc::Global;
+use supersede::Zone;
+use zone_lists::Pattern;
+
+// How many nodes a frame has at most from which a chain is answered. Where a SYSMOD reaches further, all that is
+// catalogued is read once.
+const NODES_MOST: usize = 256;
+
+/// The exception SYSMOD report on a zone, as a new desk answers it after the same publications and lists. The zone has
+/// this name.
+///
+/// # Errors
+///
+/// The first fault of the lists and of the publications in their order, with the input that it is in; or memory ran
+/// out.
+pub fn err_report(
+    alloc: Global,
+    zone: &Id,
+    lists: Lists<'_>,
+    publications: Vec<Vec<u8>>,
+) -> Result<Vec<u8>, InputFault>
+    ensures text { IfOk result (λ text. text_by (err_text_said zone.now)
+        (inputs_of lists.entry (map (λ body. body.items) publications.items)) ≡ Ok text.items) }
+    ensures fault { IfErr result (IsRefused (text_by (err_text_said zone.now)
+        (inputs_of lists.entry (map (λ body. body.items) publications.items)))) }
+
+    // A desk answers the same.
+    ensures desk { IfOk result (λ text. IsDesksAnswer zone.now
+        (inputs_of lists.entry (map (λ body. body.items) publications.items))
+        (call.err_sysmods zone.now) (plain 200 text.items)) }
+{
+    let read = read_all(alloc, lists, publications)?;
+    Ok(err_text_in(alloc, zone, read)?)
+}
+
+/// The missing fix report on a zone, as [`err_report`].
+///
+/// # Errors
+///
+/// Those of [`err_report`].
+pub fn missing_report(
+    alloc: Global,
+    zone: &Id,
+    lists: Lists<'_>,
+    publications: Vec<Vec<u8>>,
+) -> Result<Vec<u8>, InputFault>
+    ensures text { IfOk result (λ text. text_by (missing_text_said zone.now)
+        (inputs_of lists.entry (map (λ body. body.items) publications.items)) ≡ Ok text.items) }
+    ensures fault { IfErr result (IsRefused (text_by (missing_text_said zone.now)
+        (inputs_of lists.entry (map (λ body. body.items) publications.items)))) }
+
+    // A desk answers the same.
+    ensures desk { IfOk result (λ text. IsDesksAnswer zone.now
+        (inputs_of lists.entry (map (λ body. body.items) publications.items))
+        (call.missing_fix zone.now) (plain 200 text.items)) }
+{
+    let read = read_all(alloc, lists, publications)?;
+    Ok(missing_text_in(alloc, zone, read)?)
+}
+
+/// The verdict on a SYSMOD in a zone, as JSON and as [`err_report`].
+///
+/// # Errors
+///
+/// Those of [`err_report`].
+pub fn chain_report(
+    alloc: Global,
+    zone: &Id,
+    sysmod: &Id,
+    lists: Lists<'_>,
+    publications: Vec<Vec<u8>>,
+) -> Result<Vec<u8>, InputFault>
+    ensures text { IfOk result (λ text. text_by (chain_text_said zone.now sysmod.now)
+        (inputs_of lists.entry (map (λ body. body.items) publications.items)) ≡ Ok text.items) }
+    ensures fault { IfErr result (IsRefused (text_by (chain_text_said zone.now sysmod.now)
+        (inputs_of lists.entry (map (λ body. body.items) publications.items)))) }
+
+    // A desk answers the same.
+    ensures desk { IfOk result (λ text. IsDesksAnswer zone.now
+        (inputs_of lists.entry (map (λ body. body.items) publications.items))
+        (call.chain zone.now sysmod.now) (as_json text.items)) }
+{
+    let read = read_all(alloc, lists, publications)?;
+    Ok(chain_text_in(alloc, zone, sysmod, read)?)
+}
+
+// The exception SYSMOD report of what was read.
+fn err_text_in(alloc: Global, zone: &Id, read: Read) -> Result<Vec<u8>, SourceFault>
+    requires received { Ascend read.received.items }
+    requires content { IsInOrder read.content }
+    ensures { IfOk result (λ text. text.items ≡ err_text_said zone.now (said_of read)) }
+{
+    let Read {
+        installed,
+        patterns: _,
+        received,
+        mut content,
+    } = read;
+    let holds = held_in(alloc, content.book(), &installed, Kind::ErrorHold)?;
+    let mut judge = Whole::new();
+    let rows = err_rows(
+        alloc,
+        &mut content,
+        &mut judge,
+        &installed,
+        &received,
+        &holds,
+    )?;
+    Ok(err_text(alloc, zone, &rows)?)
+}
+
+// The missing fix report of what was read.
+fn missing_text_in(alloc: Global, zone: &Id, read: Read) -> Result<Vec<u8>, SourceFault>
+    requires received { Ascend read.received.items }
+    requires content { IsInOrder read.content }
+    ensures { IfOk result (λ text. text.items ≡ missing_text_said zone.now (said_of read)) }
+{
+    let Read {
+        installed,
+        patterns,
+        received,
+        mut content,
+    } = read;
+    let holds = held_in(alloc, content.book(), &installed, Kind::FixcatHold)?;
+    let mut judge = Whole::new();
+    let rows = missing_rows(
+        alloc,
+        &mut content,
+        &mut judge,
+        &installed,
+        &received,
+        &patterns,
+        &holds,
+    )?;
+    Ok(missing_text(alloc, zone, &rows)?)
+}
+
+// The verdict of what was read.
+fn chain_text_in(alloc: Global, zone: &Id, sysmod: &Id, read: Read) -> Result<Vec<u8>, SourceFault>
+    requires { IsInOrder read.content }
+    ensures { IfOk result (λ text. text.items ≡ chain_text_said zone.now sysmod.now (said_of read)) }
+{
+    let Read {
+        installed,
+        patterns: _,
+        received: _,
+        mut content,
+    } = read;
+    let verdict = verdict_in(alloc, &mut content, &installed, sysmod)?;
+    Ok(plan_json(alloc, &mut content, zone, sysmod, &verdict)?)
+}
+
+// The verdict on a SYSMOD: from its frame, where that is small, or from all that is catalogued.
+fn verdict_in(
+    alloc: Global,
+    content: &mut ListPublished,
+    installed: &Zone,
+    sysmod: &Id,
+) -> Result<Verdict, SourceFault>
+    requires { IsInOrder content.old }
+    ensures verdict { IfOk result (λ verdict.
+        judge.judged_by verdict ≡ verdict_of content.old installed.now sysmod.now) }
+    ensures same { content.new ≡ content.old }
+{
+    match frame_within(alloc, content, sysmod, NODES_MOST)? {
+        Some(frame) => Ok(plan(alloc, &frame, installed, sysmod)?),
+        None => Whole::new().verdict(alloc, content, installed, sysmod),
+    }
+}
