@@ -98,10 +98,14 @@ pub record IsOnly (n p : ℕ) (marks : List Bool) : Type 0 where
   pub marked : p < n → IsMarked marks p
   pub only : (q : ℕ) → IsMarked marks q → q ≡ p
 
--- the nodes below i that are left and have a source
+-- a node that is left and has a source
+pub record IsReached (left : List Bool) (sources : List (Option ℕ)) (p : ℕ) : Type 0 where
+  pub marked : IsMarked left p
+  pub sourced : HasSource sources p
+
+-- those of them below i
 pub record AreReached (left : List Bool) (sources : List (Option ℕ)) (i : ℕ) (nodes : List ℕ) : Type 0 where
   pub ascend : IsStrictlyIncreasing nodes
   pub below : (p : ℕ) → Contains nodes p → p < i
-  pub marked : (p : ℕ) → Contains nodes p → IsMarked left p
-  pub sourced : (p : ℕ) → Contains nodes p → HasSource sources p
-  pub whole : (p : ℕ) → p < i → IsMarked left p → HasSource sources p → Contains nodes p
+  pub reached : (p : ℕ) → Contains nodes p → IsReached left sources p
+  pub whole : (p : ℕ) → p < i → IsReached left sources p → Contains nodes p

@@ -4,7 +4,7 @@ ghost use Rattle.std.specs.Bool.{OnFalse, OnTrue};
 ghost use Rattle.std.specs.List.Sorted.{IsStrictlyIncreasing};
 ghost use Rattle.requisites.specs.Nodes.{AreReversed, IsMarked};
 ghost use Rattle.requisites.specs.Sources.{HasSource};
-ghost use Rattle.install_order.specs.Steps.{AreReached, IsAnyLeft, IsGreatestRoot, IsOnly, IsRing, IsRoot};
+ghost use Rattle.install_order.specs.Steps.{AreReached, IsAnyLeft, IsGreatestRoot, IsOnly, IsReached, IsRing, IsRoot};
 
 use requisites::{NoMemory, Rows, is_marked, least_sources};
 use std::alloc::Global;
@@ -74,9 +74,26 @@ fn left_with_source(
 {
     let mut nodes = Vec::new(alloc);
     for node in 0..left.len() {
-        if is_marked(left, node) && sources.get(node).copied().flatten().is_some() {
+        if is_reached(left, sources, node) {
             nodes.push(node)?;
         }
     }
     Ok(nodes)
+}
+
+fn is_reached(left: &[bool], sources: &[Option<usize>], node: usize) -> bool
+    ensures yes { OnTrue result (IsReached left.now sources.now node) }
+    ensures no { OnFalse result (IsReached left.now sources.now node → ⊥) }
+{
+    is_marked(left, node) && has_source(sources, node)
+}
+
+fn has_source(sources: &[Option<usize>], node: usize) -> bool
+    ensures yes { OnTrue result (HasSource sources.now node) }
+    ensures no { OnFalse result (HasSource sources.now node → ⊥) }
+{
+    match sources.get(node).copied().flatten() {
+        Some(_) => true,
+        None => false,
+    }
 }
