@@ -1,0 +1,8 @@
+//! One plan for a zone: what is to be installed so that the holds of a report are resolved, and in which order (IBM z/OS
+//! SMP/E Reference, `++VER`, operands PRE, REQ and SUP).
+#![tactic(auto)]
+
+mod choice;
+mod holds;
+
+pub use holds::{HoldResolvers, Resolver};
