@@ -1,1 +1,2 @@
 pub mod ChoiceFacts
+pub mod GraphFacts

@@ -1,21 +1,17 @@
 -- No part of what is promised: private contracts cite it. Members by their indices in a list that ascends.
-use Rattle.std.specs.Prelude.{◌≡◌, ◌<◌, ◌++◌, ◌↔◌, ℕ, Bool, List, [], ◌∷◌, Option, Some, length, map, Contains, option_map}
-use Rattle.std.specs.Global.{Vec}
-use Rattle.mcs_reader.specs.declared.id.Id.{Id}
+use Rattle.std.specs.Prelude.{◌≡◌, ◌<◌, ◌++◌, ◌↔◌, ◌⊎◌, ℕ, Bool, true, List, [], ◌∷◌, Option, Some, None, length, map, Contains, slice_index_or}
+use Rattle.std.specs.List.{flat_map}
 use Rattle.holddata.specs.declared.hold.Hold.{Hold}
 use Rattle.zone_lists.specs.declared.zones.ZoneRow.{ZoneRow}
 use Rattle.catalogue.specs.Content.{Content, holds_on, record_of}
 use Rattle.catalogue.specs.Ids.{in_order}
 use Rattle.catalogue.specs.declared.sysmod.Sysmod.{Sysmod}
-use Rattle.std.specs.List.{flat_map}
 use Rattle.supersede.specs.Giving.{conds_of, needs_where, requisites_of, sup_of}
-use Rattle.supersede.specs.Reach.{has}
-use Rattle.requisites.specs.Leads.{Leads}
-use Rattle.requisites.specs.Nodes.{IsMarked, Links, mark_of, row}
-use Rattle.chains.specs.Candidates.{candidates_unless_there}
+use Rattle.requisites.specs.Nodes.{IsMarked}
+use Rattle.requisites.specs.Sources.{HasSource}
 use Rattle.chains.specs.Cuts.{id_at}
+use Rattle.chains.specs.Indices.{RowsAre}
 use Rattle.chains.specs.Sights.{reasons_in}
-use Rattle.zone_plans.specs.Members.{united}
 
 -- What is read of a member: what it needs in the zone, and what it supersedes.
 pub record ReadingLists : Type 0 where
@@ -36,17 +32,56 @@ reading_of content rows id = reading_from rows (record_of content id) (holds_on 
 abbrev pub all_needs : List ReadingLists → List (List ℕ)
 all_needs readings = in_order (flat_map (λ reading. reading.needs) readings)
 
--- one id of which it is known what gives it, with the index of a member that does
-pub record IsGivenIndex (f : List ℕ → Option (List (List ℕ))) (ids : List (List ℕ)) (left : List Bool) (needs : List (List ℕ)) (q : ℕ) : Type 0 where
-  pub need : List ℕ
-  pub needs : Contains needs need
-  pub givers : List (List ℕ)
-  pub answer : f need ≡ Some givers
-  pub gives : Contains givers (id_at ids q)
+-- the index of a member that is left and stands among some givers
+pub record IsLeftAmong (ids : List (List ℕ)) (left : List Bool) (givers : List (List ℕ)) (q : ℕ) : Type 0 where
   pub within : q < length ids
   pub marked : IsMarked left q
+  pub listed : Contains givers (id_at ids q)
 
--- the indices of the members that give what is needed
+-- a need of which it is known what gives it, with the index of a member that is left and does
+pub record IsGivenIndex (f : List ℕ → Option (List (List ℕ))) (ids : List (List ℕ)) (left : List Bool) (needs : List (List ℕ)) (q : ℕ) : Type 0 where
+  pub need : List ℕ
+  pub needed : Contains needs need
+  pub givers : List (List ℕ)
+  pub answer : f need ≡ Some givers
+  pub gives : IsLeftAmong ids left givers q
+
+-- the indices of the members that are left and give what is needed
 pub record AreGivenIndices (f : List ℕ → Option (List (List ℕ))) (ids : List (List ℕ)) (left : List Bool) (needs : List (List ℕ)) (indices : List ℕ) : Type 0 where
   pub given : (q : ℕ) → Contains indices q → IsGivenIndex f ids left needs q
   pub whole : (q : ℕ) → IsGivenIndex f ids left needs q → Contains indices q
+
+-- the same for each member
+abbrev pub needs_at : List ReadingLists → ℕ → List (List ℕ)
+needs_at readings p = slice_index_or (map (λ reading. reading.needs) readings) p []
+
+abbrev pub AreGiven : (List ℕ → Option (List (List ℕ))) → List (List ℕ) → List Bool → List ReadingLists → List (List ℕ) → Type 0
+AreGiven f ids left readings rows = RowsAre (λ p indices. AreGivenIndices f ids left (needs_at readings p) indices) (length readings) rows
+
+-- the indices of what is left among some givers are added
+pub record ArePushed (ids : List (List ℕ)) (left : List Bool) (givers : List (List ℕ)) (old new : List ℕ) : Type 0 where
+  pub keeps : (q : ℕ) → Contains old q → Contains new q
+  pub given : (q : ℕ) → Contains new q → Contains old q ⊎ IsLeftAmong ids left givers q
+  pub whole : (q : ℕ) → IsLeftAmong ids left givers q → Contains new q
+
+-- the same by an answer: none is added for what is there
+abbrev pub AreAnswered : List (List ℕ) → List Bool → Option (List (List ℕ)) → List ℕ → List ℕ → Type 0
+AreAnswered ids left None old new = new ≡ old
+AreAnswered ids left (Some givers) old new = ArePushed ids left givers old new
+
+-- a node that is left and has a source
+pub record IsStart (left : List Bool) (sources : List (Option ℕ)) (p : ℕ) : Type 0 where
+  pub marked : IsMarked left p
+  pub sourced : HasSource sources p
+
+-- the marks of those that have a source
+pub record AreSourced (sources : List (Option ℕ)) (marks : List Bool) : Type 0 where
+  pub len : length marks ≡ length sources
+  pub marked : (p : ℕ) → IsMarked marks p → HasSource sources p
+  pub whole : (p : ℕ) → HasSource sources p → IsMarked marks p
+
+-- of those that are left and have one
+pub record AreStarts (left : List Bool) (sources : List (Option ℕ)) (marks : List Bool) : Type 0 where
+  pub len : length marks ≡ length left
+  pub marked : (p : ℕ) → IsMarked marks p → IsStart left sources p
+  pub whole : (p : ℕ) → IsStart left sources p → IsMarked marks p

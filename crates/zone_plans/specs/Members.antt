@@ -4,7 +4,7 @@ use Rattle.std.specs.Prelude.{◌≡◌, ◌++◌, ℕ, List, [], ◌∷◌, Con
 use Rattle.std.specs.List.{flat_map}
 use Rattle.zone_lists.specs.declared.zones.ZoneRow.{ZoneRow}
 use Rattle.catalogue.specs.Content.{Content, Supersedes}
-use Rattle.catalogue.specs.Ids.{Ascend, in_order}
+use Rattle.catalogue.specs.Ids.{in_order}
 use Rattle.supersede.specs.Giving.{needs_in}
 use Rattle.supersede.specs.Leading.{Gives, IsThere}
 use Rattle.requisites.specs.Leads.{Leads}
@@ -56,12 +56,11 @@ pub record IsPlanned (content : Content) (rows : List ZoneRow) (chosen : List (L
   pub is_chosen : Contains chosen resolver
   pub listed : Contains (plan_in content rows resolver) id
 
--- What may come as a step after others. It has an id; its ids ascend, and stand in none of the others. With it, what is
+-- What may come as a step after others. It has an id, and none of its ids stands in another step. With it, what is
 -- installed so far is a plan: each need of each is there, or one of them gives it. And all in it need one another.
 pub record IsNextStep (content : Content) (rows : List ZoneRow) (members : List (List ℕ)) (before : List (List (List ℕ))) (step : List (List ℕ)) : Type 0 where
   pub first : List ℕ
   pub begun : Contains step first
-  pub ascend : Ascend step
   pub once : (id : List ℕ) → Contains step id → ¬ Contains (joined before) id
   pub plan : IsPlan (world_of content rows) (joined (before ++ step ∷ []))
   pub together : (a b : List ℕ) → Contains step a → Contains step b → Leads (NeedsMember content rows members) a b

@@ -3,6 +3,10 @@
 #![tactic(auto)]
 
 mod choice;
+mod graph;
 mod holds;
+mod marks;
+mod reading;
+mod united;
 
 pub use holds::{HoldResolvers, Resolver};
