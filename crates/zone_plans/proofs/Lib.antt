@@ -1,2 +1,4 @@
 pub mod ChoiceFacts
 pub mod GraphFacts
+pub mod PlannedFacts
+pub mod StepFacts

@@ -7,7 +7,8 @@ use Rattle.catalogue.specs.Content.{Content, holds_on, record_of}
 use Rattle.catalogue.specs.Ids.{in_order}
 use Rattle.catalogue.specs.declared.sysmod.Sysmod.{Sysmod}
 use Rattle.supersede.specs.Giving.{conds_of, needs_where, requisites_of, sup_of}
-use Rattle.requisites.specs.Nodes.{IsMarked}
+use Rattle.requisites.specs.Leads.{Leads}
+use Rattle.requisites.specs.Nodes.{IsMarked, Links}
 use Rattle.requisites.specs.Sources.{HasSource}
 use Rattle.chains.specs.Cuts.{id_at}
 use Rattle.chains.specs.Indices.{RowsAre}
@@ -85,3 +86,31 @@ pub record AreStarts (left : List Bool) (sources : List (Option ℕ)) (marks : L
   pub len : length marks ≡ length left
   pub marked : (p : ℕ) → IsMarked marks p → IsStart left sources p
   pub whole : (p : ℕ) → IsStart left sources p → IsMarked marks p
+
+-- a node that is left, to which superseding leads from a chosen one
+pub record IsStartOf (ids : List (List ℕ)) (above : List (List ℕ)) (left : List Bool) (chosen : List (List ℕ)) (p : ℕ) : Type 0 where
+  pub marked : IsMarked left p
+  pub resolver : ℕ
+  pub within : resolver < length ids
+  pub is_chosen : Contains chosen (id_at ids resolver)
+  pub leads : Leads (Links above (length ids)) resolver p
+
+pub record AreStartsOf (ids : List (List ℕ)) (above : List (List ℕ)) (left : List Bool) (chosen : List (List ℕ)) (starts : List Bool) : Type 0 where
+  pub len : length starts ≡ length ids
+  pub marked : (p : ℕ) → IsMarked starts p → IsStartOf ids above left chosen p
+  pub whole : (p : ℕ) → IsStartOf ids above left chosen p → IsMarked starts p
+
+-- a node to which needs lead from a start
+pub record IsReachedFrom (needs : List (List ℕ)) (starts : List Bool) (p : ℕ) : Type 0 where
+  pub start : ℕ
+  pub marked : IsMarked starts start
+  pub leads : Leads (Links needs (length starts)) start p
+
+pub record AreReachedFrom (needs : List (List ℕ)) (starts members : List Bool) : Type 0 where
+  pub len : length members ≡ length starts
+  pub marked : (p : ℕ) → IsMarked members p → IsReachedFrom needs starts p
+  pub whole : (p : ℕ) → IsReachedFrom needs starts p → IsMarked members p
+
+-- the ids of each step
+abbrev pub ids_of_steps : List (List ℕ) → List (List ℕ) → List (List (List ℕ))
+ids_of_steps ids steps = map (λ step. map (id_at ids) step) steps

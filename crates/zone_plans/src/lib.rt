@@ -7,6 +7,8 @@ mod graph;
 mod holds;
 mod marks;
 mod reading;
+mod steps;
 mod united;
 
 pub use holds::{HoldResolvers, Resolver};
+pub use steps::Steps;
