@@ -1,4 +1,5 @@
 pub mod ChoiceFacts
 pub mod GraphFacts
+pub mod MarkFacts
 pub mod PlannedFacts
 pub mod StepFacts

@@ -7,7 +7,7 @@ ghost use Rattle.chains.specs.Judge as judge;
 ghost use Rattle.chains.specs.Verdicts.{verdict_of};
 ghost use Rattle.chains.specs.declared.verdict.Status.TheVariants as status;
 ghost use Rattle.zone_lists.specs.declared.zones.ZoneRow.{ZoneRow};
-ghost use Rattle.zone_plans.specs.Graphs.{AreReachedFrom, AreStartsOf, all_needs, reading_of};
+ghost use Rattle.zone_plans.specs.Graphs.{AreReachedFrom, AreStartsOf, all_needs, ids_of_steps, reading_of};
 ghost use Rattle.zone_plans.specs.Members.{AreZoneSteps, united};
 
 use crate::graph::{Answer, need_rows, sup_rows};
@@ -59,14 +59,38 @@ pub(crate) fn zone_steps(
         → ((id : List ℕ) → Contains chosen.now id → judge.status_of (verdict_of content rows id) ≡ status.Good)
         → AreZoneSteps content rows chosen.now steps) }
 {
-    let below = sup_rows(alloc, &ids, readings)?;
+    let rows = step_rows(alloc, &ids, readings, asked, answers, chosen)?;
+    Ok(Steps { ids, rows })
+}
+
+// By index.
+fn step_rows(
+    alloc: Global,
+    ids: &[Id],
+    readings: &[Reading],
+    asked: &[Id],
+    answers: &[Answer],
+    chosen: &[Id],
+) -> Result<Rows, NoMemory>
+    requires ascend { Ascend ids.now }
+    requires asked { Ascend asked.now }
+    requires chosen { Ascend chosen.now }
+    requires len { length readings.now ≡ length ids.now }
+    ensures { IfOk result (λ found. (content : Content) (rows : List ZoneRow)
+        → ids.now ≡ united content rows chosen.now
+        → readings.now ≡ map (reading_of content rows) ids.now
+        → asked.now ≡ all_needs readings.now
+        → map (option_map (λ ids. ids.items)) answers.now ≡ map (candidates_unless_there content rows) asked.now
+        → ((id : List ℕ) → Contains chosen.now id → judge.status_of (verdict_of content rows id) ≡ status.Good)
+        → AreZoneSteps content rows chosen.now (ids_of_steps ids.now found)) }
+{
+    let below = sup_rows(alloc, ids, readings)?;
     let above = turned(alloc, &below, ids.len())?;
     let left = left_marks(alloc, &above, ids.len())?;
-    let needs = need_rows(alloc, &ids, &left, readings, asked, answers)?;
-    let starts = start_marks(alloc, &ids, &above, &left, chosen)?;
+    let needs = need_rows(alloc, ids, &left, readings, asked, answers)?;
+    let starts = start_marks(alloc, ids, &above, &left, chosen)?;
     let members = member_marks(alloc, &needs, &starts)?;
-    let rows = steps(alloc, &needs, &members)?;
-    Ok(Steps { ids, rows })
+    steps(alloc, &needs, &members)
 }
 
 // The marks of those that are left and stand in for a chosen one.
