@@ -1,3 +1,4 @@
+pub mod BlockedFacts
 pub mod ChoiceFacts
 pub mod GraphFacts
 pub mod MarkFacts

@@ -22,8 +22,7 @@ use Rattle.install_order.specs.Steps.{AreSteps, InOrder, IsClosed, IsNext, Stand
 use Rattle.install_order.proofs.PutFacts.{stands_before, stands_cases, stands_last}
 use Rattle.chains.specs.Candidates.{candidates_unless_there}
 use Rattle.chains.specs.Cuts.{id_at}
-use Rattle.chains.specs.FrameIndices.{AreIndexed, list_at}
-use Rattle.chains.specs.Indices.{IsAt}
+use Rattle.chains.specs.Indices.{AreIndicesOf, IsAt, RowsAre}
 use Rattle.chains.specs.Judge.{status_of}
 use Rattle.chains.specs.Verdicts.{verdict_of}
 use Rattle.chains.specs.Worlds.{world_of}
@@ -32,7 +31,7 @@ use Rattle.chains.proofs.AnswerFacts.{index_is}
 use Rattle.chains.proofs.IndexFacts.{at_inside, inside_at}
 use Rattle.chains.proofs.PartFacts.{at_map}
 use Rattle.chains.proofs.SearchFacts.{first_inside, map_from, map_inside, rest_inside}
-use Rattle.zone_plans.specs.Graphs.{AreGiven, AreReachedFrom, AreStartsOf, ReadingLists, ids_of_steps, needs_at, reading_of}
+use Rattle.zone_plans.specs.Graphs.{AreGiven, AreReachedFrom, AreStartsOf, ReadingLists, ids_of_steps, needs_at, reading_of, sups_at}
 use Rattle.zone_plans.specs.Members.{AreStepsAfter, AreZoneSteps, HasCause, IsGivenBy, IsNextStep, IsPlanned, NeedsMember, joined, united}
 use Rattle.zone_plans.proofs.PlannedFacts.{answer_for, answer_has, answer_says, catalogued, chosen_in_united, flat_from, flat_inside, gives_itself, gives_up, member_candidate, named_by, need_given, planned, supersedes_by}
 
@@ -63,7 +62,7 @@ module _ (content : Content) (rows : List ZoneRow) (chosen ids : List (List ℕ)
     (are : ids ≡ united content rows chosen)
     (are_good : (id : List ℕ) → Contains chosen id → status_of (verdict_of content rows id) ≡ status.Good)
     (read : readings ≡ map (reading_of content rows) ids)
-    (indexed : AreIndexed ids (map (λ (r : ReadingLists). r.sup) readings) below)
+    (indexed : RowsAre (λ p indices. AreIndicesOf ids (sups_at readings p) indices) (length readings) below)
     (reversed : AreReversed below (length ids) above)
     (are_left : AreLeft above (length ids) left)
     (given : AreGiven (candidates_unless_there content rows) ids left readings needs)
@@ -78,7 +77,7 @@ module _ (content : Content) (rows : List ZoneRow) (chosen ids : List (List ℕ)
   reading_at p d within = ap (λ (l : List ReadingLists). get_or l p d) read ∙ at_map (reading_of content rows) ids p [] d within
 
   -- what is read of a member, by its index
-  sup_at : (p : ℕ) → p < length ids → list_at (map (λ (r : ReadingLists). r.sup) readings) p ≡ sup_of (record_of content (id_at ids p))
+  sup_at : (p : ℕ) → p < length ids → sups_at readings p ≡ sup_of (record_of content (id_at ids p))
   sup_at p within =
       at_map (λ (r : ReadingLists). r.sup) readings p (reading_of content rows []) [] (omega (arith, within, as_many))
       ∙ ap (λ (r : ReadingLists). r.sup) (reading_at p (reading_of content rows []) within)
@@ -99,8 +98,9 @@ module _ (content : Content) (rows : List ZoneRow) (chosen ids : List (List ℕ)
   superseded_at : (p q : ℕ) → Links above (length ids) p q → Supersedes content (id_at ids q) (id_at ids p)
   superseded_at p q link =
       let turned = reversed.only q p link.listed in
+      let link_index = link.index in
       let P : List (List ℕ) → Type 0 = λ l. Contains l (id_at ids p) in
-      supersedes_by content rows (id_at ids q) (id_at ids p) (subst P (sup_at q link.index) ((indexed.each q link.index).listed p turned.listed))
+      supersedes_by content rows (id_at ids q) (id_at ids p) (subst P (sup_at q link.index) ((indexed.each q (omega (arith, link_index, as_many))).listed p turned.listed))
 
   gives_above : (p q : ℕ) (need : List ℕ) → Leads (Links above (length ids)) p q → Gives content (id_at ids p) need → Gives content (id_at ids q) need
   gives_above p q need leads gives =
@@ -354,7 +354,7 @@ module _ (content : Content) (rows : List ZoneRow) (chosen ids : List (List ℕ)
         let T : List ℕ → Type 0 = λ x. Supersedes content (id_at ids q.index) x in
         let named = named_by content rows (id_at ids q.index) (id_at ids p.index) (subst T (sym p.is) (subst S (sym q.is) supersedes)) in
         let N : List (List ℕ) → Type 0 = λ l. Contains l (id_at ids p.index) in
-        let turned = reversed.turned q.index p.index (record { listed = (indexed.each q.index q_inside).whole p.index p_inside (subst N (sym (sup_at q.index q_inside)) named); index = p_inside }) in
+        let turned = reversed.turned q.index p.index (record { listed = (indexed.each q.index (omega (arith, q_inside, as_many))).whole p.index p_inside (subst N (sym (sup_at q.index q_inside)) named); index = p_inside }) in
         let same : q.index ≡ p.index = are_left.alone p.index q.index (member_left p.index p_member) (member_left q.index q_member) turned in
         sym q.is ∙ ap (id_at ids) same ∙ p.is;
   }

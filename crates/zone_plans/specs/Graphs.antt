@@ -52,6 +52,10 @@ pub record AreGivenIndices (f : List ℕ → Option (List (List ℕ))) (ids : Li
   pub given : (q : ℕ) → Contains indices q → IsGivenIndex f ids left needs q
   pub whole : (q : ℕ) → IsGivenIndex f ids left needs q → Contains indices q
 
+-- what is read of the member at an index
+abbrev pub sups_at : List ReadingLists → ℕ → List (List ℕ)
+sups_at readings p = slice_index_or (map (λ reading. reading.sup) readings) p []
+
 -- the same for each member
 abbrev pub needs_at : List ReadingLists → ℕ → List (List ℕ)
 needs_at readings p = slice_index_or (map (λ reading. reading.needs) readings) p []

@@ -1,3 +1,4 @@
 pub mod Choices
 pub mod Members
 pub mod Graphs
+pub mod Plans

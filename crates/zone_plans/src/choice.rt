@@ -17,26 +17,8 @@ use mcs_reader::Id;
 use std::alloc::Global;
 use std::collections::BTreeSet;
 
-/// For each hold the resolver of a kind that is chosen, in the order of the holds.
-pub(crate) fn choices<P: Published>(
-    alloc: Global,
-    source: &mut P,
-    status: Status,
-    holds: &[HoldResolvers],
-) -> Result<Vec<Option<Id>>, SourceFault>
-    ensures asks { MayAsk P.content_view Device source.old source.new result }
-    ensures choices { IfOk result (λ chosen. Tells P.content_view source.old source.new
-        (λ content. chosen.items ≡ map (choice content status) holds.now)) }
-{
-    let mut chosen = Vec::with_capacity(alloc, holds.len())?;
-    for hold in holds {
-        chosen.push(choice(alloc, source, status, hold)?)?;
-    }
-    Ok(chosen)
-}
-
-// The resolver of a kind that is chosen for a hold.
-fn choice<P: Published>(
+/// The resolver of a kind that is chosen for a hold.
+pub(crate) fn choice<P: Published>(
     alloc: Global,
     source: &mut P,
     status: Status,

@@ -6,9 +6,8 @@ ghost use Rattle.mcs_reader.specs.declared.id.Id.{Id};
 ghost use Rattle.catalogue.specs.Ids.{Ascend};
 ghost use Rattle.supersede.specs.Reach.{has};
 ghost use Rattle.requisites.specs.Nodes.{IsMarked};
-ghost use Rattle.chains.specs.FrameIndices.{AreIndexed};
-ghost use Rattle.chains.specs.Indices.{AreIndicesOf, IsAt};
-ghost use Rattle.zone_plans.specs.Graphs.{AreGiven, AreGivenIndices, AreAnswered, ArePushed, ReadingLists, all_needs};
+ghost use Rattle.chains.specs.Indices.{AreIndicesOf, IsAt, RowsAre};
+ghost use Rattle.zone_plans.specs.Graphs.{AreGiven, AreGivenIndices, AreAnswered, ArePushed, all_needs, sups_at};
 
 use crate::reading::Reading;
 use faults::NoMemory;
@@ -22,9 +21,9 @@ pub(crate) type Answer = Option<Vec<Id>>;
 
 /// By index, what each member supersedes among the members.
 pub(crate) fn sup_rows(alloc: Global, ids: &[Id], readings: &[Reading]) -> Result<Rows, NoMemory>
-    requires ascend { Ascend ids.now }
-    requires len { length readings.now ≡ length ids.now }
-    ensures { IfOk result (λ rows. AreIndexed ids.now (map (λ (reading : ReadingLists). reading.sup) readings.now) rows) }
+    requires { Ascend ids.now }
+    ensures { IfOk result (λ rows. RowsAre (λ p indices. AreIndicesOf ids.now (sups_at readings.now p) indices)
+        (length readings.now) rows) }
 {
     let mut rows = Rows::new(alloc);
     let mut own = Vec::new(alloc);

@@ -16,6 +16,15 @@ pub struct Resolver {
     pub received: bool,
 }
 
+/// A hold of a report: the held SYSMOD, and the reason.
+#[derive(Clone, Copy, Debug, PartialEq, Eq)]
+pub struct HoldOn {
+    /// The held SYSMOD.
+    pub sysmod: Id,
+    /// The reason of the hold.
+    pub reason: Id,
+}
+
 /// A hold of a report, with the SYSMODs that resolve it, ascending. A contract sees the list of these.
 #[derive(Debug, Drop)]
 pub struct HoldResolvers {

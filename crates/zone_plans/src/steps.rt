@@ -50,7 +50,6 @@ pub(crate) fn zone_steps(
     requires ascend { Ascend ids.items }
     requires asked { Ascend asked.now }
     requires chosen { Ascend chosen.now }
-    requires len { length readings.now ≡ length ids.items }
     ensures { IfOk result (λ steps. (content : Content) (rows : List ZoneRow)
         → ids.items ≡ united content rows chosen.now
         → readings.now ≡ map (reading_of content rows) ids.items
@@ -75,7 +74,6 @@ fn step_rows(
     requires ascend { Ascend ids.now }
     requires asked { Ascend asked.now }
     requires chosen { Ascend chosen.now }
-    requires len { length readings.now ≡ length ids.now }
     ensures { IfOk result (λ found. (content : Content) (rows : List ZoneRow)
         → ids.now ≡ united content rows chosen.now
         → readings.now ≡ map (reading_of content rows) ids.now
