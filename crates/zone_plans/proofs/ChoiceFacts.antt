@@ -1,7 +1,7 @@
 -- What is taken of lists, one after the other.
-use Rattle.std.proofs.Common.{◌≡◌, ◌∙◌, ◌+◌, ◌<◌, ℕ, List, [], ◌∷◌, ◌++◌, Bool, true, false, cond, not, length, get_or, take, map, refl, sym, ap}
+use Rattle.std.proofs.Common.{◌≡◌, ◌∙◌, ◌+◌, ◌<◌, ℕ, List, [], ◌∷◌, ◌++◌, Bool, true, false, cond, not, Option, Some, None, length, get_or, take, map, refl, sym, ap}
 use Rattle.std.specs.BTreeSet.{insert_key}
-use Rattle.std.specs.List.{filter, flat_map, fold}
+use Rattle.std.specs.List.{cons_option, filter, filter_map, flat_map, fold}
 use Rattle.std.proofs.lemmas.List.{append-nil, map-append, take_more}
 use Rattle.std.proofs.lemmas.List.Concat.{flat_map-append}
 use Rattle.std.proofs.lemmas.List.Sums.{fold-append}
@@ -61,3 +61,23 @@ map_more f xs i x y old new below at was is now =
     ∙ ap (λ z. map f (take i xs) ++ z ∷ []) is
     ∙ sym (map-append f (take i xs) (x ∷ []))
     ∙ ap (map f) (sym (take_more xs i x below ∙ ap (λ z. take i xs ++ z ∷ []) (sym at)))
+
+pub filter_map_push : {X Y : Type 0} (f : X → Option Y) (xs : List X) (x : X) → filter_map f xs ++ cons_option (f x) [] ≡ filter_map f (xs ++ x ∷ [])
+filter_map_push f [] x = refl
+filter_map_push {X} {Y} f (y ∷ ys) x = go (f y) (filter_map_push f ys x) where
+  go : (o : Option Y) → filter_map f ys ++ cons_option (f x) [] ≡ filter_map f (ys ++ x ∷ []) → cons_option o (filter_map f ys) ++ cons_option (f x) [] ≡ cons_option o (filter_map f (ys ++ x ∷ []))
+  go None rest = rest
+  go (Some z) rest = ap (λ l. z ∷ l) rest
+
+pub filter_map_more : {X Y : Type 0} (f : X → Option Y) (xs : List X) (i : ℕ) (x : X) (old new : List Y) → i < length xs → x ≡ get_or xs i x → old ≡ filter_map f (take i xs) → new ≡ old ++ cons_option (f x) [] → new ≡ filter_map f (take (i + 1) xs)
+filter_map_more f xs i x old new below at was now =
+    now ∙ ap (λ l. l ++ cons_option (f x) []) was ∙ filter_map_push f (take i xs) x
+    ∙ ap (filter_map f) (sym (take_more xs i x below ∙ ap (λ z. take i xs ++ z ∷ []) (sym at)))
+
+-- what one more makes is put among the others
+pub made_more : {X : Type 0} (f : X → Option (List ℕ)) (xs : List X) (i : ℕ) (x : X) (old new : List (List ℕ)) → i < length xs → x ≡ get_or xs i x → old ≡ in_order (filter_map f (take i xs))
+    → new ≡ put_among old (cons_option (f x) []) → new ≡ in_order (filter_map f (take (i + 1) xs))
+made_more f xs i x old new below at was now =
+    now ∙ ap (λ ids. put_among ids (cons_option (f x) [])) was
+    ∙ sym (fold-append (insert_key id_cmp) [] (filter_map f (take i xs)) (cons_option (f x) []))
+    ∙ ap in_order (filter_map_push f (take i xs) x ∙ ap (filter_map f) (sym (take_more xs i x below ∙ ap (λ z. take i xs ++ z ∷ []) (sym at))))

@@ -118,3 +118,7 @@ pub record AreReachedFrom (needs : List (List ℕ)) (starts members : List Bool)
 -- the ids of each step
 abbrev pub ids_of_steps : List (List ℕ) → List (List ℕ) → List (List (List ℕ))
 ids_of_steps ids steps = map (λ step. map (id_at ids) step) steps
+
+-- what stands in a row is the index of an id
+abbrev pub AreWithin : List (List ℕ) → List (List ℕ) → Type 0
+AreWithin ids rows = (k p : ℕ) → k < length rows → Contains (slice_index_or rows k []) p → p < length ids

@@ -2,3 +2,4 @@ pub mod Choices
 pub mod Members
 pub mod Graphs
 pub mod Plans
+pub mod BlockedSteps

@@ -1,5 +1,5 @@
 -- One plan for the holds of a report on a zone.
-use Rattle.std.specs.Prelude.{◌≡◌, ◌++◌, ℕ, Bool, List, [], ◌∷◌, Option, Some, None, Contains, IfSome, map, if◌then◌else◌}
+use Rattle.std.specs.Prelude.{◌≡◌, ◌++◌, ◌⊎◌, ℕ, Bool, List, [], ◌∷◌, Option, Some, None, Contains, IfSome, map, if◌then◌else◌}
 use Rattle.std.specs.List.{cons_option, filter_map}
 use Rattle.zone_lists.specs.declared.zones.ZoneRow.{ZoneRow}
 use Rattle.catalogue.specs.Content.{Content}
@@ -128,3 +128,8 @@ pub record IsZonePlan (content : Content) (rows : List ZoneRow) (holds : List Ho
 pub record AreBlocked (content : Content) (rows : List ZoneRow) (holds : List Placed) (found : List HeldLists) : Type 0 where
   pub keys : map (λ held. (held.hold, held.resolver)) found ≡ waiting_in holds
   pub blocked : (held : HeldLists) → Contains found held → IsBlockedRow content rows (held.resolver ∷ []) held.resolver held.blocked
+
+-- one more hold was looked at
+pub record AreBlockedMore (content : Content) (rows : List ZoneRow) (one : Placed) (old new : List HeldLists) : Type 0 where
+  pub keys : map (λ held. (held.hold, held.resolver)) new ≡ map (λ held. (held.hold, held.resolver)) old ++ cons_option (waiting_by one.hold one.fate) []
+  pub blocked : (held : HeldLists) → Contains new held → Contains old held ⊎ IsBlockedRow content rows (held.resolver ∷ []) held.resolver held.blocked

@@ -1,11 +1,13 @@
 //! What blocks a SYSMOD, and what that waits for.
-ghost use Rattle.std.specs.Prelude.{◌≡◌, ◌∷◌, [], List, ℕ, Option, Contains, IfOk, map, option_map};
+ghost use Rattle.std.specs.Prelude.{◌≡◌, ◌∷◌, [], List, ℕ, Option, IfOk, OnOk, map, option_map};
 ghost use Rattle.catalogue.specs.View.{MayAsk, Tells};
 ghost use Rattle.catalogue.specs.declared.fault.SourceFault.TheVariants.{Device};
 ghost use Rattle.supersede.specs.Reach.{has};
 ghost use Rattle.chains.specs.Candidates.{candidates_unless_there};
 ghost use Rattle.zone_plans.specs.Plans as Plans;
-ghost use Rattle.zone_plans.specs.Plans.{AreBlocked, HeldLists, IsBlockedRow};
+ghost use Rattle.zone_plans.specs.Plans.{AreBlocked, AreBlockedMore, IsBlockedRow};
+ghost use Rattle.zone_plans.specs.BlockedSteps.{step_after, step_by, step_with};
+ghost use Rattle.chains.specs.Verdicts.{verdict_of};
 
 use crate::graph::Answer;
 use crate::holds::HoldOn;
@@ -58,6 +60,17 @@ impl HeldHold {
     }
 }
 
+// What comes after a SYSMOD in a row of blocked needs.
+#[derive(Clone, Copy, Debug)]
+enum Step {
+    /// It isn't held.
+    Stop,
+    /// This blocks it, and nothing new gives that.
+    Last(Id),
+    /// This blocks it, and the other SYSMOD gives that.
+    On(Id, Id),
+}
+
 /// The holds that wait for a resolver which is HELD, each with the needs that block it.
 pub(crate) fn held_in<P: Published, J: Judge<P>>(
     alloc: Global,
@@ -74,16 +87,36 @@ pub(crate) fn held_in<P: Published, J: Judge<P>>(
 {
     let mut found = Vec::new(alloc);
     for one in holds {
-        if let Fate::Waiting(resolver) = one.fate {
-            let blocked = blocked_row(alloc, source, judge, zone, &resolver)?;
-            found.push(HeldHold {
-                hold: one.hold,
-                resolver,
-                blocked,
-            })?;
-        }
+        put_held(alloc, source, judge, zone, &mut found, one)?;
     }
     Ok(found)
+}
+
+fn put_held<P: Published, J: Judge<P>>(
+    alloc: Global,
+    source: &mut P,
+    judge: &mut J,
+    zone: &Zone,
+    found: &mut Vec<HeldHold>,
+    one: &Placed,
+) -> Result<(), SourceFault>
+    ensures asks { MayAsk P.content_view Device source.old source.new result }
+    ensures held { OnOk result (Tells P.content_view source.old source.new
+        (λ content. J.is_right judge.old content
+        → AreBlockedMore content zone.now one.now found.old.items found.new.items)) }
+    ensures right { Tells P.content_view source.old source.new
+        (λ content. J.is_right judge.old content → J.is_right judge.new content) }
+{
+    let Fate::Waiting(resolver) = one.fate else {
+        return Ok(());
+    };
+    let blocked = blocked_row(alloc, source, judge, zone, &resolver)?;
+    found.push(HeldHold {
+        hold: one.hold,
+        resolver,
+        blocked,
+    })?;
+    Ok(())
 }
 
 // The needs that block a SYSMOD, each for the next.
@@ -106,20 +139,68 @@ fn blocked_row<P: Published, J: Judge<P>>(
     seen.push(*resolver)?;
     let mut id = *resolver;
     'needs: for _ in 0..u64::MAX {
-        let verdict = judge.verdict(alloc, source, zone, &id)?;
-        let Verdict::Held(need) = verdict else {
-            return Ok(row);
-        };
-        row.push(need)?;
-        let giver = first_giver(alloc, source, zone, &need)?;
-        let Some(next) = unless_seen(&seen, giver) else {
-            return Ok(row);
-        };
-        seen.push(next)?;
-        id = next;
+        let step = next_step(alloc, source, judge, zone, &seen, &id)?;
+        match step {
+            Step::Stop => return Ok(row),
+            Step::Last(need) => {
+                row.push(need)?;
+                return Ok(row);
+            }
+            Step::On(need, giver) => {
+                row.push(need)?;
+                seen.push(giver)?;
+                id = giver;
+            }
+        }
     }
     // No list has room for so many.
     Err(SourceFault::Memory)
+}
+
+fn next_step<P: Published, J: Judge<P>>(
+    alloc: Global,
+    source: &mut P,
+    judge: &mut J,
+    zone: &Zone,
+    seen: &[Id],
+    id: &Id,
+) -> Result<Step, SourceFault>
+    ensures asks { MayAsk P.content_view Device source.old source.new result }
+    ensures step { IfOk result (λ step. Tells P.content_view source.old source.new
+        (λ content. J.is_right judge.old content
+        → step ≡ step_by content zone.now seen.now (verdict_of content zone.now id.now))) }
+    ensures right { Tells P.content_view source.old source.new
+        (λ content. J.is_right judge.old content → J.is_right judge.new content) }
+{
+    let verdict = judge.verdict(alloc, source, zone, id)?;
+    match verdict {
+        Verdict::Held(need) => step_after(alloc, source, zone, seen, &need),
+        _ => Ok(Step::Stop),
+    }
+}
+
+fn step_after<P: Published>(
+    alloc: Global,
+    source: &mut P,
+    zone: &Zone,
+    seen: &[Id],
+    need: &Id,
+) -> Result<Step, SourceFault>
+    ensures asks { MayAsk P.content_view Device source.old source.new result }
+    ensures step { IfOk result (λ step. Tells P.content_view source.old source.new
+        (λ content. step ≡ step_after content zone.now seen.now need.now)) }
+{
+    let giver = first_giver(alloc, source, zone, need)?;
+    Ok(step_with(need, unless_seen(seen, giver)))
+}
+
+fn step_with(need: &Id, giver: Option<Id>) -> Step
+    ensures { result ≡ step_with need.now giver }
+{
+    match giver {
+        Some(giver) => Step::On(*need, giver),
+        None => Step::Last(*need),
+    }
 }
 
 // The least of the candidates that give a need, unless it is there.

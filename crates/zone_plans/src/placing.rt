@@ -1,5 +1,5 @@
 //! What becomes of each hold.
-ghost use Rattle.std.specs.Prelude.{◌≡◌, [], IfOk, OnOk, map};
+ghost use Rattle.std.specs.Prelude.{◌≡◌, ◌++◌, [], IfOk, OnOk, map};
 ghost use Rattle.std.specs.List.{cons_option};
 ghost use Rattle.catalogue.specs.Ids.{Ascend, put_among};
 ghost use Rattle.catalogue.specs.View.{MayAsk, Tells};
@@ -107,9 +107,17 @@ pub(crate) fn unresolved_in(alloc: Global, holds: &[Placed]) -> Result<Vec<HoldO
 {
     let mut found = Vec::new(alloc);
     for one in holds {
-        if let Fate::Unresolved = one.fate {
-            found.push(one.hold)?;
-        }
+        put_unresolved(&mut found, one)?;
     }
     Ok(found)
+}
+
+fn put_unresolved(found: &mut Vec<HoldOn>, one: &Placed) -> Result<(), NoMemory>
+    ensures { OnOk result (found.new.items
+        ≡ found.old.items ++ cons_option (Plans.unless_resolved one.now.hold one.now.fate) []) }
+{
+    if let Fate::Unresolved = one.fate {
+        found.push(one.hold)?;
+    }
+    Ok(())
 }

@@ -1,13 +1,14 @@
 //! The members of a plan, step by step.
-ghost use Rattle.std.specs.Prelude.{◌≡◌, List, ℕ, Contains, IfOk, length, map, option_map};
+ghost use Rattle.std.specs.Prelude.{◌≡◌, ◌<◌, List, ℕ, Contains, IfOk, length, map, option_map};
 ghost use Rattle.catalogue.specs.Content.{Content};
 ghost use Rattle.catalogue.specs.Ids.{Ascend};
 ghost use Rattle.chains.specs.Candidates.{candidates_unless_there};
+ghost use Rattle.chains.specs.Cuts as cuts;
 ghost use Rattle.chains.specs.Judge as judge;
 ghost use Rattle.chains.specs.Verdicts.{verdict_of};
 ghost use Rattle.chains.specs.declared.verdict.Status.TheVariants as status;
 ghost use Rattle.zone_lists.specs.declared.zones.ZoneRow.{ZoneRow};
-ghost use Rattle.zone_plans.specs.Graphs.{AreReachedFrom, AreStartsOf, all_needs, ids_of_steps, reading_of};
+ghost use Rattle.zone_plans.specs.Graphs.{AreReachedFrom, AreStartsOf, AreWithin, all_needs, ids_of_steps, reading_of};
 ghost use Rattle.zone_plans.specs.Members.{AreZoneSteps, united};
 
 use crate::graph::{Answer, need_rows, sup_rows};
@@ -30,11 +31,55 @@ pub struct Steps {
 
 impl Model for Steps {
     ghost use Rattle.std.specs.Prelude.{ℕ, List};
-    ghost use Rattle.zone_plans.specs.Graphs.{ids_of_steps};
+    ghost use Rattle.zone_plans.specs.Graphs.{AreWithin, ids_of_steps};
 
     ghost Value = { List (List (List ℕ)) };
 
     ghost view = { λ steps. ids_of_steps steps.ids.items steps.rows };
+
+    ghost invariant = { λ steps. AreWithin steps.ids.items steps.rows };
+}
+
+impl Steps {
+    ghost use Rattle.std.specs.Prelude.{◌≡◌, ◌<◌, [], IfOk, length, slice_index_or};
+
+    /// How many steps there are.
+    pub fn len(&self) -> usize
+        ensures { result ≡ length self.now }
+    {
+        self.rows.len()
+    }
+
+    /// The ids of a step, ascending.
+    ///
+    /// # Errors
+    ///
+    /// `NoMemory` where memory ran out.
+    pub fn step(&self, alloc: Global, index: usize) -> Result<Vec<Id>, NoMemory>
+        requires { index < length self.now }
+        ensures { IfOk result (λ ids. ids.items ≡ slice_index_or self.now index []) }
+    {
+        ids_at(alloc, &self.ids, self.rows.row(index))
+    }
+}
+
+// The ids that stand at indices.
+fn ids_at(alloc: Global, ids: &[Id], indices: &[usize]) -> Result<Vec<Id>, NoMemory>
+    requires { (p : ℕ) → Contains indices.now p → p < length ids.now }
+    ensures { IfOk result (λ found. found.items ≡ map (cuts.id_at ids.now) indices.now) }
+{
+    let mut found = Vec::with_capacity(alloc, indices.len())?;
+    for index in indices {
+        found.push(id_at(ids, *index))?;
+    }
+    Ok(found)
+}
+
+fn id_at(ids: &[Id], index: usize) -> Id
+    requires { index < length ids.now }
+    ensures { result ≡ cuts.id_at ids.now index }
+{
+    ids[index]
 }
 
 /// The steps in which is installed what the chosen plans of some resolvers have, by what was read: what another member
@@ -74,7 +119,8 @@ fn step_rows(
     requires ascend { Ascend ids.now }
     requires asked { Ascend asked.now }
     requires chosen { Ascend chosen.now }
-    ensures { IfOk result (λ found. (content : Content) (rows : List ZoneRow)
+    ensures within { IfOk result (λ found. AreWithin ids.now found) }
+    ensures steps { IfOk result (λ found. (content : Content) (rows : List ZoneRow)
         → ids.now ≡ united content rows chosen.now
         → readings.now ≡ map (reading_of content rows) ids.now
         → asked.now ≡ all_needs readings.now

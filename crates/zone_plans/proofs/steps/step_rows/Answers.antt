@@ -3,7 +3,7 @@ use Rattle.chains.proofs.IndexFacts.{ok_so}
 use Rattle.chains.specs.Candidates.{candidates_unless_there}
 use Rattle.install_order.specs.Steps.{AreSteps, IsClosed}
 use Rattle.zone_plans.specs.Graphs.{AreGiven, AreReachedFrom, AreStartsOf}
-use Rattle.zone_plans.proofs.MarkFacts.{reached_closed}
+use Rattle.zone_plans.proofs.MarkFacts.{reached_closed, within_by}
 use Rattle.zone_plans.proofs.StepFacts.{are_zone_steps}
 use Rattle.zone_plans.proofs.steps.step_rows.Goals as goal
 
@@ -16,8 +16,20 @@ steps-requires c =
     subst P (sym c.deref-4.ensures.value)
     (reached_closed needs c.in_ok-starts.starts.items members (subst S c.deref-3.ensures.value c.in_ok-members.ensures))
 
-pub returns : goal.returns
-returns c =
+pub returns-clause-within : goal.returns-clause-within
+returns-clause-within c =
+    let ids = c.args.ids.now in
+    let members = c.in_ok-members.members.items in
+    let starts = c.in_ok-starts.starts.items in
+    let S : List Bool → Type 0 = λ l. AreReachedFrom c.in_ok-needs.needs l members in
+    let T : List (List ℕ) → List Bool → Type 0 = λ steps l. AreSteps c.in_ok-needs.needs l steps in
+    let O : List Bool → Type 0 = λ l. AreStartsOf ids c.in_ok-above.above l c.args.chosen.now starts in
+    ok_so c.steps.result c.steps.ensures (λ steps stepped.
+    within_by ids c.in_ok-needs.needs starts members steps ((subst S c.deref-3.ensures.value c.in_ok-members.ensures).len ∙ (subst O c.deref-2.ensures.value c.in_ok-starts.ensures).len)
+    (let U : List Bool → Type 0 = λ l. T steps l in subst U c.deref-4.ensures.value stepped))
+
+pub returns-clause-steps : goal.returns-clause-steps
+returns-clause-steps c =
     let ids = c.args.ids.now in
     let readings = c.args.readings.now in
     let needs = c.in_ok-needs.needs in
