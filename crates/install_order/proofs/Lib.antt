@@ -1,0 +1,3 @@
+pub mod LeftFacts
+pub mod PutFacts
+pub mod RingFacts

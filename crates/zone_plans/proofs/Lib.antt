@@ -1,0 +1,7 @@
+pub mod BlockedFacts
+pub mod ChoiceFacts
+pub mod GraphFacts
+pub mod MarkFacts
+pub mod PlanFacts
+pub mod PlannedFacts
+pub mod StepFacts

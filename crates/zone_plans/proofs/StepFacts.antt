@@ -1,0 +1,360 @@
+-- The members of a plan, by index and by id.
+use Rattle.std.proofs.Common.{◌≡◌, ◌∙◌, ◌<◌, ◌+◌, ◌⊎◌, ℕ, List, [], ◌∷◌, ◌++◌, Bool, true, false, cond, Option, Some, None, length, get_or, map, refl, sym, ap, subst, inl, inr, arith, append_assoc}
+use Rattle.std.specs.List.{Contains, filter, flat_map}
+use Rattle.std.proofs.lemmas.Grind.{common_steps}
+use Rattle.std.proofs.lemmas.List.{append-nil, length-map, map-append}
+use Rattle.std.proofs.lemmas.List.Elements.{Contains-append_cases, Contains-append_left, Contains-append_right, Contains-push, Contains-push_cases}
+use Rattle.zone_lists.specs.declared.zones.ZoneRow.{ZoneRow}
+use Rattle.catalogue.specs.Content.{Content, IsCatalogued, Supersedes, record_of}
+use Rattle.catalogue.specs.Ids.{Ascend}
+use Rattle.supersede.specs.Giving.{givers_of, is_candidate, is_there, needs_in, sup_of}
+use Rattle.supersede.specs.Leading.{Gives, IsThere}
+use Rattle.supersede.proofs.LeadingFacts.{gives_is, there_is}
+use Rattle.supersede.specs.Reach.{has}
+use Rattle.requisites.specs.Leads.{Leads}
+use Rattle.requisites.specs.Nodes.{AreReversed, IsMarked, Links, mark_of, row}
+use Rattle.requisites.specs.Sources.{AreLeastSources, HasSource, source_of}
+use Rattle.requisites.specs.World.{IsGivenIn, IsPlan}
+use Rattle.requisites.proofs.LeadsFacts.{leads_closed, leads_itself, leads_more}
+use Rattle.requisites.proofs.SourceFacts.{marked_inside}
+use Rattle.install_order.specs.Left.{AreLeft}
+use Rattle.install_order.specs.Steps.{AreSteps, InOrder, IsClosed, IsNext, StandsIn}
+use Rattle.install_order.proofs.PutFacts.{stands_before, stands_cases, stands_last}
+use Rattle.chains.specs.Candidates.{candidates_unless_there}
+use Rattle.chains.specs.Cuts.{id_at}
+use Rattle.chains.specs.Indices.{AreIndicesOf, IsAt, RowsAre}
+use Rattle.chains.specs.Judge.{status_of}
+use Rattle.chains.specs.Verdicts.{verdict_of}
+use Rattle.chains.specs.Worlds.{world_of}
+use Rattle.chains.specs.declared.verdict.Status.TheVariants as status
+use Rattle.chains.proofs.AnswerFacts.{index_is}
+use Rattle.chains.proofs.IndexFacts.{at_inside, inside_at}
+use Rattle.chains.proofs.PartFacts.{at_map}
+use Rattle.chains.proofs.SearchFacts.{first_inside, map_from, map_inside, rest_inside}
+use Rattle.zone_plans.specs.Graphs.{AreGiven, AreReachedFrom, AreStartsOf, ReadingLists, ids_of_steps, needs_at, reading_of, sups_at}
+use Rattle.zone_plans.specs.Members.{AreStepsAfter, AreZoneSteps, HasCause, IsGivenBy, IsNextStep, IsPlanned, NeedsMember, joined, united}
+use Rattle.zone_plans.proofs.PlannedFacts.{answer_for, answer_has, answer_says, catalogued, chosen_in_united, flat_from, flat_inside, gives_itself, gives_up, member_candidate, named_by, need_given, planned, supersedes_by}
+
+-- ---- steps by id
+
+-- an index stands in a step where its id stands in the ids of the steps
+pub joined_inside : (ids : List (List ℕ)) (steps : List (List ℕ)) (p : ℕ) → StandsIn steps p → Contains (joined (ids_of_steps ids steps)) (id_at ids p)
+joined_inside ids steps p stands =
+    flat_inside (λ (s : List (List ℕ)). s) (ids_of_steps ids steps) (map (id_at ids) stands.step) (id_at ids p)
+    (map_inside (λ (s : List ℕ). map (id_at ids) s) steps stands.step stands.listed)
+    (map_inside (id_at ids) stands.step p stands.member)
+
+pub record StandsAs (ids : List (List ℕ)) (steps : List (List ℕ)) (id : List ℕ) : Type 0 where
+  pub index : ℕ
+  pub stands : StandsIn steps index
+  pub is : id_at ids index ≡ id
+
+pub joined_from : (ids : List (List ℕ)) (steps : List (List ℕ)) (id : List ℕ) → Contains (joined (ids_of_steps ids steps)) id → StandsAs ids steps id
+joined_from ids steps id inside =
+    let from = flat_from (λ (s : List (List ℕ)). s) (ids_of_steps ids steps) id inside in
+    let step = map_from (λ (s : List ℕ). map (id_at ids) s) steps from.from from.listed in
+    let P : List (List ℕ) → Type 0 = λ l. Contains l id in
+    let at = map_from (id_at ids) step.from id (subst P (sym step.is) from.has) in
+    record { index = at.from; stands = record { step = step.from; listed = step.member; member = at.member }; is = at.is }
+
+module _ (content : Content) (rows : List ZoneRow) (chosen ids : List (List ℕ)) (readings : List ReadingLists) (below above : List (List ℕ)) (left : List Bool) (needs : List (List ℕ)) (starts members : List Bool) (steps : List (List ℕ))
+    (ascend : Ascend ids)
+    (are : ids ≡ united content rows chosen)
+    (are_good : (id : List ℕ) → Contains chosen id → status_of (verdict_of content rows id) ≡ status.Good)
+    (read : readings ≡ map (reading_of content rows) ids)
+    (indexed : RowsAre (λ p indices. AreIndicesOf ids (sups_at readings p) indices) (length readings) below)
+    (reversed : AreReversed below (length ids) above)
+    (are_left : AreLeft above (length ids) left)
+    (given : AreGiven (candidates_unless_there content rows) ids left readings needs)
+    (started : AreStartsOf ids above left chosen starts)
+    (reached : AreReachedFrom needs starts members)
+    (stepped : AreSteps needs members steps) where
+
+  as_many : length readings ≡ length ids
+  as_many = ap length read ∙ length-map ids (reading_of content rows)
+
+  reading_at : (p : ℕ) (d : ReadingLists) → p < length ids → get_or readings p d ≡ reading_of content rows (id_at ids p)
+  reading_at p d within = ap (λ (l : List ReadingLists). get_or l p d) read ∙ at_map (reading_of content rows) ids p [] d within
+
+  -- what is read of a member, by its index
+  sup_at : (p : ℕ) → p < length ids → sups_at readings p ≡ sup_of (record_of content (id_at ids p))
+  sup_at p within =
+      at_map (λ (r : ReadingLists). r.sup) readings p (reading_of content rows []) [] (omega (arith, within, as_many))
+      ∙ ap (λ (r : ReadingLists). r.sup) (reading_at p (reading_of content rows []) within)
+
+  needs_of : (p : ℕ) → p < length ids → needs_at readings p ≡ needs_in content rows (id_at ids p)
+  needs_of p within =
+      at_map (λ (r : ReadingLists). r.needs) readings p (reading_of content rows []) [] (omega (arith, within, as_many))
+      ∙ ap (λ (r : ReadingLists). r.needs) (reading_at p (reading_of content rows []) within)
+
+  in_all : (p : ℕ) → p < length ids → Contains (united content rows chosen) (id_at ids p)
+  in_all p within = let P : List (List ℕ) → Type 0 = λ l. Contains l (id_at ids p) in subst P are (at_inside ids p within)
+
+  candidate_at : (p : ℕ) → p < length ids → is_candidate content rows (id_at ids p) ≡ true
+  candidate_at p within = member_candidate content rows chosen are_good (id_at ids p) (in_all p within)
+
+  -- ---- superseding
+
+  superseded_at : (p q : ℕ) → Links above (length ids) p q → Supersedes content (id_at ids q) (id_at ids p)
+  superseded_at p q link =
+      let turned = reversed.only q p link.listed in
+      let link_index = link.index in
+      let P : List (List ℕ) → Type 0 = λ l. Contains l (id_at ids p) in
+      supersedes_by content rows (id_at ids q) (id_at ids p) (subst P (sup_at q link.index) ((indexed.each q (omega (arith, link_index, as_many))).listed p turned.listed))
+
+  gives_above : (p q : ℕ) (need : List ℕ) → Leads (Links above (length ids)) p q → Gives content (id_at ids p) need → Gives content (id_at ids q) need
+  gives_above p q need leads gives =
+      leads_closed (λ k. Gives content (id_at ids k) need)
+      (λ u v here link. gives_up content rows (id_at ids v) (id_at ids u) need (catalogued content rows (id_at ids v) (candidate_at v link.index)) (superseded_at u v link) here)
+      gives leads
+
+  -- ---- needs
+
+  left_inside : (p : ℕ) → IsMarked left p → p < length ids
+  left_inside p marked = omega (arith, marked_inside left p marked, are_left.len)
+
+  -- a member that is left and gives a need of another
+  pub record IsLeftGiver (p : ℕ) (need : List ℕ) : Type 0 where
+    pub index : ℕ
+    pub listed : Contains (row needs p) index
+    pub within : index < length ids
+    pub marked : IsMarked left index
+    pub gives : Gives content (id_at ids index) need
+
+  need_left : (p : ℕ) (need : List ℕ) → p < length ids → Contains (needs_in content rows (id_at ids p)) need → (IsThere content rows need → ⊥) → IsLeftGiver p need
+  need_left p need within needed absent =
+      let giver = need_given content rows chosen are_good (id_at ids p) need (in_all p within) needed absent in
+      let P : List (List ℕ) → Type 0 = λ l. Contains l giver.giver in
+      let at = inside_at ids giver.giver (subst P (sym are) giver.listed) in
+      let stands = are_left.stands_in at.index at.within in
+      let G : List ℕ → Type 0 = λ g. Gives content g need in
+      let gives = gives_above at.index stands.stand_in need stands.leads (subst G (sym at.is) giver.gives) in
+      let inside = left_inside stands.stand_in stands.marked in
+      let N : List (List ℕ) → Type 0 = λ l. Contains l need in
+      record {
+        index = stands.stand_in;
+        listed = (given.each p (omega (arith, within, as_many))).whole stands.stand_in (record {
+          need = need;
+          needed = subst N (sym (needs_of p within)) needed;
+          givers = filter (λ giver. is_candidate content rows giver) (givers_of content need);
+          answer = answer_for content rows need absent;
+          gives = record { within = inside; marked = stands.marked; listed = answer_has content rows need (id_at ids stands.stand_in) (candidate_at stands.stand_in inside) gives };
+        });
+        within = inside;
+        marked = stands.marked;
+        gives = gives;
+      }
+
+  -- a link as a need
+  pub record IsNeedLink (p q : ℕ) : Type 0 where
+    pub need : List ℕ
+    pub needed : Contains (needs_in content rows (id_at ids p)) need
+    pub absent : IsThere content rows need → ⊥
+    pub marked : IsMarked left q
+    pub gives : Gives content (id_at ids q) need
+
+  need_link : (p q : ℕ) → p < length ids → Contains (row needs p) q → IsNeedLink p q
+  need_link p q within listed =
+      let is = (given.each p (omega (arith, within, as_many))).given q listed in
+      let says = answer_says content rows is.need is.givers is.answer in
+      let N : List (List ℕ) → Type 0 = λ l. Contains l is.need in
+      record {
+        need = is.need;
+        needed = subst N (needs_of p within) is.needed;
+        absent = says.absent;
+        marked = is.gives.marked;
+        gives = says.each (id_at ids q) is.gives.listed;
+      }
+
+  -- ---- members
+
+  start_inside : (p : ℕ) → IsMarked starts p → p < length ids
+  start_inside p marked = omega (arith, marked_inside starts p marked, started.len)
+
+  members_len : length members ≡ length ids
+  members_len = reached.len ∙ started.len
+
+  member_inside : (p : ℕ) → IsMarked members p → p < length ids
+  member_inside p marked = omega (arith, marked_inside members p marked, members_len)
+
+  member_left : (p : ℕ) → IsMarked members p → IsMarked left p
+  member_left p marked =
+      let from = reached.marked p marked in
+      leads_closed (λ k. IsMarked left k) (λ u v here link. (need_link u v (left_inside u here) link.listed).marked)
+      (started.marked from.start from.marked).marked from.leads
+
+  in_members : (p q : ℕ) → Leads (Links needs (length members)) p q → Leads (Links needs (length starts)) p q
+  in_members p q leads = let P : ℕ → Type 0 = λ k. Leads (Links needs k) p q in subst P reached.len leads
+
+  out_members : (p q : ℕ) → Leads (Links needs (length starts)) p q → Leads (Links needs (length members)) p q
+  out_members p q leads = let P : ℕ → Type 0 = λ k. Leads (Links needs k) p q in subst P (sym reached.len) leads
+
+  pub start_member : (p : ℕ) → IsMarked starts p → IsMarked members p
+  start_member p marked = reached.whole p (record { start = p; marked = marked; leads = leads_itself (Links needs (length starts)) p })
+
+  pub members_closed : IsClosed needs members
+  members_closed = λ p q marked link.
+      let from = reached.marked p marked in
+      let index = link.index in
+      reached.whole q (record { start = from.start; marked = from.marked; leads = leads_more from.leads (record { listed = link.listed; index = omega (arith, index, reached.len) }) })
+
+  in_steps : (p : ℕ) → IsMarked members p → Contains (joined (ids_of_steps ids steps)) (id_at ids p)
+  in_steps p marked = joined_inside ids steps p (stepped.whole p marked)
+
+  needs_member : (p q : ℕ) → IsMarked members p → Links needs (length members) p q → NeedsMember content rows (joined (ids_of_steps ids steps)) (id_at ids p) (id_at ids q)
+  needs_member p q marked link =
+      let is = need_link p q (member_inside p marked) link.listed in
+      record { need = is.need; needs = is.needed; absent = is.absent; listed = in_steps q (members_closed p q marked link); gives = is.gives }
+
+  record IsLed (p q : ℕ) : Type 0 where
+    marked : IsMarked members q
+    leads : Leads (NeedsMember content rows (joined (ids_of_steps ids steps))) (id_at ids p) (id_at ids q)
+
+  leads_by_id : (p q : ℕ) → IsMarked members p → Leads (Links needs (length members)) p q → Leads (NeedsMember content rows (joined (ids_of_steps ids steps))) (id_at ids p) (id_at ids q)
+  leads_by_id p q marked leads =
+      (leads_closed (λ k. IsLed p k)
+      (λ u v here link. record { marked = members_closed u v here.marked link; leads = leads_more here.leads (needs_member u v here.marked link) })
+      (record { marked = marked; leads = leads_itself (NeedsMember content rows (joined (ids_of_steps ids steps))) (id_at ids p) }) leads).leads
+
+  -- ---- plans
+
+  -- steps are a plan where what a member of one needs stands in one
+  is_plan : (some : List (List ℕ)) → ((p : ℕ) → StandsIn some p → IsMarked members p) → ((p q : ℕ) → StandsIn some p → Links needs (length members) p q → StandsIn some q) → IsPlan (world_of content rows) (joined (ids_of_steps ids some))
+  is_plan some marked closed = record {
+    candidates = λ y inside.
+        let at = joined_from ids some y inside in
+        let P : List ℕ → Type 0 = λ x. is_candidate content rows x ≡ true in
+        subst P at.is (candidate_at at.index (member_inside at.index (marked at.index at.stands)));
+    needs_met = λ y need inside needed.
+        let at = joined_from ids some y inside in
+        let N : List ℕ → Type 0 = λ x. Contains (needs_in content rows x) need in
+        met at.index need at.stands (subst N (sym at.is) needed) (is_there content rows need) refl;
+  } where
+    met : (p : ℕ) (need : List ℕ) → StandsIn some p → Contains (needs_in content rows (id_at ids p)) need → (b : Bool) → is_there content rows need ≡ b → IsThere content rows need ⊎ IsGivenIn (world_of content rows) (joined (ids_of_steps ids some)) need
+    met p need stands needed true on = inl ((there_is content rows need).0 on)
+    met p need stands needed false off =
+        let absent : IsThere content rows need → ⊥ = (λ there. let on : is_there content rows need ≡ true = (there_is content rows need).1 there in cc) in
+        let giver = need_left p need (member_inside p (marked p stands)) needed absent in
+        let index = giver.within in
+        let link : Links needs (length members) p giver.index = record { listed = giver.listed; index = omega (arith, index, members_len) } in
+        inr (record { giver = id_at ids giver.index; member = joined_inside ids some giver.index (closed p giver.index stands link); gives = giver.gives })
+
+  -- ---- order
+
+  same_index : (p q : ℕ) → p < length ids → q < length ids → id_at ids p ≡ id_at ids q → p ≡ q
+  same_index p q first second same = index_is ids (id_at ids p) p q ascend (record { within = first; is = refl }) (record { within = second; is = sym same })
+
+  joined_steps : (before : List (List ℕ)) (step : List ℕ) → ids_of_steps ids (before ++ step ∷ []) ≡ ids_of_steps ids before ++ map (id_at ids) step ∷ []
+  joined_steps before step = map-append (λ (s : List ℕ). map (id_at ids) s) before (step ∷ [])
+
+  order_by_id : (before some : List (List ℕ)) → ((p : ℕ) → StandsIn before p → IsMarked members p) → ((p : ℕ) → StandsIn some p → IsMarked members p) → ((p q : ℕ) → StandsIn before p → Links needs (length members) p q → StandsIn before q)
+      → InOrder needs (length members) before some → AreStepsAfter content rows (joined (ids_of_steps ids steps)) (ids_of_steps ids before) (ids_of_steps ids some)
+  order_by_id before [] marked are_marked closed order = tt
+  order_by_id before (step ∷ later) marked are_marked closed order = (
+    record {
+      first = id_at ids next.first;
+      begun = map_inside (id_at ids) step next.first next.begun;
+      once = λ id inside stands.
+          let at = map_from (id_at ids) step id inside in
+          let other = joined_from ids before id stands in
+          let same : at.from ≡ other.index = same_index at.from other.index (member_inside at.from (own_marked at.from at.member)) (member_inside other.index (marked other.index other.stands)) (at.is ∙ sym other.is) in
+          let P : ℕ → Type 0 = λ k. StandsIn before k in
+          next.once at.from at.member (subst P (sym same) other.stands);
+      plan = (let P : List (List (List ℕ)) → Type 0 = λ l. IsPlan (world_of content rows) (joined l) in subst P (joined_steps before step) (is_plan (before ++ step ∷ []) still still_closed));
+      together = λ a b first second.
+          let p = map_from (id_at ids) step a first in
+          let q = map_from (id_at ids) step b second in
+          let P : List ℕ → Type 0 = λ x. Leads (NeedsMember content rows (joined (ids_of_steps ids steps))) x b in
+          let Q : List ℕ → Type 0 = λ x. Leads (NeedsMember content rows (joined (ids_of_steps ids steps))) (id_at ids p.from) x in
+          subst P p.is (subst Q q.is (leads_by_id p.from q.from (own_marked p.from p.member) (next.together p.from q.from p.member q.member)));
+    },
+    (let R : List (List (List ℕ)) → Type 0 = λ l. AreStepsAfter content rows (joined (ids_of_steps ids steps)) l (ids_of_steps ids later) in
+    subst R (joined_steps before step) (order_by_id (before ++ step ∷ []) later still later_marked still_closed order.1)),
+  ) where
+    next : IsNext needs (length members) before step
+    next = order.0
+
+    stands_first : (p : ℕ) → Contains step p → StandsIn (step ∷ later) p
+    stands_first p member = record { step = step; listed = first_inside step later; member = member }
+
+    own_marked : (p : ℕ) → Contains step p → IsMarked members p
+    own_marked p member = are_marked p (stands_first p member)
+
+    later_marked : (p : ℕ) → StandsIn later p → IsMarked members p
+    later_marked p stands = are_marked p (record { step = stands.step; listed = rest_inside step stands.step later stands.listed; member = stands.member })
+
+    still : (p : ℕ) → StandsIn (before ++ step ∷ []) p → IsMarked members p
+    still p stands = elim (stands_cases before step p stands) [
+      | inl was ↦ marked p was
+      | inr own ↦ own_marked p own
+    ]
+
+    still_closed : (p q : ℕ) → StandsIn (before ++ step ∷ []) p → Links needs (length members) p q → StandsIn (before ++ step ∷ []) q
+    still_closed p q stands link = elim (stands_cases before step p stands) [
+      | inl was ↦ stands_before before step q (closed p q was link)
+      | inr own ↦ next.needed p q own link
+    ]
+
+  -- ---- all
+
+  none_stands : (p : ℕ) → StandsIn [] p → ⊥
+  none_stands p stands = omega (arith, stands.listed.1)
+
+  -- the member that stands in for a chosen resolver
+  resolved_by : (c : List ℕ) → Contains chosen c → IsGivenBy content (joined (ids_of_steps ids steps)) c
+  resolved_by c listed =
+      let P : List (List ℕ) → Type 0 = λ l. Contains l c in
+      let at = inside_at ids c (subst P (sym are) (chosen_in_united content rows chosen are_good c listed)) in
+      let stands = are_left.stands_in at.index at.within in
+      let C : List ℕ → Type 0 = λ x. Contains chosen x in
+      let member = start_member stands.stand_in (started.whole stands.stand_in (record { marked = stands.marked; resolver = at.index; within = at.within; is_chosen = subst C (sym at.is) listed; leads = stands.leads })) in
+      let G : List ℕ → Type 0 = λ x. Gives content (id_at ids stands.stand_in) x in
+      record {
+        member = id_at ids stands.stand_in;
+        listed = in_steps stands.stand_in member;
+        gives = subst G at.is (gives_above at.index stands.stand_in (id_at ids at.index) stands.leads (gives_itself content rows (id_at ids at.index) (candidate_at at.index at.within)));
+      }
+
+  caused_by : (p : ℕ) → IsMarked members p → HasCause content rows chosen (joined (ids_of_steps ids steps)) (id_at ids p)
+  caused_by p marked =
+      let from = reached.marked p marked in
+      let start = started.marked from.start from.marked in
+      record {
+        resolver = id_at ids start.resolver;
+        is_chosen = start.is_chosen;
+        first = record {
+          member = id_at ids from.start;
+          listed = in_steps from.start (start_member from.start from.marked);
+          gives = gives_above start.resolver from.start (id_at ids start.resolver) start.leads (gives_itself content rows (id_at ids start.resolver) (candidate_at start.resolver start.within));
+        };
+        leads = leads_by_id from.start p (start_member from.start from.marked) (out_members from.start p from.leads);
+      }
+
+  pub are_zone_steps : AreZoneSteps content rows chosen (ids_of_steps ids steps)
+  are_zone_steps = record {
+    order = order_by_id [] steps (λ p stands. absurd (none_stands p stands)) stepped.only (λ p q stands link. absurd (none_stands p stands)) stepped.order;
+    plan = is_plan steps stepped.only (λ p q stands link. stepped.whole q (members_closed p q (stepped.only p stands) link));
+    resolved = resolved_by;
+    caused = λ id inside.
+        let at = joined_from ids steps id inside in
+        let P : List ℕ → Type 0 = λ x. HasCause content rows chosen (joined (ids_of_steps ids steps)) x in
+        subst P at.is (caused_by at.index (stepped.only at.index at.stands));
+    planned = λ id inside.
+        let at = joined_from ids steps id inside in
+        let P : List ℕ → Type 0 = λ x. IsPlanned content rows chosen x in
+        subst P at.is (planned content rows chosen are_good (id_at ids at.index) (in_all at.index (member_inside at.index (stepped.only at.index at.stands))));
+    alone = λ a b first second supersedes.
+        let p = joined_from ids steps a first in
+        let q = joined_from ids steps b second in
+        let p_member = stepped.only p.index p.stands in
+        let q_member = stepped.only q.index q.stands in
+        let p_inside = member_inside p.index p_member in
+        let q_inside = member_inside q.index q_member in
+        let S : List ℕ → Type 0 = λ x. Supersedes content x a in
+        let T : List ℕ → Type 0 = λ x. Supersedes content (id_at ids q.index) x in
+        let named = named_by content rows (id_at ids q.index) (id_at ids p.index) (subst T (sym p.is) (subst S (sym q.is) supersedes)) in
+        let N : List (List ℕ) → Type 0 = λ l. Contains l (id_at ids p.index) in
+        let turned = reversed.turned q.index p.index (record { listed = (indexed.each q.index (omega (arith, q_inside, as_many))).whole p.index p_inside (subst N (sym (sup_at q.index q_inside)) named); index = p_inside }) in
+        let same : q.index ≡ p.index = are_left.alone p.index q.index (member_left p.index p_member) (member_left q.index q_member) turned in
+        sym q.is ∙ ap (id_at ids) same ∙ p.is;
+  }

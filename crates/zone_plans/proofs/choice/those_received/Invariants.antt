@@ -1,0 +1,6 @@
+use Rattle.std.proofs.Common.{◌≡◌, filter, take}
+use Rattle.zone_plans.specs.declared.holds.Resolver.{Resolver}
+use Rattle.zone_plans.proofs.choice.those_received.Given as goal
+
+abbrev pub invariant-loop-resolver : goal.invariant-loop-resolver
+invariant-loop-resolver l = l.kept.items ≡ filter (λ (resolver : Resolver). resolver.received) (take l.resolver-index l.resolvers)

@@ -1,0 +1,5 @@
+pub mod Choices
+pub mod Members
+pub mod Graphs
+pub mod Plans
+pub mod BlockedSteps

@@ -1,0 +1,83 @@
+-- What is to be installed in a zone so that holds are resolved, and in which order (IBM z/OS SMP/E Reference, `++VER`,
+-- operands PRE, REQ and SUP).
+use Rattle.std.specs.Prelude.{◌≡◌, ◌++◌, ℕ, List, [], ◌∷◌, Contains}
+use Rattle.std.specs.List.{flat_map}
+use Rattle.zone_lists.specs.declared.zones.ZoneRow.{ZoneRow}
+use Rattle.catalogue.specs.Content.{Content, Supersedes}
+use Rattle.catalogue.specs.Ids.{in_order}
+use Rattle.supersede.specs.Giving.{needs_in}
+use Rattle.supersede.specs.Leading.{Gives, IsThere}
+use Rattle.requisites.specs.Leads.{Leads}
+use Rattle.requisites.specs.World.{IsPlan}
+use Rattle.chains.specs.Verdicts.{Judged, good, held, lack, verdict_of}
+use Rattle.chains.specs.Worlds.{world_of}
+
+-- the chosen plan of a verdict
+abbrev pub plan_by : Judged → List (List ℕ)
+plan_by (good plan) = plan
+plan_by (held need) = []
+plan_by lack = []
+
+abbrev pub plan_in : Content → List ZoneRow → List ℕ → List (List ℕ)
+plan_in content rows id = plan_by (verdict_of content rows id)
+
+-- all that the chosen plans of some SYSMODs have, ascending
+abbrev pub united : Content → List ZoneRow → List (List ℕ) → List (List ℕ)
+united content rows chosen = in_order (flat_map (plan_in content rows) chosen)
+
+-- the ids of all steps
+abbrev pub joined : List (List (List ℕ)) → List (List ℕ)
+joined steps = flat_map (λ step. step) steps
+
+-- an id needs something that isn't there, and a member gives it
+pub record NeedsMember (content : Content) (rows : List ZoneRow) (members : List (List ℕ)) (id member : List ℕ) : Type 0 where
+  pub need : List ℕ
+  pub needs : Contains (needs_in content rows id) need
+  pub absent : ¬ IsThere content rows need
+  pub listed : Contains members member
+  pub gives : Gives content member need
+
+-- a member that gives an id
+pub record IsGivenBy (content : Content) (members : List (List ℕ)) (id : List ℕ) : Type 0 where
+  pub member : List ℕ
+  pub listed : Contains members member
+  pub gives : Gives content member id
+
+-- why a member is there: it gives a chosen resolver, or needs lead to it from a member that does, each needing the next
+pub record HasCause (content : Content) (rows : List ZoneRow) (chosen members : List (List ℕ)) (id : List ℕ) : Type 0 where
+  pub resolver : List ℕ
+  pub is_chosen : Contains chosen resolver
+  pub first : IsGivenBy content members resolver
+  pub leads : Leads (NeedsMember content rows members) first.member id
+
+-- it comes of the chosen plan of a chosen resolver
+pub record IsPlanned (content : Content) (rows : List ZoneRow) (chosen : List (List ℕ)) (id : List ℕ) : Type 0 where
+  pub resolver : List ℕ
+  pub is_chosen : Contains chosen resolver
+  pub listed : Contains (plan_in content rows resolver) id
+
+-- What may come as a step after others. It has an id, and none of its ids stands in another step. With it, what is
+-- installed so far is a plan: each need of each is there, or one of them gives it. And all in it need one another.
+pub record IsNextStep (content : Content) (rows : List ZoneRow) (members : List (List ℕ)) (before : List (List (List ℕ))) (step : List (List ℕ)) : Type 0 where
+  pub first : List ℕ
+  pub begun : Contains step first
+  pub once : (id : List ℕ) → Contains step id → ¬ Contains (joined before) id
+  pub plan : IsPlan (world_of content rows) (joined (before ++ step ∷ []))
+  pub together : (a b : List ℕ) → Contains step a → Contains step b → Leads (NeedsMember content rows members) a b
+
+-- each step comes after those before it
+abbrev pub AreStepsAfter : Content → List ZoneRow → List (List ℕ) → List (List (List ℕ)) → List (List (List ℕ)) → Type 0
+AreStepsAfter content rows members before [] = Unit {0}
+AreStepsAfter content rows members before (step ∷ later) =
+    IsNextStep content rows members before step × AreStepsAfter content rows members (before ++ step ∷ []) later
+
+-- The steps in which is installed what some chosen resolvers want. All members together are a plan; for each chosen resolver
+-- there is a member that gives it; no member is there without a cause, or comes of no chosen plan; and no member supersedes
+-- another one.
+pub record AreZoneSteps (content : Content) (rows : List ZoneRow) (chosen : List (List ℕ)) (steps : List (List (List ℕ))) : Type 0 where
+  pub order : AreStepsAfter content rows (joined steps) [] steps
+  pub plan : IsPlan (world_of content rows) (joined steps)
+  pub resolved : (id : List ℕ) → Contains chosen id → IsGivenBy content (joined steps) id
+  pub caused : (id : List ℕ) → Contains (joined steps) id → HasCause content rows chosen (joined steps) id
+  pub planned : (id : List ℕ) → Contains (joined steps) id → IsPlanned content rows chosen id
+  pub alone : (a b : List ℕ) → Contains (joined steps) a → Contains (joined steps) b → Supersedes content b a → b ≡ a

@@ -1,0 +1,183 @@
+//! Members by their indices: what each supersedes, and what gives what it needs.
+ghost use Rattle.std.specs.Prelude.{◌≡◌, ◌<◌, ◌∷◌, [], ℕ, List, Option, true, Some, Contains, IfNone, IfOk, IfSome, OnOk, length, map, option_map};
+ghost use Rattle.std.specs.Global.{Vec};
+ghost use Rattle.std.specs.List.{slice_get};
+ghost use Rattle.mcs_reader.specs.declared.id.Id.{Id};
+ghost use Rattle.catalogue.specs.Ids.{Ascend};
+ghost use Rattle.supersede.specs.Reach.{has};
+ghost use Rattle.requisites.specs.Nodes.{IsMarked};
+ghost use Rattle.chains.specs.Indices.{AreIndicesOf, IsAt, RowsAre};
+ghost use Rattle.zone_plans.specs.Graphs.{AreGiven, AreGivenIndices, AreAnswered, ArePushed, all_needs, sups_at};
+
+use crate::reading::Reading;
+use faults::NoMemory;
+use mcs_reader::Id;
+use requisites::{Rows, is_marked};
+use std::alloc::Global;
+use supersede::index_among;
+
+/// What is answered for a need: the candidates that give it, ascending, unless it is there.
+pub(crate) type Answer = Option<Vec<Id>>;
+
+/// By index, what each member supersedes among the members.
+pub(crate) fn sup_rows(alloc: Global, ids: &[Id], readings: &[Reading]) -> Result<Rows, NoMemory>
+    requires { Ascend ids.now }
+    ensures { IfOk result (λ rows. RowsAre (λ p indices. AreIndicesOf ids.now (sups_at readings.now p) indices)
+        (length readings.now) rows) }
+{
+    let mut rows = Rows::new(alloc);
+    let mut own = Vec::new(alloc);
+    for reading in readings {
+        put_indices(&mut own, ids, reading.sup())?;
+        rows.push_row(&own)?;
+    }
+    Ok(rows)
+}
+
+// Makes a list that of the indices of the ids that stand among others.
+fn put_indices(indices: &mut Vec<usize>, members: &[Id], ids: &[Id]) -> Result<(), NoMemory>
+    requires { Ascend members.now }
+    ensures { OnOk result (AreIndicesOf members.now ids.now indices.new.items) }
+{
+    indices.clear();
+    for id in ids {
+        if let Some(index) = index_of(members, id) {
+            indices.push(index)?;
+        }
+    }
+    Ok(())
+}
+
+// Where an id stands, if it stands there.
+fn index_of(members: &[Id], id: &Id) -> Option<usize>
+    requires { Ascend members.now }
+    ensures some { IfSome result (λ index. IsAt members.now id.now index) }
+    ensures none { IfNone result (Contains members.now id.now → ⊥) }
+{
+    index_among(members, id)
+}
+
+/// By index, the members that are left and give what each needs.
+pub(crate) fn need_rows(
+    alloc: Global,
+    ids: &[Id],
+    left: &[bool],
+    readings: &[Reading],
+    asked: &[Id],
+    answers: &[Answer],
+) -> Result<Rows, NoMemory>
+    requires ascend { Ascend ids.now }
+    requires asked { Ascend asked.now }
+    ensures { IfOk result (λ rows. (f : List ℕ → Option (List (List ℕ)))
+        → map (option_map (λ ids. ids.items)) answers.now ≡ map f asked.now → asked.now ≡ all_needs readings.now
+        → AreGiven f ids.now left.now readings.now rows) }
+{
+    let mut rows = Rows::new(alloc);
+    let mut own = Vec::new(alloc);
+    for reading in readings {
+        put_given(&mut own, ids, left, reading.needs(), asked, answers)?;
+        rows.push_row(&own)?;
+    }
+    Ok(rows)
+}
+
+// Makes a list that of the indices of the members that are left and give what is needed.
+fn put_given(
+    indices: &mut Vec<usize>,
+    ids: &[Id],
+    left: &[bool],
+    needs: &[Id],
+    asked: &[Id],
+    answers: &[Answer],
+) -> Result<(), NoMemory>
+    requires ascend { Ascend ids.now }
+    requires asked { Ascend asked.now }
+    ensures { OnOk result ((f : List ℕ → Option (List (List ℕ)))
+        → map (option_map (λ ids. ids.items)) answers.now ≡ map f asked.now
+        → ((need : List ℕ) → Contains needs.now need → has asked.now need ≡ true)
+        → AreGivenIndices f ids.now left.now needs.now indices.new.items) }
+{
+    indices.clear();
+    let none = None;
+    for need in needs {
+        push_answer(indices, ids, left, answer_among(asked, answers, &none, need))?;
+    }
+    Ok(())
+}
+
+fn push_answer(
+    indices: &mut Vec<usize>,
+    ids: &[Id],
+    left: &[bool],
+    answer: &Answer,
+) -> Result<(), NoMemory>
+    requires { Ascend ids.now }
+    ensures { OnOk result (AreAnswered ids.now left.now (option_map (λ ids. ids.items) answer.now) indices.old.items indices.new.items) }
+{
+    match answer {
+        Some(givers) => push_left(indices, ids, left, givers),
+        None => Ok(()),
+    }
+}
+
+// Adds the indices of those that are members and left.
+fn push_left(
+    indices: &mut Vec<usize>,
+    ids: &[Id],
+    left: &[bool],
+    givers: &[Id],
+) -> Result<(), NoMemory>
+    requires { Ascend ids.now }
+    ensures { OnOk result
+        (ArePushed ids.now left.now givers.now indices.old.items indices.new.items) }
+{
+    for giver in givers {
+        push_one(indices, ids, left, giver)?;
+    }
+    Ok(())
+}
+
+fn push_one(
+    indices: &mut Vec<usize>,
+    ids: &[Id],
+    left: &[bool],
+    giver: &Id,
+) -> Result<(), NoMemory>
+    requires { Ascend ids.now }
+    ensures { OnOk result
+        (ArePushed ids.now left.now (giver.now ∷ []) indices.old.items indices.new.items) }
+{
+    if let Some(index) = index_of(ids, giver) {
+        if is_marked(left, index) {
+            indices.push(index)?;
+        }
+    }
+    Ok(())
+}
+
+// What was answered for one of the needs that were asked for, or what is handed for another.
+fn answer_among<'a>(
+    asked: &[Id],
+    answers: &'a [Answer],
+    other: &'a Answer,
+    id: &Id,
+) -> &'a Answer
+    requires { Ascend asked.now }
+    ensures { (f : List ℕ → Option (List (List ℕ)))
+        → map (option_map (λ ids. ids.items)) answers.now ≡ map f asked.now
+        → has asked.now id.now ≡ true → option_map (λ ids. ids.items) result.now ≡ f id.now }
+{
+    match index_among(asked, id) {
+        Some(at) => answer_at(answers, other, at),
+        None => other,
+    }
+}
+
+fn answer_at<'a>(answers: &'a [Answer], other: &'a Answer, at: usize) -> &'a Answer
+    ensures { (answer : Option (Vec Id)) → slice_get answers.now at ≡ Some answer → result.now ≡ answer }
+{
+    match answers.get(at) {
+        Some(answer) => answer,
+        None => other,
+    }
+}

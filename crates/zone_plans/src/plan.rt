@@ -1,0 +1,121 @@
+//! The plan for a zone.
+ghost use Rattle.std.specs.Prelude.{◌≡◌, IfOk, List, ℕ, Contains};
+ghost use Rattle.catalogue.specs.Ids.{Ascend};
+ghost use Rattle.catalogue.specs.View.{MayAsk, Tells};
+ghost use Rattle.catalogue.specs.declared.fault.SourceFault.TheVariants.{Device};
+ghost use Rattle.chains.specs.Judge.{status_of};
+ghost use Rattle.chains.specs.Verdicts.{verdict_of};
+ghost use Rattle.chains.specs.declared.verdict.Status.TheVariants as status;
+ghost use Rattle.zone_plans.specs.Members.{AreZoneSteps};
+ghost use Rattle.zone_plans.specs.Plans.{AreTold, IsZonePlan};
+
+use crate::blocked::{HeldHold, held_in};
+use crate::holds::{HoldOn, HoldResolvers};
+use crate::placing::{chosen_in, place_all, unresolved_in};
+use crate::reading::{needs_of_all, readings};
+use crate::steps::{Steps, zone_steps};
+use crate::united::united;
+use catalogue::{Published, SourceFault};
+use chains::{Judge, candidates_for};
+use mcs_reader::Id;
+use std::alloc::Global;
+use std::marker::Model;
+use supersede::Zone;
+
+/// One plan for the holds of a report on a zone.
+#[derive(Debug, Drop)]
+pub struct ZonePlan {
+    steps: Steps,
+    unresolved: Vec<HoldOn>,
+    held: Vec<HeldHold>,
+}
+
+impl Model for ZonePlan {
+    ghost use Rattle.zone_plans.specs.Plans.{PlanLists};
+
+    ghost Value = { PlanLists };
+
+    ghost view = { λ plan. record { steps = plan.steps; unresolved = plan.unresolved.items; held = plan.held.items } };
+}
+
+impl ZonePlan {
+    /// What is to be installed, step by step.
+    pub fn steps(&self) -> &Steps
+        ensures { result.now ≡ self.now.steps }
+    {
+        &self.steps
+    }
+
+    /// The holds without a resolver that is GOOD or HELD, in the order of the report.
+    pub fn unresolved(&self) -> &[HoldOn]
+        ensures { result.now ≡ self.now.unresolved }
+    {
+        self.unresolved.as_slice()
+    }
+
+    /// The holds of which no resolver is GOOD and one is HELD, in the order of the report.
+    pub fn held(&self) -> &[HeldHold]
+        ensures { result.now ≡ self.now.held }
+    {
+        self.held.as_slice()
+    }
+}
+
+/// The plan for the holds of a report on a zone (IBM z/OS SMP/E Commands, REPORT ERRSYSMODS and REPORT MISSINGFIX).
+///
+/// For each hold one resolver is chosen: of those that are GOOD the received before the others, then one that no other of
+/// them supersedes, then the greatest id. What their chosen plans have is to be installed, but for what another member
+/// supersedes and for what nothing needs then. Holds without such a resolver are named, with what blocks them.
+///
+/// # Errors
+///
+/// `Memory` where memory ran out, `Device` where the source failed.
+pub fn zone_plan<P: Published, J: Judge<P>>(
+    alloc: Global,
+    source: &mut P,
+    judge: &mut J,
+    zone: &Zone,
+    holds: &[HoldResolvers],
+) -> Result<ZonePlan, SourceFault>
+    ensures asks { MayAsk P.content_view Device source.old source.new result }
+    ensures plan { IfOk result (λ plan. Tells P.content_view source.old source.new
+        (λ content. J.is_right judge.old content → AreTold content zone.now holds.now
+        → IsZonePlan content zone.now holds.now plan)) }
+    ensures right { Tells P.content_view source.old source.new
+        (λ content. J.is_right judge.old content → J.is_right judge.new content) }
+{
+    let placed = place_all(alloc, source, holds)?;
+    let chosen = chosen_in(alloc, &placed)?;
+    let steps = steps_for(alloc, source, judge, zone, &chosen)?;
+    let held = held_in(alloc, source, judge, zone, &placed)?;
+    let unresolved = unresolved_in(alloc, &placed)?;
+    Ok(ZonePlan {
+        steps,
+        unresolved,
+        held,
+    })
+}
+
+// The steps in which is installed what some chosen resolvers want.
+fn steps_for<P: Published, J: Judge<P>>(
+    alloc: Global,
+    source: &mut P,
+    judge: &mut J,
+    zone: &Zone,
+    chosen: &[Id],
+) -> Result<Steps, SourceFault>
+    requires { Ascend chosen.now }
+    ensures asks { MayAsk P.content_view Device source.old source.new result }
+    ensures steps { IfOk result (λ steps. Tells P.content_view source.old source.new
+        (λ content. J.is_right judge.old content
+        → ((id : List ℕ) → Contains chosen.now id → status_of (verdict_of content zone.now id) ≡ status.Good)
+        → AreZoneSteps content zone.now chosen.now steps)) }
+    ensures right { Tells P.content_view source.old source.new
+        (λ content. J.is_right judge.old content → J.is_right judge.new content) }
+{
+    let ids = united(alloc, source, judge, zone, chosen)?;
+    let readings = readings(alloc, source, zone, &ids)?;
+    let asked = needs_of_all(alloc, &readings)?;
+    let answers = candidates_for(alloc, source, zone, &asked)?;
+    Ok(zone_steps(alloc, ids, &readings, &asked, &answers, chosen)?)
+}
