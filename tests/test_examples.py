@@ -35,12 +35,16 @@ def pairs(*files):
 
 
 wanted = b"".join(bodies(read(os.path.join(SAMPLE, "replies.txt"))))
-desk = Desk(CALLERS)
-run = subprocess.run(
-    ["sh", "examples/desk/requests.sh", desk.url], cwd=TOP, stdout=subprocess.PIPE, stderr=subprocess.DEVNULL
-)
-same("the lines for curl get the replies of the sample", (run.stdout, run.returncode), (wanted, 22))
-desk.end()
+for place, script in ((TOP, "examples/desk/requests.sh"), (folder(), SAMPLE + "/requests.sh")):
+    desk = Desk(CALLERS)
+    run = subprocess.run(
+        ["sh", script, desk.url], cwd=place, stdout=subprocess.PIPE, stderr=subprocess.DEVNULL
+    )
+    same("the lines for curl get the replies of the sample, run in " + place, (run.stdout, run.returncode), (wanted, 22))
+    desk.end()
+alone = write(folder() + "/desk/requests.sh", read(SAMPLE + "/requests.sh"))
+run = subprocess.run(["sh", alone, "http://127.0.0.1:9"], capture_output=True, text=True)
+check("without its bodies it sends nothing", run.returncode == 1 and "examples/site" in run.stderr, run.stderr)
 
 sent = b"".join(body for file in FILES for body in bodies(read(file)))
 site = os.path.join(TOP, "examples", "site")
