@@ -85,6 +85,39 @@ def zone_lists():
     )
 
 
+def listings_that_are_none():
+    """What is no listing, or not yet, and what to do about it."""
+    listing = kept("tgt1.smplist.txt").encode("cp037").replace(b"\x25", b"\x15")
+    for name, given in (("lines", listing), ("records", listing.replace(b"\x15", b"\x40" * 9)), ("JSON", kept("tgt1.csi.json").encode("cp037"))):
+        status, out, err = run(ZONE_CSV, "zone", "TGT1", "-", given=given)
+        check("EBCDIC is told: " + name, (status, out) == (1, "") and "iconv -f IBM-1047" in err, (status, err))
+    later = b'{"statusurl":"https://host/zosmf/swmgmt/statusmonitor/csiquery/7"}'
+    status, out, err = run(ZONE_CSV, "zone", "TGT1", "-", given=later)
+    check(
+        "an answer 202 of z/OSMF says where to ask again",
+        (status, out) == (1, "") and "202" in err and "https://host/zosmf/swmgmt/statusmonitor/csiquery/7" in err,
+        (status, err),
+    )
+    same("no JSON", run(ZONE_CSV, "zone", "TGT1", "-", given=b"{")[0], 3)
+
+
+def restores():
+    """A SYSMOD whose RESTORE did not end is not taken for installed."""
+    text = "T SYSMOD ENTRIES\n  NAME\nUJ1  TYPE = PTF\n     STATUS = REC APP%s\n%sUJ2  TYPE = PTF\n     STATUS = APP\n"
+    for name, given in (
+        ("RESTORE = YES", text % ("", "     RESTORE = YES\n")),
+        ("RES in STATUS", text % (" RES", "")),
+        (
+            "JSON",
+            '{"entries":[{"entryname":"UJ1","zonename":"T","subentries":{"INSTALLDATE":["25001"],"RESTORE":["YES"]}},'
+            '{"entryname":"UJ2","zonename":"T","subentries":{"INSTALLDATE":["25001"],"RESTORE":["NO"]}}]}',
+        ),
+    ):
+        status, out, err = run(ZONE_CSV, "zone", "T", "-", given=given.encode())
+        same("a RESTORE that did not end: " + name, (status, out), (0, "SYSMOD,STATE\nUJ2,APPLIED\n"))
+        check("is named", "RESTORE did not end: 1 (UJ1)" in err, err)
+
+
 def publications():
     status, out, err = run(PUBLICATION, "smpptfin.txt")
     same("the sample", (status, out), (1, kept("publication.txt")))
@@ -199,6 +232,8 @@ def parts():
 
 
 zone_lists()
+listings_that_are_none()
+restores()
 publications()
 lost_statements()
 parts()
