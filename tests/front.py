@@ -16,7 +16,8 @@ NGINX = shutil.which("nginx") or "/usr/sbin/nginx"
 
 
 class Front:
-    """PORTS are those of the desks 1 and 2; DESKS tells the number of the desk of each token."""
+    """PORTS are those of the desks 1 and 2; DESKS tells the number of the desk of each token. The caller with the
+    token `north-token` has the name NORTH-TOKEN here."""
 
     def __init__(self, ports, desks, plain=False):
         self.place, self.port = folder(), free_port()
@@ -72,8 +73,10 @@ class Front:
         sys.exit("nginx does not start: " + subprocess.run(command, capture_output=True, text=True).stderr)
 
     def deal_out(self, desks):
-        lines = "".join("%s desk_%d;\n" % pair for pair in desks.items())
-        write(self.place + "/desks.map", "publisher-token publisher;\n" + lines)
+        names = "".join('"%s" "%s";\n' % (token, token.upper()) for token in ("publisher-token", *desks))
+        write(self.place + "/callers.map", names)
+        lines = "".join('"%s" desk_%d;\n' % (token.upper(), desk) for token, desk in desks.items())
+        write(self.place + "/desks.map", '"PUBLISHER-TOKEN" publisher;\n' + lines)
 
     def reload(self):
         """Lets nginx read its files again, and waits until the processes that read the old ones have ended."""
