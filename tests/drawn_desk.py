@@ -75,8 +75,15 @@ class DrawnDesk:
 
     def __init__(self, zones, with_plans=True):
         self.zones, self.with_plans = {zone.name: zone for zone in zones}, with_plans
+        self.made = {}
 
     def __call__(self, first):
+        """What was made once is not made again, so that the desk takes no time of the page's."""
+        if first not in self.made:
+            self.made[first] = self.answer(first)
+        return self.made[first]
+
+    def answer(self, first):
         parts = [urllib.parse.unquote(part) for part in first.split()[1].split("?")[0].split("/")[1:]]
         if parts == ["published"]:
             return b"PUBLISHED SYSMODS 20000 HOLDS 40000\n"

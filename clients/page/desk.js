@@ -88,12 +88,14 @@ export class Snapshot {
     let answer = this.answers.get(key);
     if (!answer) {
       answer = work();
-      this.answers.set(key, answer);
       answer.catch(() => this.answers.delete(key));
-      for (const old of this.answers.keys()) {
-        if (this.answers.size <= KEPT) break;
-        this.answers.delete(old);
-      }
+    }
+    // what was used last goes last
+    this.answers.delete(key);
+    this.answers.set(key, answer);
+    for (const old of this.answers.keys()) {
+      if (this.answers.size <= KEPT) break;
+      this.answers.delete(old);
     }
     return answer;
   }

@@ -1,22 +1,24 @@
 // Filters that combine: one of the chosen values of each kind, and all words of the text.
 import { button, counted, make } from './make.js';
+import { textOf } from './report.js';
 
 const MOST_CHIPS = 6; // a kind with more values has a list to choose from
 
 export class Filters {
-  // KINDS are {name, title, of(group) to a list of texts, order}; CHANGE is called when something was chosen.
+  // KINDS are {name, title, of(group) to a list of texts, order, isList}; CHANGE is called when something was chosen.
   constructor(kinds, change) {
     this.kinds = kinds.map((kind) => ({ ...kind, chosen: new Set(), place: make('div', 'chips') }));
     this.change = change;
     this.search = make('input');
     this.search.type = 'search';
-    this.search.placeholder = 'Filter: SYSMOD, reason, resolver ..';
+    this.search.placeholder = 'Filter';
     this.search.setAttribute('aria-label', 'Show rows with these words');
     this.search.addEventListener('input', () => this.change());
     this.clear = button('Show all', 'plain', () => this.reset());
     this.count = make('p', 'count');
     this.count.setAttribute('role', 'status');
-    this.element = make('div', 'filters', this.search, ...this.kinds.map((kind) => kind.place), this.clear, this.count);
+    const places = make('div', 'kinds', ...this.kinds.map((kind) => kind.place));
+    this.element = make('div', 'filters', this.search, this.count, this.clear, places);
   }
 
   // The values that GROUPS have, each with its count.
@@ -26,7 +28,8 @@ export class Filters {
       for (const group of groups) for (const value of kind.of(group)) counts.set(value, (counts.get(value) ?? 0) + 1);
       const rank = (value) => (kind.order ?? []).indexOf(value) + 1 || 99;
       const values = [...counts].sort(([one], [other]) => rank(one) - rank(other) || (one < other ? -1 : 1));
-      kind.place.replaceChildren(...(values.length > MOST_CHIPS ? [this.list(kind, values)] : this.chips(kind, values)));
+      const isList = kind.isList || values.length > MOST_CHIPS;
+      kind.place.replaceChildren(...(isList ? [this.list(kind, values)] : this.chips(kind, values)));
       kind.place.hidden = values.length < 2 && kind.chosen.size === 0;
       kind.place.setAttribute('role', 'group');
       kind.place.setAttribute('aria-label', kind.title);
@@ -63,7 +66,7 @@ export class Filters {
       if (select.value) kind.chosen.add(select.value.slice(1));
       this.change();
     });
-    return [select][0];
+    return select;
   }
 
   reset() {
@@ -81,12 +84,19 @@ export class Filters {
     const kinds = this.kinds.filter((kind) => kind.chosen.size > 0);
     const isWanted = (group) =>
       kinds.every((kind) => kind.of(group).some((value) => kind.chosen.has(value))) &&
-      words.every((word) => group.text.includes(word));
+      words.every((word) => (group.text ??= textOf(group)).includes(word));
     const found = words.length + kinds.length > 0 ? groups.filter(isWanted) : groups;
     this.clear.hidden = words.length + kinds.length === 0;
     const of = found.length === groups.length ? '' : ' of ' + counted(groups.length);
     this.count.textContent = counted(found.length) + of + (groups.length === 1 ? ' hold' : ' holds');
     return found;
+  }
+
+  // What is chosen, in words for a reader.
+  get shown() {
+    const chosen = this.kinds.flatMap((kind) => [...kind.chosen].map((value) => value || 'no ' + kind.title.toLowerCase()));
+    const text = this.search.value.trim();
+    return [...chosen, ...(text ? ['“' + text + '”'] : [])].join(', ');
   }
 
   // What is chosen, as it stands in an address, and back.

@@ -51,7 +51,7 @@ const STATUS = { name: 'status', title: 'Status', of: (hold) => [hold.status], o
 const RECEIVED = { name: 'received', title: 'Received', of: (hold) => [hold.received], order: ['received'] };
 const KINDS = {
   errsysmods: [{ name: 'class', title: 'Class', of: (hold) => [hold.class], order: ['HIPER', 'PE'] }, STATUS, RECEIVED],
-  missingfix: [{ name: 'category', title: 'Category', of: (hold) => hold.categories }, STATUS, RECEIVED],
+  missingfix: [{ name: 'category', title: 'Category', of: (hold) => hold.categories, isList: true }, STATUS, RECEIVED],
 };
 
 // The rows of a report as its own columns, for those holds that are shown.
@@ -67,6 +67,7 @@ function rowsFor(name, report, holds) {
 export class HoldsView {
   constructor(name, zone, report, words, ways) {
     this.report = report;
+    this.title = TITLES[name] + zone;
     this.filters = new Filters(KINDS[name], () => {
       ways.changed(this.filters.words);
       this.show();
@@ -74,14 +75,15 @@ export class HoldsView {
     this.filters.words = words;
     this.filters.offer(report.holds);
     this.table = new Table({
-      caption: TITLES[name] + zone, columns: COLUMNS[name], order: byUrgency, choose: ways.choose,
+      caption: this.title, columns: COLUMNS[name], order: byUrgency, choose: ways.choose,
     });
     const rows = () => rowsFor(name, report, this.shown);
     const forms = [
       { title: 'CSV', name: zone + '-' + name + '.csv', kind: 'text/csv', text: () => csvOf(rows()) },
       { title: 'JSON', name: zone + '-' + name + '.json', kind: 'application/json', text: () => this.json(rows()) },
     ];
-    this.element = make('div', 'report ' + name, make('div', 'bar', this.filters.element, saveButtons(forms, ways.say)), this.table.element);
+    const bar = make('div', 'bar', this.filters.element, saveButtons(forms, ways.say));
+    this.element = make('div', 'report ' + name, bar, this.table.element);
     this.show();
   }
 
@@ -92,6 +94,8 @@ export class HoldsView {
 
   show() {
     this.shown = this.filters.of(this.report.holds);
+    const { shown } = this.filters;
+    this.table.name(this.title + (shown ? ', only ' + shown : ''));
     this.table.show(this.shown);
   }
 }

@@ -1,5 +1,5 @@
 // A zone's plan: what to install, in which order, why, and what to heed; and what is left over.
-import { make, several, timeOf } from './make.js';
+import { counted, make, several, timeOf } from './make.js';
 import { planRows } from './plan.js';
 import { jobOf } from './job.js';
 import { csvOf, saveButtons } from './save.js';
@@ -26,7 +26,7 @@ function why(member) {
 function heed(member) {
   const marks = [['SYSTEM', member.system], ['USER', member.user]]
     .flatMap(([kind, list]) => list.map((reason) => make('span', 'heed', kind + ' ' + reason)));
-  return make('span', 'cut', ...marks);
+  return marks.length > 0 ? make('span', 'cut', ...marks) : '';
 }
 
 function cut(text) {
@@ -76,11 +76,11 @@ function summary(plan) {
   const received = plan.members.filter((member) => member.received).length;
   const heeded = plan.members.filter((member) => member.system.length + member.user.length > 0).length;
   if (plan.members.length === 0) return 'Nothing can be installed for this report.';
-  return several(plan.members.length, 'SYSMOD') + ' to install, ' + received + ' of them received, ' +
-    heeded + ' with holds to heed.';
+  return several(plan.members.length, 'SYSMOD') + ' to install, ' + counted(received) + ' of them received, ' +
+    counted(heeded) + ' with holds to heed.';
 }
 
-// WAYS are {choose(sysmod), say(text)}.
+// WAYS are {choose(sysmod, isEntered), say(text)}.
 export class PlanView {
   constructor(name, zone, plan, snapshot, ways) {
     const title = 'Plan for the ' + NAMES[name] + ' of zone ' + zone + ', published ' + snapshot.level.sysmods +
@@ -93,7 +93,8 @@ export class PlanView {
     ];
     this.table = new Table({
       caption: 'Plan for the ' + NAMES[name] + ' of ' + zone, columns: COLUMNS,
-      order: (one, other) => one.order - other.order, choose: (group) => ways.choose(group.id),
+      order: (one, other) => one.order - other.order,
+      choose: (group, member, isEntered) => ways.choose(group.id, isEntered),
     });
     this.table.show(groupsOf(plan));
     this.element = make('div', 'report plan', make('div', 'bar', make('p', 'count', summary(plan)), saveButtons(forms, ways.say)),

@@ -57,7 +57,7 @@ export function holdsOf(name, rows) {
   const holds = new Map();
   for (const row of rows) {
     const sysmod = isError ? row.SYSMOD : row.FMID;
-    const key = sysmod + ' ' + row.REASON + (isError ? ' ' + row.FMID : '');
+    const key = sysmod + ' ' + row.REASON;
     let hold = holds.get(key);
     if (!hold) {
       hold = { sysmod, reason: row.REASON, fmid: row.FMID, class: row.CLASS ?? '', categories: [], resolvers: [] };
@@ -77,10 +77,14 @@ function completed(hold, order) {
   hold.best = hold.resolvers[0] ?? { id: '', status: 'none', isReceived: false };
   hold.status = hold.best.status;
   hold.received = hold.best.isReceived ? 'received' : 'not received';
-  const shown = hold.resolvers.flatMap((each) => [each.id, each.status, each.isReceived ? 'received' : '']);
-  hold.text = [hold.class, hold.sysmod, hold.reason, hold.fmid, hold.status, ...hold.categories, ...shown]
-    .join(' ').toLowerCase();
   return hold;
+}
+
+// All words that a hold's lines show, in small letters, for a filter.
+export function textOf(hold) {
+  const shown = hold.resolvers.flatMap((each) => [each.id, each.status, each.isReceived ? 'received' : '']);
+  return [hold.class, hold.sysmod, hold.reason, hold.fmid, hold.status, ...hold.categories, ...shown]
+    .join(' ').toLowerCase();
 }
 
 const CLASS_RANK = { HIPER: 0, PE: 1 };

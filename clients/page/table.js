@@ -9,8 +9,8 @@ const byCode = (one, other) => (one < other ? -1 : one > other ? 1 : 0);
 
 export class Table {
   // COLUMNS are {name, title, of(group) to sort by, cell(group, member, isFirst)}. A group has `resolvers`, a line
-  // for each; the lines after the first are shown where the group is opened. CHOOSE(group, member) is called for
-  // the line that is chosen. ORDER compares groups where no heading was chosen.
+  // for each; the lines after the first are shown where the group is opened. CHOOSE(group, member, isEntered) is
+  // called for the line that is chosen, by a click or by Enter. ORDER compares groups where no heading was chosen.
   constructor({ caption, columns, order, choose }) {
     Object.assign(this, { columns, order, choose, groups: [], lines: [], at: -1, sorted: null, isDown: false });
     this.opened = new Set();
@@ -21,7 +21,8 @@ export class Table {
     const first = make('tr', '', ...this.heads);
     first.setAttribute('role', 'row');
     first.setAttribute('aria-rowindex', '1');
-    this.table = make('table', '', make('caption', '', caption), make('thead', '', first), this.body);
+    this.caption = make('caption', '', caption);
+    this.table = make('table', '', this.caption, make('thead', '', first), this.body);
     this.table.setAttribute('role', 'grid');
     this.table.tabIndex = 0;
     this.table.addEventListener('keydown', (event) => this.key(event));
@@ -37,6 +38,10 @@ export class Table {
     head.scope = 'col';
     head.setAttribute('role', 'columnheader');
     return head;
+  }
+
+  name(text) {
+    this.caption.textContent = text;
   }
 
   // Up, down, and back to the order that was there.
@@ -120,7 +125,7 @@ export class Table {
     if (this.chosen && line.group === this.chosen.group && line.member === this.chosen.member) row.classList.add('chosen');
     if (at === this.at) row.classList.add('at');
     if (line.isFirst && line.group.resolvers.length > 1) cells.find((cell) => cell.className === 'of-resolver').append(this.opener(line.group));
-    row.addEventListener('click', () => this.take(at));
+    row.addEventListener('click', () => this.take(at, false));
     return row;
   }
 
@@ -144,12 +149,21 @@ export class Table {
   }
 
   // Chooses a line.
-  take(at) {
-    this.moveTo(at);
+  take(at, isEntered) {
     const { group, member } = this.lines[at];
     this.chosen = { group, member };
-    this.draw();
-    this.choose(group, member);
+    this.moveTo(at);
+    this.choose(group, member, isEntered);
+  }
+
+  // Shows a line as the chosen one, or none.
+  reveal(group, member) {
+    if (this.chosen?.group === group && this.chosen?.member === member) return;
+    this.chosen = group && { group, member };
+    if (group && member !== group.best && !this.opened.has(group)) this.open(group, true);
+    const at = this.lines.findIndex((line) => line.group === group && line.member === member);
+    if (at >= 0) this.moveTo(at);
+    else this.draw();
   }
 
   moveTo(at) {
@@ -170,7 +184,7 @@ export class Table {
     const line = this.lines[this.at];
     if (event.key in moves) this.moveTo(this.at + moves[event.key]);
     else if (!line) return;
-    else if (event.key === 'Enter' || event.key === ' ') this.take(this.at);
+    else if (event.key === 'Enter' || event.key === ' ') this.take(this.at, event.key === 'Enter');
     else if (event.key === 'ArrowRight') this.open(line.group, true);
     else if (event.key === 'ArrowLeft') this.open(line.group, false);
     else return;

@@ -32,7 +32,7 @@ export class ZoneView {
     list.setAttribute('role', 'tablist');
     list.setAttribute('aria-label', 'Reports of ' + zone);
     list.addEventListener('keydown', (event) => this.key(event));
-    const head = make('div', 'zone-title', link('Zones', 'back', '#', 'All zones'), make('h1', 'id', zone), this.chooser(), list);
+    const head = make('div', 'zone-title', link('Zones', 'back', '#', 'All zones'), make('h1', this.snapshot.zones.length < 2 ? 'id' : 'off', zone), this.chooser(), list);
     this.element = make('div', 'zone-view', head, make('div', 'split', this.body, this.chain.element));
     this.count();
   }
@@ -122,8 +122,9 @@ export class ZoneView {
         return [make('p', 'nothing', emptyWords(where.tab, this.snapshot.level))];
       }
       this.view = new HoldsView(name, this.zone, report, where.words, {
-        choose: (hold, member) => {
+        choose: (hold, member, isEntered) => {
           this.hold = hold;
+          this.isEntered = isEntered;
           this.ways.go({ ...this.where, sysmod: member.id || '-' });
         },
         changed: (words) => {
@@ -152,7 +153,11 @@ export class ZoneView {
         return made;
       };
       this.view = new PlanView(this.plan, this.zone, plan, this.snapshot, {
-        choose: (sysmod) => this.ways.go({ ...this.where, sysmod }), say: this.ways.say,
+        choose: (sysmod, isEntered) => {
+          this.isEntered = isEntered;
+          this.ways.go({ ...this.where, sysmod });
+        },
+        say: this.ways.say,
       });
       const chips = make('div', 'chips plan-of', choice('errsysmods', 'For the errors'), choice('missingfix', 'For the fixes'));
       chips.setAttribute('role', 'group');
@@ -162,12 +167,16 @@ export class ZoneView {
   }
 
   showChain({ sysmod, tab }) {
+    const hold = sysmod && tab !== 'plan' ? this.holdOf(sysmod) : undefined;
+    if (tab !== 'plan') this.view?.table?.reveal(hold, hold?.resolvers.find((each) => each.id === sysmod) ?? hold?.best);
     if (!sysmod) {
       this.chain.empty();
       return;
     }
-    const hold = tab === 'plan' ? undefined : this.holdOf(sysmod);
     this.chain.show(sysmod === '-' ? '' : sysmod, hold);
+    // by the keyboard the chain is the next thing to read; Escape leads back
+    if (this.isEntered) this.chain.element.focus();
+    this.isEntered = false;
   }
 
   // The hold of the row that was chosen, or the first that this SYSMOD resolves.
@@ -179,11 +188,8 @@ export class ZoneView {
 
   leaveChain() {
     this.hold = undefined;
-    if (this.view?.table) {
-      this.view.table.chosen = undefined;
-      this.view.table.draw();
-      this.view.table.focus();
-    }
+    this.view?.table?.reveal();
+    this.view?.table?.focus();
     this.ways.go({ ...this.where, sysmod: '' });
   }
 
