@@ -1,5 +1,6 @@
 """A real nginx in front of desks, from examples/front/nginx.conf, on free ports and with a certificate
 of its own."""
+import atexit
 import os
 import re
 import shutil
@@ -59,8 +60,12 @@ class Front:
         )
         user = ["-g", "daemon off; user root;"] if os.geteuid() == 0 else ["-g", "daemon off;"]
         self.process = subprocess.Popen(
-            [NGINX, "-p", self.place, "-c", "nginx.conf", *user], stderr=subprocess.DEVNULL
+            [NGINX, "-p", self.place, "-c", "nginx.conf", *user],
+            stdout=subprocess.DEVNULL,
+            stderr=subprocess.DEVNULL,
         )
+        # a test that fails in its midst leaves none behind
+        atexit.register(self.process.terminate)
         self.url = "%s://127.0.0.1:%d" % ("http" if plain else "https", self.port)
         self.context = ssl.create_default_context(cafile=self.certificate)
         for _ in range(100):

@@ -78,6 +78,7 @@ export class ChainPanel {
 
   empty() {
     this.turn += 1;
+    this.element.removeAttribute('aria-busy');
     this.element.classList.remove('is-open');
     this.title.textContent = 'Chain';
     this.hold.replaceChildren();
@@ -93,6 +94,7 @@ export class ChainPanel {
     this.title.textContent = sysmod ? 'Chain of ' + sysmod : 'No resolver';
     this.hold.replaceChildren(...(hold ? this.about(hold, sysmod) : []));
     this.picture.replaceChildren();
+    this.element.removeAttribute('aria-busy');
     if (!sysmod) {
       this.picture.append(make('p', '', 'No published SYSMOD resolves this hold yet.'));
       return;

@@ -38,7 +38,7 @@ export class Filters {
 
   chips(kind, values) {
     return values.map(([value, count]) => {
-      const chip = button(value || 'no ' + kind.title.toLowerCase(), 'chip of-' + (value || 'no').toLowerCase(), () => {
+      const chip = button(value || 'no ' + kind.title.toLowerCase(), 'chip is-' + (value || 'no').toLowerCase(), () => {
         if (!kind.chosen.delete(value)) kind.chosen.add(value);
         chip.setAttribute('aria-pressed', String(kind.chosen.has(value)));
         this.change();

@@ -1,6 +1,6 @@
 // The page: the token, the address, and what is shown for it. The token is kept in this tab alone.
 import { at, make, several, timeOf } from './make.js';
-import { addressOf, whereIs } from './address.js';
+import { REPORT_OF, addressOf, whereIs } from './address.js';
 import { Refusal, Snapshot, wordsOf } from './desk.js';
 import { Overview } from './overview.js';
 import { ZoneView } from './zone.js';
@@ -64,6 +64,9 @@ async function begin(token) {
   say('Asking for the zones.');
   document.body.setAttribute('aria-busy', 'true');
   try {
+    // what the address names is asked for together with the zones, and shown as soon as both are there
+    const { zone, tab } = whereIs(location.hash);
+    if (zone && tab in REPORT_OF) mine.report(zone, REPORT_OF[tab]).catch(() => {});
     await mine.begin();
     if (mine !== snapshot) return;
     sessionStorage.setItem(TOKEN, token);

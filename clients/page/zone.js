@@ -1,11 +1,10 @@
 // One zone: its errors, its fixes and its plan as tabs, and the chain beside them.
 import { button, counted, link, make } from './make.js';
-import { addressOf } from './address.js';
+import { REPORT_OF, addressOf } from './address.js';
 import { ChainPanel } from './chain.js';
 import { HoldsView } from './holds.js';
 import { PlanView } from './planview.js';
 
-const NAMES = { errors: 'errsysmods', fixes: 'missingfix' };
 const TITLES = { errors: 'Errors', fixes: 'Fixes', plan: 'Plan' };
 
 function emptyWords(tab, level) {
@@ -34,7 +33,6 @@ export class ZoneView {
     list.addEventListener('keydown', (event) => this.key(event));
     const head = make('div', 'zone-title', link('Zones', 'back', '#', 'All zones'), make('h1', this.snapshot.zones.length < 2 ? 'id' : 'off', zone), this.chooser(), list);
     this.element = make('div', 'zone-view', head, make('div', 'split', this.body, this.chain.element));
-    this.count();
   }
 
   // Another zone, without the way over all of them.
@@ -68,7 +66,7 @@ export class ZoneView {
 
   async count() {
     const mark = (tab, text) => (this.tabs[tab].querySelector('.tab-count').textContent = text);
-    for (const [tab, name] of Object.entries(NAMES)) {
+    for (const [tab, name] of Object.entries(REPORT_OF)) {
       this.snapshot.report(this.zone, name).then(({ holds }) => mark(tab, counted(holds.length)), () => mark(tab, '?'));
     }
     try {
@@ -90,6 +88,8 @@ export class ZoneView {
     this.body.setAttribute('aria-labelledby', 'tab-' + where.tab);
     const isNew = !this.view || before.tab !== where.tab || before.words !== where.words;
     if (isNew) await (where.tab === 'plan' ? this.showPlan() : this.showReport(where));
+    // what was asked for is there first, and the counts of the other tabs follow
+    this.counting ??= this.count();
     if (this.where !== where) return;
     this.showChain(where);
   }
@@ -115,7 +115,7 @@ export class ZoneView {
 
   showReport(where) {
     return this.fill(async () => {
-      const name = NAMES[where.tab];
+      const name = REPORT_OF[where.tab];
       const report = await this.snapshot.report(this.zone, name);
       if (report.holds.length === 0) {
         this.view = {};
