@@ -11,6 +11,7 @@ import threading
 
 from service import (
     CLIENT,
+    PROGRAM,
     SAMPLE,
     TOP,
     Client,
@@ -253,6 +254,12 @@ def before_any_desk():
     check("the meaning of a FAULT", status == 0 and "REASON" in out, out)
     same("of a store too", "version" in north.run("fault", "45")[1], True)
     same("no number", north.run("fault")[0], 2)
+    place = folder()
+    good, bad = (write(place + name, "++HOLD(UJ1) ERROR REASON(A).\n" + more) for name, more in (("/good", ""), ("/bad", "++HOLD(UJ1) ERROR.\n")))
+    status, out, err = north.run("holds", good, BUREAU_PROGRAM=PROGRAM)
+    check("a hold book", (status, err) == (0, "") and out.endswith("ROWS 1\n"), (status, out, err))
+    status, out, err = north.run("holds", bad, BUREAU_PROGRAM=PROGRAM)
+    check("a FAULT with its meaning and its line", (status, out) == (1, "") and "no REASON" in err and "bad, line 2: ++HOLD(UJ1) ERROR." in err, err)
     for words in (("errsysmods", "A", "--csv"), ("errsysmods", "--csv", "A"), ("errsysmods", "--", "A")):
         same("an option stands anywhere: %s" % (words,), north.run(*words)[0], 3)
     for words in (("errsysmods", "A", "--xml"), ("errsysmods", "--", "A", "--csv"), ("publish", "/dev/null", "--to")):

@@ -46,6 +46,16 @@ alone = write(folder() + "/desk/requests.sh", read(SAMPLE + "/requests.sh"))
 run = subprocess.run(["sh", alone, "http://127.0.0.1:9"], capture_output=True, text=True)
 check("without its bodies it sends nothing", run.returncode == 1 and "examples/site" in run.stderr, run.stderr)
 
+# the line that makes callers.map from the callers file, as it stands in the sample and on its page
+front = os.path.join(TOP, "examples", "front", "callers.map")
+line = re.search(r"awk -F.*callers\.csv", read(front).decode())[0]
+check("it is on its page too", line in read(os.path.join(TOP, "docs", "SCALING.md")).decode())
+names = subprocess.run(line.replace("callers.csv", CALLERS), shell=True, capture_output=True, text=True).stdout
+same("and makes the sample", names, "".join(row + "\n" for row in read(front).decode().splitlines() if row[0] == '"'))
+odd = write(folder() + "/callers.csv", "NAME,TOKEN\r\nPUBLISH,publisher~token\r\n#A$@,another.token\r\n")
+names = subprocess.run(line.replace("callers.csv", odd), shell=True, capture_output=True, text=True).stdout
+same("also with marks", names, '"publisher~token" "PUBLISH";\n"another.token" "#A-@";\n')
+
 sent = b"".join(body for file in FILES for body in bodies(read(file)))
 site = os.path.join(TOP, "examples", "site")
 parts = [site + "/publication.txt"] + [
