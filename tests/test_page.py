@@ -138,8 +138,8 @@ def marks(browser, front, client):
     same("the errors", lines(browser), [["–", "UJ1", "@A$#001", "", "@A$#001", "GOOD", "no"]])
     go(browser, "#Z%40%23%24/fixes")
     rows = csv_rows(client, "missingfix", "Z@#$")
-    titles = browser.run("document.querySelector('.of-category .cut').title.split('\\n')")
-    same("texts are texts", titles, [row["CATEGORY"] for row in rows])
+    titles = browser.run("[...document.querySelectorAll('.of-category .cut')].flatMap(cell => cell.title.split('\\n')).sort()")
+    same("texts are texts", titles, sorted(row["CATEGORY"] for row in rows))
     check("with marks", MARKED in titles, titles)
     shows(browser, MARKED, ".of-category .cut")
     same("nothing of it became an element", browser.run("document.querySelectorAll('main b, main img').length"), 0)
@@ -158,12 +158,17 @@ def marks(browser, front, client):
     browser.size(1400)
 
 
-def nothing_there(browser, front, publisher):
-    """A desk on which nothing is published, and a caller without zones."""
+def nothing_there(browser, front, north):
+    """A caller without zones, and a desk on which nothing is published."""
     browser.open(front.url + "/page/?nothing")
-    click(browser, "#leave") if browser.run("document.getElementById('leave').offsetParent !== null") else None
     enter(browser, NORTH)
     shows(browser, "You have no zone on this desk.")
+    north.run("sync", SITE + "/north")
+    click(browser, "#again")
+    browser.until("document.querySelectorAll('.figures').length === 1")
+    go(browser, "#MVSPROD/errors")
+    shows(browser, "Nothing is published yet")
+    click(browser, "#leave")
 
 
 def slow(browser):
@@ -212,6 +217,7 @@ def slow(browser):
 
 def away(browser, front, desk):
     browser.open(front.url + "/page/?away")
+    click(browser, "#leave")
     enter(browser, NORTH)
     go(browser, "#MVSPROD/errors")
     browser.until("document.querySelector('tbody tr.first')")
@@ -232,13 +238,7 @@ def main():
     front = Front([desk.port, desk.port], {NORTH: 1, SOUTH: 2})
     publisher, north, south = (Client(desk.url, token) for token in (PUBLISHER, NORTH, SOUTH))
     browser = Browser()
-    nothing_there(browser, front, publisher)
-    north.run("sync", SITE + "/north")
-    click(browser, "#again")
-    browser.until("document.querySelectorAll('.figures').length === 1")
-    go(browser, "#MVSPROD/errors")
-    shows(browser, "Nothing is published yet")
-    click(browser, "#leave")
+    nothing_there(browser, front, north)
     publisher.run("publish", os.path.join(SITE, "publication.txt"))
     sample(browser, front, north)
     sent_link(browser, front)
