@@ -187,7 +187,7 @@ if debs:
     )
     commands = sorted(os.listdir(root + "/usr/bin"))
     same("these are the commands", commands, ["bureau", "bureau-client", "publication", "zone-csv"])
-    same("each has its page", sorted(os.listdir(root + "/usr/share/man/man1")), [name + ".1.gz" for name in commands])
+    same("each has its page", sorted(os.listdir(root + "/usr/share/man/man1")), sorted(name + ".1.gz" for name in commands))
     if shutil.which("man"):
         for name in commands:
             page = subprocess.run(["man", "-l", root + "/usr/share/man/man1/%s.1.gz" % name], capture_output=True, text=True)
