@@ -298,7 +298,7 @@ def empty(browser):
 
 def looks(browser):
     """Dark, a phone, paper."""
-    for width, height in ((320, 640), (390, 844), (768, 1024), (1400, 900)):
+    for width, height in ((320, 640), (390, 844), (768, 1024), (1000, 800), (1400, 900)):
         browser.size(width, height)
         for address in ("#", "#LARGE/errors", "#LARGE/fixes", "#LARGE/plan"):
             go(browser, address)

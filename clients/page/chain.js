@@ -81,6 +81,7 @@ export class ChainPanel {
     this.element.removeAttribute('aria-busy');
     this.element.classList.remove('is-open');
     this.title.textContent = 'Chain';
+    this.input.value = '';
     this.hold.replaceChildren();
     this.picture.replaceChildren(make('p', 'soft', 'Choose a row to see what has to be installed with its resolver, or enter any SYSMOD.'));
   }

@@ -146,5 +146,6 @@ const kept = sessionStorage.getItem(TOKEN);
 if (kept) begin(kept);
 else {
   lay(false);
+  at('token').focus();
   say('Enter your token. It stays in this tab, and goes to the desk alone.');
 }
