@@ -15,7 +15,7 @@ from drawn_desk import DrawnDesk, Zone
 from front import Front
 from page import NORTH, PUBLISHER, SOUTH, ZONES, check, click, enter, go, is_wide, lines, no_faults, picture, said, same, shows
 from service import SAMPLE, TOP, Client, Desk, finish, folder, write
-from stand_in import StandIn
+from stand_in import StandIn, until
 
 SITE = os.path.join(TOP, "examples", "site")
 MARKED = 'IBM.<b>"&amp;<img/src=x/onerror=document.title=1>'
@@ -85,6 +85,7 @@ def sample(browser, front, north):
     click(browser, "tbody tr.first")
     shows(browser, "UJ92003 can be installed, together with 1 other SYSMOD.", ".beside")
     same("its members", browser.run("[...document.querySelectorAll('.members .id')].map(e => e.innerText)"), ["UJ92003", "UJ93001"])
+    chain_job(browser)
     browser.run("(i => { i.value = 'uj92005'; i.form.requestSubmit(); })(document.querySelector('.ask-chain input'))")
     shows(browser, "UJ92005 can be installed by itself.", ".beside")
     same("any SYSMOD has an address", browser.run("location.hash"), "#MVSPROD/fixes/UJ92005")
@@ -95,6 +96,24 @@ def sample(browser, front, north):
     said(browser, "The token is forgotten.")
     same("forgotten", (browser.run("sessionStorage.length"), browser.run("document.querySelectorAll('main *').length")), (0, 0))
     check("the form is there again", browser.run("document.getElementById('token').offsetParent !== null"))
+
+
+def chain_job(browser):
+    """The chain as an SMP/E job, also where the desk has no plans."""
+    place = folder()
+    browser.call("Browser.setDownloadBehavior", behavior="allow", downloadPath=place)
+    click(browser, ".beside [aria-label='Save as SMP/E job']")
+    path = place + "/MVSPROD-UJ92003.smpcntl.txt"
+    check("the chain is saved as a job", until(lambda: os.path.exists(path)))
+    lines = [line for line in open(path).read().splitlines() if line and not line.startswith(" /*")]
+    same(
+        "with both members",
+        lines,
+        [
+            " SET BOUNDARY(GLOBAL).", " RECEIVE SYSMODS SELECT(", "    UJ92003,UJ93001", "    ).",
+            " SET BOUNDARY(MVSPROD).", " APPLY CHECK SELECT(", "    UJ92003,UJ93001", "    )", " .",
+        ],
+    )
 
 
 def sent_link(browser, front):

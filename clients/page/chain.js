@@ -1,4 +1,6 @@
 // What stands beside the table: one hold with its resolvers, and the chain of one of them.
+import { jobOf } from './job.js';
+import { saveButtons } from './save.js';
 import { button, classBadge, make, several, statusBadge } from './make.js';
 
 const STEPS = 12; // of a row of blocked needs
@@ -30,6 +32,16 @@ function membersOf(chain) {
   return make('ul', 'members', ...boxes);
 }
 
+// A chain as a plan of its own, for a job. A chain does not tell which members were received: RECEIVE names all of
+// which the report does not say so.
+function planOf(chain, hold, isReceived) {
+  const members = chain.plan.map((member) => ({
+    ...member, received: isReceived(member.id), needed_by: member.id === chain.sysmod ? [] : [chain.sysmod],
+    holds: hold && member.id === chain.sysmod ? [{ sysmod: hold.sysmod, reason: hold.reason }] : [],
+  }));
+  return { zone: chain.zone, members, unresolved: [], held: [] };
+}
+
 // The row of needs that are in the way: each is followed to the first that nothing published gives.
 async function rowOfNeeds(first, chainOf) {
   const boxes = [box(first.sysmod, 'held', 'asked for')];
@@ -49,9 +61,10 @@ async function rowOfNeeds(first, chainOf) {
 }
 
 export class ChainPanel {
-  // CHAIN(sysmod) asks; GO(sysmod) makes another one the address; CLOSE leaves.
-  constructor(zone, { chain, go, close, faultOf }) {
-    Object.assign(this, { zone, chain, go, faultOf, turn: 0 });
+  // CHAIN(sysmod) asks; GO(sysmod) makes another one the address; CLOSE leaves; ISRECEIVED(id) tells what is known of
+  // it; TITLE() is how old all of it is.
+  constructor(zone, { chain, go, close, faultOf, isReceived, title, say }) {
+    Object.assign(this, { zone, chain, go, faultOf, isReceived, age: title, say, turn: 0 });
     this.input = make('input', 'id');
     Object.assign(this.input, { autocomplete: 'off', spellcheck: false, required: true, maxLength: 7, pattern: '[A-Za-z0-9@#$]{1,7}' });
     this.input.setAttribute('aria-label', 'SYSMOD');
@@ -106,13 +119,21 @@ export class ChainPanel {
       const chain = await this.chain(sysmod);
       const plan = chain.status === 'GOOD' ? membersOf(chain)
         : chain.status === 'HELD' ? await rowOfNeeds(chain, this.chain) : '';
-      shown = [make('p', 'verdict', statusBadge(chain.status), ' ' + sentence(chain)), plan];
+      const job = chain.status === 'GOOD' ? [this.job(chain, hold)] : [];
+      shown = [make('p', 'verdict', statusBadge(chain.status), ' ' + sentence(chain)), plan, ...job];
     } catch (fault) {
       shown = [make('p', 'fault', this.faultOf(fault))];
     }
     if (mine !== this.turn) return;
     this.element.removeAttribute('aria-busy');
     this.picture.replaceChildren(...shown);
+  }
+
+  job(chain, hold) {
+    const title = 'Chain of ' + chain.sysmod + ' in zone ' + chain.zone + ', ' + this.age();
+    const text = () => jobOf(planOf(chain, hold, this.isReceived), title);
+    const name = chain.zone + '-' + chain.sysmod + '.smpcntl.txt';
+    return saveButtons([{ title: 'SMP/E job', name, kind: 'text/plain', text }], this.say);
   }
 
   // The hold, and its other resolvers.

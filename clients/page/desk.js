@@ -1,6 +1,7 @@
 // Questions to the desk, and what is kept of its answers. The desk stands one folder above this page.
 import { NoReport, chainOf, countsOf, holdsOf, levelOf, rowsOf } from './report.js';
 import { planOf } from './plan.js';
+import { timeOf } from './make.js';
 
 // A refusal, with the words that are shown for it.
 export class Refusal extends Error {
@@ -138,6 +139,11 @@ export class Snapshot {
         throw fault;
       }
     });
+  }
+
+  // How much is published, and when it was asked for.
+  get age() {
+    return 'published ' + this.level.sysmods + ' SYSMODs and ' + this.level.holds + ' holds, asked ' + timeOf(this.asked);
   }
 
   chain(zone, sysmod) {

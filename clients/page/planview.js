@@ -1,5 +1,5 @@
 // A zone's plan: what to install, in which order, why, and what to heed; and what is left over.
-import { counted, make, several, timeOf } from './make.js';
+import { counted, make, several } from './make.js';
 import { planRows } from './plan.js';
 import { jobOf } from './job.js';
 import { csvOf, saveButtons } from './save.js';
@@ -83,8 +83,7 @@ function summary(plan) {
 // WAYS are {choose(sysmod, isEntered), say(text)}.
 export class PlanView {
   constructor(name, zone, plan, snapshot, ways) {
-    const title = 'Plan for the ' + NAMES[name] + ' of zone ' + zone + ', published ' + snapshot.level.sysmods +
-      ' SYSMODs and ' + snapshot.level.holds + ' holds, asked ' + timeOf(snapshot.asked);
+    const title = 'Plan for the ' + NAMES[name] + ' of zone ' + zone + ', ' + snapshot.age;
     const file = zone + '-' + name + '-plan';
     const forms = [
       { title: 'SMP/E job', name: file + '.smpcntl.txt', kind: 'text/plain', text: () => jobOf(plan, title) },

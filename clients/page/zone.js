@@ -26,6 +26,9 @@ export class ZoneView {
       go: (sysmod) => ways.go({ ...this.where, sysmod }),
       close: () => this.leaveChain(),
       faultOf: ways.faultOf,
+      isReceived: (id) => this.isReceived(id),
+      title: () => snapshot.age,
+      say: ways.say,
     });
     const list = make('div', 'tabs', ...Object.values(this.tabs));
     list.setAttribute('role', 'tablist');
@@ -184,6 +187,12 @@ export class ZoneView {
     const resolves = (hold) => (sysmod === '-' ? hold.resolvers.length === 0 : hold.resolvers.some((each) => each.id === sysmod));
     if (this.hold && resolves(this.hold)) return this.hold;
     return sysmod === '-' ? undefined : this.view?.report?.holds.find(resolves);
+  }
+
+  // Whether the report that is shown says that a SYSMOD was received.
+  isReceived(id) {
+    const holds = this.view?.report?.holds ?? [];
+    return holds.some((hold) => hold.resolvers.some((each) => each.id === id && each.isReceived));
   }
 
   leaveChain() {
