@@ -284,6 +284,29 @@ def without_plans(browser, desk):
     desk.reply = DrawnDesk(ZONES)
 
 
+def no_room(browser, desk):
+    """A desk or a front without room for a moment is asked again. One that has none for long is said to have none."""
+    whole, refused = DrawnDesk(ZONES), []
+
+    def reply(first):
+        if "errsysmods" in first and len(refused) < 2:
+            refused.append(first)
+            return 503, b"NO ROOM\n"
+        return whole(first)
+
+    desk.reply = reply
+    click(browser, "#again")
+    go(browser, "#MIDDLE/errors")
+    check("the table is there all the same", browser.until("document.querySelector('tbody tr.first')"))
+    same("after two refusals", len(refused), 2)
+    desk.reply = lambda first: (503, b"NO ROOM\n")
+    click(browser, "#again")
+    said(browser, "No answer: the desk is away or has no room now (503).")
+    desk.reply = whole
+    click(browser, "#again")
+    check("and later it has", browser.until("document.querySelector('tbody tr.first')"))
+
+
 def empty(browser):
     go(browser, "#CLEAN/errors")
     shows(browser, "Nothing is wrong")
@@ -367,6 +390,7 @@ def main():
     keyboard(browser)
     plan(browser, front)
     without_plans(browser, desk)
+    no_room(browser, desk)
     empty(browser)
     looks(browser)
     paper(browser)

@@ -12,6 +12,7 @@ export class Refusal extends Error {
 }
 
 const AT_ONCE = 3; // a front lets one token ask four questions at a time
+const PAUSES = [500, 1000, 2000]; // milliseconds, before a question is asked again for which there was no room
 const KEPT = 12; // reports that are kept; of the others their counts alone
 
 function refusalOf(status, body) {
@@ -58,12 +59,25 @@ export class Snapshot {
       this.running += 1;
     }
     try {
-      return await this.send(path);
+      return await this.patiently(path);
     } finally {
       const next = this.waiting.shift();
       if (next) next();
       else this.running -= 1;
     }
+  }
+
+  // Where the same token asks in another tab too, a front has no room for some of its questions.
+  async patiently(path) {
+    for (const pause of PAUSES) {
+      try {
+        return await this.send(path);
+      } catch (fault) {
+        if (fault.status !== 503 || this.isEnded) throw fault;
+      }
+      await new Promise((over) => setTimeout(over, pause));
+    }
+    return this.send(path);
   }
 
   async send(path) {
