@@ -5,8 +5,10 @@ import { textOf } from './report.js';
 const MOST_CHIPS = 6; // a kind with more values has a list to choose from
 
 export class Filters {
-  // KINDS are {name, title, of(group) to a list of texts, order, isList}; CHANGE is called when something was chosen.
-  constructor(kinds, change) {
+  // KINDS are {name, title, of(group) to a list of texts, order, isList}; CHANGE is called when something was chosen. UNITS is what one group is
+  // called, and what several are.
+  constructor(kinds, units, change) {
+    this.units = units;
     this.kinds = kinds.map((kind) => ({ ...kind, chosen: new Set(), place: make('div', 'chips') }));
     this.change = change;
     this.search = make('input');
@@ -88,7 +90,7 @@ export class Filters {
     const found = words.length + kinds.length > 0 ? groups.filter(isWanted) : groups;
     this.clear.hidden = words.length + kinds.length === 0;
     const of = found.length === groups.length ? '' : ' of ' + counted(groups.length);
-    this.count.textContent = counted(found.length) + of + (groups.length === 1 ? ' hold' : ' holds');
+    this.count.textContent = counted(found.length) + of + ' ' + this.units[groups.length === 1 ? 0 : 1];
     return found;
   }
 

@@ -6,6 +6,7 @@ import { Table } from './table.js';
 import { csvOf, saveButtons } from './save.js';
 
 const TITLES = { errsysmods: 'Exception SYSMODs of ', missingfix: 'Missing fixes of ' };
+const UNITS = { errsysmods: ['hold', 'holds'], missingfix: ['fix', 'fixes'] };
 const text = (name, title, of) => ({ name, title, of, cell: (hold, member, isFirst) => (isFirst ? of(hold) : '') });
 
 const RESOLVER = [
@@ -68,7 +69,7 @@ export class HoldsView {
   constructor(name, zone, report, words, ways) {
     this.report = report;
     this.title = TITLES[name] + zone;
-    this.filters = new Filters(KINDS[name], () => {
+    this.filters = new Filters(KINDS[name], UNITS[name], () => {
       ways.changed(this.filters.words);
       this.show();
     });
