@@ -29,6 +29,8 @@ class StandIn:
                 received += line.recv(65536) or b"\r\n\r\n"
             head, _, body = received.partition(b"\r\n\r\n")
             first, *fields = head.decode().split("\r\n")
+            if not first:  # the connection ended before it asked
+                return
             fields = [tuple(field.split(": ", 1)) for field in fields]
             length = int(dict((name.lower(), value) for name, value in fields).get("content-length", 0))
             pieces, found = [body], len(body)
