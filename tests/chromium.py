@@ -1,4 +1,5 @@
 """A headless Chromium that is spoken to over a pipe, by the standard library alone."""
+import atexit
 import base64
 import json
 import os
@@ -38,6 +39,7 @@ class Browser:
             stdout=subprocess.DEVNULL,
             stderr=subprocess.DEVNULL,
         )
+        atexit.register(self.process.terminate)
         os.close(to_read)
         os.close(to_write)
         self.rest, self.count, self.session, self.said = b"", 0, None, []
@@ -82,7 +84,7 @@ class Browser:
         """Waits until an expression is true, and tells whether it came to be."""
         end = time.time() + seconds
         while time.time() < end:
-            if self.run(script):
+            if self.run("!!(%s)" % script):
                 return True
             time.sleep(0.05)
         return False

@@ -1,5 +1,6 @@
 """A real nginx in front of desks, from examples/front/nginx.conf, on free ports and with a certificate
 of its own."""
+import atexit
 import os
 import re
 import shutil
@@ -16,7 +17,8 @@ NGINX = shutil.which("nginx") or "/usr/sbin/nginx"
 
 
 class Front:
-    """PORTS are those of the desks 1 and 2; DESKS tells the number of the desk of each token."""
+    """PORTS are those of the desks 1 and 2; DESKS tells the number of the desk of each token. The caller with the
+    token `north-token` has the name NORTH-TOKEN here."""
 
     def __init__(self, ports, desks, plain=False):
         self.place, self.port = folder(), free_port()
@@ -58,8 +60,12 @@ class Front:
         )
         user = ["-g", "daemon off; user root;"] if os.geteuid() == 0 else ["-g", "daemon off;"]
         self.process = subprocess.Popen(
-            [NGINX, "-p", self.place, "-c", "nginx.conf", *user], stderr=subprocess.DEVNULL
+            [NGINX, "-p", self.place, "-c", "nginx.conf", *user],
+            stdout=subprocess.DEVNULL,
+            stderr=subprocess.DEVNULL,
         )
+        # a test that fails in its midst leaves none behind
+        atexit.register(self.process.terminate)
         self.url = "%s://127.0.0.1:%d" % ("http" if plain else "https", self.port)
         self.context = ssl.create_default_context(cafile=self.certificate)
         for _ in range(100):
@@ -72,8 +78,10 @@ class Front:
         sys.exit("nginx does not start: " + subprocess.run(command, capture_output=True, text=True).stderr)
 
     def deal_out(self, desks):
-        lines = "".join("%s desk_%d;\n" % pair for pair in desks.items())
-        write(self.place + "/desks.map", "publisher-token publisher;\n" + lines)
+        names = "".join('"%s" "%s";\n' % (token, token.upper()) for token in ("publisher-token", *desks))
+        write(self.place + "/callers.map", names)
+        lines = "".join('"%s" desk_%d;\n' % (token.upper(), desk) for token, desk in desks.items())
+        write(self.place + "/desks.map", '"PUBLISHER-TOKEN" publisher;\n' + lines)
 
     def reload(self):
         """Lets nginx read its files again, and waits until the processes that read the old ones have ended."""

@@ -6,7 +6,7 @@ import time
 
 class StandIn:
     """Keeps each request that comes, and answers it with `reply`: its bytes, or what it makes of the
-    request's first line. While `may_answer` is not set, answers wait. Without a reply it closes the connection."""
+    request's first line, with a status in front where that is not 200. While `may_answer` is not set, answers wait. Without a reply it closes the connection."""
 
     def __init__(self):
         self.requests, self.connections = [], 0
@@ -29,6 +29,8 @@ class StandIn:
                 received += line.recv(65536) or b"\r\n\r\n"
             head, _, body = received.partition(b"\r\n\r\n")
             first, *fields = head.decode().split("\r\n")
+            if not first:  # the connection ended before it asked
+                return
             fields = [tuple(field.split(": ", 1)) for field in fields]
             length = int(dict((name.lower(), value) for name, value in fields).get("content-length", 0))
             pieces, found = [body], len(body)
@@ -42,10 +44,11 @@ class StandIn:
             reply = self.reply(first) if callable(self.reply) else self.reply
             if reply is None:
                 return
+            status, reply = reply if isinstance(reply, tuple) else (200, reply)
             began = time.time()
-            head = b"HTTP/1.1 200 OK\r\ncontent-type: text/plain\r\ncontent-length: %d\r\n\r\n"
+            head = b"HTTP/1.1 %d OK\r\ncontent-type: text/plain\r\ncontent-length: %d\r\n\r\n"
             try:
-                line.sendall(head % len(reply) + reply)
+                line.sendall(head % (status, len(reply)) + reply)
             except OSError:  # nobody waits for it any more
                 return
             self.seconds = time.time() - began

@@ -11,6 +11,7 @@ import threading
 
 from service import (
     CLIENT,
+    PROGRAM,
     SAMPLE,
     TOP,
     Client,
@@ -173,7 +174,14 @@ def refusals():
         "publish", write(site + "/lost.txt", "++HOLD(UJ1) ERROR REASON(A). ++HOLD(UJ2) ERROR REASON(A).\n")
     )
     check("a lost statement is noticed", status == 0 and "++HOLD 2 times, and the desk counted 1" in err, err)
-    same("categories of no zone", north.run("categories", "NONE", write(site + "/c", "CATEGORY\n*\n"))[0], 1)
+    status, _, err = north.run("categories", "Z#1", write(site + "/c", "CATEGORY\n*\n"))
+    check(
+        "categories of no zone name zone and file",
+        status == 1 and "no zone Z#1 of yours" in err and site + "/c" in err and "bureau-client zone" in err,
+        (status, err),
+    )
+    status, _, err = publisher.run("publish", write(site + "/small.txt", "++hold(uj1) ERROR REASON(A).\n"))
+    check("an id in lower case is told", status == 1 and "FAULT 2 1" in err and "upper case" in err, err)
     same("a client can't publish", north.run("publish", bad)[0], 1)
     same("the publisher has no zones", publisher.run("zones")[0], 1)
     same("an unknown token", client(desk, "nobody-token").run("zones")[0], 1)
@@ -237,6 +245,31 @@ def refusals():
     os.chmod(config, 0o600)
     same("settings from the file", north.run("zones", BUREAU_TOKEN="", BUREAU_URL="")[0], 0)
     desk.end()
+
+
+def before_any_desk():
+    """The command line and the settings, and what a FAULT means: no desk is there."""
+    north = Client("http://127.0.0.1:9", NORTH, SHELL)
+    status, out, _ = north.run("fault", "13")
+    check("the meaning of a FAULT", status == 0 and "REASON" in out, out)
+    same("of a store too", "version" in north.run("fault", "45")[1], True)
+    same("no number", north.run("fault")[0], 2)
+    place = folder()
+    good, bad = (write(place + name, "++HOLD(UJ1) ERROR REASON(A).\n" + more) for name, more in (("/good", ""), ("/bad", "++HOLD(UJ1) ERROR.\n")))
+    status, out, err = north.run("holds", good, BUREAU_PROGRAM=PROGRAM)
+    check("a hold book", (status, err) == (0, "") and out.endswith("ROWS 1\n"), (status, out, err))
+    status, out, err = north.run("holds", bad, BUREAU_PROGRAM=PROGRAM)
+    check("a FAULT with its meaning and its line", (status, out) == (1, "") and "no REASON" in err and "bad, line 2: ++HOLD(UJ1) ERROR." in err, err)
+    for words in (("errsysmods", "A", "--csv"), ("errsysmods", "--csv", "A"), ("errsysmods", "--", "A")):
+        same("an option stands anywhere: %s" % (words,), north.run(*words)[0], 3)
+    for words in (("errsysmods", "A", "--xml"), ("errsysmods", "--", "A", "--csv"), ("publish", "/dev/null", "--to")):
+        same("no such words: %s" % (words,), north.run(*words)[0], 2)
+    status, _, err = north.run("zones", BUREAU_TOKEN=NORTH + "\r")
+    check("a CR in a setting", status == 2 and "CR" in err, err)
+    config = write(north.home + "/config", "URL=http://127.0.0.1:9\r\nTOKEN=%s\r\n\r\n" % NORTH)
+    os.chmod(config, 0o600)
+    status, _, err = north.run("zones", BUREAU_TOKEN="", BUREAU_URL="")
+    check("a settings file with CR LF is read", status == 3 and "http://127.0.0.1:9 " in err, (status, err))
 
 
 def hidden_token():
@@ -419,7 +452,7 @@ def no_desk():
     server.shutdown()
 
 
-PARTS = (sample, rows_without_resolver, refusals, hidden_token, waiting, lost_replies, together, onlooker, no_desk)
+PARTS = (sample, rows_without_resolver, refusals, before_any_desk, hidden_token, waiting, lost_replies, together, onlooker, no_desk)
 for part in PARTS:
     part()
 finish("client" + (", " + SHELL if SHELL else ""))

@@ -35,12 +35,26 @@ def pairs(*files):
 
 
 wanted = b"".join(bodies(read(os.path.join(SAMPLE, "replies.txt"))))
-desk = Desk(CALLERS)
-run = subprocess.run(
-    ["sh", "examples/desk/requests.sh", desk.url], cwd=TOP, stdout=subprocess.PIPE, stderr=subprocess.DEVNULL
-)
-same("the lines for curl get the replies of the sample", (run.stdout, run.returncode), (wanted, 22))
-desk.end()
+for place, script in ((TOP, "examples/desk/requests.sh"), (folder(), SAMPLE + "/requests.sh")):
+    desk = Desk(CALLERS)
+    run = subprocess.run(
+        ["sh", script, desk.url], cwd=place, stdout=subprocess.PIPE, stderr=subprocess.DEVNULL
+    )
+    same("the lines for curl get the replies of the sample, run in " + place, (run.stdout, run.returncode), (wanted, 22))
+    desk.end()
+alone = write(folder() + "/desk/requests.sh", read(SAMPLE + "/requests.sh"))
+run = subprocess.run(["sh", alone, "http://127.0.0.1:9"], capture_output=True, text=True)
+check("without its bodies it sends nothing", run.returncode == 1 and "examples/site" in run.stderr, run.stderr)
+
+# the line that makes callers.map from the callers file, as it stands in the sample and on its page
+front = os.path.join(TOP, "examples", "front", "callers.map")
+line = re.search(r"awk -F.*callers\.csv", read(front).decode())[0]
+check("it is on its page too", line in read(os.path.join(TOP, "docs", "SCALING.md")).decode())
+names = subprocess.run(line.replace("callers.csv", CALLERS), shell=True, capture_output=True, text=True).stdout
+same("and makes the sample", names, "".join(row + "\n" for row in read(front).decode().splitlines() if row[0] == '"'))
+odd = write(folder() + "/callers.csv", "NAME,TOKEN\r\nPUBLISH,publisher~token\r\n#A$@,another.token\r\n")
+names = subprocess.run(line.replace("callers.csv", odd), shell=True, capture_output=True, text=True).stdout
+same("also with marks", names, '"publisher~token" "PUBLISH";\n"another.token" "#A-@";\n')
 
 sent = b"".join(body for file in FILES for body in bodies(read(file)))
 site = os.path.join(TOP, "examples", "site")

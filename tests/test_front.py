@@ -28,7 +28,7 @@ PUBLISHER = "publisher-token"
 TOKENS = {name: name.lower() + "-token" for name in CLIENTS}
 AT = {name: 1 + n % 2 for n, name in enumerate(CLIENTS)}  # the desk of each client
 ZONES, IDS = ("TGT1", "Z#2", "A@$"), ["UJ%05d" % n for n in range(40)] + ["HBB77E0"]
-OF_THE_FRONT = ("server", "date", "connection")
+OF_THE_FRONT = ("server", "date", "connection", "strict-transport-security", "vary")
 
 
 def ask(port, context, method, path, token, number=None, body=None):

@@ -3,8 +3,10 @@
 
 No desk would show it: how a request arrives at a desk, how often, when, and how its reply is taken.
 """
+import gzip
 import http.client
 import os
+import resource
 import socket
 import threading
 import time
@@ -144,6 +146,47 @@ def limits(front, one, two):
     same("the four", statuses, [200] * 4)
 
 
+def begun(front, address, text, with_tls=True):
+    """A connection from an address of this machine, on which a request has begun."""
+    line = socket.create_connection(("127.0.0.1", front.port), 30, (address, 0))
+    if with_tls:
+        line = front.context.wrap_socket(line, server_hostname="127.0.0.1")
+    line.sendall(text)
+    return line
+
+
+def is_refused(line):
+    """Whether a request that has only begun is answered already."""
+    line.settimeout(2)
+    try:
+        return line.recv(100).startswith(b"HTTP/1.1 503")
+    except OSError:
+        return False
+
+
+def floods(front, one):
+    """An address that opens over a thousand connections and ends no request stops nobody else."""
+    resource.setrlimit(resource.RLIMIT_NOFILE, (resource.getrlimit(resource.RLIMIT_NOFILE)[1],) * 2)
+    one.reply = b"ok\n"
+    half = b"PUT /received HTTP/1.1\r\nhost: a\r\n%scontent-length: 11\r\n\r\nSYSM"
+    lines = [begun(front, "127.0.0.2", half % (b"bureau-token: token-%05d\r\n" % n)) for n in range(1100)]
+    began = time.time()
+    same("bodies that don't end stop nobody", ask(front, "GET", "/zones", CLIENT), (200, b"ok\n"))
+    check("nor for long", time.time() - began < 5, time.time() - began)
+    same("of an address 32 are let in", [is_refused(lines[at]) for at in (-1, 500, 40)], [True] * 3)
+    for line in lines:
+        line.close()
+    lines = [begun(front, "127.0.0.3", b"GET /zones HTTP/1.1\r\n", with_tls=False) for _ in range(1100)]
+    same("nor do heads that don't end", ask(front, "GET", "/zones", CLIENT), (200, b"ok\n"))
+    for line in lines:
+        line.close()
+    lines = [begun(front, "127.0.0.4", half % b"") for _ in range(5)]
+    same("without a token an address counts", is_refused(lines[4]), True)
+    same("and so do these four alone", [is_refused(line) for line in lines[:1]], [False])
+    for line in lines:
+        line.close()
+
+
 def half_a_head(front, ended):
     """A head that does not come to its end, and after how many seconds the front ends the connection."""
     began = time.time()
@@ -166,6 +209,11 @@ def files(front):
     for path in paths:
         text = ask(front, "GET", path, None)[1]
         check("no file at " + path, b"token" not in text and b"KEY" not in text and b"GET" not in text, text)
+    line = http.client.HTTPSConnection("127.0.0.1", front.port, context=front.context)
+    line.request("GET", "/")
+    reply = line.getresponse()
+    same("the front door leads to the page", (reply.status, reply.getheader("location")), (302, "/page/"))
+    line.close()
     for name, kind in (("", "html"), ("page.js", "javascript"), ("page.css", "css")):
         line = http.client.HTTPSConnection("127.0.0.1", front.port, context=front.context)
         line.request("GET", "/page/" + name)
@@ -174,9 +222,11 @@ def files(front):
         policy = reply.getheader("content-security-policy") or ""
         check("it fetches nothing from elsewhere", "default-src 'none'" in policy and "unsafe" not in policy, policy)
         same("and is asked for anew", reply.getheader("cache-control"), "no-cache")
+        same("and never without TLS again", reply.getheader("strict-transport-security"), "max-age=31536000")
         line.close()
     logs = "".join(open(os.path.join(front.place, "tmp", name + ".log")).read() for name in ("access", "error"))
     check("the logs tell requests", "PUT /zones/Z%23%31" in logs)
+    check("and who made them", ' 127.0.0.1 SOUTH-TOKEN "PUT /zones/Z%23%31//a/../b" 200 ' in logs, logs[-3000:])
     check("and no token", not any(token in logs for token in (CLIENT, OTHER, LONG, PUBLISHER)))
     try:
         line = http.client.HTTPConnection("127.0.0.1", front.port, timeout=10)
@@ -185,6 +235,22 @@ def files(front):
     except (OSError, http.client.HTTPException):
         status = 400
     same("nothing without TLS", status, 400)
+
+
+def compressed(front, one):
+    """A report goes small to who takes it so, and as it is to all others."""
+    one.reply = b"HBB77E0  UJ92001  AJ64001  UJ92002  HELD   NO       PE\n" * 1000
+    got = {}
+    for coding in ("gzip", "identity"):
+        line = http.client.HTTPSConnection("127.0.0.1", front.port, context=front.context)
+        line.request("GET", "/zones/A/errsysmods?token=%s" % CLIENT, headers={"bureau-token": CLIENT, "accept-encoding": coding})
+        reply = line.getresponse()
+        got[coding] = reply.getheader("content-encoding"), reply.read(), reply.getheader("strict-transport-security")
+        line.close()
+    same("as it is", got["identity"], (None, one.reply, "max-age=31536000"))
+    same("and small", (got["gzip"][0], gzip.decompress(got["gzip"][1]) == one.reply), ("gzip", True))
+    check("a tenth of it", len(got["gzip"][1]) < len(one.reply) / 10, len(got["gzip"][1]))
+    one.reply = b"ok\n"
 
 
 def main():
@@ -200,9 +266,11 @@ def main():
     of_the_publisher(front, one, two)
     slow_clients(front, one)
     limits(front, one, two)
+    compressed(front, one)
     files(front)
     idle.join()
-    check("a head has 20 seconds", len(ended) == 1 and 19 < ended[0] < 30, ended)
+    check("a head has 10 seconds", len(ended) == 1 and 9 < ended[0] < 20, ended)
+    floods(front, one)
     front.end()
     finish("front alone")
 

@@ -8,6 +8,7 @@ from service import PROGRAM, TOP, check, finish, folder, same, write
 ZONE_CSV = os.path.join(TOP, "clients", "zone-csv")
 PUBLICATION = os.path.join(TOP, "clients", "publication")
 LISTS = os.path.join(TOP, "examples", "lists")
+LIMIT = 67108864  # bytes that a desk takes at once
 
 
 def run(*words, given=b""):
@@ -84,6 +85,39 @@ def zone_lists():
     )
 
 
+def listings_that_are_none():
+    """What is no listing, or not yet, and what to do about it."""
+    listing = kept("tgt1.smplist.txt").encode("cp037").replace(b"\x25", b"\x15")
+    for name, given in (("lines", listing), ("records", listing.replace(b"\x15", b"\x40" * 9)), ("JSON", kept("tgt1.csi.json").encode("cp037"))):
+        status, out, err = run(ZONE_CSV, "zone", "TGT1", "-", given=given)
+        check("EBCDIC is told: " + name, (status, out) == (1, "") and "iconv -f IBM-1047" in err, (status, err))
+    later = b'{"statusurl":"https://host/zosmf/swmgmt/statusmonitor/csiquery/7"}'
+    status, out, err = run(ZONE_CSV, "zone", "TGT1", "-", given=later)
+    check(
+        "an answer 202 of z/OSMF says where to ask again",
+        (status, out) == (1, "") and "202" in err and "https://host/zosmf/swmgmt/statusmonitor/csiquery/7" in err,
+        (status, err),
+    )
+    same("no JSON", run(ZONE_CSV, "zone", "TGT1", "-", given=b"{")[0], 3)
+
+
+def restores():
+    """A SYSMOD whose RESTORE did not end is not taken for installed."""
+    text = "T SYSMOD ENTRIES\n  NAME\nUJ1  TYPE = PTF\n     STATUS = REC APP%s\n%sUJ2  TYPE = PTF\n     STATUS = APP\n"
+    for name, given in (
+        ("RESTORE = YES", text % ("", "     RESTORE = YES\n")),
+        ("RES in STATUS", text % (" RES", "")),
+        (
+            "JSON",
+            '{"entries":[{"entryname":"UJ1","zonename":"T","subentries":{"INSTALLDATE":["25001"],"RESTORE":["YES"]}},'
+            '{"entryname":"UJ2","zonename":"T","subentries":{"INSTALLDATE":["25001"],"RESTORE":["NO"]}}]}',
+        ),
+    ):
+        status, out, err = run(ZONE_CSV, "zone", "T", "-", given=given.encode())
+        same("a RESTORE that did not end: " + name, (status, out), (0, "SYSMOD,STATE\nUJ2,APPLIED\n"))
+        check("is named", "RESTORE did not end: 1 (UJ1)" in err, err)
+
+
 def publications():
     status, out, err = run(PUBLICATION, "smpptfin.txt")
     same("the sample", (status, out), (1, kept("publication.txt")))
@@ -94,9 +128,9 @@ def publications():
         "line 23: FAULT 13",
         "line 25: FAULT 1",
         "line 14: left out",
-        "line 18: what follows the period is lost",
-        "line 22: no statement begins here",
-        "2 SYSMODs, 2 ++VER, 1 ++IF, 1 ++HOLD, 1 ++RELEASE; 5 statements with a fault",
+        "line 18: left out, since its ++ is not in column 1: ++VER(Z038)",
+        "line 22: left out, since its ++ is not in column 1: ++RELEASE(UJ92003)",
+        "2 SYSMODs, 2 ++VER, 1 ++IF, 1 ++HOLD, 1 ++RELEASE; 5 statements with a fault, 2 not in column 1",
     ):
         check("the sample: " + text, text in err, err)
     site = folder()
@@ -135,7 +169,18 @@ def publications():
         run(PUBLICATION, "--unchecked", site + "/ver")[:2],
         (0, "++VER(Z038).\n++PTF(A).\n"),
     )
+    same(
+        "from a pipe",
+        run(PUBLICATION, "-", given=kept("publication.txt").encode())[:2],
+        (0, kept("publication.txt")),
+    )
+    same(
+        "records from a pipe, over more than one read",
+        run(PUBLICATION, "--unchecked", "/dev/stdin", given=b"%-80s" % b"++PTF(A)." * 2000)[:2],
+        (0, "++PTF(A).\n" * 2000),
+    )
     same("no file", run(PUBLICATION, site + "/none")[0], 3)
+    same("no word that begins with -", run(PUBLICATION, "--unchecked", "-x", site + "/ver")[0], 2)
     same("no words", run(PUBLICATION)[0], 2)
     holds = ["++HOLD(UA%05d) ERROR REASON(AB%05d)\n COMMENT(ONE (OF) MANY).\n" % (i, i) for i in range(9000)]
     for bad in (17, 4500, 8999):
@@ -145,6 +190,51 @@ def publications():
     same("by their lines", [text in err for text in ("line 35:", "line 9001:", "line 17999:")], [True] * 3)
 
 
+def lost_statements():
+    """A run that leaves out a statement ends with 1, and names it."""
+    hold, release = "++HOLD(UJ1) ERROR REASON(A).\n", "++release(UJ1) ERROR REASON(A).\n"
+    for name, text, left, line in (
+        ("a blank before it", " " + hold, "", 1),
+        ("a second one on a line", hold + hold.rstrip() + " " + hold, hold * 2, 2),
+        ("one without a blank between", hold.rstrip() + hold, hold, 1),
+        ("after other statements", "++MOD(A) DISTLIB(B).\n  " + release, "", 2),
+        ("on a line after the period", hold + "text\n  " + release, hold, 3),
+    ):
+        status, out, err = run(PUBLICATION, "--unchecked", "-", given=text.encode())
+        check(name, (status, out) == (1, left) and "line %d: left out" % line in err, (status, out, err))
+    for name, text in (
+        ("in the statement's own text", "++HOLD(UJ1) ERROR REASON(A)\n COMMENT(SEE\n ++HOLD(UJ2) ERROR)."),
+        ("in a comment after it", hold.rstrip() + " /* ++HOLD(UJ2) is no more */"),
+    ):
+        same(name + " nothing is lost", run(PUBLICATION, "--unchecked", "-", given=text.encode())[:2], (0, text.split(" /*")[0] + "\n"))
+    status, _, err = run(PUBLICATION, "-", given=b"++hold(uj1) ERROR REASON(A).\n")
+    check("an id in lower case is told", status == 1 and "FAULT 2" in err and "upper case" in err, err)
+
+
+def parts():
+    """What is too large for a desk is not printed, and is written in parts that are none too large."""
+    hold = "++HOLD(UJ%05d) ERROR REASON(AJ00001)\n COMMENT(" + "X" * 60 + ")" + "\n /* and so on */" * 40 + ".\n"
+    place = folder()
+    # a SYSMOD with its ++VER stands where the first part ends
+    count = LIMIT // len(hold % 0)
+    text = "".join(hold % i for i in range(count)) + "++PTF(UJ1).\n++VER(Z038) FMID(HBB77E0)\n"
+    text += " /**/\n" * ((LIMIT - len(text)) // 6) + " SUP(AJ1).\n" + hold % 1
+    path = write(place + "/large", text)
+    status, out, err = run(PUBLICATION, "--unchecked", path)
+    check("nothing is printed", (status, out) == (1, "") and "--parts" in err, (status, len(out), err))
+    status, out, err = run(PUBLICATION, "--unchecked", "--parts", place + "/part", path)
+    same("parts are written", (status, out), (0, ""))
+    written = [open(place + "/part-%03d.txt" % number).read() for number in (1, 2)]
+    same("two", os.path.exists(place + "/part-003.txt"), False)
+    check("none is too large", all(len(part) <= LIMIT for part in written))
+    same("a SYSMOD stays together", written[1].startswith("++PTF(UJ1).\n++VER(Z038)"), True)
+    same("with all of it", sum(part.count("++HOLD") for part in written), count + 1)
+
+
 zone_lists()
+listings_that_are_none()
+restores()
 publications()
+lost_statements()
+parts()
 finish("lists")

@@ -3,6 +3,7 @@
 runs there."""
 import os
 import re
+import shutil
 import subprocess
 import tarfile
 
@@ -37,6 +38,22 @@ def hidden(place, line):
         cover = ["sh", "-c", 'cd "$1" && exec sh -c "$2"', "sh", place, line]
     done = subprocess.run(cover, env=ENVIRONMENT, capture_output=True)
     return done.returncode, done.stdout
+
+
+def set_up(deb):
+    """The package makes the user and the folder, and leaves the folder when it goes."""
+    place, tools = folder(), folder()
+    subprocess.run(["dpkg-deb", "-e", deb, place], check=True)
+    for name, line in (("getent", "exit 2"), ("adduser", ""), ("install", ""), ("systemctl", ""), ("rmdir", "")):
+        with open(os.path.join(tools, name), "w") as tool:
+            tool.write('#!/bin/sh\necho %s "$@" >>%s/said\n%s\n' % (name, tools, line))
+        os.chmod(os.path.join(tools, name), 0o755)
+    for script, word in (("postinst", "configure"), ("prerm", "remove"), ("postrm", "purge")):
+        run = subprocess.run(["sh", os.path.join(place, script), word], env={"PATH": tools + ":/usr/bin:/bin"}, capture_output=True)
+        same(script + " ends well", (run.returncode, run.stderr), (0, b""))
+    said = read(tools + "/said").decode()
+    check("the user", "adduser --system --group --no-create-home --home /var/lib/bureau" in said, said)
+    check("the folder, for that user alone", "install -d -o bureau -g bureau -m 700 /var/lib/bureau" in said, said)
 
 
 made, again = folder(), folder()
@@ -98,6 +115,32 @@ check(
     and hidden(place, "grep -c '^## %s' CHANGELOG.md" % version) == (0, b"1\n"),
     version,
 )
+check("the licence is there", b"Apache-2.0 OR MIT" in read(place + "/LICENSE"))
+same("with its texts", [os.path.exists(place + "/LICENSE-" + name) for name in ("APACHE", "MIT")], [True, True])
+FILES = set(subprocess.run(["git", "ls-files"], cwd=TOP, capture_output=True, text=True).stdout.split())
+
+
+def is_there(files, path):
+    return path in files or any(name.startswith(path.rstrip("/") + "/") for name in files)
+
+
+def named_in_vain(root):
+    """Files of the repository that a page of the package names, and that the package has not."""
+    inside = {os.path.relpath(os.path.join(at, name), root) for at, _, names in os.walk(root) for name in names}
+    vain = []
+    for page in sorted(name for name in inside if name.endswith(".md")):
+        text = read(os.path.join(root, page)).decode()
+        for found in re.finditer(r"[A-Za-z0-9_.][A-Za-z0-9_.-]*(/[A-Za-z0-9_.-]+)+", text):
+            path = os.path.normpath(found[0].rstrip("."))
+            paths = {path, os.path.normpath(os.path.join(os.path.dirname(page), path))}
+            after = text[found.end() : found.end() + 25]
+            if any(is_there(FILES, one) and not is_there(inside, one) for one in paths) and "the repository" not in after:
+                vain.append((page, path))
+    return vain
+
+
+if FILES:
+    same("no page names what isn't there", named_in_vain(place), [])
 check("README says that no toolchain is needed", b"no toolchain" in read(place + "/README.md")[:1500])
 
 # the client of the package, against a desk of the program of the package
@@ -127,10 +170,43 @@ if debs:
         (0, b"ROWS 39\n"),
     )
     with open(root + "/usr/lib/bureau/examples/service/bureau.service") as unit:
-        named = re.findall(r"^(?:Documentation=file://|ExecStart=)(/[^ \n]*)", unit.read(), re.M)
+        named = re.findall(r"^(?:Documentation=.*file://|ExecStart=)(/[^ \n]*)", unit.read(), re.M)
     same("the unit names what is there", [path for path in named if not os.path.exists(root + path)], [])
     same("the unit names its page and the program", len(named), 2)
     same("with the client", hidden(root, "usr/bin/bureau-client help | head -n 1")[0], 0)
+    same(
+        "each command is found",
+        [
+            hidden(root, line)[0]
+            for line in (
+                "usr/bin/zone-csv zone TGT1 usr/lib/bureau/examples/lists/tgt1.smplist.txt",
+                "usr/bin/publication usr/lib/bureau/examples/lists/publication.txt",
+            )
+        ],
+        [0, 0],
+    )
+    commands = sorted(os.listdir(root + "/usr/bin"))
+    same("these are the commands", commands, ["bureau", "bureau-client", "publication", "zone-csv"])
+    same("each has its page", sorted(os.listdir(root + "/usr/share/man/man1")), sorted(name + ".1.gz" for name in commands))
+    if shutil.which("man"):
+        for name in commands:
+            page = subprocess.run(["man", "-l", root + "/usr/share/man/man1/%s.1.gz" % name], capture_output=True, text=True)
+            check("which reads", name in page.stdout and page.stderr == "", page.stderr)
+    control = subprocess.run(["dpkg-deb", "-f", os.path.join(made, debs[0]), "Depends"], capture_output=True, text=True).stdout
+    check("what it needs", re.search(r"libc6 \(>= 2\.\d+\)", control) and "python3" in control and "adduser" in control, control)
+    wanted = max(re.findall(rb"GLIBC_2\.(\d+)", read(PROGRAM)), key=int).decode()
+    check("of libc6 the version of the program", "2.%s)" % wanted in control, (wanted, control))
+    same("no page names what isn't there", named_in_vain(root + "/usr/lib/bureau") if FILES else [], [])
+    set_up(os.path.join(made, debs[0]))
+    unit = root + "/lib/systemd/system/bureau.service"
+    same("the unit is installed", read(unit), read(TOP + "/examples/service/bureau.service"))
+    if shutil.which("systemd-analyze"):
+        line = ["systemd-analyze", "security", "--offline=yes", "--threshold=30", unit]
+        run = subprocess.run(line, capture_output=True, text=True)
+        check("systemd calls it exposed by less than 3", run.returncode == 0, run.stdout[-300:] + run.stderr)
+    if shutil.which("lintian"):
+        run = subprocess.run(["lintian", "--allow-root", "--fail-on", "error", os.path.join(made, debs[0])], capture_output=True, text=True)
+        check("lintian knows no error", run.returncode == 0, run.stdout + run.stderr)
     same(
         "publication finds the program",
         hidden(

@@ -1,8 +1,7 @@
-'use strict';
 // What the desk answers, as plain values. Nothing here touches the page.
 
 // The columns of each report, counted from 1, as docs/API.md shows them.
-const REPORTS = {
+export const REPORTS = {
   zones: { first: 'ZONE     SYSMODS', heading: 0, columns: { ZONE: 1, SYSMODS: 10 } },
   errsysmods: {
     first: 'EXCEPTION SYSMOD REPORT FOR ZONE ', heading: 1,
@@ -15,51 +14,120 @@ const REPORTS = {
 };
 
 // An answer that is no report: a page of something between, half a report, or that of another zone.
-class NoReport extends Error {}
+export class NoReport extends Error {}
 
 // The rows of a report, each an object with a text for each column. An absent field is the empty text.
-function rowsOf(name, zone, text) {
+export function rowsOf(name, zone, text) {
   const { first, heading, columns } = REPORTS[name];
   const lines = text.split('\n');
   if (!text.endsWith('\n') || lines[0] !== first + zone) throw new NoReport();
   const last = lines[lines.length - 2];
   const rows = lines.slice(heading + 1, -2);
   if (last !== 'ROWS ' + rows.length) throw new NoReport();
-  const names = Object.keys(columns);
+  const fields = Object.keys(columns);
+  const ends = fields.map((_, at) => (at + 1 < fields.length ? columns[fields[at + 1]] - 1 : undefined));
   return rows.map((line) => {
     const row = {};
-    names.forEach((column, at) => {
-      const end = at + 1 < names.length ? columns[names[at + 1]] - 1 : undefined;
-      const field = line.slice(columns[column] - 1, end).trimEnd();
-      row[column] = field === '-' || field === '- NONE -' ? '' : field;
-    });
+    for (let at = 0; at < fields.length; at += 1) {
+      const field = line.slice(columns[fields[at]] - 1, ends[at]).trimEnd();
+      row[fields[at]] = field === '-' || field === '- NONE -' ? '' : field;
+    }
     return row;
   });
 }
 
-// A refusal, with the words that are shown for it.
-class Refusal extends Error {}
+// How many SYSMODs and holds are published.
+export function levelOf(text) {
+  const found = /^PUBLISHED SYSMODS (\d+) HOLDS (\d+)\n$/.exec(text);
+  if (!found) throw new NoReport();
+  return { sysmods: Number(found[1]), holds: Number(found[2]) };
+}
 
-// Asks the desk, which stands one folder above this page. SIGNAL ends that.
-async function ask(path, token, signal) {
-  const url = new URL('..' + path, document.baseURI);
-  const headers = { 'bureau-token': token };
-  let reply;
+const BEST_FIRST = ['GOOD', 'HELD', 'LACK', 'none'];
+
+// Received before not received, and that which can be installed before all.
+function rank(resolver) {
+  return BEST_FIRST.indexOf(resolver.status) * 2 + (resolver.isReceived ? 0 : 1);
+}
+
+// The holds of a report, each with all its resolvers, the best one first. A hold of a fix category comes
+// once, with all its categories.
+export function holdsOf(name, rows) {
+  const isError = name === 'errsysmods';
+  const holds = new Map();
+  for (const row of rows) {
+    const sysmod = isError ? row.SYSMOD : row.FMID;
+    const key = sysmod + ' ' + row.REASON;
+    let hold = holds.get(key);
+    if (!hold) {
+      hold = { sysmod, reason: row.REASON, fmid: row.FMID, class: row.CLASS ?? '', categories: [], resolvers: [] };
+      holds.set(key, hold);
+    }
+    if (row.CATEGORY && !hold.categories.includes(row.CATEGORY)) hold.categories.push(row.CATEGORY);
+    if (row.RESOLVER && !hold.resolvers.some((each) => each.id === row.RESOLVER)) {
+      hold.resolvers.push({ id: row.RESOLVER, status: row.STATUS, isReceived: row.RECEIVED === 'YES' });
+    }
+  }
+  return [...holds.values()].map(completed);
+}
+
+function completed(hold, order) {
+  hold.order = order;
+  hold.resolvers.sort((one, other) => rank(one) - rank(other));
+  hold.best = hold.resolvers[0] ?? { id: '', status: 'none', isReceived: false };
+  hold.status = hold.best.status;
+  hold.received = hold.best.isReceived ? 'received' : 'not received';
+  return hold;
+}
+
+// All words that a hold's lines show, in small letters, for a filter.
+export function textOf(hold) {
+  const shown = hold.resolvers.flatMap((each) => [each.id, each.status, each.isReceived ? 'received' : '']);
+  return [hold.class, hold.sysmod, hold.reason, hold.fmid, hold.status, ...hold.categories, ...shown]
+    .join(' ').toLowerCase();
+}
+
+const CLASS_RANK = { HIPER: 0, PE: 1 };
+const STATUS_RANK = { none: 0, LACK: 1, HELD: 2, GOOD: 3 };
+
+// What has to be looked at first: HIPER, then PE; of these what nothing resolves; else as the desk has it.
+export function byUrgency(one, other) {
+  return (CLASS_RANK[one.class] ?? 2) - (CLASS_RANK[other.class] ?? 2) ||
+    STATUS_RANK[one.status] - STATUS_RANK[other.status] || one.order - other.order;
+}
+
+// The counts of a zone that the overview shows.
+export function countsOf(errors, fixes) {
+  const of = (test) => errors.filter(test).length;
+  return {
+    holds: errors.length,
+    hiper: of((hold) => hold.class === 'HIPER'),
+    pe: of((hold) => hold.class === 'PE'),
+    other: of((hold) => hold.class !== 'HIPER' && hold.class !== 'PE'),
+    unresolved: of((hold) => hold.status === 'none'),
+    held: of((hold) => hold.status === 'HELD'),
+    good: of((hold) => hold.status === 'GOOD'),
+    received: of((hold) => hold.status === 'GOOD' && hold.best.isReceived),
+    fixes: fixes.length,
+    fixesGood: fixes.filter((hold) => hold.status === 'GOOD').length,
+  };
+}
+
+// The chain of a SYSMOD in a zone, from the desk's JSON, or a fault where that is none.
+export function chainOf(text, zone, sysmod) {
+  const chain = json(text);
+  const isGood = chain?.status === 'GOOD' && Array.isArray(chain.plan) &&
+    chain.plan.some((member) => member.id === chain.sysmod);
+  const isHeld = chain?.status === 'HELD' && typeof chain.blocked === 'string';
+  if (!isGood && !isHeld && chain?.status !== 'LACK') throw new NoReport();
+  if (chain.zone !== zone || chain.sysmod !== sysmod) throw new NoReport();
+  return chain;
+}
+
+export function json(text) {
   try {
-    reply = await fetch(url, { headers, signal, cache: 'no-store', credentials: 'omit' });
+    return JSON.parse(text);
   } catch (fault) {
-    throw new Refusal('No answer: the desk is away, or the network is. Try again later.');
+    throw new NoReport();
   }
-  const body = await reply.text().catch(() => '');
-  if (reply.status === 200) return body;
-  if (reply.status === 401) throw new Refusal('The desk does not know this token.');
-  // a front tells the publisher 421
-  if (reply.status === 403 || reply.status === 421) {
-    throw new Refusal('This is the publisher’s token, and the publisher has no zones.');
-  }
-  if (reply.status === 404) throw new Refusal('The desk has no such zone or SYSMOD of yours.');
-  if (reply.status >= 500) {
-    throw new Refusal('No answer: the desk is away or has no room now (' + reply.status + '). Try again later.');
-  }
-  throw new Refusal('The desk refuses (' + reply.status + '): ' + body.slice(0, 100));
 }

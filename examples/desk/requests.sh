@@ -1,12 +1,15 @@
 #!/bin/sh
 # The requests of the sample as lines for curl, in the order of 1-publisher.http, 2-north.http and
-# 3-south.http. Their bodies are the files of examples/site. Run it in the top folder of the
-# repository, with the desk's URL:
+# 3-south.http. Their bodies are the files of examples/site. Run it from any folder, with the desk's URL:
 #
 #   sh examples/desk/requests.sh http://127.0.0.1:8080
 #
 # A desk that has had these requests before answers the changes with the kept replies, or with STALE.
 desk=${1:?say the URL of the desk}
+
+# A body that is not found would be sent empty, and use up its number.
+cd "$(dirname "$0")/../.." || exit 1
+[ -f examples/site/publication.txt ] || { echo "requests.sh: examples/site is not beside it" >&2; exit 1; }
 
 # the publisher
 curl -sS --fail-with-body --data-binary @examples/site/publication.txt \

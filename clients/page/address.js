@@ -1,0 +1,22 @@
+// The address of what is shown: #ZONE/TAB/SYSMOD?FILTERS. It can be reloaded, kept and sent.
+
+export const TABS = ['errors', 'fixes', 'plan'];
+export const REPORT_OF = { errors: 'errsysmods', fixes: 'missingfix' };
+
+export function addressOf({ zone, tab, sysmod, words }) {
+  if (!zone) return '#';
+  const parts = [zone, tab ?? 'errors', ...(sysmod ? [sysmod] : [])].map(encodeURIComponent).join('/');
+  return '#' + parts + (words ? '?' + words : '');
+}
+
+export function whereIs(hash) {
+  const [path, words = ''] = hash.replace(/^#/, '').split(/\?(.*)/s);
+  let parts;
+  try {
+    parts = path.split('/').map(decodeURIComponent);
+  } catch (fault) {
+    parts = [''];
+  }
+  const [zone, tab, sysmod = ''] = parts;
+  return { zone, tab: TABS.includes(tab) ? tab : 'errors', sysmod: sysmod.toUpperCase(), words };
+}

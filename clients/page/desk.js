@@ -1,0 +1,174 @@
+// Questions to the desk, and what is kept of its answers. The desk stands one folder above this page.
+import { NoReport, chainOf, countsOf, holdsOf, levelOf, rowsOf } from './report.js';
+import { planOf } from './plan.js';
+import { timeOf } from './make.js';
+
+// A refusal, with the words that are shown for it.
+export class Refusal extends Error {
+  constructor(text, status) {
+    super(text);
+    this.status = status;
+  }
+}
+
+const AT_ONCE = 3; // a front lets one token ask four questions at a time
+const PAUSES = [500, 1000, 2000]; // milliseconds, before a question is asked again for which there was no room
+const KEPT = 12; // reports that are kept; of the others their counts alone
+
+function refusalOf(status, body) {
+  if (status === 401) return new Refusal('The desk does not know this token.', status);
+  // a front tells the publisher 421
+  if (status === 403 || status === 421) {
+    return new Refusal('This is the publisher’s token, and the publisher has no zones.', status);
+  }
+  if (status === 404) return new Refusal('The desk has no such zone or SYSMOD of yours.', status);
+  if (status >= 500) {
+    const text = 'No answer: the desk is away or has no room now (' + status + '). Try again later.';
+    return new Refusal(text, status);
+  }
+  return new Refusal('The desk refuses (' + status + '): ' + body.slice(0, 100), status);
+}
+
+// What one desk said to one caller since a moment: its zones, its level, its reports. All of it is asked for once.
+export class Snapshot {
+  constructor(token) {
+    this.token = token;
+    this.asked = new Date();
+    this.answers = new Map();
+    this.counts = new Map();
+    this.ending = new AbortController();
+    this.running = 0;
+    this.waiting = [];
+  }
+
+  // Nothing more is asked, and what is under way is dropped.
+  end() {
+    this.ending.abort();
+    this.waiting = [];
+  }
+
+  get isEnded() {
+    return this.ending.signal.aborted;
+  }
+
+  // One question, when it is its turn. What is URGENT comes before the others.
+  async ask(path, isUrgent = true) {
+    if (this.running >= AT_ONCE) {
+      await new Promise((turn) => (isUrgent ? this.waiting.unshift(turn) : this.waiting.push(turn)));
+    } else {
+      this.running += 1;
+    }
+    try {
+      return await this.patiently(path);
+    } finally {
+      const next = this.waiting.shift();
+      if (next) next();
+      else this.running -= 1;
+    }
+  }
+
+  // Where the same token asks in another tab too, a front has no room for some of its questions.
+  async patiently(path) {
+    for (const pause of PAUSES) {
+      try {
+        return await this.send(path);
+      } catch (fault) {
+        if (fault.status !== 503 || this.isEnded) throw fault;
+      }
+      await new Promise((over) => setTimeout(over, pause));
+    }
+    return this.send(path);
+  }
+
+  async send(path) {
+    const url = new URL('..' + path, document.baseURI);
+    const headers = { 'bureau-token': this.token };
+    const { signal } = this.ending;
+    let reply;
+    let body = '';
+    try {
+      reply = await fetch(url, { headers, signal, cache: 'no-store', credentials: 'omit' });
+      body = await reply.text();
+    } catch (fault) {
+      if (!reply || reply.status === 200) {
+        throw new Refusal('No answer: the desk is away, or the network is. Try again later.', 0);
+      }
+    }
+    if (reply.status !== 200) throw refusalOf(reply.status, body);
+    return body;
+  }
+
+  // The answer to a question, which is asked once. A refusal is not kept.
+  kept(key, work) {
+    let answer = this.answers.get(key);
+    if (!answer) {
+      answer = work();
+      answer.catch(() => this.answers.delete(key));
+    }
+    // what was used last goes last
+    this.answers.delete(key);
+    this.answers.set(key, answer);
+    for (const old of this.answers.keys()) {
+      if (this.answers.size <= KEPT) break;
+      this.answers.delete(old);
+    }
+    return answer;
+  }
+
+  // The zones, and how much is published.
+  async begin() {
+    const [zones, level] = await Promise.all([this.ask('/zones'), this.ask('/published')]);
+    this.zones = rowsOf('zones', '', zones).map((row) => ({ zone: row.ZONE, sysmods: Number(row.SYSMODS) }));
+    this.level = levelOf(level);
+  }
+
+  pathOf(zone, ...parts) {
+    return ['', 'zones', zone, ...parts].map(encodeURIComponent).join('/');
+  }
+
+  // A report: its rows, and the same as holds.
+  report(zone, name, isUrgent) {
+    return this.kept(name + ' ' + zone, async () => {
+      const rows = rowsOf(name, zone, await this.ask(this.pathOf(zone, name), isUrgent));
+      return { rows, holds: holdsOf(name, rows) };
+    });
+  }
+
+  // The counts of a zone. They stay, also where its reports are not kept.
+  async countsOf(zone, isUrgent) {
+    const both = ['errsysmods', 'missingfix'].map((name) => this.report(zone, name, isUrgent));
+    const [errors, fixes] = await Promise.all(both);
+    const counts = countsOf(errors.holds, fixes.holds);
+    this.counts.set(zone, counts);
+    return counts;
+  }
+
+  // The plan of a report, or null where this desk has no such call.
+  plan(zone, name) {
+    return this.kept('plan ' + name + ' ' + zone, async () => {
+      try {
+        return planOf(await this.ask(this.pathOf(zone, name, 'plan.json')), zone);
+      } catch (fault) {
+        if (fault instanceof Refusal && fault.status === 404) return null;
+        throw fault;
+      }
+    });
+  }
+
+  // How much is published, and when it was asked for.
+  get age() {
+    return 'published ' + this.level.sysmods + ' SYSMODs and ' + this.level.holds + ' holds, asked ' + timeOf(this.asked);
+  }
+
+  chain(zone, sysmod) {
+    return this.kept('chain ' + zone + ' ' + sysmod, async () =>
+      chainOf(await this.ask(this.pathOf(zone, 'chains', sysmod)), zone, sysmod));
+  }
+}
+
+// What is said of a fault of an answer. Another fault is one of this page, and goes on.
+export function wordsOf(fault) {
+  if (fault instanceof Refusal) return fault.message;
+  if (fault instanceof NoReport) return 'What came is no answer of a desk. Nothing of it is shown.';
+  throw fault;
+}

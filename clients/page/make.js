@@ -1,0 +1,53 @@
+// Elements, made by hand. All texts go in as texts, so nothing that is shown is ever taken for HTML.
+
+export function make(tag, className, ...children) {
+  const element = document.createElement(tag);
+  if (className) element.className = className;
+  element.append(...children);
+  return element;
+}
+
+// A button. LABEL is what a screen reader says, where the text alone does not tell.
+export function button(text, className, action, label) {
+  const made = make('button', className, text);
+  made.type = 'button';
+  if (label) made.setAttribute('aria-label', label);
+  made.addEventListener('click', action);
+  return made;
+}
+
+export function link(text, className, address, label) {
+  const made = make('a', className, text);
+  made.href = address;
+  if (label) made.setAttribute('aria-label', label);
+  return made;
+}
+
+export const at = (id) => document.getElementById(id);
+
+// 12345 as 12,345.
+export const counted = (number) => number.toLocaleString('en-US');
+
+// `1 hold`, `2 holds`.
+export const several = (number, word) => counted(number) + ' ' + word + (number === 1 ? '' : 's');
+
+// Year, month, day and time, as this machine has them.
+export const timeOf = (date) => date.toLocaleString('sv-SE');
+
+const STATUS_WORDS = {
+  GOOD: 'can be installed, together with its chain',
+  HELD: 'can’t be installed now: something that it needs is missing',
+  LACK: 'not published, or for a function that the zone lacks',
+  none: 'no published SYSMOD resolves the hold',
+};
+
+export function statusBadge(status) {
+  const shown = make('span', 'badge status-' + status.toLowerCase(), status);
+  shown.title = STATUS_WORDS[status] ?? '';
+  return shown;
+}
+
+export function classBadge(name) {
+  const known = name === 'HIPER' || name === 'PE';
+  return make('span', 'badge class-' + (known ? name.toLowerCase() : 'other'), name || '–');
+}

@@ -1,0 +1,114 @@
+// All zones at a glance: what is urgent comes first. A zone's counts fill in as its reports come.
+import { counted, link, make, several } from './make.js';
+import { addressOf } from './address.js';
+
+const BARS = [['hiper', 'HIPER'], ['pe', 'PE'], ['other', 'other']];
+
+function tile(title, className) {
+  const number = make('strong', 'tile-number', '–');
+  const words = make('span', 'soft', '');
+  return { element: make('div', 'tile ' + className, make('span', 'tile-title', title), number, words), number, words };
+}
+
+// A bar of the three kinds of holds, as long as its share of the largest zone.
+function barOf(counts, most) {
+  const parts = BARS.filter(([name]) => counts[name] > 0).map(([name, title]) => {
+    const part = make('span', 'part class-' + name);
+    part.style.flexGrow = String(counts[name]);
+    part.title = several(counts[name], title + ' hold');
+    return part;
+  });
+  const bar = make('span', 'zone-bar', ...parts);
+  bar.setAttribute('aria-hidden', 'true');
+  bar.style.width = Math.max(counts.holds > 0 ? 1.5 : 0, (100 * counts.holds) / Math.max(1, most)) + '%';
+  return bar;
+}
+
+function figure(zone, number, words, className, tab, filter) {
+  const text = [make('strong', '', counted(number)), ' ', make('span', 'figure-words', words)];
+  if (number === 0) return make('span', 'figure zero', ...text);
+  const made = link('', 'figure ' + className, addressOf({ zone, tab, words: filter }), several(number, words) + ' of ' + zone);
+  made.append(...text);
+  return made;
+}
+
+function figuresOf(zone, counts) {
+  return [
+    figure(zone, counts.hiper, 'HIPER', 'class-hiper', 'errors', 'class=HIPER'),
+    figure(zone, counts.pe, 'PE', 'class-pe', 'errors', 'class=PE'),
+    figure(zone, counts.other, 'other', 'class-other', 'errors', ''),
+    figure(zone, counts.unresolved, 'without resolver', 'status-none', 'errors', 'status=none'),
+    figure(zone, counts.held, 'held', 'status-held', 'errors', 'status=HELD'),
+    figure(zone, counts.good, 'can be resolved', 'status-good', 'errors', 'status=GOOD'),
+    figure(zone, counts.fixes, 'fixes missing', 'fixes', 'fixes', ''),
+  ];
+}
+
+// The most urgent zones first.
+function byUrgency(one, other) {
+  const [a, b] = [one.counts, other.counts];
+  if (!a || !b) return (a ? 0 : 1) - (b ? 0 : 1) || one.order - other.order;
+  return b.hiper - a.hiper || b.unresolved - a.unresolved || b.holds - a.holds || b.fixes - a.fixes || one.order - other.order;
+}
+
+export class Overview {
+  // FAULT(fault) gives the words for what did not come.
+  constructor(snapshot, faultOf) {
+    Object.assign(this, { snapshot, faultOf });
+    this.tiles = {
+      hiper: tile('HIPER holds', 'class-hiper'), unresolved: tile('Without a resolver', 'status-none'),
+      holds: tile('Held in error', 'plain'), fixes: tile('Fixes missing', 'plain'),
+    };
+    this.zones = snapshot.zones.map((each, order) => ({
+      ...each, order, counts: snapshot.counts.get(each.zone), fault: '', element: make('li', 'zone'),
+    }));
+    this.list = make('ul', 'zones');
+    this.element = make('div', 'overview', make('h1', 'off', 'Your zones'),
+      make('div', 'tiles', ...Object.values(this.tiles).map((each) => each.element)), this.list);
+    this.show();
+    this.done = this.fill();
+  }
+
+  // Asks for the reports of all zones, a few at a time. Zones that are not asked for any more are left.
+  async fill() {
+    await Promise.all(this.zones.map(async (each) => {
+      if (each.counts) return;
+      try {
+        each.counts = await this.snapshot.countsOf(each.zone, false);
+      } catch (fault) {
+        if (this.snapshot.isEnded) return;
+        each.fault = this.faultOf(fault);
+      }
+      this.soon();
+    }));
+  }
+
+  soon() {
+    this.isAsked ??= requestAnimationFrame(() => this.show());
+  }
+
+  show() {
+    this.isAsked = undefined;
+    const known = this.zones.filter((each) => each.counts);
+    const most = Math.max(0, ...known.map((each) => each.counts.holds));
+    for (const each of this.zones) each.element.replaceChildren(...this.lineOf(each, most));
+    const focused = document.activeElement;
+    this.list.replaceChildren(...[...this.zones].sort(byUrgency).map((each) => each.element));
+    if (focused?.isConnected) focused.focus();
+    const sum = (name) => known.reduce((all, each) => all + each.counts[name], 0);
+    const zonesWith = (name) => known.filter((each) => each.counts[name] > 0).length;
+    for (const [name, { number, words, element }] of Object.entries(this.tiles)) {
+      number.textContent = counted(sum(name));
+      words.textContent = 'in ' + zonesWith(name) + ' of ' + several(known.length, 'zone');
+      element.classList.toggle('zero', sum(name) === 0);
+    }
+  }
+
+  lineOf({ zone, sysmods, counts, fault }, most) {
+    const name = link(zone, 'zone-name id', addressOf({ zone, tab: 'errors' }));
+    const head = make('div', 'zone-head', name, make('span', 'soft', several(sysmods, 'SYSMOD')));
+    if (fault) return [head, make('p', 'fault', fault)];
+    if (!counts) return [head, make('p', 'soft', 'Asking ..')];
+    return [head, make('div', 'zone-bars', barOf(counts, most)), make('div', 'figures', ...figuresOf(zone, counts))];
+  }
+}

@@ -1,0 +1,104 @@
+// A zone's plan: what to install, in which order, why, and what to heed; and what is left over.
+import { counted, make, several } from './make.js';
+import { planRows } from './plan.js';
+import { jobOf } from './job.js';
+import { csvOf, saveButtons } from './save.js';
+import { Table } from './table.js';
+
+const NAMES = { errsysmods: 'exception SYSMODs', missingfix: 'missing fixes' };
+
+// `UJ1 (AJ1), UJ2 (AJ2) and 3 more`
+function holdsText(holds) {
+  const named = holds.slice(0, 2).map((hold) => hold.sysmod + ' (' + hold.reason + ')').join(', ');
+  return named + (holds.length > 2 ? ' and ' + (holds.length - 2) + ' more' : '');
+}
+
+function why(member) {
+  const parts = [];
+  if (member.holds.length > 0) parts.push('resolves ' + holdsText(member.holds));
+  if (member.needed_by.length > 0) {
+    const more = member.needed_by.length > 3 ? ' and ' + (member.needed_by.length - 3) + ' more' : '';
+    parts.push('needed by ' + member.needed_by.slice(0, 3).join(', ') + more);
+  }
+  return parts.join('; ');
+}
+
+function heed(member) {
+  const marks = [['SYSTEM', member.system], ['USER', member.user]]
+    .flatMap(([kind, list]) => list.map((reason) => make('span', 'heed', kind + ' ' + reason)));
+  return marks.length > 0 ? make('span', 'cut', ...marks) : '';
+}
+
+function cut(text) {
+  const made = make('span', 'cut', text);
+  made.title = text;
+  return made;
+}
+
+const COLUMNS = [
+  { name: 'step', title: 'Step', of: (group) => group.order, cell: (group) => String(group.step) },
+  { name: 'sysmod', title: 'SYSMOD', of: (group) => group.id, cell: (group) => make('span', 'id', group.id) },
+  {
+    name: 'received', title: 'Received', of: (group) => String(group.received),
+    cell: (group) => make('span', group.received ? 'yes' : 'soft', group.received ? 'received' : 'no'),
+  },
+  { name: 'fmid', title: 'FMID', of: (group) => group.fmids.join(' '), cell: (group) => cut(group.fmids.join(' ')) },
+  { name: 'heed', title: 'Holds to heed', of: (group) => [...group.system, ...group.user].join(' '), cell: heed },
+  { name: 'why', title: 'Why', of: why, cell: (group) => cut(why(group)) },
+];
+
+// The members as groups of a table: each has one line.
+function groupsOf(plan) {
+  return plan.members.map((member, order) => {
+    const group = { ...member, order, resolvers: [], reason: '' };
+    group.sysmod = member.id;
+    group.best = { id: member.id };
+    return group;
+  });
+}
+
+function leftOver(title, words, items) {
+  if (items.length === 0) return '';
+  const rows = items.slice(0, 500).map((item) => make('li', '', ...item));
+  if (items.length > 500) rows.push(make('li', 'soft', 'and ' + (items.length - 500) + ' more: CSV and JSON have all'));
+  return make('details', 'left', make('summary', '', make('strong', '', title + ': ' + items.length), ' ', make('span', 'soft', words)), make('ul', '', ...rows));
+}
+
+const id = (text) => make('span', 'id', text);
+const holdWords = (hold) => [id(hold.sysmod), ' held for ', id(hold.reason)];
+
+function heldWords(hold) {
+  const needs = hold.blocked.flatMap((need) => [' → ', id(need)]);
+  return [...holdWords(hold), ': ', id(hold.resolver), ' needs', ...needs];
+}
+
+function summary(plan) {
+  const received = plan.members.filter((member) => member.received).length;
+  const heeded = plan.members.filter((member) => member.system.length + member.user.length > 0).length;
+  if (plan.members.length === 0) return 'Nothing can be installed for this report.';
+  return several(plan.members.length, 'SYSMOD') + ' to install, ' + counted(received) + ' of them received, ' +
+    counted(heeded) + ' with holds to heed.';
+}
+
+// WAYS are {choose(sysmod, isEntered), say(text)}.
+export class PlanView {
+  constructor(name, zone, plan, snapshot, ways) {
+    const title = 'Plan for the ' + NAMES[name] + ' of zone ' + zone + ', ' + snapshot.age;
+    const file = zone + '-' + name + '-plan';
+    const forms = [
+      { title: 'SMP/E job', name: file + '.smpcntl.txt', kind: 'text/plain', text: () => jobOf(plan, title) },
+      { title: 'CSV', name: file + '.csv', kind: 'text/csv', text: () => csvOf(planRows(plan)) },
+      { title: 'JSON', name: file + '.json', kind: 'application/json', text: () => plan.json + '\n' },
+    ];
+    this.table = new Table({
+      caption: 'Plan for the ' + NAMES[name] + ' of ' + zone, columns: COLUMNS,
+      order: (one, other) => one.order - other.order,
+      choose: (group, member, isEntered) => ways.choose(group.id, isEntered),
+    });
+    this.table.show(groupsOf(plan));
+    this.element = make('div', 'report plan', make('div', 'bar', make('p', 'count', summary(plan)), saveButtons(forms, ways.say)),
+      leftOver('Held', 'all resolvers can’t be installed now, and why', plan.held.map(heldWords)),
+      leftOver('Without resolver', 'nothing that is published resolves these', plan.unresolved.map(holdWords)),
+      plan.members.length > 0 ? this.table.element : '');
+  }
+}

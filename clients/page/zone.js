@@ -1,0 +1,208 @@
+// One zone: its errors, its fixes and its plan as tabs, and the chain beside them.
+import { button, counted, link, make } from './make.js';
+import { REPORT_OF, addressOf } from './address.js';
+import { ChainPanel } from './chain.js';
+import { HoldsView } from './holds.js';
+import { PlanView } from './planview.js';
+
+const TITLES = { errors: 'Errors', fixes: 'Fixes', plan: 'Plan' };
+
+function emptyWords(tab, level) {
+  if (level.sysmods === 0 && level.holds === 0) return 'Nothing is published yet, so there is nothing to report.';
+  if (tab === 'errors') return 'Nothing is wrong: no installed SYSMOD of this zone is held in error.';
+  return 'No fix is missing, or no fix categories are set for this zone.';
+}
+
+export class ZoneView {
+  // WAYS are {say, faultOf, go(where), replace(where)}.
+  constructor(snapshot, zone, ways) {
+    Object.assign(this, { snapshot, zone, ways, views: {}, where: { zone, tab: 'errors' }, plan: 'errsysmods' });
+    this.tabs = Object.fromEntries(Object.keys(TITLES).map((tab) => [tab, this.tab(tab)]));
+    this.tabs.plan.hidden = true;
+    this.body = make('div', 'tab-body');
+    this.body.setAttribute('role', 'tabpanel');
+    this.chain = new ChainPanel(zone, {
+      chain: (sysmod) => snapshot.chain(zone, sysmod),
+      go: (sysmod) => ways.go({ ...this.where, sysmod }),
+      close: () => this.leaveChain(),
+      faultOf: ways.faultOf,
+      isReceived: (id) => this.isReceived(id),
+      title: () => snapshot.age,
+      say: ways.say,
+    });
+    const list = make('div', 'tabs', ...Object.values(this.tabs));
+    list.setAttribute('role', 'tablist');
+    list.setAttribute('aria-label', 'Reports of ' + zone);
+    list.addEventListener('keydown', (event) => this.key(event));
+    const head = make('div', 'zone-title', link('Zones', 'back', '#', 'All zones'), make('h1', this.snapshot.zones.length < 2 ? 'id' : 'off', zone), this.chooser(), list);
+    this.element = make('div', 'zone-view', head, make('div', 'split', this.body, this.chain.element));
+  }
+
+  // Another zone, without the way over all of them.
+  chooser() {
+    const select = make('select', 'other-zone', ...this.snapshot.zones.map(({ zone }) => make('option', '', zone)));
+    select.setAttribute('aria-label', 'Go to another zone');
+    select.value = this.zone;
+    select.hidden = this.snapshot.zones.length < 2;
+    select.addEventListener('change', () => this.ways.go({ zone: select.value, tab: this.where.tab }));
+    return select;
+  }
+
+  tab(tab) {
+    const made = link(TITLES[tab], 'tab', addressOf({ zone: this.zone, tab }));
+    made.setAttribute('role', 'tab');
+    made.id = 'tab-' + tab;
+    made.append(make('span', 'tab-count', ''));
+    return made;
+  }
+
+  // Left and right go from tab to tab.
+  key(event) {
+    const step = { ArrowLeft: -1, ArrowRight: 1 }[event.key];
+    if (!step) return;
+    const shown = Object.values(this.tabs).filter((tab) => !tab.hidden);
+    const next = shown[(shown.indexOf(document.activeElement) + step + shown.length) % shown.length];
+    next.focus();
+    next.click();
+    event.preventDefault();
+  }
+
+  async count() {
+    const mark = (tab, text) => (this.tabs[tab].querySelector('.tab-count').textContent = text);
+    for (const [tab, name] of Object.entries(REPORT_OF)) {
+      this.snapshot.report(this.zone, name).then(({ holds }) => mark(tab, counted(holds.length)), () => mark(tab, '?'));
+    }
+    try {
+      const plan = await this.snapshot.plan(this.zone, 'errsysmods');
+      this.tabs.plan.hidden = plan === null;
+      if (plan) mark('plan', counted(plan.members.length));
+    } catch (fault) {
+      this.tabs.plan.hidden = false;
+    }
+  }
+
+  async show(where) {
+    const before = this.where;
+    this.where = where;
+    for (const [tab, element] of Object.entries(this.tabs)) {
+      element.setAttribute('aria-selected', String(tab === where.tab));
+      element.tabIndex = tab === where.tab ? 0 : -1;
+    }
+    this.body.setAttribute('aria-labelledby', 'tab-' + where.tab);
+    const isNew = !this.view || before.tab !== where.tab || before.words !== where.words;
+    if (isNew) await (where.tab === 'plan' ? this.showPlan() : this.showReport(where));
+    // what was asked for is there first, and the counts of the other tabs follow
+    this.counting ??= this.count();
+    if (this.where !== where) return;
+    this.showChain(where);
+  }
+
+  // Shows what WORK makes, where nothing else was asked for meanwhile.
+  async fill(work) {
+    const mine = this.where;
+    this.view = null;
+    this.body.replaceChildren(make('p', 'soft wait', 'Asking ..'));
+    this.body.setAttribute('aria-busy', 'true');
+    try {
+      const parts = await work();
+      if (mine === this.where) this.body.replaceChildren(...parts);
+    } catch (fault) {
+      if (mine !== this.where || this.snapshot.isEnded) return;
+      const words = this.ways.faultOf(fault);
+      this.body.replaceChildren(make('p', 'fault', words));
+      this.ways.say(words, true);
+    } finally {
+      if (mine === this.where) this.body.removeAttribute('aria-busy');
+    }
+  }
+
+  showReport(where) {
+    return this.fill(async () => {
+      const name = REPORT_OF[where.tab];
+      const report = await this.snapshot.report(this.zone, name);
+      if (report.holds.length === 0) {
+        this.view = {};
+        return [make('p', 'nothing', emptyWords(where.tab, this.snapshot.level))];
+      }
+      this.view = new HoldsView(name, this.zone, report, where.words, {
+        choose: (hold, member, isEntered) => {
+          this.hold = hold;
+          this.isEntered = isEntered;
+          this.ways.go({ ...this.where, sysmod: member.id || '-' });
+        },
+        changed: (words) => {
+          this.where = { ...this.where, words };
+          this.ways.replace(this.where);
+        },
+        say: this.ways.say,
+      });
+      return [this.view.element];
+    });
+  }
+
+  showPlan() {
+    return this.fill(async () => {
+      const plan = await this.snapshot.plan(this.zone, this.plan);
+      if (plan === null) {
+        this.view = {};
+        return [make('p', 'nothing', 'This desk has no plans.')];
+      }
+      const choice = (name, title) => {
+        const made = button(title, 'chip', () => {
+          this.plan = name;
+          this.showPlan();
+        });
+        made.setAttribute('aria-pressed', String(this.plan === name));
+        return made;
+      };
+      this.view = new PlanView(this.plan, this.zone, plan, this.snapshot, {
+        choose: (sysmod, isEntered) => {
+          this.isEntered = isEntered;
+          this.ways.go({ ...this.where, sysmod });
+        },
+        say: this.ways.say,
+      });
+      const chips = make('div', 'chips plan-of', choice('errsysmods', 'For the errors'), choice('missingfix', 'For the fixes'));
+      chips.setAttribute('role', 'group');
+      chips.setAttribute('aria-label', 'Plan for');
+      return [chips, this.view.element];
+    });
+  }
+
+  showChain({ sysmod, tab }) {
+    const hold = sysmod && tab !== 'plan' ? this.holdOf(sysmod) : undefined;
+    if (tab !== 'plan') this.view?.table?.reveal(hold, hold?.resolvers.find((each) => each.id === sysmod) ?? hold?.best);
+    if (!sysmod) {
+      this.chain.empty();
+      return;
+    }
+    this.chain.show(sysmod === '-' ? '' : sysmod, hold);
+    // by the keyboard the chain is the next thing to read; Escape leads back
+    if (this.isEntered) this.chain.element.focus();
+    this.isEntered = false;
+  }
+
+  // The hold of the row that was chosen, or the first that this SYSMOD resolves.
+  holdOf(sysmod) {
+    const resolves = (hold) => (sysmod === '-' ? hold.resolvers.length === 0 : hold.resolvers.some((each) => each.id === sysmod));
+    if (this.hold && resolves(this.hold)) return this.hold;
+    return sysmod === '-' ? undefined : this.view?.report?.holds.find(resolves);
+  }
+
+  // Whether the report that is shown says that a SYSMOD was received.
+  isReceived(id) {
+    const holds = this.view?.report?.holds ?? [];
+    return holds.some((hold) => hold.resolvers.some((each) => each.id === id && each.isReceived));
+  }
+
+  leaveChain() {
+    this.hold = undefined;
+    this.view?.table?.reveal();
+    this.view?.table?.focus();
+    this.ways.go({ ...this.where, sysmod: '' });
+  }
+
+  whole(isWhole) {
+    this.view?.table?.whole(isWhole);
+  }
+}
