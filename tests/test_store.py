@@ -136,6 +136,7 @@ same("init refuses a database of somebody else", run("init", "others", callers),
 
 before = there()
 same("a store that is not there", run("serve", "missing"), refused(44, 1))
+same("serve on a folder that is not there", run("serve", "nowhere/store"), refused(42, 3))
 same("is not made", there(), before)
 same("a database of somebody else", run("serve", "others"), refused(44, 1))
 text = write(room + "/text", b"This file is no database, and has more than a hundred bytes. " * 20)

@@ -1,11 +1,14 @@
 //! What the system gives a run: words, files, ports, random keys and clocks.
-use bureau_program::{LineFault, StoreFile, Surroundings};
+ghost use Rattle.std.specs.Prelude.{◌≡◌, ◌⊎◌};
+
+use bureau_program::{Ended, LineFault, Surroundings};
 use bureau_store::StoreFault;
-use sqlite::{Connection, Error, ErrorCode};
+use sqlite::{Connection, Error, ErrorCode, FileFrom, FileStore, Start};
 use std::alloc::Global;
 use std::fs::File;
 use std::hash::RandomState;
 use std::net::{Ipv4Addr, TcpListener};
+use std::path::Path;
 use std::time::{Clock, Duration};
 use std::{env, io};
 
@@ -45,6 +48,8 @@ impl Surroundings for System<'_> {
 
     ghost known_file = { λ _ _. Unknown };
 
+    ghost known_store = { λ _ _ _. Unit {0} };
+
     fn words(&self, alloc: Global) -> Result<Vec<String>, LineFault> {
         match env::args(self.rt) {
             Ok(words) => Ok(words.skip(1).collect(alloc)?),
@@ -60,19 +65,19 @@ impl Surroundings for System<'_> {
         File::open(self.rt, name)
     }
 
-    fn connect(&self, name: &str, makes: bool) -> Result<Connection<StoreFile>, StoreFault> {
-        if !makes {
-            match File::open(self.rt, name) {
-                Err(error) if error.kind() == io::ErrorKind::NotFound => {
-                    return Err(StoreFault::Shape);
-                }
-                _ => {}
-            }
+    fn connect<D: Start>(
+        &self,
+        name: &str,
+        makes: bool,
+        start: D,
+    ) -> Result<Connection<FileStore<FileFrom<D>>>, (StoreFault, Ended<FileFrom<D>>)> {
+        if !makes && is_missing(self.rt, name) {
+            return Err((StoreFault::Shape, Ended::Nothing));
         }
-        match Connection::open(self.rt, name) {
+        match Connection::open_from(self.rt, name, false, start) {
             Ok(conn) => Ok(conn),
-            Err(Error::SqliteFailure(ErrorCode::OutOfMemory)) => Err(StoreFault::Memory),
-            Err(_) => Err(StoreFault::Device),
+            Err((error, Some(left))) => Err((fault_of(error), Ended::Left(left))),
+            Err((error, None)) => Err((fault_of(error), Ended::Nothing)),
         }
     }
 
@@ -82,5 +87,28 @@ impl Surroundings for System<'_> {
 
     fn random_keys(&self) -> io::Result<RandomState> {
         RandomState::new(self.rt)
+    }
+}
+
+// Whether there is no file of this name, in a folder that is there.
+fn is_missing(rt: &HostRuntime, name: &str) -> bool {
+    match File::open(rt, name) {
+        Err(error) if error.kind() == io::ErrorKind::NotFound => {
+            match Path::new(name).parent() {
+                Some(folder) if !folder.as_str().is_empty() => folder.is_dir(rt),
+                _ => true,
+            }
+        }
+        _ => false,
+    }
+}
+
+// Why the files of a store can't be opened.
+fn fault_of(error: Error) -> StoreFault
+    ensures { (result ≡ StoreFault.Memory) ⊎ (result ≡ StoreFault.Device) }
+{
+    match error {
+        Error::SqliteFailure(ErrorCode::OutOfMemory) => StoreFault::Memory,
+        _ => StoreFault::Device,
     }
 }

@@ -1,22 +1,32 @@
--- What `init` leaves of a database, and what `serve` and an opening tell.
-use Rattle.std.proofs.Common.{◌≡◌, ◌∙◌, ℕ, List, Option, None, Some, Ok, Err, Result, IfErr, ap, arith, inl, inr, refl, subst, sym}
-use Rattle.std.specs.Io.KnownBytes.{Appends}
-use Rattle.std.proofs.KnownBytes.{Keeps-refl}
+-- What `init` leaves of a database, and what it and an opening tell.
+use Rattle.std.proofs.Common.{◌≡◌, ◌∙◌, ℕ, List, Option, None, Some, Ok, Err, Result, IfErr, IsTrue, ap, arith, inl, inr, refl, subst, sym, true}
+use Rattle.std.specs.Io.KnownBytes.{Keeps}
 use Rattle.faults.specs.declared.any.AnyFault.{AnyFault}
 use Rattle.bureau_sql.specs.Founded.{AreFounded, IsNotMade}
+use Rattle.bureau_sql.specs.SqlState.{SqlState}
+use Rattle.bureau_sql.specs.SqlView.{IsAtRest, IsOurStore, shown, sql_view}
+use Rattle.sqlite_disk.specs.declared.Disk as disk
+use Rattle.sqlite_store.specs.declared.store.FileStore.{FileStore}
+use Rattle.sqlite_trees.specs.declared.store.Store.{Ghosts}
+use Rattle.sqlite_wal.specs.Recovery.{Image}
+use Rattle.sqlite.specs.Files.{file_state}
+use Rattle.sqlite.specs.Held.{Held, state}
 use Rattle.sqlite.specs.State.{HasCleanDisk, KeepsCommit, State, Survives}
-use Rattle.sql_writes.specs.Making.{IsOpened}
-use Rattle.transfer.specs.Transfer.{AppendsFront}
+use Rattle.sql_writes.specs.Making.{IsEmpty, IsOpened}
 use Rattle.bureau_store.specs.Callers.{callers_of}
+use Rattle.bureau_store.specs.Tables as tables
 use Rattle.bureau_store.specs.declared.caller.CallerRow.{CallerRow}
 use Rattle.bureau_store.specs.declared.fault.StoreFault.{StoreFault}
-use Rattle.bureau_store.specs.declared.fault.StoreFault.TheVariants.{Device}
-use Rattle.bureau_program.specs.Desk.{InitSurvives, IsInitLeft, IsInitRefused, IsInitRun, IsOpenRefused, IsServeOutput, IsServeRun, listening_text, of_store}
+use Rattle.bureau_program.specs.Desk.{InitSurvives, IsInitLeft, IsInitRefused, IsInitRun, IsNewStore, IsOpenRefused, of_store}
+use Rattle.bureau_program.specs.Ended.{HasFound, IsEndOf, IsNothing, IsRefused}
 use Rattle.bureau_program.specs.Holds.{IsTold, fault_in, run_status}
-use Rattle.bureau_program.specs.Program.{IsInit, Outputs}
+use Rattle.bureau_program.specs.Program.{Found, IsInit, IsNotBegun, IsToldAlone, Outputs}
 use Rattle.bureau_program.specs.ProgramFault.{of_program}
-use Rattle.bureau_program.specs.Surroundings.{KnownFile}
-use Rattle.bureau_program.specs.declared.fault.ProgramFault.TheVariants.{NotWritten, Memory}
+use Rattle.bureau_program.specs.Surroundings.{IsContent}
+use Rattle.bureau_program.specs.declared.ended.Ended.{Ended}
+use Rattle.bureau_program.specs.declared.fault.ProgramFault.TheVariants.{NotWritten}
+use Rattle.bureau_program.proofs.KeepingFacts.{kept_unopened}
+use Rattle.bureau_program.proofs.KeptFacts.{kept_made}
 
 -- ---- what is left of a database
 
@@ -25,10 +35,10 @@ nothing_committed at = record { was_open = λ h. h; committed = λ h. refl }
 
 -- the tables are made, whether or not the line could be written
 pub tables_left : {T : Type 0} (outcome : Result T AnyFault) (source : List ℕ) (rows slice : List CallerRow) (before after : State) → callers_of source ≡ Ok rows
-    → slice ≡ rows → (HasCleanDisk after → IsOpened slice after.committed) → IfErr outcome (λ fault. fault ≡ of_program NotWritten)
+    → slice ≡ rows → (HasCleanDisk after → IsNewStore slice after) → IfErr outcome (λ fault. fault ≡ of_program NotWritten)
     → IsInitLeft (fault_in outcome) source before after
-tables_left (Ok done) source rows slice before after read same made fault = λ clean. (rows, read, subst (λ (these : List CallerRow). IsOpened these after.committed) same (made clean))
-tables_left (Err why) source rows slice before after read same made fault = inl (fault, λ clean. (rows, read, subst (λ (these : List CallerRow). IsOpened these after.committed) same (made clean)))
+tables_left (Ok done) source rows slice before after read same made fault = λ clean. (rows, read, subst (λ (these : List CallerRow). IsNewStore these after) same (made clean))
+tables_left (Err why) source rows slice before after read same made fault = inl (fault, λ clean. (rows, read, subst (λ (these : List CallerRow). IsNewStore these after) same (made clean)))
 
 pub none_left : (fault : AnyFault) (source : List ℕ) (before after : State) → IsInitRefused source before fault → (HasCleanDisk after → KeepsCommit before after)
     → IsInitLeft (Some fault) source before after
@@ -40,7 +50,7 @@ none_made source before refused fault is why = inr (refused, is, why)
 
 -- what a stop may leave where nothing was asked of the database
 pub stays_alive : (source : List ℕ) (at : State) → InitSurvives source at at
-stays_alive source at rows read = record {
+stays_alive source at = record {
   clean = omega arith;
   shield = λ h. h;
   counts = omega arith;
@@ -52,14 +62,32 @@ stays_alive source at rows read = record {
 -- and where the tables were made, or were to be
 pub founded : (source : List ℕ) (rows slice : List CallerRow) (before after : State) → callers_of source ≡ Ok rows → slice ≡ rows
     → Survives before after (AreFounded before slice) → InitSurvives source before after
-founded source rows slice before after read same survives others also =
-    let is : rows ≡ others = let both : Ok rows ≡ Ok others = sym read ∙ also in cc in
-    subst (λ (these : List CallerRow). Survives before after (AreFounded before these)) (same ∙ is) survives
+founded source rows slice before after read same survives = record {
+  clean = survives.clean;
+  shield = survives.shield;
+  counts = survives.counts;
+  limit = survives.limit;
+  closes = survives.closes;
+  crash = λ clean trees left. elim (survives.crash clean trees left) [
+    | inl was ↦ inl was
+    | inr now ↦ inr (slice, read ∙ ap Ok (sym same), now)
+  ];
+}
 
-pub database_unknown : (Leaves : Option AnyFault → Type 0) (source : List ℕ) (old new old_errors new_errors : Option (List ℕ)) (status : ℕ)
-    → IsInitRun Leaves source old new old_errors new_errors status → IsInitRun (λ outcome. Unit {0}) source old new old_errors new_errors status
-database_unknown Leaves source old new old_errors new_errors status run =
-    record { outcome = run.outcome; left = tt; output = run.output; told = run.told; status_is = run.status_is }
+-- the store that was made, by its connection
+pub new_store : {S : Type 0} (g : Ghosts S) (store : SqlState S) (conn : Held S) (rows : List CallerRow) (before : State) → conn ≡ store.conn → store.failures ≡ 0
+    → (HasCleanDisk (shown g store) → IsTrue (shown g store).is_open × IsEmpty before.committed × IsOpened rows (shown g store).committed)
+    → (HasCleanDisk (shown g store) → IsOurStore g store) → (HasCleanDisk (shown g store) → (sql_view g).stands store (tables.opened rows)) → IsAtRest (shown g store)
+    → HasCleanDisk (state g conn) → IsNewStore rows (state g conn)
+new_store g store conn rows before same standing made ours tables rests clean =
+    let here = subst (λ (conn : Held _). HasCleanDisk (state g conn)) same clean in
+    subst (λ (conn : Held _). IsNewStore rows (state g conn)) (sym same) (record {
+      is_open = (made here).0;
+      opened = (made here).2;
+      ours = ((ours here).1 standing).1;
+      tables = tables here standing;
+      rests = rests;
+    })
 
 -- ---- what is told
 
@@ -68,31 +96,46 @@ pub open_refused : (Has : StoreFault → Type 0) (fault : StoreFault) (any : Any
 open_refused Has fault any old new status has is told status_is =
     (fault, has, subst (λ (it : AnyFault). IsTold (Some it) old new) is told, status_is ∙ ap (λ it. run_status (Some it)) is)
 
-module _ (port : ℕ) (line slice : List ℕ) (old new : Option (List ℕ)) (is : line ≡ listening_text port) (same : slice ≡ line) where
-  pub served : Appends old new slice → IsServeOutput None port old new
-  served all = subst (Appends old new) (same ∙ is) all
+-- ---- over files
 
-  pub device_told : (fault : AnyFault) → fault ≡ of_store Device → Appends old new slice → IsServeOutput (Some fault) port old new
-  device_told fault told all = inl (told, subst (Appends old new) (same ∙ is) all)
+module _ (of : Found) (from : Image) {D : Type 0} {g : disk.Ghosts D} (ended : Ended D g) where
+  -- a connection was made, a store was made in its database or not, and it was ended
+  pub made_over_files : (name callers source : List ℕ) (outputs : Outputs) (status : ℕ) (found left : Held (FileStore D g)) → of.stores name from → IsContent (of.files callers) source
+      → HasFound from found → IsEndOf left ended → IsAtRest (file_state found) → InitSurvives source (file_state found) (file_state left)
+      → IsInitRun (λ outcome. IsInitLeft outcome source (file_state found) (file_state left)) source outputs.output outputs.written outputs.errors outputs.told status
+      → IsInit of from name callers outputs status ended
+  made_over_files name callers source outputs status found left named is finds ends rested stopped run = inl (record {
+    named = named;
+    source = source;
+    callers_are = is;
+    made = record {
+      outcome = run.outcome;
+      left = record { found = found; finds = finds; left = left; used = (rested, run.left, stopped); ends = ends };
+      output = run.output;
+      told = run.told;
+      status_is = run.status_is;
+    };
+    kept = kept_made from source run.outcome ended (record { found = found; finds = finds; left = left; used = (rested, run.left, stopped); ends = ends });
+  })
 
-  pub cut_short : (fault : AnyFault) → fault ≡ of_program NotWritten → AppendsFront old new slice → IsServeOutput (Some fault) port old new
-  cut_short fault told front = inr (inl (told, subst (AppendsFront old new) (same ∙ is) front))
+  -- no connection could be made
+  pub not_connected : (name callers : List ℕ) (outputs : Outputs) (status : ℕ) (fault : StoreFault) (any : AnyFault) → of.stores name from → IsRefused true from fault ended → any ≡ of_store fault
+      → Keeps outputs.output outputs.written → IsTold (Some any) outputs.errors outputs.told → status ≡ run_status (Some any) → IsInit of from name callers outputs status ended
+  not_connected name callers outputs status fault any named refused is keeps told status_is = inr (inl (record {
+    named = named;
+    fault = fault;
+    refused = refused;
+    kept = kept_unopened from ended refused.left;
+    told = subst (λ (any : AnyFault). IsToldAlone any outputs status) is (keeps, told, status_is);
+  }))
 
--- a store that is refused is not served
-pub not_served : (Has : StoreFault → Type 0) (port : ℕ) (output old new : Option (List ℕ)) (status : ℕ) → IsOpenRefused Has old new status
-    → IsServeRun port output output old new status
-not_served Has port output old new status refused =
-    record { outcome = Some (of_store refused.0); output = inr (inr (inl (refused.0, refl), Keeps-refl output)); told = refused.2; status_is = refused.3 }
+  -- what is wrong was found before
+  pub not_begun : (name callers : List ℕ) (outputs : Outputs) (status : ℕ) (fault : AnyFault) → IsNotBegun (of.files callers) fault → Keeps outputs.output outputs.written
+      → IsTold (Some fault) outputs.errors outputs.told → status ≡ run_status (Some fault) → IsNothing ended → IsInit of from name callers outputs status ended
+  not_begun name callers outputs status fault why keeps told status_is nothing = inr (inr (fault, why, (keeps, told, status_is), nothing))
 
-pub not_connected : (port : ℕ) (output : Option (List ℕ)) (fault : StoreFault) (any : AnyFault) (old new : Option (List ℕ)) (status : ℕ) → any ≡ of_store fault
-    → IsTold (Some any) old new → status ≡ run_status (Some any) → IsServeRun port output output old new status
-not_connected port output fault any old new status is told status_is = not_served (λ refused. Unit {0}) port output old new status (open_refused (λ refused. Unit {0}) fault any old new status tt is told status_is)
-
--- without a cache nothing is served
-pub no_cache : (port : ℕ) (output : Option (List ℕ)) (fault : AnyFault) → fault ≡ of_program Memory → IsServeOutput (Some fault) port output output
-no_cache port output fault is = inr (inr (inr (inr is), Keeps-refl output))
-
--- `init` of a callers file by the same name
-pub same_init : (files : List ℕ → KnownFile) (name slice : List ℕ) (outputs : Outputs) (status : ℕ) → slice ≡ name → IsInit files slice outputs status
-    → IsInit files name outputs status
-same_init files name slice outputs status same init = subst (λ (it : List ℕ). IsInit files it outputs status) same init
+  -- the same of names that are the same
+  pub same_init : (name name_slice callers callers_slice : List ℕ) (outputs : Outputs) (status : ℕ) → name_slice ≡ name → callers_slice ≡ callers
+      → IsInit of from name_slice callers_slice outputs status ended → IsInit of from name callers outputs status ended
+  same_init name name_slice callers callers_slice outputs status same same_callers init =
+      subst (λ (it : List ℕ). IsInit of from it callers outputs status ended) same (subst (λ (it : List ℕ). IsInit of from name_slice it outputs status ended) same_callers init)

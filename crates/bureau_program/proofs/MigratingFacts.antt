@@ -1,22 +1,29 @@
 -- What `migrate` leaves of a database, and what it tells.
-use Rattle.std.proofs.Common.{◌≡◌, ◌≢◌, ◌∙◌, ℕ, List, Option, Some, Ok, Err, Result, IfErr, ap, inl, inr, refl, subst, sym}
+use Rattle.std.proofs.Common.{◌≡◌, ◌≢◌, ◌∙◌, ℕ, List, Option, Some, Ok, Err, Result, IfErr, ap, false, inl, inr, refl, subst, sym}
 use Rattle.std.proofs.KnownBytes.{Keeps-refl}
 use Rattle.faults.specs.declared.any.AnyFault.{AnyFault}
-use Rattle.sqlite.specs.State.{HasCleanDisk, KeepsCommit, State}
+use Rattle.sqlite_disk.specs.declared.Disk as disk
+use Rattle.sqlite_store.specs.declared.store.FileStore.{FileStore}
+use Rattle.sqlite_wal.specs.Recovery.{Image}
+use Rattle.sqlite.specs.Files.{file_state}
+use Rattle.sqlite.specs.Held.{Held}
+use Rattle.sqlite.specs.State.{HasCleanDisk, KeepsCommit, State, Survives}
 use Rattle.sqlite_trees.specs.declared.store.Store.{Ghosts}
 use Rattle.sql_state.specs.Earlier.{IsOfVersion1, held_by_version_1}
 use Rattle.sql_tables.specs.Stored.{tables_of}
 use Rattle.bureau_store.specs.declared.fault.StoreFault.TheVariants.{Device}
-use Rattle.bureau_sql.specs.Migrated.{IsUntouched}
+use Rattle.bureau_sql.specs.Migrated.{AreMigrated, IsUntouched}
 use Rattle.bureau_sql.specs.Opening.{CanMakeConditions, HasTables, IsNotEarlier}
 use Rattle.sql_reads.specs.Version.{HasVersion}
 use Rattle.bureau_sql.specs.SqlState.{SqlState}
-use Rattle.bureau_sql.specs.SqlView.{IsOurStore, shown, sql_view}
+use Rattle.bureau_sql.specs.SqlView.{IsAtRest, IsOurStore, shown, sql_view}
 use Rattle.bureau_store.specs.declared.fault.StoreFault.{StoreFault}
 use Rattle.bureau_program.specs.Desk.{of_store}
+use Rattle.bureau_program.specs.Ended.{HasFound, IsEndOf, IsRefused}
 use Rattle.bureau_program.specs.Holds.{IsTold, fault_in, run_status}
-use Rattle.bureau_program.specs.Migrating.{HasMigrated, IsMigrateLeft, IsMigrateRun}
+use Rattle.bureau_program.specs.Migrating.{HasMigrated, IsMigrateLeft, IsMigrateRun, LeavesMigrated}
 use Rattle.bureau_program.specs.ProgramFault.{of_program}
+use Rattle.bureau_program.specs.declared.ended.Ended.{Ended}
 use Rattle.bureau_program.specs.declared.fault.ProgramFault.TheVariants.{NotWritten}
 
 -- the store that was opened has the tables of the database that was there
@@ -25,9 +32,19 @@ pub has_migrated : {S : Type 0} (g : Ghosts S) (before : State) (store : SqlStat
     → (HasCleanDisk (shown g store) → HasTables before.committed.schema × CanMakeConditions before.committed.schema)
     → (HasCleanDisk (shown g store) → IsOfVersion1 before.committed → IsOurStore g store)
     → (HasCleanDisk (shown g store) → IsOfVersion1 before.committed → (sql_view g).stands store (tables_of (held_by_version_1 before.committed)))
-    → HasMigrated before (shown g store)
-has_migrated g before store open_still version found ours tables =
-    λ clean. (version clean, (found clean).0, (found clean).1, λ earlier. (((ours clean earlier).1 open_still).1, tables clean earlier open_still))
+    → IsAtRest (shown g store) → HasMigrated before (shown g store)
+has_migrated g before store open_still version found ours tables rests =
+    λ clean. (
+      version clean,
+      (found clean).0,
+      (found clean).1,
+      λ earlier. record {
+        is_open = ((ours clean earlier).1 open_still).0;
+        ours = ((ours clean earlier).1 open_still).1;
+        tables = tables clean earlier open_still;
+        rests = rests;
+      },
+    )
 
 -- it is migrated, whether or not the line could be written
 pub migrated : {T : Type 0} (outcome : Result T AnyFault) (before after : State) → HasMigrated before after
@@ -36,23 +53,31 @@ migrated (Ok done) before after has told = has
 migrated (Err why) before after has told = inl (told, has)
 
 pub not_migrated : (refused : StoreFault) (fault : AnyFault) (before after : State) → fault ≡ of_store refused
-    → (HasCleanDisk after → IsNotEarlier before refused) → (HasCleanDisk after → KeepsCommit before after)
+    → (HasCleanDisk after → IsNotEarlier before after refused) → (HasCleanDisk after → KeepsCommit before after)
     → (refused ≢ Device → IsUntouched before after) → IsMigrateLeft (Some fault) before after
 not_migrated refused fault before after is why kept untouched = inr (refused, is, why, kept, untouched)
 
--- a file that can't be opened is left alone
-pub not_connected : (output : Option (List ℕ)) (fault : StoreFault) (any : AnyFault) (old new : Option (List ℕ)) (status : ℕ) → any ≡ of_store fault
-    → IsTold (Some any) old new → status ≡ run_status (Some any) → IsMigrateRun (λ outcome. Unit {0}) output output old new status
-not_connected output fault any old new status is told status_is = record {
+-- no connection to the files could be made
+pub not_connected : {D : Type 0} {g : disk.Ghosts D} (from : Image) (ended : Ended D g) (output : Option (List ℕ)) (fault : StoreFault) (any : AnyFault) (old new : Option (List ℕ)) (status : ℕ)
+    → IsRefused false from fault ended → any ≡ of_store fault → IsTold (Some any) old new → status ≡ run_status (Some any)
+    → IsMigrateRun (λ outcome. LeavesMigrated from outcome ended) output output old new status
+not_connected from ended output fault any old new status refused is told status_is = record {
   outcome = Some any;
-  left = tt;
+  left = inl (fault, ap Some is, refused);
   output = inr (fault, is, Keeps-refl output);
   told = told;
   status_is = status_is;
 }
 
--- the same run, where nothing is known of the database
-pub database_unknown : (Leaves : Option AnyFault → Type 0) (old new old_errors new_errors : Option (List ℕ)) (status : ℕ)
-    → IsMigrateRun Leaves old new old_errors new_errors status → IsMigrateRun (λ outcome. Unit {0}) old new old_errors new_errors status
-database_unknown Leaves old new old_errors new_errors status run =
-    record { outcome = run.outcome; left = tt; output = run.output; told = run.told; status_is = run.status_is }
+-- one was made, and ended
+pub over_files : {D : Type 0} {g : disk.Ghosts D} (from : Image) (ended : Ended D g) (found left : Held (FileStore D g)) → HasFound from found → IsEndOf left ended
+    → IsAtRest (file_state found) → Survives (file_state found) (file_state left) (AreMigrated (file_state found)) → (old new old_errors new_errors : Option (List ℕ)) (status : ℕ)
+    → IsMigrateRun (λ outcome. IsMigrateLeft outcome (file_state found) (file_state left)) old new old_errors new_errors status
+    → IsMigrateRun (λ outcome. LeavesMigrated from outcome ended) old new old_errors new_errors status
+over_files from ended found left finds ends rested stopped old new old_errors new_errors status run = record {
+  outcome = run.outcome;
+  left = inr (record { found = found; finds = finds; left = left; used = (rested, run.left, stopped); ends = ends });
+  output = run.output;
+  told = run.told;
+  status_is = run.status_is;
+}

@@ -1,29 +1,36 @@
--- What `init` and `serve` print, and why they end.
-use Rattle.std.specs.Prelude.{◌≡◌, ◌⊎◌, ◌++◌, ℕ, List, codes, decimal, length, Option, Some, None, Ok, Err}
+-- What `init` prints, why it ends and what it leaves of a database, and why a store isn't opened.
+use Rattle.std.specs.Prelude.{◌≡◌, ◌⊎◌, ◌++◌, ℕ, IsTrue, List, codes, decimal, length, Option, Some, None, Ok, Err}
 use Rattle.std.specs.Io.KnownBytes.{Appends, Keeps}
 use Rattle.faults.specs.declared.any.AnyFault.{AnyFault}
 use Rattle.transfer.specs.Transfer.{AppendsFront}
 use Rattle.bureau_store.specs.CallerFault as callers_fault
 use Rattle.bureau_store.specs.Callers.{callers_of}
+use Rattle.bureau_store.specs.Tables as tables
 use Rattle.bureau_store.specs.StoreFault as store_fault
 use Rattle.bureau_store.specs.declared.caller.CallerRow.{CallerRow}
 use Rattle.bureau_store.specs.declared.fault.CallerFault.{CallerFault}
 use Rattle.bureau_store.specs.declared.fault.CallerFault.TheVariants as callers
 use Rattle.bureau_store.specs.declared.fault.StoreFault.{StoreFault}
-use Rattle.bureau_store.specs.declared.fault.StoreFault.TheVariants as store
 use Rattle.bureau_sql.specs.Founded.{AreFounded, IsNotMade}
 use Rattle.bureau_sql.specs.Opening.{HasConditions, HasTables, IsNoStore}
 use Rattle.bureau_sql.specs.SqlState.{SqlState}
-use Rattle.bureau_sql.specs.SqlView.{IsOurStore, shown}
+use Rattle.bureau_sql.specs.SqlView.{IsAtRest, IsOurStore, shown, sql_view}
 use Rattle.sql_reads.specs.Version.{HasVersion}
-use Rattle.sql_state.specs.Ours.{IsOurs}
+use Rattle.sql_state.specs.Ours.{IsOurs, held_by}
 use Rattle.sql_state.specs.Reading.{OnlyReads}
+use Rattle.sqlite_disk.specs.declared.Disk as disk
+use Rattle.sqlite_trees.specs.Tree.{Trees}
 use Rattle.sqlite_trees.specs.declared.store.Store.{Ghosts}
+use Rattle.sqlite_wal.specs.Recovery.{Image}
+use Rattle.sqlite.specs.Files.{file_state}
 use Rattle.sqlite.specs.State.{HasCleanDisk, KeepsCommit, State, Survives}
+use Rattle.sql_tables.specs.Stored.{tables_of}
 use Rattle.sql_writes.specs.Making.{IsOpened}
+use Rattle.bureau_program.specs.Ended.{IsUsed}
 use Rattle.bureau_program.specs.Holds.{IsTold, run_status}
 use Rattle.bureau_program.specs.ProgramFault.{of_program}
-use Rattle.bureau_program.specs.declared.fault.ProgramFault.TheVariants.{NotListening, NotWritten, Memory}
+use Rattle.bureau_program.specs.declared.ended.Ended.{Ended}
+use Rattle.bureau_program.specs.declared.fault.ProgramFault.TheVariants.{NotWritten, Memory}
 
 -- what is told of a fault of the store
 abbrev pub of_store : StoreFault → AnyFault
@@ -66,9 +73,17 @@ abbrev pub IsInitOutput : Option AnyFault → List ℕ → Option (List ℕ) →
 IsInitOutput None source old new = (rows : List CallerRow) × AreRowsOf source rows × Appends old new (init_text rows)
 IsInitOutput (Some fault) source old new = IsInitCutShort fault source old new ⊎ (IsInitFault source fault × Keeps old new)
 
--- the database has the tables of a store with the file's callers, and no other row
+-- The database is a store of ours with these callers, and no other row. A stop leaves that, and nothing else.
+pub record IsNewStore (rows : List CallerRow) (after : State) : Type 0 where
+  pub is_open : IsTrue after.is_open
+  pub opened : IsOpened rows after.committed
+  pub ours : IsOurs after.committed
+  pub tables : tables_of (held_by after.committed) ≡ tables.opened rows
+  pub rests : IsAtRest after
+
+-- such a store, with the file's callers
 abbrev pub HasCallers : List ℕ → State → Type 0
-HasCallers source after = HasCleanDisk after → (rows : List CallerRow) × AreRowsOf source rows × IsOpened rows after.committed
+HasCallers source after = HasCleanDisk after → (rows : List CallerRow) × AreRowsOf source rows × IsNewStore rows after
 
 -- What is left of the database of a connection: the tables, also where only the line couldn't be written; else what was there.
 abbrev pub IsInitLeft : Option AnyFault → List ℕ → State → State → Type 0
@@ -77,9 +92,19 @@ IsInitLeft (Some fault) source before after =
     ((fault ≡ of_program NotWritten) × HasCallers source after)
     ⊎ (IsInitRefused source before fault × (HasCleanDisk after → KeepsCommit before after))
 
--- What a stop may leave: the trees of a store with the file's callers and no other row, and else what it might have left before.
+-- the trees are those of a store with the file's callers and no other row, where the database was empty
+abbrev pub AreFoundedBy : List ℕ → State → Trees → Type 0
+AreFoundedBy source before trees = (rows : List CallerRow) × AreRowsOf source rows × AreFounded before rows trees
+
+-- What a stop may leave: those trees, and else what it might have left before.
 abbrev pub InitSurvives : List ℕ → State → State → Type 0
-InitSurvives source before after = (rows : List CallerRow) → AreRowsOf source rows → Survives before after (AreFounded before rows)
+InitSurvives source before after = Survives before after (AreFoundedBy source before)
+
+-- what is left of the files of a store, in which a connection found a database, as also after a stop
+abbrev pub LeavesMade : {D : Type 0} {g : disk.Ghosts D} → Image → List ℕ → Option AnyFault → Ended D g → Type 0
+LeavesMade from source outcome ended =
+    IsUsed from (λ found left. IsAtRest (file_state found) × IsInitLeft outcome source (file_state found) (file_state left)
+    × InitSurvives source (file_state found) (file_state left)) ended
 
 -- A whole run: from a callers file to what is left of the database, what standard output and standard error get, and the exit
 -- status.
@@ -100,6 +125,9 @@ pub record HasOpened {S : Type 0} (ghosts : Ghosts S) (before : State) (store : 
   pub version : HasCleanDisk (shown ghosts store) → HasVersion (Some 2) before.committed
   pub found : HasCleanDisk (shown ghosts store) → HasTables before.committed.schema × HasConditions before.committed.schema
   pub ours : HasCleanDisk (shown ghosts store) → IsOurs before.committed → IsOurStore ghosts store
+  -- its tables are those of the rows that were committed, and a stop leaves them and no others
+  pub tables : HasCleanDisk (shown ghosts store) → (sql_view ghosts).stands store (tables_of (held_by before.committed))
+  pub rests : IsAtRest (shown ghosts store)
 
 -- it is refused for a reason that it has, and the reason is told
 abbrev pub IsOpenRefused : (StoreFault → Type 0) → Option (List ℕ) → Option (List ℕ) → ℕ → Type 0
@@ -110,31 +138,4 @@ IsOpenRefused Has old_errors new_errors status =
 -- the database was only read, and why it is refused is told
 pub record IsNotOpened (before after : State) (old_errors new_errors : Option (List ℕ)) (status : ℕ) : Type 0 where
   pub kept : OnlyReads before after
-  pub told : IsOpenRefused (λ fault. HasCleanDisk after → IsNoStore before fault) old_errors new_errors status
-
--- ---- serve
-
--- where the desk listens
-abbrev pub listening_text : ℕ → List ℕ
-listening_text port = codes "LISTENING 127.0.0.1:" ++ decimal port ++ codes "\n"
-
--- the store can't be opened, the port can't be listened on, or memory ran out
-abbrev pub IsServeFault : AnyFault → Type 0
-IsServeFault fault =
-    ((refused : StoreFault) × (fault ≡ of_store refused)) ⊎ (fault ≡ of_program NotListening) ⊎ (fault ≡ of_program Memory)
-
--- What standard output gets: the line once the desk listens; a front part of it where that can't be written; or nothing,
--- where no desk listens. Behind the line only a device that failed ends the run with a fault.
-abbrev pub IsServeOutput : Option AnyFault → ℕ → Option (List ℕ) → Option (List ℕ) → Type 0
-IsServeOutput None port old new = Appends old new (listening_text port)
-IsServeOutput (Some fault) port old new =
-    ((fault ≡ of_store store.Device) × Appends old new (listening_text port))
-    ⊎ ((fault ≡ of_program NotWritten) × AppendsFront old new (listening_text port))
-    ⊎ (IsServeFault fault × Keeps old new)
-
--- A whole run: what standard output and standard error get, and the exit status.
-pub record IsServeRun (port : ℕ) (old new old_errors new_errors : Option (List ℕ)) (status : ℕ) : Type 0 where
-  pub outcome : Option AnyFault
-  pub output : IsServeOutput outcome port old new
-  pub told : IsTold outcome old_errors new_errors
-  pub status_is : status ≡ run_status outcome
+  pub told : IsOpenRefused (λ fault. HasCleanDisk after → IsNoStore before after fault) old_errors new_errors status

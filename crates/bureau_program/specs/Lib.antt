@@ -1,9 +1,13 @@
 pub mod Desk
+pub mod Ended
 pub mod Holds
+pub mod Keeping
 pub mod Line
 pub mod Migrating
 pub mod Program
 pub mod ProgramFault
 pub mod Replay
 pub mod Reporting
+pub mod Runs
+pub mod Serving
 pub mod Surroundings

@@ -1,17 +1,23 @@
 -- What a run does: from the words of a command line to what it reads, what both streams get, and the exit status.
-use Rattle.std.specs.Prelude.{◌≡◌, ◌≢◌, ◌⊎◌, ℕ, [], List, codes, map, Option, Some, Result, Ok, Err, IfSome, string_bytes}
+use Rattle.std.specs.Prelude.{◌≡◌, ◌≢◌, ◌⊎◌, ℕ, [], List, codes, map, true, false, Option, Some, None, Result, Ok, Err, IfSome, string_bytes}
 use Rattle.std.specs.Io.KnownBytes.{Keeps}
 use Rattle.bureau_store.specs.declared.fault.StoreFault.{StoreFault}
 use Rattle.clap.specs.Words.{fault_of}
+use Rattle.sqlite_disk.specs.declared.Disk as disk
+use Rattle.sqlite_wal.specs.Recovery.{Image}
 use Rattle.faults.specs.declared.any.AnyFault.{AnyFault}
 use Rattle.transfer.specs.Transfer.{AppendsFront}
 use Rattle.bureau_program.specs.Holds.{IsHoldsRun, IsTold}
 use Rattle.bureau_program.specs.Line.{bureau_app, IsLineOf}
-use Rattle.bureau_program.specs.Desk.{IsCallersFault, IsInitRun, IsServeRun, of_store}
-use Rattle.bureau_program.specs.Migrating.{IsMigrateRun}
+use Rattle.bureau_program.specs.Desk.{IsCallersFault, IsInitRun, LeavesMade, of_store}
+use Rattle.bureau_program.specs.Ended.{IsNothing, IsRefused}
+use Rattle.bureau_program.specs.Keeping.{KeepsMade, KeepsMigrated, KeepsServed, KeepsUnopened}
+use Rattle.bureau_program.specs.Migrating.{IsMigrateRun, LeavesMigrated}
+use Rattle.bureau_program.specs.Serving.{IsServeRun, file_ends}
 use Rattle.bureau_program.specs.ProgramFault.{of_program, status_of}
 use Rattle.bureau_program.specs.Replay.{IsReplayRun}
 use Rattle.bureau_program.specs.Surroundings.{KnownFile, AreContents, IsContent, IsNotOpened, IsOpened}
+use Rattle.bureau_program.specs.declared.ended.Ended.{Ended}
 use Rattle.bureau_program.specs.declared.fault.ProgramFault.{ProgramFault}
 use Rattle.bureau_program.specs.declared.fault.ProgramFault.TheVariants.{NotRead, Memory}
 use Rattle.bureau_program.specs.declared.line.Line.{Line}
@@ -75,41 +81,71 @@ IsToldAlone fault outputs status =
 abbrev pub HasCallerFault : KnownFile → AnyFault → Type 0
 HasCallerFault callers fault = (source : List ℕ) × IsContent callers source × IsCallersFault source fault
 
--- the callers file can't be read or has a fault, the file of the store can't be opened, or memory ran out
+-- the callers file can't be read or has a fault, or memory ran out
 abbrev pub IsNotBegun : KnownFile → AnyFault → Type 0
-IsNotBegun callers fault =
-    (fault ≡ of_program NotRead) ⊎ (fault ≡ of_program Memory)
-    ⊎ ((refused : StoreFault) × (fault ≡ of_store refused)) ⊎ HasCallerFault callers fault
-
--- `init STORE CALLERS`: the callers file is read, and a store with its callers is made in a database, of which nothing is known
-pub record IsMade (files : List ℕ → KnownFile) (callers : List ℕ) (outputs : Outputs) (status : ℕ) : Type 0 where
-  pub source : List ℕ
-  pub callers_are : IsContent (files callers) source
-  pub made : IsInitRun (λ outcome. Unit {0}) source outputs.output outputs.written outputs.errors outputs.told status
-
-abbrev pub IsInit : (List ℕ → KnownFile) → List ℕ → Outputs → ℕ → Type 0
-IsInit files callers outputs status =
-    IsMade files callers outputs status ⊎ ((fault : AnyFault) × IsNotBegun (files callers) fault × IsToldAlone fault outputs status)
+IsNotBegun callers fault = (fault ≡ of_program NotRead) ⊎ (fault ≡ of_program Memory) ⊎ HasCallerFault callers fault
 
 -- words that are no line: what to tell the user stands on standard error
 abbrev pub IsExplained : List ℕ → Outputs → ℕ → Type 0
 IsExplained text outputs status =
     Keeps outputs.output outputs.written × AppendsFront outputs.errors outputs.told text × (status ≡ 2)
 
--- What a line asks for is done, or what is wrong with the words is told. Standard input is read for `holds -` alone.
-abbrev pub IsAnswered : (List ℕ → KnownFile) → Result Line LineFault → Option (List ℕ) → Option (List ℕ) → Outputs → ℕ → Type 0
-IsAnswered files (Ok (line.Holds file)) input rest outputs status = IsHolds files (string_bytes file) input rest outputs status
-IsAnswered files (Ok (line.Replay cache callers names)) input rest outputs status =
-    Keeps input rest × IsReplay files (string_bytes callers) (map string_bytes names.items) outputs status
-IsAnswered files (Ok (line.Init store callers)) input rest outputs status =
-    Keeps input rest × IsInit files (string_bytes callers) outputs status
-IsAnswered files (Ok (line.Serve port cache connections store)) input rest outputs status =
-    Keeps input rest × IsServeRun port outputs.output outputs.written outputs.errors outputs.told status
-IsAnswered files (Ok (line.Migrate store)) input rest outputs status =
-    Keeps input rest × IsMigrateRun (λ outcome. Unit {0}) outputs.output outputs.written outputs.errors outputs.told status
-IsAnswered files (Err (line_fault.Words text)) input rest outputs status =
-    Keeps input rest × IsExplained (string_bytes text) outputs status
-IsAnswered files (Err line_fault.Memory) input rest outputs status = Keeps input rest × IsEndedBy Memory outputs status
+-- What a run may find: files by their names, and what the two files of a store of a name may hold.
+pub record Found : Type 1 where
+  pub files : List ℕ → KnownFile
+  pub stores : List ℕ → Image → Type 0
+
+module _ (found : Found) (from : Image) {D : Type 0} {g : disk.Ghosts D} where
+  -- the callers file is read, and a store with its callers is made in the database that a connection finds in the store's files
+  pub record IsMade (name callers : List ℕ) (outputs : Outputs) (status : ℕ) (ended : Ended D g) : Type 0 where
+    pub named : found.stores name from
+    pub source : List ℕ
+    pub callers_are : IsContent (found.files callers) source
+    pub made : IsInitRun (λ outcome. LeavesMade from source outcome ended) source outputs.output outputs.written outputs.errors outputs.told status
+    pub kept : KeepsMade from source made.outcome ended
+
+  -- no connection to the store's files can be made, which is told
+  pub record IsNotMade (name : List ℕ) (outputs : Outputs) (status : ℕ) (ended : Ended D g) : Type 0 where
+    pub named : found.stores name from
+    pub fault : StoreFault
+    pub refused : IsRefused true from fault ended
+    pub kept : KeepsUnopened from ended
+    pub told : IsToldAlone (of_store fault) outputs status
+
+  -- `init STORE CALLERS`. What is wrong with the callers file may be told before the store's files are opened.
+  abbrev pub IsInit : List ℕ → List ℕ → Outputs → ℕ → Ended D g → Type 0
+  IsInit name callers outputs status ended =
+      IsMade name callers outputs status ended ⊎ IsNotMade name outputs status ended
+      ⊎ ((fault : AnyFault) × IsNotBegun (found.files callers) fault × IsToldAlone fault outputs status × IsNothing ended)
+
+  -- `serve --port P --cache N --connections K STORE`
+  pub record IsServe (port cache connections : ℕ) (name : List ℕ) (outputs : Outputs) (status : ℕ) (ended : Ended D g) : Type 0 where
+    pub named : found.stores name from
+    pub served : IsServeRun (file_ends cache connections from ended) port outputs.output outputs.written outputs.errors outputs.told status
+    pub kept : KeepsServed from None None ended
+
+  -- `migrate STORE`
+  pub record IsMigrate (name : List ℕ) (outputs : Outputs) (status : ℕ) (ended : Ended D g) : Type 0 where
+    pub named : found.stores name from
+    pub migrated : IsMigrateRun (λ outcome. LeavesMigrated from outcome ended) outputs.output outputs.written outputs.errors outputs.told status
+    pub kept : KeepsMigrated from migrated.outcome ended
+
+  -- What a line asks for is done, or what is wrong with the words is told. Standard input is read for `holds -` alone, and the
+  -- files of a store are opened where a STORE is named, and nowhere else.
+  abbrev pub IsAnswered : Result Line LineFault → Option (List ℕ) → Option (List ℕ) → Outputs → ℕ → Ended D g → Type 0
+  IsAnswered (Ok (line.Holds file)) input rest outputs status ended =
+      IsHolds found.files (string_bytes file) input rest outputs status × IsNothing ended
+  IsAnswered (Ok (line.Replay cache callers names)) input rest outputs status ended =
+      Keeps input rest × IsReplay found.files (string_bytes callers) (map string_bytes names.items) outputs status × IsNothing ended
+  IsAnswered (Ok (line.Init store callers)) input rest outputs status ended =
+      Keeps input rest × IsInit (string_bytes store) (string_bytes callers) outputs status ended
+  IsAnswered (Ok (line.Serve port cache connections store)) input rest outputs status ended =
+      Keeps input rest × IsServe port cache connections (string_bytes store) outputs status ended
+  IsAnswered (Ok (line.Migrate store)) input rest outputs status ended =
+      Keeps input rest × IsMigrate (string_bytes store) outputs status ended
+  IsAnswered (Err (line_fault.Words text)) input rest outputs status ended =
+      Keeps input rest × IsExplained (string_bytes text) outputs status × IsNothing ended
+  IsAnswered (Err line_fault.Memory) input rest outputs status ended = Keeps input rest × IsEndedBy Memory outputs status × IsNothing ended
 
 -- the words are understood as this line; clap has a fault to find in them, or they ask for help; or memory ran out
 abbrev pub IsUnderstoodAs : List (List ℕ) → Result Line LineFault → Type 0
@@ -117,8 +153,9 @@ IsUnderstoodAs words (Ok asked) = IsLineOf words asked
 IsUnderstoodAs words (Err (line_fault.Words text)) = (asked : Line) → IsLineOf words asked → fault_of bureau_app words ≢ []
 IsUnderstoodAs words (Err line_fault.Memory) = Unit {0}
 
--- A whole run of the program, from its words, where they are known, and its files to its streams and its status.
-pub record IsRun (words : Option (List (List ℕ))) (files : List ℕ → KnownFile) (input rest : Option (List ℕ)) (outputs : Outputs) (status : ℕ) : Type 0 where
+-- A whole run of the program, from its words, where they are known, and its files to its streams, its status, and what is left of
+-- a store's files, which held this as it began.
+pub record IsRun (words : Option (List (List ℕ))) (found : Found) (from : Image) {D : Type 0} {g : disk.Ghosts D} (input rest : Option (List ℕ)) (outputs : Outputs) (status : ℕ) (ended : Ended D g) : Type 0 where
   pub line : Result Line LineFault
   pub understood : IfSome words (λ known. IsUnderstoodAs known line)
-  pub answered : IsAnswered files line input rest outputs status
+  pub answered : IsAnswered found from line input rest outputs status ended

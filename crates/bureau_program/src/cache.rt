@@ -1,5 +1,5 @@
 //! The cache of frames that all callers of a desk share.
-ghost use Rattle.std.specs.Prelude.{◌≡◌, IfErr, IfOk};
+ghost use Rattle.std.specs.Prelude.{◌≡◌, ◌≤◌, IfErr, IfOk};
 ghost use Rattle.bureau_program.specs.Replay.{IsAlwaysRight};
 
 use crate::fault::ProgramFault;
@@ -17,6 +17,7 @@ const CAPACITY_MOST: u32 = 65_536;
 /// `Memory` where memory ran out.
 pub fn cache_of(alloc: Global, capacity: u32, keys: RandomState) -> Result<ChainCache, ProgramFault>
     ensures right { IfOk result IsAlwaysRight }
+    ensures room { 1 ≤ capacity → capacity ≤ 65536 → IfOk result (λ cache. cache.capacity ≡ capacity) }
     ensures fault { IfErr result (λ fault. fault ≡ ProgramFault.Memory) }
 {
     let capacity = capacity.clamp(1, CAPACITY_MOST);

@@ -4,7 +4,9 @@
 //! - [`run_holds`]: the hold book that a source leaves, in print
 //! - [`run_replay`]: what a desk in memory writes to connections that stand in files
 //! - [`run_init`], [`run_open`], [`run_migrate`]: a store is made, opened, or made one of version 2
-//! - [`open_and_serve`]: a desk over a store, as a [`Service`]
+//! - [`open_and_serve`]: a desk over a store, as a [`Service`]; [`serve_arrivals`]: over any connections
+//! - [`run_serve`]: over the files of a store, whenever the run stops; [`law`]: for any number of runs
+//! - [`Ended`]: the files of a store, where a run ends
 //! - [`line_of`]: what words ask for
 //! - [`Surroundings`]: the words of a run, the files that they name, ports, and random keys
 //!
@@ -20,21 +22,26 @@
 mod cache;
 mod commands;
 mod desk;
+mod ended;
 mod fault;
 mod help;
 mod holds;
+pub mod law;
 mod line;
 mod migrating;
 mod program;
 mod replay;
 mod reporting;
+mod serving;
 mod surroundings;
 
-pub use desk::{Service, open_and_serve, run_init, run_open};
+pub use desk::{run_init, run_open};
+pub use ended::Ended;
 pub use holds::run_holds;
 pub use line::{Line, LineFault, line_of};
 pub use migrating::run_migrate;
 pub use program::run;
 pub use replay::run_replay;
 pub use reporting::{Asked, Names, Report, run_report};
-pub use surroundings::{StoreFile, Surroundings};
+pub use serving::{Service, open_and_serve, run_serve, serve_arrivals};
+pub use surroundings::Surroundings;

@@ -1,19 +1,22 @@
 //! `migrate`: a store of version 1 in a file becomes one of version 2.
 ghost use Rattle.std.specs.Prelude.{◌≡◌, ◌≢◌, false, IfErr, IfOk};
 ghost use Rattle.bureau_program.specs.Holds.{fault_in};
-ghost use Rattle.bureau_program.specs.Migrating.{HasMigrated, IsMigrateLeft, IsMigrateOutput, IsMigrateRun};
+ghost use Rattle.bureau_program.specs.Migrating.{HasMigrated, IsMigrateLeft, IsMigrateOutput, IsMigrateRun, LeavesMigrated};
 ghost use Rattle.bureau_sql.specs.Migrated.{AreMigrated, IsUntouched};
 ghost use Rattle.bureau_store.specs.declared.fault.StoreFault.TheVariants.{Device};
 ghost use Rattle.bureau_sql.specs.Opening.{IsNotEarlier};
+ghost use Rattle.bureau_sql.specs.SqlView.{IsAtRest};
 ghost use Rattle.sqlite.specs.Held.{state};
 ghost use Rattle.sqlite.specs.State.{HasCleanDisk, KeepsCommit, Survives};
+ghost use Rattle.sqlite_wal.specs.Files.{image_at};
 
-use crate::desk::{close, of_store, printed, told};
+use crate::desk::{of_store, printed, told};
+use crate::ended::{Ended, end};
 use crate::surroundings::Surroundings;
 use bureau_sql::SqlStore;
 use bureau_store::StoreFault;
 use faults::AnyFault;
-use sqlite::{Alter, Connection};
+use sqlite::{Alter, Connection, FileFrom, Start};
 use std::alloc::Global;
 use std::io::Write;
 
@@ -34,6 +37,7 @@ pub fn run_migrate<S: Alter + Drop, W: Write, E: Write>(
         (E.contents errors.old) (E.contents errors.new) result.0 }
     ensures stopped { Survives (state S.Store conn) (state S.Store result.1)
         (AreMigrated (state S.Store conn)) }
+    ensures rested { IsAtRest (state S.Store conn) }
     ensures rest { result.1.in_transaction ≡ false }
 {
     let (outcome, conn) = migrate_and_print(alloc, conn, writer);
@@ -74,7 +78,7 @@ fn migrate<S: Alter + Drop>(
     ensures stopped { IfErr result (λ refused. Survives (state S.Store conn) (state S.Store refused.1)
         (AreMigrated (state S.Store conn))) }
     ensures cause { IfErr result (λ refused. HasCleanDisk (state S.Store refused.1)
-        → IsNotEarlier (state S.Store conn) refused.0) }
+        → IsNotEarlier (state S.Store conn) (state S.Store refused.1) refused.0) }
     ensures kept { IfErr result (λ refused. HasCleanDisk (state S.Store refused.1)
         → KeepsCommit (state S.Store conn) (state S.Store refused.1)) }
     ensures untouched { IfErr result (λ refused. refused.0 ≢ Device
@@ -87,24 +91,26 @@ fn migrate<S: Alter + Drop>(
     }
 }
 
-/// The same of the store that a file has. A file that isn't there is not made.
-#[tactic(auto, using(crate::proofs::MigratingFacts::not_connected, crate::proofs::MigratingFacts::database_unknown))]
-pub fn migrate_file<S: Surroundings, W: Write, E: Write>(
+/// The same of the store that a file has. A file that isn't there is not made. Returns the exit status, and what is left
+/// of the files.
+pub fn migrate_file<S: Surroundings, D: Start, W: Write, E: Write>(
     surroundings: &S,
     alloc: Global,
     store: &str,
+    start: D,
     writer: &mut W,
     errors: &mut E,
-) -> u8
-    ensures { IsMigrateRun (λ outcome. Unit {0}) (W.contents writer.old) (W.contents writer.new)
-        (E.contents errors.old) (E.contents errors.new) result }
+) -> (u8, Ended<FileFrom<D>>)
+    ensures run { IsMigrateRun (λ outcome. LeavesMigrated (image_at D.Start) outcome result.1)
+        (W.contents writer.old) (W.contents writer.new)
+        (E.contents errors.old) (E.contents errors.new) result.0 }
+    ensures named { S.known_store surroundings.now store.now (image_at D.Start) }
 {
-    match surroundings.connect(store, false) {
+    match surroundings.connect(store, false, start) {
         Ok(conn) => {
             let (status, conn) = run_migrate(alloc, conn, writer, errors);
-            close(conn);
-            status
+            (status, end(conn))
         }
-        Err(fault) => told(errors, Err(of_store(fault))),
+        Err((fault, ended)) => (told(errors, Err(of_store(fault))), ended),
     }
 }

@@ -2,20 +2,23 @@
 ghost use Rattle.std.specs.Prelude.{◌≡◌, ◌↔◌, codes, false, map, string_bytes, IfErr, IfOk, IsTrue, Some};
 ghost use Rattle.faults.specs.Refusal.{IsRefusal};
 ghost use Rattle.transfer.specs.Transfer.{AppendsFront};
+ghost use Rattle.sqlite_wal.specs.Files.{image_at};
 ghost use Rattle.bureau_program.specs.Program.{IsAnswered, IsHolds, IsInit, IsNotBegun, IsReplay, IsRun, outputs_of};
 ghost use Rattle.bureau_program.specs.Holds.{IsTold};
 ghost use Rattle.bureau_program.specs.ProgramFault.{of_program};
 ghost use Rattle.bureau_program.specs.Surroundings.{AreContents, IsContent};
 
-use crate::desk::{Service, callers_in, close, of_store, run_init, run_serve};
+use crate::desk::{callers_in, of_store, run_init, told};
+use crate::ended::{Ended, end};
 use crate::fault::{ProgramFault, exit_status, report, tell};
 use crate::holds::run_holds;
 use crate::line::{Line, LineFault, line_of};
 use crate::migrating::migrate_file;
 use crate::replay::run_replay;
-use crate::surroundings::{StoreFile, Surroundings};
+use crate::serving::{Service, run_serve};
+use crate::surroundings::Surroundings;
 use faults::AnyFault;
-use sqlite::Connection;
+use sqlite::{FileFrom, Start};
 use std::alloc::Global;
 use std::io::{Read, Write};
 use std::time::Clock;
@@ -24,44 +27,54 @@ use transfer::{RETRIES, read_source};
 // The exit status where the words aren't understood.
 const NOT_UNDERSTOOD: u8 = 2;
 
-/// Does what the words of the command line ask for, and returns the exit status.
+/// Does what the words of the command line ask for, and returns the exit status, and what is left of a store's files.
 ///
 /// Standard input is read where `holds` has `-` for a FILE, and nowhere else. Every other FILE is opened by its name.
-/// What is made of it goes to standard output, and a fault's line to standard error.
-pub fn run<S: Surroundings + Clock, I: Read, O: Write, E: Write>(
+/// What is made of it goes to standard output, and a fault's line to standard error. `start` stands for what the files of
+/// STORE hold as the run begins.
+pub fn run<S: Surroundings + Clock, D: Start, I: Read, O: Write, E: Write>(
     surroundings: &S,
     alloc: Global,
+    start: D,
     input: &mut I,
     output: &mut O,
     errors: &mut E,
-) -> u8
-    ensures { IsRun (S.known_words surroundings.now) (S.known_file surroundings.now)
+) -> (u8, Ended<FileFrom<D>>)
+    ensures { IsRun (S.known_words surroundings.now)
+        (record { files = S.known_file surroundings.now; stores = S.known_store surroundings.now })
+        (image_at D.Start)
         (I.remaining input.old) (I.remaining input.new)
-        (outputs_of O.contents E.contents output.old output.new errors.old errors.new) result }
+        (outputs_of O.contents E.contents output.old output.new errors.old errors.new)
+        result.0 result.1 }
 {
     let line = match surroundings.words(alloc) {
         Ok(words) => line_of(alloc, words.as_slice()),
         Err(fault) => Err(fault),
     };
-    answer(surroundings, alloc, line, input, output, errors)
+    answer(surroundings, alloc, line, start, input, output, errors)
 }
 
 // Does what a line asks for.
-fn answer<S: Surroundings + Clock, I: Read, O: Write, E: Write>(
+fn answer<S: Surroundings + Clock, D: Start, I: Read, O: Write, E: Write>(
     surroundings: &S,
     alloc: Global,
     line: Result<Line, LineFault>,
+    start: D,
     input: &mut I,
     output: &mut O,
     errors: &mut E,
-) -> u8
-    ensures { IsAnswered (S.known_file surroundings.now) line
+) -> (u8, Ended<FileFrom<D>>)
+    ensures { IsAnswered
+        (record { files = S.known_file surroundings.now; stores = S.known_store surroundings.now })
+        (image_at D.Start) line
         (I.remaining input.old) (I.remaining input.new)
-        (outputs_of O.contents E.contents output.old output.new errors.old errors.new) result }
+        (outputs_of O.contents E.contents output.old output.new errors.old errors.new)
+        result.0 result.1 }
 {
     match line {
         Ok(Line::Holds { file }) => {
-            do_holds(surroundings, alloc, file.as_str(), input, output, errors)
+            let status = do_holds(surroundings, alloc, file.as_str(), input, output, errors);
+            (status, Ended::Nothing)
         }
         Ok(
             Line::Replay {
@@ -71,11 +84,12 @@ fn answer<S: Surroundings + Clock, I: Read, O: Write, E: Write>(
             },
         ) => {
             let (callers, files) = (callers.as_str(), files.as_slice());
-            do_replay(surroundings, alloc, cache, callers, files, output, errors)
+            let status = do_replay(surroundings, alloc, cache, callers, files, output, errors);
+            (status, Ended::Nothing)
         }
         Ok(Line::Init { store, callers }) => {
             let (store, callers) = (store.as_str(), callers.as_str());
-            do_init(surroundings, alloc, store, callers, output, errors)
+            do_init(surroundings, alloc, store, callers, start, output, errors)
         }
         Ok(
             Line::Serve {
@@ -90,13 +104,14 @@ fn answer<S: Surroundings + Clock, I: Read, O: Write, E: Write>(
                 cache,
                 connections,
             };
-            run_serve(surroundings, alloc, service, store.as_str(), output, errors)
+            let store = store.as_str();
+            run_serve(surroundings, alloc, service, store, start, output, errors)
         }
         Ok(Line::Migrate { store }) => {
-            migrate_file(surroundings, alloc, store.as_str(), output, errors)
+            migrate_file(surroundings, alloc, store.as_str(), start, output, errors)
         }
-        Err(LineFault::Words(text)) => explain(errors, text.as_str()),
-        Err(LineFault::Memory) => refuse(errors, ProgramFault::Memory),
+        Err(LineFault::Words(text)) => (explain(errors, text.as_str()), Ended::Nothing),
+        Err(LineFault::Memory) => (refuse(errors, ProgramFault::Memory), Ended::Nothing),
     }
 }
 
@@ -155,51 +170,51 @@ fn do_replay<S: Surroundings, O: Write, E: Write>(
 }
 
 // Makes a store in a file, with the callers of the callers file.
-fn do_init<S: Surroundings, O: Write, E: Write>(
+fn do_init<S: Surroundings, D: Start, O: Write, E: Write>(
     surroundings: &S,
     alloc: Global,
     store: &str,
     callers: &str,
+    start: D,
     output: &mut O,
     errors: &mut E,
-) -> u8
-    ensures { IsInit (S.known_file surroundings.now) callers.now
-        (outputs_of O.contents E.contents output.old output.new errors.old errors.new) result }
+) -> (u8, Ended<FileFrom<D>>)
+    ensures { IsInit
+        (record { files = S.known_file surroundings.now; stores = S.known_store surroundings.now })
+        (image_at D.Start) store.now callers.now
+        (outputs_of O.contents E.contents output.old output.new errors.old errors.new)
+        result.0 result.1 }
 {
-    match read_and_connect(surroundings, alloc, store, callers) {
-        Ok((callers, conn)) => {
+    let callers = match read_callers(surroundings, alloc, store, callers) {
+        Ok(callers) => callers,
+        Err(fault) => return (told(errors, Err(fault)), Ended::Nothing),
+    };
+    match surroundings.connect(store, true, start) {
+        Ok(conn) => {
             let (status, conn) = run_init(alloc, conn, callers.as_slice(), output, errors);
-            close(conn);
-            status
+            (status, end(conn))
         }
-        Err(fault) => {
-            let _ = report(errors, fault);
-            exit_status(fault)
-        }
+        Err((fault, ended)) => (told(errors, Err(of_store(fault))), ended),
     }
 }
 
-// What stands in the callers file, and a connection to the file of a store. Where that isn't there it is made, unless
-// the callers file has a fault.
-fn read_and_connect<S: Surroundings>(
+// What stands in the callers file. Where the file of the store isn't there, a fault of the callers file is found before
+// one is made.
+fn read_callers<S: Surroundings>(
     surroundings: &S,
     alloc: Global,
     store: &str,
     callers: &str,
-) -> Result<(Vec<u8>, Connection<StoreFile>), AnyFault>
-    ensures callers { IfOk result (λ both.
-        IsContent (S.known_file surroundings.now callers.now) both.0.items) }
-    ensures rest { IfOk result (λ both. both.1.in_transaction ≡ false) }
+) -> Result<Vec<u8>, AnyFault>
+    ensures callers { IfOk result (λ source.
+        IsContent (S.known_file surroundings.now callers.now) source.items) }
     ensures fault { IfErr result (IsNotBegun (S.known_file surroundings.now callers.now)) }
 {
     let source = read_file(surroundings, alloc, callers, &mut { RETRIES })?;
     if surroundings.open(store).is_err() {
         let _rows = callers_in(alloc, source.as_slice())?;
     }
-    match surroundings.connect(store, true) {
-        Ok(conn) => Ok((source, conn)),
-        Err(fault) => Err(of_store(fault)),
-    }
+    Ok(source)
 }
 
 // What stands in the callers file, and in the file of each connection. They are read in this order, with 64 retries in

@@ -1,18 +1,19 @@
 //! What surrounds a run: the words of its command line, files by their names, ports, and random keys.
 ghost use Rattle.std.specs.Prelude.{◌≡◌, ℕ, List, Option, None, false, map, string_bytes, IfOk, IfErr, IfSome};
 ghost use Rattle.faults.specs.Refusal.{IsRefusal};
+ghost use Rattle.sqlite_wal.specs.Files.{image_at};
+ghost use Rattle.sqlite_wal.specs.Recovery.{Image};
+ghost use Rattle.bureau_program.specs.Ended.{HasFound, IsRefused};
 ghost use Rattle.bureau_program.specs.Surroundings.{KnownFile, IsNotOpened, IsOpened};
 
+use crate::ended::Ended;
 use crate::line::LineFault;
 use bureau_store::StoreFault;
-use sqlite::{Connection, FileStore};
+use sqlite::{Connection, FileFrom, FileStore, Start};
 use std::alloc::Global;
 use std::hash::RandomState;
 use std::io::{self, Read};
 use std::net::TcpListener;
-
-/// What the file of a store is kept on, as the system has it.
-pub type StoreFile = FileStore<sqlite::File>;
 
 /// The words of a command line, and the files that they may name.
 ///
@@ -26,6 +27,9 @@ pub trait Surroundings {
 
     /// What a file of a name is known to be.
     ghost known_file: { Self → List ℕ → KnownFile };
+
+    /// What the two files of a store of a name are known to hold.
+    ghost known_store: { Self → List ℕ → Image → Type 0 };
 
     /// The words after the program's name.
     ///
@@ -48,14 +52,24 @@ pub trait Surroundings {
         ensures fault { IfErr result (λ _. IsNotOpened (known_file self.now name.now)) };
 
     /// A connection to the database in the file of this name, at rest. A file that isn't there is made, where that is
-    /// asked for.
+    /// asked for. What the files held stands as a `Start`, since no code can read it.
     ///
     /// # Errors
     ///
     /// `Shape` where the file isn't there and isn't to be made; `Memory` where memory ran out; `Device` where the name
-    /// is no file's, where the file may not be opened or another has it open, or where it is no database.
-    fn connect(&self, name: &str, makes: bool) -> Result<Connection<StoreFile>, StoreFault>
-        ensures rest { IfOk result (λ conn. conn.in_transaction ≡ false) };
+    /// is no file's, where the file may not be opened or another has it open, or where it is no database. With it comes
+    /// what is left of the files.
+    fn connect<D: Start>(
+        &self,
+        name: &str,
+        makes: bool,
+        start: D,
+    ) -> Result<Connection<FileStore<FileFrom<D>>>, (StoreFault, Ended<FileFrom<D>>)>
+        ensures rest { IfOk result (λ conn. conn.in_transaction ≡ false) }
+        ensures found { IfOk result (HasFound (image_at D.Start)) }
+        ensures named { known_store self.now name.now (image_at D.Start) }
+        ensures refused { IfErr result
+            (λ refused. IsRefused makes (image_at D.Start) refused.0 refused.1) };
 
     /// Listens on a port of 127.0.0.1.
     ///

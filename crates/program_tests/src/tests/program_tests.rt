@@ -1,6 +1,7 @@
 //! Whole runs, by their words, over files that are interrupted while they are read.
 use super::surroundings::{Around, STORE};
 use bureau_program::run;
+use sqlite::Unknown;
 use std::alloc::Global;
 use std::hash::RandomState;
 use std::str;
@@ -11,7 +12,7 @@ use testing::assert_equal_at;
 type Row = (&'static [&'static str], u32, u8, &'static str);
 
 // 64 retries serve all files of a run.
-static ROWS: [Row; 7] = [
+static ROWS: [Row; 8] = [
     (&["replay", "callers", "empty", "empty"], 21, 0, ""),
     (
         &["replay", "callers", "empty", "empty"],
@@ -20,10 +21,11 @@ static ROWS: [Row; 7] = [
         "FAULT 71\n",
     ),
     (&["replay", "callers", "missing"], 0, 3, "FAULT 71\n"),
-    (&["init", STORE, "callers"], 64, 1, "FAULT 44\n"),
+    (&["init", STORE, "callers"], 64, 3, "FAULT 41\n"),
     (&["init", STORE, "callers"], 65, 3, "FAULT 71\n"),
     (&["init", "another store", "callers"], 0, 3, "FAULT 42\n"),
-    (&["serve", STORE], 0, 1, "FAULT 45\n"),
+    (&["serve", STORE], 0, 1, "FAULT 44\n"),
+    (&["migrate", "another store"], 0, 3, "FAULT 42\n"),
 ];
 
 #[test]
@@ -42,7 +44,14 @@ fn assert_ended(alloc: Global, keys: RandomState, row: &Row) -> Result<(), Fail>
     let around = Around::reading(words, interruptions, keys);
     let (mut output, mut errors) = (Vec::new(alloc), Vec::new(alloc));
     let mut input = b"".as_slice();
-    let ended = run(&around, alloc, &mut input, &mut output, &mut errors);
+    let (ended, _) = run(
+        &around,
+        alloc,
+        Unknown,
+        &mut input,
+        &mut output,
+        &mut errors,
+    );
     assert_equal_at(case, ended, status)?;
     assert_equal_at(case, output.as_slice(), b"".as_slice())?;
     assert_equal_at(case, str::from_utf8(errors.as_slice()), Ok(told))

@@ -1,8 +1,8 @@
 //! What surrounds a run of a test.
 use super::desk_tests::CALLERS;
-use bureau_program::{LineFault, StoreFile, Surroundings};
+use bureau_program::{Ended, LineFault, Surroundings};
 use bureau_store::StoreFault;
-use sqlite::Connection;
+use sqlite::{Connection, FileFrom, FileStore, Start};
 use std::alloc::Global;
 use std::cell::Cell;
 use std::hash::RandomState;
@@ -14,8 +14,8 @@ use testing::{Failures, Pieces, Ticking};
 /// The name of a store, whose blanks count.
 pub(crate) const STORE: &str = " a store ";
 
-/// Words, files that are interrupted so often, one listener or none, and a clock that a test sets. A store is refused for its
-/// shape where it may be made, and for its version where it may not. There is no file of another name.
+/// Words, files that are interrupted so often, one listener or none, and a clock that a test sets. Memory runs out
+/// where a store may be made, and there is none where it may not. A store of another name can't be opened.
 #[derive(Drop)]
 pub(crate) struct Around<'a> {
     words: &'static [&'static str],
@@ -95,6 +95,8 @@ impl Surroundings for Around<'_> {
 
     ghost known_file = { λ _ _. Unknown };
 
+    ghost known_store = { λ _ _ _. Unit {0} };
+
     fn words(&self, alloc: Global) -> Result<Vec<String>, LineFault> {
         let mut words = Vec::new(alloc);
         for word in self.words {
@@ -114,12 +116,18 @@ impl Surroundings for Around<'_> {
         Ok(Pieces::new(rest, usize::MAX, failures))
     }
 
-    fn connect(&self, name: &str, makes: bool) -> Result<Connection<StoreFile>, StoreFault> {
-        match (name == STORE, makes) {
-            (true, true) => Err(StoreFault::Shape),
-            (true, false) => Err(StoreFault::Version),
-            (false, _) => Err(StoreFault::Device),
-        }
+    fn connect<D: Start>(
+        &self,
+        name: &str,
+        makes: bool,
+        _start: D,
+    ) -> Result<Connection<FileStore<FileFrom<D>>>, (StoreFault, Ended<FileFrom<D>>)> {
+        let fault = match (name == STORE, makes) {
+            (true, true) => StoreFault::Memory,
+            (true, false) => StoreFault::Shape,
+            (false, _) => StoreFault::Device,
+        };
+        Err((fault, Ended::Nothing))
     }
 
     fn listen(&self, port: u16) -> io::Result<TcpListener> {

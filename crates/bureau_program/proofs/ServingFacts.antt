@@ -1,0 +1,160 @@
+-- How a run of `serve` ends, and what is told then.
+use Rattle.std.proofs.Common.{◌≡◌, ◌≤◌, ◌∙◌, ℕ, List, Option, None, Some, OnErr, OnOk, Result, Ok, Err, ap, false, inl, inr, refl, subst, sym}
+use Rattle.std.specs.Io.KnownBytes.{Appends}
+use Rattle.std.proofs.KnownBytes.{Keeps-refl}
+use Rattle.faults.specs.declared.any.AnyFault.{AnyFault}
+use Rattle.transfer.specs.Transfer.{AppendsFront}
+use Rattle.bureau_store.specs.declared.fault.StoreFault.{StoreFault}
+use Rattle.bureau_store.specs.declared.fault.StoreFault.TheVariants.{Device}
+use Rattle.bureau_sql.specs.SqlState.{SqlState}
+use Rattle.bureau_sql.specs.SqlView.{IsAtRest, sql_view}
+use Rattle.bureau.specs.Answering.{bureau_view}
+use Rattle.bureau.specs.Parts.{Parts}
+use Rattle.bureau_http.specs.Arrivals.{Event}
+use Rattle.bureau_http.specs.Service.{AreServed, IsEnded, IsSound}
+use Rattle.bureau_store.specs.Tables.{Tables}
+use Rattle.catalogue.specs.View.{Goes, View}
+use Rattle.chain_cache.specs.Cache.{CacheLists, IsRightFor}
+use Rattle.sqlite_disk.specs.declared.Disk as disk
+use Rattle.sqlite_store.specs.declared.store.FileStore.{FileStore}
+use Rattle.sqlite_trees.specs.declared.store.Store.{Ghosts}
+use Rattle.sqlite_wal.specs.Recovery.{Image}
+use Rattle.sqlite.specs.Files.{over_files}
+use Rattle.sqlite.specs.Held.{Held, state}
+use Rattle.bureau_program.specs.Desk.{HasOpened, IsNotOpened, of_store}
+use Rattle.bureau_program.specs.Ended.{HasFound, IsEndOf, IsRefused, IsUsed}
+use Rattle.bureau_program.specs.Holds.{IsTold, run_status}
+use Rattle.bureau_program.specs.ProgramFault.{of_program}
+use Rattle.bureau_program.specs.Replay.{IsAlwaysRight}
+use Rattle.bureau_program.specs.Serving.{Ends, IsNewCache, IsNotListening, IsServeOutput, IsServeRun, IsServedOver, IsUnheard, ServesAll, ServesUntil, desk_ends, desk_over, file_ends, listening_text, store_ends}
+use Rattle.bureau_program.specs.declared.ended.Ended.{Ended}
+use Rattle.bureau_program.specs.declared.fault.ProgramFault.TheVariants.{NotWritten}
+
+-- ---- from one kind of ends to another
+
+module _ (these those : Ends) (refused : (fault : StoreFault) → these.refused fault → those.refused fault) (unserved : these.unserved → those.unserved)
+    (served : these.served → those.served) (failed : these.failed → those.failed) where
+  pub output_so : (outcome : Option AnyFault) (port : ℕ) (old new : Option (List ℕ)) → IsServeOutput these outcome port old new → IsServeOutput those outcome port old new
+  output_so None port old new output = (served output.0, output.1)
+  output_so (Some fault) port old new (inl device) = inl (device.0, failed device.1, device.2)
+  output_so (Some fault) port old new (inr (inl unheard)) = inr (inl (unserved unheard.0, unheard.1))
+  output_so (Some fault) port old new (inr (inr not)) = inr (inr ((not.0.0, not.0.1, refused not.0.0 not.0.2), not.1))
+
+  pub run_so : (port : ℕ) (old new old_errors new_errors : Option (List ℕ)) (status : ℕ) → IsServeRun these port old new old_errors new_errors status
+      → IsServeRun those port old new old_errors new_errors status
+  run_so port old new old_errors new_errors status run = record {
+    outcome = run.outcome;
+    output = output_so run.outcome port old new run.output;
+    told = run.told;
+    status_is = run.status_is;
+  }
+
+-- ---- a store is served
+
+module _ {Store : Type 0} (view : View Store Tables) (log log_after : Option (List Event)) (connections : ℕ) (cache : CacheLists) (old new : Store)
+    (begun ended : Parts Store CacheLists) (is : begun ≡ desk_over old cache) (left : new ≡ ended.store) where
+  abbrev over : View (Parts Store CacheLists) Tables
+  over = bureau_view view IsRightFor
+
+  last : ended ≡ desk_over new ended.judge
+  last = ap (λ (store : Store). desk_over store ended.judge) (sym left)
+
+  goes_so : Goes over begun ended → Goes over (desk_over old cache) (desk_over new ended.judge)
+  goes_so goes = subst (λ (first : Parts Store CacheLists). Goes over first (desk_over new ended.judge)) is (subst (λ (then : Parts Store CacheLists). Goes over begun then) last goes)
+
+  -- all connections, where the desk was made of a store and a cache, and the store is given back
+  pub serves_all : {T : Type 0} (answer : Result T StoreFault) → Goes over begun ended → OnOk answer (AreServed over begun ended log log_after connections)
+      → OnOk answer (IsSound over ended connections) → OnOk answer (ServesAll view log log_after connections cache old new)
+  serves_all (Ok done) goes all sound = record {
+    cache_after = ended.judge;
+    goes = goes_so goes;
+    served = subst (λ (first : Parts Store CacheLists). AreServed over first (desk_over new ended.judge) log log_after connections) is
+        (subst (λ (then : Parts Store CacheLists). AreServed over begun then log log_after connections) last all);
+    sound = subst (λ (then : Parts Store CacheLists). IsSound over then connections) last sound;
+  }
+  serves_all (Err fault) goes all sound = tt
+
+  pub serves_until : {T : Type 0} (answer : Result T StoreFault) → Goes over begun ended → OnErr answer (IsEnded over begun ended log log_after connections)
+      → OnErr answer (ServesUntil view log log_after connections cache old new)
+  serves_until (Ok done) goes until = tt
+  serves_until (Err fault) goes until = record {
+    cache_after = ended.judge;
+    goes = goes_so goes;
+    ended = subst (λ (first : Parts Store CacheLists). IsEnded over first (desk_over new ended.judge) log log_after connections) is
+        (subst (λ (then : Parts Store CacheLists). IsEnded over begun then log log_after connections) last until);
+  }
+
+module _ {S : Type 0} (g : Ghosts S) (room connections : ℕ) where
+  -- all connections were served
+  pub served : (cache : CacheLists) (old new : SqlState S) (port : ℕ) (was is : Option (List ℕ)) → IsNewCache room cache
+      → ServesAll (sql_view g) None None connections cache old new → Appends was is (listening_text port) → IsServeOutput (desk_ends g room connections old new) None port was is
+  served cache old new port was is fresh all line = (record { cache = cache; is_new = fresh; did = all }, line)
+
+  -- the device failed
+  pub failed : (cache : CacheLists) (old new : SqlState S) (fault : StoreFault) (any : AnyFault) (port : ℕ) (was is : Option (List ℕ)) → IsNewCache room cache
+      → ServesUntil (sql_view g) None None connections cache old new → fault ≡ Device → any ≡ of_store fault → Appends was is (listening_text port)
+      → IsServeOutput (desk_ends g room connections old new) (Some any) port was is
+  failed cache old new fault any port was is fresh until device told line =
+      inl (told ∙ ap of_store device, record { cache = cache; is_new = fresh; did = until }, line)
+
+  -- no desk listened
+  pub unserved : (at : SqlState S) (fault : AnyFault) (port : ℕ) (was is : Option (List ℕ)) → IsUnheard fault port was is
+      → IsServeOutput (desk_ends g room connections at at) (Some fault) port was is
+  unserved at fault port was is unheard = inr (inl (refl, unheard))
+
+  -- the store was opened over a connection before
+  pub served_over : (before after : Held S) (opened closing : SqlState S) → HasOpened g (state g before) opened → after ≡ closing.conn
+      → (outcome : Option AnyFault) (port : ℕ) (was is : Option (List ℕ)) → IsServeOutput (desk_ends g room connections opened closing) outcome port was is
+      → IsServeOutput (store_ends g room connections before after) outcome port was is
+  served_over before after opened closing has same =
+      let over = λ (Does : SqlState S → SqlState S → Type 0) (did : Does opened closing).
+      let r : IsServedOver g Does before after = record { opened = opened; has_opened = has; closing = closing; did = did; after_is = same } in r in
+      output_so (desk_ends g room connections opened closing) (store_ends g room connections before after) (λ fault none. absurd none)
+      (over (λ old new. (desk_ends g room connections old new).unserved)) (over (λ old new. (desk_ends g room connections old new).served))
+      (over (λ old new. (desk_ends g room connections old new).failed))
+
+  -- a store that is refused is not served
+  pub not_opened : (before after : Held S) (port : ℕ) (output old new : Option (List ℕ)) (status : ℕ) → IsAtRest (state g before) → IsNotOpened (state g before) (state g after) old new status
+      → IsServeRun (store_ends g room connections before after) port output output old new status
+  not_opened before after port output old new status rested refused = record {
+    outcome = Some (of_store refused.told.0);
+    output = inr (inr ((refused.told.0, refl, (rested, refused.kept, refused.told.1)), Keeps-refl output));
+    told = refused.told.2;
+    status_is = refused.told.3;
+  }
+
+-- ---- over files
+
+module _ {D : Type 0} {g : disk.Ghosts D} (room connections : ℕ) (from : Image) (ended : Ended D g) where
+  -- a connection was made, and ended
+  pub run_over_files : (found left : Held (FileStore D g)) → HasFound from found → IsEndOf left ended → (port : ℕ) (old new old_errors new_errors : Option (List ℕ)) (status : ℕ)
+      → IsServeRun (store_ends over_files room connections found left) port old new old_errors new_errors status
+      → IsServeRun (file_ends room connections from ended) port old new old_errors new_errors status
+  run_over_files found left finds ends =
+      let used = λ (Uses : Held (FileStore D g) → Held (FileStore D g) → Type 0) (so : Uses found left).
+      let r : IsUsed from Uses ended = record { found = found; finds = finds; left = left; used = so; ends = ends } in r in
+      run_so (store_ends over_files room connections found left) (file_ends room connections from ended)
+      (λ fault so. inr (used (λ old new. (store_ends over_files room connections old new).refused fault) so))
+      (used (λ old new. (store_ends over_files room connections old new).unserved)) (used (λ old new. (store_ends over_files room connections old new).served))
+      (used (λ old new. (store_ends over_files room connections old new).failed))
+
+  -- no connection could be made
+  pub not_connected : (fault : StoreFault) (any : AnyFault) (port : ℕ) (output old new : Option (List ℕ)) (status : ℕ) → IsRefused false from fault ended → any ≡ of_store fault
+      → IsTold (Some any) old new → status ≡ run_status (Some any) → IsServeRun (file_ends room connections from ended) port output output old new status
+  not_connected fault any port output old new status refused is told status_is =
+      record { outcome = Some any; output = inr (inr ((fault, is, inl refused), Keeps-refl output)); told = told; status_is = status_is }
+
+-- ---- what is told
+
+pub unheard : (fault : AnyFault) (port : ℕ) (at : Option (List ℕ)) → IsNotListening fault → IsUnheard fault port at at
+unheard fault port at why = inr (why, Keeps-refl at)
+
+module _ (port : ℕ) (line slice : List ℕ) (old new : Option (List ℕ)) (is : line ≡ listening_text port) (same : slice ≡ line) where
+  pub line_told : Appends old new slice → Appends old new (listening_text port)
+  line_told all = subst (Appends old new) (same ∙ is) all
+
+  pub line_cut : (fault : AnyFault) → fault ≡ of_program NotWritten → AppendsFront old new slice → IsUnheard fault port old new
+  line_cut fault told front = inl (told, subst (AppendsFront old new) (same ∙ is) front)
+
+pub new_cache_is : (room : ℕ) (cache : CacheLists) → IsAlwaysRight cache → (1 ≤ room → room ≤ 65536 → cache.capacity ≡ room) → IsNewCache room cache
+new_cache_is room cache right size = record { right = right; room_is = size }

@@ -1,0 +1,140 @@
+-- What `serve` does with a store, what it prints, and why it ends.
+use Rattle.std.specs.Prelude.{◌≡◌, ◌≤◌, ◌⊎◌, ◌++◌, ℕ, List, codes, decimal, false, Option, Some, None}
+use Rattle.std.specs.Io.KnownBytes.{Appends, Keeps}
+use Rattle.faults.specs.declared.any.AnyFault.{AnyFault}
+use Rattle.transfer.specs.Transfer.{AppendsFront}
+use Rattle.catalogue.specs.View.{Goes, View}
+use Rattle.chain_cache.specs.Cache.{CacheLists, IsRightFor}
+use Rattle.bureau_store.specs.Tables.{Tables}
+use Rattle.bureau_store.specs.declared.fault.StoreFault.{StoreFault}
+use Rattle.bureau_store.specs.declared.fault.StoreFault.TheVariants as store
+use Rattle.bureau.specs.Answering.{bureau_view}
+use Rattle.bureau.specs.Parts.{Parts}
+use Rattle.bureau_http.specs.Arrivals.{Event}
+use Rattle.bureau_http.specs.Service.{AreServed, IsEnded, IsSound}
+use Rattle.bureau_sql.specs.Opening.{IsNoStore}
+use Rattle.bureau_sql.specs.SqlState.{SqlState}
+use Rattle.bureau_sql.specs.SqlView.{IsAtRest, sql_view}
+use Rattle.sql_state.specs.Reading.{OnlyReads}
+use Rattle.sqlite_disk.specs.declared.Disk as disk
+use Rattle.sqlite_trees.specs.declared.store.Store.{Ghosts}
+use Rattle.sqlite_wal.specs.Recovery.{Image}
+use Rattle.sqlite.specs.Files.{over_files}
+use Rattle.sqlite.specs.Held.{Held, state}
+use Rattle.sqlite.specs.State.{HasCleanDisk}
+use Rattle.bureau_program.specs.Desk.{HasOpened, of_store}
+use Rattle.bureau_program.specs.Ended.{IsRefused, IsUsed}
+use Rattle.bureau_program.specs.Holds.{IsTold, run_status}
+use Rattle.bureau_program.specs.ProgramFault.{of_program}
+use Rattle.bureau_program.specs.Replay.{IsAlwaysRight}
+use Rattle.bureau_program.specs.declared.ended.Ended.{Ended}
+use Rattle.bureau_program.specs.declared.fault.ProgramFault.TheVariants.{NotListening, NotWritten, Memory}
+
+-- where the desk listens
+abbrev pub listening_text : ℕ → List ℕ
+listening_text port = codes "LISTENING 127.0.0.1:" ++ decimal port ++ codes "\n"
+
+-- ---- what a desk does with a store
+
+-- a desk over a store, with the cache that all callers share
+abbrev pub desk_over : {Store : Type 0} → Store → CacheLists → Parts Store CacheLists
+desk_over store cache = record { store = store; judge = cache }
+
+module _ {Store : Type 0} (view : View Store Tables) (log log_after : Option (List Event)) (connections : ℕ) where
+  -- all connections were served, in order, and the device has not failed by then
+  pub record ServesAll (cache : CacheLists) (old new : Store) : Type 0 where
+    pub cache_after : CacheLists
+    pub goes : Goes (bureau_view view IsRightFor) (desk_over old cache) (desk_over new cache_after)
+    pub served : AreServed (bureau_view view IsRightFor) (desk_over old cache) (desk_over new cache_after) log log_after connections
+    pub sound : IsSound (bureau_view view IsRightFor) (desk_over new cache_after) connections
+
+  -- the device failed in one of them, which was the last
+  pub record ServesUntil (cache : CacheLists) (old new : Store) : Type 0 where
+    pub cache_after : CacheLists
+    pub goes : Goes (bureau_view view IsRightFor) (desk_over old cache) (desk_over new cache_after)
+    pub ended : IsEnded (bureau_view view IsRightFor) (desk_over old cache) (desk_over new cache_after) log log_after connections
+
+-- a new cache, which is right for whatever is published, with room for so many frames
+pub record IsNewCache (room : ℕ) (cache : CacheLists) : Type 0 where
+  pub right : IsAlwaysRight cache
+  pub room_is : 1 ≤ room → room ≤ 65536 → cache.capacity ≡ room
+
+-- that was done with a store by a desk with a new cache
+pub record ByDesk {Store : Type 0} (room : ℕ) (Does : CacheLists → Store → Store → Type 0) (old new : Store) : Type 0 where
+  pub cache : CacheLists
+  pub is_new : IsNewCache room cache
+  pub did : Does cache old new
+
+-- ---- how a run may end
+
+-- What is so where a run ends: because its store is refused, by the fault; before a desk listens, or where it can't print that
+-- it does; after all connections; and in the connection in which the device failed.
+pub record Ends : Type 1 where
+  pub refused : StoreFault → Type 0
+  pub unserved : Type 0
+  pub served : Type 0
+  pub failed : Type 0
+
+-- of a store that is open; so many connections of sockets, of which nothing is known
+abbrev pub desk_ends : {S : Type 0} → Ghosts S → ℕ → ℕ → SqlState S → SqlState S → Ends
+desk_ends g room connections old new = record {
+  refused = λ fault. ⊥;
+  unserved = new ≡ old;
+  served = ByDesk room (ServesAll (sql_view g) None None connections) old new;
+  failed = ByDesk room (ServesUntil (sql_view g) None None connections) old new;
+}
+
+-- A store was opened over a connection, and that was done with it. The connection is as it left it.
+pub record IsServedOver {S : Type 0} (g : Ghosts S) (Does : SqlState S → SqlState S → Type 0) (before after : Held S) : Type 0 where
+  pub opened : SqlState S
+  pub has_opened : HasOpened g (state g before) opened
+  pub closing : SqlState S
+  pub did : Does opened closing
+  pub after_is : after ≡ closing.conn
+
+-- of a connection; it was only read where the store in it is refused
+abbrev pub store_ends : {S : Type 0} → Ghosts S → ℕ → ℕ → Held S → Held S → Ends
+store_ends g room connections before after = record {
+  refused = λ fault. IsAtRest (state g before) × OnlyReads (state g before) (state g after)
+      × (HasCleanDisk (state g after) → IsNoStore (state g before) (state g after) fault);
+  unserved = IsServedOver g (λ old new. (desk_ends g room connections old new).unserved) before after;
+  served = IsServedOver g (λ old new. (desk_ends g room connections old new).served) before after;
+  failed = IsServedOver g (λ old new. (desk_ends g room connections old new).failed) before after;
+}
+
+-- of files; no connection to them could be made, or one was
+abbrev pub file_ends : {D : Type 0} {g : disk.Ghosts D} → ℕ → ℕ → Image → Ended D g → Ends
+file_ends room connections from ended = record {
+  refused = λ fault. IsRefused false from fault ended
+      ⊎ IsUsed from (λ found left. (store_ends over_files room connections found left).refused fault) ended;
+  unserved = IsUsed from (λ found left. (store_ends over_files room connections found left).unserved) ended;
+  served = IsUsed from (λ found left. (store_ends over_files room connections found left).served) ended;
+  failed = IsUsed from (λ found left. (store_ends over_files room connections found left).failed) ended;
+}
+
+-- ---- what is told
+
+-- the port can't be listened on, or memory ran out
+abbrev pub IsNotListening : AnyFault → Type 0
+IsNotListening fault = (fault ≡ of_program NotListening) ⊎ (fault ≡ of_program Memory)
+
+-- no desk listens, and standard output stays; or it has a front part of the line
+abbrev pub IsUnheard : AnyFault → ℕ → Option (List ℕ) → Option (List ℕ) → Type 0
+IsUnheard fault port old new =
+    ((fault ≡ of_program NotWritten) × AppendsFront old new (listening_text port)) ⊎ (IsNotListening fault × Keeps old new)
+
+-- What standard output gets, and how the run ended: the line once the desk listens, behind which only a device that failed ends
+-- the run with a fault; a front part of the line where that can't be written; or nothing, where no desk listens.
+abbrev pub IsServeOutput : Ends → Option AnyFault → ℕ → Option (List ℕ) → Option (List ℕ) → Type 0
+IsServeOutput ends None port old new = ends.served × Appends old new (listening_text port)
+IsServeOutput ends (Some fault) port old new =
+    ((fault ≡ of_store store.Device) × ends.failed × Appends old new (listening_text port))
+    ⊎ (ends.unserved × IsUnheard fault port old new)
+    ⊎ (((refused : StoreFault) × (fault ≡ of_store refused) × ends.refused refused) × Keeps old new)
+
+-- A whole run: how it ended, what standard output and standard error get, and the exit status.
+pub record IsServeRun (ends : Ends) (port : ℕ) (old new old_errors new_errors : Option (List ℕ)) (status : ℕ) : Type 0 where
+  pub outcome : Option AnyFault
+  pub output : IsServeOutput ends outcome port old new
+  pub told : IsTold outcome old_errors new_errors
+  pub status_is : status ≡ run_status outcome

@@ -1,0 +1,202 @@
+//! `serve`: a desk whose store is kept in a file.
+ghost use Rattle.std.specs.Prelude.{◌≡◌, IfErr, IfOk, OnErr, OnOk, None, false};
+ghost use Rattle.std.specs.Io.KnownBytes.{Appends};
+ghost use Rattle.bureau_program.specs.Holds.{fault_in};
+ghost use Rattle.bureau_program.specs.Keeping.{KeepsServed};
+ghost use Rattle.bureau_program.specs.Serving.{IsNewCache, IsNotListening, IsServeOutput, IsServeRun, IsUnheard, ServesAll, ServesUntil, desk_ends, file_ends, listening_text, store_ends};
+ghost use Rattle.sqlite_wal.specs.Files.{image_at};
+
+use crate::cache::cache_of;
+use crate::desk::{numbered_line, of_store, printed, run_open, told};
+use crate::ended::{Ended, end};
+use crate::fault::ProgramFault;
+use crate::surroundings::Surroundings;
+use bureau::Bureau;
+use bureau_http::{Listening, Patience, Sockets, serve_while_open};
+use bureau_sql::SqlStore;
+use bureau_store::{Store, StoreFault};
+use chain_cache::ChainCache;
+use faults::AnyFault;
+use sqlite::{Alter, Connection, FileFrom, Start};
+use std::alloc::Global;
+use std::io::Write;
+use std::net::TcpListener;
+use std::time::Clock;
+
+/// How a desk is served: the port of 127.0.0.1 where it listens, how many frames it keeps, and how many connections it
+/// takes.
+#[derive(Clone, Copy, Debug)]
+pub struct Service {
+    pub port: u16,
+    pub cache: u32,
+    pub connections: u32,
+}
+
+/// Serves the desk whose store a file has, to so many connections to a port of 127.0.0.1. Prints where it listens, once
+/// it does. Returns the exit status, and what is left of the files.
+///
+/// A fault is told on `errors` alone. Behind the line only a device that failed is told: then no further connection is
+/// served.
+pub fn run_serve<S: Surroundings + Clock, D: Start, W: Write, E: Write>(
+    surroundings: &S,
+    alloc: Global,
+    service: Service,
+    store: &str,
+    start: D,
+    writer: &mut W,
+    errors: &mut E,
+) -> (u8, Ended<FileFrom<D>>)
+    ensures run { IsServeRun (file_ends service.cache service.connections (image_at D.Start) result.1)
+        service.port (W.contents writer.old) (W.contents writer.new)
+        (E.contents errors.old) (E.contents errors.new) result.0 }
+    ensures named { S.known_store surroundings.now store.now (image_at D.Start) }
+    ensures kept { KeepsServed (image_at D.Start) None None result.1 }
+{
+    match surroundings.connect(store, false, start) {
+        Ok(conn) => {
+            let (status, conn) = open_and_serve(surroundings, alloc, service, conn, writer, errors);
+            (status, end(conn))
+        }
+        Err((fault, ended)) => (told(errors, Err(of_store(fault))), ended),
+    }
+}
+
+/// Serves the desk whose store a connection has, and gives the connection back.
+pub fn open_and_serve<S: Surroundings + Clock, D: Alter + Drop, W: Write, E: Write>(
+    surroundings: &S,
+    alloc: Global,
+    service: Service,
+    conn: Connection<D>,
+    writer: &mut W,
+    errors: &mut E,
+) -> (u8, Connection<D>)
+    requires rest { conn.in_transaction ≡ false }
+    ensures { IsServeRun (store_ends D.Store service.cache service.connections conn result.1)
+        service.port (W.contents writer.old) (W.contents writer.new)
+        (E.contents errors.old) (E.contents errors.new) result.0 }
+{
+    match run_open(alloc, conn, errors) {
+        Ok(store) => {
+            let (served, store) = serve_store(surroundings, alloc, service, store, writer);
+            (told(errors, served), store.into_connection())
+        }
+        Err(refused) => refused,
+    }
+}
+
+// Serves a store, and gives it back.
+fn serve_store<S: Surroundings + Clock, D: Alter + Drop, W: Write>(
+    surroundings: &S,
+    alloc: Global,
+    service: Service,
+    store: SqlStore<D>,
+    writer: &mut W,
+) -> (Result<(), AnyFault>, SqlStore<D>)
+    ensures { IsServeOutput (desk_ends D.Store service.cache service.connections store result.1)
+        (fault_in result.0) service.port (W.contents writer.old) (W.contents writer.new) }
+{
+    match announce(surroundings, alloc, service, writer) {
+        Ok((cache, listener)) => {
+            let connections = service.connections;
+            match serve_sockets(alloc, surroundings, &listener, store, cache, connections) {
+                (Ok(()), store) => (Ok(()), store),
+                (Err(fault), store) => (Err(of_store(fault)), store),
+            }
+        }
+        Err(fault) => (Err(fault), store),
+    }
+}
+
+// Makes the cache, listens, and prints where.
+fn announce<S: Surroundings, W: Write>(
+    surroundings: &S,
+    alloc: Global,
+    service: Service,
+    writer: &mut W,
+) -> Result<(ChainCache, TcpListener), AnyFault>
+    ensures cache { IfOk result (λ both. IsNewCache service.cache both.0) }
+    ensures line { OnOk result (Appends (W.contents writer.old) (W.contents writer.new)
+        (listening_text service.port)) }
+    ensures fault { IfErr result (λ fault. IsUnheard fault service.port
+        (W.contents writer.old) (W.contents writer.new)) }
+{
+    let cache = new_cache(surroundings, alloc, service.cache)?;
+    let line = listening_line(alloc, service.port)?;
+    let listener = listen(surroundings, service.port)?;
+    printed(writer, line.as_slice())?;
+    Ok((cache, listener))
+}
+
+// An empty cache with room for so many frames, which are looked up by keys that nobody knows.
+fn new_cache<S: Surroundings>(
+    surroundings: &S,
+    alloc: Global,
+    capacity: u32,
+) -> Result<ChainCache, AnyFault>
+    ensures cache { IfOk result (IsNewCache capacity) }
+    ensures fault { IfErr result IsNotListening }
+{
+    match surroundings.random_keys() {
+        Ok(keys) => Ok(cache_of(alloc, capacity, keys)?),
+        Err(_) => Err(AnyFault::from(ProgramFault::Memory)),
+    }
+}
+
+// The line that tells where the desk listens.
+fn listening_line(alloc: Global, port: u16) -> Result<Vec<u8>, AnyFault>
+    ensures text { IfOk result (λ text. text.items ≡ listening_text port) }
+    ensures fault { IfErr result IsNotListening }
+{
+    Ok(numbered_line(alloc, b"LISTENING 127.0.0.1:", u64::from(port))?)
+}
+
+fn listen<S: Surroundings>(surroundings: &S, port: u16) -> Result<TcpListener, AnyFault>
+    ensures fault { IfErr result IsNotListening }
+{
+    match surroundings.listen(port) {
+        Ok(listener) => Ok(listener),
+        Err(_) => Err(AnyFault::from(ProgramFault::NotListening)),
+    }
+}
+
+// Serves so many connections that come to a socket's listener.
+fn serve_sockets<C: Clock, S: Store>(
+    alloc: Global,
+    clock: &C,
+    listener: &TcpListener,
+    store: S,
+    cache: ChainCache,
+    connections: u32,
+) -> (Result<(), StoreFault>, S)
+    ensures served { OnOk result.0 (ServesAll S.tables_view None None connections cache store result.1) }
+    ensures ended { OnErr result.0 (ServesUntil S.tables_view None None connections cache store result.1) }
+    ensures fault { IfErr result.0 (λ fault. fault ≡ StoreFault.Device) }
+{
+    let mut sockets = Sockets::new(listener, clock, Patience::usual());
+    serve_arrivals(alloc, store, cache, &mut sockets, connections)
+}
+
+/// Serves so many connections to a desk over a store, one after the other, with a cache that all callers share. Gives
+/// the store back.
+///
+/// # Errors
+///
+/// `Device` once the store's device has failed. Then no further connection is waited for.
+pub fn serve_arrivals<S: Store, L: Listening>(
+    alloc: Global,
+    store: S,
+    cache: ChainCache,
+    listening: &mut L,
+    connections: u32,
+) -> (Result<(), StoreFault>, S)
+    ensures served { OnOk result.0 (ServesAll S.tables_view
+        (L.log listening.old) (L.log listening.new) connections cache store result.1) }
+    ensures ended { OnErr result.0 (ServesUntil S.tables_view
+        (L.log listening.old) (L.log listening.new) connections cache store result.1) }
+    ensures fault { IfErr result.0 (λ fault. fault ≡ StoreFault.Device) }
+{
+    let mut bureau = Bureau::new(alloc, store, cache);
+    let served = serve_while_open(alloc, &mut bureau, listening, connections);
+    let (store, _) = bureau.into_parts();
+    (served, store)
+}
