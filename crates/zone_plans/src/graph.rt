@@ -100,7 +100,12 @@ fn put_given(
     indices.clear();
     let none = None;
     for need in needs {
-        push_answer(indices, ids, left, answer_among(asked, answers, &none, need))?;
+        push_answer(
+            indices,
+            ids,
+            left,
+            answer_among(asked, answers, &none, need),
+        )?;
     }
     Ok(())
 }
@@ -137,12 +142,7 @@ fn push_left(
     Ok(())
 }
 
-fn push_one(
-    indices: &mut Vec<usize>,
-    ids: &[Id],
-    left: &[bool],
-    giver: &Id,
-) -> Result<(), NoMemory>
+fn push_one(indices: &mut Vec<usize>, ids: &[Id], left: &[bool], giver: &Id) -> Result<(), NoMemory>
     requires { Ascend ids.now }
     ensures { OnOk result
         (ArePushed ids.now left.now (giver.now ∷ []) indices.old.items indices.new.items) }
@@ -156,12 +156,7 @@ fn push_one(
 }
 
 // What was answered for one of the needs that were asked for, or what is handed for another.
-fn answer_among<'a>(
-    asked: &[Id],
-    answers: &'a [Answer],
-    other: &'a Answer,
-    id: &Id,
-) -> &'a Answer
+fn answer_among<'a>(asked: &[Id], answers: &'a [Answer], other: &'a Answer, id: &Id) -> &'a Answer
     requires { Ascend asked.now }
     ensures { (f : List ℕ → Option (List (List ℕ)))
         → map (option_map (λ ids. ids.items)) answers.now ≡ map f asked.now
