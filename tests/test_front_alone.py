@@ -155,9 +155,9 @@ def begun(front, address, text, with_tls=True):
     return line
 
 
-def is_refused(line):
+def is_refused(line, seconds=10):
     """Whether a request that has only begun is answered already."""
-    line.settimeout(2)
+    line.settimeout(seconds)
     try:
         return line.recv(100).startswith(b"HTTP/1.1 503")
     except OSError:
@@ -182,7 +182,7 @@ def floods(front, one):
         line.close()
     lines = [begun(front, "127.0.0.4", half % b"") for _ in range(5)]
     same("without a token an address counts", is_refused(lines[4]), True)
-    same("and so do these four alone", [is_refused(line) for line in lines[:1]], [False])
+    same("and so do these four alone", [is_refused(line, 1) for line in lines[:1]], [False])
     for line in lines:
         line.close()
 

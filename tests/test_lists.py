@@ -213,7 +213,7 @@ def lost_statements():
 
 def parts():
     """What is too large for a desk is not printed, and is written in parts that are none too large."""
-    hold = "++HOLD(UJ%05d) ERROR REASON(AJ00001)\n COMMENT(" + "X" * 60 + ")" + "\n /* and so on */" * 40 + ".\n"
+    hold = "++HOLD(UJ%05d) ERROR REASON(AJ00001)\n COMMENT(" + "X" * 60 + ")" + ("\n /* " + "and so on " * 6 + "*/") * 40 + ".\n"
     place = folder()
     # a SYSMOD with its ++VER stands where the first part ends
     count = LIMIT // len(hold % 0)

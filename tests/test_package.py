@@ -56,6 +56,38 @@ def set_up(deb):
     check("the folder, for that user alone", "install -d -o bureau -g bureau -m 700 /var/lib/bureau" in said, said)
 
 
+def calls_in(group):
+    """The system calls of a group, as systemd knows it."""
+    text = subprocess.run(["systemd-analyze", "syscall-filter", group], capture_output=True, text=True).stdout
+    found = set()
+    for name in (line.strip() for line in text.splitlines()[1:]):
+        if name.startswith("@"):
+            found |= calls_in(name)
+        elif name and not name.startswith("#"):
+            found.add(name)
+    return found
+
+
+def calls_of_a_desk(program):
+    """The system calls of a desk that is made a change and asked a report, not as root, in each of its threads."""
+    place = folder()
+    os.chmod(place, 0o777)
+    program = shutil.copy(program, place + "/bureau")
+    user = {"user": 65534, "group": 65534} if os.geteuid() == 0 else {}
+    shutil.copy(SAMPLE + "/callers.csv", place + "/callers.csv")
+    same("a store that is not root's", subprocess.run([program, "init", "store", "callers.csv"], cwd=place, stdout=subprocess.DEVNULL, **user).returncode, 0)
+    trace, port = place + "/trace", str(service.free_port())
+    line = ["strace", "-f", "-qq", "-o", trace, program, "serve", "--port", port, "--connections", "3", "store"]
+    desk = subprocess.Popen(line, cwd=place, stdout=subprocess.PIPE, text=True, **user)
+    desk.stdout.readline()
+    url = "http://127.0.0.1:" + port
+    service.exchange(url, "PUT", "/zones/A", "north-token", 1, b"SYSMOD,STATE\nHBB77E0,APPLIED\n")
+    service.exchange(url, "POST", "/publish", "publisher-token", 1, read(TOP + "/examples/site/publication.txt"))
+    same("it answers", service.exchange(url, "GET", "/zones/A/errsysmods", "north-token")[0], 200)
+    same("and ends", desk.wait(60), 0)
+    return set(re.findall(r"^\d+ +(\w+)\(", read(trace).decode("ascii", "replace"), re.M))
+
+
 made, again = folder(), folder()
 for target in (made, again):
     run = subprocess.run(
@@ -204,6 +236,10 @@ if debs:
         line = ["systemd-analyze", "security", "--offline=yes", "--threshold=30", unit]
         run = subprocess.run(line, capture_output=True, text=True)
         check("systemd calls it exposed by less than 3", run.returncode == 0, run.stdout[-300:] + run.stderr)
+    if shutil.which("systemd-analyze") and shutil.which("strace"):
+        allowed = calls_in("@system-service") - calls_in("@privileged") - calls_in("@resources")
+        called = calls_of_a_desk(place + "/bureau")
+        check("the unit lets a desk do what it does", len(called) > 10 and called <= allowed, called - allowed)
     if shutil.which("lintian"):
         run = subprocess.run(["lintian", "--allow-root", "--fail-on", "error", os.path.join(made, debs[0])], capture_output=True, text=True)
         check("lintian knows no error", run.returncode == 0, run.stdout + run.stderr)

@@ -367,7 +367,17 @@ def paper(browser):
     seen = "(e => e.offsetParent !== null && e.getBoundingClientRect().left >= 0)(document.querySelector('%s'))"
     same("title and level are there", [browser.run(seen % place) for place in ("caption", "#level")], [True, True])
     same("buttons and fields are not", browser.run("[...document.querySelectorAll('button, input, select')].filter(e => e.offsetParent && !e.closest('th')).length"), 0)
+    go(browser, "#")
+    tiles = browser.run("[...document.querySelectorAll('.tile')].filter(e => e.offsetParent).length")
+    same("the sums are all on paper", tiles, 4)
     browser.call("Emulation.setEmulatedMedia", media="")
+    go(browser, "#MIDDLE/plan")
+    browser.until("document.querySelector('.left')")
+    opened = "[...document.querySelectorAll('.left')].map(part => part.open)"
+    browser.run("window.addEventListener('beforeprint', () => { window.opened = %s; })" % opened)
+    browser.call("Page.printToPDF")
+    same("what is left over is opened on paper", browser.run("window.opened"), [True, True])
+    same("and folded afterwards", browser.run(opened), [False, False])
 
 
 def main():

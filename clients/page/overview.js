@@ -57,7 +57,7 @@ export class Overview {
     Object.assign(this, { snapshot, faultOf });
     this.tiles = {
       hiper: tile('HIPER holds', 'class-hiper'), unresolved: tile('Without a resolver', 'status-none'),
-      holds: tile('Held in error', 'plain'), fixes: tile('Fixes missing', 'plain'),
+      holds: tile('Held in error', 'of-all'), fixes: tile('Fixes missing', 'of-all'),
     };
     this.zones = snapshot.zones.map((each, order) => ({
       ...each, order, counts: snapshot.counts.get(each.zone), fault: '', element: make('li', 'zone'),

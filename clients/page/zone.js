@@ -202,7 +202,13 @@ export class ZoneView {
     this.ways.go({ ...this.where, sysmod: '' });
   }
 
+  // On paper nothing is folded away.
   whole(isWhole) {
+    for (const part of this.body.querySelectorAll('details')) {
+      if (isWhole && !part.open) part.dataset.folded = 'yes';
+      part.open = isWhole || !part.dataset.folded && part.open;
+      if (!isWhole) delete part.dataset.folded;
+    }
     this.view?.table?.whole(isWhole);
   }
 }

@@ -1,5 +1,5 @@
 -- What is looked at before a connection is taken for a store leaves it as it was, and says why it isn't.
-use Rattle.std.proofs.Common.{◌≡◌, ◌≢◌, ◌+◌, ◌<◌, ◌≤◌, ℕ, Bor, List, [], Err, IfErr, IsTrue, Ok, OnOk, Result, Some, ap, arith, get_or, inl, inr, length, refl, subst, suc, sym, take, zero}
+use Rattle.std.proofs.Common.{◌≡◌, ◌⊎◌, ◌≢◌, ◌+◌, ◌<◌, ◌≤◌, ℕ, Bor, List, [], Err, IfErr, IsTrue, Ok, OnOk, Result, Some, ap, arith, get_or, inl, inr, length, refl, subst, suc, sym, take, zero}
 use Rattle.std.specs.List.{AllByRecursion, Contains}
 use Rattle.std.specs.Prelude.{◌∷◌, Option, codes, unwrap_or}
 use Rattle.std.proofs.lemmas.Bool.{cases_Bool}
@@ -20,7 +20,7 @@ use Rattle.sqlite_trees.specs.declared.store.Store.{Ghosts}
 use Rattle.sql_state.specs.Earlier.{IsOfVersion1}
 use Rattle.sql_state.specs.Ours.{AreOurs, IsOurs, held_by}
 use Rattle.sql_state.specs.Reading.{HasFailed, OnlyReads}
-use Rattle.sql_reads.specs.Version.{WithholdsVersion}
+use Rattle.sql_reads.specs.Version.{MeansNothing, Withholds, WithholdsVersion}
 use Rattle.sql_tables.specs.Stored.{tables_of}
 use Rattle.sql_tables.proofs.MemberFacts.{cases_in, first_in, none_in, rest_in}
 use Rattle.sql_texts.specs.Meaning.{MakesTable, Reads}
@@ -111,12 +111,22 @@ pub same_version : {A : Type 0} (version : Option ℕ) (wanted : ℕ) (new : Sta
 same_version version wanted new database (Ok a) same tells = λ clean. subst (λ v. TellsVersion v database) same (tells clean)
 same_version version wanted new database (Err e) same tells = tt
 
-pub other_version : {A : Type 0} (version : Option ℕ) (wanted : ℕ) (old new : State) (result : Result A StoreFault) → IfErr result (λ fault. (fault ≡ Version) × (version ≢ Some wanted))
+pub other_version : {A : Type 0} (Means : Type 0) (version : Option ℕ) (wanted : ℕ) (old new : State) (result : Result A StoreFault) → IfErr result (λ fault. (fault ≡ Version) × (version ≢ Some wanted))
     → (HasCleanDisk new → IsTrue old.is_open) → (HasCleanDisk new → TellsVersion version old.committed)
-    → IfErr result (λ fault. HasCleanDisk new → IsSeen (λ database. ⊥) (IsOther wanted) old new fault)
-other_version version wanted old new (Ok a) other is_open tells = tt
-other_version version wanted old new (Err fault) other is_open tells = λ clean.
+    → IfErr result (λ fault. HasCleanDisk new → Means → IsSeen (λ database. ⊥) (IsOther wanted) old new fault)
+other_version Means version wanted old new (Ok a) other is_open tells = tt
+other_version Means version wanted old new (Err fault) other is_open tells = λ clean means.
     subst (IsSeen (λ database. ⊥) (IsOther wanted) old new) (sym other.0) (is_open clean, (version, other.1, tells clean))
+
+-- a failure that a read of the version tells, where the text means something
+pub version_failed : (text : List ℕ) (old new : State) → IsAskedBy of_version text → HasFailed old new ⊎ (MeansNothing text old.committed ⊎ Withholds old.step_limit text [] old.committed)
+    → (IsTrue old.is_open → IsUnderstood old.committed.schema text) → HasFailed old new ⊎ WithholdsVersion old.step_limit old.committed
+version_failed text old new asks (inl failed) means = inl failed
+version_failed text old new asks (inr (inr withheld)) means = inr (text, asks, withheld)
+version_failed text old new asks (inr (inl nothing)) means = elim (cases_Bool old.is_open) [
+  | inl on ↦ let it = means on in absurd (nothing it.0 it.1)
+  | inr shut ↦ inl (inr shut)
+]
 
 -- ---- what was seen
 

@@ -1,5 +1,5 @@
 //! What is looked at before a connection is taken for a store.
-ghost use Rattle.std.specs.Prelude.{◌≡◌, ◌≢◌, IfErr, IfOk, IsTrue, OnOk, Some, false};
+ghost use Rattle.std.specs.Prelude.{◌≡◌, ◌≢◌, ◌∷◌, [], codes, IfErr, IfOk, IsTrue, OnOk, Some, false};
 ghost use Rattle.std.specs.List.{AllByRecursion};
 ghost use Rattle.bureau_store.specs.declared.fault.StoreFault.TheVariants.{Version};
 ghost use Rattle.sqlite.specs.Held.{state};
@@ -8,7 +8,10 @@ ghost use Rattle.sql_state.specs.Ours.{IsOurs, held_by};
 ghost use Rattle.sql_state.specs.Reading.{OnlyReads};
 ghost use Rattle.sql_reads.specs.Version.{HasVersion};
 ghost use Rattle.sql_tables.specs.Stored.{tables_of};
-ghost use Rattle.bureau_sql.specs.Opening.{HasConditions, HasTables, IsNoStore, IsOneStatement, IsOther, IsSeen, IsToldOf, IsUnderstood, LacksMore, LacksTables, LacksText, LacksVersion, TellsVersion};
+ghost use Rattle.bureau_sql.specs.Opening.{HasConditions, HasTables, IsNoStore, IsAskedBy, IsOneStatement, IsOther, IsSeen, IsToldOf, IsUnderstood, LacksMore, LacksTables, LacksText, LacksVersion, TellsVersion, of_version};
+ghost use Rattle.sql_texts.specs.Meaning.{Reads};
+ghost use Rattle.sql_texts.specs.Reads as read;
+ghost use Rattle.sql_texts.specs.Schema.{bureau_1};
 ghost use Rattle.bureau_sql.specs.SqlView.{IsAtRest, IsOurStore, shown, sql_view};
 
 use crate::SqlStore;
@@ -63,9 +66,11 @@ fn same(version: Option<u64>, wanted: u64) -> Result<(), StoreFault>
     }
 }
 
-// Whether the tables are of a version.
-fn is_version<S: Alter>(conn: &mut Connection<S>, wanted: u64) -> Result<(), StoreFault>
-    requires { conn.old.in_transaction ≡ false }
+// Whether the tables are of a version, by a text that asks for it.
+fn is_version<S: Alter>(conn: &mut Connection<S>, text: &str, wanted: u64) -> Result<(), StoreFault>
+    requires rest { conn.old.in_transaction ≡ false }
+    requires asks { IsAskedBy of_version text.now }
+    requires earlier { Reads bureau_1 text.now read.version (codes "version" ∷ []) 0 }
     ensures reads { OnlyReads (state S.Store conn.old) (state S.Store conn.new) }
     ensures mode { conn.new.in_transaction ≡ false }
     ensures is_open { OnOk result (HasCleanDisk (state S.Store conn.new)
@@ -73,9 +78,11 @@ fn is_version<S: Alter>(conn: &mut Connection<S>, wanted: u64) -> Result<(), Sto
     ensures version { OnOk result (HasCleanDisk (state S.Store conn.new)
         → TellsVersion (Some wanted) (state S.Store conn.old).committed) }
     ensures cause { IfErr result (λ fault. HasCleanDisk (state S.Store conn.new)
+        → (IsTrue (state S.Store conn.old).is_open
+        → IsUnderstood (state S.Store conn.old).committed.schema text.now)
         → IsSeen (λ database. ⊥) (IsOther wanted) (state S.Store conn.old) (state S.Store conn.new) fault) }
 {
-    match version(conn) {
+    match version(conn, text) {
         Ok(version) => same(version, wanted),
         Err(ReadFault::Memory) => Err(StoreFault::Memory),
         Err(ReadFault::Device) => Err(StoreFault::Device),
@@ -138,8 +145,9 @@ fn has_version<S: Alter>(conn: &mut Connection<S>, wanted: u64) -> Result<(), St
     ensures cause { IfErr result (λ fault. HasCleanDisk (state S.Store conn.new)
         → IsSeen LacksVersion (IsOther wanted) (state S.Store conn.old) (state S.Store conn.new) fault) }
 {
-    can_read(conn, read::version())?;
-    is_version(conn, wanted)
+    let text = read::version();
+    can_read(conn, text)?;
+    is_version(conn, text, wanted)
 }
 
 /// Whether a connection holds tables of a version, with which this text too means something, and is open.

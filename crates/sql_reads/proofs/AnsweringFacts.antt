@@ -1,5 +1,5 @@
 -- What a text that reads leaves of a connection, and what it shows.
-use Rattle.std.proofs.Common.{◌≡◌, ◌≤◌, ◌⊎◌, ℕ, List, [], length, refl, sym, ◌∙◌, ap, subst, inl, inr, Ok, Err, None, IsTrue}
+use Rattle.std.proofs.Common.{◌≡◌, ◌⊎◌, ℕ, List, refl, sym, ◌∙◌, ap, subst, inl, inr, Ok, Err, None, IsTrue}
 use Rattle.std.specs.Prelude.{Vec}
 use Rattle.std.specs.declared.alloc.Global.{Global}
 use Rattle.std.proofs.Math.Path.{fun_ext}
@@ -9,6 +9,7 @@ use Rattle.sqlite.specs.declared.error.Error.{Error}
 use Rattle.sqlite.specs.Query.{IsAnswer, Query}
 use Rattle.sqlite.specs.Schema.{Schema}
 use Rattle.sqlite.specs.Clock.{timed}
+use Rattle.sqlite.specs.Effect.{Database}
 use Rattle.sqlite.specs.State.{CommitsShowing, FailsToQuery, FailsToShow, HasCleanDisk, IsNoStatement, IsNotRun, Shown, ShowsRows, State, Survives, store_error}
 use Rattle.sqlite.specs.Tree.{Trees}
 use Rattle.sqlite_resolve.specs.declared.compiled.Compiled.{Compiled}
@@ -21,7 +22,7 @@ use Rattle.sql_state.proofs.ReadFacts.{refused_keeps, shown_unchanged, survives_
 use Rattle.sql_state.proofs.StopFacts.{failed_by, kept_unchanged}
 use Rattle.sql_state.specs.Reading.{HasFailed}
 use Rattle.sql_reads.specs.Answering.{Answers, IsRead}
-use Rattle.sql_reads.specs.Version.{Shows, Withholds}
+use Rattle.sql_reads.specs.Version.{MeansNothing, Shows, Withholds}
 use Rattle.sql_reads.proofs.QuietFacts.{quiet}
 
 -- what is shown is an answer over what is committed
@@ -46,30 +47,34 @@ shows text params old new rows read shown =
     record { compiled = shown.0; means = it.is; source = answer.0; from = answer.1; now = it.now; answer = answer.2 }
 
 -- why it is refused, other than for want of memory
-withheld : (text : List ℕ) (params : Row) (old : State) (e : Error) → IsNoStatement old text params e → Withholds old.step_limit text params old.now
-withheld text params old e (inl fault) = inl (λ compiled means whole given timeless. let none = sym fault.1 ∙ means in cc)
-withheld text params old e (inr it) = inl (λ compiled means whole given timeless.
-    let both = sym it.1 ∙ means in
-    let same : it.0 ≡ compiled = cc in
-    elim it.2 [
-      | inl more ↦ more.0 (subst (λ (c : Compiled). length text ≤ c.tail) (sym same) whole)
-      | inr rest ↦ elim rest [
-        | inl other ↦ other.0 (subst (λ (c : Compiled). length params ≡ length c.names) (sym same) given)
-        | inr reads_time ↦ reads_time.0 (subst (λ (c : Compiled). c.formats ≡ []) (sym same) timeless)
-      ]
-    ])
+abbrev IsUnanswered : State → List ℕ → Row → Database → Type 0
+IsUnanswered at text params database = MeansNothing text database ⊎ Withholds at.step_limit text params database
+
+withheld : (text : List ℕ) (params : Row) (old : State) (e : Error) → IsNoStatement old text params e → IsUnanswered old text params old.now
+withheld text params old e (inl fault) = inl (λ compiled means. let none = sym fault.1 ∙ means in cc)
+withheld text params old e (inr it) = inr (
+  it.0,
+  it.1,
+  inl (λ whole given timeless. elim it.2 [
+    | inl more ↦ more.0 whole
+    | inr rest ↦ elim rest [
+      | inl other ↦ other.0 given
+      | inr reads_time ↦ reads_time.0 timeless
+    ]
+  ]),
+)
 
 pub refused_for : (text : List ℕ) (params : Row) (old new : State) → IsRead text → (IsTrue old.is_open → old.now ≡ old.committed) → (e : Error) → FailsToQuery text params old new e
-    → (e ≡ store_error OutOfMemory → ⊥) → HasFailed old new ⊎ Withholds old.step_limit text params old.committed
+    → (e ≡ store_error OutOfMemory → ⊥) → HasFailed old new ⊎ IsUnanswered old text params old.committed
 unfolding FailsToQuery IsNotRun
 refused_for text params old new read settled e (inl (inl none)) known =
-    inr (subst (Withholds old.step_limit text params) (settled none.1.0.was_open) (withheld text params old e none.0))
+    inr (subst (IsUnanswered old text params) (settled none.1.0.was_open) (withheld text params old e none.0))
 refused_for text params old new read settled e (inl (inr failed)) known = inl (failed_by old new e failed known)
 refused_for text params old new read settled e (inr it) known =
     let why : FailsToShow old new text it.0 (timed params it.0.formats it.1.now) e None =
     subst (FailsToShow old new text it.0 (timed params it.0.formats it.1.now) e) (plain text old read it.0 it.1.is) it.2 in
-    let seen : Withholds old.step_limit text params old.now = inr (it.0, it.1.is, why.0, why.1, it.1.now, e, why.2) in
-    inr (subst (Withholds old.step_limit text params) (settled why.3.0.was_open) seen)
+    let seen : IsUnanswered old text params old.now = inr (it.0, it.1.is, inr (why.0, why.1, it.1.now, e, why.2)) in
+    inr (subst (IsUnanswered old text params) (settled why.3.0.was_open) seen)
 
 module _ {Fault : Type 0} (text : List ℕ) (params : Row) (old new : State) (read : IsRead text) (kept : Survives old new (CommitsShowing text params old)) where
   pub answers_rows : (rows : Vec Row Global) → (IsTrue old.is_open → old.now ≡ old.committed) → (HasCleanDisk new → Shown text params old new rows.items)

@@ -13,7 +13,7 @@ use Rattle.sql_tables.specs.Stored.{name_of}
 use Rattle.sql_state.specs.Reading.{HasFailed, OnlyReads}
 use Rattle.sql_texts.specs.Meaning.{Reads}
 use Rattle.sql_texts.specs.Schema.{bureau}
-use Rattle.sql_reads.specs.Version.{Shows, Withholds}
+use Rattle.sql_reads.specs.Version.{MeansNothing, Shows, Withholds}
 use Rattle.sql_reads.specs.declared.fault.ReadFault.{ReadFault}
 use Rattle.sql_reads.specs.declared.fault.ReadFault.TheVariants.{Device}
 
@@ -30,9 +30,10 @@ pub record Answers {Fault : Type 0} (text : List ℕ) (params : Row) (old new : 
       → IsAnswer query old.committed.trees params rows.items)
   pub shown : IfOk result (λ rows. HasCleanDisk new → Shows text params old.committed rows.items)
 
--- Why a text is refused: for want of memory; or the device has failed, or the text shows nothing of these rows.
+-- Why a text is refused: for want of memory; or the device has failed, or the text means or shows nothing here.
 abbrev pub IsRefusedFor : List ℕ → Row → State → State → ReadFault → Type 0
-IsRefusedFor text params old new fault = fault ≡ Device → HasFailed old new ⊎ Withholds old.step_limit text params old.committed
+IsRefusedFor text params old new fault =
+    fault ≡ Device → HasFailed old new ⊎ (MeansNothing text old.committed ⊎ Withholds old.step_limit text params old.committed)
 
 -- what one row says, or nothing where there is no row; no answer where the row says nothing, or where there are more
 abbrev pub one_of : {A : Type 0} → (Row → Option A) → List Row → Option (Option A)

@@ -28,14 +28,17 @@ pub record Shows (text : List ℕ) (params : Row) (database : Database) (rows : 
   pub now : ℕ
   pub answer : effect.Reads compiled.command source (timed params compiled.formats now) rows
 
--- Or it isn't one statement with so many parameters, and none that reads the time; or its query is refused over these rows.
+-- Or it means nothing under them.
+abbrev pub MeansNothing : List ℕ → Database → Type 0
+MeansNothing text database = (compiled : Compiled) → understood database.schema text ≡ Ok compiled → ⊥
+
+-- Or it means something, and shows nothing all the same: it is more than one statement, takes other parameters, or reads the
+-- time; or its query is refused over these rows.
 abbrev pub Withholds : Option ℕ → List ℕ → Row → Database → Type 0
-Withholds limit text params database =
-    ((compiled : Compiled) → understood database.schema text ≡ Ok compiled → length text ≤ compiled.tail
-    → length params ≡ length compiled.names → compiled.formats ≡ [] → ⊥)
-    ⊎ ((compiled : Compiled) × (understood database.schema text ≡ Ok compiled) × (source : Database)
-    × IsSourceOf (reads_listing database.schema text) database source
-    × (now : ℕ) × (error : Error) × RefusesToRead limit compiled.command source (timed params compiled.formats now) error)
+Withholds limit text params database = (compiled : Compiled) × (understood database.schema text ≡ Ok compiled)
+    × ((length text ≤ compiled.tail → length params ≡ length compiled.names → compiled.formats ≡ [] → ⊥)
+    ⊎ ((source : Database) × IsSourceOf (reads_listing database.schema text) database source
+    × (now : ℕ) × (error : Error) × RefusesToRead limit compiled.command source (timed params compiled.formats now) error))
 
 -- A text that asks the bureau's tables for their version shows rows here that tell this version, or none.
 pub record HasVersion (version : Option ℕ) (database : Database) : Type 0 where
@@ -45,7 +48,7 @@ pub record HasVersion (version : Option ℕ) (database : Database) : Type 0 wher
   pub shown : Shows text [] database rows
   pub told : version ≡ version_in rows
 
--- Such a text shows nothing here.
+-- Such a text means something here, and shows nothing.
 abbrev pub WithholdsVersion : Option ℕ → Database → Type 0
 WithholdsVersion limit database =
     (text : List ℕ) × Reads bureau text read.version (codes "version" ∷ []) 0 × Withholds limit text [] database

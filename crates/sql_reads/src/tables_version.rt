@@ -1,8 +1,11 @@
 //! The version of the tables.
-ghost use Rattle.std.specs.Prelude.{◌≡◌, ◌⊎◌, IfErr, IfOk, IsTrue, Some, false};
+ghost use Rattle.std.specs.Prelude.{◌≡◌, ◌⊎◌, ◌∷◌, [], codes, IfErr, IfOk, IsTrue, Some, false};
 ghost use Rattle.sqlite.specs.Held.{state};
 ghost use Rattle.sqlite.specs.State.{HasCleanDisk};
-ghost use Rattle.sql_reads.specs.Version.{HasVersion, WithholdsVersion, version_in};
+ghost use Rattle.sql_reads.specs.Version.{HasVersion, MeansNothing, Withholds, version_in};
+ghost use Rattle.sql_texts.specs.Meaning.{Reads};
+ghost use Rattle.sql_texts.specs.Reads as read;
+ghost use Rattle.sql_texts.specs.Schema.{bureau, bureau_1};
 ghost use Rattle.sql_reads.specs.declared.fault.ReadFault.TheVariants.{Device};
 ghost use Rattle.sql_state.specs.Earlier.{IsOfVersion1};
 ghost use Rattle.sql_state.specs.Ours.{IsOurs};
@@ -11,17 +14,18 @@ ghost use Rattle.sql_state.specs.Reading.{HasFailed, OnlyReads};
 use crate::ReadFault;
 use crate::rows::rows_of;
 use sql_tables::count_in;
-use sql_texts::read;
 use sqlite::{Alter, Connection, Row};
 
-/// The version of the tables, or `None` where not one row tells it. Tables of the bureau's own are of version 2; those
-/// of version 1 lack one table.
+/// The version of the tables, by a text that asks for it, or `None` where not one row tells it. Tables of the bureau's
+/// own are of version 2; those of version 1 lack one table.
 ///
 /// # Errors
 ///
 /// Those of [`ReadFault`].
-pub fn version<S: Alter>(conn: &mut Connection<S>) -> Result<Option<u64>, ReadFault>
+pub fn version<S: Alter>(conn: &mut Connection<S>, text: &str) -> Result<Option<u64>, ReadFault>
     requires rest { conn.old.in_transaction ≡ false }
+    requires asks { Reads bureau text.now read.version (codes "version" ∷ []) 0 }
+    requires earlier { Reads bureau_1 text.now read.version (codes "version" ∷ []) 0 }
     ensures mode { conn.new.in_transaction ≡ false }
     ensures reads { OnlyReads (state S.Store conn.old) (state S.Store conn.new) }
     ensures is_open { IfOk result (λ version. HasCleanDisk (state S.Store conn.new)
@@ -34,9 +38,10 @@ pub fn version<S: Alter>(conn: &mut Connection<S>) -> Result<Option<u64>, ReadFa
         → IsOfVersion1 (state S.Store conn.old).committed → version ≡ Some 1) }
     ensures cause { IfErr result (λ fault. HasCleanDisk (state S.Store conn.new) → fault ≡ Device
         → HasFailed (state S.Store conn.old) (state S.Store conn.new)
-        ⊎ WithholdsVersion (state S.Store conn.old).step_limit (state S.Store conn.old).committed) }
+        ⊎ (MeansNothing text.now (state S.Store conn.old).committed
+        ⊎ Withholds (state S.Store conn.old).step_limit text.now [] (state S.Store conn.old).committed)) }
 {
-    let rows = rows_of(conn, read::version(), &[])?;
+    let rows = rows_of(conn, text, &[])?;
     Ok(told(rows.as_slice()))
 }
 

@@ -220,7 +220,8 @@ fn first_giver<P: Published>(
 
 // The first of those that the first answer has.
 fn first_of(answers: &[Answer]) -> Option<Id>
-    ensures { (answer : Option (List (List ℕ))) → map (option_map (λ ids. ids.items)) answers.now ≡ answer ∷ []
+    ensures { (answer : Option (List (List ℕ))) → map (option_map (λ ids. ids.items))
+        answers.now ≡ answer ∷ []
         → result ≡ Plans.first_giver answer }
 {
     match answers {

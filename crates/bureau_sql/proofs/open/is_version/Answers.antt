@@ -1,7 +1,7 @@
 use Rattle.sqlite.specs.Held.{state}
 use Rattle.sqlite.specs.State.{HasCleanDisk}
 use Rattle.bureau_sql.specs.Opening.{TellsVersion}
-use Rattle.bureau_sql.proofs.OpenFacts.{other_version, same_version}
+use Rattle.bureau_sql.proofs.OpenFacts.{other_version, same_version, version_failed}
 use Rattle.bureau_sql.proofs.open.is_version.Goals as goal
 
 tells : (g : _) (c : goal.After-same g) → HasCleanDisk (state g.S.Store c.version.new.conn) → TellsVersion c.in-Ok.version (state g.S.Store c.args.conn.now).committed
@@ -13,5 +13,10 @@ returns-in-Ok-clause-version g c =
 
 pub returns-in-Ok-clause-cause : goal.returns-in-Ok-clause-cause
 returns-in-Ok-clause-cause g c =
-    other_version c.in-Ok.version c.args.wanted (state g.S.Store c.args.conn.now) (state g.S.Store c.version.new.conn) c.same.result c.same.ensures.fault
+    other_version _ c.in-Ok.version c.args.wanted (state g.S.Store c.args.conn.now) (state g.S.Store c.version.new.conn) c.same.result c.same.ensures.fault
     (λ clean. (c.in-Ok.ensures.reads.keeps clean).was_open (c.in-Ok.ensures.is_open clean)) (tells g c)
+
+pub returns-in-Err-Device-clause-cause : goal.returns-in-Err-Device-clause-cause
+returns-in-Err-Device-clause-cause g c clean means =
+    version_failed c.args.text.now (state g.S.Store c.args.conn.now) (state g.S.Store c.version.new.conn) c.requires.asks
+    (c.in-Err-Device.ensures.cause clean c.in-Err-Device.field-0-is) means

@@ -9,6 +9,7 @@ use sql_reads::{
     ReadFault, caller_of, counts, held_in, holds_on, ids, last, patterns, received, superseders,
     sysmod, version, zone, zone_count, zones,
 };
+use sql_texts::read;
 use sqlite::{Alter, Connection};
 use std::alloc::Global;
 
@@ -142,5 +143,5 @@ pub(crate) fn totals<S: Alter>(conn: &mut Connection<S>) -> Result<(u64, u64), R
 }
 
 pub(crate) fn tables_version<S: Alter>(conn: &mut Connection<S>) -> Result<Option<u64>, ReadFault> {
-    version(at_rest(conn)?)
+    version(at_rest(conn)?, read::version())
 }

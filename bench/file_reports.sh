@@ -1,0 +1,26 @@
+#!/usr/bin/env bash
+# Makes the program `file_reports`, which prints a report from files, and prints where it is: bench/file_reports.sh [OPTIONS OF rt run]
+#
+#   file_reports err|missing|chain ZONE.csv RECEIVED.csv CATEGORIES.csv NAME SYSMOD FILE..
+#
+# The program bench/file_reports/main.rt.txt is proved and built over copies of the crates, under bench/out; what was proved of
+# them before is copied too.
+set -euo pipefail
+top=$(cd "$(dirname "$0")/.." && pwd)
+work=$top/bench/out/file_reports
+below='faults columns mcs_reader holddata zone_lists catalogue supersede requisites chains reports bureau_store bureau file_reports'
+mkdir -p "$work/crates/from_files/src"
+: > "$work/crates.txt"
+for crate in $below; do
+    rm -rf "$work/crates/$crate"
+    cp -a "$top/crates/$crate" "$work/crates/$crate"
+    grep "^$crate:" "$top/crates.txt" >> "$work/crates.txt"
+done
+echo 'from_files: anyhow file_reports mcs_reader' >> "$work/crates.txt"
+cp "$top/bench/file_reports/main.rt.txt" "$work/crates/from_files/src/main.rt"
+cp "$top/HANDLES" "$work/"
+cd "$work/crates/from_files"
+# It is run without words, so it ends with an error: whether it was built is seen by its file.
+rm -f out/from_files
+rt run "$@" > "$work/built" 2>&1 || [ -x out/from_files ] || { cat "$work/built"; exit 1; }
+echo "$work/crates/from_files/out/from_files"
