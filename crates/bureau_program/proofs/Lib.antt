@@ -1,3 +1,4 @@
+pub mod ArrivalFacts
 pub mod BookFacts
 pub mod DeskFacts
 pub mod EndFacts

@@ -1,3 +1,4 @@
+pub mod Arrived
 pub mod Desk
 pub mod Ended
 pub mod Holds

@@ -1,7 +1,9 @@
 //! `serve`: a desk whose store is kept in a file.
 ghost use Rattle.std.specs.Prelude.{◌≡◌, IfErr, IfOk, OnErr, OnOk, None, false};
 ghost use Rattle.std.specs.Io.KnownBytes.{Appends};
+ghost use Rattle.bureau_program.specs.Arrived.{KeepsOver};
 ghost use Rattle.bureau_program.specs.Holds.{fault_in};
+ghost use Rattle.bureau_program.specs.Replay.{IsAlwaysRight};
 ghost use Rattle.bureau_program.specs.Keeping.{KeepsServed};
 ghost use Rattle.bureau_program.specs.Serving.{IsNewCache, IsNotListening, IsServeOutput, IsServeRun, IsUnheard, ServesAll, ServesUntil, desk_ends, file_ends, listening_text, store_ends};
 ghost use Rattle.sqlite_wal.specs.Files.{image_at};
@@ -17,7 +19,8 @@ use bureau_sql::SqlStore;
 use bureau_store::{Store, StoreFault};
 use chain_cache::ChainCache;
 use faults::AnyFault;
-use sqlite::{Alter, Connection, FileFrom, Start};
+use sqlite::{Alter, Connection, FileFrom, FileStore, Start};
+use sqlite_disk::Disk;
 use std::alloc::Global;
 use std::io::Write;
 use std::net::TcpListener;
@@ -174,6 +177,23 @@ fn serve_sockets<C: Clock, S: Store>(
 {
     let mut sockets = Sockets::new(listener, clock, Patience::usual());
     serve_arrivals(alloc, store, cache, &mut sockets, connections)
+}
+
+/// Serves so many connections to a desk over a store that is kept in files, and ends its connection. Whatever a stop
+/// leaves of the files from then on, the next opening finds the store in it, with the tables after the calls of the
+/// connections that came (`kept`): for every source of connections that knows what came, and for whatever the files held.
+pub fn serve_files<L: Listening, D: Disk + Drop>(
+    alloc: Global,
+    store: SqlStore<FileStore<D>>,
+    cache: ChainCache,
+    listening: &mut L,
+    connections: u32,
+) -> (Result<(), StoreFault>, Ended<D>)
+    ensures kept { IsAlwaysRight cache
+        → KeepsOver (L.log listening.old) (L.log listening.new) store result.1 }
+{
+    let (served, store) = serve_arrivals(alloc, store, cache, listening, connections);
+    (served, end(store.into_connection()))
 }
 
 /// Serves so many connections to a desk over a store, one after the other, with a cache that all callers share. Gives
