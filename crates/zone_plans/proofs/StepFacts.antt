@@ -69,7 +69,6 @@ module _ (content : Content) (rows : List ZoneRow) (chosen ids : List (List ℕ)
     (started : AreStartsOf ids above left chosen starts)
     (reached : AreReachedFrom needs starts members)
     (stepped : AreSteps needs members steps) where
-
   as_many : length readings ≡ length ids
   as_many = ap length read ∙ length-map ids (reading_of content rows)
 
@@ -269,7 +268,7 @@ module _ (content : Content) (rows : List ZoneRow) (chosen ids : List (List ℕ)
           subst P p.is (subst Q q.is (leads_by_id p.from q.from (own_marked p.from p.member) (next.together p.from q.from p.member q.member)));
     },
     (let R : List (List (List ℕ)) → Type 0 = λ l. AreStepsAfter content rows (joined (ids_of_steps ids steps)) l (ids_of_steps ids later) in
-    subst R (joined_steps before step) (order_by_id (before ++ step ∷ []) later still later_marked still_closed order.1)),
+        subst R (joined_steps before step) (order_by_id (before ++ step ∷ []) later still later_marked still_closed order.1)),
   ) where
     next : IsNext needs (length members) before step
     next = order.0

@@ -94,7 +94,7 @@ IsBlockedRow content rows seen id [] = ¬ IsHeld (verdict_of content rows id)
 IsBlockedRow content rows seen id (need ∷ later) =
     (verdict_of content rows id ≡ held need)
     × GoesOn (unless_seen seen (first_giver (candidates_unless_there content rows need)))
-      (λ giver. IsBlockedRow content rows (seen ++ giver ∷ []) giver later) later
+    (λ giver. IsBlockedRow content rows (seen ++ giver ∷ []) giver later) later
 
 -- ---- plans
 

@@ -22,8 +22,8 @@ pub(crate) type Answer = Option<Vec<Id>>;
 /// By index, what each member supersedes among the members.
 pub(crate) fn sup_rows(alloc: Global, ids: &[Id], readings: &[Reading]) -> Result<Rows, NoMemory>
     requires { Ascend ids.now }
-    ensures { IfOk result (λ rows. RowsAre (λ p indices. AreIndicesOf ids.now (sups_at readings.now p) indices)
-        (length readings.now) rows) }
+    ensures { IfOk result (λ rows. RowsAre
+        (λ p indices. AreIndicesOf ids.now (sups_at readings.now p) indices) (length readings.now) rows) }
 {
     let mut rows = Rows::new(alloc);
     let mut own = Vec::new(alloc);
@@ -69,7 +69,8 @@ pub(crate) fn need_rows(
     requires ascend { Ascend ids.now }
     requires asked { Ascend asked.now }
     ensures { IfOk result (λ rows. (f : List ℕ → Option (List (List ℕ)))
-        → map (option_map (λ ids. ids.items)) answers.now ≡ map f asked.now → asked.now ≡ all_needs readings.now
+        → map (option_map (λ ids. ids.items)) answers.now ≡ map f asked.now
+        → asked.now ≡ all_needs readings.now
         → AreGiven f ids.now left.now readings.now rows) }
 {
     let mut rows = Rows::new(alloc);
@@ -100,7 +101,12 @@ fn put_given(
     indices.clear();
     let none = None;
     for need in needs {
-        push_answer(indices, ids, left, answer_among(asked, answers, &none, need))?;
+        push_answer(
+            indices,
+            ids,
+            left,
+            answer_among(asked, answers, &none, need),
+        )?;
     }
     Ok(())
 }
@@ -112,7 +118,8 @@ fn push_answer(
     answer: &Answer,
 ) -> Result<(), NoMemory>
     requires { Ascend ids.now }
-    ensures { OnOk result (AreAnswered ids.now left.now (option_map (λ ids. ids.items) answer.now) indices.old.items indices.new.items) }
+    ensures { OnOk result (AreAnswered ids.now left.now (option_map (λ ids. ids.items) answer.now)
+        indices.old.items indices.new.items) }
 {
     match answer {
         Some(givers) => push_left(indices, ids, left, givers),
@@ -137,12 +144,7 @@ fn push_left(
     Ok(())
 }
 
-fn push_one(
-    indices: &mut Vec<usize>,
-    ids: &[Id],
-    left: &[bool],
-    giver: &Id,
-) -> Result<(), NoMemory>
+fn push_one(indices: &mut Vec<usize>, ids: &[Id], left: &[bool], giver: &Id) -> Result<(), NoMemory>
     requires { Ascend ids.now }
     ensures { OnOk result
         (ArePushed ids.now left.now (giver.now ∷ []) indices.old.items indices.new.items) }
@@ -156,12 +158,7 @@ fn push_one(
 }
 
 // What was answered for one of the needs that were asked for, or what is handed for another.
-fn answer_among<'a>(
-    asked: &[Id],
-    answers: &'a [Answer],
-    other: &'a Answer,
-    id: &Id,
-) -> &'a Answer
+fn answer_among<'a>(asked: &[Id], answers: &'a [Answer], other: &'a Answer, id: &Id) -> &'a Answer
     requires { Ascend asked.now }
     ensures { (f : List ℕ → Option (List (List ℕ)))
         → map (option_map (λ ids. ids.items)) answers.now ≡ map f asked.now

@@ -82,8 +82,8 @@ fn id_at(ids: &[Id], index: usize) -> Id
     ids[index]
 }
 
-/// The steps in which is installed what the chosen plans of some resolvers have, by what was read: what another member
-/// supersedes is left out, and what nothing needs then.
+/// The steps in which is installed what the chosen plans of some resolvers have, by what was read: what another
+/// member supersedes is left out, and what nothing needs then.
 pub(crate) fn zone_steps(
     alloc: Global,
     ids: Vec<Id>,
@@ -99,8 +99,10 @@ pub(crate) fn zone_steps(
         → ids.items ≡ united content rows chosen.now
         → readings.now ≡ map (reading_of content rows) ids.items
         → asked.now ≡ all_needs readings.now
-        → map (option_map (λ ids. ids.items)) answers.now ≡ map (candidates_unless_there content rows) asked.now
-        → ((id : List ℕ) → Contains chosen.now id → judge.status_of (verdict_of content rows id) ≡ status.Good)
+        → map (option_map (λ ids. ids.items)) answers.now
+        ≡ map (candidates_unless_there content rows) asked.now
+        → ((id : List ℕ) → Contains chosen.now id
+        → judge.status_of (verdict_of content rows id) ≡ status.Good)
         → AreZoneSteps content rows chosen.now steps) }
 {
     let rows = step_rows(alloc, &ids, readings, asked, answers, chosen)?;
@@ -124,8 +126,10 @@ fn step_rows(
         → ids.now ≡ united content rows chosen.now
         → readings.now ≡ map (reading_of content rows) ids.now
         → asked.now ≡ all_needs readings.now
-        → map (option_map (λ ids. ids.items)) answers.now ≡ map (candidates_unless_there content rows) asked.now
-        → ((id : List ℕ) → Contains chosen.now id → judge.status_of (verdict_of content rows id) ≡ status.Good)
+        → map (option_map (λ ids. ids.items)) answers.now
+        ≡ map (candidates_unless_there content rows) asked.now
+        → ((id : List ℕ) → Contains chosen.now id
+        → judge.status_of (verdict_of content rows id) ≡ status.Good)
         → AreZoneSteps content rows chosen.now (ids_of_steps ids.now found)) }
 {
     let below = sup_rows(alloc, ids, readings)?;

@@ -15,9 +15,11 @@ needs-preserved g c =
     (told_both c.in_ok-step.ensures.step c.in_ok-step.ensures.right) (λ content so_far both. λ right.
     let was = so_far right in
     let e : On c.in-On.need c.in-On.giver ≡ step_by content rows seen (verdict_of content rows c.needs.id) =
-        sym c.in-On.is ∙ both.0 was.1 ∙ ap (λ (l : List (List ℕ)). step_by content rows l (verdict_of content rows c.needs.id)) c.deref.ensures.value in
-    (row_goes_on content rows c.args.resolver.now seen c.needs.row.items c.needs.id was.0 c.push-in-On-2.new.self.items c.push-in-On.new.self.items c.in-On.need c.in-On.giver e
-      c.in_ok-push-in-On.ensures.items c.in_ok-push-in-On-2.ensures.items, both.1 was.1))
+    sym c.in-On.is ∙ both.0 was.1 ∙ ap (λ (l : List (List ℕ)). step_by content rows l (verdict_of content rows c.needs.id)) c.deref.ensures.value in (
+      row_goes_on content rows c.args.resolver.now seen c.needs.row.items c.needs.id was.0 c.push-in-On-2.new.self.items c.push-in-On.new.self.items c.in-On.need c.in-On.giver e
+          c.in_ok-push-in-On.ensures.items c.in_ok-push-in-On-2.ensures.items,
+      both.1 was.1,
+    ))
 
 pub returns-in-Stop-clause-row : goal.returns-in-Stop-clause-row
 returns-in-Stop-clause-row g c =
@@ -28,4 +30,3 @@ returns-in-Stop-clause-row g c =
     let was = so_far right in
     row_stops content rows c.args.resolver.now seen c.needs.row.items c.needs.id was.0
     (sym c.in-Stop.is ∙ step was.1 ∙ ap (λ (l : List (List ℕ)). step_by content rows l (verdict_of content rows c.needs.id)) c.deref.ensures.value))
-

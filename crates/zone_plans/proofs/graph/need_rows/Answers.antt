@@ -19,8 +19,8 @@ loop-reading-preserved c = λ f are asked.
     let P : List (List ℕ) → Type 0 = λ l. AreGivenIndices f ids left l c.put_given.new.indices.items in
     let Q : List ℕ → Type 0 = λ l. c.push_row.new.self ≡ c.loop-reading.rows ++ l ∷ [] in
     let own = c.in_ok-put_given.ensures f are (λ need inside.
-        let N : List (List ℕ) → Type 0 = λ l. Contains l need in
-        need_asked readings c.args.asked.now i reading need asked c.loop-reading-test.true c.reading-item.is (subst N c.needs.ensures inside)) in
+    let N : List (List ℕ) → Type 0 = λ l. Contains l need in
+    need_asked readings c.args.asked.now i reading need asked c.loop-reading-test.true c.reading-item.is (subst N c.needs.ensures inside)) in
     rows_more (λ p indices. AreGivenIndices f ids left (needs_at readings p) indices) i c.loop-reading.rows c.push_row.new.self c.put_given.new.indices.items (c.loop-reading.invariant f are asked)
     (subst P (c.needs.ensures ∙ sym (list_of_item (λ (r : ReadingLists). r.needs) readings i reading c.loop-reading-test.true c.reading-item.is)) own)
     (subst Q c.deref.ensures.value c.in_ok-push_row.ensures.rows)

@@ -19,4 +19,4 @@ returns-clause-placed g c =
     ap (λ s. placed_as s c.reason.result c.fate_by.result) c.sysmod.ensures
     ∙ ap (λ r. placed_as c.args.hold.now.sysmod r c.fate_by.result) c.reason.ensures
     ∙ ap (placed_as c.args.hold.now.sysmod c.args.hold.now.reason)
-      (c.fate_by.ensures ∙ ap (λ (o : Option (List ℕ)). fate_by o c.in_ok-held.held) good ∙ ap (fate_by (choice content status.Good c.args.hold.now)) held))
+    (c.fate_by.ensures ∙ ap (λ (o : Option (List ℕ)). fate_by o c.in_ok-held.held) good ∙ ap (fate_by (choice content status.Good c.args.hold.now)) held))
