@@ -1,20 +1,18 @@
 -- What is said of the resolvers of a report's holds is so.
-use Rattle.std.proofs.Common.{◌≡◌, ◌∙◌, ◌⊎◌, ◌+◌, ◌<◌, ℕ, List, [], ◌∷◌, ◌++◌, Bool, true, false, cond, Option, Some, None, length, get_or, take, map, refl, sym, ap, subst, inl, inr, append_assoc}
+use Rattle.std.proofs.Common.{◌≡◌, ◌∙◌, ◌+◌, ◌<◌, ℕ, List, [], ◌∷◌, ◌++◌, Bool, true, false, cond, Option, Some, None, length, get_or, take, refl, sym, ap, subst, inl, inr, append_assoc}
 use Rattle.std.specs.Option.{option_map}
-use Rattle.std.specs.Prelude.{not}
-use Rattle.std.specs.List.{Contains, cons_option, filter, flat_map, fold}
+use Rattle.std.specs.List.{Contains, cons_option, fold}
 use Rattle.std.proofs.lemmas.List.{take_more}
-use Rattle.std.proofs.lemmas.List.Elements.{Contains-append_cases, Contains-push}
+use Rattle.std.proofs.lemmas.List.Elements.{Contains-append_cases}
 use Rattle.std.proofs.lemmas.List.Sums.{fold-append}
 use Rattle.zone_lists.specs.declared.zones.ZoneRow.{ZoneRow}
 use Rattle.catalogue.specs.Content.{Content}
 use Rattle.holddata.specs.declared.hold.Hold.{Hold}
 use Rattle.chains.specs.Judge.{status_of}
 use Rattle.chains.specs.Verdicts.{verdict_of}
-use Rattle.chains.specs.declared.verdict.Status.{Status}
 use Rattle.chains.proofs.SearchFacts.{first_inside, inside_cases, map_from, none_inside, rest_inside}
 use Rattle.reports.specs.ErrRows.{err_row, err_rows_of, err_rows_of_hold}
-use Rattle.reports.specs.MissingRows.{Missing, missing_row, missing_rows_of, missing_rows_of_category}
+use Rattle.reports.specs.MissingRows.{missing_row, missing_rows_of, missing_rows_of_category}
 use Rattle.reports.specs.Resolvers.{is_received, status_in}
 use Rattle.reports.specs.declared.rows.ErrRow.{ErrRow}
 use Rattle.reports.specs.declared.rows.MissingRow.{MissingRow}
