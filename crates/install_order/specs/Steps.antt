@@ -1,5 +1,5 @@
 -- In which order nodes are installed (IBM z/OS SMP/E Reference, `++VER`, operands PRE and REQ).
-use Rattle.std.specs.Prelude.{◌≡◌, ◌<◌, ◌≤◌, ◌⊎◌, ◌++◌, ◌↔◌, ℕ, List, [], ◌∷◌, Bool, false, Option, Some, length, Contains}
+use Rattle.std.specs.Prelude.{◌≡◌, ◌<◌, ◌≤◌, ◌⊎◌, ◌++◌, ℕ, List, [], ◌∷◌, Bool, false, Option, Some, length, Contains}
 use Rattle.std.specs.List.Sorted.{IsStrictlyIncreasing}
 use Rattle.requisites.specs.Good.{marked_count}
 use Rattle.requisites.specs.Leads.{Leads}

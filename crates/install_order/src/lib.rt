@@ -1,5 +1,5 @@
-//! Which members of a plan are left where one supersedes another, and in which steps the rest is installed (IBM z/OS SMP/E
-//! Reference, `++VER`, operands PRE, REQ and SUP), over nodes by their indices in a list.
+//! Which members of a plan are left where one supersedes another, and in which steps the rest is installed
+//! (IBM z/OS SMP/E Reference, `++VER`, operands PRE, REQ and SUP), over nodes by their indices in a list.
 //!
 //! - [`left_marks`]: those that no other one left supersedes
 //! - [`steps`]: the order of installation: what a node needs comes before it, and what need one another come together
@@ -17,7 +17,7 @@
 //! let left = left_marks(alloc, &superseders, 3)?;
 //! assert_eq!(rt; left.as_slice(), [false, true, true].as_slice());
 //! let steps = steps(alloc, &needs, &left)?;
-//! assert!(rt; steps.len() == 2 && steps[0].as_slice() == [2].as_slice());
+//! assert!(rt; steps.len() == 2 && steps.row(0) == [2].as_slice());
 //! ```
 #![tactic(auto)]
 

@@ -1,16 +1,16 @@
 //! The steps in which nodes are installed.
-ghost use Rattle.std.specs.Prelude.{◌≡◌, ◌<◌, ◌++◌, ◌∷◌, [], ℕ, Contains, IfOk, OnOk, length, true, false};
+ghost use Rattle.std.specs.Prelude.{◌≡◌, ◌<◌, IfOk, OnOk, length, true, false};
 ghost use Rattle.std.specs.Bool.{OnFalse, OnTrue};
 ghost use Rattle.requisites.specs.Good.{marked_count};
-ghost use Rattle.requisites.specs.Nodes.{AreReversed, IsMarked, row};
+ghost use Rattle.requisites.specs.Nodes.{AreReversed};
 ghost use Rattle.install_order.specs.Steps.{AreSteps, AreTakenOut, Goes, IsAnyLeft, IsClosed, IsReady};
 
 use crate::rings::ring_of;
 use requisites::{NoMemory, Rows, is_marked, turned};
 use std::alloc::Global;
 
-/// The steps in which the marked nodes are installed, as rows: what a node needs stands in a step before or in its own, and
-/// all in a step need one another. What a marked node needs has to be marked too.
+/// The steps in which the marked nodes are installed, as rows: what a node needs stands in a step before or in its
+/// own, and all in a step need one another. What a marked node needs has to be marked too.
 ///
 /// Where nodes need what stands before them in the list, one pass over nodes and links finds all steps. There is a pass
 /// more for each need of a later one that hangs on another, and for each ring of nodes that need one another.

@@ -1,6 +1,5 @@
 -- Rows of blocked needs.
-use Rattle.std.proofs.Common.{◌≡◌, ◌∙◌, ◌⊎◌, ◌+◌, ◌<◌, length, get_or, ℕ, List, [], ◌∷◌, ◌++◌, Bool, true, false, cond, Option, Some, None, map, take, refl, sym, ap, subst, inl, inr, append_assoc}
-use Rattle.std.specs.Prelude.{IfSome}
+use Rattle.std.proofs.Common.{◌≡◌, ◌∙◌, ◌+◌, ◌<◌, length, get_or, ℕ, List, [], ◌∷◌, ◌++◌, Option, Some, None, map, take, refl, sym, ap, subst, inl, inr, append_assoc}
 use Rattle.std.specs.List.{Contains, cons_option, filter_map}
 use Rattle.std.proofs.lemmas.List.{append-nil, map-append, take_more}
 use Rattle.std.proofs.lemmas.List.Elements.{Contains-push_cases}

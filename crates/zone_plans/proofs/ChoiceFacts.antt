@@ -1,7 +1,7 @@
 -- What is taken of lists, one after the other.
 use Rattle.std.proofs.Common.{◌≡◌, ◌∙◌, ◌+◌, ◌<◌, ℕ, List, [], ◌∷◌, ◌++◌, Bool, true, false, cond, not, Option, Some, None, length, get_or, take, map, refl, sym, ap}
 use Rattle.std.specs.BTreeSet.{insert_key}
-use Rattle.std.specs.List.{cons_option, filter, filter_map, flat_map, fold}
+use Rattle.std.specs.List.{cons_option, filter, filter_map, flat_map}
 use Rattle.std.proofs.lemmas.List.{append-nil, map-append, take_more}
 use Rattle.std.proofs.lemmas.List.Concat.{flat_map-append}
 use Rattle.std.proofs.lemmas.List.Sums.{fold-append}
@@ -10,7 +10,6 @@ use Rattle.catalogue.specs.Ids.{id_cmp, in_order, put_among, same_id}
 use Rattle.supersede.specs.Giving.{sup_of}
 use Rattle.catalogue.proofs.IdFacts.{in_order_any}
 use Rattle.supersede.specs.Reach.{has, is_other}
-use Rattle.zone_plans.specs.Choices.{superseded_by}
 
 pub filter_push : {X : Type 0} (f : X → Bool) (xs : List X) (x : X) → filter f (xs ++ x ∷ []) ≡ filter f xs ++ cond (f x) (x ∷ []) []
 filter_push f [] x = refl

@@ -1,5 +1,5 @@
 -- Members by their indices.
-use Rattle.std.proofs.Common.{◌≡◌, ◌∙◌, ◌+◌, ◌<◌, ◌⊎◌, ℕ, zero, suc, List, [], ◌∷◌, ◌++◌, Bool, true, false, Option, Some, None, length, get_or, take, map, refl, sym, ap, subst, inl, inr, arith}
+use Rattle.std.proofs.Common.{◌≡◌, ◌∙◌, ◌+◌, ◌<◌, ℕ, zero, suc, List, [], ◌∷◌, ◌++◌, Bool, true, false, Option, Some, None, length, get_or, take, map, refl, sym, ap, subst, inl, inr, arith}
 use Rattle.std.specs.Bool.{OnFalse, OnTrue}
 use Rattle.std.specs.List.{Contains, flat_map, slice_get}
 use Rattle.std.proofs.lemmas.Bool.{cases_lt}
@@ -8,7 +8,7 @@ use Rattle.std.proofs.lemmas.List.Elements.{Contains-append_cases, Contains-appe
 use Rattle.catalogue.specs.Ids.{Ascend}
 use Rattle.catalogue.proofs.IdFacts.{in_order_has}
 use Rattle.supersede.specs.Reach.{has}
-use Rattle.requisites.specs.Nodes.{IsMarked, mark_of}
+use Rattle.requisites.specs.Nodes.{mark_of}
 use Rattle.requisites.specs.Sources.{HasSource, source_of}
 use Rattle.requisites.proofs.SourceFacts.{marked_inside}
 use Rattle.chains.specs.Cuts.{id_at}

@@ -4,4 +4,5 @@ pub mod GraphFacts
 pub mod MarkFacts
 pub mod PlanFacts
 pub mod PlannedFacts
+pub mod ReportFacts
 pub mod StepFacts

@@ -8,7 +8,7 @@ use Rattle.supersede.specs.Reach.{has}
 use Rattle.requisites.specs.Leads.{Leads}
 use Rattle.requisites.specs.Nodes.{IsMarked, Links, mark_of}
 use Rattle.requisites.specs.Sources.{AreLeastSources, HasSource, source_of}
-use Rattle.requisites.proofs.LeadsFacts.{leads_itself, leads_more}
+use Rattle.requisites.proofs.LeadsFacts.{leads_more}
 use Rattle.requisites.proofs.SourceFacts.{marked_inside}
 use Rattle.install_order.specs.Steps.{AreSteps, IsClosed}
 use Rattle.std.proofs.lemmas.List.Elements.{Contains-get_or}

@@ -1,10 +1,9 @@
 -- The plan for the holds of a report.
-use Rattle.std.proofs.Common.{◌≡◌, ◌∙◌, ◌⊎◌, ℕ, zero, suc, ◌-◌, List, [], ◌∷◌, ◌++◌, Bool, true, false, Option, Some, None, length, map, take, get_or, refl, sym, ap, subst, inl, inr, ◌+◌, ◌<◌}
+use Rattle.std.proofs.Common.{◌≡◌, ◌∙◌, ◌⊎◌, ℕ, zero, suc, ◌-◌, List, [], ◌∷◌, Bool, true, Option, Some, None, length, map, refl, sym, ap, subst, inl, inr}
 use Rattle.std.specs.Prelude.{IfSome, not}
 use Rattle.std.specs.List.{Contains, cons_option, filter, filter_map, slice_get}
 use Rattle.zone_lists.specs.declared.zones.ZoneRow.{ZoneRow}
 use Rattle.catalogue.specs.Content.{Content}
-use Rattle.catalogue.specs.Ids.{in_order}
 use Rattle.catalogue.proofs.IdFacts.{in_order_has}
 use Rattle.supersede.specs.Reach.{has}
 use Rattle.chains.specs.Judge.{status_of}
@@ -12,13 +11,11 @@ use Rattle.chains.specs.Verdicts.{verdict_of}
 use Rattle.chains.specs.declared.verdict.Status.{Status}
 use Rattle.chains.specs.declared.verdict.Status.TheVariants.{Good, Held, Lack}
 use Rattle.chains.proofs.SearchFacts.{first_inside, inside_cases, kept_from, map_from, map_inside, none_inside, rest_inside}
-use Rattle.zone_plans.specs.Choices.{HoldLists, choice, last_of, of_status, on_top, or_all, received_or_all, same_status, superseded_by}
+use Rattle.zone_plans.specs.Choices.{HoldLists, choice, of_status, on_top, or_all, received_or_all, same_status, superseded_by}
 use Rattle.zone_plans.specs.Members.{AreZoneSteps, IsGivenBy, joined}
-use Rattle.zone_plans.specs.Plans.{AreBlocked, AreTold, HeldLists, IsZonePlan, PlanLists, chosen_in, fate_by, placed, resolver_by, unresolved_in}
+use Rattle.zone_plans.specs.Plans.{AreBlocked, AreTold, HeldLists, IsZonePlan, chosen_in, fate_by, placed, resolver_by, unresolved_in}
 use Rattle.zone_plans.specs.declared.holds.HoldOn.{HoldOn}
 use Rattle.zone_plans.specs.declared.holds.Resolver.{Resolver}
-use Rattle.zone_plans.specs.declared.placing.Fate.{Fate}
-use Rattle.zone_plans.specs.declared.placing.Fate.TheVariants.{Resolved, Waiting, Unresolved}
 use Rattle.zone_plans.specs.declared.placing.Placed.{Placed}
 use Rattle.zone_plans.proofs.BlockedFacts.{row_ungiven}
 

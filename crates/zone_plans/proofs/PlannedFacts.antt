@@ -1,5 +1,5 @@
 -- What chosen plans have together is a plan.
-use Rattle.std.proofs.Common.{◌≡◌, ◌∙◌, ◌&&◌, ◌⊎◌, ℕ, List, [], ◌∷◌, ◌++◌, Bool, true, false, cond, Option, Some, None, refl, sym, ap, subst, inl, inr}
+use Rattle.std.proofs.Common.{◌≡◌, ◌&&◌, ℕ, List, [], ◌∷◌, Bool, true, false, cond, Option, Some, None, refl, sym, ap, subst, inl, inr}
 use Rattle.std.specs.Prelude.{IsSomeAnd}
 use Rattle.std.specs.List.{Contains, filter, find, flat_map}
 use Rattle.std.proofs.lemmas.List.Elements.{Contains-append_cases, Contains-append_left, Contains-append_right}
@@ -11,12 +11,11 @@ use Rattle.catalogue.proofs.IdFacts.{in_order_ascends, in_order_has}
 use Rattle.supersede.specs.Giving.{gives, givers_of, is_candidate, is_there, needs_in, sup_of}
 use Rattle.supersede.specs.Leading.{Gives, IsThere}
 use Rattle.supersede.proofs.LeadingFacts.{gives_is, there_is}
-use Rattle.requisites.specs.Leads.{Leads}
 use Rattle.requisites.specs.World.{IsChosen, IsGood, IsGoodGiver, IsPick, PicksFor}
 use Rattle.requisites.proofs.LeadsFacts.{leads_closed, leads_itself, leads_more}
 use Rattle.chains.specs.Candidates.{candidates_unless_there}
 use Rattle.chains.specs.Judge.{status_of}
-use Rattle.chains.specs.Verdicts.{Judged, candidates, good, held, is_good, lack, verdict_of}
+use Rattle.chains.specs.Verdicts.{Judged, good, held, is_good, lack, verdict_of}
 use Rattle.chains.specs.Worlds.{IsVerdict, world_of}
 use Rattle.chains.specs.declared.verdict.Status.TheVariants as status
 use Rattle.chains.proofs.GoodFacts.{candidate_inside, good_found, good_from}

@@ -1,28 +1,24 @@
 -- The members of a plan, by index and by id.
-use Rattle.std.proofs.Common.{◌≡◌, ◌∙◌, ◌<◌, ◌+◌, ◌⊎◌, ℕ, List, [], ◌∷◌, ◌++◌, Bool, true, false, cond, Option, Some, None, length, get_or, map, refl, sym, ap, subst, inl, inr, arith, append_assoc}
-use Rattle.std.specs.List.{Contains, filter, flat_map}
-use Rattle.std.proofs.lemmas.Grind.{common_steps}
-use Rattle.std.proofs.lemmas.List.{append-nil, length-map, map-append}
-use Rattle.std.proofs.lemmas.List.Elements.{Contains-append_cases, Contains-append_left, Contains-append_right, Contains-push, Contains-push_cases}
+use Rattle.std.proofs.Common.{◌≡◌, ◌∙◌, ◌<◌, ◌⊎◌, ℕ, List, [], ◌∷◌, ◌++◌, Bool, true, false, length, get_or, map, refl, sym, ap, subst, inl, inr, arith}
+use Rattle.std.specs.List.{Contains, filter}
+use Rattle.std.proofs.lemmas.List.{length-map, map-append}
 use Rattle.zone_lists.specs.declared.zones.ZoneRow.{ZoneRow}
-use Rattle.catalogue.specs.Content.{Content, IsCatalogued, Supersedes, record_of}
+use Rattle.catalogue.specs.Content.{Content, Supersedes, record_of}
 use Rattle.catalogue.specs.Ids.{Ascend}
 use Rattle.supersede.specs.Giving.{givers_of, is_candidate, is_there, needs_in, sup_of}
 use Rattle.supersede.specs.Leading.{Gives, IsThere}
-use Rattle.supersede.proofs.LeadingFacts.{gives_is, there_is}
-use Rattle.supersede.specs.Reach.{has}
+use Rattle.supersede.proofs.LeadingFacts.{there_is}
 use Rattle.requisites.specs.Leads.{Leads}
-use Rattle.requisites.specs.Nodes.{AreReversed, IsMarked, Links, mark_of, row}
-use Rattle.requisites.specs.Sources.{AreLeastSources, HasSource, source_of}
+use Rattle.requisites.specs.Nodes.{AreReversed, IsMarked, Links, row}
 use Rattle.requisites.specs.World.{IsGivenIn, IsPlan}
 use Rattle.requisites.proofs.LeadsFacts.{leads_closed, leads_itself, leads_more}
 use Rattle.requisites.proofs.SourceFacts.{marked_inside}
 use Rattle.install_order.specs.Left.{AreLeft}
 use Rattle.install_order.specs.Steps.{AreSteps, InOrder, IsClosed, IsNext, StandsIn}
-use Rattle.install_order.proofs.PutFacts.{stands_before, stands_cases, stands_last}
+use Rattle.install_order.proofs.PutFacts.{stands_before, stands_cases}
 use Rattle.chains.specs.Candidates.{candidates_unless_there}
 use Rattle.chains.specs.Cuts.{id_at}
-use Rattle.chains.specs.Indices.{AreIndicesOf, IsAt, RowsAre}
+use Rattle.chains.specs.Indices.{AreIndicesOf, RowsAre}
 use Rattle.chains.specs.Judge.{status_of}
 use Rattle.chains.specs.Verdicts.{verdict_of}
 use Rattle.chains.specs.Worlds.{world_of}
@@ -32,7 +28,7 @@ use Rattle.chains.proofs.IndexFacts.{at_inside, inside_at}
 use Rattle.chains.proofs.PartFacts.{at_map}
 use Rattle.chains.proofs.SearchFacts.{first_inside, map_from, map_inside, rest_inside}
 use Rattle.zone_plans.specs.Graphs.{AreGiven, AreReachedFrom, AreStartsOf, ReadingLists, ids_of_steps, needs_at, reading_of, sups_at}
-use Rattle.zone_plans.specs.Members.{AreStepsAfter, AreZoneSteps, HasCause, IsGivenBy, IsNextStep, IsPlanned, NeedsMember, joined, united}
+use Rattle.zone_plans.specs.Members.{AreStepsAfter, AreZoneSteps, HasCause, IsGivenBy, IsPlanned, NeedsMember, joined, united}
 use Rattle.zone_plans.proofs.PlannedFacts.{answer_for, answer_has, answer_says, catalogued, chosen_in_united, flat_from, flat_inside, gives_itself, gives_up, member_candidate, named_by, need_given, planned, supersedes_by}
 
 -- ---- steps by id

@@ -1,5 +1,5 @@
 -- Which of the SYSMODs that resolve a hold is chosen (IBM z/OS SMP/E Reference, `++VER`, operand SUP).
-use Rattle.std.specs.Prelude.{ℕ, Bool, true, false, not, List, [], ◌∷◌, Option, Some, None, filter, length, map, ◌-◌}
+use Rattle.std.specs.Prelude.{ℕ, Bool, true, false, not, List, [], ◌∷◌, Option, filter, length, map, ◌-◌}
 use Rattle.std.specs.List.{flat_map, slice_get}
 use Rattle.catalogue.specs.Content.{Content, record_of}
 use Rattle.supersede.specs.Giving.{sup_of}

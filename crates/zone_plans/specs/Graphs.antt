@@ -1,5 +1,5 @@
 -- No part of what is promised: private contracts cite it. Members by their indices in a list that ascends.
-use Rattle.std.specs.Prelude.{◌≡◌, ◌<◌, ◌++◌, ◌↔◌, ◌⊎◌, ℕ, Bool, true, List, [], ◌∷◌, Option, Some, None, length, map, Contains, slice_index_or}
+use Rattle.std.specs.Prelude.{◌≡◌, ◌<◌, ◌++◌, ◌⊎◌, ℕ, Bool, List, [], Option, Some, None, length, map, Contains, slice_index_or}
 use Rattle.std.specs.List.{flat_map}
 use Rattle.holddata.specs.declared.hold.Hold.{Hold}
 use Rattle.zone_lists.specs.declared.zones.ZoneRow.{ZoneRow}

@@ -3,3 +3,4 @@ pub mod Members
 pub mod Graphs
 pub mod Plans
 pub mod BlockedSteps
+pub mod ReportHolds

@@ -51,8 +51,8 @@ impl HeldHold {
         self.resolver
     }
 
-    /// The needs that block it. The first is its own blocked need; each next one blocks the least candidate that gives
-    /// the one before; the last is given by no candidate, or by one that was come to before.
+    /// The needs that block it. The first is its own blocked need; each next one blocks the least candidate that
+    /// gives the one before; the last is given by no candidate, or by one that was come to before.
     pub fn blocked(&self) -> &[Id]
         ensures { result.now ≡ self.now.blocked }
     {
@@ -220,8 +220,8 @@ fn first_giver<P: Published>(
 
 // The first of those that the first answer has.
 fn first_of(answers: &[Answer]) -> Option<Id>
-    ensures { (answer : Option (List (List ℕ))) → map (option_map (λ ids. ids.items))
-        answers.now ≡ answer ∷ []
+    ensures { (answer : Option (List (List ℕ)))
+        → map (option_map (λ ids. ids.items)) answers.now ≡ answer ∷ []
         → result ≡ Plans.first_giver answer }
 {
     match answers {

@@ -23,8 +23,7 @@ pub(crate) type Answer = Option<Vec<Id>>;
 pub(crate) fn sup_rows(alloc: Global, ids: &[Id], readings: &[Reading]) -> Result<Rows, NoMemory>
     requires { Ascend ids.now }
     ensures { IfOk result (λ rows. RowsAre
-        (λ p indices. AreIndicesOf ids.now (sups_at readings.now p) indices)
-        (length readings.now) rows) }
+        (λ p indices. AreIndicesOf ids.now (sups_at readings.now p) indices) (length readings.now) rows) }
 {
     let mut rows = Rows::new(alloc);
     let mut own = Vec::new(alloc);
@@ -119,8 +118,8 @@ fn push_answer(
     answer: &Answer,
 ) -> Result<(), NoMemory>
     requires { Ascend ids.now }
-    ensures { OnOk result
-        (AreAnswered ids.now left.now (option_map (λ ids. ids.items) answer.now) indices.old.items indices.new.items) }
+    ensures { OnOk result (AreAnswered ids.now left.now (option_map (λ ids. ids.items) answer.now)
+        indices.old.items indices.new.items) }
 {
     match answer {
         Some(givers) => push_left(indices, ids, left, givers),

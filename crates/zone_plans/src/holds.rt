@@ -1,6 +1,7 @@
 //! The holds of a report, with what resolves each.
 
 use chains::Status;
+use faults::NoMemory;
 use mcs_reader::Id;
 use std::alloc::Global;
 use std::marker::Model;
@@ -42,7 +43,44 @@ impl Model for HoldResolvers {
 }
 
 impl HoldResolvers {
-    ghost use Rattle.std.specs.Prelude.{◌≡◌};
+    ghost use Rattle.std.specs.Prelude.{◌≡◌, IfOk, OnOk};
+    ghost use Rattle.zone_plans.specs.ReportHolds as Spec;
+
+    /// The hold with a resolver, or with none. Others may be added.
+    pub(crate) fn begun(
+        alloc: Global,
+        hold: HoldOn,
+        resolver: Option<Resolver>,
+    ) -> Result<Self, NoMemory>
+        ensures { IfOk result (λ begun. begun ≡ Spec.begun hold resolver) }
+    {
+        let mut resolvers = Vec::new(alloc);
+        if let Some(resolver) = resolver {
+            resolvers.push(resolver)?;
+        }
+        Ok(HoldResolvers {
+            sysmod: hold.sysmod,
+            reason: hold.reason,
+            resolvers,
+        })
+    }
+
+    /// Whether it is of this hold.
+    pub(crate) fn is_of(&self, hold: &HoldOn) -> bool
+        ensures { result ≡ Spec.is_of self.now hold.now }
+    {
+        self.sysmod == hold.sysmod && self.reason == hold.reason
+    }
+
+    /// Adds a resolver, if there is one.
+    pub(crate) fn add(&mut self, resolver: Option<Resolver>) -> Result<(), NoMemory>
+        ensures { OnOk result (self.new ≡ Spec.with_resolver self.old resolver) }
+    {
+        if let Some(resolver) = resolver {
+            self.resolvers.push(resolver)?;
+        }
+        Ok(())
+    }
 
     /// The hold on a SYSMOD, with its reason and what resolves it. It takes no memory.
     pub fn new(sysmod: Id, reason: Id, resolvers: Vec<Resolver>) -> Self

@@ -1,5 +1,24 @@
-//! One plan for a zone: what is to be installed so that the holds of a report are resolved, and in which order (IBM z/OS
-//! SMP/E Reference, `++VER`, operands PRE, REQ and SUP).
+//! One plan for a zone: what is to be installed so that the holds of a report are resolved, and in which order
+//! (IBM z/OS SMP/E Reference, `++VER`, operands PRE, REQ and SUP).
+//!
+//! - [`err_plan`], [`missing_plan`]: the plans for the two reports, as a [`ZonePlan`]
+//! - [`zone_plan`]: the plan for some holds, each with what resolves it: [`HoldResolvers`], [`Resolver`]
+//! - [`err_holds`], [`missing_holds`]: the holds of the rows of each report
+//! - [`Steps`]: what is to be installed, step by step
+//! - [`HoldOn`]: a hold by its SYSMOD and its reason; [`HeldHold`]: one of which each resolver is HELD, with what blocks it
+//!
+//! ```
+//! // what isn't named here is of catalogue, chains, mcs_reader, supersede and zone_lists
+//! use zone_plans::err_plan;
+//! let source = b"++HOLD(UJ90101) ERROR FMID(HBB77E0) REASON(AJ00001) CLASS(PE).\n\
+//! ++PTF(UJ90102).\n++VER(Z038) FMID(HBB77E0) SUP(AJ00001).\n";
+//! let mut lists = ListPublished::new(alloc);
+//! lists.publish(&read_changes(alloc, &read(alloc, source)?)?)?;
+//! let zone = Zone::from_rows(zone_rows(alloc, b"SYSMOD,STATE\nHBB77E0,APPLIED\nUJ90101,APPLIED\n")?);
+//! let holds = lists.holds_on(&Id::new(b"UJ90101").ok_or("an id")?)?;
+//! let plan = err_plan(alloc, &mut lists, &mut Whole::new(), &zone, &[], &holds)?;
+//! assert!(rt; plan.steps().len() == 1 && plan.steps().step(alloc, 0)?.len() == 1); // UJ90102
+//! ```
 #![tactic(auto)]
 
 mod blocked;
@@ -10,10 +29,14 @@ mod marks;
 mod placing;
 mod plan;
 mod reading;
+mod report_holds;
+mod report_plans;
 mod steps;
 mod united;
 
 pub use blocked::HeldHold;
 pub use holds::{HoldOn, HoldResolvers, Resolver};
 pub use plan::{ZonePlan, zone_plan};
+pub use report_holds::{err_holds, missing_holds};
+pub use report_plans::{err_plan, missing_plan};
 pub use steps::Steps;

@@ -61,11 +61,13 @@ impl ZonePlan {
     }
 }
 
-/// The plan for the holds of a report on a zone (IBM z/OS SMP/E Commands, REPORT ERRSYSMODS and REPORT MISSINGFIX).
+/// The plan for the holds of a report on a zone (IBM z/OS SMP/E Commands, REPORT ERRSYSMODS and REPORT
+/// MISSINGFIX).
 ///
-/// For each hold one resolver is chosen: of those that are GOOD the received before the others, then one that no other of
-/// them supersedes, then the greatest id. What their chosen plans have is to be installed, but for what another member
-/// supersedes and for what nothing needs then. Holds without such a resolver are named, with what blocks them.
+/// For each hold one resolver is chosen: of those that are GOOD the received before the others, then one that no
+/// other of them supersedes, then the greatest id. What their chosen plans have is to be installed, but for what
+/// another member supersedes and for what nothing needs then. Holds without such a resolver are named, with what
+/// blocks them.
 ///
 /// # Errors
 ///
@@ -108,7 +110,8 @@ fn steps_for<P: Published, J: Judge<P>>(
     ensures asks { MayAsk P.content_view Device source.old source.new result }
     ensures steps { IfOk result (λ steps. Tells P.content_view source.old source.new
         (λ content. J.is_right judge.old content
-        → ((id : List ℕ) → Contains chosen.now id → status_of (verdict_of content zone.now id) ≡ status.Good)
+        → ((id : List ℕ) → Contains chosen.now id
+        → status_of (verdict_of content zone.now id) ≡ status.Good)
         → AreZoneSteps content zone.now chosen.now steps)) }
     ensures right { Tells P.content_view source.old source.new
         (λ content. J.is_right judge.old content → J.is_right judge.new content) }

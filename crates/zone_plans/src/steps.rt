@@ -82,8 +82,8 @@ fn id_at(ids: &[Id], index: usize) -> Id
     ids[index]
 }
 
-/// The steps in which is installed what the chosen plans of some resolvers have, by what was read: what another member
-/// supersedes is left out, and what nothing needs then.
+/// The steps in which is installed what the chosen plans of some resolvers have, by what was read: what another
+/// member supersedes is left out, and what nothing needs then.
 pub(crate) fn zone_steps(
     alloc: Global,
     ids: Vec<Id>,

@@ -1,4 +1,4 @@
-use Rattle.std.proofs.Common.{◌+◌, false, set, sym, subst, arith, List, ℕ}
+use Rattle.std.proofs.Common.{◌+◌, false, set, subst, arith, List, ℕ}
 use Rattle.requisites.proofs.TestFacts.{from_true, from_false}
 use Rattle.requisites.specs.Nodes.{IsMarked}
 use Rattle.std.specs.List.{Contains}

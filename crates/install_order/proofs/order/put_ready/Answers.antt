@@ -1,4 +1,4 @@
-use Rattle.std.proofs.Common.{◌∙◌, List, ℕ, refl, subst}
+use Rattle.std.proofs.Common.{◌∙◌, List, ℕ, subst}
 use Rattle.requisites.proofs.TestFacts.{from_true}
 use Rattle.install_order.specs.Steps.{IsReady}
 use Rattle.install_order.proofs.PutFacts.{passing_none, passing_more, passing_kept}

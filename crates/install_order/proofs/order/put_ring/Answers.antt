@@ -1,4 +1,4 @@
-use Rattle.std.proofs.Common.{◌∙◌, ◌++◌, ◌∷◌, [], ◌≡◌, List, ℕ, ap, subst}
+use Rattle.std.proofs.Common.{◌++◌, ◌∷◌, [], ◌≡◌, List, ℕ, subst}
 use Rattle.install_order.specs.Steps.{AreTakenOut}
 use Rattle.install_order.proofs.PutFacts.{goes_on}
 use Rattle.install_order.proofs.order.put_ring.Goals as goal

@@ -1,4 +1,4 @@
-use Rattle.std.proofs.Common.{◌≡◌, ◌∙◌, [], List, Bool, ℕ, sym, subst}
+use Rattle.std.proofs.Common.{◌≡◌, ◌∙◌, [], List, Bool, ℕ, subst}
 use Rattle.install_order.specs.Steps.{Goes}
 use Rattle.install_order.proofs.PutFacts.{all_put, put_begins}
 use Rattle.install_order.proofs.order.steps.Goals as goal

@@ -1,5 +1,5 @@
-use Rattle.std.proofs.Common.{◌∙◌, ◌++◌, ◌∷◌, [], false, get_or, set, take, sym}
-use Rattle.install_order.proofs.PutFacts.{out_none, out_more, out_same, out_step, out_all}
+use Rattle.std.proofs.Common.{◌∙◌, false, get_or, set, take, sym}
+use Rattle.install_order.proofs.PutFacts.{out_none, out_more, out_same, out_step}
 use Rattle.install_order.proofs.order.take_out.Goals as goal
 use Rattle.install_order.proofs.order.take_out.Goals.{then-is_marked, else-is_marked}
 

@@ -1,4 +1,4 @@
-use Rattle.std.proofs.Common.{List, Option, ℕ, Bool, length, sym, subst}
+use Rattle.std.proofs.Common.{List, Option, ℕ, Bool, length, subst}
 use Rattle.requisites.proofs.TestFacts.{from_none, ok_then}
 use Rattle.requisites.specs.Sources.{AreLeastSources}
 use Rattle.install_order.specs.Steps.{AreReached, IsGreatestRoot, IsOnly, IsRoot}

@@ -3,8 +3,8 @@ use Rattle.catalogue.proofs.SourceFacts.{no_fault, told_both}
 use Rattle.supersede.proofs.TellingFacts.{tells_on, told_by_two}
 use Rattle.chains.specs.Verdicts.{verdict_of}
 use Rattle.zone_plans.specs.BlockedSteps.{step_by}
-use Rattle.zone_plans.specs.declared.blocked.Step.TheVariants.{Last, On, Stop}
-use Rattle.zone_plans.proofs.BlockedFacts.{row_ends, row_goes_on, row_stops}
+use Rattle.zone_plans.specs.declared.blocked.Step.TheVariants.{On}
+use Rattle.zone_plans.proofs.BlockedFacts.{row_goes_on, row_stops}
 use Rattle.zone_plans.proofs.blocked.blocked_row.Goals as goal
 
 pub needs-preserved : goal.needs-preserved

@@ -1,4 +1,4 @@
-use Rattle.std.proofs.Common.{◌≡◌, ◌∙◌, List, ℕ, ap, map}
+use Rattle.std.proofs.Common.{◌∙◌, List, ap, map}
 use Rattle.catalogue.proofs.SourceFacts.{told_so}
 use Rattle.zone_plans.specs.Choices.{last_of, on_top, received_or_all, of_status}
 use Rattle.zone_plans.specs.declared.holds.Resolver.{Resolver}

@@ -1,11 +1,9 @@
 use Rattle.std.proofs.Common.{◌∙◌, ap, filter}
-use Rattle.std.proofs.lemmas.List.{take_all}
-use Rattle.catalogue.specs.Ids.{in_order, put_among}
-use Rattle.catalogue.proofs.SourceFacts.{no_fault, told_so}
+use Rattle.catalogue.specs.Ids.{put_among}
+use Rattle.catalogue.proofs.SourceFacts.{no_fault}
 use Rattle.supersede.specs.Giving.{sup_of}
 use Rattle.supersede.specs.Reach.{is_other}
 use Rattle.supersede.proofs.TellingFacts.{tells_on}
-use Rattle.zone_plans.specs.Choices.{superseded_by}
 use Rattle.zone_plans.proofs.ChoiceFacts.{named_more, others_of}
 use Rattle.zone_plans.proofs.choice.superseded.Goals as goal
 

@@ -1,4 +1,4 @@
-use Rattle.std.proofs.Common.{◌≡◌, ◌∙◌, List, ℕ, ap, filter, not, sym}
+use Rattle.std.proofs.Common.{◌∙◌, List, ℕ, ap, filter, not}
 use Rattle.catalogue.specs.Ids.{in_order}
 use Rattle.catalogue.proofs.SourceFacts.{told_so}
 use Rattle.supersede.specs.Reach.{has}

@@ -1,4 +1,4 @@
-use Rattle.std.proofs.Common.{◌≡◌, ◌∙◌, ◌++◌, ◌∷◌, [], List, ℕ, map, length, sym, subst, ap, arith}
+use Rattle.std.proofs.Common.{◌≡◌, ◌∙◌, ◌++◌, ◌∷◌, [], List, ℕ, length, sym, subst, arith}
 use Rattle.chains.specs.Indices.{RowsAre}
 use Rattle.chains.proofs.IndexFacts.{rows_more, rows_none}
 use Rattle.std.specs.List.{Contains}

@@ -1,8 +1,6 @@
-use Rattle.std.proofs.Common.{◌≡◌, ◌∙◌, [], List, ℕ, Option, option_map, sym, subst, true, get_or, ap, arith}
-use Rattle.std.specs.List.{Contains}
+use Rattle.std.proofs.Common.{[], List, ℕ, option_map, sym, subst, arith}
 use Rattle.std.proofs.lemmas.List.{take_all}
-use Rattle.chains.proofs.SearchFacts.{first_inside}
-use Rattle.zone_plans.specs.Graphs.{AreAnswered, AreGivenIndices}
+use Rattle.zone_plans.specs.Graphs.{AreGivenIndices}
 use Rattle.zone_plans.proofs.GraphFacts.{given_more, given_none, item_inside}
 use Rattle.zone_plans.proofs.graph.put_given.Goals as goal
 

@@ -3,7 +3,6 @@ use Rattle.chains.specs.declared.verdict.Status.TheVariants as status
 use Rattle.supersede.proofs.TellingFacts.{told_by_two}
 use Rattle.zone_plans.specs.Choices.{choice}
 use Rattle.zone_plans.specs.Plans.{fate_by}
-use Rattle.zone_plans.specs.declared.holds.HoldOn.{HoldOn}
 use Rattle.zone_plans.specs.declared.placing.Placed.{Placed}
 use Rattle.zone_plans.specs.declared.placing.Fate.{Fate}
 use Rattle.zone_plans.proofs.placing.place.Goals as goal

@@ -1,4 +1,4 @@
-use Rattle.std.proofs.Common.{◌≡◌, ◌∙◌, List, Option, ℕ, map, option_map, sym, ap, subst}
+use Rattle.std.proofs.Common.{◌∙◌, map, option_map, sym, ap}
 use Rattle.catalogue.proofs.SourceFacts.{told_both, told_later, told_sooner}
 use Rattle.supersede.proofs.TellingFacts.{told_by_two}
 use Rattle.chains.specs.Candidates.{candidates_unless_there}

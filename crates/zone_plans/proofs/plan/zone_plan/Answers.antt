@@ -1,4 +1,4 @@
-use Rattle.std.proofs.Common.{◌≡◌, ◌∙◌, List, ℕ, map, rules, sym, ap, subst}
+use Rattle.std.proofs.Common.{◌≡◌, ◌∙◌, List, ℕ, map, rules, ap, subst}
 use Rattle.std.specs.List.{Contains}
 use Rattle.catalogue.proofs.SourceFacts.{no_fault, told_both, told_later, told_sooner}
 use Rattle.supersede.proofs.TellingFacts.{told_by_two}

@@ -1,4 +1,4 @@
-use Rattle.std.proofs.Common.{◌≡◌, ◌∙◌, List, Option, Bool, ℕ, length, subst, sym, ap, arith}
+use Rattle.std.proofs.Common.{◌≡◌, ◌∙◌, List, Option, ℕ, length, subst, sym, ap}
 use Rattle.zone_plans.specs.Graphs.{AreSourced}
 use Rattle.chains.proofs.IndexFacts.{ok_so}
 use Rattle.zone_plans.proofs.MarkFacts.{members_by}

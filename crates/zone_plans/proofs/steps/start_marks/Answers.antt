@@ -1,4 +1,4 @@
-use Rattle.std.proofs.Common.{◌≡◌, ◌∙◌, List, Option, Bool, ℕ, subst, sym}
+use Rattle.std.proofs.Common.{List, Option, Bool, ℕ, subst}
 use Rattle.requisites.specs.Sources.{AreLeastSources}
 use Rattle.zone_plans.specs.Graphs.{AreStarts}
 use Rattle.chains.proofs.IndexFacts.{ok_so}

@@ -1,4 +1,4 @@
-use Rattle.std.proofs.Common.{◌≡◌, ◌∙◌, List, Option, Bool, ℕ, map, subst, sym}
+use Rattle.std.proofs.Common.{◌∙◌, List, Bool, ℕ, subst, sym}
 use Rattle.chains.proofs.IndexFacts.{ok_so}
 use Rattle.chains.specs.Candidates.{candidates_unless_there}
 use Rattle.install_order.specs.Steps.{AreSteps, IsClosed}
