@@ -277,9 +277,9 @@ desk.end()
 
 
 def exchanges():
-    """The requests and replies of the page by connection, as `.ci/exchanges` takes them off it."""
+    """The requests and replies of the page by connection, as `checks/exchanges` takes them off it."""
     place = folder()
-    subprocess.run([os.path.join(TOP, ".ci", "exchanges"), PAGE, place], check=True)
+    subprocess.run([os.path.join(TOP, "checks", "exchanges"), PAGE, place], check=True)
     names = sorted(name for name in os.listdir(place) if name.startswith("connection."))
     return place + "/callers.csv", [read(os.path.join(place, name)) for name in names], read(place + "/replies.txt")
 
