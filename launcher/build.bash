@@ -10,7 +10,7 @@
 room=
 waiting=
 signalled=
-declare -A running=() finished=()
+declare -A running=() finished=() since=()
 
 # Ends what runs.
 end_all() {
@@ -140,6 +140,7 @@ begin_ready() {
         [ "$jobs" -le 4 ] || jobs=4
         make_room "${names[at]}" || give_up "there is no room for the build in ${TMPDIR:-/var/tmp}" || return 1
         number_crate "${names[at]}"
+        since[${names[at]}]=$SECONDS
         start prove "${names[at]}" "$jobs"
         running[${names[at]}]=$!
         lanes_of[${names[at]}]=$jobs
@@ -166,6 +167,7 @@ end_finished() {
             return 1
         fi
         finished[$name]=1
+        count_kept "$name"
         idle=$((idle + lanes_of[$name]))
         give_back "$name" || { say "$top/crates/$name cannot be written"; return 1; }
     done
@@ -183,7 +185,7 @@ prove_all() {
         end_if_stopped
         end_finished || return 1
         ticks=$((ticks + 1))
-        [ $((ticks % 15)) -eq 0 ] && tell_progress
+        tell_progress "$ticks"
     done
     return 0
 }

@@ -1,7 +1,32 @@
-# The crates that the program is made of, by crates.txt: which stand on which, and which of them have the longest way
-# to the program before them.
+# The crates that the program is made of, by crates.txt: which stand on which, what each weighs, and which of them have the
+# longest way to the program before them. A crate weighs the tenths of a minute that its check takes.
 
 declare -A libraries=() weight=() way=()
+
+# What a crate weighs by its lines, where nobody has measured its check: 800 lines take about a minute.
+weight_of_lines() { # FOLDER
+    local lines
+    lines=$(find "$1"/{src,specs,proofs} -type f -exec cat {} + 2>/dev/null | wc -l)
+    echo $((lines / 80 + 1))
+}
+
+# The program is built after its check, from all crates on one processor: tenths of a minute.
+build_weight=65
+
+# Takes the minutes of a check from the table of docs/GATE.md.
+read_weights() { # FOLDER
+    local name tenths
+    local -A measured=()
+    while read -r name tenths; do measured[$name]=$tenths; done < <(
+        awk -F'|' '/^\| `[a-z0-9_]+` \|/ { gsub(/[ `]/, "", $2); print $2, int($4 * 10) }' "$top/docs/GATE.md" 2>/dev/null
+    )
+    for name in "${!libraries[@]}"; do
+        tenths=${measured[$name]:-0}
+        [ "$tenths" -gt 0 ] || tenths=$(weight_of_lines "$1/crates/$name")
+        weight[$name]=$tenths
+    done
+    weight[bureau_main]=$((weight[bureau_main] + build_weight))
+}
 
 # Reads the crates below the program, each with the crates of this repository that it names.
 read_crates() { # FOLDER
@@ -20,11 +45,11 @@ read_crates() { # FOLDER
             [ -n "${listed[$library]+is}" ] && found+=" $library" && left+=("$library")
         done
         libraries[$name]=$found
-        weight[$name]=$(find "$1/crates/$name"/{src,specs,proofs} -type f -exec cat {} + 2>/dev/null | wc -l)
     done
+    read_weights "$1"
 }
 
-# The lines on the longest way from each crate up to the program. It fails where crates stand on each other in a circle.
+# What the longest way from each crate up to the program weighs. It fails where crates stand on each other in a circle.
 measure_ways() {
     local turn name library grown=1
     for name in "${!libraries[@]}"; do way[$name]=${weight[$name]}; done
