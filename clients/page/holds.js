@@ -1,6 +1,6 @@
 // A report as a table of its holds, with filters, and as a file.
 import { classBadge, make, statusBadge } from './make.js';
-import { REPORTS, byUrgency } from './report.js';
+import { byUrgency } from './hold.js';
 import { Filters } from './filters.js';
 import { Table } from './table.js';
 import { csvOf, saveButtons } from './save.js';
@@ -55,13 +55,10 @@ const KINDS = {
   missingfix: [{ name: 'category', title: 'Category', of: (hold) => hold.categories, isList: true }, STATUS, RECEIVED],
 };
 
-// The rows of a report as its own columns, for those holds that are shown.
-function rowsFor(name, report, holds) {
-  const columns = Object.keys(REPORTS[name].columns);
-  const sysmodOf = (row) => (name === 'errsysmods' ? row.SYSMOD : row.FMID);
-  const wanted = new Set(holds.map((hold) => hold.sysmod + ' ' + hold.reason));
-  const rows = report.rows.filter((row) => wanted.has(sysmodOf(row) + ' ' + row.REASON));
-  return [columns, ...rows.map((row) => columns.map((column) => row[column]))];
+// The rows of these holds, as the report has them: its columns first.
+function rowsFor(report, holds) {
+  const rows = holds.flatMap((hold) => hold.rows).sort((one, other) => one - other);
+  return [report.names, ...rows.map((row) => report.fields(row))];
 }
 
 // WAYS are {choose(hold, member), changed(words), say(text)}.
@@ -78,7 +75,7 @@ export class HoldsView {
     this.table = new Table({
       caption: this.title, columns: COLUMNS[name], order: byUrgency, choose: ways.choose,
     });
-    const rows = () => rowsFor(name, report, this.shown);
+    const rows = () => rowsFor(report, this.shown);
     const forms = [
       { title: 'CSV', name: zone + '-' + name + '.csv', kind: 'text/csv', text: () => csvOf(rows()) },
       { title: 'JSON', name: zone + '-' + name + '.json', kind: 'application/json', text: () => this.json(rows()) },

@@ -1,5 +1,5 @@
 // One zone: its errors, its fixes and its plan as tabs, and the chain beside them.
-import { button, counted, link, make } from './make.js';
+import { button, counted, link, make, painted } from './make.js';
 import { REPORT_OF, addressOf } from './address.js';
 import { ChainPanel } from './chain.js';
 import { HoldsView } from './holds.js';
@@ -91,8 +91,8 @@ export class ZoneView {
     this.body.setAttribute('aria-labelledby', 'tab-' + where.tab);
     const isNew = !this.view || before.tab !== where.tab || before.words !== where.words;
     if (isNew) await (where.tab === 'plan' ? this.showPlan() : this.showReport(where));
-    // what was asked for is there first, and the counts of the other tabs follow
-    this.counting ??= this.count();
+    // what was asked for is seen first, and the counts of the other tabs follow
+    this.counting ??= painted().then(() => this.count());
     if (this.where !== where) return;
     this.showChain(where);
   }
@@ -105,7 +105,9 @@ export class ZoneView {
     this.body.setAttribute('aria-busy', 'true');
     try {
       const parts = await work();
-      if (mine === this.where) this.body.replaceChildren(...parts);
+      if (mine !== this.where) return;
+      this.body.replaceChildren(...parts);
+      this.view?.table?.draw(0);
     } catch (fault) {
       if (mine !== this.where || this.snapshot.isEnded) return;
       const words = this.ways.faultOf(fault);

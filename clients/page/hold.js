@@ -1,0 +1,149 @@
+// The holds of a report, each with all its resolvers. Nothing here touches the page.
+import { NoReport, Report } from './report.js';
+
+const STATUSES = ['GOOD', 'HELD', 'LACK', 'none']; // the best first
+const LETTERS = 'GHL-';
+const CLASSES = ['HIPER', 'PE']; // the most urgent first, and all others after them
+const NO_RESOLVER = { id: '', status: 'none', isReceived: false };
+
+// How good the resolver of a row is, 0 the best: that which can be installed before all, and received before not
+// received.
+function rankOf(report, row) {
+  const status = LETTERS.indexOf(report.letter(row, 'STATUS'));
+  if (status < 0) throw new NoReport();
+  return status * 2 + (report.letter(row, 'RECEIVED') === 'Y' ? 0 : 1);
+}
+
+const statusOf = (rank) => STATUSES[rank >> 1];
+const isReceived = (rank) => rank % 2 === 0;
+
+function classRankOf(name) {
+  const at = CLASSES.indexOf(name);
+  return at < 0 ? CLASSES.length : at;
+}
+
+// The resolvers of these rows, each once, the best one first.
+function resolversOf(report, rows) {
+  const found = new Map();
+  for (const row of rows) {
+    const id = report.field(row, 'RESOLVER');
+    const rank = rankOf(report, row);
+    if (id && !found.has(id)) found.set(id, { id, rank, status: statusOf(rank), isReceived: isReceived(rank) });
+  }
+  return [...found.values()].sort((one, other) => one.rank - other.rank);
+}
+
+// All words that a hold's lines show, in small letters, for a filter.
+function textOf(hold) {
+  const { report } = hold;
+  const words = [hold.class, hold.sysmod, hold.reason, hold.fmid, ...hold.categories];
+  for (const row of hold.rows) {
+    const rank = rankOf(report, row);
+    words.push(report.field(row, 'RESOLVER'), statusOf(rank), isReceived(rank) ? 'received' : '');
+  }
+  return words.join(' ').toLowerCase();
+}
+
+// A hold. What sorts and counts it is known from the start. The rest is cut out of its rows when it is asked for.
+class Hold {
+  constructor(report, row, order) {
+    this.report = report;
+    this.rows = [row];
+    this.order = order;
+    this.class = report.field(row, 'CLASS');
+    this.classRank = classRankOf(this.class);
+    this.rank = rankOf(report, row); // that of its best resolver
+  }
+
+  add(row) {
+    this.rows.push(row);
+    this.rank = Math.min(this.rank, rankOf(this.report, row));
+  }
+
+  get sysmod() {
+    return this.report.field(this.rows[0], this.report.held);
+  }
+
+  get reason() {
+    return this.report.field(this.rows[0], 'REASON');
+  }
+
+  get fmid() {
+    return this.report.field(this.rows[0], 'FMID');
+  }
+
+  get status() {
+    return statusOf(this.rank);
+  }
+
+  get received() {
+    return isReceived(this.rank) ? 'received' : 'not received';
+  }
+
+  get categories() {
+    this.named ??= [...new Set(this.rows.map((row) => this.report.field(row, 'CATEGORY')))].filter(Boolean);
+    return this.named;
+  }
+
+  get resolvers() {
+    this.found ??= resolversOf(this.report, this.rows);
+    return this.found;
+  }
+
+  get best() {
+    return this.resolvers[0] ?? NO_RESOLVER;
+  }
+
+  get text() {
+    this.words ??= textOf(this);
+    return this.words;
+  }
+}
+
+// The holds of a report, in its order. A hold of a fix category has rows for each of its categories.
+function holdsOf(report) {
+  const holds = new Map();
+  let key = '';
+  let hold;
+  for (let row = 0; row < report.size; row += 1) {
+    const next = report.part(row, report.held, 'REASON');
+    // the rows of a hold mostly follow one another
+    if (next !== key) hold = holds.get(next);
+    key = next;
+    if (hold) {
+      hold.add(row);
+    } else {
+      hold = new Hold(report, row, holds.size);
+      holds.set(key, hold);
+    }
+  }
+  return [...holds.values()];
+}
+
+// The errors or the missing fixes of a zone.
+export class HoldReport extends Report {
+  constructor(name, zone, text) {
+    super(name, zone, text);
+    this.holds = holdsOf(this);
+  }
+}
+
+// What has to be looked at first: HIPER, then PE; of these what nothing resolves; else as the desk has it.
+export function byUrgency(one, other) {
+  return one.classRank - other.classRank || (other.rank >> 1) - (one.rank >> 1) || one.order - other.order;
+}
+
+// The counts of a zone that the overview shows.
+export function countsOf(errors, fixes) {
+  const of = (test) => errors.filter(test).length;
+  return {
+    holds: errors.length,
+    hiper: of((hold) => hold.class === 'HIPER'),
+    pe: of((hold) => hold.class === 'PE'),
+    other: of((hold) => hold.class !== 'HIPER' && hold.class !== 'PE'),
+    unresolved: of((hold) => hold.status === 'none'),
+    held: of((hold) => hold.status === 'HELD'),
+    good: of((hold) => hold.status === 'GOOD'),
+    fixes: fixes.length,
+  };
+}
