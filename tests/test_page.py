@@ -51,7 +51,7 @@ def sample(browser, front, north):
     same(
         "the overview",
         browser.run(ZONES),
-        [["MVSPROD", "0 HIPER, 1 PE, 0 other, 0 without resolver, 0 held, 1 can be resolved, 1 fixes missing"]],
+        [["MVSPROD", "0 HIPER, 1 PE, 0 other, 0 no resolver, 0 held, 1 can be resolved, 1 fixes missing"]],
     )
     same("the level", browser.run("document.getElementById('level').innerText.split(' · ')[0]"), "8 SYSMODs and 5 holds published")
     click(browser, ".zone-name", "MVSPROD")
@@ -162,7 +162,7 @@ def marks(browser, front, client):
     check("with marks", MARKED in titles, titles)
     shows(browser, MARKED, ".of-category .cut")
     same("nothing of it became an element", browser.run("document.querySelectorAll('main b, main img').length"), 0)
-    same("a row without a resolver", lines(browser)[0][3:], ["none", "none", ""])
+    same("a row without a resolver", lines(browser)[0][3:], ["no resolver", "none", ""])
     click(browser, "tbody tr.first")
     shows(browser, "No published SYSMOD resolves this hold yet.", ".beside")
     go(browser, "#Z%40%23%24/errors/%40A%24%23001")

@@ -25,6 +25,17 @@ LARGE = Zone("LARGE", 10000, 3000, 1)
 ZONES = [Zone("Z@#$", 30, 5, 4), LARGE, Zone("CLEAN", 0, 0, 3), Zone("MIDDLE", 300, 40, 2)]
 HOLDS = {hold: found for hold, found in LARGE.holds}
 BEST = {"GOOD": 0, "HELD": 1}
+# texts and badges outside their row, the table's frame or the window; and long texts that have little room
+CUT = """[...document.querySelectorAll('tbody tr:not(.space) td')].flatMap(cell => {
+    const text = document.createRange(); text.selectNodeContents(cell);
+    const parts = [...cell.querySelectorAll('.cut, .badge, .opener'), ...(cell.querySelector('.cut, .off') ? [] : [text])];
+    const edges = [cell.closest('tr'), cell.closest('.scroll')].map(e => e.getBoundingClientRect());
+    return parts.filter(part => {
+        const its = part.getBoundingClientRect(), isNarrow = part.scrollWidth > part.clientWidth;
+        const most = Math.min(window.innerWidth, ...edges.map(edge => edge.right)), least = Math.max(...edges.map(edge => edge.left));
+        return its.width && (its.left < least || its.right > most || isNarrow && its.width < (part.className === 'cut' ? 120 : 1e9));
+    }).map(part => (part.innerText ?? part.toString()));
+})"""
 TIMED = """new Promise(done => { const began = performance.now(); %s;
     const look = () => requestAnimationFrame((%s) ? () => done(performance.now() - began) : look); look(); })"""
 
@@ -144,6 +155,23 @@ def groups(browser):
     click(browser, ".opener")
     same("and closed", len(lines(browser)), 1)
     filter_by(browser, "")
+
+
+def without_resolver(browser):
+    """A hold without a resolver says so once to the eye, and to a screen reader where the resolver would stand."""
+    marks = """[...document.querySelectorAll('tbody tr.first')].map(row => [...row.querySelectorAll('td, td *')].filter(e =>
+        e.children.length === 0 && e.getBoundingClientRect().left >= 0 && /none|no resolver/.test(e.innerText)).length)"""
+    for width in (1400, 320):
+        browser.size(width)
+        go(browser, "#LARGE/errors?status=none")
+        browser.until("document.querySelector('tbody tr.first')")
+        same("none stands once in a line, %d pixels wide" % width, set(browser.run(marks)), {1})
+        root = browser.call("DOM.getDocument")["root"]["nodeId"]
+        line = browser.call("DOM.querySelector", nodeId=root, selector="tbody tr.first")["nodeId"]
+        cells = browser.call("Accessibility.queryAXTree", nodeId=line, role="gridcell")["nodes"]
+        told = [cell["name"]["value"] for cell in cells]
+        check("and is told, %d pixels wide" % width, "no resolver" in told and "none" in told, told)
+    browser.size(1400)
 
 
 def beside(browser):
@@ -326,7 +354,10 @@ def looks(browser):
             go(browser, address)
             browser.until("document.querySelector('tbody tr.first, .figures')")
             check("nothing is wider than %d pixels: %s" % (width, address), not is_wide(browser), browser.run("document.documentElement.scrollWidth"))
+            same("nothing in a line is cut at %d pixels: %s" % (width, address), sorted(set(browser.run(CUT))), [])
             picture(browser, "%s-%d" % (address.strip("#").replace("/", "-") or "zones", width))
+        beyond = "[...document.querySelectorAll('.tab')].filter(e => e.getBoundingClientRect().right > document.querySelector('.split').getBoundingClientRect().right + 1).length"
+        same("nor is a tab at %d pixels" % width, browser.run(beyond), 0)
     browser.size(390, 844)
     go(browser, "#LARGE/errors?status=GOOD")
     browser.until("document.querySelector('tbody tr.first')")
@@ -335,6 +366,18 @@ def looks(browser):
     shows(browser, "can be installed", ".beside")
     check("the chain lies over the table on a phone", browser.run("getComputedStyle(document.querySelector('.beside')).position") == "fixed")
     picture(browser, "chain-390")
+    click(browser, ".close")
+    click(browser, ".any-chain")
+    same("any chain can be asked for there", browser.run("document.activeElement.ariaLabel"), "SYSMOD")
+    browser.write("uj90000")
+    browser.key("Enter", 13, "\r")
+    shows(browser, "UJ90000 is not published", ".beside")
+    click(browser, ".close")
+    check("and is closed again", browser.run("getComputedStyle(document.querySelector('.beside')).display") == "none")
+    browser.size(1000, 800)
+    click(browser, "tbody tr.first")
+    shows(browser, "can be installed", ".beside")
+    picture(browser, "chain-1000")
     click(browser, ".close")
     browser.size(1400)
     colours = []
@@ -395,6 +438,7 @@ def main():
     speed(browser)
     filters(browser)
     groups(browser)
+    without_resolver(browser)
     beside(browser)
     keyboard(browser)
     plan(browser, front)

@@ -99,6 +99,12 @@ export class ChainPanel {
     this.picture.replaceChildren(make('p', 'soft', 'Choose a row to see what has to be installed with its resolver, or enter any SYSMOD.'));
   }
 
+  // Where there is no room beside the table, the panel is not there until it is opened.
+  open() {
+    this.element.classList.add('is-open');
+    this.input.focus();
+  }
+
   // HOLD is that of the row, where a row was chosen.
   async show(sysmod, hold) {
     this.turn += 1;

@@ -12,7 +12,8 @@ const text = (name, title, of) => ({ name, title, of, cell: (hold, member, isFir
 const RESOLVER = [
   {
     name: 'resolver', title: 'Resolver', of: (hold) => hold.best.id,
-    cell: (hold, member) => make('span', member.id ? 'id' : 'soft', member.id || 'none'),
+    // the status says none to who sees it
+    cell: (hold, member) => (member.id ? make('span', 'id', member.id) : make('span', 'off', 'no resolver')),
   },
   { name: 'status', title: 'Status', of: (hold) => hold.status, cell: (hold, member) => statusBadge(member.status) },
   {

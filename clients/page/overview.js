@@ -37,7 +37,7 @@ function figuresOf(zone, counts) {
     figure(zone, counts.hiper, 'HIPER', 'class-hiper', 'errors', 'class=HIPER'),
     figure(zone, counts.pe, 'PE', 'class-pe', 'errors', 'class=PE'),
     figure(zone, counts.other, 'other', 'class-other', 'errors', ''),
-    figure(zone, counts.unresolved, 'without resolver', 'status-none', 'errors', 'status=none'),
+    figure(zone, counts.unresolved, 'no resolver', 'status-none', 'errors', 'status=none'),
     figure(zone, counts.held, 'held', 'status-held', 'errors', 'status=HELD'),
     figure(zone, counts.good, 'can be resolved', 'status-good', 'errors', 'status=GOOD'),
     figure(zone, counts.fixes, 'fixes missing', 'fixes', 'fixes', ''),
@@ -56,7 +56,7 @@ export class Overview {
   constructor(snapshot, faultOf) {
     Object.assign(this, { snapshot, faultOf });
     this.tiles = {
-      hiper: tile('HIPER holds', 'class-hiper'), unresolved: tile('Without a resolver', 'status-none'),
+      hiper: tile('HIPER holds', 'class-hiper'), unresolved: tile('No resolver', 'status-none'),
       holds: tile('Held in error', 'of-all'), fixes: tile('Fixes missing', 'of-all'),
     };
     this.zones = snapshot.zones.map((each, order) => ({

@@ -71,7 +71,8 @@ async function begin(token) {
     if (mine !== snapshot) return;
     sessionStorage.setItem(TOKEN, token);
     const { sysmods, holds } = mine.level;
-    at('level').textContent = several(sysmods, 'SYSMOD') + ' and ' + several(holds, 'hold') + ' published · asked ' + timeOf(mine.asked);
+    const published = several(sysmods, 'SYSMOD') + ' and ' + several(holds, 'hold') + ' published';
+    at('level').replaceChildren(published, make('span', 'dot', ' · '), make('span', 'asked', 'asked ' + timeOf(mine.asked)));
     show();
   } catch (fault) {
     if (mine !== snapshot) return;

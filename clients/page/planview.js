@@ -98,7 +98,7 @@ export class PlanView {
     this.table.show(groupsOf(plan));
     this.element = make('div', 'report plan', make('div', 'bar', make('p', 'count', summary(plan)), saveButtons(forms, ways.say)),
       leftOver('Held', 'all resolvers can’t be installed now, and why', plan.held.map(heldWords)),
-      leftOver('Without resolver', 'nothing that is published resolves these', plan.unresolved.map(holdWords)),
+      leftOver('No resolver', 'nothing that is published resolves these', plan.unresolved.map(holdWords)),
       plan.members.length > 0 ? this.table.element : '');
   }
 }

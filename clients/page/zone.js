@@ -34,7 +34,8 @@ export class ZoneView {
     list.setAttribute('role', 'tablist');
     list.setAttribute('aria-label', 'Reports of ' + zone);
     list.addEventListener('keydown', (event) => this.key(event));
-    const head = make('div', 'zone-title', link('Zones', 'back', '#', 'All zones'), make('h1', this.snapshot.zones.length < 2 ? 'id' : 'off', zone), this.chooser(), list);
+    const head = make('div', 'zone-title', link('Zones', 'back', '#', 'All zones'), make('h1', this.snapshot.zones.length < 2 ? 'id' : 'off', zone), this.chooser(),
+      button('Chain', 'any-chain', () => this.chain.open(), 'Find the chain of any SYSMOD'), list);
     this.element = make('div', 'zone-view', head, make('div', 'split', this.body, this.chain.element));
   }
 
