@@ -24,6 +24,11 @@ TWO_LINES = """[...document.querySelectorAll('td.of-fmid, td.of-sysmod, td.of-re
 }).map(cell => cell.innerText)"""
 
 
+BELOW = """[...document.querySelectorAll('tbody tr:not(.space)')].flatMap(row => [...row.cells]).filter(cell =>
+    Math.abs(cell.getBoundingClientRect().left - document.querySelectorAll('thead th')[cell.cellIndex].getBoundingClientRect().left) > 1
+).map(cell => cell.innerText)"""
+
+
 def csv_rows(client, report, zone):
     """The report by bureau-client: a dictionary for each row."""
     rows = list(csv.DictReader(io.StringIO(client.run(report, "--csv", zone)[1])))
@@ -172,6 +177,9 @@ def marks(browser, front, client):
     browser.call("Emulation.setEmulatedMedia", media="print")
     check("on paper nothing is cut off", not is_wide(browser), browser.run("document.documentElement.scrollWidth"))
     same("and no id takes two lines", browser.run(TWO_LINES), [])
+    same("each field stands below its heading", browser.run(BELOW), [])
+    check("the chain stands below the table", browser.run("document.querySelector('.beside').getBoundingClientRect().top > document.querySelector('table').getBoundingClientRect().bottom - 1") and
+          browser.run("getComputedStyle(document.querySelector('.beside')).position") == "static")
     picture(browser, "paper")
     browser.call("Emulation.setEmulatedMedia", media="")
     browser.size(1400)

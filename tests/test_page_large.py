@@ -407,11 +407,13 @@ def paper(browser):
     title = browser.run("document.querySelector('caption').innerText")
     same("the title", title, "Exception SYSMODs of LARGE, only HIPER")
     seen = "(e => e.offsetParent !== null && e.getBoundingClientRect().left >= 0)(document.querySelector('%s'))"
+    picture(browser, "paper-errors")
     same("title and level are there", [browser.run(seen % place) for place in ("caption", "#level")], [True, True])
     same("buttons and fields are not", browser.run("[...document.querySelectorAll('button, input, select')].filter(e => e.offsetParent && !e.closest('th')).length"), 0)
     go(browser, "#")
     tiles = browser.run("[...document.querySelectorAll('.tile')].filter(e => e.offsetParent).length")
     same("the sums are all on paper", tiles, 4)
+    picture(browser, "paper-zones")
     browser.call("Emulation.setEmulatedMedia", media="")
     go(browser, "#MIDDLE/plan")
     browser.until("document.querySelector('.left')")
