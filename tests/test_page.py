@@ -56,7 +56,7 @@ def sample(browser, front, north):
     same(
         "the overview",
         browser.run(ZONES),
-        [["MVSPROD", "0 HIPER, 1 PE, 0 other, 0 no resolver, 0 held, 1 can be resolved, 1 fixes missing"]],
+        [["MVSPROD", "0 HIPER, 1 PE, 0 other, 0 no resolver, 0 held, 1 can be resolved, 1 fix missing"]],
     )
     same("the level", browser.run("document.getElementById('level').innerText.split(' · ')[0]"), "8 SYSMODs and 5 holds published")
     click(browser, ".zone-name", "MVSPROD")

@@ -63,6 +63,8 @@ def overview(browser):
     shows(browser, "{:,}".format(hiper), ".zone:first-child .figure.class-hiper")
     shows(browser, "{:,}".format(none), ".zone:first-child .figure.status-none")
     same("in the order of urgency", browser.run("[...document.querySelectorAll('.zone-name')].map(z => z.innerText)"), ["LARGE", "MIDDLE", "Z@#$", "CLEAN"])
+    label = browser.run("document.querySelector('.zone:first-child .figure.status-none').ariaLabel")
+    same("which a screen reader tells with its zone", label, "LARGE: {:,} no resolver".format(none))
     shows(browser, "20,000 SYSMODs and 40,000 holds published · asked 20", "#level")
     same("once", browser.run("document.body.innerText.match(/asked 20/g).length"), 1)
     check("the form is gone", browser.run("document.getElementById('enter').offsetParent === null"))

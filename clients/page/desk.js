@@ -1,5 +1,5 @@
 // Questions to the desk, and what is kept of its answers. The desk stands one folder above this page.
-import { HoldReport, countsOf } from './hold.js';
+import { HoldReport, countsOf } from './holds.js';
 import { NoReport, chainOf, levelOf, zonesOf } from './report.js';
 import { planOf } from './plan.js';
 import { timeOf } from './make.js';
@@ -155,7 +155,8 @@ export class Snapshot {
 
   // How much is published, and when it was asked for.
   get age() {
-    return 'published ' + this.level.sysmods + ' SYSMODs and ' + this.level.holds + ' holds, asked ' + timeOf(this.asked);
+    const { sysmods, holds } = this.level;
+    return 'published ' + sysmods + ' SYSMODs and ' + holds + ' holds, asked ' + timeOf(this.asked);
   }
 
   chain(zone, sysmod) {

@@ -4,8 +4,8 @@ import { button, counted, make } from './make.js';
 const MOST_CHIPS = 6; // a kind with more values has a list to choose from
 
 export class Filters {
-  // KINDS are {name, title, of(group) to a list of texts, order, isList}; CHANGE is called when something was chosen. UNITS is what one group is
-  // called, and what several are.
+  // KINDS are {name, title, of(group) to a list of texts, order, isList}. UNITS are what one group is called, and what
+  // several are. CHANGE is called when something was chosen.
   constructor(kinds, units, change) {
     this.units = units;
     this.kinds = kinds.map((kind) => ({ ...kind, chosen: new Set(), place: make('div', 'chips') }));

@@ -50,6 +50,8 @@ export function statusBadge(status) {
   return shown;
 }
 
+export const receivedMark = (isReceived) => make('span', isReceived ? 'yes' : 'soft', isReceived ? 'received' : 'no');
+
 export function classBadge(name) {
   const known = name === 'HIPER' || name === 'PE';
   return make('span', 'badge class-' + (known ? name.toLowerCase() : 'other'), name || '–');

@@ -72,7 +72,8 @@ async function begin(token) {
     sessionStorage.setItem(TOKEN, token);
     const { sysmods, holds } = mine.level;
     const published = several(sysmods, 'SYSMOD') + ' and ' + several(holds, 'hold') + ' published';
-    at('level').replaceChildren(published, make('span', 'dot', ' · '), make('span', 'asked', 'asked ' + timeOf(mine.asked)));
+    const asked = make('span', 'asked', 'asked ' + timeOf(mine.asked));
+    at('level').replaceChildren(published, make('span', 'dot', ' · '), asked);
     show();
   } catch (fault) {
     if (mine !== snapshot) return;
@@ -110,8 +111,8 @@ async function showOverview() {
   say('Asking for the reports of ' + several(snapshot.zones.length, 'zone') + '.');
   await mine.done;
   if (view !== mine) return;
-  const hasFault = mine.zones.find((each) => each.fault);
-  say(hasFault ? hasFault.fault : '', Boolean(hasFault));
+  const failed = mine.zones.find((each) => each.fault);
+  say(failed ? failed.fault : '', Boolean(failed));
 }
 
 async function showZone(where) {

@@ -39,7 +39,8 @@ export class Report {
     this.held = held;
     this.names = Object.keys(columns);
     const ends = [...Object.values(columns).slice(1), Infinity];
-    this.columns = Object.fromEntries(this.names.map((each, at) => [each, { from: columns[each] - 1, to: ends[at] - 1 }]));
+    const place = (each, at) => [each, { from: columns[each] - 1, to: ends[at] - 1 }];
+    this.columns = Object.fromEntries(this.names.map(place));
   }
 
   // What stands in a row from one column to the end of another.

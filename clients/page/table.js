@@ -150,7 +150,7 @@ export class Table {
     row.setAttribute('aria-rowindex', String(at + 2));
     if (isSame(line, this.chosen)) row.classList.add('chosen');
     if (at === this.at) row.classList.add('at');
-    if (isFirst && group.resolvers.length > 1) cells.find((cell) => cell.className === 'of-resolver').append(this.opener(group));
+    if (isFirst && group.resolvers.length > 1) row.querySelector('.of-resolver').append(this.opener(group));
     row.addEventListener('click', () => this.take(at, false));
     return row;
   }
