@@ -6,7 +6,6 @@ files, the keyboard and paper do, on a desktop and on a phone, light and dark.
 
 Pictures of the page go to FOLDER, where one is named.
 """
-import base64
 import csv
 import io
 import json
@@ -17,25 +16,15 @@ import time
 from chromium import Browser
 from drawn_desk import DrawnDesk, Zone
 from front import Front
-from page import NORTH, check, click, count, enter, filter_by, go, is_wide, lines, no_faults, picture, said, same, shows
-from service import finish, folder
+from page import NORTH, check, click, count, enter, filter_by, go, lines, no_faults, picture, said, same, shows
+from page_looks import looks, paper, without_resolver
+from service import TOP, finish, folder
 from stand_in import StandIn, until
 
 LARGE = Zone("LARGE", 10000, 3000, 1)
 ZONES = [Zone("Z@#$", 30, 5, 4), LARGE, Zone("CLEAN", 0, 0, 3), Zone("MIDDLE", 300, 40, 2)]
 HOLDS = {hold: found for hold, found in LARGE.holds}
 BEST = {"GOOD": 0, "HELD": 1}
-# texts and badges outside their row, the table's frame or the window; and long texts that have little room
-CUT = """[...document.querySelectorAll('tbody tr:not(.space) td')].flatMap(cell => {
-    const text = document.createRange(); text.selectNodeContents(cell);
-    const parts = [...cell.querySelectorAll('.cut, .badge, .opener'), ...(cell.querySelector('.cut, .off') ? [] : [text])];
-    const edges = [cell.closest('tr'), cell.closest('.scroll')].map(e => e.getBoundingClientRect());
-    return parts.filter(part => {
-        const its = part.getBoundingClientRect(), isNarrow = part.scrollWidth > part.clientWidth;
-        const most = Math.min(window.innerWidth, ...edges.map(edge => edge.right)), least = Math.max(...edges.map(edge => edge.left));
-        return its.width && (its.left < least || its.right > most || isNarrow && its.width < (part.className === 'cut' ? 120 : 1e9));
-    }).map(part => (part.innerText ?? part.toString()));
-})"""
 TIMED = """new Promise(done => { const began = performance.now(); %s;
     const look = () => requestAnimationFrame((%s) ? () => done(performance.now() - began) : look); look(); })"""
 
@@ -97,7 +86,7 @@ def speed(browser):
     for slower in (1, 4):
         browser.call("Emulation.setCPUThrottlingRate", rate=slower)
         best = {}
-        for _ in range(6):
+        for _ in range(12):
             go(browser, "#LARGE/errors")
             for name, (script, test) in steps.items():
                 best[name] = min(best.get(name, 1e9), browser.run(TIMED % (script, test)))
@@ -157,23 +146,6 @@ def groups(browser):
     click(browser, ".opener")
     same("and closed", len(lines(browser)), 1)
     filter_by(browser, "")
-
-
-def without_resolver(browser):
-    """A hold without a resolver says so once to the eye, and to a screen reader where the resolver would stand."""
-    marks = """[...document.querySelectorAll('tbody tr.first')].map(row => [...row.querySelectorAll('td, td *')].filter(e =>
-        e.children.length === 0 && e.getBoundingClientRect().left >= 0 && /none|no resolver/.test(e.innerText)).length)"""
-    for width in (1400, 320):
-        browser.size(width)
-        go(browser, "#LARGE/errors?status=none")
-        browser.until("document.querySelector('tbody tr.first')")
-        same("none stands once in a line, %d pixels wide" % width, set(browser.run(marks)), {1})
-        root = browser.call("DOM.getDocument")["root"]["nodeId"]
-        line = browser.call("DOM.querySelector", nodeId=root, selector="tbody tr.first")["nodeId"]
-        cells = browser.call("Accessibility.queryAXTree", nodeId=line, role="gridcell")["nodes"]
-        told = [cell["name"]["value"] for cell in cells]
-        check("and is told, %d pixels wide" % width, "no resolver" in told and "none" in told, told)
-    browser.size(1400)
 
 
 def beside(browser):
@@ -348,82 +320,10 @@ def empty(browser):
     check("its rows", browser.until("document.querySelectorAll('tbody tr.first').length > 5"))
 
 
-def looks(browser):
-    """Dark, a phone, paper."""
-    for width, height in ((320, 640), (390, 844), (768, 1024), (1000, 800), (1400, 900)):
-        browser.size(width, height)
-        for address in ("#", "#LARGE/errors", "#LARGE/fixes", "#LARGE/plan"):
-            go(browser, address)
-            browser.until("document.querySelector('tbody tr.first, .figures')")
-            check("nothing is wider than %d pixels: %s" % (width, address), not is_wide(browser), browser.run("document.documentElement.scrollWidth"))
-            same("nothing in a line is cut at %d pixels: %s" % (width, address), sorted(set(browser.run(CUT))), [])
-            picture(browser, "%s-%d" % (address.strip("#").replace("/", "-") or "zones", width))
-        beyond = "[...document.querySelectorAll('.tab')].filter(e => e.getBoundingClientRect().right > document.querySelector('.split').getBoundingClientRect().right + 1).length"
-        same("nor is a tab at %d pixels" % width, browser.run(beyond), 0)
-    browser.size(390, 844)
-    go(browser, "#LARGE/errors?status=GOOD")
-    browser.until("document.querySelector('tbody tr.first')")
-    same("lines are as high as they are said to be", browser.run("[...new Set([...document.querySelectorAll('tbody tr.first')].map(r => Math.round(r.getBoundingClientRect().height)))]"), [66])
-    click(browser, "tbody tr.first")
-    shows(browser, "can be installed", ".beside")
-    check("the chain lies over the table on a phone", browser.run("getComputedStyle(document.querySelector('.beside')).position") == "fixed")
-    picture(browser, "chain-390")
-    click(browser, ".close")
-    click(browser, ".any-chain")
-    same("any chain can be asked for there", browser.run("document.activeElement.ariaLabel"), "SYSMOD")
-    browser.write("uj90000")
-    browser.key("Enter", 13, "\r")
-    shows(browser, "UJ90000 is not published", ".beside")
-    click(browser, ".close")
-    check("and is closed again", browser.run("getComputedStyle(document.querySelector('.beside')).display") == "none")
-    browser.size(1000, 800)
-    click(browser, "tbody tr.first")
-    shows(browser, "can be installed", ".beside")
-    picture(browser, "chain-1000")
-    click(browser, ".close")
-    browser.size(1400)
-    colours = []
-    for scheme in ("light", "dark"):
-        browser.call("Emulation.setEmulatedMedia", features=[{"name": "prefers-color-scheme", "value": scheme}])
-        go(browser, "#LARGE/errors")
-        colours.append(browser.run("['color', 'backgroundColor'].map(name => getComputedStyle(document.body)[name])"))
-        picture(browser, "errors-" + scheme)
-    check("dark is dark", colours[0] != colours[1] and colours[1][1] == "rgb(15, 20, 27)", colours)
-    browser.call("Emulation.setEmulatedMedia", features=[])
-    heights = "(s => { s.scrollTop = 5000; return [s.querySelector('thead th').getBoundingClientRect().top - s.getBoundingClientRect().top, s.scrollTop]; })(document.querySelector('.scroll'))"
-    same("headings stay", browser.run(heights), [0, 5000])
-
-
-def paper(browser):
-    """All rows are printed, with a title, the level and the filters."""
-    go(browser, "#LARGE/errors?class=HIPER")
-    browser.until("document.querySelector('tbody tr.first')")
-    browser.run("window.addEventListener('beforeprint', () => { window.printed = [...document.querySelectorAll('tbody tr:not(.space)')].length; })")
-    data = base64.b64decode(browser.call("Page.printToPDF")["data"])
-    want = sum(max(1, len(found)) for hold, found in HOLDS.items() if hold[2] == "HIPER")
-    same("all lines are on paper", browser.run("window.printed"), want)
-    pages = int(max(re.findall(rb"/Count (\d+)", data), key=int))
-    check("on as many pages as they take", want / 80 < pages < want / 20, pages)
-    check("and afterwards those that are seen", browser.run("document.querySelectorAll('tbody tr').length") < 120)
-    browser.call("Emulation.setEmulatedMedia", media="print")
-    title = browser.run("document.querySelector('caption').innerText")
-    same("the title", title, "Exception SYSMODs of LARGE, only HIPER")
-    seen = "(e => e.offsetParent !== null && e.getBoundingClientRect().left >= 0)(document.querySelector('%s'))"
-    picture(browser, "paper-errors")
-    same("title and level are there", [browser.run(seen % place) for place in ("caption", "#level")], [True, True])
-    same("buttons and fields are not", browser.run("[...document.querySelectorAll('button, input, select')].filter(e => e.offsetParent && !e.closest('th')).length"), 0)
-    go(browser, "#")
-    tiles = browser.run("[...document.querySelectorAll('.tile')].filter(e => e.offsetParent).length")
-    same("the sums are all on paper", tiles, 4)
-    picture(browser, "paper-zones")
-    browser.call("Emulation.setEmulatedMedia", media="")
-    go(browser, "#MIDDLE/plan")
-    browser.until("document.querySelector('.left')")
-    opened = "[...document.querySelectorAll('.left')].map(part => part.open)"
-    browser.run("window.addEventListener('beforeprint', () => { window.opened = %s; })" % opened)
-    browser.call("Page.printToPDF")
-    same("what is left over is opened on paper", browser.run("window.opened"), [True, True])
-    same("and folded afterwards", browser.run(opened), [False, False])
+def modules(browser):
+    """All scripts are asked for at once, and not each when another one names it."""
+    named = browser.run("[...document.querySelectorAll('link[rel=modulepreload], script')].map(e => (e.href || e.src).split('/').pop())")
+    same("the page names its scripts", sorted(named), sorted(name for name in os.listdir(os.path.join(TOP, "clients", "page")) if name.endswith(".js")))
 
 
 def main():
@@ -437,6 +337,7 @@ def main():
     browser = Browser()
     browser.open(front.url + "/")
     same("the front door leads to the page", browser.run("location.pathname"), "/page/")
+    modules(browser)
     enter(browser, NORTH)
     overview(browser)
     speed(browser)
@@ -450,7 +351,7 @@ def main():
     no_room(browser, desk)
     empty(browser)
     looks(browser)
-    paper(browser)
+    paper(browser, sum(max(1, len(found)) for hold, found in HOLDS.items() if hold[2] == "HIPER"))
     no_faults(browser)
     browser.end()
     front.end()
