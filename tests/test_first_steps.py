@@ -55,7 +55,7 @@ check("the front is there", until(lambda: browser.open("https://localhost:%d/" %
 enter(browser, "north-token")
 browser.until("document.querySelector('.figures')")
 figures = browser.run("[...document.querySelectorAll('.figure:not(.zero)')].map(f => f.innerText.replace(/\\s+/g, ' '))")
-same("what the page says of the zone", figures, ["1 PE", "1 can be resolved", "1 fixes missing"])
+same("what the page says of the zone", figures, ["1 PE", "1 can be resolved", "1 fix missing"])
 click(browser, ".zone-name", "MVSPROD")
 browser.until("document.querySelector('tbody tr.first')")
 click(browser, "tbody tr.first")

@@ -24,6 +24,11 @@ TWO_LINES = """[...document.querySelectorAll('td.of-fmid, td.of-sysmod, td.of-re
 }).map(cell => cell.innerText)"""
 
 
+BELOW = """[...document.querySelectorAll('tbody tr:not(.space)')].flatMap(row => [...row.cells]).filter(cell =>
+    Math.abs(cell.getBoundingClientRect().left - document.querySelectorAll('thead th')[cell.cellIndex].getBoundingClientRect().left) > 1
+).map(cell => cell.innerText)"""
+
+
 def csv_rows(client, report, zone):
     """The report by bureau-client: a dictionary for each row."""
     rows = list(csv.DictReader(io.StringIO(client.run(report, "--csv", zone)[1])))
@@ -51,7 +56,7 @@ def sample(browser, front, north):
     same(
         "the overview",
         browser.run(ZONES),
-        [["MVSPROD", "0 HIPER, 1 PE, 0 other, 0 without resolver, 0 held, 1 can be resolved, 1 fixes missing"]],
+        [["MVSPROD", "0 HIPER, 1 PE, 0 other, 0 no resolver, 0 held, 1 can be resolved, 1 fix missing"]],
     )
     same("the level", browser.run("document.getElementById('level').innerText.split(' · ')[0]"), "8 SYSMODs and 5 holds published")
     click(browser, ".zone-name", "MVSPROD")
@@ -162,7 +167,7 @@ def marks(browser, front, client):
     check("with marks", MARKED in titles, titles)
     shows(browser, MARKED, ".of-category .cut")
     same("nothing of it became an element", browser.run("document.querySelectorAll('main b, main img').length"), 0)
-    same("a row without a resolver", lines(browser)[0][3:], ["none", "none", ""])
+    same("a row without a resolver", lines(browser)[0][3:], ["no resolver", "none", ""])
     click(browser, "tbody tr.first")
     shows(browser, "No published SYSMOD resolves this hold yet.", ".beside")
     go(browser, "#Z%40%23%24/errors/%40A%24%23001")
@@ -172,6 +177,9 @@ def marks(browser, front, client):
     browser.call("Emulation.setEmulatedMedia", media="print")
     check("on paper nothing is cut off", not is_wide(browser), browser.run("document.documentElement.scrollWidth"))
     same("and no id takes two lines", browser.run(TWO_LINES), [])
+    same("each field stands below its heading", browser.run(BELOW), [])
+    check("the chain stands below the table", browser.run("document.querySelector('.beside').getBoundingClientRect().top > document.querySelector('table').getBoundingClientRect().bottom - 1") and
+          browser.run("getComputedStyle(document.querySelector('.beside')).position") == "static")
     picture(browser, "paper")
     browser.call("Emulation.setEmulatedMedia", media="")
     browser.size(1400)

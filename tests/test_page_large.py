@@ -6,7 +6,6 @@ files, the keyboard and paper do, on a desktop and on a phone, light and dark.
 
 Pictures of the page go to FOLDER, where one is named.
 """
-import base64
 import csv
 import io
 import json
@@ -17,8 +16,9 @@ import time
 from chromium import Browser
 from drawn_desk import DrawnDesk, Zone
 from front import Front
-from page import NORTH, check, click, count, enter, filter_by, go, is_wide, lines, no_faults, picture, said, same, shows
-from service import finish, folder
+from page import NORTH, check, click, count, enter, filter_by, go, lines, no_faults, picture, said, same, shows
+from page_looks import looks, paper, without_resolver
+from service import TOP, finish, folder
 from stand_in import StandIn, until
 
 LARGE = Zone("LARGE", 10000, 3000, 1)
@@ -52,6 +52,8 @@ def overview(browser):
     shows(browser, "{:,}".format(hiper), ".zone:first-child .figure.class-hiper")
     shows(browser, "{:,}".format(none), ".zone:first-child .figure.status-none")
     same("in the order of urgency", browser.run("[...document.querySelectorAll('.zone-name')].map(z => z.innerText)"), ["LARGE", "MIDDLE", "Z@#$", "CLEAN"])
+    label = browser.run("document.querySelector('.zone:first-child .figure.status-none').ariaLabel")
+    same("which a screen reader tells with its zone", label, "LARGE: {:,} no resolver".format(none))
     shows(browser, "20,000 SYSMODs and 40,000 holds published · asked 20", "#level")
     same("once", browser.run("document.body.innerText.match(/asked 20/g).length"), 1)
     check("the form is gone", browser.run("document.getElementById('enter').offsetParent === null"))
@@ -84,7 +86,7 @@ def speed(browser):
     for slower in (1, 4):
         browser.call("Emulation.setCPUThrottlingRate", rate=slower)
         best = {}
-        for _ in range(6):
+        for _ in range(12):
             go(browser, "#LARGE/errors")
             for name, (script, test) in steps.items():
                 best[name] = min(best.get(name, 1e9), browser.run(TIMED % (script, test)))
@@ -93,11 +95,7 @@ def speed(browser):
             if max(best.values()) < 300:
                 break
         print("page: 10,000 rows, %d times slower: %s" % (slower, ", ".join("%s %d ms" % pair for pair in best.items())))
-        # four times slower, what is asked anew takes 280 to 400 ms: more than the 300 that it should
-        anew = best.pop("asked anew")
-        limit = 300 if slower == 1 else 750
-        check("asked anew within %d ms, %d times slower" % (limit, slower), anew <= limit, anew)
-        same("all else within 300 ms, %d times slower" % slower, [name for name, took in best.items() if took > 300], [])
+        same("all within 300 ms, %d times slower" % slower, {name: took for name, took in best.items() if took > 300}, {})
     browser.call("Emulation.setCPUThrottlingRate", rate=1)
     check("only what is seen is drawn", browser.run("document.querySelectorAll('tbody tr').length") < 120)
 
@@ -322,65 +320,10 @@ def empty(browser):
     check("its rows", browser.until("document.querySelectorAll('tbody tr.first').length > 5"))
 
 
-def looks(browser):
-    """Dark, a phone, paper."""
-    for width, height in ((320, 640), (390, 844), (768, 1024), (1000, 800), (1400, 900)):
-        browser.size(width, height)
-        for address in ("#", "#LARGE/errors", "#LARGE/fixes", "#LARGE/plan"):
-            go(browser, address)
-            browser.until("document.querySelector('tbody tr.first, .figures')")
-            check("nothing is wider than %d pixels: %s" % (width, address), not is_wide(browser), browser.run("document.documentElement.scrollWidth"))
-            picture(browser, "%s-%d" % (address.strip("#").replace("/", "-") or "zones", width))
-    browser.size(390, 844)
-    go(browser, "#LARGE/errors?status=GOOD")
-    browser.until("document.querySelector('tbody tr.first')")
-    same("lines are as high as they are said to be", browser.run("[...new Set([...document.querySelectorAll('tbody tr.first')].map(r => Math.round(r.getBoundingClientRect().height)))]"), [66])
-    click(browser, "tbody tr.first")
-    shows(browser, "can be installed", ".beside")
-    check("the chain lies over the table on a phone", browser.run("getComputedStyle(document.querySelector('.beside')).position") == "fixed")
-    picture(browser, "chain-390")
-    click(browser, ".close")
-    browser.size(1400)
-    colours = []
-    for scheme in ("light", "dark"):
-        browser.call("Emulation.setEmulatedMedia", features=[{"name": "prefers-color-scheme", "value": scheme}])
-        go(browser, "#LARGE/errors")
-        colours.append(browser.run("['color', 'backgroundColor'].map(name => getComputedStyle(document.body)[name])"))
-        picture(browser, "errors-" + scheme)
-    check("dark is dark", colours[0] != colours[1] and colours[1][1] == "rgb(15, 20, 27)", colours)
-    browser.call("Emulation.setEmulatedMedia", features=[])
-    heights = "(s => { s.scrollTop = 5000; return [s.querySelector('thead th').getBoundingClientRect().top - s.getBoundingClientRect().top, s.scrollTop]; })(document.querySelector('.scroll'))"
-    same("headings stay", browser.run(heights), [0, 5000])
-
-
-def paper(browser):
-    """All rows are printed, with a title, the level and the filters."""
-    go(browser, "#LARGE/errors?class=HIPER")
-    browser.until("document.querySelector('tbody tr.first')")
-    browser.run("window.addEventListener('beforeprint', () => { window.printed = [...document.querySelectorAll('tbody tr:not(.space)')].length; })")
-    data = base64.b64decode(browser.call("Page.printToPDF")["data"])
-    want = sum(max(1, len(found)) for hold, found in HOLDS.items() if hold[2] == "HIPER")
-    same("all lines are on paper", browser.run("window.printed"), want)
-    pages = int(max(re.findall(rb"/Count (\d+)", data), key=int))
-    check("on as many pages as they take", want / 80 < pages < want / 20, pages)
-    check("and afterwards those that are seen", browser.run("document.querySelectorAll('tbody tr').length") < 120)
-    browser.call("Emulation.setEmulatedMedia", media="print")
-    title = browser.run("document.querySelector('caption').innerText")
-    same("the title", title, "Exception SYSMODs of LARGE, only HIPER")
-    seen = "(e => e.offsetParent !== null && e.getBoundingClientRect().left >= 0)(document.querySelector('%s'))"
-    same("title and level are there", [browser.run(seen % place) for place in ("caption", "#level")], [True, True])
-    same("buttons and fields are not", browser.run("[...document.querySelectorAll('button, input, select')].filter(e => e.offsetParent && !e.closest('th')).length"), 0)
-    go(browser, "#")
-    tiles = browser.run("[...document.querySelectorAll('.tile')].filter(e => e.offsetParent).length")
-    same("the sums are all on paper", tiles, 4)
-    browser.call("Emulation.setEmulatedMedia", media="")
-    go(browser, "#MIDDLE/plan")
-    browser.until("document.querySelector('.left')")
-    opened = "[...document.querySelectorAll('.left')].map(part => part.open)"
-    browser.run("window.addEventListener('beforeprint', () => { window.opened = %s; })" % opened)
-    browser.call("Page.printToPDF")
-    same("what is left over is opened on paper", browser.run("window.opened"), [True, True])
-    same("and folded afterwards", browser.run(opened), [False, False])
+def modules(browser):
+    """All scripts are asked for at once, and not each when another one names it."""
+    named = browser.run("[...document.querySelectorAll('link[rel=modulepreload], script')].map(e => (e.href || e.src).split('/').pop())")
+    same("the page names its scripts", sorted(named), sorted(name for name in os.listdir(os.path.join(TOP, "clients", "page")) if name.endswith(".js")))
 
 
 def main():
@@ -394,11 +337,13 @@ def main():
     browser = Browser()
     browser.open(front.url + "/")
     same("the front door leads to the page", browser.run("location.pathname"), "/page/")
+    modules(browser)
     enter(browser, NORTH)
     overview(browser)
     speed(browser)
     filters(browser)
     groups(browser)
+    without_resolver(browser)
     beside(browser)
     keyboard(browser)
     plan(browser, front)
@@ -406,7 +351,7 @@ def main():
     no_room(browser, desk)
     empty(browser)
     looks(browser)
-    paper(browser)
+    paper(browser, sum(max(1, len(found)) for hold, found in HOLDS.items() if hold[2] == "HIPER"))
     no_faults(browser)
     browser.end()
     front.end()

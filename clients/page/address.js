@@ -1,6 +1,6 @@
 // The address of what is shown: #ZONE/TAB/SYSMOD?FILTERS. It can be reloaded, kept and sent.
 
-export const TABS = ['errors', 'fixes', 'plan'];
+const TABS = ['errors', 'fixes', 'plan'];
 export const REPORT_OF = { errors: 'errsysmods', fixes: 'missingfix' };
 
 export function addressOf({ zone, tab, sysmod, words }) {

@@ -27,8 +27,10 @@ function sentence(chain) {
 function membersOf(chain) {
   const own = chain.plan.filter((member) => member.id === chain.sysmod);
   const others = chain.plan.filter((member) => member.id !== chain.sysmod);
-  const boxes = [...own, ...others].map((member) => box(member.id, 'good', member.id === chain.sysmod ? 'asked for' : 'to be installed too',
-    ...reasons('SYSTEM', member.system), ...reasons('USER', member.user)));
+  const boxes = [...own, ...others].map((member) => {
+    const words = member.id === chain.sysmod ? 'asked for' : 'to be installed too';
+    return box(member.id, 'good', words, ...reasons('SYSTEM', member.system), ...reasons('USER', member.user));
+  });
   return make('ul', 'members', ...boxes);
 }
 
@@ -62,11 +64,12 @@ async function rowOfNeeds(first, chainOf) {
 
 export class ChainPanel {
   // CHAIN(sysmod) asks; GO(sysmod) makes another one the address; CLOSE leaves; ISRECEIVED(id) tells what is known of
-  // it; TITLE() is how old all of it is.
-  constructor(zone, { chain, go, close, faultOf, isReceived, title, say }) {
-    Object.assign(this, { zone, chain, go, faultOf, isReceived, age: title, say, turn: 0 });
+  // it; AGE() is how old all of it is.
+  constructor({ chain, go, close, faultOf, isReceived, age, say }) {
+    Object.assign(this, { chain, go, faultOf, isReceived, age, say, turn: 0 });
     this.input = make('input', 'id');
-    Object.assign(this.input, { autocomplete: 'off', spellcheck: false, required: true, maxLength: 7, pattern: '[A-Za-z0-9@#$]{1,7}' });
+    Object.assign(this.input, { autocomplete: 'off', spellcheck: false, required: true });
+    Object.assign(this.input, { maxLength: 7, pattern: '[A-Za-z0-9@#$]{1,7}' });
     this.input.setAttribute('aria-label', 'SYSMOD');
     this.input.placeholder = 'SYSMOD';
     const ask = make('button', '', 'Show its chain');
@@ -96,7 +99,14 @@ export class ChainPanel {
     this.title.textContent = 'Chain';
     this.input.value = '';
     this.hold.replaceChildren();
-    this.picture.replaceChildren(make('p', 'soft', 'Choose a row to see what has to be installed with its resolver, or enter any SYSMOD.'));
+    const words = 'Choose a row to see what has to be installed with its resolver, or enter any SYSMOD.';
+    this.picture.replaceChildren(make('p', 'soft', words));
+  }
+
+  // Where there is no room beside the table, the panel is not there until it is opened.
+  open() {
+    this.element.classList.add('is-open');
+    this.input.focus();
   }
 
   // HOLD is that of the row, where a row was chosen.

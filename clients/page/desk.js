@@ -1,5 +1,6 @@
 // Questions to the desk, and what is kept of its answers. The desk stands one folder above this page.
-import { NoReport, chainOf, countsOf, holdsOf, levelOf, rowsOf } from './report.js';
+import { HoldReport, countsOf } from './holds.js';
+import { NoReport, chainOf, levelOf, zonesOf } from './report.js';
 import { planOf } from './plan.js';
 import { timeOf } from './make.js';
 
@@ -118,7 +119,7 @@ export class Snapshot {
   // The zones, and how much is published.
   async begin() {
     const [zones, level] = await Promise.all([this.ask('/zones'), this.ask('/published')]);
-    this.zones = rowsOf('zones', '', zones).map((row) => ({ zone: row.ZONE, sysmods: Number(row.SYSMODS) }));
+    this.zones = zonesOf(zones);
     this.level = levelOf(level);
   }
 
@@ -126,12 +127,9 @@ export class Snapshot {
     return ['', 'zones', zone, ...parts].map(encodeURIComponent).join('/');
   }
 
-  // A report: its rows, and the same as holds.
   report(zone, name, isUrgent) {
-    return this.kept(name + ' ' + zone, async () => {
-      const rows = rowsOf(name, zone, await this.ask(this.pathOf(zone, name), isUrgent));
-      return { rows, holds: holdsOf(name, rows) };
-    });
+    return this.kept(name + ' ' + zone, async () =>
+      new HoldReport(name, zone, await this.ask(this.pathOf(zone, name), isUrgent)));
   }
 
   // The counts of a zone. They stay, also where its reports are not kept.
@@ -157,7 +155,8 @@ export class Snapshot {
 
   // How much is published, and when it was asked for.
   get age() {
-    return 'published ' + this.level.sysmods + ' SYSMODs and ' + this.level.holds + ' holds, asked ' + timeOf(this.asked);
+    const { sysmods, holds } = this.level;
+    return 'published ' + sysmods + ' SYSMODs and ' + holds + ' holds, asked ' + timeOf(this.asked);
   }
 
   chain(zone, sysmod) {

@@ -1,12 +1,11 @@
 // Filters that combine: one of the chosen values of each kind, and all words of the text.
 import { button, counted, make } from './make.js';
-import { textOf } from './report.js';
 
 const MOST_CHIPS = 6; // a kind with more values has a list to choose from
 
 export class Filters {
-  // KINDS are {name, title, of(group) to a list of texts, order, isList}; CHANGE is called when something was chosen. UNITS is what one group is
-  // called, and what several are.
+  // KINDS are {name, title, of(group) to a list of texts, order, isList}. UNITS are what one group is called, and what
+  // several are. CHANGE is called when something was chosen.
   constructor(kinds, units, change) {
     this.units = units;
     this.kinds = kinds.map((kind) => ({ ...kind, chosen: new Set(), place: make('div', 'chips') }));
@@ -86,7 +85,7 @@ export class Filters {
     const kinds = this.kinds.filter((kind) => kind.chosen.size > 0);
     const isWanted = (group) =>
       kinds.every((kind) => kind.of(group).some((value) => kind.chosen.has(value))) &&
-      words.every((word) => (group.text ??= textOf(group)).includes(word));
+      words.every((word) => group.text.includes(word));
     const found = words.length + kinds.length > 0 ? groups.filter(isWanted) : groups;
     this.clear.hidden = words.length + kinds.length === 0;
     const of = found.length === groups.length ? '' : ' of ' + counted(groups.length);

@@ -1,102 +1,147 @@
-// A report as a table of its holds, with filters, and as a file.
-import { classBadge, make, statusBadge } from './make.js';
-import { REPORTS, byUrgency } from './report.js';
-import { Filters } from './filters.js';
-import { Table } from './table.js';
-import { csvOf, saveButtons } from './save.js';
+// The holds of a report, each with all its resolvers. Nothing here touches the page.
+import { NoReport, Report } from './report.js';
 
-const TITLES = { errsysmods: 'Exception SYSMODs of ', missingfix: 'Missing fixes of ' };
-const UNITS = { errsysmods: ['hold', 'holds'], missingfix: ['fix', 'fixes'] };
-const text = (name, title, of) => ({ name, title, of, cell: (hold, member, isFirst) => (isFirst ? of(hold) : '') });
+const STATUSES = ['GOOD', 'HELD', 'LACK', 'none']; // the best first
+const LETTERS = 'GHL-'; // with which they begin in a report
+// What a resolver can be, the best first: received comes before not received.
+const RANKS = STATUSES.flatMap((status, at) => [{ status, at, isReceived: true }, { status, at, isReceived: false }]);
+const CLASSES = ['HIPER', 'PE']; // the most urgent first, and all others after them
+const NO_RESOLVER = { id: '', status: 'none', isReceived: false };
 
-const RESOLVER = [
-  {
-    name: 'resolver', title: 'Resolver', of: (hold) => hold.best.id,
-    cell: (hold, member) => make('span', member.id ? 'id' : 'soft', member.id || 'none'),
-  },
-  { name: 'status', title: 'Status', of: (hold) => hold.status, cell: (hold, member) => statusBadge(member.status) },
-  {
-    name: 'received', title: 'Received', of: (hold) => hold.received,
-    cell: (hold, member) => (member.id ? make('span', member.isReceived ? 'yes' : 'soft', member.isReceived ? 'received' : 'no') : ''),
-  },
-];
-
-function categories(hold, member, isFirst) {
-  if (!isFirst) return '';
-  const [first, ...more] = hold.categories;
-  const made = make('span', 'cut', first ?? '', ...(more.length > 0 ? [make('span', 'soft', ' and ' + more.length + ' more')] : []));
-  made.title = hold.categories.join('\n');
-  return made;
+// Which of the ranks the resolver of a row has.
+function rankOf(report, row) {
+  const status = LETTERS.indexOf(report.letter(row, 'STATUS'));
+  if (status < 0) throw new NoReport();
+  return 2 * status + (report.letter(row, 'RECEIVED') === 'Y' ? 0 : 1);
 }
 
-const COLUMNS = {
-  errsysmods: [
-    {
-      name: 'class', title: 'Class', of: (hold) => hold.class,
-      cell: (hold, member, isFirst) => (isFirst ? classBadge(hold.class) : ''),
-    },
-    text('sysmod', 'SYSMOD', (hold) => hold.sysmod),
-    text('reason', 'Reason', (hold) => hold.reason),
-    text('fmid', 'FMID', (hold) => hold.fmid),
-    ...RESOLVER,
-  ],
-  missingfix: [
-    { name: 'category', title: 'Category', of: (hold) => hold.categories[0] ?? '', cell: categories },
-    text('fmid', 'FMID', (hold) => hold.fmid),
-    text('reason', 'Reason', (hold) => hold.reason),
-    ...RESOLVER,
-  ],
-};
-
-const STATUS = { name: 'status', title: 'Status', of: (hold) => [hold.status], order: ['none', 'LACK', 'HELD', 'GOOD'] };
-const RECEIVED = { name: 'received', title: 'Received', of: (hold) => [hold.received], order: ['received'] };
-const KINDS = {
-  errsysmods: [{ name: 'class', title: 'Class', of: (hold) => [hold.class], order: ['HIPER', 'PE'] }, STATUS, RECEIVED],
-  missingfix: [{ name: 'category', title: 'Category', of: (hold) => hold.categories, isList: true }, STATUS, RECEIVED],
-};
-
-// The rows of a report as its own columns, for those holds that are shown.
-function rowsFor(name, report, holds) {
-  const columns = Object.keys(REPORTS[name].columns);
-  const sysmodOf = (row) => (name === 'errsysmods' ? row.SYSMOD : row.FMID);
-  const wanted = new Set(holds.map((hold) => hold.sysmod + ' ' + hold.reason));
-  const rows = report.rows.filter((row) => wanted.has(sysmodOf(row) + ' ' + row.REASON));
-  return [columns, ...rows.map((row) => columns.map((column) => row[column]))];
+function classRankOf(name) {
+  const at = CLASSES.indexOf(name);
+  return at < 0 ? CLASSES.length : at;
 }
 
-// WAYS are {choose(hold, member), changed(words), say(text)}.
-export class HoldsView {
-  constructor(name, zone, report, words, ways) {
+// The resolvers of these rows, each once, the best one first.
+function resolversOf(report, rows) {
+  const found = new Map();
+  for (const row of rows) {
+    const id = report.field(row, 'RESOLVER');
+    const rank = rankOf(report, row);
+    if (id && !found.has(id)) found.set(id, { id, rank, ...RANKS[rank] });
+  }
+  return [...found.values()].sort((one, other) => one.rank - other.rank);
+}
+
+// All words that a hold's lines show, in small letters, for a filter.
+function textOf(hold) {
+  const { report } = hold;
+  const words = [hold.class, hold.sysmod, hold.reason, hold.fmid, ...hold.categories];
+  for (const row of hold.rows) {
+    const { status, isReceived } = RANKS[rankOf(report, row)];
+    words.push(report.field(row, 'RESOLVER'), status, isReceived ? 'received' : '');
+  }
+  return words.join(' ').toLowerCase();
+}
+
+// A hold. What sorts and counts it is known from the start. The rest is cut out of its rows when it is asked for.
+class Hold {
+  constructor(report, row, order) {
     this.report = report;
-    this.title = TITLES[name] + zone;
-    this.filters = new Filters(KINDS[name], UNITS[name], () => {
-      ways.changed(this.filters.words);
-      this.show();
-    });
-    this.filters.words = words;
-    this.filters.offer(report.holds);
-    this.table = new Table({
-      caption: this.title, columns: COLUMNS[name], order: byUrgency, choose: ways.choose,
-    });
-    const rows = () => rowsFor(name, report, this.shown);
-    const forms = [
-      { title: 'CSV', name: zone + '-' + name + '.csv', kind: 'text/csv', text: () => csvOf(rows()) },
-      { title: 'JSON', name: zone + '-' + name + '.json', kind: 'application/json', text: () => this.json(rows()) },
-    ];
-    const bar = make('div', 'bar', this.filters.element, saveButtons(forms, ways.say));
-    this.element = make('div', 'report ' + name, bar, this.table.element);
-    this.show();
+    this.rows = [row];
+    this.order = order;
+    this.class = report.field(row, 'CLASS');
+    this.classRank = classRankOf(this.class);
+    this.rank = rankOf(report, row); // that of its best resolver
   }
 
-  json([columns, ...rows]) {
-    const object = (row) => Object.fromEntries(row.map((field, at) => [columns[at], field || null]));
-    return JSON.stringify(rows.map(object), null, 1) + '\n';
+  add(row) {
+    this.rows.push(row);
+    this.rank = Math.min(this.rank, rankOf(this.report, row));
   }
 
-  show() {
-    this.shown = this.filters.of(this.report.holds);
-    const { shown } = this.filters;
-    this.table.name(this.title + (shown ? ', only ' + shown : ''));
-    this.table.show(this.shown);
+  get sysmod() {
+    return this.report.field(this.rows[0], this.report.held);
   }
+
+  get reason() {
+    return this.report.field(this.rows[0], 'REASON');
+  }
+
+  get fmid() {
+    return this.report.field(this.rows[0], 'FMID');
+  }
+
+  get status() {
+    return RANKS[this.rank].status;
+  }
+
+  get received() {
+    return RANKS[this.rank].isReceived ? 'received' : 'not received';
+  }
+
+  get categories() {
+    this.named ??= [...new Set(this.rows.map((row) => this.report.field(row, 'CATEGORY')))].filter(Boolean);
+    return this.named;
+  }
+
+  get resolvers() {
+    this.found ??= resolversOf(this.report, this.rows);
+    return this.found;
+  }
+
+  get best() {
+    return this.resolvers[0] ?? NO_RESOLVER;
+  }
+
+  get text() {
+    this.words ??= textOf(this);
+    return this.words;
+  }
+}
+
+// The holds of a report, in its order. A hold of a fix category has rows for each of its categories.
+function holdsOf(report) {
+  const holds = new Map();
+  let key = '';
+  let hold;
+  for (let row = 0; row < report.size; row += 1) {
+    const next = report.part(row, report.held, 'REASON');
+    // the rows of a hold mostly follow one another
+    if (next !== key) hold = holds.get(next);
+    key = next;
+    if (hold) {
+      hold.add(row);
+    } else {
+      hold = new Hold(report, row, holds.size);
+      holds.set(key, hold);
+    }
+  }
+  return [...holds.values()];
+}
+
+// The errors or the missing fixes of a zone.
+export class HoldReport extends Report {
+  constructor(name, zone, text) {
+    super(name, zone, text);
+    this.holds = holdsOf(this);
+  }
+}
+
+// What has to be looked at first: HIPER, then PE; of these what nothing resolves; else as the desk has it.
+export function byUrgency(one, other) {
+  return one.classRank - other.classRank || RANKS[other.rank].at - RANKS[one.rank].at || one.order - other.order;
+}
+
+// The counts of a zone that the overview shows.
+export function countsOf(errors, fixes) {
+  const of = (test) => errors.filter(test).length;
+  return {
+    holds: errors.length,
+    hiper: of((hold) => hold.class === 'HIPER'),
+    pe: of((hold) => hold.class === 'PE'),
+    other: of((hold) => hold.class !== 'HIPER' && hold.class !== 'PE'),
+    unresolved: of((hold) => hold.status === 'none'),
+    held: of((hold) => hold.status === 'HELD'),
+    good: of((hold) => hold.status === 'GOOD'),
+    fixes: fixes.length,
+  };
 }

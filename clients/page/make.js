@@ -23,6 +23,9 @@ export function link(text, className, address, label) {
   return made;
 }
 
+// Waits until what is there now was painted.
+export const painted = () => new Promise((done) => requestAnimationFrame(() => setTimeout(done)));
+
 export const at = (id) => document.getElementById(id);
 
 // 12345 as 12,345.
@@ -46,6 +49,8 @@ export function statusBadge(status) {
   shown.title = STATUS_WORDS[status] ?? '';
   return shown;
 }
+
+export const receivedMark = (isReceived) => make('span', isReceived ? 'yes' : 'soft', isReceived ? 'received' : 'no');
 
 export function classBadge(name) {
   const known = name === 'HIPER' || name === 'PE';

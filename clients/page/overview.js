@@ -27,7 +27,8 @@ function barOf(counts, most) {
 function figure(zone, number, words, className, tab, filter) {
   const text = [make('strong', '', counted(number)), ' ', make('span', 'figure-words', words)];
   if (number === 0) return make('span', 'figure zero', ...text);
-  const made = link('', 'figure ' + className, addressOf({ zone, tab, words: filter }), several(number, words) + ' of ' + zone);
+  const label = zone + ': ' + counted(number) + ' ' + words;
+  const made = link('', 'figure ' + className, addressOf({ zone, tab, words: filter }), label);
   made.append(...text);
   return made;
 }
@@ -37,10 +38,10 @@ function figuresOf(zone, counts) {
     figure(zone, counts.hiper, 'HIPER', 'class-hiper', 'errors', 'class=HIPER'),
     figure(zone, counts.pe, 'PE', 'class-pe', 'errors', 'class=PE'),
     figure(zone, counts.other, 'other', 'class-other', 'errors', ''),
-    figure(zone, counts.unresolved, 'without resolver', 'status-none', 'errors', 'status=none'),
+    figure(zone, counts.unresolved, 'no resolver', 'status-none', 'errors', 'status=none'),
     figure(zone, counts.held, 'held', 'status-held', 'errors', 'status=HELD'),
     figure(zone, counts.good, 'can be resolved', 'status-good', 'errors', 'status=GOOD'),
-    figure(zone, counts.fixes, 'fixes missing', 'fixes', 'fixes', ''),
+    figure(zone, counts.fixes, counts.fixes === 1 ? 'fix missing' : 'fixes missing', 'fixes', 'fixes', ''),
   ];
 }
 
@@ -48,7 +49,8 @@ function figuresOf(zone, counts) {
 function byUrgency(one, other) {
   const [a, b] = [one.counts, other.counts];
   if (!a || !b) return (a ? 0 : 1) - (b ? 0 : 1) || one.order - other.order;
-  return b.hiper - a.hiper || b.unresolved - a.unresolved || b.holds - a.holds || b.fixes - a.fixes || one.order - other.order;
+  return b.hiper - a.hiper || b.unresolved - a.unresolved || b.holds - a.holds || b.fixes - a.fixes ||
+    one.order - other.order;
 }
 
 export class Overview {
@@ -56,7 +58,7 @@ export class Overview {
   constructor(snapshot, faultOf) {
     Object.assign(this, { snapshot, faultOf });
     this.tiles = {
-      hiper: tile('HIPER holds', 'class-hiper'), unresolved: tile('Without a resolver', 'status-none'),
+      hiper: tile('HIPER holds', 'class-hiper'), unresolved: tile('No resolver', 'status-none'),
       holds: tile('Held in error', 'of-all'), fixes: tile('Fixes missing', 'of-all'),
     };
     this.zones = snapshot.zones.map((each, order) => ({

@@ -71,7 +71,9 @@ async function begin(token) {
     if (mine !== snapshot) return;
     sessionStorage.setItem(TOKEN, token);
     const { sysmods, holds } = mine.level;
-    at('level').textContent = several(sysmods, 'SYSMOD') + ' and ' + several(holds, 'hold') + ' published · asked ' + timeOf(mine.asked);
+    const published = several(sysmods, 'SYSMOD') + ' and ' + several(holds, 'hold') + ' published';
+    const asked = make('span', 'asked', 'asked ' + timeOf(mine.asked));
+    at('level').replaceChildren(published, make('span', 'dot', ' · '), asked);
     show();
   } catch (fault) {
     if (mine !== snapshot) return;
@@ -109,8 +111,8 @@ async function showOverview() {
   say('Asking for the reports of ' + several(snapshot.zones.length, 'zone') + '.');
   await mine.done;
   if (view !== mine) return;
-  const hasFault = mine.zones.find((each) => each.fault);
-  say(hasFault ? hasFault.fault : '', Boolean(hasFault));
+  const failed = mine.zones.find((each) => each.fault);
+  say(failed ? failed.fault : '', Boolean(failed));
 }
 
 async function showZone(where) {

@@ -1,5 +1,5 @@
 // A zone's plan: what to install, in which order, why, and what to heed; and what is left over.
-import { counted, make, several } from './make.js';
+import { counted, make, receivedMark, several } from './make.js';
 import { planRows } from './plan.js';
 import { jobOf } from './job.js';
 import { csvOf, saveButtons } from './save.js';
@@ -40,7 +40,7 @@ const COLUMNS = [
   { name: 'sysmod', title: 'SYSMOD', of: (group) => group.id, cell: (group) => make('span', 'id', group.id) },
   {
     name: 'received', title: 'Received', of: (group) => String(group.received),
-    cell: (group) => make('span', group.received ? 'yes' : 'soft', group.received ? 'received' : 'no'),
+    cell: (group) => receivedMark(group.received),
   },
   { name: 'fmid', title: 'FMID', of: (group) => group.fmids.join(' '), cell: (group) => cut(group.fmids.join(' ')) },
   { name: 'heed', title: 'Holds to heed', of: (group) => [...group.system, ...group.user].join(' '), cell: heed },
@@ -61,7 +61,8 @@ function leftOver(title, words, items) {
   if (items.length === 0) return '';
   const rows = items.slice(0, 500).map((item) => make('li', '', ...item));
   if (items.length > 500) rows.push(make('li', 'soft', 'and ' + (items.length - 500) + ' more: CSV and JSON have all'));
-  return make('details', 'left', make('summary', '', make('strong', '', title + ': ' + items.length), ' ', make('span', 'soft', words)), make('ul', '', ...rows));
+  const head = make('summary', '', make('strong', '', title + ': ' + counted(items.length)), ' ', make('span', 'soft', words));
+  return make('details', 'left', head, make('ul', '', ...rows));
 }
 
 const id = (text) => make('span', 'id', text);
@@ -96,9 +97,10 @@ export class PlanView {
       choose: (group, member, isEntered) => ways.choose(group.id, isEntered),
     });
     this.table.show(groupsOf(plan));
-    this.element = make('div', 'report plan', make('div', 'bar', make('p', 'count', summary(plan)), saveButtons(forms, ways.say)),
+    const bar = make('div', 'bar', make('p', 'count', summary(plan)), saveButtons(forms, ways.say));
+    this.element = make('div', 'report plan', bar,
       leftOver('Held', 'all resolvers can’t be installed now, and why', plan.held.map(heldWords)),
-      leftOver('Without resolver', 'nothing that is published resolves these', plan.unresolved.map(holdWords)),
+      leftOver('No resolver', 'nothing that is published resolves these', plan.unresolved.map(holdWords)),
       plan.members.length > 0 ? this.table.element : '');
   }
 }

@@ -9,7 +9,7 @@ function field(text) {
 
 export const csvOf = (rows) => rows.map((row) => row.map(field).join(',') + '\n').join('');
 
-export function saveAs(name, text, kind) {
+function saveAs(name, text, kind) {
   const made = make('a');
   made.href = URL.createObjectURL(new Blob([text], { type: kind + ';charset=utf-8' }));
   made.download = name;
@@ -38,7 +38,7 @@ async function copy(text) {
   return isDone;
 }
 
-// Two buttons for each form of a thing: copy it, save it. FORMS are {title, name, kind, text()}; SAY tells what was done.
+// Two buttons for each form of a thing: copy it, save it. FORMS are {title, name, kind, text()}. SAY tells what was done.
 export function saveButtons(forms, say) {
   const groups = forms.map((form) => make('span', 'pair',
     make('span', 'pair-name', form.title),

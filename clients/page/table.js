@@ -2,7 +2,12 @@
 // that ten thousand of them cost no more than a hundred.
 import { button, make } from './make.js';
 
-const BEYOND = 10; // lines that are drawn above and below those that are seen
+const BEYOND = 10; // lines that are drawn above and below those that are seen, once somebody scrolls
+const LEAST = 5; // when fewer of them are left, the lines are drawn anew
+
+// Whom a line shows of its group.
+const memberOf = ({ group, nth }) => (nth === 0 ? group.best : group.resolvers[nth]);
+const isSame = (one, other) => one?.group === other?.group && one?.nth === other?.nth;
 
 // By the codes of the characters, as the desk orders names.
 const byCode = (one, other) => (one < other ? -1 : one > other ? 1 : 0);
@@ -28,8 +33,7 @@ export class Table {
     this.table.addEventListener('keydown', (event) => this.key(event));
     this.element = make('div', 'scroll', this.table);
     this.element.addEventListener('scroll', () => this.soon(), { passive: true });
-    this.watch = new ResizeObserver(() => this.draw());
-    this.watch.observe(this.element);
+    new ResizeObserver(() => this.follow(0)).observe(this.element);
   }
 
   head(column) {
@@ -57,41 +61,60 @@ export class Table {
   }
 
   show(groups) {
-    this.groups = [...groups];
-    if (this.sorted) {
-      const sign = this.isDown ? -1 : 1;
-      this.groups.sort((one, other) => sign * byCode(this.sorted.of(one), this.sorted.of(other)) || one.order - other.order);
-    } else {
-      this.groups.sort(this.order);
-    }
+    this.groups = this.sorted ? this.inOrder(groups) : [...groups].sort(this.order);
     this.at = -1;
     this.element.scrollTop = 0;
     this.layOut();
+    this.draw(0);
   }
 
+  // By the heading that was chosen.
+  inOrder(groups) {
+    const { of } = this.sorted;
+    const sign = this.isDown ? -1 : 1;
+    return groups.map((group) => ({ group, key: of(group) }))
+      .sort((one, other) => sign * byCode(one.key, other.key) || one.group.order - other.group.order)
+      .map(({ group }) => group);
+  }
+
+  // A line is a group with one of its members: the best one, or another one where the group is opened.
   layOut() {
     this.lines = [];
     for (const group of this.groups) {
-      this.lines.push({ group, member: group.best, isFirst: true });
+      this.lines.push({ group, nth: 0 });
       if (!this.isWhole && !this.opened.has(group)) continue;
-      for (const member of group.resolvers.slice(1)) this.lines.push({ group, member, isFirst: false });
+      for (let nth = 1; nth < group.resolvers.length; nth += 1) this.lines.push({ group, nth });
     }
     this.table.setAttribute('aria-rowcount', String(this.lines.length + 1));
-    this.draw();
   }
 
   // Once for all that happens before the next picture.
   soon() {
-    this.isAsked ??= requestAnimationFrame(() => this.draw());
+    this.isAsked ??= requestAnimationFrame(() => this.follow(LEAST));
   }
 
-  draw() {
+  // Draws anew, unless what is seen is drawn already, and as many lines BEYOND it.
+  follow(beyond) {
     this.isAsked = undefined;
+    const { drawn } = this;
+    const { from, to, height } = this.seen(beyond);
+    if (!drawn || drawn.height !== height || from < drawn.from || to > drawn.to) this.draw();
+  }
+
+  // The lines that are seen and as many BEYOND them on both sides: FROM one to before TO. HEIGHT is that of a line.
+  seen(beyond) {
     const height = this.lineHeight();
-    let from = Math.max(0, Math.floor(this.element.scrollTop / height) - BEYOND);
-    let to = from + Math.ceil(this.element.clientHeight / height) + 2 * BEYOND;
-    if (this.isWhole) [from, to] = [0, this.lines.length];
-    to = Math.min(to, this.lines.length);
+    if (this.isWhole) return { from: 0, to: this.lines.length, height };
+    const first = Math.floor(this.element.scrollTop / height);
+    const last = first + Math.ceil(this.element.clientHeight / height);
+    return { from: Math.max(0, first - beyond), to: Math.min(this.lines.length, last + 1 + beyond), height };
+  }
+
+  // A table is drawn once it is in its place, since it is as high as that.
+  draw(beyond = BEYOND) {
+    if (!this.element.isConnected) return;
+    const { from, to, height } = this.seen(beyond);
+    this.drawn = { from, to, height };
     const rows = this.lines.slice(from, to).map((line, at) => this.row(line, from + at));
     this.body.replaceChildren(this.space(from * height), ...rows, this.space((this.lines.length - to) * height));
     if (this.at >= from && this.at < to) this.table.setAttribute('aria-activedescendant', 'line-' + this.at);
@@ -113,18 +136,21 @@ export class Table {
   }
 
   row(line, at) {
+    const { group } = line;
+    const member = memberOf(line);
+    const isFirst = line.nth === 0;
     const cells = this.columns.map((column) => {
-      const cell = make('td', 'of-' + column.name, column.cell(line.group, line.member, line.isFirst) ?? '');
+      const cell = make('td', 'of-' + column.name, column.cell(group, member, isFirst) ?? '');
       cell.setAttribute('role', 'gridcell');
       return cell;
     });
-    const row = make('tr', line.isFirst ? 'first' : 'more', ...cells);
+    const row = make('tr', isFirst ? 'first' : 'more', ...cells);
     row.id = 'line-' + at;
     row.setAttribute('role', 'row');
     row.setAttribute('aria-rowindex', String(at + 2));
-    if (this.chosen && line.group === this.chosen.group && line.member === this.chosen.member) row.classList.add('chosen');
+    if (isSame(line, this.chosen)) row.classList.add('chosen');
     if (at === this.at) row.classList.add('at');
-    if (line.isFirst && line.group.resolvers.length > 1) cells.find((cell) => cell.className === 'of-resolver').append(this.opener(line.group));
+    if (isFirst && group.resolvers.length > 1) row.querySelector('.of-resolver').append(this.opener(group));
     row.addEventListener('click', () => this.take(at, false));
     return row;
   }
@@ -146,22 +172,23 @@ export class Table {
     if (isOpen) this.opened.add(group);
     else this.opened.delete(group);
     this.layOut();
+    this.draw();
   }
 
   // Chooses a line.
   take(at, isEntered) {
-    const { group, member } = this.lines[at];
-    this.chosen = { group, member };
+    this.chosen = this.lines[at];
     this.moveTo(at);
-    this.choose(group, member, isEntered);
+    this.choose(this.chosen.group, memberOf(this.chosen), isEntered);
   }
 
   // Shows a line as the chosen one, or none.
   reveal(group, member) {
-    if (this.chosen?.group === group && this.chosen?.member === member) return;
-    this.chosen = group && { group, member };
-    if (group && member !== group.best && !this.opened.has(group)) this.open(group, true);
-    const at = this.lines.findIndex((line) => line.group === group && line.member === member);
+    const line = group && { group, nth: Math.max(0, group.resolvers.indexOf(member)) };
+    if (isSame(line, this.chosen)) return;
+    this.chosen = line;
+    if (line && line.nth > 0 && !this.opened.has(group)) this.open(group, true);
+    const at = this.lines.findIndex((each) => isSame(each, line));
     if (at >= 0) this.moveTo(at);
     else this.draw();
   }
@@ -195,6 +222,7 @@ export class Table {
   whole(isWhole) {
     this.isWhole = isWhole;
     this.layOut();
+    this.draw();
   }
 
   focus() {

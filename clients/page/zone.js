@@ -1,8 +1,8 @@
 // One zone: its errors, its fixes and its plan as tabs, and the chain beside them.
-import { button, counted, link, make } from './make.js';
+import { button, counted, link, make, painted } from './make.js';
 import { REPORT_OF, addressOf } from './address.js';
 import { ChainPanel } from './chain.js';
-import { HoldsView } from './holds.js';
+import { HoldsView } from './holdsview.js';
 import { PlanView } from './planview.js';
 
 const TITLES = { errors: 'Errors', fixes: 'Fixes', plan: 'Plan' };
@@ -21,20 +21,23 @@ export class ZoneView {
     this.tabs.plan.hidden = true;
     this.body = make('div', 'tab-body');
     this.body.setAttribute('role', 'tabpanel');
-    this.chain = new ChainPanel(zone, {
+    this.chain = new ChainPanel({
       chain: (sysmod) => snapshot.chain(zone, sysmod),
       go: (sysmod) => ways.go({ ...this.where, sysmod }),
       close: () => this.leaveChain(),
       faultOf: ways.faultOf,
       isReceived: (id) => this.isReceived(id),
-      title: () => snapshot.age,
+      age: () => snapshot.age,
       say: ways.say,
     });
     const list = make('div', 'tabs', ...Object.values(this.tabs));
     list.setAttribute('role', 'tablist');
     list.setAttribute('aria-label', 'Reports of ' + zone);
     list.addEventListener('keydown', (event) => this.key(event));
-    const head = make('div', 'zone-title', link('Zones', 'back', '#', 'All zones'), make('h1', this.snapshot.zones.length < 2 ? 'id' : 'off', zone), this.chooser(), list);
+    // a zone among others has its name in the list to choose from
+    const name = make('h1', snapshot.zones.length < 2 ? 'id' : 'off', zone);
+    const ask = button('Chain', 'any-chain', () => this.chain.open(), 'Find the chain of any SYSMOD');
+    const head = make('div', 'zone-title', link('Zones', 'back', '#', 'All zones'), name, this.chooser(), ask, list);
     this.element = make('div', 'zone-view', head, make('div', 'split', this.body, this.chain.element));
   }
 
@@ -91,8 +94,8 @@ export class ZoneView {
     this.body.setAttribute('aria-labelledby', 'tab-' + where.tab);
     const isNew = !this.view || before.tab !== where.tab || before.words !== where.words;
     if (isNew) await (where.tab === 'plan' ? this.showPlan() : this.showReport(where));
-    // what was asked for is there first, and the counts of the other tabs follow
-    this.counting ??= this.count();
+    // what was asked for is seen first, and the counts of the other tabs follow
+    this.counting ??= painted().then(() => this.count());
     if (this.where !== where) return;
     this.showChain(where);
   }
@@ -105,7 +108,9 @@ export class ZoneView {
     this.body.setAttribute('aria-busy', 'true');
     try {
       const parts = await work();
-      if (mine === this.where) this.body.replaceChildren(...parts);
+      if (mine !== this.where) return;
+      this.body.replaceChildren(...parts);
+      this.view?.table?.draw(0);
     } catch (fault) {
       if (mine !== this.where || this.snapshot.isEnded) return;
       const words = this.ways.faultOf(fault);
@@ -162,7 +167,8 @@ export class ZoneView {
         },
         say: this.ways.say,
       });
-      const chips = make('div', 'chips plan-of', choice('errsysmods', 'For the errors'), choice('missingfix', 'For the fixes'));
+      const choices = [choice('errsysmods', 'For the errors'), choice('missingfix', 'For the fixes')];
+      const chips = make('div', 'chips plan-of', ...choices);
       chips.setAttribute('role', 'group');
       chips.setAttribute('aria-label', 'Plan for');
       return [chips, this.view.element];
@@ -171,7 +177,8 @@ export class ZoneView {
 
   showChain({ sysmod, tab }) {
     const hold = sysmod && tab !== 'plan' ? this.holdOf(sysmod) : undefined;
-    if (tab !== 'plan') this.view?.table?.reveal(hold, hold?.resolvers.find((each) => each.id === sysmod) ?? hold?.best);
+    const member = hold?.resolvers.find((each) => each.id === sysmod) ?? hold?.best;
+    if (tab !== 'plan') this.view?.table?.reveal(hold, member);
     if (!sysmod) {
       this.chain.empty();
       return;
@@ -184,7 +191,8 @@ export class ZoneView {
 
   // The hold of the row that was chosen, or the first that this SYSMOD resolves.
   holdOf(sysmod) {
-    const resolves = (hold) => (sysmod === '-' ? hold.resolvers.length === 0 : hold.resolvers.some((each) => each.id === sysmod));
+    const resolves = ({ resolvers }) =>
+      (sysmod === '-' ? resolvers.length === 0 : resolvers.some((each) => each.id === sysmod));
     if (this.hold && resolves(this.hold)) return this.hold;
     return sysmod === '-' ? undefined : this.view?.report?.holds.find(resolves);
   }

@@ -1,0 +1,101 @@
+// A report as a table of its holds, with filters, and as a file.
+import { classBadge, make, receivedMark, statusBadge } from './make.js';
+import { byUrgency } from './holds.js';
+import { Filters } from './filters.js';
+import { Table } from './table.js';
+import { csvOf, saveButtons } from './save.js';
+
+const TITLES = { errsysmods: 'Exception SYSMODs of ', missingfix: 'Missing fixes of ' };
+const UNITS = { errsysmods: ['hold', 'holds'], missingfix: ['fix', 'fixes'] };
+const text = (name, title, of) => ({ name, title, of, cell: (hold, member, isFirst) => (isFirst ? of(hold) : '') });
+
+const RESOLVER = [
+  {
+    name: 'resolver', title: 'Resolver', of: (hold) => hold.best.id,
+    // the status says none to who sees it
+    cell: (hold, { id }) => (id ? make('span', 'id', id) : make('span', 'off', 'no resolver')),
+  },
+  { name: 'status', title: 'Status', of: (hold) => hold.status, cell: (hold, member) => statusBadge(member.status) },
+  {
+    name: 'received', title: 'Received', of: (hold) => hold.received,
+    cell: (hold, { id, isReceived }) => (id ? receivedMark(isReceived) : ''),
+  },
+];
+
+function categories(hold, member, isFirst) {
+  if (!isFirst) return '';
+  const [first, ...more] = hold.categories;
+  const made = make('span', 'cut', first ?? '');
+  if (more.length > 0) made.append(make('span', 'soft', ' and ' + more.length + ' more'));
+  made.title = hold.categories.join('\n');
+  return made;
+}
+
+const COLUMNS = {
+  errsysmods: [
+    {
+      name: 'class', title: 'Class', of: (hold) => hold.class,
+      cell: (hold, member, isFirst) => (isFirst ? classBadge(hold.class) : ''),
+    },
+    text('sysmod', 'SYSMOD', (hold) => hold.sysmod),
+    text('reason', 'Reason', (hold) => hold.reason),
+    text('fmid', 'FMID', (hold) => hold.fmid),
+    ...RESOLVER,
+  ],
+  missingfix: [
+    { name: 'category', title: 'Category', of: (hold) => hold.categories[0] ?? '', cell: categories },
+    text('fmid', 'FMID', (hold) => hold.fmid),
+    text('reason', 'Reason', (hold) => hold.reason),
+    ...RESOLVER,
+  ],
+};
+
+const STATUS = { name: 'status', title: 'Status', of: (hold) => [hold.status], order: ['none', 'LACK', 'HELD', 'GOOD'] };
+const RECEIVED = { name: 'received', title: 'Received', of: (hold) => [hold.received], order: ['received'] };
+const KINDS = {
+  errsysmods: [{ name: 'class', title: 'Class', of: (hold) => [hold.class], order: ['HIPER', 'PE'] }, STATUS, RECEIVED],
+  missingfix: [{ name: 'category', title: 'Category', of: (hold) => hold.categories, isList: true }, STATUS, RECEIVED],
+};
+
+// The rows of these holds, as the report has them: its columns first.
+function rowsFor(report, holds) {
+  const rows = holds.flatMap((hold) => hold.rows).sort((one, other) => one - other);
+  return [report.names, ...rows.map((row) => report.fields(row))];
+}
+
+// WAYS are {choose(hold, member), changed(words), say(text)}.
+export class HoldsView {
+  constructor(name, zone, report, words, ways) {
+    this.report = report;
+    this.title = TITLES[name] + zone;
+    this.filters = new Filters(KINDS[name], UNITS[name], () => {
+      ways.changed(this.filters.words);
+      this.show();
+    });
+    this.filters.words = words;
+    this.filters.offer(report.holds);
+    this.table = new Table({
+      caption: this.title, columns: COLUMNS[name], order: byUrgency, choose: ways.choose,
+    });
+    const rows = () => rowsFor(report, this.shown);
+    const forms = [
+      { title: 'CSV', name: zone + '-' + name + '.csv', kind: 'text/csv', text: () => csvOf(rows()) },
+      { title: 'JSON', name: zone + '-' + name + '.json', kind: 'application/json', text: () => this.json(rows()) },
+    ];
+    const bar = make('div', 'bar', this.filters.element, saveButtons(forms, ways.say));
+    this.element = make('div', 'report ' + name, bar, this.table.element);
+    this.show();
+  }
+
+  json([columns, ...rows]) {
+    const object = (row) => Object.fromEntries(row.map((field, at) => [columns[at], field || null]));
+    return JSON.stringify(rows.map(object), null, 1) + '\n';
+  }
+
+  show() {
+    this.shown = this.filters.of(this.report.holds);
+    const { shown } = this.filters;
+    this.table.name(this.title + (shown ? ', only ' + shown : ''));
+    this.table.show(this.shown);
+  }
+}
