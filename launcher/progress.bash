@@ -93,7 +93,8 @@ how_much() {
     left=$((seconds * (all - made) / made))
     by_way=$((seconds * open / (longest - open)))
     [ "$by_way" -le "$left" ] || left=$by_way
-    echo -n ", some $(((left + 59) / 60)) minutes left"
+    left=$(((left + 59) / 60))
+    echo -n ", some $left minute$([ "$left" -eq 1 ] || echo s) left"
 }
 
 # Says how much is done, and how far each crate is that is being proved.
