@@ -54,6 +54,7 @@ def looks(browser):
     click(browser, "tbody tr.first")
     shows(browser, "can be installed", ".beside")
     check("the chain lies over the table on a phone", browser.run("getComputedStyle(document.querySelector('.beside')).position") == "fixed")
+    check("with its job", browser.run("document.querySelector('.beside .saves').offsetParent !== null"))
     picture(browser, "chain-390")
     click(browser, ".close")
     click(browser, ".any-chain")
