@@ -17,6 +17,15 @@ CUT = """[...document.querySelectorAll('tbody tr:not(.space) td')].flatMap(cell 
     }).map(part => (part.innerText ?? part.toString()));
 })"""
 
+# whether the lines that are drawn fill the table's frame, a moment after it was scrolled
+FILLED = """new Promise(done => {
+    const frame = document.querySelector('.scroll'); frame.scrollTop = %d;
+    requestAnimationFrame(() => requestAnimationFrame(() => {
+        const lines = [...frame.querySelectorAll('tbody tr:not(.space)')].map(line => line.getBoundingClientRect());
+        done(lines[0].top <= frame.querySelector('th').getBoundingClientRect().bottom && lines.at(-1).bottom > frame.getBoundingClientRect().bottom - 2);
+    }));
+})"""
+
 
 def without_resolver(browser):
     """A hold without a resolver says so once to the eye, and to a screen reader where the resolver would stand."""
@@ -54,6 +63,7 @@ def looks(browser):
     click(browser, "tbody tr.first")
     shows(browser, "can be installed", ".beside")
     check("the chain lies over the table on a phone", browser.run("getComputedStyle(document.querySelector('.beside')).position") == "fixed")
+    check("with its job", browser.run("document.querySelector('.beside .saves').offsetParent !== null"))
     picture(browser, "chain-390")
     click(browser, ".close")
     click(browser, ".any-chain")
@@ -79,6 +89,8 @@ def looks(browser):
     browser.call("Emulation.setEmulatedMedia", features=[])
     heights = "(s => { s.scrollTop = 5000; return [s.querySelector('thead th').getBoundingClientRect().top - s.getBoundingClientRect().top, s.scrollTop]; })(document.querySelector('.scroll'))"
     same("headings stay", browser.run(heights), [0, 5000])
+    places = (0, 20, 170, 400, 0, 5000, 5300, 4900, 10000000)
+    same("wherever one scrolls, all that is seen is drawn", [place for place in places if not browser.run(FILLED % place)], [])
 
 
 def paper(browser, want):

@@ -228,6 +228,7 @@ def slow(browser):
     for name, reply in (
         ("half a report", whole[: len(whole) // 2]),
         ("a report that lost a row", whole.replace(b"\nROWS ", b"\nROWS 1")),
+        ("a status that no desk has", whole.replace(b" GOOD ", b" FINE ")),
         ("the report of another zone", made_up("GET /zones/B/errsysmods x")),
         ("a page of something between", b"<html><b>Please log in</b></html>\n"),
     ):

@@ -1,7 +1,8 @@
 // What stands beside the table: one hold with its resolvers, and the chain of one of them.
 import { jobOf } from './job.js';
 import { saveButtons } from './save.js';
-import { button, classBadge, make, several, statusBadge } from './make.js';
+import { button, classBadge, make, statusBadge } from './make.js';
+import { several } from './words.js';
 
 const STEPS = 12; // of a row of blocked needs
 

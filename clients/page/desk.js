@@ -2,7 +2,7 @@
 import { HoldReport, countsOf } from './holds.js';
 import { NoReport, chainOf, levelOf, zonesOf } from './report.js';
 import { planOf } from './plan.js';
-import { timeOf } from './make.js';
+import { timeOf } from './words.js';
 
 // A refusal, with the words that are shown for it.
 export class Refusal extends Error {

@@ -1,5 +1,6 @@
 // Filters that combine: one of the chosen values of each kind, and all words of the text.
-import { button, counted, make } from './make.js';
+import { button, make } from './make.js';
+import { counted } from './words.js';
 
 const MOST_CHIPS = 6; // a kind with more values has a list to choose from
 

@@ -28,15 +28,6 @@ export const painted = () => new Promise((done) => requestAnimationFrame(() => s
 
 export const at = (id) => document.getElementById(id);
 
-// 12345 as 12,345.
-export const counted = (number) => number.toLocaleString('en-US');
-
-// `1 hold`, `2 holds`.
-export const several = (number, word) => counted(number) + ' ' + word + (number === 1 ? '' : 's');
-
-// Year, month, day and time, as this machine has them.
-export const timeOf = (date) => date.toLocaleString('sv-SE');
-
 const STATUS_WORDS = {
   GOOD: 'can be installed, together with its chain',
   HELD: 'can’t be installed now: something that it needs is missing',

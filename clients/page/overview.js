@@ -1,5 +1,6 @@
 // All zones at a glance: what is urgent comes first. A zone's counts fill in as its reports come.
-import { counted, link, make, several } from './make.js';
+import { link, make } from './make.js';
+import { counted, several } from './words.js';
 import { addressOf } from './address.js';
 
 const BARS = [['hiper', 'HIPER'], ['pe', 'PE'], ['other', 'other']];

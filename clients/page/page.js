@@ -1,5 +1,6 @@
 // The page: the token, the address, and what is shown for it. The token is kept in this tab alone.
-import { at, make, several, timeOf } from './make.js';
+import { at, make } from './make.js';
+import { several, timeOf } from './words.js';
 import { REPORT_OF, addressOf, whereIs } from './address.js';
 import { Refusal, Snapshot, wordsOf } from './desk.js';
 import { Overview } from './overview.js';

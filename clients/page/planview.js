@@ -1,5 +1,6 @@
 // A zone's plan: what to install, in which order, why, and what to heed; and what is left over.
-import { counted, make, receivedMark, several } from './make.js';
+import { make, receivedMark } from './make.js';
+import { counted, several } from './words.js';
 import { planRows } from './plan.js';
 import { jobOf } from './job.js';
 import { csvOf, saveButtons } from './save.js';

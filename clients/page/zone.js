@@ -1,5 +1,6 @@
 // One zone: its errors, its fixes and its plan as tabs, and the chain beside them.
-import { button, counted, link, make, painted } from './make.js';
+import { button, link, make, painted } from './make.js';
+import { counted } from './words.js';
 import { REPORT_OF, addressOf } from './address.js';
 import { ChainPanel } from './chain.js';
 import { HoldsView } from './holdsview.js';

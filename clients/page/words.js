@@ -1,0 +1,10 @@
+// Numbers and times, as the page writes them.
+
+// 12345 as 12,345.
+export const counted = (number) => number.toLocaleString('en-US');
+
+// `1 hold`, `2 holds`.
+export const several = (number, word) => counted(number) + ' ' + word + (number === 1 ? '' : 's');
+
+// Year, month, day and time, as this machine has them.
+export const timeOf = (date) => date.toLocaleString('sv-SE');
