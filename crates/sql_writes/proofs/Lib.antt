@@ -1,12 +1,16 @@
 pub mod AskFacts
 pub mod ChangeFacts
 pub mod ComeFacts
+pub mod ExcuseFacts
 pub mod GoneFacts
 pub mod KindFacts
 pub mod LastFacts
 pub mod LoadFacts
 pub mod MakeFacts
 pub mod MigrateFacts
+pub mod NewFacts
+pub mod RefusalFacts
 pub mod RowidFacts
+pub mod RuleFacts
 pub mod StatementFacts
 pub mod StoredFacts

@@ -29,11 +29,9 @@ use Rattle.sql_writes.specs.Parts.{with_callers}
 use Rattle.sql_writes.specs.Running.{Ran}
 use Rattle.sql_state.proofs.StopFacts.{survives_both, was_clean}
 use Rattle.sql_writes.proofs.ChangeFacts.{keeps_both}
+use Rattle.sql_writes.proofs.RefusalFacts.{whole_text}
 use Rattle.sql_writes.proofs.StatementFacts.{inserts_version, on_table, same_value, went}
 use Rattle.sql_writes.proofs.StoredFacts.{known_after}
-
-whole_text : (text : List ℕ) → slice_range text 0 (length text) ≡ text
-whole_text text = take_all (length text - 0) text (omega arith)
 
 -- what CREATE TABLE leaves
 pub record HasTable (table : Table) (before after : Schema) (old new : Database) : Type 0 where
@@ -75,7 +73,7 @@ makes_index before after table_index text table index old new count makes at has
     let ran = runs_as text [] old new before has (CreateIndex table_index) (ap command_of makes.statement) plain count h in
     let w = subst (λ t. Writes old new None (CreateIndex table_index) t [] count) (ap (statement_of text) makes.statement ∙ whole_text text) ran in
     let here : slice_get old.now.schema.tables table_index ≡ Some table = ap (λ s. slice_get s.tables table_index) has ∙ at in
-    let all = went (on_table old.step_limit (mode_of old) [] old.now table_index (λ task. Defines (mode_of old) (IndexMade text old.now task.table)) table (w.tally, new.now) here w.changed) in
+    let all = went (on_table old.step_limit (mode_of old) [] old.now table_index (λ task. Defines (mode_of old) (IndexMade text old.now task.table)) table (Ok (w.tally, new.now)) here w.changed) in
     let it = all.1 in
     let same : it.index ≡ record index { tree = 0 } = same_value (sym it.defined ∙ makes.defined) in
     let schema : all.0.schema ≡ after = it.is ∙ ap (λ s. indexed s table it.index) has ∙ ap (indexed before table) same ∙ makes.made in
