@@ -1,10 +1,13 @@
 -- What is left of a file of version 1 by the transaction that makes it one of version 2.
-use Rattle.std.specs.Prelude.{◌≡◌, ◌⊎◌, IsTrue, Result}
+use Rattle.std.specs.Prelude.{◌≡◌, ◌≢◌, ◌⊎◌, IsTrue, Result}
+use Rattle.bureau_store.specs.declared.fault.StoreFault.{StoreFault}
+use Rattle.bureau_store.specs.declared.fault.StoreFault.TheVariants.{Device, Memory}
 use Rattle.sqlite.specs.Effect.{Database}
 use Rattle.sqlite.specs.State.{HasCleanDisk, KeepsCommit, State}
 use Rattle.sqlite_trees.specs.Tree.{Trees}
 use Rattle.sql_state.specs.Earlier.{IsOfVersion1, held_by_version_1}
 use Rattle.sql_state.specs.Ours.{version_rows}
+use Rattle.sql_state.specs.Reading.{HasFailed}
 use Rattle.sql_writes.specs.Migrating.{HeldEarlier, HoldsAll}
 use Rattle.bureau_sql.specs.Founded.{IsLed}
 use Rattle.bureau_sql.specs.Opening.{IsTaken}
@@ -23,3 +26,9 @@ IsMigrated old new result = IsLed old new result (HeldEarlier (held_by_version_1
 pub record IsUntouched (old new : State) : Type 0 where
   pub keeps : HasCleanDisk new → KeepsCommit old new
   pub left : HasCleanDisk new → (trees : Trees) → new.may_leave trees → old.may_leave trees ⊎ (IsTrue old.is_open × (trees ≡ old.committed.trees))
+
+-- So it is after a refusal for anything but the device. But where memory was too short to see whether the connection is open,
+-- the device may have failed besides.
+abbrev pub LeavesUntouched : State → State → StoreFault → Type 0
+LeavesUntouched old new fault =
+    HasCleanDisk new → fault ≢ Device → IsUntouched old new ⊎ ((fault ≡ Memory) × HasFailed old new)
