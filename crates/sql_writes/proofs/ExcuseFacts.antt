@@ -1,9 +1,9 @@
 -- Why the statements that make tables are refused, one after the other.
-use Rattle.std.proofs.Common.{◌≡◌, ◌⊎◌, ◌≤◌, ℕ, pos, true, false, List, [], ◌∷◌, Option, None, Some, Result, Ok, Err, IfErr, IsTrue, length, map, refl, sym, ◌∙◌, ap, subst, inl, inr, arith}
+use Rattle.std.proofs.Common.{◌≡◌, ◌≤◌, ℕ, pos, true, false, List, [], ◌∷◌, Option, None, Some, Result, Ok, Err, IsTrue, length, map, refl, sym, ◌∙◌, ap, subst, inl, inr, arith}
 use Rattle.std.specs.Prelude.{IsSome, slice_get}
+use Rattle.std.specs.Result.{IsErrAnd}
 use Rattle.std.specs.List.{AllByRecursion, range_with_len}
 use Rattle.std.proofs.lemmas.Bool.{false≢true}
-use Rattle.sqlite.specs.Change.{next_tree}
 use Rattle.sqlite.specs.Command.{Command}
 use Rattle.sqlite.specs.Command.TheVariants.{CreateIndex, CreateTable}
 use Rattle.sqlite.specs.Does.{Does, lacks_sequence}
@@ -33,7 +33,7 @@ use Rattle.sql_writes.proofs.RuleFacts.{IsNew, IsNewIndex, delete_stops, index_s
 
 module _ {A : Type 0} (text : List ℕ) (old new : State) (result : Result A Error) (From : Database → Type 0) where
   -- a command that writes, which nothing but a limit of steps stops
-  excused_by : (schema : Schema) (command : Command) (parameters : ℕ) (params : Row) → ((db : Database) → From db → db.schema ≡ schema)
+  pub excused_by : (schema : Schema) (command : Command) (parameters : ℕ) (params : Row) → ((db : Database) → From db → db.schema ≡ schema)
       → understood schema text ≡ Ok (statement command parameters text) → length params ≡ length (map parameter (range_with_len 1 parameters)) → writes command ≡ true
       → (From old.now → (stop : Option Error) → Does old.step_limit (mode_of old) params old.now text None command (Err stop) → IsSome old.step_limit)
       → FailsInside text params old new result → IsExcused old new result From
@@ -86,3 +86,9 @@ excused_then {A} {B} {F} old mid new a result One Two one survives two = by resu
     by (Err e) two = λ clean inside from.
         let it = one.done (was_clean mid new _ survives clean) inside in
         still_excused old mid new e it.0 one.survives.counts one.survives.limit (two clean it.1 (it.2 from))
+
+-- the same refusal, told by a caller
+pub excused_told : {A : Type 0} (old new : State) (result : Result A Error) (e : Error) (From : Database → Type 0) → IsErrAnd result (λ f. f ≡ e)
+    → (HasCleanDisk new → IsTrue old.in_transaction → From old.now → Excuses old new e) → IsExcused old new result From
+excused_told old new (Ok a) e From same excused = tt
+excused_told old new (Err f) e From same excused = λ clean inside from. subst (Excuses old new) (sym same) (excused clean inside from)

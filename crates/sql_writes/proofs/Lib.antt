@@ -1,6 +1,8 @@
 pub mod AskFacts
+pub mod CallerFacts
 pub mod ChangeFacts
 pub mod ComeFacts
+pub mod FoundFacts
 pub mod ExcuseFacts
 pub mod GoneFacts
 pub mod KindFacts
@@ -12,5 +14,6 @@ pub mod NewFacts
 pub mod RefusalFacts
 pub mod RowidFacts
 pub mod RuleFacts
+pub mod RunFacts
 pub mod StatementFacts
 pub mod StoredFacts

@@ -1,5 +1,5 @@
 -- What the rules of a database say against a statement: nothing, where what it makes is new and what it writes is sound.
-use Rattle.std.proofs.Common.{◌≡◌, ◌≢◌, ◌⊎◌, ◌||◌, ◌≤◌, ◌<◌, ◌+◌, ◌==◌, ◌^◌, ℕ, Bool, true, false, List, [], ◌∷◌, Option, Some, None, Result, Ok, Err, IsTrue, length, map, refl, sym, ◌∙◌, ap, subst, inl, inr, arith, zero, suc, ℤ, pos, negsuc, cond}
+use Rattle.std.proofs.Common.{◌≡◌, ◌≢◌, ◌||◌, ◌≤◌, ◌<◌, ◌+◌, ◌^◌, ℕ, Bool, true, false, List, [], ◌∷◌, Option, Some, None, Ok, Err, length, refl, sym, ◌∙◌, ap, subst, inl, inr, arith, zero, suc, ℤ, pos, negsuc}
 use Rattle.std.specs.Prelude.{IsSome, IsUtf8, ◌/◌, ◌*◌, codes, nat_lt, slice_index, not, slice_get}
 use Rattle.std.specs.Char.{is_ascii}
 use Rattle.std.specs.List.{AllByRecursion, list_all}
@@ -13,11 +13,11 @@ use Rattle.std.proofs.lemmas.List.{length-append}
 use Rattle.std.proofs.lemmas.Str.{IsUtf8-from_ascii}
 use Rattle.sqlite.specs.Change.{created, indexed, next_tree}
 use Rattle.sqlite.specs.Compile.{index_defined_by, table_defined_by}
-use Rattle.sqlite.specs.Command.TheVariants.{CreateIndex, CreateTable, Delete, Insert}
-use Rattle.sqlite.specs.Does.{AtPlace, Concludes, Defines, Does, MakesIndex as IndexMade, MakesSequence, MakesTable as TableMade, OnRows, OnTable, Tally, lacks_sequence}
-use Rattle.sqlite.specs.Effect.{Database, IsNoText, RefusesToAlter, value_rows}
+use Rattle.sqlite.specs.Command.TheVariants.{CreateIndex, CreateTable, Insert}
+use Rattle.sqlite.specs.Does.{Concludes, Defines, Does, MakesIndex as IndexMade, MakesSequence, MakesTable as TableMade, OnRows, lacks_sequence}
+use Rattle.sqlite.specs.Effect.{Database, value_rows}
 use Rattle.sqlite.specs.Order.{Row}
-use Rattle.sqlite.specs.Rows.{Counter, Counts, Edited, Inserts, Outcome, Part, Queried, Sourced, Task, Written, count_of, rowids_for, stamped}
+use Rattle.sqlite.specs.Rows.{Counter, Counts, Edited, Inserts, Queried, Sourced, Task, Written, count_of, rowids_for, stamped}
 use Rattle.sqlite.specs.Schema.{Schema}
 use Rattle.sqlite.specs.State.{State, mode_of}
 use Rattle.sqlite.specs.Source.TheVariants.{Values}
@@ -26,7 +26,7 @@ use Rattle.sqlite.specs.Term.{Term}
 use Rattle.sqlite.specs.Tree.{Trees}
 use Rattle.sqlite.specs.declared.error.Error.{Error}
 use Rattle.sqlite.specs.declared.run.Mode.{Mode}
-use Rattle.sqlite_catalog.specs.Calls.{IsLongIndex, IsLongTable, RefusesIndex, RefusesTable}
+use Rattle.sqlite_catalog.specs.Calls.{RefusesIndex, RefusesTable}
 use Rattle.sqlite_catalog.specs.Change.{automatics, is_reserved, is_used}
 use Rattle.sqlite_catalog.specs.Listing.{is_fit, is_formed}
 use Rattle.sqlite_catalog.specs.declared.error.Refusal as alter
@@ -50,13 +50,11 @@ use Rattle.sqlite_schema.specs.declared.schema.Keys.TheVariants.{Enforced}
 use Rattle.sqlite_typing.specs.Types.{accepts_terms}
 use Rattle.sqlite_trees.specs.Tree.{with_tree}
 use Rattle.sqlite_trees.specs.View.{IsStorable, IsStorableRow}
-use Rattle.sqlite.specs.Cast.{cast, cast_row}
-use Rattle.sqlite.specs.Kind.TheVariants as kind
-use Rattle.sqlite.specs.Ops.{binary, unary}
+use Rattle.sqlite.specs.Cast.{cast_row}
+use Rattle.sqlite.specs.Ops.{binary}
 use Rattle.sqlite_value.specs.Order.{number, value_cmp}
-use Rattle.sqlite_value.specs.declared.value.Value.{Value}
 use Rattle.sqlite_value.specs.declared.value.Value.TheVariants.{Int, Null, Text}
-use Rattle.sql_texts.specs.Meaning.{IsListable, MakesIndex, MakesTable}
+use Rattle.sql_texts.specs.Meaning.{MakesIndex, MakesTable}
 use Rattle.sql_texts.specs.Reads.{from_table}
 use Rattle.sql_texts.specs.Schema.{bureau, bureau_version, indexes}
 use Rattle.sql_texts.specs.Writes.{delete_of}
@@ -86,7 +84,7 @@ pub record IsNew (before : Schema) (table : Table) : Type 0 where
   pub formed : is_formed table ≡ true
 
 -- a test that fails where it passes
-both : {b : Bool} → b ≡ true → b ≡ false → ⊥
+pub both : {b : Bool} → b ≡ true → b ≡ false → ⊥
 both passes fails = false≢true (sym fails ∙ passes)
 
 below : {a b : ℕ} → nat_lt a b ≡ true → b ≤ a → ⊥
@@ -330,12 +328,12 @@ delete_stops old text ours keeps stop h =
 
 -- ---- a row that can be stored
 
-whole_number : (n : ℤ) → NotNan (number (Int n))
+pub whole_number : (n : ℤ) → NotNan (number (Int n))
 unfolding is_nan
 whole_number (pos n) = tt
 whole_number (negsuc n) = tt
 
-plain_text : (t : List ℕ) → NotNan (number (Text t))
+pub plain_text : (t : List ℕ) → NotNan (number (Text t))
 unfolding is_nan
 plain_text t = tt
 
@@ -344,7 +342,7 @@ unfolding is_nan
 no_value = tt
 
 -- the columns of no table here are REAL
-untyped : (c : ℕ) → bit_at 0 c ≡ 1 → ⊥
+pub untyped : (c : ℕ) → bit_at 0 c ≡ 1 → ⊥
 untyped c one = let none = bit_at-zero c in omega (arith, one, none)
 
 -- ---- the version

@@ -1,9 +1,9 @@
 //! The tables of version 2, made one after the other in an empty database.
 ghost use Rattle.std.specs.Prelude.{◌≡◌, []};
 ghost use Rattle.sql_writes.specs.Altering.{RefusesExcused, Turns};
-ghost use Rattle.sql_writes.specs.Making.{IsEmpty, IsMade, IsOpened};
+ghost use Rattle.sql_writes.specs.Making.{AreFit, IsEmpty, IsMade, IsOpened};
 
-use crate::load;
+use crate::insert;
 use crate::run::run;
 use bureau_store::CallerRow;
 use sql_texts::{create as texts, write};
@@ -120,7 +120,12 @@ fn with_version<S: Alter>(tx: &mut Transaction<'_, S>) -> Result<(), Error>
 pub fn create<S: Alter>(tx: &mut Transaction<'_, S>, callers: &[CallerRow]) -> Result<(), Error>
     ensures same { tx.new.conn.ghost_name ≡ tx.old.conn.ghost_name }
     ensures made { Turns S.Store tx.old.conn.now tx.new.conn.now result IsEmpty (IsOpened callers.now) }
+    ensures excused { AreFit callers.now
+        → RefusesExcused S.Store tx.old.conn.now tx.new.conn.now result IsEmpty }
 {
     with_version(tx)?;
-    load::callers(tx, callers)
+    for caller in callers {
+        insert::caller(tx, caller)?;
+    }
+    Ok(())
 }
