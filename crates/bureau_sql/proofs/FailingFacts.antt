@@ -1,23 +1,23 @@
 -- Why a transaction on a connection at rest is refused.
-use Rattle.std.proofs.Common.{◌≡◌, ◌≢◌, ◌⊎◌, ◌≤◌, ◌∙◌, Err, IfErr, IsOk, IsTrue, Ok, Result, ap, arith, false, inl, inr, refl, subst, sym, true}
+use Rattle.std.proofs.Common.{◌≡◌, ◌≤◌, ◌∙◌, Err, IfErr, IsTrue, List, Ok, Result, ap, arith, inl, inr, refl, subst, sym, true}
 use Rattle.std.specs.Prelude.{IsSome}
 use Rattle.std.proofs.lemmas.Bool.{cases_Bool, false≢true}
-use Rattle.bureau_store.specs.Store.{IsOfCall}
+use Rattle.bureau_store.specs.declared.caller.CallerRow.{CallerRow}
 use Rattle.bureau_store.specs.declared.fault.StoreFault.{StoreFault}
 use Rattle.bureau_store.specs.declared.fault.StoreFault.TheVariants.{Memory}
 use Rattle.sqlite.specs.Effect.{Database}
 use Rattle.sqlite.specs.Held.{Held, state}
-use Rattle.sqlite.specs.State.{Fails, HasCause, HasCleanDisk, State, Survives, store_error}
+use Rattle.sqlite.specs.State.{HasCause, HasCleanDisk, State, Survives, store_error}
 use Rattle.sqlite.specs.Steps.{FailsToCommit}
 use Rattle.sqlite.specs.declared.error.Error.{Error}
 use Rattle.sqlite_trees.specs.Tree.{Trees}
 use Rattle.sqlite_trees.specs.declared.error.StoreError.{StoreError}
 use Rattle.sqlite_trees.specs.declared.error.StoreError.TheVariants.{Broken, Corrupt, Full, Io, OutOfMemory, Unstorable}
 use Rattle.sqlite_trees.specs.declared.store.Store.{Ghosts}
-use Rattle.sql_state.specs.Reading.{HasFailed}
 use Rattle.sql_writes.specs.Excused.{Excuses, IsExcused}
-use Rattle.sql_writes.specs.Making.{Leads}
+use Rattle.sql_writes.specs.Making.{AreFit, IsEmpty, Leads}
 use Rattle.sql_state.proofs.StopFacts.{was_clean}
+use Rattle.bureau_sql.specs.Founded.{FailsToFound}
 use Rattle.bureau_sql.specs.Failing.{CannotWrite, FailsToEnd, RefusesExcused}
 
 -- from the end of a transaction to its beginning
@@ -76,3 +76,11 @@ transaction_excused g old begun mid last From To is settled {Answer} {Done} writ
 pub cannot_write : (old new : State) (e : Error) → (e ≡ store_error OutOfMemory → ⊥) → Excuses old new e → CannotWrite old new
 cannot_write old new e known (inl memory) = absurd (known memory)
 cannot_write old new e known (inr other) = other
+
+-- why a store isn't made, told as a fault
+pub fails_to_found : (old new : State) (callers : List CallerRow) (e : Error) (fault : StoreFault) → (e ≡ store_error OutOfMemory → fault ≡ Memory)
+    → (AreFit callers → HasCleanDisk new → IsEmpty old.committed → Excuses old new e) → HasCleanDisk new → FailsToFound old new callers fault
+fails_to_found old new callers e fault known excused clean empty fit = elim (excused fit clean empty) [
+  | inl memory ↦ inr (inl (known memory))
+  | inr other ↦ inr (inr other)
+]

@@ -1,5 +1,5 @@
 -- What is left of a file of version 1 that was made one of version 2, or was not.
-use Rattle.std.proofs.Common.{◌≡◌, ◌≢◌, ◌≤◌, ◌⊎◌, ◌∙◌, ℕ, Err, IsTrue, List, Ok, OnErr, OnOk, Result, Some, ap, arith, false, inl, inr, refl, subst, sym, true}
+use Rattle.std.proofs.Common.{◌≡◌, ◌≢◌, ◌≤◌, ◌⊎◌, ◌∙◌, ℕ, Err, IsTrue, List, Ok, OnErr, OnOk, Result, Some, ap, arith, false, inl, inr, refl, subst, sym}
 use Rattle.std.specs.Prelude.{IsSome}
 use Rattle.std.proofs.lemmas.Bool.{cases_Bool}
 use Rattle.bureau_store.specs.Store.{IsOfCall}
@@ -19,12 +19,12 @@ use Rattle.sql_state.specs.Ours.{AreOurs, IsOurs, version_rows}
 use Rattle.sql_state.specs.Reading.{HasFailed, OnlyReads}
 use Rattle.sql_tables.specs.Stored.{tables_of}
 use Rattle.sql_tables.specs.Whole.{IsWhole}
-use Rattle.sql_writes.specs.Migrating.{HeldEarlier, HoldsAll}
+use Rattle.sql_writes.specs.Migrating.{HeldEarlier, HoldsAll, IsMigration}
 use Rattle.sql_state.proofs.StopFacts.{failed_before, kept_then, was_clean}
 use Rattle.sql_writes.specs.Excused.{Excuses}
 use Rattle.bureau_sql.specs.Failing.{CannotWrite}
 use Rattle.bureau_sql.proofs.FailingFacts.{cannot_write}
-use Rattle.bureau_sql.specs.Founded.{AreLed}
+use Rattle.bureau_sql.specs.Founded.{AreLed, IsLed}
 use Rattle.bureau_sql.specs.Migrated.{AreMigrated, IsMigrated, IsUntouched, LeavesUntouched}
 use Rattle.bureau_sql.specs.Opening.{HasTables, IsNotEarlier, IsTaken, IsUnderstood, TellsVersion}
 use Rattle.sql_texts.specs.Meaning.{MakesTable}
@@ -64,6 +64,20 @@ pub taken_so : (text : List ℕ) (new : State) (database : Database) → MakesTa
 taken_so text new database makes version tables means clean =
     record { version = (version clean).has; tables = tables clean; conditions = (text, makes, means clean) }
 
+-- a stop leaves what is so in both ways
+both_left : (old new : State) (One Two : Trees → Type 0) → Survives old new One → Survives old new Two → Survives old new (λ trees. One trees × Two trees)
+both_left old new One Two one two = record {
+  clean = one.clean;
+  shield = one.shield;
+  counts = one.counts;
+  limit = one.limit;
+  closes = one.closes;
+  crash = λ clean trees may. elim (one.crash clean trees may) [
+    | inl was ↦ inl was
+    | inr first ↦ elim (two.crash clean trees may) [ inl was ↦ inl was | inr second ↦ inr (first, second) ]
+  ];
+}
+
 module _ (old mid new : State) (reads : OnlyReads old mid) (is_open : HasCleanDisk mid → IsTrue mid.is_open)
     (taken : HasCleanDisk mid → IsTaken old.committed) {A F : Type 0} (result : Result A F) (led : IsMigrated mid new result) where
   at_mid : HasCleanDisk new → HasCleanDisk mid
@@ -72,21 +86,24 @@ module _ (old mid new : State) (reads : OnlyReads old mid) (is_open : HasCleanDi
   same : HasCleanDisk mid → mid.committed ≡ old.committed
   same clean = (reads.keeps clean).committed (is_open clean)
 
-  pub brought_survives : Survives old new (AreMigrated old)
-  brought_survives =
-      survives_then old mid new (λ trees. ⊥) (AreLed mid (HeldEarlier (held_by_version_1 mid.committed)) (HoldsAll (version_rows 2) (held_by_version_1 mid.committed))) (AreMigrated old)
+  pub brought_survives : IsLed mid new result (λ database. database ≡ mid.committed) (IsMigration mid.committed) → Survives old new (AreMigrated old)
+  brought_survives done =
+      survives_then old mid new (λ trees. ⊥)
+      (λ trees. AreLed mid (HeldEarlier (held_by_version_1 mid.committed)) (HoldsAll (version_rows 2) (held_by_version_1 mid.committed)) trees
+      × AreLed mid (λ database. database ≡ mid.committed) (IsMigration mid.committed) trees) (AreMigrated old)
       (λ clean trees none. absurd none)
       (λ clean trees made.
       let before = at_mid clean in
       let is = same before in
       record {
-        was_open = (reads.keeps before).was_open made.0;
+        was_open = (reads.keeps before).was_open made.0.0;
         taken = taken before;
+        made = subst (λ database. (after : Database) × IsMigration database after × (after.trees ≡ trees)) is (made.1.1 refl);
         led = λ from.
             subst (λ database. (after : Database) × HoldsAll (version_rows 2) (held_by_version_1 database) after × (after.trees ≡ trees)) is
-            (made.1 (record { ours = subst IsOfVersion1 (sym is) from; held = refl }));
+            (made.0.1 (record { ours = subst IsOfVersion1 (sym is) from; held = refl }));
       })
-      reads.survives led.survives
+      reads.survives (both_left mid new _ _ led.survives done.survives)
 
   pub brought_held : OnOk result (HasCleanDisk new → IsOfVersion1 old.committed → HoldsAll (version_rows 2) (held_by_version_1 old.committed) new.committed)
   brought_held = by result led.done

@@ -27,7 +27,7 @@ use Rattle.sql_texts.specs.Meaning.{MakesTable, Reads}
 use Rattle.sql_texts.specs.Reads as read
 use Rattle.sql_texts.specs.Schema.{bureau, bureau_1, sysmod_cond}
 use Rattle.sql_state.proofs.StopFacts.{failed_after, no_read, read_on, was_clean}
-use Rattle.bureau_sql.specs.Opening.{Asked, CanAsk, CanMakeConditions, CannotAsk, CannotMakeConditions, HasConditions, HasOtherShape, HasTables, IsAskedBy, IsNoStore, IsNotEarlier, IsNotMigrated, IsNotOf, IsOfBureau, IsOneStatement, IsOther, IsSeen, IsTaken, IsUnderstood, LacksConditions, LacksMore, LacksTables, LacksText, LacksVersion, TellsVersion, of_conditions, of_tables, of_version}
+use Rattle.bureau_sql.specs.Opening.{Asked, CanAsk, CanMakeConditions, CannotAsk, CannotMakeConditions, HasConditions, HasOtherShape, HasTables, IsAskedBy, IsNoStore, IsNotEarlier, IsNotMigrated, IsNotOf, IsOfBureau, IsOneStatement, IsOther, IsSeen, IsUnderstood, LacksConditions, LacksMore, LacksTables, LacksText, LacksVersion, TellsVersion, of_conditions, of_tables, of_version}
 use Rattle.bureau_sql.specs.SqlState.{SqlState}
 use Rattle.bureau_sql.specs.SqlView.{IsAtRest, IsOurStore, shown, sql_view}
 use Rattle.bureau_sql.proofs.FitFacts.{all_seen, all_so_far}

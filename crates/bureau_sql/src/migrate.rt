@@ -12,7 +12,7 @@ ghost use Rattle.sql_state.specs.Reading.{HasFailed, OnlyReads};
 ghost use Rattle.sql_tables.specs.Stored.{tables_of};
 ghost use Rattle.sql_writes.specs.Migrating.{HoldsAll};
 ghost use Rattle.bureau_sql.specs.Failing.{RefusesExcused};
-ghost use Rattle.bureau_sql.specs.Migrated.{AreMigrated, IsMigrated, LeavesUntouched};
+ghost use Rattle.bureau_sql.specs.Migrated.{AreMigrated, IsMigrated, LeadsToMigration, LeavesUntouched};
 ghost use Rattle.bureau_sql.specs.Opening.{CanMakeConditions, HasTables, IsNotEarlier};
 ghost use Rattle.bureau_sql.specs.SqlView.{IsAtRest, IsOurStore, shown, sql_view};
 
@@ -32,6 +32,7 @@ fn migrated<S: Alter>(conn: &mut Connection<S>) -> Result<(), Error>
     requires rest { conn.old.in_transaction ≡ false }
     ensures mode { conn.new.in_transaction ≡ false }
     ensures migrated { IsMigrated (state S.Store conn.old) (state S.Store conn.new) result }
+    ensures done { LeadsToMigration (state S.Store conn.old) (state S.Store conn.new) result }
     ensures excused { RefusesExcused (state S.Store conn.old) (state S.Store conn.new) result IsOfVersion1 }
 {
     let mut tx = begin(conn);
