@@ -1,108 +1,244 @@
--- What is left when nodes are left out, one after the other.
-use Rattle.std.proofs.Common.{◌≡◌, ◌≢◌, ℕ, ◌+◌, ◌<◌, List, Bool, true, false, length, get_or, set, take, refl, sym, ◌∙◌, subst, inl, inr, arith}
-use Rattle.std.specs.List.{Contains}
-use Rattle.std.proofs.lemmas.Bool.{cases_eq, cases_lt}
-use Rattle.std.proofs.lemmas.Grind.{common_steps}
-use Rattle.std.proofs.lemmas.List.{take_all, take_more, get_or-set_other}
-use Rattle.std.proofs.lemmas.List.Elements.{Contains-push_cases}
+-- Members that are left, and those that stand in for the others.
+use Rattle.std.proofs.Common.{◌≡◌, ◌⊎◌, ◌&&◌, ◌||◌, ℕ, ◌+◌, ◌<◌, ◌≤◌, Bool, true, false, List, [], ◌∷◌, map, length, get_or, refl, sym, ◌∙◌, ap, subst, inl, inr, arith}
+use Rattle.std.specs.Prelude.{◌==◌, nat_lt, not}
+use Rattle.std.specs.List.{Contains, list_any, range_with_len}
+use Rattle.std.proofs.lemmas.Bool.{cases_Bool, cases_eq, cases_lt}
+use Rattle.std.proofs.lemmas.Bool.Decides.{nat_tests}
+use Rattle.std.proofs.lemmas.List.Folds.{Any-from_list_any, list_any-from_Any}
+use Rattle.std.proofs.lemmas.List.FromFn.{get_or-map-range_with_len, length-map-range_with_len}
 use Rattle.requisites.specs.Leads.{Leads}
 use Rattle.requisites.specs.Nodes.{IsMarked, Links, mark_of, row}
 use Rattle.requisites.proofs.LeadsFacts.{leads_itself, leads_more}
 use Rattle.requisites.proofs.SourceFacts.{marked_inside}
-use Rattle.requisites.proofs.SweepFacts.{mark_left, mark_stays}
-use Rattle.install_order.specs.Left.{AreLeft, IsSuperseded, IsSupersededBy, StandsIn}
+use Rattle.install_order.specs.Left.{AreGivers, AreLeft, HasStandIn, IsGiven, is_outdone, left_in, outdoes}
+use Rattle.install_order.proofs.ListFacts.{in_cases, range_has}
+use Rattle.install_order.proofs.ReadFacts.{none_in}
 
--- what is true of those read so far is true of one more
-pub one_more : (P : ℕ → Type 0) (row : List ℕ) (i : ℕ) → i < length row → ((q : ℕ) → Contains (take i row) q → P q) → P (get_or row i 0) → (q : ℕ) → Contains (take (i + 1) row) q → P q
-one_more P row i inside before here q listed =
-    let Q : List ℕ → Type 0 = λ l. Contains l q in
-    elim (Contains-push_cases (take i row) (get_or row i 0) q (subst Q (take_more row i 0 inside) listed)) [
-      | inl was ↦ before q was
-      | inr same ↦ subst P same here
-    ]
+pub any_at : {A : Type 0} (p : A → Bool) (xs : List A) (x : A) → Contains xs x → p x ≡ true → list_any p xs ≡ true
+any_at p xs x inside h = list_any-from_Any p xs (inside.0, x, inside.1, inside.2, h)
 
-pub all_read : (P : ℕ → Type 0) (row : List ℕ) (i : ℕ) → length row ≡ i → ((q : ℕ) → Contains (take i row) q → P q) → (q : ℕ) → Contains row q → P q
-all_read P row i end before q listed =
-    let Q : List ℕ → Type 0 = λ l. Contains l q in
-    before q (subst Q (sym (take_all i row (omega arith))) listed)
+pub record Passes {A : Type 0} (p : A → Bool) (xs : List A) : Type 0 where
+  pub element : A
+  pub member : Contains xs element
+  pub passes : p element ≡ true
 
--- those below i have been looked at
-pub record AreLeftBelow (superseders : List (List ℕ)) (begun : List Bool) (i : ℕ) (left : List Bool) : Type 0 where
-  pub len : length left ≡ length begun
-  pub ahead : (p : ℕ) → i < p + 1 → p < length begun → IsMarked left p
-  pub left_out : (p : ℕ) → p < length begun → mark_of left p ≡ false → IsSuperseded superseders (length begun) p
-  pub alone : (p q : ℕ) → p < i → IsMarked left p → IsMarked left q → Contains (row superseders p) q → q ≡ p
-  pub stands_in : (p : ℕ) → p < length begun → StandsIn superseders (length begun) left p
+pub any_from : {A : Type 0} (p : A → Bool) (xs : List A) → list_any p xs ≡ true → Passes p xs
+any_from p xs h = let found = Any-from_list_any p xs h in record { element = found.1; member = (found.0, found.2, found.3); passes = found.4 }
 
-pub left_begin : (superseders : List (List ℕ)) (begun : List Bool) → ((p : ℕ) → p < length begun → IsMarked begun p) → AreLeftBelow superseders begun 0 begun
-left_begin superseders begun all = record {
-  len = refl;
-  ahead = λ p ahead inside. all p inside;
-  left_out = λ p inside off. absurd (let on : mark_of begun p ≡ true = (all p inside).is in cc);
-  alone = λ p q below marked other listed. absurd (omega arith);
-  stands_in = λ p inside. record { stand_in = p; marked = all p inside; leads = leads_itself (Links superseders (length begun)) p };
-}
+both_from : (a b : Bool) → (a && b) ≡ true → (a ≡ true) × (b ≡ true)
+both_from true b h = (refl, h)
+both_from false b h = absurd (cc)
 
--- the node i stays
-pub left_stays : (superseders : List (List ℕ)) (begun : List Bool) (i : ℕ) (left : List Bool) → AreLeftBelow superseders begun i left
-    → ((q : ℕ) → Contains (row superseders i) q → IsMarked left q → q ≡ i) → AreLeftBelow superseders begun (i + 1) left
-left_stays superseders begun i left a none = record {
-  len = a.len;
-  ahead = λ p ahead inside. a.ahead p (omega arith) inside;
-  left_out = a.left_out;
-  alone = λ p q below marked other listed. elim (cases_lt p i) [
-    | inl before ↦ a.alone p q before marked other listed
-    | inr after ↦
-        (let same : i ≡ p = omega arith in
-        let P : ℕ → Type 0 = λ k. (q : ℕ) → Contains (row superseders k) q → IsMarked left q → q ≡ k in
-        subst P same none q listed other)
-  ];
-  stands_in = a.stands_in;
-}
+from_both : (a b : Bool) → a ≡ true → b ≡ true → (a && b) ≡ true
+from_both true b h k = k
+from_both false b h k = absurd (cc)
 
--- it is left out
-pub left_falls : (superseders : List (List ℕ)) (begun : List Bool) (i : ℕ) (left : List Bool) → i < length begun → AreLeftBelow superseders begun i left
-    → IsSupersededBy (row superseders i) left i → AreLeftBelow superseders begun (i + 1) (set left i false)
-left_falls superseders begun i left h a by = record {
-  len = (let e : length (set left i false) ≡ length left = grind (arith, common_steps) in e ∙ a.len);
-  ahead = λ p ahead inside. (let ne : p ≢ i = omega arith in mark_stays left i p ne (a.ahead p (omega arith) inside));
-  left_out = λ p inside off. elim (cases_eq p i) [
-    | inl e ↦ (let P : ℕ → Type 0 = λ k. IsSuperseded superseders (length begun) k in subst P (sym e) own)
-    | inr ne ↦ a.left_out p inside (sym (get_or-set_other left i p false false ne) ∙ off)
-  ];
-  alone = λ p q below marked other listed.
-      let was = mark_left left i p here marked in
-      let as_other = mark_left left i q here other in
-      elim (cases_lt p i) [
-        | inl before ↦ a.alone p q before was.1 as_other.1 listed
-        | inr after ↦ absurd (was.0 (omega arith))
-      ];
-  stands_in = λ p inside.
-      let s = a.stands_in p inside in
-      elim (cases_eq s.stand_in i) [
-        | inl e ↦
-            (let P : ℕ → Type 0 = λ k. Leads (Links superseders (length begun)) p k in
-            record { stand_in = by.by; marked = mark_stays left i by.by by.is_other by.marked; leads = leads_more (subst P e s.leads) link })
-        | inr ne ↦ record { stand_in = s.stand_in; marked = mark_stays left i s.stand_in ne s.marked; leads = s.leads }
-      ];
-} where
-  here : i < length left
-  here = omega (arith, a.len, h)
+is_false : (b : Bool) → (b ≡ true → ⊥) → b ≡ false
+is_false true none = absurd (none refl)
+is_false false none = refl
 
-  link : Links superseders (length begun) i by.by
-  link = record { listed = by.listed; index = omega (arith, marked_inside left by.by by.marked, a.len) }
+is_not : (b : Bool) → b ≡ false → not b ≡ true
+is_not true e = absurd (cc)
+is_not false e = refl
 
-  own : IsSuperseded superseders (length begun) i
-  own = record { by = by.by; is_other = by.is_other; supersedes = link }
+not_is : (b : Bool) → not b ≡ true → b ≡ false
+not_is true e = absurd (cc)
+not_is false e = refl
 
--- the invariant for what a branch left
-pub left_kept : (superseders : List (List ℕ)) (begun : List Bool) (i : ℕ) (m m' : List Bool) → m' ≡ m → AreLeftBelow superseders begun i m → AreLeftBelow superseders begun i m'
-left_kept superseders begun i m m' same a = let P : List Bool → Type 0 = λ k. AreLeftBelow superseders begun i k in subst P (sym same) a
+test_is : (x y : ℕ) → (x == y) ≡ true → x ≡ y
+test_is x y e = grind (arith, nat_tests)
 
-pub left_end : (superseders : List (List ℕ)) (begun : List Bool) (i : ℕ) (left : List Bool) → i ≡ length begun → AreLeftBelow superseders begun i left → AreLeft superseders (length begun) left
-left_end superseders begun i left end a = record {
-  len = a.len;
-  left_out = a.left_out;
-  alone = λ p q marked other listed. a.alone p q (omega (arith, marked_inside left p marked, a.len, end)) marked other listed;
-  stands_in = a.stands_in;
-}
+is_test : (x y : ℕ) → x ≡ y → (x == y) ≡ true
+is_test x y e = grind (arith, nat_tests)
+
+less_is : (x y : ℕ) → nat_lt x y ≡ true → x < y
+less_is x y e = grind (arith, nat_tests)
+
+is_less : (x y : ℕ) → x < y → nat_lt x y ≡ true
+is_less x y e = grind (arith, nat_tests)
+
+not_less : (x y : ℕ) → nat_lt x y ≡ false → y ≤ x
+not_less x y e = grind (arith, nat_tests)
+
+less_so : (p q : ℕ) → q ≤ p → (q ≡ p → ⊥) → q < p
+less_so p q less ne = elim (cases_lt q p) [ inl low ↦ low | inr high ↦ absurd (ne (omega arith)) ]
+
+-- ---- one that outdoes another
+
+-- q gives p and outdoes it
+pub record Outdoes (givers : List (List ℕ)) (p q : ℕ) : Type 0 where
+  pub gives : Contains (row givers p) q
+  pub is_other : q ≡ p → ⊥
+  pub greater : Contains (row givers q) p → p < q
+
+abbrev has : List ℕ → ℕ → Bool
+has xs p = list_any (λ r. r == p) xs
+
+has_it : (xs : List ℕ) (p : ℕ) → Contains xs p → has xs p ≡ true
+has_it xs p inside = any_at (λ r. r == p) xs p inside (is_test p p refl)
+
+it_has : (xs : List ℕ) (p : ℕ) → has xs p ≡ true → Contains xs p
+it_has xs p h = let found = any_from (λ r. r == p) xs h in let P : ℕ → Type 0 = λ k. Contains xs k in subst P (test_is found.element p found.passes) found.member
+
+outdoes_so : (givers : List (List ℕ)) (p q : ℕ) → Contains (row givers p) q → outdoes givers p q ≡ true → Outdoes givers p q
+outdoes_so givers p q gives h =
+    let both = both_from (not (q == p)) (nat_lt p q || not (has (row givers q) p)) h in
+    record {
+      gives = gives;
+      is_other = λ same. (let on = is_test q p same in let off = not_is (q == p) both.0 in cc);
+      greater = λ back. greater (nat_lt p q) refl (has (row givers q) p) (has_it (row givers q) p back) both.1;
+    }
+  where
+    greater : (b : Bool) → nat_lt p q ≡ b → (c : Bool) → c ≡ true → (b || not c) ≡ true → p < q
+    greater true e c on h = less_is p q e
+    greater false e true on h = absurd (cc)
+    greater false e false on h = absurd (cc)
+
+so_outdoes : (givers : List (List ℕ)) (p q : ℕ) → Outdoes givers p q → outdoes givers p q ≡ true
+so_outdoes givers p q o =
+    from_both (not (q == p)) (nat_lt p q || not (has (row givers q) p)) (is_not (q == p) (is_false (q == p) (λ on. o.is_other (test_is q p on))))
+    (either (has (row givers q) p) refl)
+  where
+    left_or : (b c : Bool) → b ≡ true → (b || c) ≡ true
+    left_or true c e = refl
+    left_or false c e = absurd (cc)
+
+    right_or : (b c : Bool) → c ≡ true → (b || c) ≡ true
+    right_or true c e = refl
+    right_or false c e = e
+
+    either : (c : Bool) → has (row givers q) p ≡ c → (nat_lt p q || not (has (row givers q) p)) ≡ true
+    either true e = left_or (nat_lt p q) (not (has (row givers q) p)) (is_less p q (o.greater (it_has (row givers q) p e)))
+    either false e = right_or (nat_lt p q) (not (has (row givers q) p)) (is_not (has (row givers q) p) e)
+
+pub outdone_so : (givers : List (List ℕ)) (p : ℕ) → is_outdone givers p ≡ true → (q : ℕ) × Outdoes givers p q
+outdone_so givers p h = let found = any_from (outdoes givers p) (row givers p) h in (found.element, outdoes_so givers p found.element found.member found.passes)
+
+pub so_outdone : (givers : List (List ℕ)) (p q : ℕ) → Outdoes givers p q → is_outdone givers p ≡ true
+so_outdone givers p q o = any_at (outdoes givers p) (row givers p) q o.gives (so_outdoes givers p q o)
+
+module _ (givers : List (List ℕ)) (n : ℕ) (are : AreGivers givers n) where
+  outdoes_on : (p s y : ℕ) → Outdoes givers p s → Outdoes givers s y → Outdoes givers p y
+  outdoes_on p s y first second = record {
+    gives = are.on p s y first.gives second.gives;
+    is_other = λ same.
+        let P : ℕ → Type 0 = λ k. Contains (row givers s) k in
+        let back : Contains (row givers s) p = subst P same second.gives in
+        let low : p < s = first.greater back in
+        let Q : ℕ → Type 0 = λ k. Contains (row givers k) s in
+        let high : s < y = second.greater (subst Q (sym same) first.gives) in
+        omega arith;
+    greater = λ back.
+        let low : p < s = first.greater (are.on s y p second.gives back) in
+        let high : s < y = second.greater (are.on y p s back first.gives) in
+        omega arith;
+  }
+
+  -- one that is p, or outdoes it
+  record Tops (p : ℕ) (xs : List ℕ) : Type 0 where
+    top : ℕ
+    inside : top < n
+    above : (top ≡ p) ⊎ Outdoes givers p top
+    alone : (x : ℕ) → Contains xs x → Outdoes givers top x → ⊥
+
+  decide : (s y : ℕ) → (Outdoes givers s y) ⊎ (Outdoes givers s y → ⊥)
+  decide s y = go (has (row givers s) y) (outdoes givers s y) refl refl where
+    go : (b c : Bool) → has (row givers s) y ≡ b → outdoes givers s y ≡ c → (Outdoes givers s y) ⊎ (Outdoes givers s y → ⊥)
+    go true true e f = inl (outdoes_so givers s y (it_has (row givers s) y e) f)
+    go true false e f = inr (λ o. (let on = so_outdoes givers s y o in cc))
+    go false c e f = inr (λ o. (let on = has_it (row givers s) y o.gives in cc))
+
+  above_both : (p s t : ℕ) → (s ≡ p) ⊎ Outdoes givers p s → Outdoes givers s t → Outdoes givers p t
+  above_both p s t (inl same) o = let P : ℕ → Type 0 = λ k. Outdoes givers k t in subst P same o
+  above_both p s t (inr first) o = outdoes_on p s t first o
+
+  -- from each there is one that none of a list outdoes
+  tops : (xs : List ℕ) (p : ℕ) → p < n → Tops p xs
+  tops [] p inside = record { top = p; inside = inside; above = inl refl; alone = λ x listed o. none_in x listed }
+  tops (y ∷ ys) p inside =
+      let below = tops ys p inside in
+      elim (decide below.top y) [
+        | inl more ↦ (let further = tops ys y (are.within below.top y more.gives) in higher below further more)
+        | inr none ↦ record {
+          top = below.top;
+          inside = below.inside;
+          above = below.above;
+          alone = λ x listed o. elim (in_cases y x ys listed) [
+            | inl same ↦ (let P : ℕ → Type 0 = λ k. Outdoes givers below.top k in none (subst P (sym same) o))
+            | inr later ↦ below.alone x later o
+          ];
+        }
+      ]
+    where
+      higher : (below : Tops p ys) → Tops y ys → Outdoes givers below.top y → Tops p (y ∷ ys)
+      higher below further more = record {
+        top = further.top;
+        inside = further.inside;
+        above = inr (over (above_both p below.top y below.above more) further.above);
+        alone = λ x listed o. elim (in_cases y x ys listed) [
+          | inl same ↦
+              (let P : ℕ → Type 0 = λ k. Outdoes givers further.top k in
+              let round : Outdoes givers y y = above_both y further.top y further.above (subst P (sym same) o) in
+              round.is_other refl)
+          | inr later ↦ further.alone x later o
+        ];
+      } where
+        over : Outdoes givers p y → (further.top ≡ y) ⊎ Outdoes givers y further.top → Outdoes givers p further.top
+        over first (inl same) = let P : ℕ → Type 0 = λ k. Outdoes givers p k in subst P (sym same) first
+        over first (inr second) = outdoes_on p y further.top first second
+
+  -- ---- the marks
+
+  mark_at : (p : ℕ) → p < n → mark_of (left_in givers n) p ≡ not (is_outdone givers p)
+  mark_at p inside = get_or-map-range_with_len (λ p. not (is_outdone givers p)) 0 n p p false inside (omega arith)
+
+  marked_not : (p : ℕ) → IsMarked (left_in givers n) p → is_outdone givers p ≡ false
+  marked_not p marked =
+      let len = length-map-range_with_len (λ p. not (is_outdone givers p)) 0 n in
+      not_is (is_outdone givers p) (sym (mark_at p (omega (arith, marked_inside (left_in givers n) p marked, len))) ∙ marked.is)
+
+  no_other : (p q : ℕ) → IsMarked (left_in givers n) p → Outdoes givers p q → ⊥
+  no_other p q marked o = let on = so_outdone givers p q o in let off = marked_not p marked in cc
+
+  pub are_left : AreLeft givers n (left_in givers n)
+  are_left = record {
+    len = length-map-range_with_len (λ p. not (is_outdone givers p)) 0 n;
+    left_out = λ p inside off.
+        let outdone : is_outdone givers p ≡ true = on (is_outdone givers p) (sym (mark_at p inside) ∙ off) in
+        let by = outdone_so givers p outdone in
+        record { by = by.0; is_other = by.1.is_other; gives = record { listed = by.1.gives; index = are.within p by.0 by.1.gives } };
+    alone = λ p q first second gives. elim (cases_eq q p) [
+      | inl same ↦ same
+      | inr other ↦ absurd (both p q first second gives other)
+    ];
+    stands_in = λ p inside.
+        let top = tops (range_with_len 0 n) p inside in
+        let none : is_outdone givers top.top ≡ false = is_false (is_outdone givers top.top) (λ on.
+        let by = outdone_so givers top.top on in
+        top.alone by.0 (range_has 0 n by.0 (omega arith) (omega (arith, are.within top.top by.0 by.1.gives))) by.1) in
+        record {
+          stand_in = top.top;
+          marked = record { is = mark_at top.top top.inside ∙ is_not (is_outdone givers top.top) none };
+          leads = up p top.top top.inside top.above;
+        };
+  } where
+    on : (b : Bool) → not b ≡ false → b ≡ true
+    on true e = refl
+    on false e = absurd (cc)
+
+    up : (p s : ℕ) → s < n → (s ≡ p) ⊎ Outdoes givers p s → Leads (Links givers n) p s
+    up p s inside (inl same) = let P : ℕ → Type 0 = λ k. Leads (Links givers n) p k in subst P (sym same) (leads_itself (Links givers n) p)
+    up p s inside (inr o) = leads_more (leads_itself (Links givers n) p) (record { listed = o.gives; index = inside })
+
+    -- of two that are left and differ, where one gives the other, it outdoes it or is outdone
+    both : (p q : ℕ) → IsMarked (left_in givers n) p → IsMarked (left_in givers n) q → Contains (row givers p) q → (q ≡ p → ⊥) → ⊥
+    both p q first second gives other = go (has (row givers q) p) refl where
+      go : (b : Bool) → has (row givers q) p ≡ b → ⊥
+      go true e = elim (cases_lt p q) [
+        | inl less ↦ no_other p q first (record { gives = gives; is_other = other; greater = λ back. less })
+        | inr more ↦ no_other q p second (record { gives = it_has (row givers q) p e; is_other = λ same. other (sym same); greater = λ back. less_so p q more other })
+      ]
+      go false e = no_other p q first (record { gives = gives; is_other = other; greater = λ back. absurd (let on = has_it (row givers q) p back in cc) })
+
+pub left_are : (givers : List (List ℕ)) (n : ℕ) (left : List Bool) → left ≡ left_in givers n → AreGivers givers n → AreLeft givers n left
+left_are givers n left same are = let P : List Bool → Type 0 = λ l. AreLeft givers n l in subst P (sym same) (are_left givers n are)

@@ -1,3 +1,9 @@
 pub mod LeftFacts
+pub mod LevelFacts
+pub mod ListFacts
 pub mod PutFacts
+pub mod ReadFacts
 pub mod RingFacts
+pub mod RowFacts
+pub mod StepFacts
+pub mod TieFacts

@@ -1,7 +1,6 @@
 -- Nodes that are put, step by step.
 use Rattle.std.proofs.Common.{◌≡◌, ℕ, ◌+◌, ◌<◌, ◌⊎◌, List, [], ◌∷◌, ◌++◌, Bool, true, false, length, get_or, set, take, refl, sym, ◌∙◌, subst, inl, inr, arith, append_assoc}
 use Rattle.std.specs.List.{Contains}
-use Rattle.std.specs.List.Sorted.{IsStrictlyIncreasing}
 use Rattle.std.proofs.lemmas.Bool.{cases_eq}
 use Rattle.std.proofs.lemmas.Grind.{common_steps}
 use Rattle.std.proofs.lemmas.List.{take_all, take_more, get_or-set_same, get_or-set_other}
@@ -9,10 +8,11 @@ use Rattle.std.proofs.lemmas.List.Elements.{Contains-append_left, Contains-push,
 use Rattle.requisites.specs.Good.{marked_count}
 use Rattle.requisites.specs.Leads.{Leads}
 use Rattle.requisites.specs.Nodes.{IsMarked, Links, mark_of, row}
-use Rattle.requisites.proofs.LeadsFacts.{leads_itself}
+use Rattle.install_order.proofs.RingFacts.{leads_joined}
 use Rattle.requisites.proofs.SourceFacts.{marked_inside}
 use Rattle.requisites.proofs.SweepFacts.{count_falls, mark_left, mark_stays}
-use Rattle.install_order.specs.Steps.{ArePut, AreSteps, AreTakenOut, Goes, InOrder, IsAnyLeft, IsClosed, IsNext, IsReady, IsRing, StandsIn}
+use Rattle.install_order.specs.Rings.{ArePut, AreRings, AreRingsAfter, AreTakenOut, Goes, IsAnyLeft, IsNextRing, IsOfRing, IsRing}
+use Rattle.install_order.specs.Steps.{IsClosed, StandsIn}
 
 -- ---- steps
 
@@ -28,13 +28,13 @@ stands_cases steps step p stands = elim (Contains-push_cases steps step stands.s
   | inr same ↦ inr (let P : List ℕ → Type 0 = λ l. Contains l p in subst P (sym same) stands.member)
 ]
 
-in_order_more : (needs : List (List ℕ)) (n : ℕ) (before steps : List (List ℕ)) (step : List ℕ) → InOrder needs n before steps → IsNext needs n (before ++ steps) step → InOrder needs n before (steps ++ step ∷ [])
+in_order_more : (needs : List (List ℕ)) (n : ℕ) (before steps : List (List ℕ)) (step : List ℕ) → AreRingsAfter needs n before steps → IsNextRing needs n (before ++ steps) step → AreRingsAfter needs n before (steps ++ step ∷ [])
 in_order_more needs n before [] step order next =
-    let P : List (List ℕ) → Type 0 = λ l. IsNext needs n l step in
+    let P : List (List ℕ) → Type 0 = λ l. IsNextRing needs n l step in
     let e : before ++ [] ≡ before = grind (arith, common_steps) in
     (subst P e next, tt)
 in_order_more needs n before (first ∷ later) step order next =
-    let P : List (List ℕ) → Type 0 = λ l. IsNext needs n l step in
+    let P : List (List ℕ) → Type 0 = λ l. IsNextRing needs n l step in
     let e : before ++ first ∷ later ≡ (before ++ first ∷ []) ++ later = sym (append_assoc before (first ∷ []) later) in
     (order.0, in_order_more needs n (before ++ first ∷ []) later step order.1 (subst P e next))
 
@@ -61,11 +61,10 @@ put_one needs members left left' steps step closed ring out a = record {
     | inr own ↦ (let off : mark_of left' p ≡ false = out.gone p own in let on : mark_of left' p ≡ true = marked.is in cc)
   ];
 } where
-  next : IsNext needs (length members) steps step
+  next : IsNextRing needs (length members) steps step
   next = record {
     first = ring.first;
     begun = ring.begun;
-    ascend = ring.ascend;
     once = λ p member stands. a.apart p stands (ring.marked p member);
     needed = λ p q member link. elim (a.whole q (closed p q (a.within p (ring.marked p member)) link)) [
       | inl marked ↦ stands_last steps step q (ring.closed p q member (record { listed = link.listed; index = omega (arith, link.index, a.len) }) marked)
@@ -162,65 +161,6 @@ out_step nodes i old new new' inside same a =
 pub out_all : (nodes : List ℕ) (i : ℕ) (old new : List Bool) → i ≡ length nodes → AreTakenOut (take i nodes) old new → AreTakenOut nodes old new
 out_all nodes i old new end a = let P : List ℕ → Type 0 = λ l. AreTakenOut l old new in subst P (take_all i nodes (omega arith)) a
 
--- ---- a node that is ready is a ring by itself
-
-one_member : (i p : ℕ) → Contains (i ∷ []) p → i ≡ p
-one_member i p member = elim (Contains-push_cases [] i p member) [
-  | inl before ↦ absurd (omega (arith, before.1))
-  | inr same ↦ same
-]
-
-one_ascends : (i : ℕ) → IsStrictlyIncreasing (i ∷ [])
-one_ascends i = λ j h. absurd (omega arith)
-
-pub ready_is_ring : (needs : List (List ℕ)) (left : List Bool) (i : ℕ) → IsReady (row needs i) left i → IsRing needs left (i ∷ [])
-ready_is_ring needs left i ready = record {
-  first = i;
-  begun = Contains-push [] i;
-  ascend = one_ascends i;
-  marked = λ p member. (let P : ℕ → Type 0 = λ k. IsMarked left k in subst P (one_member i p member) ready.marked);
-  closed = λ p q member link marked.
-      let L : ℕ → Type 0 = λ k. Contains (row needs k) q in
-      let same : q ≡ i = ready.ready q (subst L (sym (one_member i p member)) link.listed) marked in
-      let P : ℕ → Type 0 = λ k. Contains (i ∷ []) k in
-      subst P (sym same) (Contains-push [] i);
-  together = λ p q first second.
-      let e : p ≡ q = sym (one_member i p first) ∙ one_member i q second in
-      let P : ℕ → Type 0 = λ k. Leads (Links needs (length left)) p k in
-      subst P e (leads_itself (Links needs (length left)) p);
-}
-
--- ---- one pass
-
-pub record IsPassing (needs : List (List ℕ)) (old new : List Bool) (steps steps' : List (List ℕ)) (put : Bool) : Type 0 where
-  pub goes : Goes needs old new steps steps'
-  pub fewer : put ≡ true → marked_count new < marked_count old
-  pub same : put ≡ false → new ≡ old
-
-pub passing_none : (needs : List (List ℕ)) (left : List Bool) (steps : List (List ℕ)) → IsPassing needs left left steps steps false
-passing_none needs left steps = record { goes = goes_nowhere needs left steps; fewer = λ e. absurd (cc); same = λ e. refl }
-
-pub passing_more : (needs : List (List ℕ)) (old mid new : List Bool) (steps between steps' : List (List ℕ)) (was put : Bool) (i : ℕ) → IsPassing needs old mid steps between was → IsReady (row needs i) mid i
-    → new ≡ set mid i false → steps' ≡ between ++ (i ∷ []) ∷ [] → put ≡ true → IsPassing needs old new steps steps' put
-passing_more needs old mid new steps between steps' was put i a ready e f on =
-    let out : AreTakenOut (i ∷ []) mid (set mid i false) = out_more [] mid mid i ready.marked (out_none mid) in
-    let here = goes_on needs mid (set mid i false) between steps' (i ∷ []) f (ready_is_ring needs mid i ready) out in
-    let P : List Bool → Type 0 = λ l. Goes needs old l steps steps' in
-    let fall : marked_count (set mid i false) < marked_count mid = count_falls mid i (marked_inside mid i ready.marked) ready.marked in
-    let N : List Bool → Type 0 = λ l. marked_count l < marked_count old in
-    record {
-      goes = subst P (sym e) (goes_joined needs old mid (set mid i false) steps between steps' a.goes here);
-      fewer = λ is. subst N (sym e) (omega (arith, fall, a.goes.at_most));
-      same = λ off. absurd (cc);
-    }
-
-pub passing_kept : (needs : List (List ℕ)) (old m m' : List Bool) (steps s s' : List (List ℕ)) (b b' : Bool) → m' ≡ m → s' ≡ s → b' ≡ b → IsPassing needs old m steps s b → IsPassing needs old m' steps s' b'
-passing_kept needs old m m' steps s s' b b' same_m same_s same_b a =
-    let P : List Bool → Type 0 = λ l. IsPassing needs old l steps s' b' in
-    let Q : List (List ℕ) → Type 0 = λ l. IsPassing needs old m steps l b' in
-    let R : Bool → Type 0 = λ l. IsPassing needs old m steps s l in
-    subst P (sym same_m) (subst Q (sym same_s) (subst R (sym same_b) a))
-
 -- ---- all
 
 pub put_begins : (needs : List (List ℕ)) (members : List Bool) → ArePut needs members members []
@@ -233,7 +173,7 @@ put_begins needs members = record {
   apart = λ p stands marked. absurd (omega (arith, stands.listed.1));
 }
 
-pub all_put : (needs : List (List ℕ)) (members left : List Bool) (steps : List (List ℕ)) → (IsAnyLeft left → ⊥) → ArePut needs members left steps → AreSteps needs members steps
+pub all_put : (needs : List (List ℕ)) (members left : List Bool) (steps : List (List ℕ)) → (IsAnyLeft left → ⊥) → ArePut needs members left steps → AreRings needs members steps
 all_put needs members left steps none a = record {
   order = a.order;
   whole = λ p member. elim (a.whole p member) [
@@ -241,4 +181,14 @@ all_put needs members left steps none a = record {
     | inr stands ↦ stands
   ];
   only = a.only;
+}
+
+-- nodes of which each is tied to the first, and needs nothing else that is left, are a ring
+pub ring_is : (needs : List (List ℕ)) (left : List Bool) (ring : List ℕ) (first : ℕ) → Contains ring first → ((p : ℕ) → Contains ring p → IsOfRing needs left ring first p) → IsRing needs left ring
+ring_is needs left ring first begun each = record {
+  first = first;
+  begun = begun;
+  marked = λ p member. (each p member).marked;
+  closed = λ p q member link marked. (each p member).closed q link.listed marked;
+  together = λ p q one other. leads_joined (each p one).back (each q other).leads;
 }

@@ -2,7 +2,6 @@
 use Rattle.std.proofs.Common.{◌≡◌, ℕ, ◌+◌, ◌<◌, ◌≤◌, List, [], ◌∷◌, ◌++◌, Bool, Option, Some, None, length, get_or, refl, sym, subst, inl, inr, arith}
 use Rattle.std.specs.Prelude.{IfNone, IfSome}
 use Rattle.std.specs.List.{Contains}
-use Rattle.std.specs.List.Sorted.{IsStrictlyIncreasing}
 use Rattle.std.proofs.lemmas.Bool.{cases_lt}
 use Rattle.std.proofs.lemmas.List.{get_or_append_left, get_or_push, length-append}
 use Rattle.std.proofs.lemmas.List.Elements.{Contains-append_left, Contains-get_or, Contains-push, Contains-push_cases}
@@ -11,7 +10,7 @@ use Rattle.requisites.specs.Nodes.{AreReversed, IsMarked, Links}
 use Rattle.requisites.specs.Sources.{AreLeastSources, HasSource, IsLeastSource, source_of}
 use Rattle.requisites.proofs.LeadsFacts.{leads_itself, leads_more, leads_closed}
 use Rattle.requisites.proofs.SourceFacts.{marked_inside}
-use Rattle.install_order.specs.Steps.{AreReached, IsAnyLeft, IsGreatestRoot, IsOnly, IsReached, IsRing, IsRoot}
+use Rattle.install_order.specs.Rings.{AreReached, IsAnyLeft, IsGreatestRoot, IsOnly, IsReached, IsRing, IsRoot}
 
 -- ---- lists that lead on, and back
 
@@ -40,7 +39,7 @@ back needs turned n x y reversed inside leads =
     (record { inside = inside; back = leads_itself (Links turned n) x }) leads
 
 -- where they lead from y to x, links lead from x to y
-forth : (needs turned : List (List ℕ)) (n x y : ℕ) → AreReversed needs n turned → Leads (Links turned n) y x → Leads (Links needs n) x y
+pub forth : (needs turned : List (List ℕ)) (n x y : ℕ) → AreReversed needs n turned → Leads (Links turned n) y x → Leads (Links needs n) x y
 forth needs turned n x y reversed leads =
     leads_closed (λ z. Leads (Links needs n) z y)
     (λ u v had link. leads_joined (leads_step (reversed.only v u link.listed)) had)
@@ -93,32 +92,11 @@ greatest_none left sources i (Some p) end a = tt
 
 -- ---- the nodes that are reached
 
-increasing_push : (xs : List ℕ) (y : ℕ) → IsStrictlyIncreasing xs → ((p : ℕ) → Contains xs p → p < y) → IsStrictlyIncreasing (xs ++ y ∷ [])
-increasing_push xs y up below k h = elim (cases_lt (k + 1) (length xs)) [
-  | inl inside ↦
-      (let first : get_or (xs ++ y ∷ []) k 0 ≡ get_or xs k 0 = get_or_append_left xs (y ∷ []) 0 k (omega arith) in
-      let second : get_or (xs ++ y ∷ []) (k + 1) 0 ≡ get_or xs (k + 1) 0 = get_or_append_left xs (y ∷ []) 0 (k + 1) inside in
-      let order : get_or xs k 0 < get_or xs (k + 1) 0 = up k inside in
-      omega arith)
-  | inr past ↦
-      (let len : length (xs ++ y ∷ []) ≡ length xs + 1 = length-append xs (y ∷ []) in
-      let last : length xs ≡ k + 1 = omega arith in
-      let first : get_or (xs ++ y ∷ []) k 0 ≡ get_or xs k 0 = get_or_append_left xs (y ∷ []) 0 k (omega arith) in
-      let second : get_or (xs ++ y ∷ []) (k + 1) 0 ≡ y = get_or_push xs y 0 (k + 1) last in
-      let order : get_or xs k 0 < y = below (get_or xs k 0) (Contains-get_or xs k 0 (omega arith)) in
-      omega arith)
-]
-
 module _ (left : List Bool) (sources : List (Option ℕ)) (i : ℕ) where
   pub reached_more : (nodes nodes' : List ℕ) → nodes' ≡ nodes ++ i ∷ [] → IsReached left sources i → AreReached left sources i nodes → AreReached left sources (i + 1) nodes'
   reached_more nodes nodes' now is was =
       let T : List ℕ → Type 0 = λ l. AreReached left sources (i + 1) l in
       subst T (sym now) (record {
-        ascend = increasing_push nodes i was.ascend was.below;
-        below = λ p inside. elim (Contains-push_cases nodes i p inside) [
-          | inl before ↦ omega (arith, was.below p before)
-          | inr same ↦ omega arith
-        ];
         reached = λ p inside. elim (Contains-push_cases nodes i p inside) [
           | inl before ↦ was.reached p before
           | inr same ↦ (let P : ℕ → Type 0 = λ k. IsReached left sources k in subst P same is)
@@ -133,8 +111,6 @@ module _ (left : List Bool) (sources : List (Option ℕ)) (i : ℕ) where
   reached_skip nodes nodes' same off was =
       let T : List ℕ → Type 0 = λ l. AreReached left sources (i + 1) l in
       subst T (sym same) (record {
-        ascend = was.ascend;
-        below = λ p inside. omega (arith, was.below p inside);
         reached = was.reached;
         whole = λ p h on. elim (cases_lt p i) [
           | inl before ↦ was.whole p before on
@@ -209,7 +185,6 @@ module _ (needs turned : List (List ℕ)) (left : List Bool) (sources : List (Op
     is_ring = record {
       first = root;
       begun = member_of root greatest.root.marked (leads_itself (Links needs (length left)) root);
-      ascend = found.ascend;
       marked = λ p member. (found.reached p member).marked;
       closed = λ p q member link marked. member_of q marked (leads_more (from_root p member) link);
       together = λ p q first second. leads_joined (leads_back root p greatest (found.reached p first).marked (from_root p first)) (from_root q second);

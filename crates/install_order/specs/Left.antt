@@ -1,34 +1,46 @@
--- Which of some nodes are left when those that another one supersedes are left out, one after the other (IBM z/OS SMP/E
--- Reference, `++VER`, operand SUP).
-use Rattle.std.specs.Prelude.{◌≡◌, ◌<◌, ℕ, List, Bool, false, length, Contains}
+-- Which of some members of a plan are left when those that another one gives are left out (IBM z/OS SMP/E Reference,
+-- `++VER`, operand SUP).
+use Rattle.std.specs.Prelude.{◌≡◌, ◌<◌, ◌==◌, ◌&&◌, ◌||◌, ℕ, List, Bool, false, not, length, map, nat_lt, Contains}
+use Rattle.std.specs.List.{list_any, range_with_len}
 use Rattle.requisites.specs.Leads.{Leads}
 use Rattle.requisites.specs.Nodes.{IsMarked, Links, mark_of, row}
 
--- one of n nodes, other than p, that supersedes p
-pub record IsSuperseded (superseders : List (List ℕ)) (n p : ℕ) : Type 0 where
+-- Whether a node q that gives p outdoes it, by the rows of what gives each: it is another one. Where p gives it too, the
+-- greater of them outdoes the other.
+abbrev pub outdoes : List (List ℕ) → ℕ → ℕ → Bool
+outdoes givers p q = not (q == p) && (nat_lt p q || not (list_any (λ r. r == p) (row givers q)))
+
+-- whether one of those that give p outdoes it
+abbrev pub is_outdone : List (List ℕ) → ℕ → Bool
+is_outdone givers p = list_any (outdoes givers p) (row givers p)
+
+-- the marks of those of n nodes that no other one outdoes
+abbrev pub left_in : List (List ℕ) → ℕ → List Bool
+left_in givers n = map (λ p. not (is_outdone givers p)) (range_with_len 0 n)
+
+-- ---- what is so of these marks
+
+-- the rows name nodes alone, and what gives a node gives all that the node gives
+pub record AreGivers (givers : List (List ℕ)) (n : ℕ) : Type 0 where
+  pub within : (p q : ℕ) → Contains (row givers p) q → q < n
+  pub on : (p q r : ℕ) → Contains (row givers p) q → Contains (row givers q) r → Contains (row givers p) r
+
+-- one of n nodes, other than p, that gives p
+pub record IsGiven (givers : List (List ℕ)) (n p : ℕ) : Type 0 where
   pub by : ℕ
   pub is_other : ¬ (by ≡ p)
-  pub supersedes : Links superseders n p by
+  pub gives : Links givers n p by
 
--- a node that is left, to which a list leads from p, each superseded by the next
-pub record StandsIn (superseders : List (List ℕ)) (n : ℕ) (left : List Bool) (p : ℕ) : Type 0 where
+-- a node that is left and is p, or gives p
+pub record HasStandIn (givers : List (List ℕ)) (n : ℕ) (left : List Bool) (p : ℕ) : Type 0 where
   pub stand_in : ℕ
   pub marked : IsMarked left stand_in
-  pub leads : Leads (Links superseders n) p stand_in
+  pub leads : Leads (Links givers n) p stand_in
 
--- Of n nodes those are left that are marked: another node supersedes each that is left out, no node that is left is
--- superseded by another one, and for each node one that is left stands in.
-pub record AreLeft (superseders : List (List ℕ)) (n : ℕ) (left : List Bool) : Type 0 where
+-- Another node gives each that is left out; no node that is left gives another one that is; and for each node one that is left
+-- stands in.
+pub record AreLeft (givers : List (List ℕ)) (n : ℕ) (left : List Bool) : Type 0 where
   pub len : length left ≡ n
-  pub left_out : (p : ℕ) → p < n → mark_of left p ≡ false → IsSuperseded superseders n p
-  pub alone : (p q : ℕ) → IsMarked left p → IsMarked left q → Contains (row superseders p) q → q ≡ p
-  pub stands_in : (p : ℕ) → p < n → StandsIn superseders n left p
-
--- ---- No part of what is promised: private contracts cite it.
-
--- one of a row, other than p, that is left
-pub record IsSupersededBy (row : List ℕ) (left : List Bool) (p : ℕ) : Type 0 where
-  pub by : ℕ
-  pub listed : Contains row by
-  pub marked : IsMarked left by
-  pub is_other : ¬ (by ≡ p)
+  pub left_out : (p : ℕ) → p < n → mark_of left p ≡ false → IsGiven givers n p
+  pub alone : (p q : ℕ) → IsMarked left p → IsMarked left q → Contains (row givers p) q → q ≡ p
+  pub stands_in : (p : ℕ) → p < n → HasStandIn givers n left p

@@ -1,2 +1,4 @@
 pub mod Left
 pub mod Steps
+pub mod Rings
+pub mod Levels

@@ -1,48 +1,50 @@
-//! Which nodes are left when those that another one supersedes are left out.
-ghost use Rattle.std.specs.Prelude.{◌≡◌, ◌<◌, ℕ, Contains, IfOk, length, true};
-ghost use Rattle.std.specs.Bool.{OnFalse, OnTrue};
-ghost use Rattle.requisites.specs.Nodes.{IsMarked, row};
-ghost use Rattle.install_order.specs.Left.{AreLeft, IsSupersededBy};
+//! Which members are left when those that another one gives are left out.
+ghost use Rattle.std.specs.Prelude.{◌≡◌, ◌==◌, IfOk};
+ghost use Rattle.std.specs.List.{list_any};
+ghost use Rattle.install_order.specs.Left as Left;
+ghost use Rattle.install_order.specs.Left.{AreGivers, AreLeft, left_in};
 
-use requisites::{NoMemory, Rows, is_marked};
+use requisites::{NoMemory, Rows};
 use std::alloc::Global;
 
-/// Which of `len` nodes are left: each in turn, from the first, is left out where another one that is still there
-/// supersedes it. `superseders` has for each node those that supersede it.
+/// Which of `len` nodes are left: those that no other one outdoes. `givers` has for each node all those that give it. A
+/// node outdoes another that it gives; where each gives the other, the greater one does.
 ///
-/// It takes time in proportion to the nodes and the links.
+/// It takes time in proportion to what the rows have, and once more for a row that is walked for each node in it that it
+/// may give back.
 ///
 /// # Errors
 ///
 /// `NoMemory` where memory ran out.
-pub fn left_marks(alloc: Global, superseders: &Rows, len: usize) -> Result<Vec<bool>, NoMemory>
-    ensures { IfOk result (λ left. AreLeft superseders.now len left.items) }
+pub fn left_marks(alloc: Global, givers: &Rows, len: usize) -> Result<Vec<bool>, NoMemory>
+    ensures marks { IfOk result (λ left. left.items ≡ left_in givers.now len) }
+    ensures left { IfOk result (λ left. AreGivers givers.now len → AreLeft givers.now len left.items) }
 {
-    let mut left = vec![in alloc; true; len]?;
-    leave_out(superseders, &mut left);
+    let mut left = Vec::with_capacity(alloc, len)?;
+    for node in 0..len {
+        left.push(!is_outdone(givers, node))?;
+    }
     Ok(left)
 }
 
-fn leave_out(superseders: &Rows, left: &mut [bool])
-    requires { (p : ℕ) → p < length left.old → IsMarked left.old p }
-    ensures { AreLeft superseders.now (length left.old) left.new }
+fn is_outdone(givers: &Rows, node: usize) -> bool
+    ensures { result ≡ Left.is_outdone givers.now node }
 {
-    for node in 0..left.len() {
-        if is_superseded(superseders.row(node), left, node) {
-            left[node] = false;
-        }
-    }
+    givers
+        .row(node)
+        .iter()
+        .any(|other| outdoes(givers, node, *other))
 }
 
-// Whether one of a row, other than the node, is still there.
-fn is_superseded(row: &[usize], left: &[bool], node: usize) -> bool
-    ensures yes { OnTrue result (IsSupersededBy row.now left.now node) }
-    ensures no { OnFalse result ((q : ℕ) → Contains row.now q → IsMarked left.now q → q ≡ node) }
+// Whether one that gives a node outdoes it.
+fn outdoes(givers: &Rows, node: usize, other: usize) -> bool
+    ensures { result ≡ Left.outdoes givers.now node other }
 {
-    for other in row {
-        if *other != node && is_marked(left, *other) {
-            return true;
-        }
-    }
-    false
+    other != node && (node < other || !is_in(givers.row(other), node))
+}
+
+fn is_in(row: &[usize], node: usize) -> bool
+    ensures { result ≡ list_any (λ r. r == node) row.now }
+{
+    row.iter().any(|other| *other == node)
 }

@@ -1,10 +1,9 @@
 //! Nodes that need one another.
 ghost use Rattle.std.specs.Prelude.{◌≡◌, ◌↔◌, ℕ, Contains, IfNone, IfOk, IfSome, length, Some};
 ghost use Rattle.std.specs.Bool.{OnFalse, OnTrue};
-ghost use Rattle.std.specs.List.Sorted.{IsStrictlyIncreasing};
 ghost use Rattle.requisites.specs.Nodes.{AreReversed, IsMarked};
 ghost use Rattle.requisites.specs.Sources.{HasSource};
-ghost use Rattle.install_order.specs.Steps.{AreReached, IsAnyLeft, IsGreatestRoot, IsOnly, IsReached, IsRing, IsRoot};
+ghost use Rattle.install_order.specs.Rings.{AreReached, IsAnyLeft, IsGreatestRoot, IsOnly, IsReached, IsRing, IsRoot};
 
 use requisites::{NoMemory, Rows, is_marked, least_sources};
 use std::alloc::Global;

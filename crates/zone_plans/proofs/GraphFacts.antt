@@ -203,5 +203,5 @@ need_asked readings asked k reading need are below at inside =
 pub item_inside : (xs : List (List ℕ)) (i : ℕ) (x : List ℕ) → i < length xs → x ≡ get_or xs i x → Contains xs x
 item_inside xs i x below at = (i, below, sym at)
 
-pub list_of_item : (f : ReadingLists → List (List ℕ)) (xs : List ReadingLists) (i : ℕ) (x : ReadingLists) → i < length xs → x ≡ get_or xs i x → get_or (map f xs) i [] ≡ f x
+pub list_of_item : {X : Type 0} (f : X → List (List ℕ)) (xs : List X) (i : ℕ) (x : X) → i < length xs → x ≡ get_or xs i x → get_or (map f xs) i [] ≡ f x
 list_of_item f xs i x below at = at_map f xs i x [] below ∙ ap f (sym at)

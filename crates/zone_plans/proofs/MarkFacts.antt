@@ -10,7 +10,7 @@ use Rattle.requisites.specs.Nodes.{IsMarked, Links, mark_of}
 use Rattle.requisites.specs.Sources.{AreLeastSources, HasSource, source_of}
 use Rattle.requisites.proofs.LeadsFacts.{leads_more}
 use Rattle.requisites.proofs.SourceFacts.{marked_inside}
-use Rattle.install_order.specs.Steps.{AreSteps, IsClosed}
+use Rattle.install_order.specs.Steps.{AreInOrder, IsClosed}
 use Rattle.std.proofs.lemmas.List.Elements.{Contains-get_or}
 use Rattle.chains.specs.Cuts.{id_at}
 use Rattle.chains.proofs.PartFacts.{at_map}
@@ -69,7 +69,7 @@ reached_closed needs starts members reached = λ p q marked link.
     reached.whole q (record { start = from.start; marked = from.marked; leads = leads_more from.leads (record { listed = link.listed; index = omega (arith, index, reached.len) }) })
 
 -- what stands in a step is the index of an id
-pub within_by : (ids : List (List ℕ)) (needs : List (List ℕ)) (starts members : List Bool) (steps : List (List ℕ)) → length members ≡ length ids → AreSteps needs members steps → AreWithin ids steps
+pub within_by : (ids : List (List ℕ)) (needs : List (List ℕ)) (starts members : List Bool) (steps : List (List ℕ)) → length members ≡ length ids → AreInOrder needs members steps → AreWithin ids steps
 within_by ids needs starts members steps len stepped = λ k p below inside.
     let marked = stepped.only p (record { step = get_or steps k []; listed = Contains-get_or steps k [] below; member = inside }) in
     omega (arith, marked_inside members p marked, len)

@@ -1,15 +1,13 @@
 -- What chosen plans have together is a plan.
-use Rattle.std.proofs.Common.{◌≡◌, ◌&&◌, ℕ, List, [], ◌∷◌, Bool, true, false, cond, Option, Some, None, refl, sym, ap, subst, inl, inr}
-use Rattle.std.specs.Prelude.{IsSomeAnd}
+use Rattle.std.proofs.Common.{◌≡◌, ◌&&◌, ℕ, List, [], ◌∷◌, ◌++◌, Bool, true, false, cond, Option, Some, None, refl, sym, ap, subst, inl, inr}
 use Rattle.std.specs.List.{Contains, filter, find, flat_map}
 use Rattle.std.proofs.lemmas.List.Elements.{Contains-append_cases, Contains-append_left, Contains-append_right}
 use Rattle.zone_lists.specs.declared.zones.ZoneRow.{ZoneRow}
-use Rattle.catalogue.specs.Content.{Content, IsCatalogued, Supersedes, ids_of, record_of}
+use Rattle.catalogue.specs.Content.{Content, IsCatalogued, ids_of}
 use Rattle.catalogue.specs.Ids.{in_order}
-use Rattle.catalogue.specs.declared.sysmod.Sysmod.{Sysmod}
 use Rattle.catalogue.proofs.IdFacts.{in_order_ascends, in_order_has}
-use Rattle.supersede.specs.Giving.{gives, givers_of, is_candidate, is_there, needs_in, sup_of}
-use Rattle.supersede.specs.Leading.{Gives, IsThere}
+use Rattle.supersede.specs.Giving.{gives, givers_of, is_candidate, is_there, needs_in}
+use Rattle.supersede.specs.Leading.{Gives, IsThere, IsWay}
 use Rattle.supersede.proofs.LeadingFacts.{gives_is, there_is}
 use Rattle.requisites.specs.World.{IsChosen, IsGood, IsGoodGiver, IsPick, PicksFor}
 use Rattle.requisites.proofs.LeadsFacts.{leads_closed, leads_itself, leads_more}
@@ -23,6 +21,7 @@ use Rattle.chains.proofs.OrderFacts.{find_least}
 use Rattle.chains.proofs.SearchFacts.{both_true, first_inside, first_true, inside_cases, kept_from, kept_inside, none_inside, rest_inside, second_true}
 use Rattle.chains.proofs.StatusFacts.{candidate_gives, find_none, find_some, not_good}
 use Rattle.chains.proofs.VerdictFacts.{found_verdict}
+use Rattle.zone_plans.specs.Graphs.{givers_or, known_givers}
 use Rattle.zone_plans.specs.Members.{IsPlanned, plan_by, plan_in, united}
 
 -- ---- lists of lists
@@ -201,24 +200,36 @@ module _ (content : Content) (rows : List ZoneRow) where
           (gives_is content z need).0 (kept_from (λ (giver : List ℕ). gives content giver need) (ids_of content) z kept.member).passes;
     }
 
-  -- ---- what one that supersedes gives
+  -- ---- what gives one
 
-  names_step : (other id : List ℕ) (found : Option Sysmod) → Contains (sup_of found) id → IsSomeAnd found (λ sysmod. Contains sysmod.sup id)
-  names_step other id None inside = absurd (none_inside id inside)
-  names_step other id (Some sysmod) inside = inside
+  pub known_says : (id z : List ℕ) → Contains (known_givers content rows id) z → Gives content z id
+  known_says id z inside = go (candidates_unless_there content rows id) refl inside where
+    go : (o : Option (List (List ℕ))) → candidates_unless_there content rows id ≡ o → Contains (givers_or o (givers_of content id)) z → Gives content z id
+    go None e inside = (gives_is content z id).0 (kept_from (λ (giver : List ℕ). gives content giver id) (ids_of content) z inside).passes
+    go (Some known) e inside = (answer_says id known e).each z inside
 
-  step_names : (other id : List ℕ) (found : Option Sysmod) → IsSomeAnd found (λ sysmod. Contains sysmod.sup id) → Contains (sup_of found) id
-  step_names other id None none = absurd none
-  step_names other id (Some sysmod) inside = inside
-
-  pub supersedes_by : (other id : List ℕ) → Contains (sup_of (record_of content other)) id → Supersedes content other id
-  supersedes_by other id inside = names_step other id (record_of content other) inside
-
-  pub named_by : (other id : List ℕ) → Supersedes content other id → Contains (sup_of (record_of content other)) id
-  named_by other id step = step_names other id (record_of content other) step
-
-  pub gives_up : (other id need : List ℕ) → IsCatalogued content other → Supersedes content other id → Gives content id need → Gives content other need
-  gives_up other id need listed step given = record { catalogued = listed; way = id ∷ given.way; leads = (step, given.leads) }
+  pub known_has : (id z : List ℕ) → is_candidate content rows z ≡ true → Gives content z id → Contains (known_givers content rows id) z
+  known_has id z candidate given = go (candidates_unless_there content rows id) refl where
+    go : (o : Option (List (List ℕ))) → candidates_unless_there content rows id ≡ o → Contains (givers_or o (givers_of content id)) z
+    go None e = kept_inside (λ (giver : List ℕ). gives content giver id) (ids_of content) z (catalogued z candidate) ((gives_is content z id).1 given)
+    go (Some known) e =
+        let all : candidates_unless_there content rows id ≡ Some (filter (λ giver. is_candidate content rows giver) (givers_of content id)) = answer_for id (answer_says id known e).absent in
+        let same : known ≡ filter (λ giver. is_candidate content rows giver) (givers_of content id) = cc in
+        let P : List (List ℕ) → Type 0 = λ l. Contains l z in
+        subst P (sym same) (answer_has id z candidate given)
 
   pub gives_itself : (id : List ℕ) → is_candidate content rows id ≡ true → Gives content id id
   gives_itself id candidate = (gives_is content id id).0 (candidate_gives content rows id candidate)
+
+-- ways that lead on
+way_joined : (content : Content) (from : List ℕ) (way : List (List ℕ)) (between : List ℕ) (more : List (List ℕ)) (to : List ℕ) → IsWay content from way between → IsWay content between more to → IsWay content from (way ++ more) to
+way_joined content from [] between more to same later = let P : List ℕ → Type 0 = λ x. IsWay content x more to in subst P (sym same) later
+way_joined content from (next ∷ way) between more to first later = (first.0, way_joined content next way between more to first.1 later)
+
+-- what gives a SYSMOD gives what that gives
+pub gives_joined : (content : Content) (giver id other : List ℕ) → Gives content giver id → Gives content id other → Gives content giver other
+gives_joined content giver id other first second = record {
+  catalogued = first.catalogued;
+  way = first.way ++ second.way;
+  leads = way_joined content giver first.way id second.way other first.leads second.leads;
+}

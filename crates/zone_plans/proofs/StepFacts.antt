@@ -1,21 +1,23 @@
 -- The members of a plan, by index and by id.
 use Rattle.std.proofs.Common.{◌≡◌, ◌∙◌, ◌<◌, ◌⊎◌, ℕ, List, [], ◌∷◌, ◌++◌, Bool, true, false, length, get_or, map, refl, sym, ap, subst, inl, inr, arith}
 use Rattle.std.specs.List.{Contains, filter}
-use Rattle.std.proofs.lemmas.List.{length-map, map-append}
+use Rattle.std.proofs.lemmas.Bool.{cases_lt}
+use Rattle.std.proofs.lemmas.List.{get_or_past, length-map, map-append}
 use Rattle.zone_lists.specs.declared.zones.ZoneRow.{ZoneRow}
-use Rattle.catalogue.specs.Content.{Content, Supersedes, record_of}
+use Rattle.catalogue.specs.Content.{Content}
 use Rattle.catalogue.specs.Ids.{Ascend}
-use Rattle.supersede.specs.Giving.{givers_of, is_candidate, is_there, needs_in, sup_of}
+use Rattle.supersede.specs.Giving.{givers_of, is_candidate, is_there, needs_in}
 use Rattle.supersede.specs.Leading.{Gives, IsThere}
 use Rattle.supersede.proofs.LeadingFacts.{there_is}
 use Rattle.requisites.specs.Leads.{Leads}
-use Rattle.requisites.specs.Nodes.{AreReversed, IsMarked, Links, row}
+use Rattle.requisites.specs.Nodes.{IsMarked, Links, row}
 use Rattle.requisites.specs.World.{IsGivenIn, IsPlan}
 use Rattle.requisites.proofs.LeadsFacts.{leads_closed, leads_itself, leads_more}
 use Rattle.requisites.proofs.SourceFacts.{marked_inside}
-use Rattle.install_order.specs.Left.{AreLeft}
-use Rattle.install_order.specs.Steps.{AreSteps, InOrder, IsClosed, IsNext, StandsIn}
+use Rattle.install_order.specs.Left.{AreGivers, AreLeft}
+use Rattle.install_order.specs.Steps.{AreInOrder, AreNext, IsClosed, IsNext, StandsIn}
 use Rattle.install_order.proofs.PutFacts.{stands_before, stands_cases}
+use Rattle.install_order.proofs.RingFacts.{leads_joined}
 use Rattle.chains.specs.Candidates.{candidates_unless_there}
 use Rattle.chains.specs.Cuts.{id_at}
 use Rattle.chains.specs.Indices.{AreIndicesOf, RowsAre}
@@ -26,10 +28,10 @@ use Rattle.chains.specs.declared.verdict.Status.TheVariants as status
 use Rattle.chains.proofs.AnswerFacts.{index_is}
 use Rattle.chains.proofs.IndexFacts.{at_inside, inside_at}
 use Rattle.chains.proofs.PartFacts.{at_map}
-use Rattle.chains.proofs.SearchFacts.{first_inside, map_from, map_inside, rest_inside}
-use Rattle.zone_plans.specs.Graphs.{AreGiven, AreReachedFrom, AreStartsOf, ReadingLists, ids_of_steps, needs_at, reading_of, sups_at}
+use Rattle.chains.proofs.SearchFacts.{first_inside, map_from, map_inside, none_inside, rest_inside}
+use Rattle.zone_plans.specs.Graphs.{AreGiven, AreReachedFrom, AreStartsOf, ReadingLists, ids_of_steps, known_givers, list_at, needs_at, reading_of}
 use Rattle.zone_plans.specs.Members.{AreStepsAfter, AreZoneSteps, HasCause, IsGivenBy, IsPlanned, NeedsMember, joined, united}
-use Rattle.zone_plans.proofs.PlannedFacts.{answer_for, answer_has, answer_says, catalogued, chosen_in_united, flat_from, flat_inside, gives_itself, gives_up, member_candidate, named_by, need_given, planned, supersedes_by}
+use Rattle.zone_plans.proofs.PlannedFacts.{answer_for, answer_has, answer_says, catalogued, chosen_in_united, flat_from, flat_inside, gives_itself, gives_joined, known_has, known_says, member_candidate, need_given, planned}
 
 -- ---- steps by id
 
@@ -53,18 +55,18 @@ joined_from ids steps id inside =
     let at = map_from (id_at ids) step.from id (subst P (sym step.is) from.has) in
     record { index = at.from; stands = record { step = step.from; listed = step.member; member = at.member }; is = at.is }
 
-module _ (content : Content) (rows : List ZoneRow) (chosen ids : List (List ℕ)) (readings : List ReadingLists) (below above : List (List ℕ)) (left : List Bool) (needs : List (List ℕ)) (starts members : List Bool) (steps : List (List ℕ))
+module _ (content : Content) (rows : List ZoneRow) (chosen ids : List (List ℕ)) (readings : List ReadingLists) (lists : List (List (List ℕ))) (above : List (List ℕ)) (left : List Bool) (needs : List (List ℕ)) (starts members : List Bool) (steps : List (List ℕ))
     (ascend : Ascend ids)
     (are : ids ≡ united content rows chosen)
     (are_good : (id : List ℕ) → Contains chosen id → status_of (verdict_of content rows id) ≡ status.Good)
     (read : readings ≡ map (reading_of content rows) ids)
-    (indexed : RowsAre (λ p indices. AreIndicesOf ids (sups_at readings p) indices) (length readings) below)
-    (reversed : AreReversed below (length ids) above)
-    (are_left : AreLeft above (length ids) left)
+    (known : lists ≡ map (known_givers content rows) ids)
+    (indexed : RowsAre (λ p indices. AreIndicesOf ids (list_at lists p) indices) (length lists) above)
+    (left_are : AreGivers above (length ids) → AreLeft above (length ids) left)
     (given : AreGiven (candidates_unless_there content rows) ids left readings needs)
     (started : AreStartsOf ids above left chosen starts)
     (reached : AreReachedFrom needs starts members)
-    (stepped : AreSteps needs members steps) where
+    (stepped : AreInOrder needs members steps) where
   as_many : length readings ≡ length ids
   as_many = ap length read ∙ length-map ids (reading_of content rows)
 
@@ -72,11 +74,6 @@ module _ (content : Content) (rows : List ZoneRow) (chosen ids : List (List ℕ)
   reading_at p d within = ap (λ (l : List ReadingLists). get_or l p d) read ∙ at_map (reading_of content rows) ids p [] d within
 
   -- what is read of a member, by its index
-  sup_at : (p : ℕ) → p < length ids → sups_at readings p ≡ sup_of (record_of content (id_at ids p))
-  sup_at p within =
-      at_map (λ (r : ReadingLists). r.sup) readings p (reading_of content rows []) [] (omega (arith, within, as_many))
-      ∙ ap (λ (r : ReadingLists). r.sup) (reading_at p (reading_of content rows []) within)
-
   needs_of : (p : ℕ) → p < length ids → needs_at readings p ≡ needs_in content rows (id_at ids p)
   needs_of p within =
       at_map (λ (r : ReadingLists). r.needs) readings p (reading_of content rows []) [] (omega (arith, within, as_many))
@@ -88,19 +85,49 @@ module _ (content : Content) (rows : List ZoneRow) (chosen ids : List (List ℕ)
   candidate_at : (p : ℕ) → p < length ids → is_candidate content rows (id_at ids p) ≡ true
   candidate_at p within = member_candidate content rows chosen are_good (id_at ids p) (in_all p within)
 
-  -- ---- superseding
+  -- ---- what gives a member
 
-  superseded_at : (p q : ℕ) → Links above (length ids) p q → Supersedes content (id_at ids q) (id_at ids p)
-  superseded_at p q link =
-      let turned = reversed.only q p link.listed in
-      let link_index = link.index in
-      let P : List (List ℕ) → Type 0 = λ l. Contains l (id_at ids p) in
-      supersedes_by content rows (id_at ids q) (id_at ids p) (subst P (sup_at q link.index) ((indexed.each q (omega (arith, link_index, as_many))).listed p turned.listed))
+  lists_len : length lists ≡ length ids
+  lists_len = ap length known ∙ length-map ids (known_givers content rows)
+
+  list_is : (p : ℕ) → p < length ids → list_at lists p ≡ known_givers content rows (id_at ids p)
+  list_is p within = ap (λ (l : List (List (List ℕ))). get_or l p []) known ∙ at_map (known_givers content rows) ids p [] [] within
+
+  row_inside : (p q : ℕ) → Contains (row above p) q → p < length ids
+  row_inside p q listed = elim (cases_lt p (length ids)) [
+    | inl within ↦ within
+    | inr past ↦
+        (let none : row above p ≡ [] = get_or_past above p [] (omega (arith, indexed.len, lists_len)) in
+        let P : List ℕ → Type 0 = λ l. Contains l q in
+        absurd (none_inside q (subst P none listed)))
+  ]
+
+  given_at : (p q : ℕ) → Contains (row above p) q → Gives content (id_at ids q) (id_at ids p)
+  given_at p q listed =
+      let within = row_inside p q listed in
+      let P : List (List ℕ) → Type 0 = λ l. Contains l (id_at ids q) in
+      known_says content rows (id_at ids p) (id_at ids q) (subst P (list_is p within) ((indexed.each p (omega (arith, within, lists_len))).listed q listed))
+
+  at_given : (p q : ℕ) → p < length ids → q < length ids → Gives content (id_at ids q) (id_at ids p) → Contains (row above p) q
+  at_given p q within inside gives =
+      let P : List (List ℕ) → Type 0 = λ l. Contains l (id_at ids q) in
+      (indexed.each p (omega (arith, within, lists_len))).whole q inside (subst P (sym (list_is p within)) (known_has content rows (id_at ids p) (id_at ids q) (candidate_at q inside) gives))
+
+  are_givers : AreGivers above (length ids)
+  are_givers = record {
+    within = λ p q listed. (let inside = row_inside p q listed in (indexed.each p (omega (arith, inside, lists_len))).within q listed);
+    on = λ p q r first second.
+        let r_inside = (let inside = row_inside q r second in (indexed.each q (omega (arith, inside, lists_len))).within r second) in
+        at_given p r (row_inside p q first) r_inside (gives_joined content (id_at ids r) (id_at ids q) (id_at ids p) (given_at q r second) (given_at p q first));
+  }
+
+  are_left : AreLeft above (length ids) left
+  are_left = left_are are_givers
 
   gives_above : (p q : ℕ) (need : List ℕ) → Leads (Links above (length ids)) p q → Gives content (id_at ids p) need → Gives content (id_at ids q) need
   gives_above p q need leads gives =
       leads_closed (λ k. Gives content (id_at ids k) need)
-      (λ u v here link. gives_up content rows (id_at ids v) (id_at ids u) need (catalogued content rows (id_at ids v) (candidate_at v link.index)) (superseded_at u v link) here)
+      (λ u v here link. gives_joined content (id_at ids v) (id_at ids u) need (given_at u v link.listed) here)
       gives leads
 
   -- ---- needs
@@ -211,6 +238,58 @@ module _ (content : Content) (rows : List ZoneRow) (chosen ids : List (List ℕ)
       (λ u v here link. record { marked = members_closed u v here.marked link; leads = leads_more here.leads (needs_member u v here.marked link) })
       (record { marked = marked; leads = leads_itself (NeedsMember content rows (joined (ids_of_steps ids steps))) (id_at ids p) }) leads).leads
 
+  same_index : (p q : ℕ) → p < length ids → q < length ids → id_at ids p ≡ id_at ids q → p ≡ q
+  same_index p q first second same = index_is ids (id_at ids p) p q ascend (record { within = first; is = refl }) (record { within = second; is = sym same })
+
+  -- the index of a member to which needs lead from one
+  record IsLedTo (p : ℕ) (id : List ℕ) : Type 0 where
+    index : ℕ
+    is : id_at ids index ≡ id
+    marked : IsMarked members index
+    leads : Leads (Links needs (length members)) p index
+
+  link_of : (p : ℕ) (id : List ℕ) → IsMarked members p → NeedsMember content rows (joined (ids_of_steps ids steps)) (id_at ids p) id → IsLedTo p id
+  link_of p id marked needed =
+      let at = joined_from ids steps id needed.listed in
+      let q_marked = stepped.only at.index at.stands in
+      let inside = member_inside at.index q_marked in
+      let within = member_inside p marked in
+      let N : List (List ℕ) → Type 0 = λ l. Contains l needed.need in
+      let G : List ℕ → Type 0 = λ x. Gives content x needed.need in
+      record {
+        index = at.index;
+        is = at.is;
+        marked = q_marked;
+        leads = leads_more (leads_itself (Links needs (length members)) p) (record {
+          listed = (given.each p (omega (arith, within, as_many))).whole at.index (record {
+            need = needed.need;
+            needed = subst N (sym (needs_of p within)) needed.needs;
+            givers = filter (λ giver. is_candidate content rows giver) (givers_of content needed.need);
+            answer = answer_for content rows needed.need needed.absent;
+            gives = record {
+              within = inside;
+              marked = member_left at.index q_marked;
+              listed = answer_has content rows needed.need (id_at ids at.index) (candidate_at at.index inside) (subst G (sym at.is) needed.gives);
+            };
+          });
+          index = omega (arith, inside, members_len);
+        });
+      }
+
+  led_on : (p : ℕ) (u v : List ℕ) → IsLedTo p u → NeedsMember content rows (joined (ids_of_steps ids steps)) u v → IsLedTo p v
+  led_on p u v here needed =
+      let P : List ℕ → Type 0 = λ x. NeedsMember content rows (joined (ids_of_steps ids steps)) x v in
+      let next = link_of here.index v here.marked (subst P (sym here.is) needed) in
+      record { index = next.index; is = next.is; marked = next.marked; leads = leads_joined here.leads next.leads }
+
+  leads_to : (p q : ℕ) → IsMarked members p → IsMarked members q → Leads (NeedsMember content rows (joined (ids_of_steps ids steps))) (id_at ids p) (id_at ids q) → Leads (Links needs (length members)) p q
+  leads_to p q first second leads =
+      let led : IsLedTo p (id_at ids q) =
+      leads_closed (λ x. IsLedTo p x) (led_on p) (record { index = p; is = refl; marked = first; leads = leads_itself (Links needs (length members)) p }) leads in
+      let same : led.index ≡ q = same_index led.index q (member_inside led.index led.marked) (member_inside q second) led.is in
+      let P : ℕ → Type 0 = λ k. Leads (Links needs (length members)) p k in
+      subst P same led.leads
+
   -- ---- plans
 
   -- steps are a plan where what a member of one needs stands in one
@@ -236,14 +315,11 @@ module _ (content : Content) (rows : List ZoneRow) (chosen ids : List (List ℕ)
 
   -- ---- order
 
-  same_index : (p q : ℕ) → p < length ids → q < length ids → id_at ids p ≡ id_at ids q → p ≡ q
-  same_index p q first second same = index_is ids (id_at ids p) p q ascend (record { within = first; is = refl }) (record { within = second; is = sym same })
-
   joined_steps : (before : List (List ℕ)) (step : List ℕ) → ids_of_steps ids (before ++ step ∷ []) ≡ ids_of_steps ids before ++ map (id_at ids) step ∷ []
   joined_steps before step = map-append (λ (s : List ℕ). map (id_at ids) s) before (step ∷ [])
 
   order_by_id : (before some : List (List ℕ)) → ((p : ℕ) → StandsIn before p → IsMarked members p) → ((p : ℕ) → StandsIn some p → IsMarked members p) → ((p q : ℕ) → StandsIn before p → Links needs (length members) p q → StandsIn before q)
-      → InOrder needs (length members) before some → AreStepsAfter content rows (joined (ids_of_steps ids steps)) (ids_of_steps ids before) (ids_of_steps ids some)
+      → AreNext needs (length members) before some → AreStepsAfter content rows (joined (ids_of_steps ids steps)) (ids_of_steps ids before) (ids_of_steps ids some)
   order_by_id before [] marked are_marked closed order = tt
   order_by_id before (step ∷ later) marked are_marked closed order = (
     record {
@@ -256,12 +332,15 @@ module _ (content : Content) (rows : List ZoneRow) (chosen ids : List (List ℕ)
           let P : ℕ → Type 0 = λ k. StandsIn before k in
           next.once at.from at.member (subst P (sym same) other.stands);
       plan = (let P : List (List (List ℕ)) → Type 0 = λ l. IsPlan (world_of content rows) (joined l) in subst P (joined_steps before step) (is_plan (before ++ step ∷ []) still still_closed));
-      together = λ a b first second.
+      back = λ a b first second leads.
           let p = map_from (id_at ids) step a first in
           let q = map_from (id_at ids) step b second in
-          let P : List ℕ → Type 0 = λ x. Leads (NeedsMember content rows (joined (ids_of_steps ids steps))) x b in
-          let Q : List ℕ → Type 0 = λ x. Leads (NeedsMember content rows (joined (ids_of_steps ids steps))) (id_at ids p.from) x in
-          subst P p.is (subst Q q.is (leads_by_id p.from q.from (own_marked p.from p.member) (next.together p.from q.from p.member q.member)));
+          let A : List ℕ → Type 0 = λ x. Leads (NeedsMember content rows (joined (ids_of_steps ids steps))) x b in
+          let B : List ℕ → Type 0 = λ x. Leads (NeedsMember content rows (joined (ids_of_steps ids steps))) (id_at ids p.from) x in
+          let to = leads_to p.from q.from (own_marked p.from p.member) (own_marked q.from q.member) (subst B (sym q.is) (subst A (sym p.is) leads)) in
+          let C : List ℕ → Type 0 = λ x. Leads (NeedsMember content rows (joined (ids_of_steps ids steps))) x a in
+          let D : List ℕ → Type 0 = λ x. Leads (NeedsMember content rows (joined (ids_of_steps ids steps))) (id_at ids q.from) x in
+          subst C q.is (subst D p.is (leads_by_id q.from p.from (own_marked q.from q.member) (next.back p.from q.from p.member q.member to)));
     },
     (let R : List (List (List ℕ)) → Type 0 = λ l. AreStepsAfter content rows (joined (ids_of_steps ids steps)) l (ids_of_steps ids later) in
         subst R (joined_steps before step) (order_by_id (before ++ step ∷ []) later still later_marked still_closed order.1)),
@@ -338,18 +417,16 @@ module _ (content : Content) (rows : List ZoneRow) (chosen ids : List (List ℕ)
         let at = joined_from ids steps id inside in
         let P : List ℕ → Type 0 = λ x. IsPlanned content rows chosen x in
         subst P at.is (planned content rows chosen are_good (id_at ids at.index) (in_all at.index (member_inside at.index (stepped.only at.index at.stands))));
-    alone = λ a b first second supersedes.
+    alone = λ a b first second gives.
         let p = joined_from ids steps a first in
         let q = joined_from ids steps b second in
         let p_member = stepped.only p.index p.stands in
         let q_member = stepped.only q.index q.stands in
         let p_inside = member_inside p.index p_member in
         let q_inside = member_inside q.index q_member in
-        let S : List ℕ → Type 0 = λ x. Supersedes content x a in
-        let T : List ℕ → Type 0 = λ x. Supersedes content (id_at ids q.index) x in
-        let named = named_by content rows (id_at ids q.index) (id_at ids p.index) (subst T (sym p.is) (subst S (sym q.is) supersedes)) in
-        let N : List (List ℕ) → Type 0 = λ l. Contains l (id_at ids p.index) in
-        let turned = reversed.turned q.index p.index (record { listed = (indexed.each q.index (omega (arith, q_inside, as_many))).whole p.index p_inside (subst N (sym (sup_at q.index q_inside)) named); index = p_inside }) in
+        let S : List ℕ → Type 0 = λ x. Gives content x a in
+        let T : List ℕ → Type 0 = λ x. Gives content (id_at ids q.index) x in
+        let turned = at_given p.index q.index p_inside q_inside (subst T (sym p.is) (subst S (sym q.is) gives)) in
         let same : q.index ≡ p.index = are_left.alone p.index q.index (member_left p.index p_member) (member_left q.index q_member) turned in
         sym q.is ∙ ap (id_at ids) same ∙ p.is;
   }

@@ -1,33 +1,47 @@
 -- No part of what is promised: private contracts cite it. Members by their indices in a list that ascends.
 use Rattle.std.specs.Prelude.{◌≡◌, ◌<◌, ◌++◌, ◌⊎◌, ℕ, Bool, List, [], Option, Some, None, length, map, Contains, slice_index_or}
+use Rattle.std.specs.Global.{Vec}
 use Rattle.std.specs.List.{flat_map}
+use Rattle.mcs_reader.specs.declared.id.Id.{Id}
 use Rattle.holddata.specs.declared.hold.Hold.{Hold}
 use Rattle.zone_lists.specs.declared.zones.ZoneRow.{ZoneRow}
 use Rattle.catalogue.specs.Content.{Content, holds_on, record_of}
 use Rattle.catalogue.specs.Ids.{in_order}
 use Rattle.catalogue.specs.declared.sysmod.Sysmod.{Sysmod}
-use Rattle.supersede.specs.Giving.{conds_of, needs_where, requisites_of, sup_of}
+use Rattle.supersede.specs.Giving.{conds_of, givers_of, needs_where, requisites_of}
 use Rattle.requisites.specs.Leads.{Leads}
 use Rattle.requisites.specs.Nodes.{IsMarked, Links}
 use Rattle.requisites.specs.Sources.{HasSource}
+use Rattle.chains.specs.Candidates.{candidates_unless_there}
 use Rattle.chains.specs.Cuts.{id_at}
 use Rattle.chains.specs.Indices.{RowsAre}
 use Rattle.chains.specs.Sights.{reasons_in}
 
--- What is read of a member: what it needs in the zone, and what it supersedes.
+-- What is read of a member: what it needs in the zone.
 pub record ReadingLists : Type 0 where
   pub needs : List (List ℕ)
-  pub sup : List (List ℕ)
 
 -- by a record and the holds
 abbrev pub reading_from : List ZoneRow → Option Sysmod → List Hold → ReadingLists
-reading_from rows found holds = record {
-  needs = requisites_of found ++ reasons_in holds ++ needs_where rows (conds_of found);
-  sup = sup_of found;
-}
+reading_from rows found holds = record { needs = requisites_of found ++ reasons_in holds ++ needs_where rows (conds_of found) }
 
 abbrev pub reading_of : Content → List ZoneRow → List ℕ → ReadingLists
 reading_of content rows id = reading_from rows (record_of content id) (holds_on content id)
+
+-- what is answered for a SYSMOD, or all that give it
+abbrev pub givers_or : Option (List (List ℕ)) → List (List ℕ) → List (List ℕ)
+givers_or None all = all
+givers_or (Some known) all = known
+
+-- SYSMODs that give one: all candidates that do, and maybe others
+abbrev pub known_givers : Content → List ZoneRow → List ℕ → List (List ℕ)
+known_givers content rows id = givers_or (candidates_unless_there content rows id) (givers_of content id)
+
+abbrev pub lists_of : List (Vec Id) → List (List (List ℕ))
+lists_of lists = map (λ list. list.items) lists
+
+abbrev pub list_at : List (List (List ℕ)) → ℕ → List (List ℕ)
+list_at lists p = slice_index_or lists p []
 
 -- all that is needed
 abbrev pub all_needs : List ReadingLists → List (List ℕ)
@@ -53,10 +67,6 @@ pub record AreGivenIndices (f : List ℕ → Option (List (List ℕ))) (ids : Li
   pub whole : (q : ℕ) → IsGivenIndex f ids left needs q → Contains indices q
 
 -- what is read of the member at an index
-abbrev pub sups_at : List ReadingLists → ℕ → List (List ℕ)
-sups_at readings p = slice_index_or (map (λ reading. reading.sup) readings) p []
-
--- the same for each member
 abbrev pub needs_at : List ReadingLists → ℕ → List (List ℕ)
 needs_at readings p = slice_index_or (map (λ reading. reading.needs) readings) p []
 

@@ -3,7 +3,7 @@
 use Rattle.std.specs.Prelude.{◌≡◌, ◌++◌, ℕ, List, [], ◌∷◌, Contains}
 use Rattle.std.specs.List.{flat_map}
 use Rattle.zone_lists.specs.declared.zones.ZoneRow.{ZoneRow}
-use Rattle.catalogue.specs.Content.{Content, Supersedes}
+use Rattle.catalogue.specs.Content.{Content}
 use Rattle.catalogue.specs.Ids.{in_order}
 use Rattle.supersede.specs.Giving.{needs_in}
 use Rattle.supersede.specs.Leading.{Gives, IsThere}
@@ -57,13 +57,14 @@ pub record IsPlanned (content : Content) (rows : List ZoneRow) (chosen : List (L
   pub listed : Contains (plan_in content rows resolver) id
 
 -- What may come as a step after others. It has an id, and none of its ids stands in another step. With it, what is
--- installed so far is a plan: each need of each is there, or one of them gives it. And all in it need one another.
+-- installed so far is a plan: each need of each is there, or one of them gives it. And if needs lead from one in it to another,
+-- they lead back.
 pub record IsNextStep (content : Content) (rows : List ZoneRow) (members : List (List ℕ)) (before : List (List (List ℕ))) (step : List (List ℕ)) : Type 0 where
   pub first : List ℕ
   pub begun : Contains step first
   pub once : (id : List ℕ) → Contains step id → ¬ Contains (joined before) id
   pub plan : IsPlan (world_of content rows) (joined (before ++ step ∷ []))
-  pub together : (a b : List ℕ) → Contains step a → Contains step b → Leads (NeedsMember content rows members) a b
+  pub back : (a b : List ℕ) → Contains step a → Contains step b → Leads (NeedsMember content rows members) a b → Leads (NeedsMember content rows members) b a
 
 -- each step comes after those before it
 abbrev pub AreStepsAfter : Content → List ZoneRow → List (List ℕ) → List (List (List ℕ)) → List (List (List ℕ)) → Type 0
@@ -72,12 +73,12 @@ AreStepsAfter content rows members before (step ∷ later) =
     IsNextStep content rows members before step × AreStepsAfter content rows members (before ++ step ∷ []) later
 
 -- The steps in which is installed what some chosen resolvers want. All members together are a plan; for each chosen resolver
--- there is a member that gives it; no member is there without a cause, or comes of no chosen plan; and no member supersedes
--- another one.
+-- there is a member that gives it; no member is there without a cause, or comes of no chosen plan; and no member gives
+-- another one, itself or through others.
 pub record AreZoneSteps (content : Content) (rows : List ZoneRow) (chosen : List (List ℕ)) (steps : List (List (List ℕ))) : Type 0 where
   pub order : AreStepsAfter content rows (joined steps) [] steps
   pub plan : IsPlan (world_of content rows) (joined steps)
   pub resolved : (id : List ℕ) → Contains chosen id → IsGivenBy content (joined steps) id
   pub caused : (id : List ℕ) → Contains (joined steps) id → HasCause content rows chosen (joined steps) id
   pub planned : (id : List ℕ) → Contains (joined steps) id → IsPlanned content rows chosen id
-  pub alone : (a b : List ℕ) → Contains (joined steps) a → Contains (joined steps) b → Supersedes content b a → b ≡ a
+  pub alone : (a b : List ℕ) → Contains (joined steps) a → Contains (joined steps) b → Gives content b a → b ≡ a

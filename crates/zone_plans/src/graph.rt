@@ -1,4 +1,4 @@
-//! Members by their indices: what each supersedes, and what gives what it needs.
+//! Members by their indices: what gives each, and what gives what it needs.
 ghost use Rattle.std.specs.Prelude.{◌≡◌, ◌<◌, ◌∷◌, [], ℕ, List, Option, true, Some, Contains, IfNone, IfOk, IfSome, OnOk, length, map, option_map};
 ghost use Rattle.std.specs.Global.{Vec};
 ghost use Rattle.std.specs.List.{slice_get};
@@ -7,7 +7,7 @@ ghost use Rattle.catalogue.specs.Ids.{Ascend};
 ghost use Rattle.supersede.specs.Reach.{has};
 ghost use Rattle.requisites.specs.Nodes.{IsMarked};
 ghost use Rattle.chains.specs.Indices.{AreIndicesOf, IsAt, RowsAre};
-ghost use Rattle.zone_plans.specs.Graphs.{AreGiven, AreGivenIndices, AreAnswered, ArePushed, all_needs, sups_at};
+ghost use Rattle.zone_plans.specs.Graphs.{AreGiven, AreGivenIndices, AreAnswered, ArePushed, all_needs, list_at, lists_of};
 
 use crate::reading::Reading;
 use faults::NoMemory;
@@ -19,16 +19,16 @@ use supersede::index_among;
 /// What is answered for a need: the candidates that give it, ascending, unless it is there.
 pub(crate) type Answer = Option<Vec<Id>>;
 
-/// By index, what each member supersedes among the members.
-pub(crate) fn sup_rows(alloc: Global, ids: &[Id], readings: &[Reading]) -> Result<Rows, NoMemory>
+/// By index, which members each list has.
+pub(crate) fn member_rows(alloc: Global, ids: &[Id], lists: &[Vec<Id>]) -> Result<Rows, NoMemory>
     requires { Ascend ids.now }
     ensures { IfOk result (λ rows. RowsAre
-        (λ p indices. AreIndicesOf ids.now (sups_at readings.now p) indices) (length readings.now) rows) }
+        (λ p indices. AreIndicesOf ids.now (list_at (lists_of lists.now) p) indices) (length lists.now) rows) }
 {
     let mut rows = Rows::new(alloc);
     let mut own = Vec::new(alloc);
-    for reading in readings {
-        put_indices(&mut own, ids, reading.sup())?;
+    for list in lists {
+        put_indices(&mut own, ids, list)?;
         rows.push_row(&own)?;
     }
     Ok(rows)
@@ -158,7 +158,12 @@ fn push_one(indices: &mut Vec<usize>, ids: &[Id], left: &[bool], giver: &Id) -> 
 }
 
 // What was answered for one of the needs that were asked for, or what is handed for another.
-fn answer_among<'a>(asked: &[Id], answers: &'a [Answer], other: &'a Answer, id: &Id) -> &'a Answer
+pub(crate) fn answer_among<'a>(
+    asked: &[Id],
+    answers: &'a [Answer],
+    other: &'a Answer,
+    id: &Id,
+) -> &'a Answer
     requires { Ascend asked.now }
     ensures { (f : List ℕ → Option (List (List ℕ)))
         → map (option_map (λ ids. ids.items)) answers.now ≡ map f asked.now

@@ -23,6 +23,7 @@
 
 mod blocked;
 mod choice;
+mod giving;
 mod graph;
 mod holds;
 mod marks;

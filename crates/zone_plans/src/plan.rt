@@ -10,6 +10,7 @@ ghost use Rattle.zone_plans.specs.Members.{AreZoneSteps};
 ghost use Rattle.zone_plans.specs.Plans.{AreTold, IsZonePlan};
 
 use crate::blocked::{HeldHold, held_in};
+use crate::giving::givers_of_all;
 use crate::holds::{HoldOn, HoldResolvers};
 use crate::placing::{chosen_in, place_all, unresolved_in};
 use crate::reading::{needs_of_all, readings};
@@ -66,7 +67,7 @@ impl ZonePlan {
 ///
 /// For each hold one resolver is chosen: of those that are GOOD the received before the others, then one that no
 /// other of them supersedes, then the greatest id. What their chosen plans have is to be installed, but for what
-/// another member supersedes and for what nothing needs then. Holds without such a resolver are named, with what
+/// another member gives and for what nothing needs then. Holds without such a resolver are named, with what
 /// blocks them.
 ///
 /// # Errors
@@ -120,5 +121,6 @@ fn steps_for<P: Published, J: Judge<P>>(
     let readings = readings(alloc, source, zone, &ids)?;
     let asked = needs_of_all(alloc, &readings)?;
     let answers = candidates_for(alloc, source, zone, &asked)?;
-    Ok(zone_steps(alloc, ids, &readings, &asked, &answers, chosen)?)
+    let givers = givers_of_all(alloc, source, zone, &ids)?;
+    Ok(zone_steps(alloc, ids, &givers, &readings, &asked, &answers, chosen)?)
 }

@@ -19,11 +19,10 @@ use std::collections::BTreeSet;
 use std::marker::Model;
 use supersede::Zone;
 
-/// What is read of a member: what it needs in the zone, and what it supersedes.
+/// What is read of a member: what it needs in the zone.
 #[derive(Debug, Drop)]
 pub(crate) struct Reading {
     needs: Vec<Id>,
-    sup: Vec<Id>,
 }
 
 impl Model for Reading {
@@ -31,7 +30,7 @@ impl Model for Reading {
 
     ghost Value = { ReadingLists };
 
-    ghost view = { λ reading. record { needs = reading.needs.items; sup = reading.sup.items } };
+    ghost view = { λ reading. record { needs = reading.needs.items } };
 }
 
 impl Reading {
@@ -39,12 +38,6 @@ impl Reading {
         ensures { result.now ≡ self.now.needs }
     {
         self.needs.as_slice()
-    }
-
-    pub(crate) fn sup(&self) -> &[Id]
-        ensures { result.now ≡ self.now.sup }
-    {
-        self.sup.as_slice()
     }
 }
 
@@ -92,19 +85,13 @@ fn reading_from(
     let mut needs = Vec::new(alloc);
     let Some(sysmod) = sysmod else {
         push_reasons(&mut needs, holds)?;
-        return Ok(Reading {
-            needs,
-            sup: Vec::new(alloc),
-        });
+        return Ok(Reading { needs });
     };
     needs.extend_from_slice(sysmod.pre.as_slice())?;
     needs.extend_from_slice(sysmod.req.as_slice())?;
     push_reasons(&mut needs, holds)?;
     push_where(&mut needs, zone, sysmod.conds.as_slice())?;
-    Ok(Reading {
-        needs,
-        sup: sysmod.sup.into_vec(),
-    })
+    Ok(Reading { needs })
 }
 
 // Adds the reasons of the ERROR holds.

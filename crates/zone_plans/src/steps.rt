@@ -8,16 +8,16 @@ ghost use Rattle.chains.specs.Judge as judge;
 ghost use Rattle.chains.specs.Verdicts.{verdict_of};
 ghost use Rattle.chains.specs.declared.verdict.Status.TheVariants as status;
 ghost use Rattle.zone_lists.specs.declared.zones.ZoneRow.{ZoneRow};
-ghost use Rattle.zone_plans.specs.Graphs.{AreReachedFrom, AreStartsOf, AreWithin, all_needs, ids_of_steps, reading_of};
+ghost use Rattle.zone_plans.specs.Graphs.{AreReachedFrom, AreStartsOf, AreWithin, all_needs, ids_of_steps, known_givers, lists_of, reading_of};
 ghost use Rattle.zone_plans.specs.Members.{AreZoneSteps, united};
 
-use crate::graph::{Answer, need_rows, sup_rows};
+use crate::graph::{Answer, member_rows, need_rows};
 use crate::marks::{left_and_sourced, marks_among, sourced};
 use crate::reading::Reading;
 use faults::NoMemory;
 use install_order::{left_marks, steps};
 use mcs_reader::Id;
-use requisites::{Rows, least_sources, turned};
+use requisites::{Rows, least_sources};
 use std::alloc::Global;
 use std::marker::Model;
 
@@ -83,10 +83,11 @@ fn id_at(ids: &[Id], index: usize) -> Id
 }
 
 /// The steps in which is installed what the chosen plans of some resolvers have, by what was read: what another
-/// member supersedes is left out, and what nothing needs then.
+/// member gives is left out, and what nothing needs then.
 pub(crate) fn zone_steps(
     alloc: Global,
     ids: Vec<Id>,
+    givers: &[Vec<Id>],
     readings: &[Reading],
     asked: &[Id],
     answers: &[Answer],
@@ -97,6 +98,7 @@ pub(crate) fn zone_steps(
     requires chosen { Ascend chosen.now }
     ensures { IfOk result (λ steps. (content : Content) (rows : List ZoneRow)
         → ids.items ≡ united content rows chosen.now
+        → lists_of givers.now ≡ map (known_givers content rows) ids.items
         → readings.now ≡ map (reading_of content rows) ids.items
         → asked.now ≡ all_needs readings.now
         → map (option_map (λ ids. ids.items)) answers.now
@@ -105,7 +107,7 @@ pub(crate) fn zone_steps(
         → judge.status_of (verdict_of content rows id) ≡ status.Good)
         → AreZoneSteps content rows chosen.now steps) }
 {
-    let rows = step_rows(alloc, &ids, readings, asked, answers, chosen)?;
+    let rows = step_rows(alloc, &ids, givers, readings, asked, answers, chosen)?;
     Ok(Steps { ids, rows })
 }
 
@@ -113,6 +115,7 @@ pub(crate) fn zone_steps(
 fn step_rows(
     alloc: Global,
     ids: &[Id],
+    givers: &[Vec<Id>],
     readings: &[Reading],
     asked: &[Id],
     answers: &[Answer],
@@ -124,6 +127,7 @@ fn step_rows(
     ensures within { IfOk result (λ found. AreWithin ids.now found) }
     ensures steps { IfOk result (λ found. (content : Content) (rows : List ZoneRow)
         → ids.now ≡ united content rows chosen.now
+        → lists_of givers.now ≡ map (known_givers content rows) ids.now
         → readings.now ≡ map (reading_of content rows) ids.now
         → asked.now ≡ all_needs readings.now
         → map (option_map (λ ids. ids.items)) answers.now
@@ -132,8 +136,7 @@ fn step_rows(
         → judge.status_of (verdict_of content rows id) ≡ status.Good)
         → AreZoneSteps content rows chosen.now (ids_of_steps ids.now found)) }
 {
-    let below = sup_rows(alloc, ids, readings)?;
-    let above = turned(alloc, &below, ids.len())?;
+    let above = member_rows(alloc, ids, givers)?;
     let left = left_marks(alloc, &above, ids.len())?;
     let needs = need_rows(alloc, ids, &left, readings, asked, answers)?;
     let starts = start_marks(alloc, ids, &above, &left, chosen)?;

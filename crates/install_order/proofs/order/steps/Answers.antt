@@ -1,16 +1,26 @@
-use Rattle.std.proofs.Common.{◌≡◌, ◌∙◌, [], List, Bool, ℕ, subst}
-use Rattle.install_order.specs.Steps.{Goes}
-use Rattle.install_order.proofs.PutFacts.{all_put, put_begins}
+use Rattle.std.proofs.Common.{List, Option, ℕ, length, refl, subst}
+use Rattle.requisites.proofs.TestFacts.{ok_then}
+use Rattle.requisites.specs.Nodes.{IsMarked}
+use Rattle.install_order.specs.Levels.{AreLevels, AreRows}
+use Rattle.install_order.proofs.StepFacts.{are_in_order, are_steps, marked_levels}
 use Rattle.install_order.proofs.order.steps.Goals as goal
 
-pub returns : goal.returns
-returns c =
+pub returns-clause-steps : goal.returns-clause-steps
+returns-clause-steps c =
     let needs = c.args.needs.now in
     let members = c.args.members.now in
-    let left = c.put_all.new.left in
-    let steps = c.put_all.new.steps in
-    let same : c.deref_mut.result.now ≡ members = c.deref_mut.ensures.value ∙ c.in_ok-left.ensures.items in
-    let P : List Bool → Type 0 = λ l. Goes needs l left c.new-steps.result steps in
-    let Q : List (List ℕ) → Type 0 = λ l. Goes needs members left l steps in
-    let goes : Goes needs members left [] steps = subst Q c.new-steps.ensures (subst P same c.in_ok-put_all.ensures.goes) in
-    all_put needs members left steps c.in_ok-put_all.ensures.none (goes.goes members c.requires (put_begins needs members))
+    let levels = c.in_ok-levels.levels.items in
+    let are : AreLevels needs (length members) (IsMarked members) levels = marked_levels needs c.in_ok-rings.rings members _ levels c.in_ok-rings.ensures refl c.in_ok-levels.ensures.levels in
+    ok_then c.rows_by_level.result c.rows_by_level.ensures (λ steps rows.
+    let P : List (Option ℕ) → Type 0 = λ l. AreRows l steps in
+    are_steps needs members levels steps are (subst P c.deref.ensures.value rows))
+
+pub returns-clause-order : goal.returns-clause-order
+returns-clause-order c =
+    let needs = c.args.needs.now in
+    let members = c.args.members.now in
+    let levels = c.in_ok-levels.levels.items in
+    let are : AreLevels needs (length members) (IsMarked members) levels = marked_levels needs c.in_ok-rings.rings members _ levels c.in_ok-rings.ensures refl c.in_ok-levels.ensures.levels in
+    ok_then c.rows_by_level.result c.rows_by_level.ensures (λ steps rows.
+    let P : List (Option ℕ) → Type 0 = λ l. AreRows l steps in
+    are_in_order needs members levels steps are (subst P c.deref.ensures.value rows))

@@ -1,4 +1,4 @@
-use Rattle.install_order.specs.Steps.{AreReached}
+use Rattle.install_order.specs.Rings.{AreReached}
 use Rattle.install_order.proofs.rings.left_with_source.Given as goal
 
 abbrev pub invariant-loop-node : goal.invariant-loop-node

@@ -1,7 +1,7 @@
 use Rattle.std.proofs.Common.{List, Option, ℕ, Bool, length, subst}
 use Rattle.requisites.proofs.TestFacts.{from_none, ok_then}
 use Rattle.requisites.specs.Sources.{AreLeastSources}
-use Rattle.install_order.specs.Steps.{AreReached, IsGreatestRoot, IsOnly, IsRoot}
+use Rattle.install_order.specs.Rings.{AreReached, IsGreatestRoot, IsOnly, IsRoot}
 use Rattle.install_order.proofs.RingFacts.{is_ring, some_root}
 use Rattle.install_order.proofs.rings.ring_of.Goals as goal
 

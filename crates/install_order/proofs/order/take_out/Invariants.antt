@@ -1,6 +1,0 @@
-use Rattle.std.proofs.Common.{take}
-use Rattle.install_order.specs.Steps.{AreTakenOut}
-use Rattle.install_order.proofs.order.take_out.Given as goal
-
-abbrev pub invariant-loop-node : goal.invariant-loop-node
-invariant-loop-node l = AreTakenOut (take l.node-index l.nodes) l.initial.left l.left
