@@ -12,4 +12,5 @@ pub mod ReadFacts
 pub mod RunsFacts
 pub mod ServingFacts
 mod ReplayFacts
+mod ReportFilesFacts
 mod ReportingFacts
