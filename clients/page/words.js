@@ -1,7 +1,9 @@
 // Numbers and times, as the page writes them.
 
+const NUMBERS = new Intl.NumberFormat('en-US'); // made once, since that takes milliseconds
+
 // 12345 as 12,345.
-export const counted = (number) => number.toLocaleString('en-US');
+export const counted = (number) => NUMBERS.format(number);
 
 // `1 hold`, `2 holds`.
 export const several = (number, word) => counted(number) + ' ' + word + (number === 1 ? '' : 's');
