@@ -46,7 +46,8 @@ def without_resolver(browser):
 
 def looks(browser):
     """Dark, a phone, paper."""
-    for width, height in ((320, 640), (390, 844), (768, 1024), (1000, 800), (1400, 900)):
+    # 721 is the narrowest with tables, and 1201 with the chain beside them
+    for width, height in ((320, 640), (390, 844), (721, 900), (768, 1024), (1000, 800), (1201, 800), (1400, 900)):
         browser.size(width, height)
         for address in ("#", "#LARGE/errors", "#LARGE/fixes", "#LARGE/plan"):
             go(browser, address)
