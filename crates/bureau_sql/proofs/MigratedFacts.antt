@@ -86,8 +86,8 @@ module _ (old mid new : State) (reads : OnlyReads old mid) (is_open : HasCleanDi
   same : HasCleanDisk mid → mid.committed ≡ old.committed
   same clean = (reads.keeps clean).committed (is_open clean)
 
-  pub brought_survives : IsLed mid new result (λ database. database ≡ mid.committed) (IsMigration mid.committed) → Survives old new (AreMigrated old)
-  brought_survives done =
+  pub brought_survives : IsLed mid new result (λ database. database ≡ mid.committed) (IsMigration mid.committed) → (HasCleanDisk mid → IsOurs old.committed → ⊥) → Survives old new (AreMigrated old)
+  brought_survives done other =
       survives_then old mid new (λ trees. ⊥)
       (λ trees. AreLed mid (HeldEarlier (held_by_version_1 mid.committed)) (HoldsAll (version_rows 2) (held_by_version_1 mid.committed)) trees
       × AreLed mid (λ database. database ≡ mid.committed) (IsMigration mid.committed) trees) (AreMigrated old)
@@ -98,6 +98,7 @@ module _ (old mid new : State) (reads : OnlyReads old mid) (is_open : HasCleanDi
       record {
         was_open = (reads.keeps before).was_open made.0.0;
         taken = taken before;
+        other = other before;
         made = subst (λ database. (after : Database) × IsMigration database after × (after.trees ≡ trees)) is (made.1.1 refl);
         led = λ from.
             subst (λ database. (after : Database) × HoldsAll (version_rows 2) (held_by_version_1 database) after × (after.trees ≡ trees)) is

@@ -292,6 +292,13 @@ module _ (wanted : ℕ) (schema : Schema) (Lacks : Schema → Type 0) (IsIt IsOt
 two_versions : (one other : ℕ) → Some one ≡ Some other → one ≡ other
 two_versions one other is = ap (λ (o : Option ℕ). unwrap_or o 0) is
 
+-- what tells one version is no store of the other
+pub no_earlier_store : (database : Database) → TellsVersion (Some 2) database → IsOfVersion1 database → ⊥
+no_earlier_store database told earlier = omega (arith, two_versions 2 1 (told.earlier earlier))
+
+pub no_later_store : (database : Database) → TellsVersion (Some 1) database → IsOurs database → ⊥
+no_later_store database told ours = omega (arith, two_versions 1 2 (told.ours ours))
+
 pub no_store : (text : List ℕ) (at new : State) (fault : StoreFault) → IsAskedBy of_conditions text → IsSeen (LacksMore 2 text) (IsOther 2) at new fault → IsNoStore at new fault
 no_store text at new fault asks =
     not_of 2 bureau LacksConditions IsOurs IsOfVersion1 (λ old new. ⊥) text (inl refl) (one_of_asked bureau text _ _ _ asks) (λ other none. (text, asks, none)) (λ database is. is.schema) (λ database is. inr is.schema)

@@ -6,17 +6,18 @@ use Rattle.sqlite.specs.Effect.{Database}
 use Rattle.sqlite.specs.State.{HasCleanDisk, KeepsCommit, State}
 use Rattle.sqlite_trees.specs.Tree.{Trees}
 use Rattle.sql_state.specs.Earlier.{IsOfVersion1, held_by_version_1}
-use Rattle.sql_state.specs.Ours.{version_rows}
+use Rattle.sql_state.specs.Ours.{IsOurs, version_rows}
 use Rattle.sql_state.specs.Reading.{HasFailed}
 use Rattle.sql_writes.specs.Migrating.{HeldEarlier, HoldsAll, IsMigration}
 use Rattle.bureau_sql.specs.Founded.{IsLed}
 use Rattle.bureau_sql.specs.Opening.{IsTaken}
 
--- What was committed was taken for a database of version 1, and the trees are what the three statements of the migration make of
--- it. If it is ours, they are those of version 2 with its rows.
+-- What was committed was taken for a database of version 1, and is no store of version 2. The trees are what the
+-- three statements of the migration make of it. If it is ours, they are those of version 2 with its rows.
 pub record AreMigrated (old : State) (trees : Trees) : Type 0 where
   pub was_open : IsTrue old.is_open
   pub taken : IsTaken old.committed
+  pub other : IsOurs old.committed → ⊥
   pub made : (database : Database) × IsMigration old.committed database × (database.trees ≡ trees)
   pub led : IsOfVersion1 old.committed
       → (database : Database) × HoldsAll (version_rows 2) (held_by_version_1 old.committed) database × (database.trees ≡ trees)
