@@ -88,7 +88,8 @@ fn bring<S: Alter>(conn: &mut Connection<S>) -> Result<(), StoreFault>
         → KeepsCommit (state S.Store conn.old) (state S.Store conn.new)) }
     ensures cause { IfErr result (λ fault. HasCleanDisk (state S.Store conn.new)
         → IsNotEarlier (state S.Store conn.old) (state S.Store conn.new) fault) }
-    ensures untouched { IfErr result (λ fault. LeavesUntouched (state S.Store conn.old) (state S.Store conn.new) fault) }
+    ensures untouched { IfErr result (λ fault.
+        LeavesUntouched (state S.Store conn.old) (state S.Store conn.new) fault) }
 {
     holds(conn, 1, create::sysmod_cond())?;
     match migrated(conn) {

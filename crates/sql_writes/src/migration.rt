@@ -17,7 +17,8 @@ fn with_sysmod_cond<S: Alter>(tx: &mut Transaction<'_, S>) -> Result<(), Error>
         → Turns S.Store tx.old.conn.now tx.new.conn.now result
         (HeldEarlier stored) (HoldsAll (version_rows 1) stored) }
     ensures done { (before : Database)
-        → Turns S.Store tx.old.conn.now tx.new.conn.now result (λ database. database ≡ before) (IsWithConditions before) }
+        → Turns S.Store tx.old.conn.now tx.new.conn.now result
+        (λ database. database ≡ before) (IsWithConditions before) }
     ensures excused { RefusesExcused S.Store tx.old.conn.now tx.new.conn.now result IsOfVersion1 }
 {
     run(tx, create::sysmod_cond(), &[])
@@ -28,7 +29,8 @@ fn without_version<S: Alter>(tx: &mut Transaction<'_, S>) -> Result<(), Error>
     ensures made { (stored : Stored)
         → Turns S.Store tx.old.conn.now tx.new.conn.now result (HeldEarlier stored) (HoldsAll [] stored) }
     ensures done { (before : Database)
-        → Turns S.Store tx.old.conn.now tx.new.conn.now result (λ database. database ≡ before) (IsWithoutVersion before) }
+        → Turns S.Store tx.old.conn.now tx.new.conn.now result
+        (λ database. database ≡ before) (IsWithoutVersion before) }
     ensures excused { RefusesExcused S.Store tx.old.conn.now tx.new.conn.now result IsOfVersion1 }
 {
     with_sysmod_cond(tx)?;
@@ -43,7 +45,8 @@ pub fn migrate<S: Alter>(tx: &mut Transaction<'_, S>) -> Result<(), Error>
         → Turns S.Store tx.old.conn.now tx.new.conn.now result
         (HeldEarlier stored) (HoldsAll (version_rows 2) stored) }
     ensures done { (before : Database)
-        → Turns S.Store tx.old.conn.now tx.new.conn.now result (λ database. database ≡ before) (IsMigration before) }
+        → Turns S.Store tx.old.conn.now tx.new.conn.now result
+        (λ database. database ≡ before) (IsMigration before) }
     ensures excused { RefusesExcused S.Store tx.old.conn.now tx.new.conn.now result IsOfVersion1 }
 {
     without_version(tx)?;
