@@ -48,7 +48,8 @@ use Rattle.sql_tables.specs.Rows.{caller_row}
 use Rattle.sql_state.specs.Numbered.{IsNumbered}
 use Rattle.sql_writes.specs.Making.{AreApart, AreFit, caller_rows}
 use Rattle.sql_writes.proofs.RowidFacts.{all_below, put_next}
-use Rattle.sql_writes.proofs.RuleFacts.{IsSound, both, plain_text, untyped, whole_number}
+use Rattle.sql_writes.proofs.RefusalFacts.{both}
+use Rattle.sql_writes.proofs.RuleFacts.{IsSound, plain_text, untyped, whole_number}
 use Rattle.sql_writes.proofs.StatementFacts.{cast_null}
 
 -- ---- the rows of callers

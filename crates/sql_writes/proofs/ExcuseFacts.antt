@@ -26,8 +26,9 @@ use Rattle.sql_state.proofs.StopFacts.{was_clean}
 use Rattle.sql_writes.specs.Excused.{Excuses, IsExcused}
 use Rattle.sql_writes.specs.Making.{Leads}
 use Rattle.sql_writes.specs.Running.{FailsInside}
+use Rattle.sql_writes.proofs.DefineFacts.{IsNew, IsNewIndex, index_stops, table_stops}
 use Rattle.sql_writes.proofs.RefusalFacts.{excused, writes}
-use Rattle.sql_writes.proofs.RuleFacts.{IsNew, IsNewIndex, delete_stops, index_stops, insert_stops, table_stops, version_sound}
+use Rattle.sql_writes.proofs.RuleFacts.{delete_stops, insert_stops, version_sound}
 
 -- ---- one statement
 

@@ -2,6 +2,7 @@ pub mod AskFacts
 pub mod CallerFacts
 pub mod ChangeFacts
 pub mod ComeFacts
+pub mod DefineFacts
 pub mod FoundFacts
 pub mod ExcuseFacts
 pub mod GoneFacts

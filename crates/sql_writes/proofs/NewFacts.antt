@@ -3,7 +3,7 @@ use Rattle.std.proofs.Common.{refl}
 use Rattle.sqlite_schema.specs.Names.{same_name}
 use Rattle.sql_texts.specs.Schema as schema
 use Rattle.sql_texts.specs.Schema.{bureau_1, by_member, made}
-use Rattle.sql_writes.proofs.RuleFacts.{IsNew, IsNewIndex}
+use Rattle.sql_writes.proofs.DefineFacts.{IsNew, IsNewIndex}
 
 pub bureau_version_is_new : IsNew (made 0 0) schema.bureau_version
 unfolding same_name

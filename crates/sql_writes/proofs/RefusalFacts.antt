@@ -30,6 +30,10 @@ halts (inr on) first next = next on
 pub gave : {A E P : Type 0} {a : A} {stop : E} → ◌≡◌ {A = Result A E} (Err stop) (Ok a) → P
 gave e = absurd (cc)
 
+-- a test that fails where it passes
+pub both : {b : Bool} → b ≡ true → b ≡ false → ⊥
+both passes fails = false≢true (sym fails ∙ passes)
+
 -- ---- a command that writes
 
 -- those that are run here
