@@ -30,31 +30,35 @@ from resources import request
 from texts import statements, zone
 
 TOP = os.path.join(os.path.dirname(os.path.abspath(__file__)), "..")
-READINGS, SUMS = ("Unknown", "Wary"), ("false", "true")
+READINGS, SUMS = ("Unknown", "Wary"), {"false": "no sums", "true": "sums"}
 SMALL = 200
 PUBLICATION, PUT = request("POST /publish", PUBLISHER, 1, BASE.encode()), request("PUT /zones/TGT1", ALPHA, 1, BOTH)
 COLUMNS = ("publication", "zone", "small change", "processor", "start again", "processor of it", "bytes of the file")
 
 
-def variant(folder, reading, sums):
-    """The program that reads a torn write so, and makes pages with sums or without."""
-    copy = os.path.join(folder, "%s-%s" % (reading, sums))
-    if not os.path.exists(copy):
-        shutil.copytree(TOP, copy, symlinks=True, ignore=shutil.ignore_patterns(".git", "bench", "tests"))
-    program = os.path.join(copy, "crates", "bureau_main")
-    for file, old, new in (
-        ("main.rt", READINGS, reading),
-        ("system.rt", ["open_from(self.rt, name, %s, start)" % each for each in SUMS], "open_from(self.rt, name, %s, start)" % sums),
-    ):
-        with open(os.path.join(program, "src", file), "r+") as source:
-            text = source.read()
-            for each in old:
-                text = text.replace(each, new)
-            source.seek(0)
-            source.truncate()
-            source.write(text)
-    subprocess.run(["rt", "run"], cwd=program, stdin=subprocess.DEVNULL, stdout=subprocess.DEVNULL)
-    return os.path.join(program, "out", "bureau_main")
+def built(folder):
+    """The four programs, made one after the other in one copy of the repository, which has what is proved of the crates below."""
+    copy = os.path.join(folder, "copy")
+    shutil.copytree(TOP, copy, symlinks=True, ignore=shutil.ignore_patterns(".git", "bench", "tests", "incremental"))
+    crate, programs = os.path.join(copy, "crates", "bureau_main"), {}
+    for reading in READINGS:
+        for sums in SUMS:
+            name = "%s, %s" % (reading, SUMS[sums])
+            change(os.path.join(crate, "src", "main.rt"), READINGS, reading)
+            change(os.path.join(crate, "src", "system.rt"), ["name, %s, start" % each for each in SUMS], "name, %s, start" % sums)
+            subprocess.run(["rt", "run"], cwd=crate, stdin=subprocess.DEVNULL, stdout=subprocess.DEVNULL)
+            programs[name] = shutil.move(os.path.join(crate, "out", "bureau_main"), os.path.join(folder, name.replace(", ", "-").replace(" ", "-")))
+    return programs
+
+
+def change(path, old, new):
+    """Puts a text in the place of each of these."""
+    with open(path) as source:
+        text = source.read()
+    for each in old:
+        text = text.replace(each, new)
+    with open(path, "w") as out:
+        out.write(text)
 
 
 class Desk:
@@ -145,8 +149,7 @@ def main():
     reader.add_argument("--runs", type=int, default=5)
     words = reader.parse_args()
     with tempfile.TemporaryDirectory(dir=words.folder) as room:
-        programs = dict(each.split("=", 1) for each in words.programs) or {
-            "%s, %s" % (reading, "sums" if sums == "true" else "no sums"): variant(room, reading, sums) for reading in READINGS for sums in SUMS}
+        programs = dict(each.split("=", 1) for each in words.programs) or built(room)
         seen = {name: [] for name in programs}
         for turn in range(words.runs):
             for name in list(programs)[turn % len(programs) :] + list(programs)[: turn % len(programs)]:

@@ -38,12 +38,13 @@ from refusals import QUESTIONS, SCRIPT, Wrong, of_version_1, replies_of, second,
 from resources import request
 
 MOST_WRONG = 5
+REST = 6  # so many calls of a story are made after a loss
 BEFORE_MIGRATE = 6  # so many calls of the script come before the first conditional requisite
-CHANGES = 24  # of the long story: together more than the 1,000 frames at which the log is copied
+CHANGES = 34  # of the long story: together more than the 1,000 frames at which the log is copied
 
 
 def rows(turn):
-    return ("SYSMOD,STATE\n" + "".join("X%d,APPLIED\n" % (turn * 7 + i) for i in range(1500 + turn))).encode()
+    return ("SYSMOD,STATE\n" + "".join("X%d,APPLIED\n" % (turn * 7 + i) for i in range(3000 + turn))).encode()
 
 
 LONG = [SCRIPT[0]] + [request("PUT /zones/TGT1", ALPHA, turn, rows(turn)) for turn in range(1, CHANGES)]
@@ -144,7 +145,8 @@ class Init:
     def see_kept(self, told):
         """A store is there once it was acknowledged. Before that there is one, or one is made."""
         if not told:
-            _, output, errors = self.losing.run("init", self.losing.store, self.losing.callers)
+            status, output, errors = self.losing.run("init", self.losing.store, self.losing.callers)
+            see_taken(status, errors)
             see(output == b"CALLERS 3\n" or errors == b"FAULT 44\n", "init after a loss", output, errors)
         return see_story(self.losing, self.story, 0, [0])
 
@@ -195,7 +197,8 @@ class Migrate:
 
     def see_kept(self, told):
         if not told:
-            _, output, errors = self.losing.run("migrate", self.losing.store)
+            status, output, errors = self.losing.run("migrate", self.losing.store)
+            see_taken(status, errors)
             see(output == b"MIGRATED VERSION 2\n" or errors == b"FAULT 45\n", "migrate after a loss", output, errors)
         return see_story(self.losing, self.story, BEFORE_MIGRATE, [BEFORE_MIGRATE])
 
@@ -203,14 +206,20 @@ class Migrate:
         return Migrate(self.losing, self.story, found)
 
 
+def see_taken(status, errors):
+    if status == 3:
+        raise Refused("refused with %d %r" % (status, errors))
+
+
 def see_story(losing, story, sent, places):
     """The tables are those after one of these calls, and the story goes on where it was stopped. Tells which one."""
-    rest = story.script[sent:]
+    rest = story.script[sent : sent + REST]
     replies = losing.serve([*QUESTIONS, *rest, *QUESTIONS])
     found, after, last = (replies[: len(QUESTIONS)], replies[len(QUESTIONS) : -len(QUESTIONS)], replies[-len(QUESTIONS) :])
     place = next((each for each in places if each < len(story.told) and story.told[each] == found), None)
     see(place is not None, "found after", sent, "replies", found)
-    see(after == story.replies[sent:] and last == story.told[-1], "what comes after", sent, "replies", after, last)
+    right = story.replies[sent : sent + REST], story.told[sent + len(rest)]
+    see((after, last) == right, "what comes after", sent, "replies", after, last)
     return place
 
 
@@ -228,6 +237,21 @@ def moments(calls, disk):
     yield disk
 
 
+class Drawn:
+    """At most so many of what is added, each as likely as any other."""
+
+    def __init__(self, most, draw):
+        self.most, self.draw, self.kept, self.met = most, draw, [], 0
+
+    def add(self, one):
+        self.met += 1
+        place = self.draw.randrange(self.met)
+        if len(self.kept) < self.most:
+            self.kept.append(one)
+        elif place < self.most:
+            self.kept[place] = one
+
+
 class Tally:
     """How many images were tried of each way, how many of them the program refused, and how many lost something without a word."""
 
@@ -237,35 +261,34 @@ class Tally:
         self.wrong = 0
 
     def lose(self, run, title, every=1, most=1):
-        """Draws images at each moment of a run, and opens each. Gives some of those that are right, with what was found there."""
-        self.run, seen, right = run, set(), []
+        """Draws images at each moment of a run, and opens each. Gives drawn ones of those that are right, with what was found there."""
+        self.run, seen, right = run, set(), Drawn(most, random.Random("%d %s" % (self.seed, title)))
         trace = os.path.join(run.losing.room, "trace")
         calls = run.calls(trace)
         os.remove(trace)
         for moment, disk in enumerate(moments(calls, self.kind(run.found))):
-            for way in self.ways if moment % every == 0 else ():
+            is_tried = moment % every == 0 or disk.pending["store"]
+            for way in self.ways if is_tried else ():
                 for turn in range(1 if way in ("none", "all") else self.images):
                     if self.wrong < MOST_WRONG:
-                        right += self.open(disk, way, "%s, moment %d, %s %d" % (title, moment, way, turn), seen)
-        draw = random.Random("%d %s" % (self.seed, title))
-        return draw.sample(right, min(most, len(right)))
+                        self.open(disk, way, "%s, moment %d, %s %d" % (title, moment, way, turn), seen, right)
+        return right.kept
 
-    def open(self, disk, way, place, seen):
+    def open(self, disk, way, place, seen, right):
         image = disk.image(way, random.Random("%d %s" % (self.seed, place)))
         mark = (disk.told, *(name in image and hashlib.sha256(image[name]).digest() for name in FILES))
         if mark in seen:
-            return []
+            return
         seen.add(mark)
         self.tried[way] += 1
         self.run.losing.lay(image)
         try:
-            return [(image, disk.told, self.run.see_kept(disk.told))]
+            right.add((image, disk.told, self.run.see_kept(disk.told)))
         except Wrong as fault:
             (self.refused if isinstance(fault, Refused) else self.lost)[way] += 1
             if way in SUPPOSED and self.kind is Disk:
                 self.wrong += 1
                 print("losses: %s ... FAILED: %s" % (place, fault), flush=True)
-            return []
 
     def told(self, title):
         rows = ("%s %d" % (way, many) + (", %d refused" % self.refused[way]) * (self.refused[way] > 0)
