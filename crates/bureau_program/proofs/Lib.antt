@@ -1,4 +1,3 @@
-pub mod ArrivalFacts
 pub mod BookFacts
 pub mod DeskFacts
 pub mod EndFacts
@@ -11,5 +10,6 @@ pub mod OutputFacts
 pub mod ReadFacts
 pub mod RunsFacts
 pub mod ServingFacts
+pub mod StayFacts
 mod ReplayFacts
 mod ReportingFacts

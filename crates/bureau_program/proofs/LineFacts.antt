@@ -1,5 +1,5 @@
 -- That words have at most one line.
-use Rattle.std.proofs.Common.{◌≡◌, ℕ, List, [], ◌∷◌, ap₂, codes, map, Option, Some, None, slice_index, sym, ◌∙◌, ap, arith, string_bytes}
+use Rattle.std.proofs.Common.{◌≡◌, ℕ, List, [], ◌∷◌, ap₂, codes, Option, Some, None, slice_index, sym, ◌∙◌, ap, arith}
 use Rattle.clap.specs.Words.{Row, Text, subcommand_of}
 use Rattle.bureau_program.specs.Line.{HasOneLine, IsLineIn, IsLineWith, IsNumberIn, bureau_app, said}
 use Rattle.bureau_program.specs.declared.line.Line.{Line}

@@ -1,4 +1,3 @@
-pub mod Arrived
 pub mod Desk
 pub mod Ended
 pub mod Holds
