@@ -1,15 +1,15 @@
 -- What a client of a new desk is told, after all inputs were sent.
-use Rattle.std.proofs.Common.{◌≡◌, ℕ, ◌+◌, ◌<◌, ◌≤◌, ◌==◌, ◌&&◌, Bool, true, false, cond, List, [], ◌∷◌, ◌++◌, length, refl, sym, ◌∙◌, ap, subst, arith, append_assoc, append-nil}
+use Rattle.std.proofs.Common.{map, ◌≡◌, ℕ, ◌+◌, ◌≤◌, ◌==◌, Bool, true, false, List, [], ◌∷◌, ◌++◌, length, refl, sym, ◌∙◌, ap, subst, arith, append_assoc, append-nil}
 use Rattle.std.specs.Prelude.{Option, Some, None, Result, Ok, Err, nat_le, nat_lt, is_some, unwrap_or, if◌then◌else◌}
 use Rattle.std.specs.List.Sorted.{IsStrictlySortedBy}
 use Rattle.std.specs.Option.{option_map}
-use Rattle.std.specs.Str.{bytes_eq}
+use Rattle.std.proofs.lemmas.List.{length-map}
+use Rattle.std.specs.Global.{Vec}
 use Rattle.std.proofs.lemmas.Bool.{and_from, eq-eqb, le-leb, lt-ltb, ne_eqb}
 use Rattle.zone_lists.specs.declared.zones.ZoneRow.{ZoneRow}
 use Rattle.catalogue.specs.Content.{Content}
 use Rattle.catalogue.specs.Publication.{content_of}
 use Rattle.catalogue.specs.declared.change.Change.{Change}
-use Rattle.bureau_store.specs.Caller.{is_caller}
 use Rattle.bureau_store.specs.Effect.{Effect, publication, zone_put, received_put, patterns_put, content_after, received_after}
 use Rattle.bureau_store.specs.Store.{greatest_number}
 use Rattle.bureau_store.specs.Tables.{LastChange, ZoneTable, Zones, name_order, zone_named}
@@ -17,14 +17,13 @@ use Rattle.bureau_store.specs.declared.caller.Caller.{Caller}
 use Rattle.bureau_store.specs.declared.caller.Caller.TheVariants.{Publisher, Client}
 use Rattle.bureau.specs.Bodies.{changes_in, ids_in, patterns_in, rows_in}
 use Rattle.bureau.specs.Call.{Call, publish, put_patterns, put_received, put_zone, err_sysmods, missing_fix, chain}
-use Rattle.bureau.specs.Outcome.{Answer, Outcome, accepted, answered, answer_of, as_json, bad_number, by_number, gap, has_room, in_turn, of_zone, outcome, plain, put_of_zone, said, stale, told}
+use Rattle.bureau.specs.Outcome.{Outcome, accepted, answered, answer_of, as_json, bad_number, by_number, gap, in_turn, of_zone, outcome, plain, put_of_zone, said, stale, told}
 use Rattle.bureau.specs.Own.{Accepted, Asked, accepted_in, change_of, content_left, found, last_left, names_known, own_answer, own_view, patterns_left, publications, received_left, rows_left, says_patterns, says_rows, zone_left, zones_left}
 use Rattle.bureau.specs.Texts.{chain_text, err_report, missing_report, patterns_text, publication_text, received_text, zone_put_text}
-use Rattle.bureau.specs.View.{View}
 use Rattle.bureau.proofs.LeftFacts.{AreKept, IsOfZone, content_more, kept_more, last_more, received_more, zone_is_left}
 use Rattle.bureau.proofs.NamesFacts.{own_caller, own_name}
 use Rattle.file_reports.specs.Desk.{IsDesksAnswer, all_sent, asked, list_sent, lists_sent, new_desk, publications_sent}
-use Rattle.file_reports.specs.Inputs.{Inputs, Refused, Said, and_then, content_published, patterns_said, published_from, received_said, said_by, said_in}
+use Rattle.file_reports.specs.Inputs.{Inputs, Refused, Said, and_then, content_published, if_not_long, list_in, most_bytes, patterns_said, published_from, received_said, rows_said, said_by, said_in}
 use Rattle.file_reports.specs.Reports.{chain_text_said, err_text_said, missing_text_said, text_by, zone_said}
 use Rattle.file_reports.specs.declared.fault.Input.{Input}
 use Rattle.file_reports.specs.declared.fault.Input.TheVariants.{Zone, Categories, Received, Publication}
@@ -42,6 +41,13 @@ unsaid {A} input (Ok x) what is = ap (λ (a : A). Ok a) (same is)
     same : ◌≡◌ {A = Result A Refused} (Ok x) (Ok what) → x ≡ what
     same e = cc e
 unsaid input (Err line) what is = absurd (cc is)
+
+unlisted : {A : Type 0} (input : Input) (body : List ℕ) (said : Result A (List ℕ)) (what : A) → list_in input body said ≡ Ok what → said ≡ Ok what
+unlisted {A} input body said what is = by (nat_le (length body) most_bytes) is
+  where
+    by : (b : Bool) → if_not_long b input said ≡ Ok what → said ≡ Ok what
+    by true e = unsaid input said what e
+    by false e = absurd (cc e)
 
 -- ---- numbers
 
@@ -254,7 +260,7 @@ received_sent client zone None history number rows patterns received content sta
     same e = cc e
 received_sent client zone (Some body) history number rows patterns received content stands says fits = record {
   number = number + 1;
-  stands = received_taken client zone body history content number (Some rows) patterns [] received stands (unsaid Received (ids_in body) received says) fits;
+  stands = received_taken client zone body history content number (Some rows) patterns [] received stands (unlisted Received body (ids_in body) received says) fits;
 }
 
 lists_taken : (client zone : List ℕ) (categories received : Option (List ℕ)) (before : List Asked) (all : Said)
@@ -268,13 +274,13 @@ lists_taken client zone None received before all stands asks has =
     same e = cc e
 lists_taken client zone (Some body) received before all stands asks has =
     received_sent client zone received (asked (Client client) (put_patterns (Some 2) zone body) ∷ before) 2 all.rows all.patterns all.received all.content
-    (patterns_taken client zone body before all.content 1 all.rows [] all.patterns [] stands (unsaid Categories (patterns_in body) all.patterns asks) (omega arith)) has (omega arith)
+    (patterns_taken client zone body before all.content 1 all.rows [] all.patterns [] stands (unlisted Categories body (patterns_in body) all.patterns asks) (omega arith)) has (omega arith)
 
 -- all inputs were sent, and what they say stands
 module _ (client zone : List ℕ) (inputs : Inputs) where
   inputs_taken : (all : Said) → length inputs.publications ≤ greatest_number → said_by inputs ≡ Ok all → IsSent client zone (all_sent client zone inputs) all
   inputs_taken all fits says =
-      let rows = split (said_in Zone (rows_in inputs.zone)) _ all says in
+      let rows = split (rows_said inputs.zone) _ all says in
       let patterns = split (patterns_said inputs.categories) _ all rows.2 in
       let received = split (received_said inputs.received) _ all patterns.2 in
       let content = split (content_published inputs.publications) _ all received.2 in
@@ -283,7 +289,7 @@ module _ (client zone : List ℕ) (inputs : Inputs) where
       let listed : Publishes (taken (publications_sent 1 inputs.publications)) (0 + length inputs.publications) changes.0 =
       subst (λ (asks : List Asked). Publishes (taken asks) (0 + length inputs.publications) changes.0) (append-nil (publications_sent 1 inputs.publications)) published in
       let zone_sent = asked (Client client) (put_zone (Some 1) zone inputs.zone) ∷ publications_sent 1 inputs.publications in
-      let stands = zone_taken client zone inputs.zone (publications_sent 1 inputs.publications) (0 + length inputs.publications) changes.0 rows.0 listed (unsaid Zone (rows_in inputs.zone) rows.0 rows.1) in
+      let stands = zone_taken client zone inputs.zone (publications_sent 1 inputs.publications) (0 + length inputs.publications) changes.0 rows.0 listed (unlisted Zone inputs.zone (rows_in inputs.zone) rows.0 rows.1) in
       subst (IsSent client zone (all_sent client zone inputs)) (whole rows.0 patterns.0 received.0 content.0 content.2)
       (lists_taken client zone inputs.categories inputs.received zone_sent (record { rows = rows.0; patterns = patterns.0; received = received.0; content = content.0 })
       (subst (λ (content : Content). Stands client zone (taken zone_sent) content 1 (Some rows.0) [] []) (left changes.0 content.0 changes.2) stands) patterns.1 received.1)
@@ -328,17 +334,26 @@ same_text text other e = cc e
 
 -- ---- the law
 
-pub err_answered : (zone : List ℕ) (inputs : Inputs) (text : List ℕ) → text_by (err_text_said zone) inputs ≡ Ok text → IsDesksAnswer zone inputs (err_sysmods zone) (plain 200 text)
-err_answered zone inputs text says = λ client fits.
+-- A vector has fewer items than a desk has numbers.
+pub few_enough : {V : Type 0} (f : V → List ℕ) (vec : Vec V) (inputs : Inputs) → inputs.publications ≡ map f vec.items → length inputs.publications ≤ greatest_number
+few_enough f vec inputs are =
+    let same = ap length are ∙ length-map vec.items f in
+    let held = vec.ok.0 in
+    let within = vec.ok.1 in
+    let small = vec.small in
+    omega (arith, same, held, within, small)
+
+pub err_answered : (zone : List ℕ) (inputs : Inputs) (text : List ℕ) → length inputs.publications ≤ greatest_number → text_by (err_text_said zone) inputs ≡ Ok text → IsDesksAnswer zone inputs (err_sysmods zone) (plain 200 text)
+err_answered zone inputs text fits says = λ client.
     let all = split (said_by inputs) _ text says in
     err_told client zone inputs all.0 (inputs_taken client zone inputs all.0 fits all.1) ∙ ap (plain 200) (same_text (err_text_said zone all.0) text all.2)
 
-pub missing_answered : (zone : List ℕ) (inputs : Inputs) (text : List ℕ) → text_by (missing_text_said zone) inputs ≡ Ok text → IsDesksAnswer zone inputs (missing_fix zone) (plain 200 text)
-missing_answered zone inputs text says = λ client fits.
+pub missing_answered : (zone : List ℕ) (inputs : Inputs) (text : List ℕ) → length inputs.publications ≤ greatest_number → text_by (missing_text_said zone) inputs ≡ Ok text → IsDesksAnswer zone inputs (missing_fix zone) (plain 200 text)
+missing_answered zone inputs text fits says = λ client.
     let all = split (said_by inputs) _ text says in
     missing_told client zone inputs all.0 (inputs_taken client zone inputs all.0 fits all.1) ∙ ap (plain 200) (same_text (missing_text_said zone all.0) text all.2)
 
-pub chain_answered : (zone sysmod : List ℕ) (inputs : Inputs) (text : List ℕ) → text_by (chain_text_said zone sysmod) inputs ≡ Ok text → IsDesksAnswer zone inputs (chain zone sysmod) (as_json text)
-chain_answered zone sysmod inputs text says = λ client fits.
+pub chain_answered : (zone sysmod : List ℕ) (inputs : Inputs) (text : List ℕ) → length inputs.publications ≤ greatest_number → text_by (chain_text_said zone sysmod) inputs ≡ Ok text → IsDesksAnswer zone inputs (chain zone sysmod) (as_json text)
+chain_answered zone sysmod inputs text fits says = λ client.
     let all = split (said_by inputs) _ text says in
     chain_told client zone inputs all.0 (inputs_taken client zone inputs all.0 fits all.1) sysmod ∙ ap as_json (same_text (chain_text_said zone sysmod all.0) text all.2)

@@ -1,11 +1,14 @@
 -- A report, from what the inputs say.
-use Rattle.std.proofs.Common.{◌≡◌, inl, inr, ℕ, ◌==◌, ◌&&◌, List, filter, refl, sym, ◌∙◌, ap, subst}
+use Rattle.std.proofs.Common.{◌≡◌, inl, inr, arith, ℕ, ◌==◌, ◌&&◌, List, filter, refl, sym, ◌∙◌, ap, subst}
 use Rattle.std.specs.Prelude.{None, Result, Ok, Err, IfErr, IsErrAnd}
 use Rattle.holddata.specs.HoldKey.{kind_order}
 use Rattle.holddata.specs.declared.hold.Hold.{Hold}
 use Rattle.holddata.specs.declared.key.Kind.TheVariants.{ErrorHold, FixcatHold}
 use Rattle.zone_lists.specs.Installed.{is_installed}
+use Rattle.catalogue.specs.Content.{Content}
+use Rattle.catalogue.specs.ListPublished.{lists_view}
 use Rattle.catalogue.specs.SourceFault as source
+use Rattle.catalogue.specs.View.{MayAsk}
 use Rattle.catalogue.specs.declared.fault.SourceFault.{SourceFault}
 use Rattle.catalogue.specs.declared.fault.SourceFault.TheVariants.{Memory, Device}
 use Rattle.reports.specs.ErrRows.{err_rows_of}
@@ -13,7 +16,7 @@ use Rattle.reports.specs.MissingRows.{missing_rows_of}
 use Rattle.reports.specs.ReportText.{err_text_of, missing_text_of}
 use Rattle.reports.specs.declared.rows.ErrRow.{ErrRow}
 use Rattle.reports.specs.declared.rows.MissingRow.{MissingRow}
-use Rattle.file_reports.specs.Inputs.{Inputs, IsOfMachine, IsRefused, Refused, Said, and_then, said_by}
+use Rattle.file_reports.specs.Inputs.{Inputs, IsFirstFault, Refused, Said, and_then, said_by}
 use Rattle.file_reports.specs.Reports.{err_text_said, missing_text_said, text_by}
 use Rattle.file_reports.specs.declared.fault.InputFault.{InputFault}
 use Rattle.file_reports.proofs.InputFacts.{refused_first}
@@ -25,20 +28,30 @@ text_said text inputs all made said is =
 
 -- what is refused of the inputs is refused of the report
 pub text_refused : {T : Type 0} (text : Said → List ℕ) (inputs : Inputs) (result : Result T InputFault) (told : InputFault) → IsErrAnd result (λ fault. fault ≡ told)
-    → IsRefused (said_by inputs) told → IfErr result (IsRefused (text_by text inputs))
+    → IsFirstFault (said_by inputs) told → IfErr result (IsFirstFault (text_by text inputs))
 text_refused text inputs (Ok value) told is refused = absurd is
 text_refused text inputs (Err fault) told is refused =
-    subst (λ (told : InputFault). IsRefused (text_by text inputs) told) (sym is) (refused_first (said_by inputs) (λ all. Ok (text all)) told refused)
+    subst (λ (told : InputFault). IsFirstFault (text_by text inputs) told) (sym is) (refused_first (said_by inputs) (λ all. Ok (text all)) told refused)
 
 -- the machine is at fault
-of_source : (fault : SourceFault) (told : InputFault) → told ≡ record { input = None; fault = source.told fault } → IsOfMachine told
-of_source Memory told is = (ap (λ (told : InputFault). told.input) is, ap (λ (told : InputFault). told.fault.cause) is)
-of_source Device told is = (ap (λ (told : InputFault). told.input) is, ap (λ (told : InputFault). told.fault.cause) is)
+abbrev told_of : SourceFault → InputFault
+told_of fault = record { input = None; fault = source.told fault }
 
 pub machine_refused : {T A : Type 0} (said : Result A Refused) (result : Result T InputFault) (fault : SourceFault)
-    → IsErrAnd result (λ told. told ≡ record { input = None; fault = source.told fault }) → IfErr result (IsRefused said)
-machine_refused said (Ok value) fault is = absurd is
-machine_refused said (Err told) fault is = inl (of_source fault told is)
+    → IsErrAnd result (λ told. told ≡ record { input = None; fault = source.told fault }) → fault ≡ Memory → IfErr result (IsFirstFault said)
+machine_refused said (Ok value) fault is memory = absurd is
+machine_refused said (Err told) fault is memory =
+    let told_is : told ≡ record { input = None; fault = source.told Memory } = is ∙ ap told_of memory in
+    inl (ap (λ (told : InputFault). told.input) told_is, inr (inr (inr (inl (ap (λ (told : InputFault). told.fault) told_is)))))
+
+-- lists never fail, so memory ran out where a report over them is refused
+pub only_memory : {T : Type 0} (old new : Content) (result : Result T SourceFault) → MayAsk lists_view Device old new result → IfErr result (λ fault. fault ≡ Memory)
+only_memory old new (Ok answer) asks = tt
+only_memory old new (Err Memory) asks = refl
+only_memory old new (Err Device) asks = elim (asks.cause refl) [
+  | inl less ↦ absurd (omega (arith, less))
+  | inr most ↦ absurd (omega (arith, most))
+]
 
 -- the exception SYSMOD report, from its parts
 pub err_made : (zone : List ℕ) (said : Said) (ids : List (List ℕ)) (held holds book : List Hold) (rows shown : List ErrRow) (text : List ℕ)

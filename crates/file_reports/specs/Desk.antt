@@ -1,7 +1,6 @@
 -- The same at a desk: what a client of a new desk is told after the same publications and lists.
-use Rattle.std.specs.Prelude.{◌≡◌, ◌≤◌, ◌+◌, ℕ, List, [], ◌∷◌, ◌++◌, Option, Some, None, length}
+use Rattle.std.specs.Prelude.{◌≡◌, ◌+◌, ℕ, List, [], ◌∷◌, ◌++◌, Option, Some, None, length}
 use Rattle.catalogue.specs.Content.{nothing}
-use Rattle.bureau_store.specs.Store.{greatest_number}
 use Rattle.bureau_store.specs.Tables.{no_change}
 use Rattle.bureau_store.specs.declared.caller.Caller.{Caller}
 use Rattle.bureau_store.specs.declared.caller.Caller.TheVariants.{Publisher, Client}
@@ -41,8 +40,6 @@ all_sent client zone inputs =
     lists_sent client zone inputs.categories inputs.received
     (asked (Client client) (put_zone (Some 1) zone inputs.zone) ∷ publications_sent 1 inputs.publications)
 
--- What any client of a new desk is told by this call, after all of that was sent. A desk numbers its publications up to a
--- greatest number.
+-- what any client of a new desk is told by this call, after all of that was sent
 abbrev pub IsDesksAnswer : List ℕ → Inputs → Call → Answer → Type 0
-IsDesksAnswer zone inputs call answer = (client : List ℕ) → length inputs.publications ≤ greatest_number
-    → own_answer new_desk (all_sent client zone inputs) (Client client) call ≡ answer
+IsDesksAnswer zone inputs call answer = (client : List ℕ) → own_answer new_desk (all_sent client zone inputs) (Client client) call ≡ answer

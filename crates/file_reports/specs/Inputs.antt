@@ -1,6 +1,7 @@
 -- What the inputs of a report say: the publications, one after the other, and the lists of a zone; or the first fault.
-use Rattle.std.specs.Prelude.{◌≡◌, ◌⊎◌, ◌+◌, ◌++◌, ℕ, List, [], ◌∷◌, Option, Some, None, Result, Ok, Err}
+use Rattle.std.specs.Prelude.{◌≡◌, ◌⊎◌, ◌+◌, ◌++◌, ℕ, List, [], ◌∷◌, Option, Some, None, Result, Ok, Err, Bool, true, false, IsSome, length, nat_le, ◌<◌}
 use Rattle.faults.specs.FaultText.{text_of}
+use Rattle.faults.specs.Told.{of_input, of_machine}
 use Rattle.faults.specs.declared.any.AnyFault.{AnyFault}
 use Rattle.faults.specs.declared.fault.Cause.{Cause}
 use Rattle.faults.specs.declared.fault.Cause.TheVariants as cause
@@ -46,14 +47,30 @@ pub record Said : Type 0 where
   pub received : List (List ℕ)
   pub content : Content
 
+-- the most bytes that an input may have
+abbrev pub most_bytes : ℕ
+most_bytes = 67108864
+
+-- what an input says that is not too long, or else the fault 5
+abbrev pub if_not_long : {A : Type 0} → Bool → Input → Result A (List ℕ) → Result A Refused
+if_not_long true input said = said_in input said
+if_not_long false input said = Err (record { input = input; line = text_of (of_input 5) })
+
+-- what a list says, unless it has more bytes than an input may have
+abbrev pub list_in : {A : Type 0} → Input → List ℕ → Result A (List ℕ) → Result A Refused
+list_in input body said = if_not_long (nat_le (length body) most_bytes) input said
+
+abbrev pub rows_said : List ℕ → Result (List ZoneRow) Refused
+rows_said body = list_in Zone body (rows_in body)
+
 -- a list that isn't given is empty
 abbrev pub patterns_said : Option (List ℕ) → Result (List (List ℕ)) Refused
 patterns_said None = Ok []
-patterns_said (Some body) = said_in Categories (patterns_in body)
+patterns_said (Some body) = list_in Categories body (patterns_in body)
 
 abbrev pub received_said : Option (List ℕ) → Result (List (List ℕ)) Refused
 received_said None = Ok []
-received_said (Some body) = said_in Received (ids_in body)
+received_said (Some body) = list_in Received body (ids_in body)
 
 -- what publications publish, of which the first has this index: all of it in order, or the fault of the first that has one
 abbrev pub published_from : ℕ → List (List ℕ) → Result (List Change) Refused
@@ -70,11 +87,18 @@ content_published bodies = and_then (published_from 0 bodies) (λ changes. Ok (c
 -- publications in their order.
 abbrev pub said_by : Inputs → Result Said Refused
 said_by inputs =
-    and_then (said_in Zone (rows_in inputs.zone)) (λ rows.
+    and_then (rows_said inputs.zone) (λ rows.
     and_then (patterns_said inputs.categories) (λ patterns.
     and_then (received_said inputs.received) (λ received.
     and_then (content_published inputs.publications) (λ content.
     Ok (record { rows = rows; patterns = patterns; received = received; content = content })))))
+
+-- the input is one of those that are given
+abbrev pub IsGiven : Inputs → Input → Type 0
+IsGiven inputs Zone = Unit {0}
+IsGiven inputs Categories = IsSome inputs.categories
+IsGiven inputs Received = IsSome inputs.received
+IsGiven inputs (Publication index) = index < length inputs.publications
 
 -- ---- how a fault is told
 
@@ -86,9 +110,15 @@ input_at_fault input cause.Machine = None
 abbrev pub told_in : Input → AnyFault → InputFault
 told_in input fault = record { input = input_at_fault input fault.cause; fault = fault }
 
--- the machine is at fault: memory ran out
-abbrev pub IsOfMachine : InputFault → Type 0
-IsOfMachine told = (told.input ≡ None) × (told.fault.cause ≡ cause.Machine)
+-- Memory ran out: for the statements of a publication (6), a hold (17), what a publication changes (24), a report (25) or a list
+-- (38). No device is read, so none fails.
+abbrev pub IsMemory : AnyFault → Type 0
+IsMemory fault =
+    (fault ≡ of_machine 6) ⊎ (fault ≡ of_machine 17) ⊎ (fault ≡ of_machine 24) ⊎ (fault ≡ of_machine 25) ⊎ (fault ≡ of_machine 38)
+
+-- memory ran out, which names no input
+abbrev pub IsOutOfMemory : InputFault → Type 0
+IsOutOfMemory told = (told.input ≡ None) × IsMemory told.fault
 
 -- the input is at fault, and nothing is said but that and the line of this fault
 abbrev pub IsOfInput : {A : Type 0} → Result A Refused → InputFault → Type 0
@@ -96,5 +126,6 @@ IsOfInput said told =
     (told.fault.cause ≡ cause.Input)
     × ((input : Input) × (told.input ≡ Some input) × (said ≡ Err (record { input = input; line = text_of told.fault })))
 
-abbrev pub IsRefused : {A : Type 0} → Result A Refused → InputFault → Type 0
-IsRefused said told = IsOfMachine told ⊎ IsOfInput said told
+-- what is told is the first fault of the inputs; or memory ran out
+abbrev pub IsFirstFault : {A : Type 0} → Result A Refused → InputFault → Type 0
+IsFirstFault said told = IsOutOfMemory told ⊎ IsOfInput said told

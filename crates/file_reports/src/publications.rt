@@ -4,10 +4,11 @@ ghost use Rattle.catalogue.specs.Content.{IsInOrder};
 ghost use Rattle.catalogue.specs.Publication.{content_of};
 ghost use Rattle.catalogue.specs.Reading as reading;
 ghost use Rattle.catalogue.specs.declared.fault.CatFault.TheVariants.{Memory};
+ghost use Rattle.faults.specs.declared.fault.Cause.TheVariants.{Machine};
 ghost use Rattle.bureau.specs.Bodies as body;
 ghost use Rattle.bureau.specs.Faults.{IsTold};
 ghost use Rattle.file_reports.specs.Inputs as said;
-ghost use Rattle.file_reports.specs.Inputs.{IsRefused};
+ghost use Rattle.file_reports.specs.Inputs.{IsFirstFault};
 ghost use Rattle.file_reports.specs.declared.fault.Input.TheVariants as input;
 
 use crate::{Input, InputFault};
@@ -29,7 +30,7 @@ pub(crate) fn content_in(
         said.content_published (map (λ body. body.items) publications.items) ≡ Ok content) }
     ensures in_order { IfOk result IsInOrder }
     ensures fault { IfErr result
-        (IsRefused (said.content_published (map (λ body. body.items) publications.items))) }
+        (IsFirstFault (said.content_published (map (λ body. body.items) publications.items))) }
 {
     let changes = all_changes(alloc, publications.as_slice())?;
     drop(publications); // The content takes their room.
@@ -40,6 +41,7 @@ pub(crate) fn content_in(
 fn content_after(alloc: Global, changes: &[Change]) -> Result<ListPublished, SourceFault>
     ensures content { IfOk result (λ content. content ≡ content_of changes.now) }
     ensures in_order { IfOk result IsInOrder }
+    ensures fault { IfErr result (λ fault. fault ≡ SourceFault.Memory) }
 {
     let mut content = ListPublished::new(alloc);
     content.publish(changes)?;
@@ -51,7 +53,7 @@ fn all_changes(alloc: Global, publications: &[Vec<u8>]) -> Result<Vec<Change>, I
     ensures changes { IfOk result (λ changes.
         said.published_from 0 (map (λ body. body.items) publications.now) ≡ Ok changes.items) }
     ensures fault { IfErr result
-        (IsRefused (said.published_from 0 (map (λ body. body.items) publications.now))) }
+        (IsFirstFault (said.published_from 0 (map (λ body. body.items) publications.now))) }
 {
     let mut changes = Vec::new(alloc);
     for (index, publication) in publications.iter().enumerate() {
@@ -66,7 +68,7 @@ fn changes_at(alloc: Global, index: usize, text: &[u8]) -> Result<Vec<Change>, I
     ensures changes { IfOk result (λ changes.
         said.said_in (input.Publication index) (body.changes_in text.now) ≡ Ok changes.items) }
     ensures fault { IfErr result
-        (IsRefused (said.said_in (input.Publication index) (body.changes_in text.now))) }
+        (IsFirstFault (said.said_in (input.Publication index) (body.changes_in text.now))) }
 {
     match changes_in(alloc, text) {
         Ok(changes) => Ok(changes),
@@ -76,7 +78,8 @@ fn changes_at(alloc: Global, index: usize, text: &[u8]) -> Result<Vec<Change>, I
 
 // Puts changes after others.
 fn append(changes: &mut Vec<Change>, more: &mut Vec<Change>) -> Result<(), SourceFault>
-    ensures { OnOk result (changes.new.items ≡ changes.old.items ++ more.old.items) }
+    ensures ok { OnOk result (changes.new.items ≡ changes.old.items ++ more.old.items) }
+    ensures fault { IfErr result (λ fault. fault ≡ SourceFault.Memory) }
 {
     changes.append(more)?;
     Ok(())
@@ -87,6 +90,7 @@ fn append(changes: &mut Vec<Change>, more: &mut Vec<Change>) -> Result<(), Sourc
 fn changes_in(alloc: Global, text: &[u8]) -> Result<Vec<Change>, AnyFault>
     ensures changes { IfOk result (λ changes. body.changes_in text.now ≡ Ok changes.items) }
     ensures fault { IfErr result (IsTold (body.changes_in text.now)) }
+    ensures memory { IfErr result (λ fault. fault.cause ≡ Machine → said.IsMemory fault) }
 {
     let mut statements = Statements::asking(alloc, text, publication_operands())?;
     let mut reader = ChangeReader::new(alloc);

@@ -9,8 +9,8 @@ ghost use Rattle.bureau.specs.Outcome.{as_json, plain};
 ghost use Rattle.bureau.specs.Texts as desk;
 ghost use Rattle.bureau_store.specs.Held.{held_in};
 ghost use Rattle.file_reports.specs.Desk.{IsDesksAnswer};
-ghost use Rattle.file_reports.specs.Inputs.{IsRefused};
-ghost use Rattle.file_reports.specs.Lists.{inputs_of};
+ghost use Rattle.file_reports.specs.Inputs.{IsFirstFault};
+ghost use Rattle.file_reports.specs.Lists.{chain_inputs_of, err_inputs_of, inputs_of};
 ghost use Rattle.file_reports.specs.Read.{said_of};
 ghost use Rattle.file_reports.specs.Reports.{chain_text_said, err_text_said, missing_text_said, text_by};
 ghost use Rattle.holddata.specs.declared.key.Kind.TheVariants.{ErrorHold, FixcatHold};
@@ -32,7 +32,7 @@ use zone_lists::Pattern;
 const NODES_MOST: usize = 256;
 
 /// The exception SYSMOD report on a zone, as a new desk answers it after the same publications and lists. The zone has
-/// this name.
+/// this name. The fix categories are not read.
 ///
 /// # Errors
 ///
@@ -45,16 +45,16 @@ pub fn err_report(
     publications: Vec<Vec<u8>>,
 ) -> Result<Vec<u8>, InputFault>
     ensures text { IfOk result (λ text. text_by (err_text_said zone.now)
-        (inputs_of lists.entry (map (λ body. body.items) publications.items)) ≡ Ok text.items) }
-    ensures fault { IfErr result (IsRefused (text_by (err_text_said zone.now)
-        (inputs_of lists.entry (map (λ body. body.items) publications.items)))) }
+        (err_inputs_of lists.entry (map (λ body. body.items) publications.items)) ≡ Ok text.items) }
+    ensures fault { IfErr result (IsFirstFault (text_by (err_text_said zone.now)
+        (err_inputs_of lists.entry (map (λ body. body.items) publications.items)))) }
 
     // A desk answers the same.
     ensures desk { IfOk result (λ text. IsDesksAnswer zone.now
-        (inputs_of lists.entry (map (λ body. body.items) publications.items))
+        (err_inputs_of lists.entry (map (λ body. body.items) publications.items))
         (call.err_sysmods zone.now) (plain 200 text.items)) }
 {
-    let read = read_all(alloc, lists, publications)?;
+    let read = read_all(alloc, lists.without_categories(), publications)?;
     Ok(err_text_in(alloc, zone, read)?)
 }
 
@@ -71,7 +71,7 @@ pub fn missing_report(
 ) -> Result<Vec<u8>, InputFault>
     ensures text { IfOk result (λ text. text_by (missing_text_said zone.now)
         (inputs_of lists.entry (map (λ body. body.items) publications.items)) ≡ Ok text.items) }
-    ensures fault { IfErr result (IsRefused (text_by (missing_text_said zone.now)
+    ensures fault { IfErr result (IsFirstFault (text_by (missing_text_said zone.now)
         (inputs_of lists.entry (map (λ body. body.items) publications.items)))) }
 
     // A desk answers the same.
@@ -83,7 +83,7 @@ pub fn missing_report(
     Ok(missing_text_in(alloc, zone, read)?)
 }
 
-/// The verdict on a SYSMOD in a zone, as JSON and as [`err_report`].
+/// The verdict on a SYSMOD in a zone, as JSON and as [`err_report`]. No list is read but that of the zone's SYSMODs.
 ///
 /// # Errors
 ///
@@ -96,16 +96,16 @@ pub fn chain_report(
     publications: Vec<Vec<u8>>,
 ) -> Result<Vec<u8>, InputFault>
     ensures text { IfOk result (λ text. text_by (chain_text_said zone.now sysmod.now)
-        (inputs_of lists.entry (map (λ body. body.items) publications.items)) ≡ Ok text.items) }
-    ensures fault { IfErr result (IsRefused (text_by (chain_text_said zone.now sysmod.now)
-        (inputs_of lists.entry (map (λ body. body.items) publications.items)))) }
+        (chain_inputs_of lists.entry (map (λ body. body.items) publications.items)) ≡ Ok text.items) }
+    ensures fault { IfErr result (IsFirstFault (text_by (chain_text_said zone.now sysmod.now)
+        (chain_inputs_of lists.entry (map (λ body. body.items) publications.items)))) }
 
     // A desk answers the same.
     ensures desk { IfOk result (λ text. IsDesksAnswer zone.now
-        (inputs_of lists.entry (map (λ body. body.items) publications.items))
+        (chain_inputs_of lists.entry (map (λ body. body.items) publications.items))
         (call.chain zone.now sysmod.now) (as_json text.items)) }
 {
-    let read = read_all(alloc, lists, publications)?;
+    let read = read_all(alloc, lists.zone_alone(), publications)?;
     Ok(chain_text_in(alloc, zone, sysmod, read)?)
 }
 
@@ -113,7 +113,8 @@ pub fn chain_report(
 fn err_text_in(alloc: Global, zone: &Id, read: Read) -> Result<Vec<u8>, SourceFault>
     requires received { Ascend read.received.items }
     requires content { IsInOrder read.content }
-    ensures { IfOk result (λ text. text.items ≡ err_text_said zone.now (said_of read)) }
+    ensures text { IfOk result (λ text. text.items ≡ err_text_said zone.now (said_of read)) }
+    ensures fault { IfErr result (λ fault. fault ≡ SourceFault.Memory) }
 {
     let Read {
         installed,
@@ -138,7 +139,8 @@ fn err_text_in(alloc: Global, zone: &Id, read: Read) -> Result<Vec<u8>, SourceFa
 fn missing_text_in(alloc: Global, zone: &Id, read: Read) -> Result<Vec<u8>, SourceFault>
     requires received { Ascend read.received.items }
     requires content { IsInOrder read.content }
-    ensures { IfOk result (λ text. text.items ≡ missing_text_said zone.now (said_of read)) }
+    ensures text { IfOk result (λ text. text.items ≡ missing_text_said zone.now (said_of read)) }
+    ensures fault { IfErr result (λ fault. fault ≡ SourceFault.Memory) }
 {
     let Read {
         installed,
@@ -163,7 +165,8 @@ fn missing_text_in(alloc: Global, zone: &Id, read: Read) -> Result<Vec<u8>, Sour
 // The verdict of what was read.
 fn chain_text_in(alloc: Global, zone: &Id, sysmod: &Id, read: Read) -> Result<Vec<u8>, SourceFault>
     requires { IsInOrder read.content }
-    ensures { IfOk result (λ text. text.items ≡ chain_text_said zone.now sysmod.now (said_of read)) }
+    ensures text { IfOk result (λ text. text.items ≡ chain_text_said zone.now sysmod.now (said_of read)) }
+    ensures fault { IfErr result (λ fault. fault ≡ SourceFault.Memory) }
 {
     let Read {
         installed,
@@ -185,6 +188,7 @@ fn verdict_in(
     requires { IsInOrder content.old }
     ensures verdict { IfOk result (λ verdict.
         judge.judged_by verdict ≡ verdict_of content.old installed.now sysmod.now) }
+    ensures fault { IfErr result (λ fault. fault ≡ SourceFault.Memory) }
     ensures same { content.new ≡ content.old }
 {
     match frame_within(alloc, content, sysmod, NODES_MOST)? {

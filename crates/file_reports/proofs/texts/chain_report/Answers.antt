@@ -1,13 +1,28 @@
-use Rattle.std.proofs.Common.{map}
-use Rattle.file_reports.specs.Lists.{inputs_of}
+use Rattle.std.proofs.Common.{map, refl, ◌∙◌, sym, ap, subst}
+use Rattle.file_reports.specs.Inputs.{Inputs, IsFirstFault, said_by}
+use Rattle.file_reports.specs.Lists.{chain_inputs_of}
 use Rattle.file_reports.specs.Read.{said_of}
 use Rattle.file_reports.specs.Reports.{chain_text_said}
-use Rattle.file_reports.proofs.DeskFacts.{chain_answered}
-use Rattle.file_reports.proofs.ReportFacts.{text_said}
+use Rattle.file_reports.proofs.DeskFacts.{chain_answered, few_enough}
+use Rattle.file_reports.proofs.ReportFacts.{text_refused, text_said}
 use Rattle.file_reports.proofs.texts.chain_report.Goals as goal
+
+pub returns-clause-text : goal.returns-clause-text
+returns-clause-text c =
+    let bodies = map (λ body. body.items) c.args.publications.items in
+    text_said (chain_text_said c.args.zone.now c.args.sysmod.now) (chain_inputs_of c.args.lists bodies) (said_of c.in_ok-read.read) c.in_ok-chain_text_in.field-0.items
+    (sym (ap said_by (c.zone_alone.ensures bodies)) ∙ c.in_ok-read.ensures.said) c.in_ok-chain_text_in.ensures.text
 
 pub returns-clause-desk : goal.returns-clause-desk
 returns-clause-desk c =
-    let inputs = inputs_of c.args.lists (map (λ body. body.items) c.args.publications.items) in
+    let bodies = map (λ body. body.items) c.args.publications.items in
+    let inputs = chain_inputs_of c.args.lists bodies in
     let text = c.in_ok-chain_text_in.field-0.items in
-    chain_answered c.args.zone.now c.args.sysmod.now inputs text (text_said (chain_text_said c.args.zone.now c.args.sysmod.now) inputs (said_of c.in_ok-read.read) text c.in_ok-read.ensures.said c.in_ok-chain_text_in.ensures)
+    chain_answered c.args.zone.now c.args.sysmod.now inputs text (few_enough (λ body. body.items) c.args.publications inputs refl)
+    (text_said (chain_text_said c.args.zone.now c.args.sysmod.now) inputs (said_of c.in_ok-read.read) text (sym (ap said_by (c.zone_alone.ensures bodies)) ∙ c.in_ok-read.ensures.said) c.in_ok-chain_text_in.ensures.text)
+
+pub returns-in_err-read-clause-fault : goal.returns-in_err-read-clause-fault
+returns-in_err-read-clause-fault c =
+    let bodies = map (λ body. body.items) c.args.publications.items in
+    text_refused (chain_text_said c.args.zone.now c.args.sysmod.now) (chain_inputs_of c.args.lists bodies) c.from_residual.result c.in_err-read.field-0.0 c.from_residual.ensures.1
+    (subst (λ (inputs : Inputs). IsFirstFault (said_by inputs) c.in_err-read.field-0.0) (c.zone_alone.ensures bodies) c.in_err-read.ensures.fault)
