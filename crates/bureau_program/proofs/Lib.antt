@@ -12,4 +12,5 @@ pub mod RunsFacts
 pub mod ServingFacts
 pub mod StayFacts
 mod ReplayFacts
+mod ReportFilesFacts
 mod ReportingFacts

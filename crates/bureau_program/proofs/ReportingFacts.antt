@@ -1,14 +1,22 @@
--- The line of a fault with the file that it is in, written in four parts.
-use Rattle.std.proofs.Common.{◌≡◌, ℕ, ◌-◌, List, ◌++◌, length, take, Option, ◌∙◌, ap, subst, arith}
+-- The line of a fault with the file that it is in, written in four parts; and that there is such a file.
+use Rattle.std.proofs.Common.{◌≡◌, ℕ, ◌+◌, ◌-◌, List, [], ◌∷◌, ◌++◌, length, take, inl, inr, Option, Some, None, sym, ◌∙◌, ap, subst, arith}
 use Rattle.std.proofs.KnownBytes.{Appends-trans}
 use Rattle.std.proofs.lemmas.List.{length-append, take_at}
-use Rattle.std.specs.Prelude.{codes, decimal}
+use Rattle.std.specs.Prelude.{IfSome, codes, decimal}
 use Rattle.std.specs.Io.KnownBytes.{Appends}
 use Rattle.faults.specs.FaultText.{place_text, text_of}
 use Rattle.faults.specs.declared.any.AnyFault.{AnyFault}
+use Rattle.file_reports.proofs.InputFacts.{fault_given}
+use Rattle.file_reports.specs.Inputs.{Inputs, IsGiven}
+use Rattle.file_reports.specs.declared.fault.Input.{Input}
+use Rattle.file_reports.specs.declared.fault.Input.TheVariants as input
+use Rattle.file_reports.specs.declared.fault.InputFault.{InputFault}
 use Rattle.transfer.specs.Transfer.{AppendsFront}
 use Rattle.transfer.proofs.FrontFacts.{front_first, front_second}
-use Rattle.bureau_program.specs.Reporting.{line_in}
+use Rattle.bureau_program.specs.Reporting.{AreNamed, HasName, IsReportOutput, line_in, made_by, read_by, report_text}
+use Rattle.bureau_program.specs.declared.report_files.ReportFiles.{ReportFiles}
+use Rattle.bureau_program.specs.declared.reporting.Report.{Report}
+use Rattle.bureau_program.specs.declared.reporting.Report.TheVariants.{Chain, ErrSysmods, MissingFix}
 
 -- what stands in the line before the name of the file
 abbrev pub line_front : AnyFault → List ℕ
@@ -47,3 +55,28 @@ module _ (fault : AnyFault) (name front : List ℕ) (front_is : front ≡ line_f
   cut_in_end first second third last before blank named now =
       whole last (front_second old third last (front ++ codes " " ++ name) (codes "\n")
       (Appends-trans old second third (front ++ codes " ") name (Appends-trans old first second front (codes " ") before blank) named) now)
+
+-- ---- the fault of a report
+
+-- what a report reads is given
+given_of : (report : Report) (inputs : Inputs) (at : Input) → IsGiven (read_by report inputs) at → IsGiven inputs at
+given_of ErrSysmods inputs input.Zone there = tt
+given_of ErrSysmods inputs input.Categories there = absurd (cc there)
+given_of ErrSysmods inputs input.Received there = there
+given_of ErrSysmods inputs (input.Publication index) there = there
+given_of MissingFix inputs at there = there
+given_of (Chain sysmod) inputs input.Zone there = tt
+given_of (Chain sysmod) inputs input.Categories there = absurd (cc there)
+given_of (Chain sysmod) inputs input.Received there = absurd (cc there)
+given_of (Chain sysmod) inputs (input.Publication index) there = there
+
+-- the input that has a fault stands in a file that has a name
+pub fault_named : (files : ReportFiles) (report : Report) (zone : List ℕ) (inputs : Inputs) (told : InputFault) (old new : Option (List ℕ)) → AreNamed files inputs
+    → IsReportOutput (Some told) (made_by report zone inputs) old new → HasName files told.input
+fault_named files report zone inputs told old new named (inl cut) = subst (λ (told : InputFault). HasName files told.input) (sym cut.0) tt
+fault_named files report zone inputs told old new named (inr refused) =
+    by told.input (fault_given (report_text report zone) (read_by report inputs) told refused.0)
+  where
+    by : (at : Option Input) → IfSome at (IsGiven (read_by report inputs)) → HasName files at
+    by None there = tt
+    by (Some at) there = named at (given_of report inputs at there)

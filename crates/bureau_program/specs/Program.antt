@@ -7,9 +7,9 @@ use Rattle.clap.specs.Words.{fault_of}
 use Rattle.sqlite_disk.specs.declared.Disk as disk
 use Rattle.sqlite_wal.specs.Recovery.{Image}
 use Rattle.faults.specs.declared.any.AnyFault.{AnyFault}
-use Rattle.transfer.specs.Transfer.{AppendsFront}
 use Rattle.bureau_program.specs.Holds.{IsHoldsRun, IsTold}
 use Rattle.bureau_program.specs.Line.{bureau_app, IsLineOf}
+pub use Rattle.bureau_program.specs.Outputs.{Outputs, IsEndedBy, IsExplained, outputs_of}
 use Rattle.bureau_program.specs.Desk.{IsCallersFault, IsInitRun, LeavesMade, of_store}
 use Rattle.bureau_program.specs.Ended.{IsNothing, IsRefused}
 use Rattle.bureau_program.specs.Keeping.{KeepsFound, KeepsMade, KeepsMigrated, KeepsServed}
@@ -20,34 +20,12 @@ use Rattle.bureau_program.specs.ProgramFault.{of_program, status_of}
 use Rattle.bureau_program.specs.Replay.{IsReplayRun}
 use Rattle.bureau_program.specs.Surroundings.{KnownFile, AreContents, IsContent, IsNotOpened, IsOpened}
 use Rattle.bureau_program.specs.declared.ended.Ended.{Ended}
-use Rattle.bureau_program.specs.declared.fault.ProgramFault.{ProgramFault}
 use Rattle.bureau_program.specs.declared.fault.ProgramFault.TheVariants.{NotRead, Memory}
 use Rattle.bureau_program.specs.declared.line.Line.{Line}
 use Rattle.bureau_program.specs.declared.line.Line.TheVariants as line
 use Rattle.bureau_program.specs.declared.line.LineFault.{LineFault}
 use Rattle.bureau_program.specs.declared.line.LineFault.TheVariants as line_fault
 use Rattle.bureau_program.specs.declared.serving.Service.{Service}
-
--- What standard output and standard error had before a run and have after it, where that is known.
-pub record Outputs : Type 0 where
-  pub output : Option (List ℕ)
-  pub written : Option (List ℕ)
-  pub errors : Option (List ℕ)
-  pub told : Option (List ℕ)
-
--- the same, by how what a writer has is known
-abbrev pub outputs_of : {Output Errors : Type 0} → (Output → Option (List ℕ)) → (Errors → Option (List ℕ)) → Output → Output → Errors → Errors → Outputs
-outputs_of contents errors_contents output written errors told = record {
-  output = contents output;
-  written = contents written;
-  errors = errors_contents errors;
-  told = errors_contents told;
-}
-
--- a run that ends before it makes anything: standard output stays, standard error has the fault's line, the status is 3
-abbrev pub IsEndedBy : ProgramFault → Outputs → ℕ → Type 0
-IsEndedBy fault outputs status =
-    Keeps outputs.output outputs.written × IsTold (Some (of_program fault)) outputs.errors outputs.told × (status ≡ 3)
 
 -- the hold book of what a file has; or the file can't be opened
 abbrev pub IsHoldsOf : KnownFile → Outputs → ℕ → Type 0
@@ -87,11 +65,6 @@ HasCallerFault callers fault = (source : List ℕ) × IsContent callers source �
 -- the callers file can't be read or has a fault, or memory ran out
 abbrev pub IsNotBegun : KnownFile → AnyFault → Type 0
 IsNotBegun callers fault = (fault ≡ of_program NotRead) ⊎ (fault ≡ of_program Memory) ⊎ HasCallerFault callers fault
-
--- words that are no line: what to tell the user stands on standard error
-abbrev pub IsExplained : List ℕ → Outputs → ℕ → Type 0
-IsExplained text outputs status =
-    Keeps outputs.output outputs.written × AppendsFront outputs.errors outputs.told text × (status ≡ 2)
 
 -- What a run may find: files by their names, what the two files of a store of a name may hold, the ports that it asks for, and
 -- what came over its connections before it and by its end.

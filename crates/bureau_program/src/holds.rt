@@ -55,19 +55,25 @@ fn print_holds<R: Read, W: Write>(
         (fault_in result) }
     ensures taken { ConsumesUpTo most_read (R.remaining reader.old) (R.remaining reader.new) }
 {
-    let source = read_input(alloc, reader)?;
+    let source = read_input(alloc, reader, &mut { RETRIES })?;
     let text = hold_book_text(alloc, source)?;
     Ok(write_text(writer, text.as_slice())?)
 }
 
-// What the reader gives, up to one byte more than a source may have.
-fn read_input<R: Read>(alloc: Global, reader: &mut R) -> Result<Vec<u8>, ProgramFault>
+/// What the reader gives, up to one byte more than a source may have, in room of its own size.
+pub fn read_input<R: Read>(
+    alloc: Global,
+    reader: &mut R,
+    retries: &mut u32,
+) -> Result<Vec<u8>, ProgramFault>
     ensures ok { IfOk result (λ source. IfSome (R.remaining reader.old)
         (λ bytes. source.items ≡ take most_read bytes)) }
     ensures fault { IfErr result (IsRefusal ProgramFault.Memory (λ fault. fault ≡ ProgramFault.NotRead)) }
     ensures taken { ConsumesUpTo most_read (R.remaining reader.old) (R.remaining reader.new) }
 {
-    Ok(read_source(alloc, reader, MOST_READ, &mut { RETRIES })?)
+    let mut source = read_source(alloc, reader, MOST_READ, retries)?;
+    source.shrink_to_fit();
+    Ok(source)
 }
 
 /// Writes a whole text.

@@ -3,6 +3,7 @@
 //! - [`run`]: a whole run, by the words of its command line
 //! - [`run_holds`]: the hold book that a source leaves, in print
 //! - [`run_replay`]: what a desk in memory writes to connections that stand in files
+//! - [`run_report`]: a report of bytes of files, as [`ReportAsked`]; [`ReportFiles`]: the names of its files
 //! - [`run_init`], [`run_open`], [`run_migrate`]: a store is made, opened, or made one of version 2
 //! - [`open_and_serve`]: a desk over a store, as a [`Service`]; [`serve_arrivals`]: over any connections
 //! - [`run_serve`]: over the files of a store, whenever the run stops; [`law`]: for any number of runs
@@ -31,6 +32,7 @@ mod line;
 mod migrating;
 mod program;
 mod replay;
+mod report_files;
 mod reporting;
 mod serving;
 mod surroundings;
@@ -42,6 +44,7 @@ pub use line::{Line, LineFault, line_of};
 pub use migrating::run_migrate;
 pub use program::run;
 pub use replay::run_replay;
-pub use reporting::{Asked, Names, Report, run_report};
+pub use report_files::ReportFiles;
+pub use reporting::{Report, ReportAsked, run_report};
 pub use serving::{Service, open_and_serve, run_serve, serve_arrivals};
 pub use surroundings::Surroundings;

@@ -138,7 +138,7 @@ fn do_holds<S: Surroundings, I: Read, O: Write, E: Write>(
 }
 
 // Whether a FILE of the command line stands for standard input.
-fn is_standard_input(file: &str) -> bool
+pub(crate) fn is_standard_input(file: &str) -> bool
     ensures { IsTrue result ↔ (file.now ≡ codes "-") }
 {
     file == "-"
@@ -265,7 +265,7 @@ fn read_file<S: Surroundings>(
 }
 
 // Tells a fault on standard error, and gives the exit status.
-fn refuse<E: Write>(errors: &mut E, fault: ProgramFault) -> u8
+pub(crate) fn refuse<E: Write>(errors: &mut E, fault: ProgramFault) -> u8
     ensures told { IsTold (Some (of_program fault)) (E.contents errors.old) (E.contents errors.new) }
     ensures status { result ≡ 3 }
 {
@@ -275,7 +275,7 @@ fn refuse<E: Write>(errors: &mut E, fault: ProgramFault) -> u8
 }
 
 // Tells why the words of the command line name no command that could be done.
-fn explain<E: Write>(errors: &mut E, text: &str) -> u8
+pub(crate) fn explain<E: Write>(errors: &mut E, text: &str) -> u8
     ensures told { AppendsFront (E.contents errors.old) (E.contents errors.new) text.now }
     ensures status { result ≡ 2 }
 {

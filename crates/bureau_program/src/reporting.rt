@@ -1,11 +1,14 @@
 //! `errsysmods`, `missingfix` and `chain`: reports from files, with no desk.
-ghost use Rattle.std.specs.Prelude.{◌≡◌, ◌-◌, ◌++◌, codes, length, map, take, IfErr, IfOk, None, Ok};
-ghost use Rattle.file_reports.specs.Inputs.{IsOfMachine, IsRefused};
+ghost use Rattle.std.specs.Prelude.{◌≡◌, ◌-◌, ◌++◌, codes, length, map, option_map, string_bytes, take, IfErr, IfOk, IsSome, None, Ok, Some};
+ghost use Rattle.file_reports.specs.Inputs.{IsOutOfMemory, IsFirstFault};
 ghost use Rattle.transfer.specs.Transfer.{AppendsFront};
-ghost use Rattle.bureau_program.specs.Reporting.{IsReportOutput, IsReportRun, input_fault_in, line_in, line_told, made_of, name_in};
+ghost use Rattle.file_reports.specs.Lists.{inputs_of};
+ghost use Rattle.bureau_program.specs.Reporting.{AreNamed, HasName, IsReportOutput, IsReportRun, IsToldOf, input_fault_in, line_in, made_of, name_of};
 
-use crate::fault::{ProgramFault, exit_status, report, tell};
+use crate::fault::{exit_status, report, tell};
 use crate::holds::write_text;
+use crate::report_files::ReportFiles;
+use catalogue::SourceFault;
 use faults::AnyFault;
 use file_reports::{Input, InputFault, Lists, chain_report, err_report, missing_report};
 use mcs_reader::Id;
@@ -23,22 +26,13 @@ pub enum Report {
     Chain(Id),
 }
 
-/// The files of a report, by their names.
-#[derive(Clone, Copy, Debug)]
-pub struct Names<'a> {
-    pub zone: &'a str,
-    pub categories: &'a str,
-    pub received: &'a str,
-    pub publications: &'a [String],
-}
-
 /// What is asked: which report, of which zone, with its lists, and the names of all files.
 #[derive(Clone, Copy, Debug)]
-pub struct Asked<'a> {
+pub struct ReportAsked<'a, 'f> {
     pub report: Report,
     pub zone: Id,
     pub lists: Lists<'a>,
-    pub names: Names<'a>,
+    pub files: &'f ReportFiles,
 }
 
 /// Prints a report of the publications and of a zone's lists. Returns the exit status.
@@ -47,19 +41,21 @@ pub struct Asked<'a> {
 /// its line or record, and the name of the file that it is in.
 pub fn run_report<W: Write, E: Write>(
     alloc: Global,
-    asked: &Asked<'_>,
+    asked: &ReportAsked<'_, '_>,
     publications: Vec<Vec<u8>>,
     writer: &mut W,
     errors: &mut E,
 ) -> u8
-    ensures { IsReportRun asked.now.names (made_of asked.now (map (λ body. body.items) publications.items))
+    requires { AreNamed asked.now.files.now
+        (inputs_of asked.now.lists (map (λ body. body.items) publications.items)) }
+    ensures { IsReportRun asked.now.files.now (made_of asked.now (map (λ body. body.items) publications.items))
         (W.contents writer.old) (W.contents writer.new)
         (E.contents errors.old) (E.contents errors.new) result }
 {
     match print_report(alloc, asked, publications, writer) {
         Ok(()) => 0,
         Err(told) => {
-            let _ = tell_fault(errors, &asked.names, told);
+            let _ = tell_fault(errors, asked.files, told);
             exit_status(told.fault)
         }
     }
@@ -68,7 +64,7 @@ pub fn run_report<W: Write, E: Write>(
 // Prints the report.
 fn print_report<W: Write>(
     alloc: Global,
-    asked: &Asked<'_>,
+    asked: &ReportAsked<'_, '_>,
     publications: Vec<Vec<u8>>,
     writer: &mut W,
 ) -> Result<(), InputFault>
@@ -95,13 +91,13 @@ fn of_no_input(fault: AnyFault) -> InputFault
 // The text of the report.
 fn report_text(
     alloc: Global,
-    asked: &Asked<'_>,
+    asked: &ReportAsked<'_, '_>,
     publications: Vec<Vec<u8>>,
 ) -> Result<Vec<u8>, InputFault>
     ensures text { IfOk result (λ text.
         made_of asked.now (map (λ body. body.items) publications.items) ≡ Ok text.items) }
     ensures fault { IfErr result
-        (IsRefused (made_of asked.now (map (λ body. body.items) publications.items))) }
+        (IsFirstFault (made_of asked.now (map (λ body. body.items) publications.items))) }
 {
     match asked.report {
         Report::ErrSysmods => err_report(alloc, &asked.zone, asked.lists, publications),
@@ -116,22 +112,23 @@ fn report_text(
 // A text with a line end after it.
 fn with_line_end(text: Vec<u8>) -> Result<Vec<u8>, InputFault>
     ensures text { IfOk result (λ line. line.items ≡ text.items ++ codes "\n") }
-    ensures fault { IfErr result IsOfMachine }
+    ensures fault { IfErr result IsOutOfMemory }
 {
     let mut text = text;
     match text.push(b'\n') {
         Ok(()) => Ok(text),
-        Err(_) => Err(of_no_input(AnyFault::from(ProgramFault::Memory))),
+        Err(_) => Err(InputFault::from(SourceFault::Memory)),
     }
 }
 
 // Tells a fault, with the name of the file that it is in.
-fn tell_fault<E: Write>(errors: &mut E, names: &Names<'_>, told: InputFault) -> io::Result<()>
-    ensures { AppendsFront (E.contents errors.old) (E.contents errors.new) (line_told names.now told) }
+fn tell_fault<E: Write>(errors: &mut E, files: &ReportFiles, told: InputFault) -> io::Result<()>
+    requires { HasName files.now told.input }
+    ensures { IsToldOf files.now told.fault told.input (E.contents errors.old) (E.contents errors.new) }
 {
     match told.input {
         None => report(errors, told.fault),
-        Some(input) => tell_in(errors, told.fault, name_in(names, input)),
+        Some(input) => tell_in(errors, told.fault, name_in(files, input)),
     }
 }
 
@@ -154,16 +151,25 @@ fn without_end(line: &[u8]) -> &[u8]
 }
 
 // The name of the file that an input stands in.
-fn name_in<'a>(names: &Names<'a>, input: Input) -> &'a str
-    ensures { result.now ≡ name_in names.now input }
+fn name_in(files: &ReportFiles, input: Input) -> &str
+    requires { IsSome (name_of files.now input) }
+    ensures { name_of files.now input ≡ Some result.now }
 {
     match input {
-        Input::Zone => names.zone,
-        Input::Categories => names.categories,
-        Input::Received => names.received,
-        Input::Publication(index) => match names.publications.get(index) {
-            Some(name) => name.as_str(),
-            None => "",
-        },
+        Input::Zone => files.zone.as_str(),
+        Input::Categories => text_in(&files.categories),
+        Input::Received => text_in(&files.received),
+        Input::Publication(index) => files.publications[index].as_str(),
+    }
+}
+
+// The text that is there.
+fn text_in(text: &Option<String>) -> &str
+    requires { IsSome (option_map string_bytes text.now) }
+    ensures { option_map string_bytes text.now ≡ Some result.now }
+{
+    match text {
+        Some(text) => text.as_str(),
+        None => unreachable!(),
     }
 }

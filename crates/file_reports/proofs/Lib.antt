@@ -1,3 +1,3 @@
 mod DeskFacts
-mod InputFacts
+pub mod InputFacts
 mod ReportFacts
