@@ -18,6 +18,7 @@ use Rattle.bureau_program.specs.Runs.{GoesOn}
 use Rattle.bureau_program.specs.Serving.{IsServeRun, file_ends, session_of}
 use Rattle.bureau_program.specs.ProgramFault.{of_program, status_of}
 use Rattle.bureau_program.specs.Replay.{IsReplayRun}
+use Rattle.bureau_program.specs.ReportFiles.{IsChain, IsReport}
 use Rattle.bureau_program.specs.Surroundings.{KnownFile, AreContents, IsContent, IsNotOpened, IsOpened}
 use Rattle.bureau_program.specs.declared.ended.Ended.{Ended}
 use Rattle.bureau_program.specs.declared.fault.ProgramFault.TheVariants.{NotRead, Memory}
@@ -25,6 +26,7 @@ use Rattle.bureau_program.specs.declared.line.Line.{Line}
 use Rattle.bureau_program.specs.declared.line.Line.TheVariants as line
 use Rattle.bureau_program.specs.declared.line.LineFault.{LineFault}
 use Rattle.bureau_program.specs.declared.line.LineFault.TheVariants as line_fault
+use Rattle.bureau_program.specs.declared.reporting.Report.TheVariants.{ErrSysmods, MissingFix}
 use Rattle.bureau_program.specs.declared.serving.Service.{Service}
 
 -- the hold book of what a file has; or the file can't be opened
@@ -120,7 +122,7 @@ module _ (found : Found) (from : Image) {D : Type 0} {g : disk.Ghosts D} where
     pub migrated : IsMigrateRun (λ outcome. LeavesMigrated from outcome ended) outputs.output outputs.written outputs.errors outputs.told status
     pub kept : KeepsMigrated from migrated.outcome ended
 
-  -- What a line asks for is done, or what is wrong with the words is told. Standard input is read for `holds -` alone, connections
+  -- What a line asks for is done, or what is wrong with the words is told. Standard input is read where a FILE is `-`, connections
   -- come for `serve` alone, and the files of a store are opened where a STORE is named, and nowhere else.
   abbrev pub IsAnswered : Result Line LineFault → Option (List ℕ) → Option (List ℕ) → Outputs → ℕ → Ended D g → Type 0
   IsAnswered (Ok (line.Holds file)) input rest outputs status ended =
@@ -133,6 +135,12 @@ module _ (found : Found) (from : Image) {D : Type 0} {g : disk.Ghosts D} where
       Keeps input rest × IsServe (record { port = port; cache = cache; connections = connections }) (string_bytes store) outputs status ended
   IsAnswered (Ok (line.Migrate store)) input rest outputs status ended =
       Keeps input rest × NobodyCame found × IsMigrate (string_bytes store) outputs status ended
+  IsAnswered (Ok (line.ErrSysmods files)) input rest outputs status ended =
+      IsReport found.files ErrSysmods files input rest outputs status × NobodyCame found × IsNothing ended
+  IsAnswered (Ok (line.MissingFix files)) input rest outputs status ended =
+      IsReport found.files MissingFix files input rest outputs status × NobodyCame found × IsNothing ended
+  IsAnswered (Ok (line.Chain sysmod files)) input rest outputs status ended =
+      IsChain found.files (string_bytes sysmod) files input rest outputs status × NobodyCame found × IsNothing ended
   IsAnswered (Err (line_fault.Words text)) input rest outputs status ended =
       Keeps input rest × IsExplained (string_bytes text) outputs status × NobodyCame found × IsNothing ended
   IsAnswered (Err line_fault.Memory) input rest outputs status ended = Keeps input rest × IsEndedBy Memory outputs status × NobodyCame found × IsNothing ended

@@ -15,6 +15,8 @@ use crate::holds::run_holds;
 use crate::line::{Line, LineFault, line_of};
 use crate::migrating::migrate_file;
 use crate::replay::run_replay;
+use crate::report_files::{do_chain, do_report};
+use crate::reporting::Report;
 use crate::serving::{Service, run_serve};
 use crate::surroundings::Surroundings;
 use faults::AnyFault;
@@ -28,7 +30,8 @@ const NOT_UNDERSTOOD: u8 = 2;
 
 /// Does what the words of the command line ask for, and returns the exit status, and what is left of a store's files.
 ///
-/// Standard input is read where `holds` has `-` for a FILE, and nowhere else. Every other FILE is opened by its name.
+/// Standard input is read where `-` stands for a FILE of `holds` or of a report, and nowhere else. Every other FILE is
+/// opened by its name.
 /// What is made of it goes to standard output, and a fault's line to standard error. Connections come where the line asks
 /// for `serve`, and nowhere else. `start` stands for what the files of STORE hold as the run begins.
 pub fn run<S: Surroundings, D: Start, I: Read, O: Write, E: Write>(
@@ -110,6 +113,21 @@ fn answer<S: Surroundings, D: Start, I: Read, O: Write, E: Write>(
         }
         Ok(Line::Migrate { store }) => {
             migrate_file(surroundings, alloc, store.as_str(), start, output, errors)
+        }
+        Ok(Line::ErrSysmods { files }) => {
+            let report = Report::ErrSysmods;
+            let status = do_report(surroundings, alloc, report, &files, input, output, errors);
+            (status, Ended::Nothing)
+        }
+        Ok(Line::MissingFix { files }) => {
+            let report = Report::MissingFix;
+            let status = do_report(surroundings, alloc, report, &files, input, output, errors);
+            (status, Ended::Nothing)
+        }
+        Ok(Line::Chain { sysmod, files }) => {
+            let sysmod = sysmod.as_str();
+            let status = do_chain(surroundings, alloc, sysmod, &files, input, output, errors);
+            (status, Ended::Nothing)
         }
         Err(LineFault::Words(text)) => (explain(errors, text.as_str()), Ended::Nothing),
         Err(LineFault::Memory) => (refuse(errors, ProgramFault::Memory), Ended::Nothing),
