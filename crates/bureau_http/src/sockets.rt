@@ -46,16 +46,16 @@ impl Patience {
 /// What is written goes out at once. A client that is slow or silent doesn't keep the desk longer than its patience
 /// lasts.
 #[derive(Drop)]
-pub struct Sockets<'a, C> {
+pub struct Sockets<'a, 'c, C> {
     listener: &'a TcpListener,
-    clock: &'a C,
+    clock: &'c C,
     /// How long it waits for each client.
     pub patience: Patience,
 }
 
-impl<'a, C: Clock> Sockets<'a, C> {
+impl<'a, 'c, C: Clock> Sockets<'a, 'c, C> {
     /// The connections of a listener.
-    pub fn new(listener: &'a TcpListener, clock: &'a C, patience: Patience) -> Self
+    pub fn new(listener: &'a TcpListener, clock: &'c C, patience: Patience) -> Self
         ensures patience { result.patience ≡ patience }
     {
         Sockets {
@@ -66,7 +66,7 @@ impl<'a, C: Clock> Sockets<'a, C> {
     }
 
     // The next connection, with its limits set.
-    fn next(&self) -> io::Result<(Side<'a, C>, Side<'a, C>)>
+    fn next(&self) -> io::Result<(Side<'c, C>, Side<'c, C>)>
         ensures reader { IfOk result (λ both. both.0.each ≡ self.now.patience.each) }
         ensures writer { IfOk result (λ both. both.1.each ≡ self.now.patience.each) }
     {
@@ -95,14 +95,14 @@ impl<'a, C: Clock> Sockets<'a, C> {
     }
 }
 
-impl<'a, C: Clock> Listening for Sockets<'a, C> {
-    type Reader = Side<'a, C>;
+impl<'c, C: Clock> Listening for Sockets<'_, 'c, C> {
+    type Reader = Side<'c, C>;
 
-    type Writer = Side<'a, C>;
+    type Writer = Side<'c, C>;
 
     ghost log = { λ _. None };
 
-    fn accept(&mut self) -> io::Result<(Side<'a, C>, Side<'a, C>)> {
+    fn accept(&mut self) -> io::Result<(Side<'c, C>, Side<'c, C>)> {
         let came = self.next();
         if came.is_err() {
             self.clock.sleep(Duration::from_millis(PAUSE));
@@ -114,8 +114,8 @@ impl<'a, C: Clock> Listening for Sockets<'a, C> {
     // So first its sending side ends, and what still comes is read for a while (RFC 9112, section 9.6).
     fn close(
         &mut self,
-        reader: Side<'a, C>,
-        _writer: Side<'a, C>,
+        reader: Side<'c, C>,
+        _writer: Side<'c, C>,
         _ended: Result<Served, ConnFault>,
     ) {
         let Side { stream, .. } = reader;

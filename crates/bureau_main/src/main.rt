@@ -3,21 +3,21 @@
 
 mod system;
 
-use sqlite::Unknown;
+use sqlite::Wary;
 use std::process::ExitCode;
 use system::System;
 
 fn main(rt: HostRuntime) -> ExitCode {
     let (mut input, mut output, mut errors) = (rt.stdin(), rt.stdout(), rt.stderr());
-    let (system, alloc) = (System::new(&rt), rt.alloc());
+    let (mut system, alloc) = (System::new(&rt), rt.alloc());
     let (status, ended) = bureau_program::run(
-        &system,
+        &mut system,
         alloc,
-        Unknown,
+        Wary,
         &mut input,
         &mut output,
         &mut errors,
     );
-    ended.close();
+    drop(ended.close());
     ExitCode::from(status)
 }

@@ -1,6 +1,7 @@
-//! What the system gives a run: words, files, ports, random keys and clocks.
+//! What the system gives a run: words, files, connections to a port, random keys and clocks.
 ghost use Rattle.std.specs.Prelude.{◌≡◌, ◌⊎◌};
 
+use bureau_http::{ConnFault, Listening, Patience, Served, Side, Sockets};
 use bureau_program::{Ended, LineFault, Surroundings};
 use bureau_store::StoreFault;
 use sqlite::{Connection, Error, ErrorCode, FileFrom, FileStore, Start};
@@ -9,32 +10,47 @@ use std::fs::File;
 use std::hash::RandomState;
 use std::net::{Ipv4Addr, TcpListener};
 use std::path::Path;
-use std::time::{Clock, Duration};
 use std::{env, io};
 
 /// The system's own words, files, ports and clocks.
 #[derive(Drop)]
 pub(crate) struct System<'a> {
     rt: &'a HostRuntime,
+    // That of the port that is listened on.
+    listener: Option<TcpListener>,
 }
 
 impl<'a> System<'a> {
     pub(crate) fn new(rt: &'a HostRuntime) -> System<'a> {
-        System { rt }
+        System { rt, listener: None }
     }
 }
 
-impl Clock for System<'_> {
-    fn monotonic(&self) -> io::Result<Duration> {
-        self.rt.monotonic()
+impl<'a> Listening for System<'a> {
+    ghost use Rattle.std.specs.Prelude.{None};
+
+    type Reader = Side<'a, HostRuntime>;
+
+    type Writer = Side<'a, HostRuntime>;
+
+    ghost log = { λ _. None };
+
+    fn accept(&mut self) -> io::Result<(Side<'a, HostRuntime>, Side<'a, HostRuntime>)> {
+        match &self.listener {
+            Some(listener) => Sockets::new(listener, self.rt, Patience::usual()).accept(),
+            None => Err(io::Error::from(io::ErrorKind::NotConnected)),
+        }
     }
 
-    fn since_1970(&self) -> io::Result<Duration> {
-        self.rt.since_1970()
-    }
-
-    fn sleep(&self, duration: Duration) {
-        self.rt.sleep(duration);
+    fn close(
+        &mut self,
+        reader: Side<'a, HostRuntime>,
+        writer: Side<'a, HostRuntime>,
+        ended: Result<Served, ConnFault>,
+    ) {
+        if let Some(listener) = &self.listener {
+            Sockets::new(listener, self.rt, Patience::usual()).close(reader, writer, ended);
+        }
     }
 }
 
@@ -49,6 +65,8 @@ impl Surroundings for System<'_> {
     ghost known_file = { λ _ _. Unknown };
 
     ghost known_store = { λ _ _ _. Unit {0} };
+
+    ghost known_port = { λ _ _. Unit {0} };
 
     fn words(&self, alloc: Global) -> Result<Vec<String>, LineFault> {
         match env::args(self.rt) {
@@ -81,8 +99,9 @@ impl Surroundings for System<'_> {
         }
     }
 
-    fn listen(&self, port: u16) -> io::Result<TcpListener> {
-        TcpListener::bind(self.rt, (Ipv4Addr::LOCALHOST, port))
+    fn listen(&mut self, port: u16) -> io::Result<()> {
+        self.listener = Some(TcpListener::bind(self.rt, (Ipv4Addr::LOCALHOST, port))?);
+        Ok(())
     }
 
     fn random_keys(&self) -> io::Result<RandomState> {

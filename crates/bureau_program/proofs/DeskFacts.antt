@@ -1,5 +1,5 @@
 -- What `init` leaves of a database, and what it and an opening tell.
-use Rattle.std.proofs.Common.{◌≡◌, ◌∙◌, ℕ, List, Option, None, Some, Ok, Err, Result, IfErr, IsTrue, ap, arith, inl, inr, refl, subst, sym, true}
+use Rattle.std.proofs.Common.{◌≡◌, ◌∙◌, ℕ, List, Option, Some, Ok, Err, Result, IfErr, IsTrue, ap, arith, inl, inr, refl, subst, sym, true}
 use Rattle.std.specs.Io.KnownBytes.{Keeps}
 use Rattle.faults.specs.declared.any.AnyFault.{AnyFault}
 use Rattle.bureau_sql.specs.Founded.{AreFounded, IsNotMade}
@@ -25,7 +25,7 @@ use Rattle.bureau_program.specs.ProgramFault.{of_program}
 use Rattle.bureau_program.specs.Surroundings.{IsContent}
 use Rattle.bureau_program.specs.declared.ended.Ended.{Ended}
 use Rattle.bureau_program.specs.declared.fault.ProgramFault.TheVariants.{NotWritten}
-use Rattle.bureau_program.proofs.KeepingFacts.{kept_unopened}
+use Rattle.bureau_program.proofs.StayFacts.{kept_found}
 use Rattle.bureau_program.proofs.KeptFacts.{kept_made}
 
 -- ---- what is left of a database
@@ -125,7 +125,7 @@ module _ (of : Found) (from : Image) {D : Type 0} {g : disk.Ghosts D} (ended : E
     named = named;
     fault = fault;
     refused = refused;
-    kept = kept_unopened from ended refused.left;
+    kept = kept_found from ended refused.left;
     told = subst (λ (any : AnyFault). IsToldAlone any outputs status) is (keeps, told, status_is);
   }))
 

@@ -9,12 +9,15 @@ use Rattle.sqlite_trees.specs.Tree.{Trees}
 use Rattle.sqlite_store.specs.FileStore as files
 use Rattle.sqlite_store.specs.FileStore.{recovers, view}
 use Rattle.sqlite_store.specs.declared.store.FileStore.{FileStore}
-use Rattle.sqlite.specs.Files.{HoldsDatabase}
-use Rattle.sqlite.specs.Held.{AreDatabases}
+use Rattle.sqlite.specs.Files.{HoldsDatabase, file_state}
+use Rattle.sqlite.specs.Held.{AreDatabases, Held}
 use Rattle.sqlite.proofs.Theorems.{opens_again}
 use Rattle.bureau_sql.specs.Files.{HoldTrees}
-use Rattle.bureau_program.specs.Ended.{IsLeftOver, IsNotConnected, IsRefused}
+use Rattle.sqlite_trees.specs.View.{IsClean}
+use Rattle.bureau_program.specs.Ended.{HasEnded, IsLeftOver, IsNotConnected, IsRefused}
+use Rattle.bureau_program.specs.Keeping.{Leaves}
 use Rattle.bureau_program.specs.declared.ended.Ended.{Ended}
+use Rattle.bureau_program.specs.declared.ended.Ended.TheVariants.{Closed}
 use Rattle.bureau_store.specs.declared.fault.StoreFault.{StoreFault}
 use Rattle.bureau_store.specs.declared.fault.StoreFault.TheVariants.{Device, Memory}
 
@@ -23,6 +26,13 @@ pub left_trees : {D : Type 0} {g : Ghosts D} (it : FileStore D g) (May : Trees �
     → ((trees : Trees) → recovers it trees → May trees) → (left : Image) → (files.state it).may_leave left → HoldTrees May left
 left_trees it May numbered sound so left may = ∥∥₁_map (opens_again it numbered sound left may) (λ found.
     let r : (trees : Trees) × HoldsDatabase left trees × May trees = (found.0, found.2, so found.0 found.1) in r)
+
+-- the same of a connection that was ended, also where the log is copied into the file
+pub left_of : {D : Type 0} {g : Ghosts D} (from : Image) (conn : Held (FileStore D g)) (last : FileStore D g) → HasEnded conn last → IsClean (view last)
+    → (left : Image) → Leaves from (Closed last) left → HoldTrees (file_state conn).may_leave left
+left_of from conn last ends still left (inl may) = ends.left still left may
+left_of from conn last ends still left (inr held) = ∥∥₁_map held (λ it.
+    let r : (trees : Trees) × HoldsDatabase left trees × (file_state conn).may_leave trees = (it.0, it.1, ends.trees it.0 it.2) in r)
 
 -- a file that was just opened may be left as it was alone
 pub fresh_only : (start : List ℕ) (mixes : Bool) (history : List Event) (key : ℕ) → history ≡ settled key ∷ [] → (c : List ℕ)

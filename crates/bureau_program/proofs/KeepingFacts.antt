@@ -1,12 +1,16 @@
 -- From what a connection finds in the files of a store to what a stop leaves of them.
-use Rattle.std.proofs.Common.{◌≡◌, ◌∙◌, ◌+◌, ◌++◌, ◌∷◌, ℕ, List, Option, None, Some, [], ap, inl, inr, refl, subst, sym}
+use Rattle.std.proofs.Common.{◌≡◌, ◌∙◌, ◌+◌, ◌++◌, ◌∷◌, ℕ, List, Option, None, Some, [], ap, append-nil, arith, inl, inr, length, refl, subst, sym}
 use Rattle.std.proofs.Math.Logic.{∥∥₁_map}
 use Rattle.bureau_store.specs.Tables.{AreInOrder, Tables}
+use Rattle.bureau_store.specs.declared.caller.CallerRow.{CallerRow}
+use Rattle.bureau_store.specs.declared.fault.StoreFault.{StoreFault}
+use Rattle.bureau_store.specs.declared.fault.StoreFault.TheVariants.{Device}
 use Rattle.bureau.specs.Answering.{bureau_view}
-use Rattle.bureau.specs.Kept.{Rests}
+use Rattle.bureau.specs.Joint.{CallBy}
+use Rattle.bureau.specs.Kept.{IsWithOneRefused, MayBeLeft, Rests}
 use Rattle.bureau.specs.Runs.{IsLawfulRun}
-use Rattle.bureau_http.specs.Arrivals.{AreHeard, Event}
-use Rattle.bureau_http.specs.Service.{AreServed}
+use Rattle.bureau_http.specs.Arrivals.{AreHeard, AreMade, Arrival, Event, Logs}
+use Rattle.bureau_http.specs.Service.{AreServed, IsSound}
 use Rattle.bureau_sql.specs.Files.{HoldTables, HoldTrees, HoldsStore}
 use Rattle.bureau_sql.specs.SqlState.{SqlState}
 use Rattle.bureau_sql.specs.SqlView.{IsAtRest, IsOurStore, shown, sql_view}
@@ -20,45 +24,76 @@ use Rattle.sql_tables.specs.InTrees.{stored_in}
 use Rattle.sql_tables.specs.Stored.{tables_of}
 use Rattle.sql_tables.proofs.ChangeFacts.{tables_in_order}
 use Rattle.sqlite_disk.specs.declared.Disk as disk
-use Rattle.sqlite_store.specs.FileStore as files
 use Rattle.sqlite_store.specs.FileStore.{view}
 use Rattle.sqlite_store.specs.declared.store.FileStore.{FileStore}
-use Rattle.sqlite_trees.specs.Tree.{Trees}
 use Rattle.sqlite_trees.specs.View.{IsClean}
 use Rattle.sqlite_wal.specs.Recovery.{Image}
 use Rattle.sqlite.specs.Files.{file_state, over_files}
 use Rattle.sqlite.specs.Held.{Held}
 use Rattle.sqlite.specs.State.{HasCleanDisk}
-use Rattle.sqlite.specs.declared.file.Leftover.{Leftover}
-use Rattle.sql_texts.specs.Schema.{bureau}
-use Rattle.bureau_program.specs.Desk.{HasOpened}
-use Rattle.bureau_program.specs.Ended.{HasEnded, HasFound, IsEndOf, IsLeftOf, IsLeftOver}
-use Rattle.bureau_program.specs.Keeping.{IsServedFrom, KeepsServed, KeepsTables, KeepsUnopened, MayFollow}
+use Rattle.bureau_program.specs.Desk.{HasOpened, of_store}
+use Rattle.bureau_program.specs.Ended.{HasEnded, HasFound, IsEndOf, IsLeftOver}
+use Rattle.bureau_program.specs.Keeping.{IsServedFrom, KeepsServed, Leaves, MayFollow}
 use Rattle.bureau_program.specs.Replay.{IsAlwaysRight}
-use Rattle.bureau_program.specs.Serving.{ByDesk, IsServeOutput, IsServeRun, IsServedOver, ServesAll, ServesUntil, desk_over, store_ends}
+use Rattle.bureau_program.specs.Serving.{IsServeOutput, IsServedOver, Session, desk_ends, desk_over, file_ends, store_ends}
 use Rattle.bureau_program.specs.declared.ended.Ended.{Ended}
 use Rattle.bureau_program.specs.declared.ended.Ended.TheVariants.{Nothing, Left, Closed}
-use Rattle.bureau_program.proofs.LeftFacts.{failed_open}
+use Rattle.bureau_program.proofs.EndFacts.{left_of}
+use Rattle.bureau_program.proofs.StayFacts.{kept_tables}
 
-in_order : (from : Image) (before : Tables) → HoldsStore from before → AreInOrder before
+pub in_order : (from : Image) (before : Tables) → HoldsStore from before → AreInOrder before
 in_order from before holds = subst AreInOrder holds.tables (tables_in_order (stored_in holds.trees))
 
 nothing_before : {V : Type 0} (earlier later : List V) (v : V) → [] ≡ earlier ++ v ∷ later → ⊥
 nothing_before [] later v split = cc
 nothing_before (x ∷ earlier) later v split = cc
 
+-- a log to which nothing came
+nothing_logged : (log : Option (List Event)) → Logs log log []
+nothing_logged None = tt
+nothing_logged (Some events) = ap Some (append-nil events)
+
 -- no connection was served, and a stop leaves the tables as they were
-nothing_served : {before : Tables} (MayLeave : Image → Type 0) → ((left : Image) → MayLeave left → HoldTables left (MayFollow before [])) → IsServedFrom before None None MayLeave
-nothing_served {before} MayLeave left = record {
+nothing_served : (before : Tables) (log log_after : Option (List Event)) (outcome : Option AnyFault) (MayStay : Image → Type 0) → log_after ≡ log
+    → ((left : Image) → MayStay left → HoldTables left (λ this. this ≡ before)) → IsServedFrom before log log_after outcome MayStay
+nothing_served before log log_after outcome MayStay same left = record {
   arrivals = [];
-  logged = tt;
+  logged = subst (λ after. Logs log after []) (sym same) (nothing_logged log);
   calls = [];
   closing = before;
   made = refl;
   run = refl;
   alone = λ viewer earlier call later split. absurd (nothing_before earlier later call split);
-  left = left;
+  left = λ image may. ∥∥₁_map (left image may) (λ it.
+      let r : (this : Tables) × HoldsStore image this × MayFollow outcome before [] this = (it.0, it.1, inl it.2) in r);
 }
+
+-- where nobody came, nothing was asked
+nobody_asked : (rows : List CallerRow) (arrivals : List Arrival) (calls : List CallBy) → length arrivals ≡ 0 → AreMade rows arrivals calls → calls ≡ []
+nobody_asked rows [] calls none made = made
+nobody_asked rows (arrival ∷ arrivals) calls none made = absurd (omega (arith, none))
+
+none_refused : (closing this : Tables) (calls : List CallBy) → calls ≡ [] → IsWithOneRefused closing calls this → ⊥
+none_refused closing this [] none refused = refused
+none_refused closing this (call ∷ calls) none refused = cc
+
+-- what a stop may leave of a desk, by how serving it ended
+module _ {D : Type 0} {g : disk.Ghosts D} (closing : SqlState (FileStore D g)) (cache : CacheLists) where
+  -- what a stop may leave of it after these calls is what may follow, where they are those of its arrivals
+  abbrev pub Follows : Option AnyFault → List CallerRow → List Arrival → Type 0
+  Follows outcome rows arrivals = (calls : List CallBy) (next this : Tables) → AreMade rows arrivals calls
+      → MayBeLeft (bureau_view (sql_view over_files) IsRightFor) (desk_over closing cache) calls next this → MayFollow outcome next calls this
+
+  pub follows_all : (count : ℕ) (rows : List CallerRow) (arrivals : List Arrival) → length arrivals ≡ count
+      → IsSound (bureau_view (sql_view over_files) IsRightFor) (desk_over closing cache) count → Follows None rows arrivals
+  follows_all count rows arrivals counted sound calls next this made (inl same) = inl same
+  follows_all count rows arrivals counted (inr is_open) calls next this made (inr refused) = absurd (refused.0 is_open)
+  follows_all count rows arrivals counted (inl none) calls next this made (inr refused) =
+      absurd (none_refused next this calls (nobody_asked rows arrivals calls (counted ∙ none) made) refused.1)
+
+  pub follows_failed : (fault : AnyFault) (rows : List CallerRow) (arrivals : List Arrival) → fault ≡ of_store Device → Follows (Some fault) rows arrivals
+  follows_failed fault rows arrivals is calls next this made (inl same) = inl same
+  follows_failed fault rows arrivals is calls next this made (inr refused) = inr (ap Some is, refused.1)
 
 module _ {D : Type 0} {g : disk.Ghosts D} (from : Image) (before : Tables) (holds : HoldsStore from before) where
   -- a connection finds the store that the files hold, with its tables
@@ -86,24 +121,21 @@ module _ {D : Type 0} {g : disk.Ghosts D} (from : Image) (before : Tables) (hold
     module _ (cache cache_after : CacheLists) (right : IsAlwaysRight cache) (closing : SqlState (FileStore D g)) (closed : HasCleanDisk (shown over_files closing))
         (log log_after : Option (List Event)) (count : ℕ)
         (served : AreServed (bureau_view (sql_view over_files) IsRightFor) (desk_over opened cache) (desk_over closing cache_after) log log_after count)
-        (keeps_ours : IsOurStore over_files closing) where
+        (keeps_ours : IsOurStore over_files closing) (outcome : Option AnyFault) (follows : Follows closing cache_after outcome before.callers served.arrivals) where
       heard : AreHeard (IsLawfulRun (bureau_view (sql_view over_files) IsRightFor) (desk_over opened cache) (desk_over closing cache_after)) before served.arrivals
       heard = served.heard.told ours closed before (stands, right before.content)
 
       -- each image that is left holds the tables that may follow
-      left_by : (last : FileStore D g) → (left : Image) → HoldTrees (shown over_files closing).may_leave left → HoldTables left (MayFollow heard.closing heard.calls)
+      left_by : (last : FileStore D g) → (left : Image) → HoldTrees (shown over_files closing).may_leave left → HoldTables left (MayFollow outcome heard.closing heard.calls)
       left_by last left held = ∥∥₁_map held (λ it.
           let this = tables_of (stored_in it.0) in
           let store : HoldsStore left this = record { trees = it.0; held = it.1; ours = keeps_ours.0 it.0 it.2; tables = refl } in
-          let follows : MayFollow heard.closing heard.calls this = elim (heard.run.stops has.opened rests this (it.0, it.2, refl)) [
-            | inl same ↦ inl same
-            | inr refused ↦ inr refused.1
-          ] in
-          let r : (this : Tables) × HoldsStore left this × MayFollow heard.closing heard.calls this = (this, store, follows) in r)
+          let may = follows heard.calls heard.closing this heard.made (heard.run.stops has.opened rests this (it.0, it.2, refl)) in
+          let r : (this : Tables) × HoldsStore left this × MayFollow outcome heard.closing heard.calls this = (this, store, may) in r)
 
       -- so it was served from those tables
       pub served_from : (conn : Held (FileStore D g)) → conn ≡ closing.conn → (last : FileStore D g) → HasEnded conn last → IsClean (view last)
-          → IsServedFrom before log log_after (files.state last).may_leave
+          → IsServedFrom before log log_after outcome (Leaves from (Closed last))
       served_from conn is last ends still = record {
         arrivals = served.arrivals;
         logged = served.logged;
@@ -112,26 +144,26 @@ module _ {D : Type 0} {g : disk.Ghosts D} (from : Image) (before : Tables) (hold
         made = heard.made;
         run = heard.run.run;
         alone = λ viewer. heard.run.alone (in_order from before holds) viewer;
-        left = λ left may. left_by last left (subst (λ (conn : Held (FileStore D g)). HoldTrees (file_state conn).may_leave left) is (ends.left still left may));
+        left = λ left may. left_by last left (subst (λ (conn : Held (FileStore D g)). HoldTrees (file_state conn).may_leave left) is (left_of from conn last ends still left may));
       }
 
-    -- where nothing was served
+    -- where nothing was served, a stop leaves the tables
     pub unserved_from : (conn : Held (FileStore D g)) → conn ≡ opened.conn → (last : FileStore D g) → HasEnded conn last → IsClean (view last)
-        → IsServedFrom before None None (files.state last).may_leave
-    unserved_from conn is last ends still = nothing_served (files.state last).may_leave (λ left may.
-        ∥∥₁_map (subst (λ (conn : Held (FileStore D g)). HoldTrees (file_state conn).may_leave left) is (ends.left still left may)) (λ it.
-        let store : HoldsStore left (tables_of (stored_in it.0)) = record { trees = it.0; held = it.1; ours = ours.0 it.0 it.2; tables = refl } in
-        let r : (this : Tables) × HoldsStore left this × MayFollow before [] this =
-        (tables_of (stored_in it.0), store, inl (rests has.opened (tables_of (stored_in it.0)) (it.0, it.2, refl))) in r))
+        → (left : Image) → Leaves from (Closed last) left → HoldTables left (λ this. this ≡ before)
+    unserved_from conn is last ends still left may =
+        ∥∥₁_map (subst (λ (conn : Held (FileStore D g)). HoldTrees (file_state conn).may_leave left) is (left_of from conn last ends still left may)) (λ it.
+        let this = tables_of (stored_in it.0) in
+        let store : HoldsStore left this = record { trees = it.0; held = it.1; ours = ours.0 it.0 it.2; tables = refl } in
+        let r : (this : Tables) × HoldsStore left this × (this ≡ before) = (this, store, rests has.opened this (it.0, it.2, refl)) in r)
 
   -- where the store was refused, and only read
   pub refused_from : (found : Held (FileStore D g)) → HasFound from found → IsAtRest (file_state found) → (conn : Held (FileStore D g)) → OnlyReads (file_state found) (file_state conn)
-      → (last : FileStore D g) → HasEnded conn last → IsClean (view last) → IsServedFrom before None None (files.state last).may_leave
-  refused_from found finds rests conn reads last ends still =
+      → (last : FileStore D g) → HasEnded conn last → IsClean (view last) → (left : Image) → Leaves from (Closed last) left → HoldTables left (λ this. this ≡ before)
+  refused_from found finds rests conn reads last ends still left may =
       let clean = was_clean (file_state found) (file_state conn) (λ trees. ⊥) reads.survives (ends.clean still) in
       let is_open = (finds.opened clean).0.is_open in
       let there = finds_store found finds clean in
-      nothing_served (files.state last).may_leave (λ left may. ∥∥₁_map (ends.left still left may) (λ it.
+      ∥∥₁_map (left_of from conn last ends still left may) (λ it.
       let same : it.0 ≡ (file_state found).committed.trees = elim (reads.survives.crash (ends.clean still) it.0 it.2) [
         | inl was ↦ rests it.0 is_open was
         | inr none ↦ absurd none
@@ -142,75 +174,89 @@ module _ {D : Type 0} {g : disk.Ghosts D} (from : Image) (before : Tables) (hold
         ours = subst AreOurs (sym same) there.0.rows;
         tables = ap (λ trees. tables_of (stored_in trees)) same ∙ there.1;
       } in
-      let r : (this : Tables) × HoldsStore left this × MayFollow before [] this = (before, store, inl refl) in r))
+      let r : (this : Tables) × HoldsStore left this × (this ≡ before) = (before, store, refl) in r)
 
 -- ---- wherever a run ends
 
-module _ {D : Type 0} {g : disk.Ghosts D} (room connections : ℕ) (from : Image) (found left : Held (FileStore D g)) (finds : HasFound from found)
+-- a connection was made, and ended
+module _ {D : Type 0} {g : disk.Ghosts D} (session : Session) (from : Image) (found left : Held (FileStore D g)) (finds : HasFound from found)
     (last : FileStore D g) (ends : HasEnded left last) (still : IsClean (view last)) (before : Tables) (holds : HoldsStore from before) where
-  kept_over : (Does : SqlState (FileStore D g) → SqlState (FileStore D g) → Type 0) → Type 0
-  kept_over Does = IsServedOver over_files Does found left → IsServedFrom before None None (files.state last).may_leave
+  kept_over : Option AnyFault → (Does : SqlState (FileStore D g) → SqlState (FileStore D g) → Type 0) → Type 0
+  kept_over outcome Does = IsServedOver over_files Does found left → IsServedFrom before session.log session.log_after outcome (Leaves from (Closed last))
 
   closed_clean : (closing : SqlState (FileStore D g)) → left ≡ closing.conn → HasCleanDisk (shown over_files closing)
   closed_clean closing is = subst (λ (conn : Held (FileStore D g)). HasCleanDisk (file_state conn)) is (ends.clean still)
 
-  kept_all : kept_over (ByDesk room (ServesAll (sql_view over_files) None None connections))
+  kept_all : kept_over None (λ old new. (desk_ends over_files session old new).served)
   unfolding kept_over
   kept_all over =
-      let did = over.did.did in
+      let by = over.did.1 in
+      let did = by.did in
       let closed = closed_clean over.closing over.after_is in
       let opened = did.goes.clean closed in
-      served_from from before holds found finds over.opened over.has_opened opened over.did.cache did.cache_after over.did.is_new.right over.closing closed None None connections
-      did.served (did.goes.ours (ours from before holds found finds over.opened over.has_opened opened) closed) left over.after_is last ends still
+      served_from from before holds found finds over.opened over.has_opened opened by.cache did.cache_after by.is_new.right over.closing closed session.log session.log_after session.connections
+      did.served (did.goes.ours (ours from before holds found finds over.opened over.has_opened opened) closed) None
+      (follows_all over.closing did.cache_after session.connections before.callers did.served.arrivals did.served.counted did.sound) left over.after_is last ends still
 
-  kept_until : kept_over (ByDesk room (ServesUntil (sql_view over_files) None None connections))
+  kept_until : (fault : AnyFault) → fault ≡ of_store Device → kept_over (Some fault) (λ old new. (desk_ends over_files session old new).failed)
   unfolding kept_over
-  kept_until over =
-      let did = over.did.did in
+  kept_until fault device over =
+      let by = over.did.1 in
+      let did = by.did in
       let closed = closed_clean over.closing over.after_is in
       let opened = did.goes.clean closed in
-      served_from from before holds found finds over.opened over.has_opened opened over.did.cache did.cache_after over.did.is_new.right over.closing closed None None (did.ended.count + 1)
-      did.ended.whole (did.goes.ours (ours from before holds found finds over.opened over.has_opened opened) closed) left over.after_is last ends still
+      served_from from before holds found finds over.opened over.has_opened opened by.cache did.cache_after by.is_new.right over.closing closed session.log session.log_after (did.ended.count + 1)
+      did.ended.whole (did.goes.ours (ours from before holds found finds over.opened over.has_opened opened) closed) (Some fault)
+      (follows_failed over.closing did.cache_after fault before.callers did.ended.whole.arrivals device) left over.after_is last ends still
 
-  kept_unserved : kept_over (λ old new. new ≡ old)
+  kept_unserved : (fault : AnyFault) → kept_over (Some fault) (λ old new. (desk_ends over_files session old new).unserved)
   unfolding kept_over
-  kept_unserved over =
-      let is = over.after_is ∙ ap (λ (store : SqlState (FileStore D g)). store.conn) over.did in
-      unserved_from from before holds found finds over.opened over.has_opened (closed_clean over.opened is) left is last ends still
+  kept_unserved fault over =
+      let is = over.after_is ∙ ap (λ (store : SqlState (FileStore D g)). store.conn) over.did.0 in
+      nothing_served before session.log session.log_after (Some fault) (Leaves from (Closed last)) over.did.1
+      (unserved_from from before holds found finds over.opened over.has_opened (closed_clean over.opened is) left is last ends still)
 
-  pub kept_output : (outcome : Option AnyFault) (port : ℕ) (old new : Option (List ℕ)) → IsServeOutput (store_ends over_files room connections found left) outcome port old new
-      → IsServedFrom before None None (files.state last).may_leave
+  kept_refused : (fault : AnyFault) (refused : StoreFault) → (store_ends over_files session found left).refused refused
+      → IsServedFrom before session.log session.log_after (Some fault) (Leaves from (Closed last))
+  kept_refused fault refused did =
+      nothing_served before session.log session.log_after (Some fault) (Leaves from (Closed last)) did.3
+      (refused_from from before holds found finds did.0 left did.1 last ends still)
+
+module _ {D : Type 0} {g : disk.Ghosts D} (session : Session) (from : Image) where
+  closed_so : (last : FileStore D g) (outcome : Option AnyFault) (port : ℕ) (old new : Option (List ℕ)) → IsServeOutput (file_ends session from (Closed last)) outcome port old new
+      → KeepsServed from session.log session.log_after outcome (Closed last)
   unfolding kept_over
-  kept_output None port old new output = kept_all output.0
-  kept_output (Some fault) port old new (inl device) = kept_until device.1
-  kept_output (Some fault) port old new (inr (inl unheard)) = kept_unserved unheard.0
-  kept_output (Some fault) port old new (inr (inr refused)) =
-      refused_from from before holds found finds refused.0.2.0 left refused.0.2.1 last ends still
+  closed_so last None port old new output well before holds =
+      let used = output.0 in kept_all session from used.found used.left used.finds last used.ends well before holds used.used
+  closed_so last (Some fault) port old new (inl device) well before holds =
+      let used = device.1 in kept_until session from used.found used.left used.finds last used.ends well before holds fault device.0 used.used
+  closed_so last (Some fault) port old new (inr (inl unheard)) well before holds =
+      let used = unheard.0 in kept_unserved session from used.found used.left used.finds last used.ends well before holds fault used.used
+  closed_so last (Some fault) port old new (inr (inr ((refused, is, inl not), keeps))) well before holds = absurd not.0.left
+  closed_so last (Some fault) port old new (inr (inr ((refused, is, inr used), keeps))) well before holds =
+      kept_refused session from used.found used.left used.finds last used.ends well before holds fault refused used.used
 
--- a connection was made, and ended
-pub kept_served : {D : Type 0} {g : disk.Ghosts D} (room connections : ℕ) (from : Image) (found left : Held (FileStore D g)) (ended : Ended D g) → HasFound from found → IsEndOf left ended
-    → (port : ℕ) (old new old_errors new_errors : Option (List ℕ)) (status : ℕ) → IsServeRun (store_ends over_files room connections found left) port old new old_errors new_errors status
-    → KeepsServed from None None ended
-kept_served room connections from found left Nothing finds ends port old new old_errors new_errors status run = tt
-kept_served room connections from found left (Left it) finds ends port old new old_errors new_errors status run = absurd ends
-kept_served room connections from found left (Closed last) finds ends port old new old_errors new_errors status run =
-    λ still before holds. kept_output room connections from found left finds last ends still before holds run.outcome port old new run.output
+  -- where no connection could be made
+  NotMade : Ended D g → Type 0
+  NotMade ended = (IsLeftOver from ended) × (session.log_after ≡ session.log)
 
--- none could be made
-pub kept_tables : {D : Type 0} {g : disk.Ghosts D} (from : Image) (it : Leftover D g) → IsLeftOf from it → KeepsTables from it
-kept_tables {g = g} from it of clean usual before holds image may =
-    let Are : Trees → Type 0 = λ trees. AreOurs trees × (tables_of (stored_in trees) ≡ before) in
-    let held : HoldTrees Are from = ∣ (holds.trees, holds.held, (holds.ours, holds.tables)) ∣₁ in
-    ∥∥₁_map (failed_open bureau Are (λ trees are. are.0.sound) g from it of held clean usual image may) (λ found.
-    let store : HoldsStore image before = record { trees = found.0; held = found.1; ours = found.2.0; tables = found.2.1 } in
-    let r : (this : Tables) × HoldsStore image this × (this ≡ before) = (before, store, refl) in r)
+  not_made : (ended : Ended D g) → ((conn : Held (FileStore D g)) → IsEndOf conn ended → ⊥) → (outcome : Option AnyFault) (port : ℕ) (old new : Option (List ℕ))
+      → IsServeOutput (file_ends session from ended) outcome port old new → NotMade ended
+  unfolding NotMade
+  not_made ended never None port old new output = absurd (never output.0.left output.0.ends)
+  not_made ended never (Some fault) port old new (inl device) = absurd (never device.1.left device.1.ends)
+  not_made ended never (Some fault) port old new (inr (inl unheard)) = absurd (never unheard.0.left unheard.0.ends)
+  not_made ended never (Some fault) port old new (inr (inr ((refused, is, inl not), keeps))) = (not.0.left, not.1)
+  not_made ended never (Some fault) port old new (inr (inr ((refused, is, inr used), keeps))) = absurd (never used.left used.ends)
 
-pub kept_refused : {D : Type 0} {g : disk.Ghosts D} (from : Image) (ended : Ended D g) → IsLeftOver from ended → KeepsServed from None None ended
-kept_refused from Nothing left = tt
-kept_refused from (Left it) left = kept_tables from it left
-kept_refused from (Closed last) left = absurd left
+  unopened_so : (ended : Ended D g) (outcome : Option AnyFault) → NotMade ended → KeepsServed from session.log session.log_after outcome ended
+  unfolding NotMade
+  unopened_so ended outcome not well before holds =
+      nothing_served before session.log session.log_after outcome (Leaves from ended) not.1 (kept_tables from ended not.0 before holds well)
 
-pub kept_unopened : {D : Type 0} {g : disk.Ghosts D} (from : Image) (ended : Ended D g) → IsLeftOver from ended → KeepsUnopened from ended
-kept_unopened from Nothing left = tt
-kept_unopened from (Left it) left = kept_tables from it left
-kept_unopened from (Closed last) left = left
+  -- A run of `serve`, however it ended.
+  pub kept_served : (ended : Ended D g) (outcome : Option AnyFault) (port : ℕ) (old new : Option (List ℕ)) → IsServeOutput (file_ends session from ended) outcome port old new
+      → KeepsServed from session.log session.log_after outcome ended
+  kept_served Nothing outcome port old new output = unopened_so Nothing outcome (not_made Nothing (λ conn none. none) outcome port old new output)
+  kept_served (Left it) outcome port old new output = unopened_so (Left it) outcome (not_made (Left it) (λ conn none. none) outcome port old new output)
+  kept_served (Closed last) outcome port old new output = closed_so last outcome port old new output

@@ -1,62 +1,95 @@
 -- What a stop leaves of the files of a store that `init` makes or `migrate` brings to version 2.
-use Rattle.std.proofs.Common.{◌≡◌, ◌⊎◌, ◌∙◌, List, ℕ, Option, None, Some, [], ap, false, inl, inr, refl, subst, sym}
+use Rattle.std.proofs.Common.{◌≡◌, ◌⊎◌, ◌∙◌, List, ℕ, Option, None, Some, ap, inl, inr, refl, subst, sym}
 use Rattle.std.proofs.Math.Logic.{∥∥₁_map}
 use Rattle.faults.specs.declared.any.AnyFault.{AnyFault}
 use Rattle.bureau_store.specs.Tables.{Tables, opened}
-use Rattle.bureau_sql.specs.Files.{HoldTables, HoldTrees, HoldsEarlier, HoldsStore}
+use Rattle.bureau_sql.specs.Files.{HoldTrees, HoldsEarlier, HoldsStore}
 use Rattle.bureau_sql.specs.SqlView.{IsAtRest}
 use Rattle.bureau_sql.proofs.FilesFacts.{earlier_found}
 use Rattle.bureau_sql.specs.Migrated.{AreMigrated}
 use Rattle.sql_state.specs.Earlier.{AreOfVersion1, IsOfVersion1, held_by_version_1}
-use Rattle.sql_state.specs.Ours.{AreOurs, IsOurs, held_by, version_rows}
+use Rattle.sql_state.specs.Ours.{AreOurs, IsOurs, version_rows}
 use Rattle.sql_state.proofs.StopFacts.{was_clean}
 use Rattle.sql_tables.specs.InTrees.{stored_in}
 use Rattle.sql_tables.specs.Stored.{Stored, tables_of}
 use Rattle.sql_tables.specs.Whole.{IsWhole}
-use Rattle.sql_texts.specs.Schema.{bureau_1}
 use Rattle.sql_writes.specs.Migrating.{HoldsAll}
 use Rattle.sqlite_catalog.specs.Listing.{IsSound}
 use Rattle.sqlite_disk.specs.declared.Disk as disk
-use Rattle.sqlite_store.specs.FileStore as files
 use Rattle.sqlite_store.specs.FileStore.{view}
 use Rattle.sqlite_store.specs.declared.store.FileStore.{FileStore}
 use Rattle.sqlite_trees.specs.Tree.{Trees}
 use Rattle.sqlite_trees.specs.View.{IsClean}
 use Rattle.sqlite_wal.specs.Recovery.{Image}
 use Rattle.sqlite.specs.Effect.{Database}
-use Rattle.sqlite.specs.Files.{AreFoundIn, HoldsDatabase, file_state}
+use Rattle.sqlite.specs.Files.{AreFoundIn, HoldsDatabase, IsNothing, file_state}
 use Rattle.sqlite.specs.Held.{Held}
 use Rattle.sqlite.specs.State.{HasCleanDisk, Survives}
 use Rattle.bureau_program.specs.Desk.{AreFoundedBy, InitSurvives, IsInitLeft, LeavesMade}
-use Rattle.bureau_program.specs.Ended.{HasEnded, HasFound, IsLeftOver}
-use Rattle.bureau_program.specs.Keeping.{AreMadeFor, HoldCallers, KeepsMade, KeepsMigrated}
+use Rattle.bureau_program.specs.Ended.{HasEnded, HasFound, IsLeftOver, IsUsed}
+use Rattle.bureau_program.specs.Keeping.{AreMadeFor, HasNoTables, HoldCallers, Keeps, KeepsMade, KeepsMigrated, Leaves}
 use Rattle.bureau_program.specs.Migrating.{IsMigrateLeft, LeavesMigrated}
 use Rattle.bureau_program.specs.declared.ended.Ended.{Ended}
 use Rattle.bureau_program.specs.declared.ended.Ended.TheVariants.{Nothing, Left, Closed}
-use Rattle.bureau_program.proofs.KeepingFacts.{kept_tables}
-use Rattle.bureau_program.proofs.LeftFacts.{failed_open}
+use Rattle.bureau_program.proofs.EndFacts.{left_of}
+use Rattle.bureau_program.proofs.LeftFacts.{found_nothing}
+use Rattle.bureau_program.proofs.StayFacts.{earlier_stays, kept_earlier, store_stays}
 
 -- ---- init
 
 module _ {D : Type 0} {g : disk.Ghosts D} (from : Image) (source : List ℕ) (found left : Held (FileStore D g)) (finds : HasFound from found) (rests : IsAtRest (file_state found))
-    (stopped : InitSurvives source (file_state found) (file_state left)) (last : FileStore D g) (ends : HasEnded left last) (still : IsClean (view last)) where
-  clean : HasCleanDisk (file_state found)
-  clean = was_clean (file_state found) (file_state left) (AreFoundedBy source (file_state found)) stopped (ends.clean still)
+    (stopped : InitSurvives source (file_state found) (file_state left)) (last : FileStore D g) (ends : HasEnded left last) where
+  clean : IsClean (view last) → HasCleanDisk (file_state found)
+  clean still = was_clean (file_state found) (file_state left) (AreFoundedBy source (file_state found)) stopped (ends.clean still)
 
-  there_or_made : (trees : Trees) → (file_state left).may_leave trees → AreFoundIn from trees ⊎ AreMadeFor source trees
-  there_or_made trees may = elim (stopped.crash (ends.clean still) trees may) [
-    | inl was ↦ inl (subst (AreFoundIn from) (sym (rests trees (finds.opened clean).0.is_open was)) (finds.found clean).reads)
-    | inr made ↦ inr (made.0, made.1, made.2.2)
-  ]
+  -- what was committed, and is left or was made something else where it had no tables
+  there_or_made : IsClean (view last) → (trees : Trees) → (file_state left).may_leave trees
+      → (trees ≡ (file_state found).committed.trees) ⊎ (HasNoTables (file_state found).committed.trees × AreMadeFor source trees)
+  there_or_made still trees may =
+      let opened = finds.opened (clean still) in
+      elim (stopped.crash (ends.clean still) trees may) [
+        | inl was ↦ inl (rests trees opened.0.is_open was)
+        | inr made ↦
+            let sound = (opened.1 opened.0.is_open).1 in
+            inr (subst (λ schema. IsSound schema (file_state found).committed.trees) made.2.1 sound, (made.0, made.1, made.2.2))
+      ]
 
-  callers : (outcome : Option AnyFault) → IsInitLeft outcome source (file_state found) (file_state left) → outcome ≡ None
-      → (image : Image) → (files.state last).may_leave image → HoldCallers source image
-  callers (Some fault) is other image may = absurd cc
-  callers None is same image may =
+  held : IsClean (view last) → (image : Image) → Leaves from (Closed last) image → HoldTrees (file_state left).may_leave image
+  held still image may = left_of from left last ends still image may
+
+  found_or_made : Keeps from (Closed last) (HoldTrees (λ now. AreFoundIn from now ⊎ AreMadeFor source now))
+  found_or_made still image may = ∥∥₁_map (held still image may) (λ it.
+      let either : AreFoundIn from it.0 ⊎ AreMadeFor source it.0 = elim (there_or_made still it.0 it.2) [
+        | inl same ↦ inl (subst (AreFoundIn from) (sym same) (finds.found (clean still)).reads)
+        | inr made ↦ inr made.1
+      ] in
+      let r : (trees : Trees) × HoldsDatabase image trees × (AreFoundIn from trees ⊎ AreMadeFor source trees) = (it.0, it.1, either) in r)
+
+  stays : (trees : Trees) → HoldsDatabase from trees → Keeps from (Closed last) (HoldTrees (λ now. (now ≡ trees) ⊎ (HasNoTables trees × AreMadeFor source now)))
+  stays trees holds still image may =
+      let same : (file_state found).committed.trees ≡ trees = (finds.found (clean still)).holds trees holds in
+      ∥∥₁_map (held still image may) (λ it.
+      let either : (it.0 ≡ trees) ⊎ (HasNoTables trees × AreMadeFor source it.0) = elim (there_or_made still it.0 it.2) [
+        | inl is ↦ inl (is ∙ same)
+        | inr made ↦ inr (subst HasNoTables same made.0, made.1)
+      ] in
+      let r : (now : Trees) × HoldsDatabase image now × ((now ≡ trees) ⊎ (HasNoTables trees × AreMadeFor source now)) = (it.0, it.1, either) in r)
+
+  begins : IsNothing from → Keeps from (Closed last) (λ left. IsNothing left ⊎ HoldTrees (λ now. HasNoTables now ⊎ AreMadeFor source now) left)
+  begins nothing still image may = inr (∥∥₁_map (held still image may) (λ it.
+      let either : HasNoTables it.0 ⊎ AreMadeFor source it.0 = elim (there_or_made still it.0 it.2) [
+        | inl same ↦ inl (subst HasNoTables (sym same) (found_nothing from _ nothing (finds.found (clean still)).reads))
+        | inr made ↦ inr made.1
+      ] in
+      let r : (trees : Trees) × HoldsDatabase image trees × (HasNoTables trees ⊎ AreMadeFor source trees) = (it.0, it.1, either) in r))
+
+  callers : (outcome : Option AnyFault) → IsInitLeft outcome source (file_state found) (file_state left) → outcome ≡ None → Keeps from (Closed last) (HoldCallers source)
+  callers (Some fault) is other still image may = absurd cc
+  callers None is same still image may =
       let made = is (ends.clean still) in (
         made.0,
         made.1,
-        ∥∥₁_map (ends.left still image may) (λ it.
+        ∥∥₁_map (held still image may) (λ it.
             let same = made.2.rests it.0 made.2.is_open it.2 in
             let store : HoldsStore image (opened made.0) = record {
               trees = it.0;
@@ -67,20 +100,22 @@ module _ {D : Type 0} {g : disk.Ghosts D} (from : Image) (source : List ℕ) (fo
             let r : (this : Tables) × HoldsStore image this × (this ≡ opened made.0) = (opened made.0, store, refl) in r),
       )
 
-  pub made_closed : (outcome : Option AnyFault) → IsInitLeft outcome source (file_state found) (file_state left)
-      → (image : Image) → (files.state last).may_leave image → HoldTrees (λ trees. AreFoundIn from trees ⊎ AreMadeFor source trees) image × (outcome ≡ None → HoldCallers source image)
-  made_closed outcome is image may = (
-    ∥∥₁_map (ends.left still image may) (λ it.
-        let r : (trees : Trees) × HoldsDatabase image trees × (AreFoundIn from trees ⊎ AreMadeFor source trees) = (it.0, it.1, there_or_made it.0 it.2) in r),
-    λ done. callers outcome is done image may,
-  )
+  pub made_closed : (outcome : Option AnyFault) → IsInitLeft outcome source (file_state found) (file_state left) → KeepsMade from source outcome (Closed last)
+  made_closed outcome is = record {
+    found = found_or_made;
+    stays = stays;
+    begins = begins;
+    store = store_stays from (Closed last) (AreMadeFor source) stays;
+    earlier = earlier_stays from (Closed last) (AreMadeFor source) stays;
+    made = callers outcome is;
+  }
 
 pub kept_made : {D : Type 0} {g : disk.Ghosts D} (from : Image) (source : List ℕ) (outcome : Option AnyFault) (ended : Ended D g) → LeavesMade from source outcome ended
     → KeepsMade from source outcome ended
-kept_made from source outcome Nothing used = tt
+kept_made from source outcome Nothing used = absurd used.ends
 kept_made from source outcome (Left it) used = absurd used.ends
 kept_made from source outcome (Closed last) used =
-    λ still. made_closed from source used.found used.left used.finds used.used.0 used.used.2 last used.ends still outcome used.used.1
+    made_closed from source used.found used.left used.finds used.used.0 used.used.2 last used.ends outcome used.used.1
 
 -- ---- migrate
 
@@ -133,11 +168,11 @@ module _ {D : Type 0} {g : disk.Ghosts D} (from : Image) (before : Tables) (hold
   ]
 
   brought : (outcome : Option AnyFault) → IsMigrateLeft outcome (file_state found) (file_state left) → outcome ≡ None
-      → (image : Image) → (files.state last).may_leave image → ∥ HoldsStore image before ∥₁
+      → (image : Image) → Leaves from (Closed last) image → ∥ HoldsStore image before ∥₁
   brought (Some fault) is other image may = absurd cc
   brought None is same image may =
       let to = (is (ends.clean still)).3 there.0 in
-      ∥∥₁_map (ends.left still image may) (λ it.
+      ∥∥₁_map (left_of from left last ends still image may) (λ it.
       let same = to.rests it.0 to.is_open it.2 in
       let r : HoldsStore image before = record {
         trees = it.0;
@@ -146,26 +181,26 @@ module _ {D : Type 0} {g : disk.Ghosts D} (from : Image) (before : Tables) (hold
         tables = ap (λ trees. tables_of (stored_in trees)) same ∙ to.tables ∙ there.1;
       } in r)
 
-  pub migrated_closed : (outcome : Option AnyFault) → IsMigrateLeft outcome (file_state found) (file_state left) → (image : Image) → (files.state last).may_leave image
-      → ∥ HoldsEarlier image before ⊎ HoldsStore image before ∥₁ × (outcome ≡ None → ∥ HoldsStore image before ∥₁)
-  migrated_closed outcome is image may =
-      (∥∥₁_map (ends.left still image may) (λ it. either image it.0 it.1 it.2), λ done. brought outcome is done image may)
+  pub either_left : (image : Image) → Leaves from (Closed last) image → ∥ HoldsEarlier image before ⊎ HoldsStore image before ∥₁
+  either_left image may = ∥∥₁_map (left_of from left last ends still image may) (λ it. either image it.0 it.1 it.2)
 
-earlier_left : {D : Type 0} {g : disk.Ghosts D} (from : Image) (outcome : Option AnyFault) (ended : Ended D g) → IsLeftOver from ended → KeepsMigrated from outcome ended
-earlier_left from outcome Nothing left = tt
-earlier_left {g = g} from outcome (Left it) of = λ clean usual before holds image may.
-    let Are : Trees → Type 0 = λ trees. AreOfVersion1 trees × (tables_of (record (stored_in trees) { conds = [] }) ≡ before) in
-    let held : HoldTrees Are from = ∣ (holds.trees, holds.held, (holds.ours, holds.tables)) ∣₁ in
-    ∥∥₁_map (failed_open bureau_1 Are (λ trees are. are.0.sound) g from it of held clean usual image may) (λ found.
-    let r : HoldsEarlier image before = record { trees = found.0; held = found.1; ours = found.2.0; tables = found.2.1 } in r)
-earlier_left from outcome (Closed last) left = absurd left
+-- no connection to the files could be made
+earlier_left : {D : Type 0} {g : disk.Ghosts D} (from : Image) (outcome : Option AnyFault) (ended : Ended D g) → (outcome ≡ None → ⊥) → IsLeftOver from ended → KeepsMigrated from outcome ended
+earlier_left from outcome ended other of = record {
+  earlier = λ before holds well left may. ∥∥₁_map (kept_earlier from ended of before holds well left may) inl;
+  brought = λ none. absurd (other none);
+}
 
-used_left : {D : Type 0} {g : disk.Ghosts D} (from : Image) (outcome : Option AnyFault) (ended : Ended D g) → LeavesMigrated from outcome ended → KeepsMigrated from outcome ended
-used_left from outcome ended (inl refused) = earlier_left from outcome ended refused.2.left
-used_left from outcome Nothing (inr used) = tt
-used_left from outcome (Left it) (inr used) = absurd used.ends
-used_left from outcome (Closed last) (inr used) = λ still before holds.
-    migrated_closed from before holds used.found used.left used.finds used.used.0 used.used.2 last used.ends still outcome used.used.1
+closed_left : {D : Type 0} {g : disk.Ghosts D} (from : Image) (outcome : Option AnyFault) (last : FileStore D g)
+    → (used : IsUsed from (λ found left. IsAtRest (file_state found) × IsMigrateLeft outcome (file_state found) (file_state left) × Survives (file_state found) (file_state left) (AreMigrated (file_state found))) (Closed last))
+    → KeepsMigrated from outcome (Closed last)
+closed_left from outcome last used = record {
+  earlier = λ before holds still. either_left from before holds used.found used.left used.finds used.used.0 used.used.2 last used.ends still;
+  brought = λ none before holds still. brought from before holds used.found used.left used.finds used.used.0 used.used.2 last used.ends still outcome used.used.1 none;
+}
 
 pub kept_migrated : {D : Type 0} {g : disk.Ghosts D} (from : Image) (outcome : Option AnyFault) (ended : Ended D g) → LeavesMigrated from outcome ended → KeepsMigrated from outcome ended
-kept_migrated from outcome ended left = used_left from outcome ended left
+kept_migrated from outcome ended (inl refused) = earlier_left from outcome ended (λ none. absurd cc) refused.2.left
+kept_migrated from outcome Nothing (inr used) = absurd used.ends
+kept_migrated from outcome (Left it) (inr used) = absurd used.ends
+kept_migrated from outcome (Closed last) (inr used) = closed_left from outcome last used

@@ -1,4 +1,3 @@
-pub mod ArrivalFacts
 pub mod BookFacts
 pub mod DeskFacts
 pub mod EndFacts
@@ -11,6 +10,7 @@ pub mod OutputFacts
 pub mod ReadFacts
 pub mod RunsFacts
 pub mod ServingFacts
+pub mod StayFacts
 mod ReplayFacts
 mod ReportFilesFacts
 mod ReportingFacts

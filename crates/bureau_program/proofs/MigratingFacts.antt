@@ -1,5 +1,5 @@
 -- What `migrate` leaves of a database, and what it tells.
-use Rattle.std.proofs.Common.{◌≡◌, ◌≢◌, ◌∙◌, ℕ, List, Option, Some, Ok, Err, Result, IfErr, ap, false, inl, inr, refl, subst, sym}
+use Rattle.std.proofs.Common.{◌≡◌, ◌≢◌, ℕ, List, Option, Some, Ok, Err, Result, IfErr, ap, false, inl, inr}
 use Rattle.std.proofs.KnownBytes.{Keeps-refl}
 use Rattle.faults.specs.declared.any.AnyFault.{AnyFault}
 use Rattle.sqlite_disk.specs.declared.Disk as disk

@@ -10,12 +10,18 @@ use Rattle.std.specs.Prelude.{IfOk, IfSome, IsSome}
 use Rattle.file_reports.specs.Inputs.{Inputs, IsGiven}
 use Rattle.file_reports.specs.declared.fault.Input.{Input}
 use Rattle.file_reports.specs.declared.fault.Input.TheVariants as input
+use Rattle.faults.specs.Refusal.{IsRefusal}
 use Rattle.transfer.specs.Transfer.{ConsumesUpTo}
-use Rattle.bureau_program.specs.Holds.{most_read}
-use Rattle.bureau_program.specs.ReportFiles.{AreInputs, AreRead, IsFrontOf, IsRead, IsReadIfGiven}
+use Rattle.bureau_program.specs.Holds.{IsTold, most_read}
+use Rattle.bureau_program.specs.Outputs.{Outputs}
+use Rattle.bureau_program.specs.ProgramFault.{of_program}
+use Rattle.bureau_program.specs.ReportFiles.{AreInputs, AreRead, IsFrontOf, IsRead, IsReadIfGiven, IsReport}
 use Rattle.bureau_program.specs.Reporting.{AreNamed, name_of}
 use Rattle.bureau_program.specs.Surroundings.{KnownFile, Unknown, Missing, Holds, IsOpened}
+use Rattle.bureau_program.specs.declared.fault.ProgramFault.{ProgramFault}
+use Rattle.bureau_program.specs.declared.fault.ProgramFault.TheVariants as program_fault
 use Rattle.bureau_program.specs.declared.report_files.ReportFiles.{ReportFiles}
+use Rattle.bureau_program.specs.declared.reporting.Report.{Report}
 
 -- ---- one file
 
@@ -96,3 +102,14 @@ module _ (files : List ℕ → KnownFile) where
   are_named names inputs before rest are (input.Publication index) there =
       has_item (map string_bytes names.publications.items) index
       (subst (λ n. index < n) (as_many (map string_bytes names.publications.items) inputs.publications are.after_received rest are.publications_are) there)
+
+-- ---- a file that can't be read
+
+-- a run that ends before anything is made of its files
+pub not_read : (files : List ℕ → KnownFile) (report : Report) (names : ReportFiles) (input rest : Option (List ℕ)) (outputs : Outputs) (status : ℕ) (fault : ProgramFault)
+    → IsRefusal program_fault.Memory (λ fault. fault ≡ program_fault.NotRead) fault → Keeps outputs.output outputs.written → IsTold (Some (of_program fault)) outputs.errors outputs.told → status ≡ 3
+    → IsReport files report names input rest outputs status
+not_read files report names input rest outputs status fault (inl memory) kept told is =
+    inr (inr (inr (kept, subst (λ fault. IsTold (Some (of_program fault)) outputs.errors outputs.told) memory told, is)))
+not_read files report names input rest outputs status fault (inr unread) kept told is =
+    inr (inr (inl (kept, subst (λ fault. IsTold (Some (of_program fault)) outputs.errors outputs.told) unread told, is)))

@@ -1,19 +1,27 @@
 -- The calls of any number of runs are those of one.
-use Rattle.std.proofs.Common.{◌≡◌, ◌∙◌, ℕ, arith, false, List, [], ◌∷◌, ◌++◌, ap, inl, inr, refl, subst, sym}
+use Rattle.std.proofs.Common.{◌≡◌, ◌∙◌, ℕ, arith, false, List, None, Option, [], ◌∷◌, ◌++◌, ap, append-nil, inl, inr, refl, subst, sym}
+use Rattle.std.proofs.Math.Logic.{∥∥₁_elim, ∥∥₁_map}
 use Rattle.std.specs.Prelude.{if◌then◌else◌}
-use Rattle.bureau_store.specs.Tables.{AreInOrder, Tables}
+use Rattle.faults.specs.declared.any.AnyFault.{AnyFault}
+use Rattle.bureau_store.specs.Tables.{AreInOrder, Tables, opened}
 use Rattle.bureau_store.specs.declared.caller.Caller.{Caller}
 use Rattle.bureau_store.specs.declared.caller.Caller.TheVariants.{Publisher, Client}
 use Rattle.bureau.specs.Alone.{IsAlone, opening_of}
 use Rattle.bureau.specs.Call.{Call}
 use Rattle.bureau.specs.Joint.{CallBy, IsRun, IsStep, tables_left}
-use Rattle.bureau.specs.Kept.{IsToldOfNoTables, IsWithOneRefused, TellNothing, tables_with}
+use Rattle.bureau.specs.Kept.{IsToldOfNoTables, IsWithOneRefused, TellNothing}
 use Rattle.bureau.specs.Outcome.{Answer, Outcome, accepted, answer_of, answered, forbidden, may_ask, no_room, outcome, outcome_allowed}
 use Rattle.bureau.specs.View.{view_of}
-use Rattle.bureau_program.specs.Keeping.{MayFollow}
-use Rattle.bureau_program.specs.Runs.{AreFoundAs, AreJoined, AreOneRun, AreRuns, HasMade, Run, as_made}
+use Rattle.bureau_http.specs.Arrivals.{Event}
+use Rattle.bureau_sql.specs.Files.{HoldTables, HoldsStore}
+use Rattle.sqlite_disk.specs.declared.Disk as disk
+use Rattle.sqlite_wal.specs.Recovery.{Image}
+use Rattle.bureau_program.specs.Keeping.{HoldCallers, KeepsServed, Leaves, MayFollow}
+use Rattle.bureau_program.specs.Runs.{AreFoundAs, AreJoined, AreOneRun, AreRuns, AreRunsIn, AreRunsOver, FileRun, GoesOn, HasMade, HoldAfter, HoldSinceInit, IsRunOver, Other, Run, Serves, as_made, left_by}
+use Rattle.bureau_program.specs.declared.ended.Ended.{Ended}
+use Rattle.bureau_program.proofs.KeepingFacts.{in_order}
 
-abbrev Isolation : Type 0
+abbrev pub Isolation : Type 0
 Isolation = (opening closing : Tables) (calls : List CallBy) (viewer : Caller) → AreInOrder opening → IsRun opening calls closing → IsAlone viewer (opening_of viewer opening) calls
 
 -- two runs, one after the other
@@ -99,29 +107,100 @@ made_run opening closing next calls made run has =
     let second : IsRun closing (as_made has.call_by closing ∷ has.after) next = (next, inr (refl, has.next_is), later.1) in
     subst (λ (l : List CallBy). IsRun opening l next) (sym has.are) (join opening closing next has.before (as_made has.call_by closing ∷ has.after) first second)
 
-as_found : (run : Run) (next : Tables) → IsRun run.before run.calls run.closing → MayFollow run.closing run.calls next
-    → (found : List CallBy) × AreFoundAs run.closing run.calls next found × IsRun run.before found next
+as_found : (run : Run) (next : Tables) → IsRun run.before run.calls run.closing → MayFollow run.outcome run.closing run.calls next
+    → (found : List CallBy) × AreFoundAs run next found × IsRun run.before found next
 as_found run next now (inl same) = (run.calls, inl (same, refl), subst (IsRun run.before run.calls) (sym same) now)
-as_found run next now (inr refused) =
+as_found run next now (inr (device, refused)) =
     let made = found_made run.closing run.calls next refused in
-    (made.0, inr made.1, made_run run.before run.closing next run.calls made.0 now made.1)
+    (made.0, inr (device, made.1), made_run run.before run.closing next run.calls made.0 now made.1)
 
-all_joined : (run : Run) (runs : List Run) → IsRun run.before run.calls run.closing → AreRuns (MayFollow run.closing run.calls) runs
-    → (all : List CallBy) × AreJoined (run ∷ runs) all × ((closing : Tables) × IsRun run.before all closing)
-all_joined run [] now later = (run.calls, refl, (run.closing, now))
-all_joined run (next ∷ runs) now later =
-    let rest = all_joined next runs later.1 later.2 in
+all_joined : (run : Run) (runs : List Run) (this : Tables) → IsRun run.before run.calls run.closing → AreRuns (MayFollow run.outcome run.closing run.calls) runs this
+    → (all : List CallBy) × AreJoined (run ∷ runs) this all × IsRun run.before all this
+all_joined run [] this now later =
+    let found = as_found run this now later in
+    (found.0, (found.0, [], sym (append-nil found.0), found.1, refl), found.2)
+all_joined run (next ∷ runs) this now later =
+    let rest = all_joined next runs this later.1 later.2 in
     let found = as_found run next.before now later.0 in (
       found.0 ++ rest.0,
       (found.0, rest.0, refl, found.1, rest.1),
-      (rest.2.0, join run.before next.before rest.2.0 found.0 rest.0 found.2 rest.2.1),
+      join run.before next.before this found.0 rest.0 found.2 rest.2,
     )
 
 -- all of them, from the tables that the first one finds
-pub one_run : Isolation → (opening : Tables) (runs : List Run) → AreInOrder opening → AreRuns (λ this. this ≡ opening) runs → AreOneRun opening runs
-one_run isolation opening [] ordered are =
-    record { all = []; joined = refl; closing = opening; run = refl; alone = λ viewer. isolation opening opening [] viewer ordered refl }
-one_run isolation opening (run ∷ runs) ordered are =
-    let it = all_joined run runs are.1 are.2 in
-    let whole : IsRun opening it.0 it.2.0 = subst (λ (at : Tables). IsRun at it.0 it.2.0) are.0 it.2.1 in
-    record { all = it.0; joined = it.1; closing = it.2.0; run = whole; alone = λ viewer. isolation opening it.2.0 it.0 viewer ordered whole }
+one_run : Isolation → (opening : Tables) (runs : List Run) (this : Tables) → AreInOrder opening → AreRuns (λ at. at ≡ opening) runs this → AreOneRun opening runs this
+one_run isolation opening [] this ordered are =
+    record { all = []; joined = refl; run = are; alone = λ viewer. isolation opening this [] viewer ordered are }
+one_run isolation opening (run ∷ runs) this ordered are =
+    let it = all_joined run runs this are.1 are.2 in
+    let whole : IsRun opening it.0 this = subst (λ (at : Tables). IsRun at it.0 this) are.0 it.2 in
+    record { all = it.0; joined = it.1; run = whole; alone = λ viewer. isolation opening this it.0 viewer ordered whole }
+
+-- ---- over files
+
+-- what is left after all runs, by what the first one found
+all_held : (files : List FileRun) (from last : Image) (Opens : Tables → Type 0) → HoldTables from Opens → AreRunsOver from files last
+    → HoldTables last (λ this. (runs : List Run) × AreRunsIn files runs × AreRuns Opens runs this)
+all_held [] from last Opens held same = subst (λ (at : Image). HoldTables at (λ this. (runs : List Run) × AreRunsIn [] runs × AreRuns Opens runs this)) (sym same)
+    (∥∥₁_map held (λ it.
+    let r : (this : Tables) × HoldsStore from this × ((runs : List Run) × AreRunsIn [] runs × AreRuns Opens runs this) = (it.0, it.1, ([], tt, it.2)) in r))
+all_held (Serves log log_after outcome left ∷ files) from last Opens held are = ∥∥₁_elim held squash₁ (λ it.
+    let served = are.0 it.0 it.1 in
+    let run : Run = record { before = it.0; calls = served.calls; closing = served.closing; outcome = outcome } in
+    let rest = all_held files left last (MayFollow outcome served.closing served.calls) (served.left left refl) are.1 in
+    ∥∥₁_map rest (λ more.
+    let r : (this : Tables) × HoldsStore last this × ((runs : List Run) × AreRunsIn (Serves log log_after outcome left ∷ files) runs × AreRuns Opens runs this) = (
+      more.0,
+      more.1,
+      (run ∷ more.2.0, ((refl, (served.arrivals, served.logged, served.made)), more.2.1), (it.2, served.run, more.2.2)),
+    ) in r))
+all_held (Other left ∷ files) from last Opens held are = ∥∥₁_elim held squash₁ (λ it.
+    let run : Run = record { before = it.0; calls = []; closing = it.0; outcome = None } in
+    let stays = ∥∥₁_map (are.0 it.0 it.1) (λ now.
+    let r : (this : Tables) × HoldsStore left this × MayFollow None it.0 [] this = (now.0, now.1, inl now.2) in r) in
+    ∥∥₁_map (all_held files left last (MayFollow None it.0 []) stays are.1) (λ more.
+    let r : (this : Tables) × HoldsStore last this × ((runs : List Run) × AreRunsIn (Other left ∷ files) runs × AreRuns Opens runs this) = (
+      more.0,
+      more.1,
+      (run ∷ more.2.0, (refl, more.2.1), (it.2, refl, more.2.2)),
+    ) in r))
+
+-- from such tables
+pub held_after : Isolation → (opening : Tables) (image : Image) → HoldTables image (λ this. this ≡ opening)
+    → (files : List FileRun) (last : Image) → AreRunsOver image files last → HoldAfter opening files last
+held_after isolation opening image held files last are = ∥∥₁_elim held squash₁ (λ it.
+    let ordered : AreInOrder opening = subst AreInOrder it.2 (in_order image it.0 it.1) in
+    ∥∥₁_map (all_held files image last (λ this. this ≡ opening) held are) (λ more.
+    let r : (this : Tables) × HoldsStore last this × ((runs : List Run) × AreRunsIn files runs × AreOneRun opening runs this) = (
+      more.0,
+      more.1,
+      (more.2.0, more.2.1, one_run isolation opening more.2.0 more.0 ordered more.2.2),
+    ) in r))
+
+-- from the store that `init` made
+pub held_since : Isolation → (source : List ℕ) (image : Image) → HoldCallers source image → (files : List FileRun) (last : Image) → AreRunsOver image files last
+    → HoldSinceInit source files last
+held_since isolation source image made files last are = (made.0, made.1, held_after isolation (opened made.0) image made.2 files last are)
+
+-- and one more run
+one_more : (from : Image) (files : List FileRun) (last : Image) (run : FileRun) → AreRunsOver from files last → IsRunOver last run → AreRunsOver from (files ++ run ∷ []) (left_by run)
+one_more from [] last run same is = (subst (λ (at : Image). IsRunOver at run) same is, refl)
+one_more from (file ∷ files) last run are is = (are.0, one_more (left_by file) files last run are.1 is)
+
+pub goes_on : Isolation → {D : Type 0} {g : disk.Ghosts D} (from : Image) (log log_after : Option (List Event)) (outcome : Option AnyFault) (ended : Ended D g)
+    → KeepsServed from log log_after outcome ended → GoesOn from log log_after outcome ended
+goes_on isolation from log log_after why ended kept well source image made runs are left may =
+    let this : FileRun = Serves log log_after why left in
+    let is : IsRunOver from this = λ before holds.
+    let it = kept well before holds in
+    record {
+      arrivals = it.arrivals;
+      logged = it.logged;
+      calls = it.calls;
+      closing = it.closing;
+      made = it.made;
+      run = it.run;
+      alone = it.alone;
+      left = λ image same. it.left image (subst (Leaves from ended) (sym same) may);
+    } in
+    held_since isolation source image made (runs ++ this ∷ []) left (one_more image runs from this are is)

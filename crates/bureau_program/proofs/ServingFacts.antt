@@ -26,7 +26,7 @@ use Rattle.bureau_program.specs.Ended.{HasFound, IsEndOf, IsRefused, IsUsed}
 use Rattle.bureau_program.specs.Holds.{IsTold, run_status}
 use Rattle.bureau_program.specs.ProgramFault.{of_program}
 use Rattle.bureau_program.specs.Replay.{IsAlwaysRight}
-use Rattle.bureau_program.specs.Serving.{Ends, IsNewCache, IsNotListening, IsServeOutput, IsServeRun, IsServedOver, IsUnheard, ServesAll, ServesUntil, desk_ends, desk_over, file_ends, listening_text, store_ends}
+use Rattle.bureau_program.specs.Serving.{Ends, IsNewCache, IsNotListening, IsServeOutput, IsServeRun, IsServedOver, IsUnheard, ServesAll, ServesUntil, Session, desk_ends, desk_over, file_ends, listening_text, store_ends}
 use Rattle.bureau_program.specs.declared.ended.Ended.{Ended}
 use Rattle.bureau_program.specs.declared.fault.ProgramFault.TheVariants.{NotWritten}
 
@@ -84,65 +84,68 @@ module _ {Store : Type 0} (view : View Store Tables) (log log_after : Option (Li
         (subst (λ (then : Parts Store CacheLists). IsEnded over begun then log log_after connections) last until);
   }
 
-module _ {S : Type 0} (g : Ghosts S) (room connections : ℕ) where
-  -- all connections were served
-  pub served : (cache : CacheLists) (old new : SqlState S) (port : ℕ) (was is : Option (List ℕ)) → IsNewCache room cache
-      → ServesAll (sql_view g) None None connections cache old new → Appends was is (listening_text port) → IsServeOutput (desk_ends g room connections old new) None port was is
-  served cache old new port was is fresh all line = (record { cache = cache; is_new = fresh; did = all }, line)
+module _ {S : Type 0} (g : Ghosts S) (session : Session) where
+  -- all connections were served; none had come as it was begun
+  pub served : (begun : Option (List Event)) (cache : CacheLists) (old new : SqlState S) (port : ℕ) (was is : Option (List ℕ)) → begun ≡ session.log → session.Listens → IsNewCache session.room cache
+      → ServesAll (sql_view g) begun session.log_after session.connections cache old new → Appends was is (listening_text port) → IsServeOutput (desk_ends g session old new) None port was is
+  served begun cache old new port was is same listens fresh all line =
+      let did = subst (λ log. ServesAll (sql_view g) log session.log_after session.connections cache old new) same all in
+      ((listens, record { cache = cache; is_new = fresh; did = did }), line)
 
   -- the device failed
-  pub failed : (cache : CacheLists) (old new : SqlState S) (fault : StoreFault) (any : AnyFault) (port : ℕ) (was is : Option (List ℕ)) → IsNewCache room cache
-      → ServesUntil (sql_view g) None None connections cache old new → fault ≡ Device → any ≡ of_store fault → Appends was is (listening_text port)
-      → IsServeOutput (desk_ends g room connections old new) (Some any) port was is
-  failed cache old new fault any port was is fresh until device told line =
-      inl (told ∙ ap of_store device, record { cache = cache; is_new = fresh; did = until }, line)
+  pub failed : (begun : Option (List Event)) (cache : CacheLists) (old new : SqlState S) (fault : StoreFault) (any : AnyFault) (port : ℕ) (was is : Option (List ℕ)) → begun ≡ session.log → session.Listens
+      → IsNewCache session.room cache → ServesUntil (sql_view g) begun session.log_after session.connections cache old new → fault ≡ Device → any ≡ of_store fault → Appends was is (listening_text port)
+      → IsServeOutput (desk_ends g session old new) (Some any) port was is
+  failed begun cache old new fault any port was is same listens fresh until device told line =
+      let did = subst (λ log. ServesUntil (sql_view g) log session.log_after session.connections cache old new) same until in
+      inl (told ∙ ap of_store device, (listens, record { cache = cache; is_new = fresh; did = did }), line)
 
   -- no desk listened
-  pub unserved : (at : SqlState S) (fault : AnyFault) (port : ℕ) (was is : Option (List ℕ)) → IsUnheard fault port was is
-      → IsServeOutput (desk_ends g room connections at at) (Some fault) port was is
-  unserved at fault port was is unheard = inr (inl (refl, unheard))
+  pub unserved : (at : SqlState S) (fault : AnyFault) (port : ℕ) (was is : Option (List ℕ)) → session.log_after ≡ session.log → IsUnheard fault port was is
+      → IsServeOutput (desk_ends g session at at) (Some fault) port was is
+  unserved at fault port was is same unheard = inr (inl ((refl, same), unheard))
 
   -- the store was opened over a connection before
   pub served_over : (before after : Held S) (opened closing : SqlState S) → HasOpened g (state g before) opened → after ≡ closing.conn
-      → (outcome : Option AnyFault) (port : ℕ) (was is : Option (List ℕ)) → IsServeOutput (desk_ends g room connections opened closing) outcome port was is
-      → IsServeOutput (store_ends g room connections before after) outcome port was is
+      → (outcome : Option AnyFault) (port : ℕ) (was is : Option (List ℕ)) → IsServeOutput (desk_ends g session opened closing) outcome port was is
+      → IsServeOutput (store_ends g session before after) outcome port was is
   served_over before after opened closing has same =
       let over = λ (Does : SqlState S → SqlState S → Type 0) (did : Does opened closing).
       let r : IsServedOver g Does before after = record { opened = opened; has_opened = has; closing = closing; did = did; after_is = same } in r in
-      output_so (desk_ends g room connections opened closing) (store_ends g room connections before after) (λ fault none. absurd none)
-      (over (λ old new. (desk_ends g room connections old new).unserved)) (over (λ old new. (desk_ends g room connections old new).served))
-      (over (λ old new. (desk_ends g room connections old new).failed))
+      output_so (desk_ends g session opened closing) (store_ends g session before after) (λ fault none. absurd none)
+      (over (λ old new. (desk_ends g session old new).unserved)) (over (λ old new. (desk_ends g session old new).served))
+      (over (λ old new. (desk_ends g session old new).failed))
 
   -- a store that is refused is not served
-  pub not_opened : (before after : Held S) (port : ℕ) (output old new : Option (List ℕ)) (status : ℕ) → IsAtRest (state g before) → IsNotOpened (state g before) (state g after) old new status
-      → IsServeRun (store_ends g room connections before after) port output output old new status
-  not_opened before after port output old new status rested refused = record {
+  pub not_opened : (before after : Held S) (port : ℕ) (output old new : Option (List ℕ)) (status : ℕ) → session.log_after ≡ session.log → IsAtRest (state g before)
+      → IsNotOpened (state g before) (state g after) old new status → IsServeRun (store_ends g session before after) port output output old new status
+  not_opened before after port output old new status same rested refused = record {
     outcome = Some (of_store refused.told.0);
-    output = inr (inr ((refused.told.0, refl, (rested, refused.kept, refused.told.1)), Keeps-refl output));
+    output = inr (inr ((refused.told.0, refl, (rested, refused.kept, refused.told.1, same)), Keeps-refl output));
     told = refused.told.2;
     status_is = refused.told.3;
   }
 
 -- ---- over files
 
-module _ {D : Type 0} {g : disk.Ghosts D} (room connections : ℕ) (from : Image) (ended : Ended D g) where
+module _ {D : Type 0} {g : disk.Ghosts D} (session : Session) (from : Image) (ended : Ended D g) where
   -- a connection was made, and ended
   pub run_over_files : (found left : Held (FileStore D g)) → HasFound from found → IsEndOf left ended → (port : ℕ) (old new old_errors new_errors : Option (List ℕ)) (status : ℕ)
-      → IsServeRun (store_ends over_files room connections found left) port old new old_errors new_errors status
-      → IsServeRun (file_ends room connections from ended) port old new old_errors new_errors status
+      → IsServeRun (store_ends over_files session found left) port old new old_errors new_errors status
+      → IsServeRun (file_ends session from ended) port old new old_errors new_errors status
   run_over_files found left finds ends =
       let used = λ (Uses : Held (FileStore D g) → Held (FileStore D g) → Type 0) (so : Uses found left).
       let r : IsUsed from Uses ended = record { found = found; finds = finds; left = left; used = so; ends = ends } in r in
-      run_so (store_ends over_files room connections found left) (file_ends room connections from ended)
-      (λ fault so. inr (used (λ old new. (store_ends over_files room connections old new).refused fault) so))
-      (used (λ old new. (store_ends over_files room connections old new).unserved)) (used (λ old new. (store_ends over_files room connections old new).served))
-      (used (λ old new. (store_ends over_files room connections old new).failed))
+      run_so (store_ends over_files session found left) (file_ends session from ended)
+      (λ fault so. inr (used (λ old new. (store_ends over_files session old new).refused fault) so))
+      (used (λ old new. (store_ends over_files session old new).unserved)) (used (λ old new. (store_ends over_files session old new).served))
+      (used (λ old new. (store_ends over_files session old new).failed))
 
   -- no connection could be made
-  pub not_connected : (fault : StoreFault) (any : AnyFault) (port : ℕ) (output old new : Option (List ℕ)) (status : ℕ) → IsRefused false from fault ended → any ≡ of_store fault
-      → IsTold (Some any) old new → status ≡ run_status (Some any) → IsServeRun (file_ends room connections from ended) port output output old new status
-  not_connected fault any port output old new status refused is told status_is =
-      record { outcome = Some any; output = inr (inr ((fault, is, inl refused), Keeps-refl output)); told = told; status_is = status_is }
+  pub not_connected : (fault : StoreFault) (any : AnyFault) (port : ℕ) (output old new : Option (List ℕ)) (status : ℕ) → session.log_after ≡ session.log → IsRefused false from fault ended
+      → any ≡ of_store fault → IsTold (Some any) old new → status ≡ run_status (Some any) → IsServeRun (file_ends session from ended) port output output old new status
+  not_connected fault any port output old new status same refused is told status_is =
+      record { outcome = Some any; output = inr (inr ((fault, is, inl (refused, same)), Keeps-refl output)); told = told; status_is = status_is }
 
 -- ---- what is told
 

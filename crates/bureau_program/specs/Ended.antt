@@ -74,6 +74,14 @@ module _ {D : Type 0} {g : Ghosts D} where
   IsNothing (Left it) = ⊥
   IsNothing (Closed last) = ⊥
 
+  -- the log was copied into the file, where files were opened as a database; else nothing was done
+  abbrev pub IsCopiedEnd : Ended D g → Ended D g → Type 0
+  IsCopiedEnd Nothing after = after ≡ Nothing
+  IsCopiedEnd (Left it) after = after ≡ Left it
+  IsCopiedEnd (Closed last) Nothing = ⊥
+  IsCopiedEnd (Closed last) (Left it) = ⊥
+  IsCopiedEnd (Closed last) (Closed now) = IsCopied last now
+
   -- No connection to the files could be made. Where there are none, none were opened.
   pub record IsRefused (makes : Bool) (from : Image) (fault : StoreFault) (ended : Ended D g) : Type 0 where
     pub why : IsNotConnected makes fault

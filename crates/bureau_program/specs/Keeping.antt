@@ -1,15 +1,18 @@
 -- What the files of a store hold from one run to the next, whenever a run stops.
-use Rattle.std.specs.Prelude.{◌≡◌, ◌⊎◌, ℕ, IsTrue, List, false, Option, None}
+use Rattle.std.specs.Prelude.{◌≡◌, ◌⊎◌, ℕ, IsTrue, List, Option, None, Some}
 use Rattle.faults.specs.declared.any.AnyFault.{AnyFault}
 use Rattle.bureau_store.specs.Tables.{Tables, opened}
 use Rattle.bureau_store.specs.declared.caller.Caller.{Caller}
 use Rattle.bureau_store.specs.declared.caller.CallerRow.{CallerRow}
+use Rattle.bureau_store.specs.declared.fault.StoreFault.TheVariants.{Device}
 use Rattle.bureau.specs.Alone.{IsAlone, opening_of}
 use Rattle.bureau.specs.Joint.{CallBy, IsRun}
 use Rattle.bureau.specs.Kept.{IsWithOneRefused}
 use Rattle.bureau_http.specs.Arrivals.{AreMade, Arrival, Event, Logs, log_of}
 use Rattle.bureau_sql.specs.Files.{HoldTables, HoldTrees, HoldsEarlier, HoldsStore}
+use Rattle.sql_texts.specs.Schema.{made}
 use Rattle.sql_writes.specs.Making.{IsOpened}
+use Rattle.sqlite_catalog.specs.Listing.{IsSound}
 use Rattle.sqlite_disk.specs.declared.Disk as disk
 use Rattle.sqlite_wal.specs.Files.{outcomes}
 use Rattle.sqlite_wal.specs.Recovery.{Image}
@@ -17,27 +20,28 @@ use Rattle.sqlite_pool.specs.Stored.{is_summed}
 use Rattle.sqlite_trees.specs.Tree.{Trees}
 use Rattle.sqlite_trees.specs.View.{IsClean}
 use Rattle.sqlite_store.specs.FileStore as files
-use Rattle.sqlite_store.specs.FileStore.{view}
+use Rattle.sqlite_store.specs.FileStore.{recovers, view}
 use Rattle.sqlite_store.specs.Unopened.{state_of}
 use Rattle.sqlite.specs.Effect.{Database}
-use Rattle.sqlite.specs.Files.{AreFoundIn, HoldsDatabase, IsCleanLeft}
+use Rattle.sqlite.specs.Files.{AreFoundIn, HoldsDatabase, IsCleanLeft, IsNothing}
 use Rattle.sqlite.specs.declared.file.Leftover.{Leftover}
 use Rattle.sqlite.specs.declared.file.Leftover.TheVariants as left
-use Rattle.bureau_program.specs.Desk.{AreRowsOf}
+use Rattle.bureau_program.specs.Desk.{AreRowsOf, of_store}
 use Rattle.bureau_program.specs.declared.ended.Ended.{Ended}
 use Rattle.bureau_program.specs.declared.ended.Ended.TheVariants.{Nothing, Left, Closed}
 
 -- ---- a run that serves
 
--- the tables after these calls; or with the change of one that was told 503, after which nothing was told from the tables
-abbrev pub MayFollow : Tables → List CallBy → Tables → Type 0
-MayFollow closing calls this = (this ≡ closing) ⊎ IsWithOneRefused closing calls this
+-- The tables after these calls. Or, where the device failed and the run told 42, those with the change of one more, which was told
+-- 503, and after which nothing was told from the tables.
+abbrev pub MayFollow : Option AnyFault → Tables → List CallBy → Tables → Type 0
+MayFollow outcome closing calls this = (this ≡ closing) ⊎ ((outcome ≡ Some (of_store Device)) × IsWithOneRefused closing calls this)
 
 -- A desk served connections from these tables, and whenever the run stops from then on, that may be left. What came over the
 -- connections made these calls, in order, and no others: they are one run of the bureau, in which each caller is answered as if
--- alone. Whatever is left holds the bureau's own store again: with the tables after all that was acknowledged, with or without
--- the one change that was on its way.
-pub record IsServedFrom (before : Tables) (log log_after : Option (List Event)) (MayLeave : Image → Type 0) : Type 0 where
+-- alone. Whatever is left holds the bureau's own store again: with the tables after all that was acknowledged. Where the device
+-- failed, the one change that was on its way may be in it too.
+pub record IsServedFrom (before : Tables) (log log_after : Option (List Event)) (outcome : Option AnyFault) (MayStay : Image → Type 0) : Type 0 where
   pub arrivals : List Arrival
   pub logged : Logs log log_after (log_of arrivals)
   pub calls : List CallBy
@@ -45,9 +49,13 @@ pub record IsServedFrom (before : Tables) (log log_after : Option (List Event)) 
   pub made : AreMade before.callers arrivals calls
   pub run : IsRun before calls closing
   pub alone : (viewer : Caller) → IsAlone viewer (opening_of viewer before) calls
-  pub left : (left : Image) → MayLeave left → HoldTables left (MayFollow closing calls)
+  pub left : (left : Image) → MayStay left → HoldTables left (MayFollow outcome closing calls)
 
 -- ---- a run that makes a store
+
+-- the trees of a database that has no table, no index and no view
+abbrev pub HasNoTables : Trees → Type 0
+HasNoTables trees = IsSound (made 0 0) trees
 
 -- the trees are those of a store with the callers of the callers file, and of nothing else
 abbrev pub AreMadeFor : List ℕ → Trees → Type 0
@@ -66,49 +74,67 @@ module _ {D : Type 0} {g : disk.Ghosts D} where
   MayLeave (left.Unopened now) image = (state_of now).may_leave image
   MayLeave (left.Store now) image = (files.state now).may_leave image
 
-  -- What the toolchain promises nowhere of an open that failed, and is taken on trust: where it was replaying the log, the pages of
-  -- the file end in no sums, as it was made; and where it was checking what it found, the trees are numbered, as it found them.
+  -- What the toolchain promises nowhere of an open that failed, and is taken on trust: where it was replaying the log, it took the
+  -- pages of a file that end in sums for such; and where it was checking what it found, the trees are numbered, as it found them.
   abbrev pub IsUsual : Image → Leftover D g → Type 0
   IsUsual from (left.Files now) = Unit {0}
-  IsUsual from (left.Unopened now) = (trees : Trees) (it : HoldsDatabase from trees) → is_summed it.0 ≡ false
+  IsUsual from (left.Unopened now) =
+      (trees : Trees) (it : HoldsDatabase from trees) → IsTrue (is_summed it.0) → IsTrue (is_summed (state_of now).page_size)
   IsUsual from (left.Store now) = IsTrue (view now).is_numbered
 
-  -- a stop leaves the store with the tables that were there
-  abbrev pub KeepsTables : Image → Leftover D g → Type 0
-  KeepsTables from it = IsCleanLeft it → IsUsual from it → (before : Tables) → HoldsStore from before
-      → (image : Image) → MayLeave it image → HoldTables image (λ this. this ≡ before)
+  -- the disk returned what was written, and what is taken on trust is so
+  abbrev pub EndsWell : Image → Ended D g → Type 0
+  EndsWell from Nothing = Unit {0}
+  EndsWell from (Left it) = IsCleanLeft it × IsUsual from it
+  EndsWell from (Closed last) = IsClean (view last)
 
-  -- where no connection could be made, a stop leaves the store with the tables that were there
-  abbrev pub KeepsUnopened : Image → Ended D g → Type 0
-  KeepsUnopened from Nothing = Unit {0}
-  KeepsUnopened from (Left it) = KeepsTables from it
-  KeepsUnopened from (Closed last) = ⊥
+  -- Whenever a run stops from its end on, it may leave this: where no files were opened, what they held; and of those that were
+  -- opened as a database, one that stands in the store as it was ended, also where the log is copied into the file.
+  abbrev pub Leaves : Image → Ended D g → Image → Type 0
+  Leaves from Nothing image = image ≡ from
+  Leaves from (Left it) image = MayLeave it image
+  Leaves from (Closed last) image = (files.state last).may_leave image ⊎ HoldTrees (recovers last) image
 
-  -- A run of `serve` over files that hold the bureau's own store, wherever it ends: no files were opened; or an open failed,
-  -- which leaves the tables as they were; or connections were served.
-  abbrev pub KeepsServed : Image → Option (List Event) → Option (List Event) → Ended D g → Type 0
-  KeepsServed from log log_after Nothing = Unit {0}
-  KeepsServed from log log_after (Left it) = KeepsTables from it
-  KeepsServed from log log_after (Closed last) =
-      IsClean (view last) → (before : Tables) → HoldsStore from before → IsServedFrom before log log_after (files.state last).may_leave
+  -- so it is, whatever a stop leaves
+  abbrev pub Keeps : Image → Ended D g → (Image → Type 0) → Type 0
+  Keeps from ended Is = EndsWell from ended → (left : Image) → Leaves from ended left → Is left
 
-  -- A run of `init`, wherever it ends. After an open that failed a store is as it was. Else a stop leaves what was there, which may
-  -- be nothing, or, where that is empty, a store with the callers of the callers file and nothing else; and once the run has ended
-  -- without a fault, it leaves that store.
-  abbrev pub KeepsMade : Image → List ℕ → Option AnyFault → Ended D g → Type 0
-  KeepsMade from source outcome Nothing = Unit {0}
-  KeepsMade from source outcome (Left it) = KeepsTables from it
-  KeepsMade from source outcome (Closed last) =
-      IsClean (view last) → (left : Image) → (files.state last).may_leave left
-      → HoldTrees (λ trees. AreFoundIn from trees ⊎ AreMadeFor source trees) left × (outcome ≡ None → HoldCallers source left)
+  -- a store stays, with its tables
+  abbrev pub KeepsTables : Image → Ended D g → Type 0
+  KeepsTables from ended = (before : Tables) → HoldsStore from before → Keeps from ended (λ left. HoldTables left (λ this. this ≡ before))
 
-  -- A run of `migrate` over files that hold the bureau's own database of version 1, wherever it ends. After an open that failed
-  -- a stop leaves what was there. Else it leaves that, or a store with the same tables; and once the run has ended without
-  -- a fault, it leaves that store.
-  abbrev pub KeepsMigrated : Image → Option AnyFault → Ended D g → Type 0
-  KeepsMigrated from outcome Nothing = Unit {0}
-  KeepsMigrated from outcome (Left it) = IsCleanLeft it → IsUsual from it → (before : Tables) → HoldsEarlier from before
-      → (image : Image) → MayLeave it image → ∥ HoldsEarlier image before ∥₁
-  KeepsMigrated from outcome (Closed last) =
-      IsClean (view last) → (before : Tables) → HoldsEarlier from before → (left : Image) → (files.state last).may_leave left
-      → ∥ HoldsEarlier left before ⊎ HoldsStore left before ∥₁ × (outcome ≡ None → ∥ HoldsStore left before ∥₁)
+  -- a store of version 1 stays, with its tables
+  abbrev pub KeepsEarlier : Image → Ended D g → Type 0
+  KeepsEarlier from ended = (before : Tables) → HoldsEarlier from before → Keeps from ended (λ left. ∥ HoldsEarlier left before ∥₁)
+
+  -- A run of `serve` over files that hold the bureau's own store, wherever it ends: also where no files were opened, or an open
+  -- failed, or the store was refused. Then no connection was served.
+  abbrev pub KeepsServed : Image → Option (List Event) → Option (List Event) → Option AnyFault → Ended D g → Type 0
+  KeepsServed from log log_after outcome ended = EndsWell from ended → (before : Tables) → HoldsStore from before
+      → IsServedFrom before log log_after outcome (Leaves from ended)
+
+  -- A run of `init` that could not open the files. A database stays as it is, tree by tree, and so a store of either version does.
+  -- Where there is none yet, there is none afterwards, or one that has no tables.
+  pub record KeepsFound (from : Image) (ended : Ended D g) : Type 0 where
+    pub stays : (trees : Trees) → HoldsDatabase from trees → Keeps from ended (HoldTrees (λ now. now ≡ trees))
+    pub begins : IsNothing from → Keeps from ended (λ left. IsNothing left ⊎ HoldTrees HasNoTables left)
+    pub store : KeepsTables from ended
+    pub earlier : KeepsEarlier from ended
+
+  -- A run of `init` over a database, wherever it ends. It stays as it is, tree by tree, or, where it has no tables, it is a store
+  -- with the callers of the callers file and nothing else. So a store of either version stays. Where no database was there yet, there
+  -- is none, or one that has no tables, or that store. Once the run has ended without a fault, it is that store.
+  pub record KeepsMade (from : Image) (source : List ℕ) (outcome : Option AnyFault) (ended : Ended D g) : Type 0 where
+    pub found : Keeps from ended (HoldTrees (λ now. AreFoundIn from now ⊎ AreMadeFor source now))
+    pub stays : (trees : Trees) → HoldsDatabase from trees
+        → Keeps from ended (HoldTrees (λ now. (now ≡ trees) ⊎ (HasNoTables trees × AreMadeFor source now)))
+    pub begins : IsNothing from → Keeps from ended (λ left. IsNothing left ⊎ HoldTrees (λ now. HasNoTables now ⊎ AreMadeFor source now) left)
+    pub store : KeepsTables from ended
+    pub earlier : KeepsEarlier from ended
+    pub made : outcome ≡ None → Keeps from ended (HoldCallers source)
+
+  -- A run of `migrate`, wherever it ends. A store of version 1 stays, with its tables, or is one of version 2 with the same tables;
+  -- and once the run has ended without a fault, it is that.
+  pub record KeepsMigrated (from : Image) (outcome : Option AnyFault) (ended : Ended D g) : Type 0 where
+    pub earlier : (before : Tables) → HoldsEarlier from before → Keeps from ended (λ left. ∥ HoldsEarlier left before ⊎ HoldsStore left before ∥₁)
+    pub brought : outcome ≡ None → (before : Tables) → HoldsEarlier from before → Keeps from ended (λ left. ∥ HoldsStore left before ∥₁)

@@ -1,4 +1,3 @@
-pub mod Arrived
 pub mod Contents
 pub mod Desk
 pub mod Ended

@@ -1,11 +1,12 @@
 -- What the words of a command line ask for, as clap defines the matches of a command.
-use Rattle.std.specs.Prelude.{◌≡◌, ◌≤◌, ℕ, pos, true, List, [], ◌∷◌, codes, map, Option, Some, None, Ok, string_bytes}
+use Rattle.std.specs.Prelude.{◌≡◌, ◌≤◌, ℕ, pos, true, List, [], ◌∷◌, codes, map, Option, Some, None, Ok, option_map, string_bytes}
 use Rattle.std.specs.Str.Parse.{ParsesUnsigned}
 use Rattle.clap.specs.Words.{App, Row, Rule, Text, all_of, first_of, new_app, new_rule, one_of, subcommand_of, with_rule, with_subcommand}
 use Rattle.clap.specs.declared.builder.ArgAction.TheVariants.{Append, Set}
 use Rattle.clap.specs.declared.builder.value_parser.ValueParser.TheVariants.{Signed}
 use Rattle.bureau_program.specs.declared.line.Line.{Line}
-use Rattle.bureau_program.specs.declared.line.Line.TheVariants.{Holds, Init, Migrate, Replay, Serve}
+use Rattle.bureau_program.specs.declared.report_files.ReportFiles.{ReportFiles}
+use Rattle.bureau_program.specs.declared.line.Line.TheVariants.{Chain, ErrSysmods, Holds, Init, Migrate, MissingFix, Replay, Serve}
 
 -- an argument that has to be given, with one value
 abbrev pub required_rule : Text → Rule
@@ -65,6 +66,38 @@ replay_app =
 abbrev pub migrate_app : App
 migrate_app = with_rule (new_app (codes "migrate")) (required_rule (codes "store"))
 
+-- `--NAME TEXT`: an option, which has to be given or may be left out
+abbrev pub text_rule : Text → Rule
+text_rule name = record (new_rule name) { long = Some name; action = Some Set; value_names = 1 }
+
+abbrev pub zone_rule : Rule
+zone_rule = record (text_rule (codes "zone")) { required = true }
+
+abbrev pub categories_rule : Rule
+categories_rule = record (text_rule (codes "categories")) { required = true }
+
+abbrev pub received_rule : Rule
+received_rule = text_rule (codes "received")
+
+abbrev pub name_rule : Rule
+name_rule = text_rule (codes "name")
+
+-- `errsysmods --zone ZONE [--received R] [--name NAME] FILE..`
+abbrev pub err_sysmods_app : App
+err_sysmods_app =
+    with_rule (with_rule (with_rule (with_rule (new_app (codes "errsysmods")) zone_rule) received_rule) name_rule) (several_rule (codes "files"))
+
+-- `missingfix --zone ZONE --categories C [--received R] [--name NAME] FILE..`
+abbrev pub missing_fix_app : App
+missing_fix_app =
+    with_rule (with_rule (with_rule (with_rule (with_rule (new_app (codes "missingfix")) zone_rule) categories_rule) received_rule) name_rule)
+    (several_rule (codes "files"))
+
+-- `chain --zone ZONE [--name NAME] SYSMOD FILE..`
+abbrev pub chain_app : App
+chain_app =
+    with_rule (with_rule (with_rule (with_rule (new_app (codes "chain")) zone_rule) name_rule) (required_rule (codes "sysmod"))) (several_rule (codes "files"))
+
 -- a command that takes the words after its own name, has a version, and wants the name of one below it
 abbrev pub commands_named : Text → App
 commands_named name =
@@ -78,7 +111,10 @@ bureau_app =
     let init = with_subcommand holds init_app.top in
     let serve = with_subcommand init serve_app.top in
     let replay = with_subcommand serve replay_app.top in
-    with_subcommand replay migrate_app.top
+    let migrate = with_subcommand replay migrate_app.top in
+    let errsysmods = with_subcommand migrate err_sysmods_app.top in
+    let missingfix = with_subcommand errsysmods missing_fix_app.top in
+    with_subcommand missingfix chain_app.top
 
 -- the text is a number in decimal digits, this one, and it is in the range
 abbrev pub IsNumberIn : ℕ → ℕ → Option Text → ℕ → Type 0
@@ -102,6 +138,18 @@ command_of (Init store callers) = codes "init"
 command_of (Serve port cache connections store) = codes "serve"
 command_of (Replay cache callers files) = codes "replay"
 command_of (Migrate store) = codes "migrate"
+command_of (ErrSysmods files) = codes "errsysmods"
+command_of (MissingFix files) = codes "missingfix"
+command_of (Chain sysmod files) = codes "chain"
+
+-- the names of a report's files among the matches; what may be left out is there or not
+abbrev pub HasFiles : List Row → ReportFiles → Type 0
+HasFiles rows files =
+    (first_of (codes "zone") rows ≡ Some (string_bytes files.zone))
+    × (first_of (codes "categories") rows ≡ option_map string_bytes files.categories)
+    × (first_of (codes "received") rows ≡ option_map string_bytes files.received)
+    × (first_of (codes "name") rows ≡ option_map string_bytes files.name)
+    × (all_of (codes "files") rows ≡ Some (map string_bytes files.publications.items))
 
 -- each value among the matches is that of the line
 abbrev pub HasValues : List Row → Line → Type 0
@@ -118,6 +166,9 @@ HasValues rows (Replay cache callers files) =
     × (first_of (codes "callers") rows ≡ Some (string_bytes callers))
     × (all_of (codes "files") rows ≡ Some (map string_bytes files.items))
 HasValues rows (Migrate store) = first_of (codes "store") rows ≡ Some (string_bytes store)
+HasValues rows (ErrSysmods files) = HasFiles rows files
+HasValues rows (MissingFix files) = HasFiles rows files
+HasValues rows (Chain sysmod files) = (first_of (codes "sysmod") rows ≡ Some (string_bytes sysmod)) × HasFiles rows files
 
 -- the command of this name, with these matches, has the line: each argument's value is that of the line
 abbrev pub IsLineWith : Text → List Row → Line → Type 0
@@ -132,20 +183,31 @@ IsLineIn (Some (name, rows)) line = IsLineWith name rows line
 abbrev pub IsLineOf : List Text → Line → Type 0
 IsLineOf words line = IsLineIn (subcommand_of bureau_app words) line
 
--- what a line says: its command, its numbers and its texts
-abbrev pub said : Line → Text × List ℕ × List Text
-said (Holds file) = (codes "holds", [], string_bytes file ∷ [])
-said (Init store callers) = (codes "init", [], string_bytes store ∷ string_bytes callers ∷ [])
+-- what a report's files say: the names that are always given, and those that may be left out
+abbrev pub texts_said : ReportFiles → List Text
+texts_said files = string_bytes files.zone ∷ map string_bytes files.publications.items
+
+abbrev pub options_said : ReportFiles → List (Option Text)
+options_said files =
+    option_map string_bytes files.categories ∷ option_map string_bytes files.received ∷ option_map string_bytes files.name ∷ []
+
+-- what a line says: its command, its numbers, its texts, and what may be left out
+abbrev pub said : Line → Text × List ℕ × List Text × List (Option Text)
+said (Holds file) = (codes "holds", [], string_bytes file ∷ [], [])
+said (Init store callers) = (codes "init", [], string_bytes store ∷ string_bytes callers ∷ [], [])
 said (Serve port cache connections store) =
-    (codes "serve", port ∷ cache ∷ connections ∷ [], string_bytes store ∷ [])
-said (Replay cache callers files) = (codes "replay", cache ∷ [], string_bytes callers ∷ map string_bytes files.items)
-said (Migrate store) = (codes "migrate", [], string_bytes store ∷ [])
+    (codes "serve", port ∷ cache ∷ connections ∷ [], string_bytes store ∷ [], [])
+said (Replay cache callers files) = (codes "replay", cache ∷ [], string_bytes callers ∷ map string_bytes files.items, [])
+said (Migrate store) = (codes "migrate", [], string_bytes store ∷ [], [])
+said (ErrSysmods files) = (codes "errsysmods", [], texts_said files, options_said files)
+said (MissingFix files) = (codes "missingfix", [], texts_said files, options_said files)
+said (Chain sysmod files) = (codes "chain", [], string_bytes sysmod ∷ texts_said files, options_said files)
 
 -- words have at most one line
 abbrev pub HasOneLine : List Text → Type 0
 HasOneLine words = (line other : Line) → IsLineOf words line → IsLineOf words other → said line ≡ said other
 
 -- Serves private contracts alone: the line is such a one, or there is no such line.
-abbrev pub IsFound : (Line → Type 0) → Option Line → Type 0
-IsFound Is None = (line : Line) → Is line → ⊥
+abbrev pub IsFound : {A : Type 0} → (A → Type 0) → Option A → Type 0
+IsFound {A} Is None = (line : A) → Is line → ⊥
 IsFound Is (Some line) = Is line

@@ -1,6 +1,7 @@
 -- What a run does: from the words of a command line to what it reads, what both streams get, and the exit status.
-use Rattle.std.specs.Prelude.{◌≡◌, ◌≢◌, ◌⊎◌, ℕ, [], List, codes, map, true, false, Option, Some, None, Result, Ok, Err, IfSome, string_bytes}
+use Rattle.std.specs.Prelude.{◌≡◌, ◌≢◌, ◌⊎◌, ℕ, [], List, codes, map, true, Option, Some, Result, Ok, Err, IfSome, string_bytes}
 use Rattle.std.specs.Io.KnownBytes.{Keeps}
+use Rattle.bureau_http.specs.Arrivals.{Event}
 use Rattle.bureau_store.specs.declared.fault.StoreFault.{StoreFault}
 use Rattle.clap.specs.Words.{fault_of}
 use Rattle.sqlite_disk.specs.declared.Disk as disk
@@ -11,11 +12,13 @@ use Rattle.bureau_program.specs.Line.{bureau_app, IsLineOf}
 pub use Rattle.bureau_program.specs.Outputs.{Outputs, IsEndedBy, IsExplained, outputs_of}
 use Rattle.bureau_program.specs.Desk.{IsCallersFault, IsInitRun, LeavesMade, of_store}
 use Rattle.bureau_program.specs.Ended.{IsNothing, IsRefused}
-use Rattle.bureau_program.specs.Keeping.{KeepsMade, KeepsMigrated, KeepsServed, KeepsUnopened}
+use Rattle.bureau_program.specs.Keeping.{KeepsFound, KeepsMade, KeepsMigrated, KeepsServed}
 use Rattle.bureau_program.specs.Migrating.{IsMigrateRun, LeavesMigrated}
-use Rattle.bureau_program.specs.Serving.{IsServeRun, file_ends}
+use Rattle.bureau_program.specs.Runs.{GoesOn}
+use Rattle.bureau_program.specs.Serving.{IsServeRun, file_ends, session_of}
 use Rattle.bureau_program.specs.ProgramFault.{of_program, status_of}
 use Rattle.bureau_program.specs.Replay.{IsReplayRun}
+use Rattle.bureau_program.specs.ReportFiles.{IsChain, IsReport}
 use Rattle.bureau_program.specs.Surroundings.{KnownFile, AreContents, IsContent, IsNotOpened, IsOpened}
 use Rattle.bureau_program.specs.declared.ended.Ended.{Ended}
 use Rattle.bureau_program.specs.declared.fault.ProgramFault.TheVariants.{NotRead, Memory}
@@ -23,6 +26,8 @@ use Rattle.bureau_program.specs.declared.line.Line.{Line}
 use Rattle.bureau_program.specs.declared.line.Line.TheVariants as line
 use Rattle.bureau_program.specs.declared.line.LineFault.{LineFault}
 use Rattle.bureau_program.specs.declared.line.LineFault.TheVariants as line_fault
+use Rattle.bureau_program.specs.declared.reporting.Report.TheVariants.{ErrSysmods, MissingFix}
+use Rattle.bureau_program.specs.declared.serving.Service.{Service}
 
 -- the hold book of what a file has; or the file can't be opened
 abbrev pub IsHoldsOf : KnownFile → Outputs → ℕ → Type 0
@@ -63,10 +68,22 @@ HasCallerFault callers fault = (source : List ℕ) × IsContent callers source �
 abbrev pub IsNotBegun : KnownFile → AnyFault → Type 0
 IsNotBegun callers fault = (fault ≡ of_program NotRead) ⊎ (fault ≡ of_program Memory) ⊎ HasCallerFault callers fault
 
--- What a run may find: files by their names, and what the two files of a store of a name may hold.
+-- What a run may find: files by their names, what the two files of a store of a name may hold, the ports that it asks for, and
+-- what came over its connections before it and by its end.
 pub record Found : Type 1 where
   pub files : List ℕ → KnownFile
   pub stores : List ℕ → Image → Type 0
+  pub ports : ℕ → Type 0
+  pub log : Option (List Event)
+  pub log_after : Option (List Event)
+
+-- the same, by what is known of the surroundings
+abbrev pub found_in : (List ℕ → KnownFile) → (List ℕ → Image → Type 0) → (ℕ → Type 0) → Option (List Event) → Option (List Event) → Found
+found_in files stores ports log log_after = record { files = files; stores = stores; ports = ports; log = log; log_after = log_after }
+
+-- no connection came
+abbrev pub NobodyCame : Found → Type 0
+NobodyCame found = found.log_after ≡ found.log
 
 module _ (found : Found) (from : Image) {D : Type 0} {g : disk.Ghosts D} where
   -- the callers file is read, and a store with its callers is made in the database that a connection finds in the store's files
@@ -82,7 +99,7 @@ module _ (found : Found) (from : Image) {D : Type 0} {g : disk.Ghosts D} where
     pub named : found.stores name from
     pub fault : StoreFault
     pub refused : IsRefused true from fault ended
-    pub kept : KeepsUnopened from ended
+    pub kept : KeepsFound from ended
     pub told : IsToldAlone (of_store fault) outputs status
 
   -- `init STORE CALLERS`. What is wrong with the callers file may be told before the store's files are opened.
@@ -92,10 +109,12 @@ module _ (found : Found) (from : Image) {D : Type 0} {g : disk.Ghosts D} where
       ⊎ ((fault : AnyFault) × IsNotBegun (found.files callers) fault × IsToldAlone fault outputs status × IsNothing ended)
 
   -- `serve --port P --cache N --connections K STORE`
-  pub record IsServe (port cache connections : ℕ) (name : List ℕ) (outputs : Outputs) (status : ℕ) (ended : Ended D g) : Type 0 where
+  pub record IsServe (service : Service) (name : List ℕ) (outputs : Outputs) (status : ℕ) (ended : Ended D g) : Type 0 where
     pub named : found.stores name from
-    pub served : IsServeRun (file_ends cache connections from ended) port outputs.output outputs.written outputs.errors outputs.told status
-    pub kept : KeepsServed from None None ended
+    pub served : IsServeRun (file_ends (session_of service found.ports found.log found.log_after) from ended) service.port
+        outputs.output outputs.written outputs.errors outputs.told status
+    pub kept : KeepsServed from found.log found.log_after served.outcome ended
+    pub goes_on : GoesOn from found.log found.log_after served.outcome ended
 
   -- `migrate STORE`
   pub record IsMigrate (name : List ℕ) (outputs : Outputs) (status : ℕ) (ended : Ended D g) : Type 0 where
@@ -103,22 +122,28 @@ module _ (found : Found) (from : Image) {D : Type 0} {g : disk.Ghosts D} where
     pub migrated : IsMigrateRun (λ outcome. LeavesMigrated from outcome ended) outputs.output outputs.written outputs.errors outputs.told status
     pub kept : KeepsMigrated from migrated.outcome ended
 
-  -- What a line asks for is done, or what is wrong with the words is told. Standard input is read for `holds -` alone, and the
-  -- files of a store are opened where a STORE is named, and nowhere else.
+  -- What a line asks for is done, or what is wrong with the words is told. Standard input is read where a FILE is `-`, connections
+  -- come for `serve` alone, and the files of a store are opened where a STORE is named, and nowhere else.
   abbrev pub IsAnswered : Result Line LineFault → Option (List ℕ) → Option (List ℕ) → Outputs → ℕ → Ended D g → Type 0
   IsAnswered (Ok (line.Holds file)) input rest outputs status ended =
-      IsHolds found.files (string_bytes file) input rest outputs status × IsNothing ended
+      IsHolds found.files (string_bytes file) input rest outputs status × NobodyCame found × IsNothing ended
   IsAnswered (Ok (line.Replay cache callers names)) input rest outputs status ended =
-      Keeps input rest × IsReplay found.files (string_bytes callers) (map string_bytes names.items) outputs status × IsNothing ended
+      Keeps input rest × IsReplay found.files (string_bytes callers) (map string_bytes names.items) outputs status × NobodyCame found × IsNothing ended
   IsAnswered (Ok (line.Init store callers)) input rest outputs status ended =
-      Keeps input rest × IsInit (string_bytes store) (string_bytes callers) outputs status ended
+      Keeps input rest × NobodyCame found × IsInit (string_bytes store) (string_bytes callers) outputs status ended
   IsAnswered (Ok (line.Serve port cache connections store)) input rest outputs status ended =
-      Keeps input rest × IsServe port cache connections (string_bytes store) outputs status ended
+      Keeps input rest × IsServe (record { port = port; cache = cache; connections = connections }) (string_bytes store) outputs status ended
   IsAnswered (Ok (line.Migrate store)) input rest outputs status ended =
-      Keeps input rest × IsMigrate (string_bytes store) outputs status ended
+      Keeps input rest × NobodyCame found × IsMigrate (string_bytes store) outputs status ended
+  IsAnswered (Ok (line.ErrSysmods files)) input rest outputs status ended =
+      IsReport found.files ErrSysmods files input rest outputs status × NobodyCame found × IsNothing ended
+  IsAnswered (Ok (line.MissingFix files)) input rest outputs status ended =
+      IsReport found.files MissingFix files input rest outputs status × NobodyCame found × IsNothing ended
+  IsAnswered (Ok (line.Chain sysmod files)) input rest outputs status ended =
+      IsChain found.files (string_bytes sysmod) files input rest outputs status × NobodyCame found × IsNothing ended
   IsAnswered (Err (line_fault.Words text)) input rest outputs status ended =
-      Keeps input rest × IsExplained (string_bytes text) outputs status × IsNothing ended
-  IsAnswered (Err line_fault.Memory) input rest outputs status ended = Keeps input rest × IsEndedBy Memory outputs status × IsNothing ended
+      Keeps input rest × IsExplained (string_bytes text) outputs status × NobodyCame found × IsNothing ended
+  IsAnswered (Err line_fault.Memory) input rest outputs status ended = Keeps input rest × IsEndedBy Memory outputs status × NobodyCame found × IsNothing ended
 
 -- the words are understood as this line; clap has a fault to find in them, or they ask for help; or memory ran out
 abbrev pub IsUnderstoodAs : List (List ℕ) → Result Line LineFault → Type 0

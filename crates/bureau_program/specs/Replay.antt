@@ -1,11 +1,12 @@
 -- What `replay` makes of a callers file and the bytes of connections.
-use Rattle.std.specs.Prelude.{◌≡◌, ◌⊎◌, ℕ, List, Option, Some, None, true}
+use Rattle.std.specs.Prelude.{◌≡◌, ◌⊎◌, ℕ, IsTrue, List, Option, Some, None, true}
 use Rattle.std.specs.Io.KnownBytes.{Appends, Keeps}
 use Rattle.std.specs.List.{flat_map}
 use Rattle.faults.specs.declared.any.AnyFault.{AnyFault}
 use Rattle.bureau_http.specs.ConnFault.{run_told}
 use Rattle.bureau_http.specs.Replay.{IsReplayed}
 use Rattle.bureau_http.specs.declared.fault.RunFault.TheVariants as run
+use Rattle.bureau_store.specs.Store.{IsOfCall}
 use Rattle.bureau_store.specs.declared.fault.StoreFault.{StoreFault}
 use Rattle.catalogue.specs.Content.{Content}
 use Rattle.chain_cache.specs.Cache.{CacheLists, IsRightFor}
@@ -14,6 +15,8 @@ use Rattle.transfer.specs.Transfer.{AppendsFront}
 use Rattle.bureau_program.specs.Holds.{IsTold, run_status}
 use Rattle.bureau_program.specs.ProgramFault.{of_program}
 use Rattle.bureau_program.specs.declared.fault.ProgramFault.TheVariants.{NotWritten, Memory}
+use Rattle.sql_writes.specs.Making.{IsEmpty}
+use Rattle.sqlite.specs.State.{HasCleanDisk, State}
 use Rattle.sqlite_trees.specs.declared.store.Store.{Ghosts}
 
 -- files in which each byte that is read is the one that was written, whatever happens
@@ -33,10 +36,15 @@ abbrev pub IsReplayCutShort : AnyFault → List ℕ → List (List ℕ) → Opti
 IsReplayCutShort fault callers connections old new =
     (fault ≡ of_program NotWritten) × ((written : List (List ℕ)) × IsReplayed callers connections written × AppendsFront old new (joined written))
 
--- no store can be made, its device failed, or memory ran out
+-- it is open and has no tables, where its files returned what was written
+abbrev pub IsNewDatabase : State → Type 0
+IsNewDatabase at = HasCleanDisk at → IsTrue at.is_open × IsEmpty at.committed
+
+-- The store of a replay is refused as any call of a store may be: for want of memory or of room, or since its device failed. Or
+-- memory ran out besides.
 abbrev pub IsNotServed : AnyFault → Type 0
 IsNotServed fault =
-    ((refused : StoreFault) × (fault ≡ of_store refused)) ⊎ (fault ≡ of_program Memory)
+    ((refused : StoreFault) × IsOfCall refused × (fault ≡ of_store refused)) ⊎ (fault ≡ of_program Memory)
     ⊎ (fault ≡ run_told run.Memory)
 
 -- the same, or the callers file has a fault

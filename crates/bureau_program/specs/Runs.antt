@@ -1,24 +1,77 @@
--- Any number of runs of a desk, one after the other, each of which may stop at any moment.
-use Rattle.std.specs.Prelude.{◌≡◌, ◌⊎◌, List, [], ◌∷◌, ◌++◌}
-use Rattle.bureau_store.specs.Tables.{Tables}
+-- Any number of runs of the program over the files of a store, one after the other, each of which may stop at any moment.
+use Rattle.std.specs.Prelude.{◌≡◌, ◌⊎◌, ℕ, List, [], ◌∷◌, ◌++◌, Option, Some}
+use Rattle.faults.specs.declared.any.AnyFault.{AnyFault}
+use Rattle.bureau_store.specs.Tables.{Tables, opened}
 use Rattle.bureau_store.specs.declared.caller.Caller.{Caller}
+use Rattle.bureau_store.specs.declared.caller.CallerRow.{CallerRow}
+use Rattle.bureau_store.specs.declared.fault.StoreFault.TheVariants.{Device}
 use Rattle.bureau.specs.Alone.{IsAlone, opening_of}
 use Rattle.bureau.specs.Joint.{CallBy, IsRun}
 use Rattle.bureau.specs.Kept.{TellNothing, tables_with}
 use Rattle.bureau.specs.Outcome.{answer_of, no_room, outcome}
 use Rattle.bureau.specs.View.{view_of}
-use Rattle.bureau_program.specs.Keeping.{MayFollow}
+use Rattle.bureau_http.specs.Arrivals.{AreMade, Arrival, Event, Logs, log_of}
+use Rattle.bureau_sql.specs.Files.{HoldTables, HoldsStore}
+use Rattle.sqlite_disk.specs.declared.Disk as disk
+use Rattle.sqlite_wal.specs.Recovery.{Image}
+use Rattle.bureau_program.specs.Desk.{AreRowsOf, of_store}
+use Rattle.bureau_program.specs.Keeping.{EndsWell, HoldCallers, IsServedFrom, Leaves, MayFollow}
+use Rattle.bureau_program.specs.declared.ended.Ended.{Ended}
 
--- one run: the tables that it found, the calls that were made, and the tables after all that was acknowledged
+-- ---- runs over files
+
+-- A run of the program, and what it left of the two files of a store. One of `serve`: what came over its connections before it and
+-- by its end, and how it ended. Or any other run, also one that could not open the files.
+pub data FileRun : Type 0 where
+  Serves : Option (List Event) → Option (List Event) → Option AnyFault → Image → FileRun
+  Other : Image → FileRun
+
+abbrev pub left_by : FileRun → Image
+left_by (Serves log log_after outcome left) = left
+left_by (Other left) = left
+
+-- The files held this as it began. A run of `serve` kept what it promises (`KeepsServed`), and any other left a store with the
+-- tables that were there (`KeepsTables`).
+abbrev pub IsRunOver : Image → FileRun → Type 0
+IsRunOver from (Serves log log_after outcome left) =
+    (before : Tables) → HoldsStore from before → IsServedFrom before log log_after outcome (λ image. image ≡ left)
+IsRunOver from (Other left) = (before : Tables) → HoldsStore from before → HoldTables left (λ this. this ≡ before)
+
+-- one after the other: each began over what the one before left
+abbrev pub AreRunsOver : Image → List FileRun → Image → Type 0
+AreRunsOver from [] last = last ≡ from
+AreRunsOver from (run ∷ runs) last = IsRunOver from run × AreRunsOver (left_by run) runs last
+
+-- ---- what was called in them
+
+-- the tables that a run found, the calls that were made, the tables after all that was acknowledged, and how it ended
 pub record Run : Type 0 where
   pub before : Tables
   pub calls : List CallBy
   pub closing : Tables
+  pub outcome : Option AnyFault
 
--- Each run found such tables as a stop of the one before may have left (`KeepsServed`), and its calls are a run of the bureau.
-abbrev pub AreRuns : (Tables → Type 0) → List Run → Type 0
-AreRuns Opens [] = Unit {0}
-AreRuns Opens (run ∷ runs) = Opens run.before × IsRun run.before run.calls run.closing × AreRuns (MayFollow run.closing run.calls) runs
+-- the calls are those that came over the connections of `serve`; in any other run there are none
+abbrev pub AreCallsIn : FileRun → Run → Type 0
+AreCallsIn (Serves log log_after outcome left) run = (run.outcome ≡ outcome)
+    × ((arrivals : List Arrival) × Logs log log_after (log_of arrivals) × AreMade run.before.callers arrivals run.calls)
+AreCallsIn (Other left) run = run.calls ≡ []
+
+-- so for each run
+abbrev pub AreRunsIn : List FileRun → List Run → Type 0
+AreRunsIn [] [] = Unit {0}
+AreRunsIn [] (run ∷ runs) = ⊥
+AreRunsIn (file ∷ files) [] = ⊥
+AreRunsIn (file ∷ files) (run ∷ runs) = AreCallsIn file run × AreRunsIn files runs
+
+-- Each run found such tables as a stop of the one before may have left, and its calls are a run of the bureau. These tables are
+-- such in the end.
+abbrev pub AreRuns : (Tables → Type 0) → List Run → Tables → Type 0
+AreRuns Opens [] this = Opens this
+AreRuns Opens (run ∷ runs) this =
+    Opens run.before × IsRun run.before run.calls run.closing × AreRuns (MayFollow run.outcome run.closing run.calls) runs this
+
+-- ---- all calls as one run
 
 -- the call with the answer that it would have had, had there been room
 abbrev pub as_made : CallBy → Tables → CallBy
@@ -35,22 +88,45 @@ pub record HasMade (closing : Tables) (calls : List CallBy) (next : Tables) (mad
   pub next_is : next ≡ tables_with call_by closing
   pub are : made ≡ before ++ as_made call_by closing ∷ after
 
--- the calls of a run as the next one finds them: as they were answered, or with one more that was made
-abbrev pub AreFoundAs : Tables → List CallBy → Tables → List CallBy → Type 0
-AreFoundAs closing calls next found = ((next ≡ closing) × (found ≡ calls)) ⊎ HasMade closing calls next found
+-- the calls of a run as they are found afterwards: as they were answered; or, where the device failed, with one more that was made
+abbrev pub AreFoundAs : Run → Tables → List CallBy → Type 0
+AreFoundAs run next found = ((next ≡ run.closing) × (found ≡ run.calls))
+    ⊎ ((run.outcome ≡ Some (of_store Device)) × HasMade run.closing run.calls next found)
 
--- the calls of all runs, in order
-abbrev pub AreJoined : List Run → List CallBy → Type 0
-AreJoined [] all = all ≡ []
-AreJoined (run ∷ []) all = all ≡ run.calls
-AreJoined (run ∷ next ∷ runs) all =
-    (found : List CallBy) × (rest : List CallBy) × (all ≡ found ++ rest) × AreFoundAs run.closing run.calls next.before found × AreJoined (next ∷ runs) rest
+-- the tables that the next run finds, or that are there in the end
+abbrev pub found_next : List Run → Tables → Tables
+found_next [] this = this
+found_next (run ∷ runs) this = run.before
 
--- The calls of all runs together are one run of the bureau. So each reply to a caller, other than 503, is that of a bureau which got
--- the publisher's and that caller's own calls of all runs before, without those told 503, and perhaps the one on its way at each stop.
-pub record AreOneRun (opening : Tables) (runs : List Run) : Type 0 where
+-- the calls of all runs, in order, as they are found
+abbrev pub AreJoined : List Run → Tables → List CallBy → Type 0
+AreJoined [] this all = all ≡ []
+AreJoined (run ∷ runs) this all =
+    (found : List CallBy) × (rest : List CallBy) × (all ≡ found ++ rest) × AreFoundAs run (found_next runs this) found × AreJoined runs this rest
+
+-- The calls of all runs together are one run of the bureau, to these tables. So each reply to a caller, other than 503, is that of
+-- a bureau which got the publisher's and that caller's own calls of all runs before, without those told 503, and perhaps the one
+-- on its way at each stop.
+pub record AreOneRun (opening : Tables) (runs : List Run) (this : Tables) : Type 0 where
   pub all : List CallBy
-  pub joined : AreJoined runs all
-  pub closing : Tables
-  pub run : IsRun opening all closing
+  pub joined : AreJoined runs this all
+  pub run : IsRun opening all this
   pub alone : (viewer : Caller) → IsAlone viewer (opening_of viewer opening) all
+
+-- ---- from one run to the next
+
+-- The files hold the bureau's own store, with the tables to which the calls of all these runs lead.
+abbrev pub HoldAfter : Tables → List FileRun → Image → Type 0
+HoldAfter opening files image = HoldTables image (λ this. (runs : List Run) × AreRunsIn files runs × AreOneRun opening runs this)
+
+-- The same, where `init` made the store with the callers of this file before the first of them.
+abbrev pub HoldSinceInit : List ℕ → List FileRun → Image → Type 0
+HoldSinceInit source files image = (rows : List CallerRow) × AreRowsOf source rows × HoldAfter (opened rows) files image
+
+module _ {D : Type 0} {g : disk.Ghosts D} where
+  -- A run of `serve` goes on: `init` made the store, runs came after it, and this one began over what the last of them left. Then
+  -- whatever a stop leaves of the files, they hold the store, with the tables to which the calls of all runs lead, and of this one.
+  abbrev pub GoesOn : Image → Option (List Event) → Option (List Event) → Option AnyFault → Ended D g → Type 0
+  GoesOn from log log_after outcome ended = EndsWell from ended
+      → (source : List ℕ) (image : Image) → HoldCallers source image → (runs : List FileRun) → AreRunsOver image runs from
+      → (left : Image) → Leaves from ended left → HoldSinceInit source (runs ++ Serves log log_after outcome left ∷ []) left

@@ -29,6 +29,7 @@ use Rattle.bureau_program.specs.ProgramFault.{of_program}
 use Rattle.bureau_program.specs.Replay.{IsAlwaysRight}
 use Rattle.bureau_program.specs.declared.ended.Ended.{Ended}
 use Rattle.bureau_program.specs.declared.fault.ProgramFault.TheVariants.{NotListening, NotWritten, Memory}
+use Rattle.bureau_program.specs.declared.serving.Service.{Service}
 
 -- where the desk listens
 abbrev pub listening_text : ℕ → List ℕ
@@ -67,6 +68,25 @@ pub record ByDesk {Store : Type 0} (room : ℕ) (Does : CacheLists → Store →
 
 -- ---- how a run may end
 
+-- A session of a desk: it has room for so many frames and serves so many connections to a port, that the port was asked for, and
+-- what came over its connections and was closed before the session and by its end, as far as that is known.
+pub record Session : Type 1 where
+  pub room : ℕ
+  pub connections : ℕ
+  pub Listens : Type 0
+  pub log : Option (List Event)
+  pub log_after : Option (List Event)
+
+-- that of a service, of the ports that were asked for and the logs of its connections
+abbrev pub session_of : Service → (ℕ → Type 0) → Option (List Event) → Option (List Event) → Session
+session_of service Listens log log_after = record {
+  room = service.cache;
+  connections = service.connections;
+  Listens = Listens service.port;
+  log = log;
+  log_after = log_after;
+}
+
 -- What is so where a run ends: because its store is refused, by the fault; before a desk listens, or where it can't print that
 -- it does; after all connections; and in the connection in which the device failed.
 pub record Ends : Type 1 where
@@ -75,13 +95,13 @@ pub record Ends : Type 1 where
   pub served : Type 0
   pub failed : Type 0
 
--- of a store that is open; so many connections of sockets, of which nothing is known
-abbrev pub desk_ends : {S : Type 0} → Ghosts S → ℕ → ℕ → SqlState S → SqlState S → Ends
-desk_ends g room connections old new = record {
+-- of a store that is open
+abbrev pub desk_ends : {S : Type 0} → Ghosts S → Session → SqlState S → SqlState S → Ends
+desk_ends g session old new = record {
   refused = λ fault. ⊥;
-  unserved = new ≡ old;
-  served = ByDesk room (ServesAll (sql_view g) None None connections) old new;
-  failed = ByDesk room (ServesUntil (sql_view g) None None connections) old new;
+  unserved = (new ≡ old) × (session.log_after ≡ session.log);
+  served = session.Listens × ByDesk session.room (ServesAll (sql_view g) session.log session.log_after session.connections) old new;
+  failed = session.Listens × ByDesk session.room (ServesUntil (sql_view g) session.log session.log_after session.connections) old new;
 }
 
 -- A store was opened over a connection, and that was done with it. The connection is as it left it.
@@ -92,24 +112,24 @@ pub record IsServedOver {S : Type 0} (g : Ghosts S) (Does : SqlState S → SqlSt
   pub did : Does opened closing
   pub after_is : after ≡ closing.conn
 
--- of a connection; it was only read where the store in it is refused
-abbrev pub store_ends : {S : Type 0} → Ghosts S → ℕ → ℕ → Held S → Held S → Ends
-store_ends g room connections before after = record {
+-- of a connection; it was only read where the store in it is refused, and nobody came
+abbrev pub store_ends : {S : Type 0} → Ghosts S → Session → Held S → Held S → Ends
+store_ends g session before after = record {
   refused = λ fault. IsAtRest (state g before) × OnlyReads (state g before) (state g after)
-      × (HasCleanDisk (state g after) → IsNoStore (state g before) (state g after) fault);
-  unserved = IsServedOver g (λ old new. (desk_ends g room connections old new).unserved) before after;
-  served = IsServedOver g (λ old new. (desk_ends g room connections old new).served) before after;
-  failed = IsServedOver g (λ old new. (desk_ends g room connections old new).failed) before after;
+      × (HasCleanDisk (state g after) → IsNoStore (state g before) (state g after) fault) × (session.log_after ≡ session.log);
+  unserved = IsServedOver g (λ old new. (desk_ends g session old new).unserved) before after;
+  served = IsServedOver g (λ old new. (desk_ends g session old new).served) before after;
+  failed = IsServedOver g (λ old new. (desk_ends g session old new).failed) before after;
 }
 
 -- of files; no connection to them could be made, or one was
-abbrev pub file_ends : {D : Type 0} {g : disk.Ghosts D} → ℕ → ℕ → Image → Ended D g → Ends
-file_ends room connections from ended = record {
-  refused = λ fault. IsRefused false from fault ended
-      ⊎ IsUsed from (λ found left. (store_ends over_files room connections found left).refused fault) ended;
-  unserved = IsUsed from (λ found left. (store_ends over_files room connections found left).unserved) ended;
-  served = IsUsed from (λ found left. (store_ends over_files room connections found left).served) ended;
-  failed = IsUsed from (λ found left. (store_ends over_files room connections found left).failed) ended;
+abbrev pub file_ends : {D : Type 0} {g : disk.Ghosts D} → Session → Image → Ended D g → Ends
+file_ends session from ended = record {
+  refused = λ fault. (IsRefused false from fault ended × (session.log_after ≡ session.log))
+      ⊎ IsUsed from (λ found left. (store_ends over_files session found left).refused fault) ended;
+  unserved = IsUsed from (λ found left. (store_ends over_files session found left).unserved) ended;
+  served = IsUsed from (λ found left. (store_ends over_files session found left).served) ended;
+  failed = IsUsed from (λ found left. (store_ends over_files session found left).failed) ended;
 }
 
 -- ---- what is told

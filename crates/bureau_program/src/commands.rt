@@ -2,7 +2,7 @@
 ghost use Rattle.std.specs.Prelude.{◌≡◌, false, codes, IfOk};
 ghost use Rattle.clap.specs.Words.{app_of, rule_of};
 ghost use Rattle.clap.specs.declared.builder.command.Command.TheViews.{out-Command as fields_of};
-ghost use Rattle.bureau_program.specs.Line.{bureau_app, cache_rule, commands_named, connections_rule, holds_app, init_app, migrate_app, port_rule, replay_app, required_rule, serve_app};
+ghost use Rattle.bureau_program.specs.Line.{bureau_app, cache_rule, categories_rule, chain_app, commands_named, connections_rule, err_sysmods_app, holds_app, init_app, migrate_app, missing_fix_app, name_rule, port_rule, received_rule, replay_app, required_rule, serve_app, several_rule, zone_rule};
 
 use crate::help::{STATUSES_AND_FAULTS, VERSION};
 use clap::{Arg, ArgAction, Command};
@@ -18,7 +18,10 @@ pub fn command<'a>(alloc: Global) -> Result<Command<'a>, NoMemory>
     let with_init = with_holds.subcommand(init_command(alloc)?)?;
     let with_serve = with_init.subcommand(serve_command(alloc)?)?;
     let with_replay = with_serve.subcommand(replay_command(alloc)?)?;
-    with_replay.subcommand(migrate_command(alloc)?)
+    let with_migrate = with_replay.subcommand(migrate_command(alloc)?)?;
+    let with_errsysmods = with_migrate.subcommand(err_sysmods_command(alloc)?)?;
+    let with_missingfix = with_errsysmods.subcommand(missing_fix_command(alloc)?)?;
+    with_missingfix.subcommand(chain_command(alloc)?)
 }
 
 // The program, with no command yet.
@@ -108,6 +111,123 @@ fn migrate_command<'a>(alloc: Global) -> Result<Command<'a>, NoMemory>
     Command::new(alloc, "migrate")
         .about("Makes STORE, a file of version 1, one of version 2")
         .arg(store)
+}
+
+// `errsysmods --zone ZONE [--received R] [--name NAME] FILE..`
+fn err_sysmods_command<'a>(alloc: Global) -> Result<Command<'a>, NoMemory>
+    ensures app { IfOk result (λ command. app_of command ≡ err_sysmods_app) }
+    ensures local { IfOk result (λ command. (fields_of command).has_globals ≡ false) }
+{
+    Command::new(alloc, "errsysmods")
+        .about("Prints the exception SYSMOD report on a zone, from files and with no desk")
+        .arg(zone_option(alloc))?
+        .arg(received_option(alloc))?
+        .arg(name_option(alloc))?
+        .arg(publications_argument(alloc))
+}
+
+// `missingfix --zone ZONE --categories C [--received R] [--name NAME] FILE..`
+fn missing_fix_command<'a>(alloc: Global) -> Result<Command<'a>, NoMemory>
+    ensures app { IfOk result (λ command. app_of command ≡ missing_fix_app) }
+    ensures local { IfOk result (λ command. (fields_of command).has_globals ≡ false) }
+{
+    Command::new(alloc, "missingfix")
+        .about("Prints the missing fix report on a zone, from files and with no desk")
+        .arg(zone_option(alloc))?
+        .arg(categories_option(alloc))?
+        .arg(received_option(alloc))?
+        .arg(name_option(alloc))?
+        .arg(publications_argument(alloc))
+}
+
+// `chain --zone ZONE [--name NAME] SYSMOD FILE..`
+fn chain_command<'a>(alloc: Global) -> Result<Command<'a>, NoMemory>
+    ensures app { IfOk result (λ command. app_of command ≡ chain_app) }
+    ensures local { IfOk result (λ command. (fields_of command).has_globals ≡ false) }
+{
+    Command::new(alloc, "chain")
+        .about("Prints whether a SYSMOD can be installed in a zone, and with what, as JSON")
+        .arg(zone_option(alloc))?
+        .arg(name_option(alloc))?
+        .arg(sysmod_argument(alloc))?
+        .arg(publications_argument(alloc))
+}
+
+// `--zone ZONE`
+fn zone_option<'a>(alloc: Global) -> Arg<'a>
+    ensures rule { rule_of result ≡ zone_rule }
+    ensures local { result.global ≡ false }
+{
+    Arg::new(alloc, "zone")
+        .long("zone")
+        .required(true)
+        .action(ArgAction::Set)
+        .value_name("ZONE")
+        .help("The SYSMODs of the zone: CSV with the header SYSMOD,STATE")
+}
+
+// `--categories C`
+fn categories_option<'a>(alloc: Global) -> Arg<'a>
+    ensures rule { rule_of result ≡ categories_rule }
+    ensures local { result.global ≡ false }
+{
+    Arg::new(alloc, "categories")
+        .long("categories")
+        .required(true)
+        .action(ArgAction::Set)
+        .value_name("CATEGORIES")
+        .help("The fix categories that are asked for: CSV with the header CATEGORY")
+}
+
+// `--received R`
+fn received_option<'a>(alloc: Global) -> Arg<'a>
+    ensures rule { rule_of result ≡ received_rule }
+    ensures local { result.global ≡ false }
+{
+    Arg::new(alloc, "received")
+        .long("received")
+        .action(ArgAction::Set)
+        .value_name("RECEIVED")
+        .help("The SYSMODs that are received: CSV with the header SYSMOD")
+}
+
+// `--name NAME`
+fn name_option<'a>(alloc: Global) -> Arg<'a>
+    ensures rule { rule_of result ≡ name_rule }
+    ensures local { result.global ≡ false }
+{
+    Arg::new(alloc, "name")
+        .long("name")
+        .action(ArgAction::Set)
+        .value_name("NAME")
+        .help("The name of the zone; without it that of its file up to the period, in upper case")
+}
+
+// `SYSMOD`
+fn sysmod_argument<'a>(alloc: Global) -> Arg<'a>
+    ensures rule { rule_of result ≡ required_rule (codes "sysmod") }
+    ensures local { result.global ≡ false }
+{
+    Arg::new(alloc, "sysmod")
+        .required(true)
+        .action(ArgAction::Set)
+        .value_name("SYSMOD")
+        .help("The SYSMOD whose chain is asked for")
+}
+
+// `FILE..`
+fn publications_argument<'a>(alloc: Global) -> Arg<'a>
+    ensures rule { rule_of result ≡ several_rule (codes "files") }
+    ensures local { result.global ≡ false }
+{
+    Arg::new(alloc, "files")
+        .required(true)
+        .action(ArgAction::Append)
+        .num_args(1..)
+        .value_name("FILE")
+        .help(
+            "HOLDDATA, SYSMODs or both, in the order in which they are published; `-` is standard input",
+        )
 }
 
 // `--cache N`

@@ -1,5 +1,5 @@
 //! The files of a store, where a run of the program ends.
-ghost use Rattle.bureau_program.specs.Ended.{IsCopied, IsEndOf};
+ghost use Rattle.bureau_program.specs.Ended.{IsCopied, IsCopiedEnd, IsEndOf};
 
 use sqlite::{Connection, FileStore, Leftover};
 use sqlite_disk::Disk;
@@ -16,17 +16,21 @@ pub enum Ended<D: Disk> {
 }
 
 impl<D: Disk + Drop> Ended<D> {
-    /// Copies the log into the database's file, as the last thing of a run, and closes both files. What is committed
-    /// stays, whatever the device answers.
-    pub fn close(self) {
-        if let Ended::Closed(store) = self {
-            drop(copy_log(store));
+    /// Copies the log into the database's file, as the last thing of a run. What is committed stays, whatever the device
+    /// answers. Both files are closed once the result is dropped.
+    pub fn close(self) -> Ended<D>
+        ensures { IsCopiedEnd self result }
+    {
+        match self {
+            Ended::Nothing => Ended::Nothing,
+            Ended::Left(left) => Ended::Left(left),
+            Ended::Closed(store) => Ended::Closed(copy_log(store)),
         }
     }
 }
 
-/// Copies the log into the database's file, where that can be done.
-pub(crate) fn copy_log<D: Disk + Drop>(mut store: FileStore<D>) -> FileStore<D>
+// Copies the log into the database's file, where that can be done.
+fn copy_log<D: Disk + Drop>(mut store: FileStore<D>) -> FileStore<D>
     ensures { IsCopied store result }
 {
     let _ = store.checkpoint();

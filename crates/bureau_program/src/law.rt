@@ -1,16 +1,24 @@
-//! What any number of runs of a desk keeps, as a law.
-ghost use Rattle.std.specs.Prelude.{◌≡◌, List};
-ghost use Rattle.bureau_store.specs.Tables.{AreInOrder, Tables};
-ghost use Rattle.bureau_program.specs.Runs.{AreOneRun, AreRuns, Run};
+//! What any number of runs of the program keeps, as a law.
+ghost use Rattle.std.specs.Prelude.{◌≡◌, ℕ, List};
+ghost use Rattle.bureau_sql.specs.Files.{HoldTables};
+ghost use Rattle.bureau_store.specs.Tables.{Tables};
+ghost use Rattle.sqlite_wal.specs.Recovery.{Image};
+ghost use Rattle.bureau_program.specs.Keeping.{HoldCallers};
+ghost use Rattle.bureau_program.specs.Runs.{AreRunsOver, FileRun, HoldAfter, HoldSinceInit};
 
-/// Runs of a desk over the files of a store, one after the other, each of which may stop at any moment, are together one
-/// run of the bureau.
+/// Once `init` has made a store, any number of runs of the program may come one after the other, and each may stop at any
+/// moment. The next one finds the store in the files again, with the tables after all that was acknowledged: the calls of all
+/// runs are together one run of the bureau, and each caller is answered as if alone.
 ///
-/// What a run of `serve` leaves is said by its own contract ([`crate::run_serve`], `kept`): the tables after all that was
-/// acknowledged, with or without the one change that was on its way. So, over all runs, each reply to a caller, other
-/// than 503, is that of a bureau which got the publisher's and that caller's own calls before it, and perhaps the one on
-/// its way at each stop.
+/// What a run keeps is said by its own contract ([`crate::run`]: `KeepsServed` of `serve`, `KeepsTables` of any other). A
+/// stop in `serve` leaves the tables after all that was acknowledged, and where the device failed, perhaps the one change that
+/// was on its way. So, over all runs, each reply to a caller, other than 503, is that of a bureau which got the publisher's
+/// and that caller's own calls before it, and perhaps the one on its way at each stop.
 pub fn any_number_of_runs()
-    ensures { (opening : Tables) (runs : List Run) →
-        AreInOrder opening → AreRuns (λ this. this ≡ opening) runs → AreOneRun opening runs }
+    ensures made { (source : List ℕ) (image : Image) → HoldCallers source image
+        → (runs : List FileRun) (last : Image) → AreRunsOver image runs last
+        → HoldSinceInit source runs last }
+    ensures tables { (opening : Tables) (image : Image) → HoldTables image (λ this. this ≡ opening)
+        → (runs : List FileRun) (last : Image) → AreRunsOver image runs last
+        → HoldAfter opening runs last }
 {}

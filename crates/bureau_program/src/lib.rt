@@ -6,10 +6,10 @@
 //! - [`run_report`]: a report of bytes of files, as [`ReportAsked`]; [`ReportFiles`]: the names of its files
 //! - [`run_init`], [`run_open`], [`run_migrate`]: a store is made, opened, or made one of version 2
 //! - [`open_and_serve`]: a desk over a store, as a [`Service`]; [`serve_arrivals`]: over any connections
-//! - [`run_serve`], [`serve_files`]: over the files of a store, whenever the run stops; [`law`]: for any number of runs
+//! - [`run_serve`]: over the files of a store, whenever the run stops; [`law`]: for any number of runs
 //! - [`Ended`]: the files of a store, where a run ends
 //! - [`line_of`]: what words ask for
-//! - [`Surroundings`]: the words of a run, the files that they name, ports, and random keys
+//! - [`Surroundings`]: the words of a run, the files that they name, connections to a port, and random keys
 //!
 //! ```
 //! let source = "++HOLD(UA10001) ERROR REASON(AA20002).";
@@ -46,5 +46,5 @@ pub use program::run;
 pub use replay::run_replay;
 pub use report_files::ReportFiles;
 pub use reporting::{Report, ReportAsked, run_report};
-pub use serving::{Service, open_and_serve, run_serve, serve_arrivals, serve_files};
+pub use serving::{Service, open_and_serve, run_serve, serve_arrivals};
 pub use surroundings::Surroundings;

@@ -1,12 +1,13 @@
 //! The words of a command line, read with `clap`.
-ghost use Rattle.std.specs.Prelude.{◌≡◌, ◌≢◌, ℕ, false, [], codes, map, string_bytes, IfOk, IfErr, IfSome, IsNone, OnOk};
-ghost use Rattle.clap.specs.Words.{fault_of, found_of, kind_of, one_of, rows_of, subcommand_rows_of};
+ghost use Rattle.std.specs.Prelude.{◌≡◌, ◌≢◌, ℕ, false, [], codes, map, option_map, string_bytes, IfOk, IfErr, IfSome, IsNone, OnOk};
+ghost use Rattle.clap.specs.Words.{fault_of, first_of, found_of, kind_of, one_of, rows_of, subcommand_rows_of};
 ghost use Rattle.faults.specs.Refusal.{IsRefusal};
-ghost use Rattle.bureau_program.specs.Line.{bureau_app, HasOneLine, IsFound, IsLineIn, IsLineOf, IsLineWith, IsNumberIn, IsPort};
+ghost use Rattle.bureau_program.specs.Line.{bureau_app, HasFiles, HasOneLine, IsFound, IsLineIn, IsLineOf, IsLineWith, IsNumberIn, IsPort};
 ghost use Rattle.bureau_program.specs.declared.line.Line.{Line};
 ghost use Rattle.bureau_program.specs.declared.line.LineFault.TheVariants.{Memory};
 
 use crate::commands::command;
+use crate::report_files::ReportFiles;
 use clap::ArgMatches;
 use clap::error::ErrorKind;
 use faults::NoMemory;
@@ -42,6 +43,19 @@ pub enum Line {
     /// `migrate STORE`: a store of version 1 in a file becomes one of version 2.
     Migrate {
         store: String,
+    },
+    /// `errsysmods --zone ZONE [--received R] [--name NAME] FILE..`: the exception SYSMOD report on a zone.
+    ErrSysmods {
+        files: ReportFiles,
+    },
+    /// `missingfix --zone ZONE --categories C [--received R] [--name NAME] FILE..`: the missing fix report on a zone.
+    MissingFix {
+        files: ReportFiles,
+    },
+    /// `chain --zone ZONE [--name NAME] SYSMOD FILE..`: the verdict on a SYSMOD in a zone.
+    Chain {
+        sysmod: String,
+        files: ReportFiles,
     },
 }
 
@@ -103,6 +117,9 @@ fn line_with(alloc: Global, name: &str, matches: &ArgMatches) -> Result<Option<L
         "serve" => serve_with(alloc, matches),
         "replay" => replay_with(alloc, matches),
         "migrate" => migrate_with(alloc, matches),
+        "errsysmods" => err_sysmods_with(alloc, matches),
+        "missingfix" => missing_fix_with(alloc, matches),
+        "chain" => chain_with(alloc, matches),
         _ => Ok(None),
     }
 }
@@ -184,6 +201,67 @@ fn migrate_with(alloc: Global, matches: &ArgMatches) -> Result<Option<Line>, NoM
     };
     let store = String::from_str(alloc, store)?;
     Ok(Some(Line::Migrate { store }))
+}
+
+fn err_sysmods_with(alloc: Global, matches: &ArgMatches) -> Result<Option<Line>, NoMemory>
+    ensures { IfOk result (IsFound (IsLineWith (codes "errsysmods") (rows_of (found_of matches.now)))) }
+{
+    let Some(files) = files_with(alloc, matches)? else {
+        return Ok(None);
+    };
+    Ok(Some(Line::ErrSysmods { files }))
+}
+
+fn missing_fix_with(alloc: Global, matches: &ArgMatches) -> Result<Option<Line>, NoMemory>
+    ensures { IfOk result (IsFound (IsLineWith (codes "missingfix") (rows_of (found_of matches.now)))) }
+{
+    let Some(files) = files_with(alloc, matches)? else {
+        return Ok(None);
+    };
+    Ok(Some(Line::MissingFix { files }))
+}
+
+fn chain_with(alloc: Global, matches: &ArgMatches) -> Result<Option<Line>, NoMemory>
+    ensures { IfOk result (IsFound (IsLineWith (codes "chain") (rows_of (found_of matches.now)))) }
+{
+    let Some(sysmod) = matches.get_str("sysmod") else {
+        return Ok(None);
+    };
+    let Some(files) = files_with(alloc, matches)? else {
+        return Ok(None);
+    };
+    let sysmod = String::from_str(alloc, sysmod)?;
+    Ok(Some(Line::Chain { sysmod, files }))
+}
+
+// The names of a report's files. What a command has no argument for isn't among its matches.
+fn files_with(alloc: Global, matches: &ArgMatches) -> Result<Option<ReportFiles>, NoMemory>
+    ensures { IfOk result (IsFound (HasFiles (rows_of (found_of matches.now)))) }
+{
+    let Some(zone) = matches.get_str("zone") else {
+        return Ok(None);
+    };
+    let Some(publications) = matches.get_strs("files") else {
+        return Ok(None);
+    };
+    Ok(Some(ReportFiles {
+        zone: String::from_str(alloc, zone)?,
+        categories: text_with(alloc, matches, "categories")?,
+        received: text_with(alloc, matches, "received")?,
+        name: text_with(alloc, matches, "name")?,
+        publications: strings(alloc, publications)?,
+    }))
+}
+
+// The text of an argument, where it is given.
+fn text_with(alloc: Global, matches: &ArgMatches, name: &str) -> Result<Option<String>, NoMemory>
+    ensures { IfOk result (λ text. first_of name.now (rows_of (found_of matches.now))
+        ≡ option_map string_bytes text) }
+{
+    match matches.get_str(name) {
+        Some(text) => Ok(Some(String::from_str(alloc, text)?)),
+        None => Ok(None),
+    }
 }
 
 // The port. clap lets no other number through.

@@ -3,7 +3,7 @@ ghost use Rattle.std.specs.Prelude.{◌≡◌, ◌↔◌, codes, false, map, str
 ghost use Rattle.faults.specs.Refusal.{IsRefusal};
 ghost use Rattle.transfer.specs.Transfer.{AppendsFront};
 ghost use Rattle.sqlite_wal.specs.Files.{image_at};
-ghost use Rattle.bureau_program.specs.Program.{IsAnswered, IsHolds, IsInit, IsNotBegun, IsReplay, IsRun, outputs_of};
+ghost use Rattle.bureau_program.specs.Program.{IsAnswered, IsHolds, IsInit, IsNotBegun, IsReplay, IsRun, found_in, outputs_of};
 ghost use Rattle.bureau_program.specs.Holds.{IsTold};
 ghost use Rattle.bureau_program.specs.ProgramFault.{of_program};
 ghost use Rattle.bureau_program.specs.Surroundings.{AreContents, IsContent};
@@ -15,13 +15,14 @@ use crate::holds::run_holds;
 use crate::line::{Line, LineFault, line_of};
 use crate::migrating::migrate_file;
 use crate::replay::run_replay;
+use crate::report_files::{do_chain, do_report};
+use crate::reporting::Report;
 use crate::serving::{Service, run_serve};
 use crate::surroundings::Surroundings;
 use faults::AnyFault;
 use sqlite::{FileFrom, Start};
 use std::alloc::Global;
 use std::io::{Read, Write};
-use std::time::Clock;
 use transfer::{RETRIES, read_source};
 
 // The exit status where the words aren't understood.
@@ -29,19 +30,21 @@ const NOT_UNDERSTOOD: u8 = 2;
 
 /// Does what the words of the command line ask for, and returns the exit status, and what is left of a store's files.
 ///
-/// Standard input is read where `holds` has `-` for a FILE, and nowhere else. Every other FILE is opened by its name.
-/// What is made of it goes to standard output, and a fault's line to standard error. `start` stands for what the files of
-/// STORE hold as the run begins.
-pub fn run<S: Surroundings + Clock, D: Start, I: Read, O: Write, E: Write>(
-    surroundings: &S,
+/// Standard input is read where `-` stands for a FILE of `holds` or of a report, and nowhere else. Every other FILE is
+/// opened by its name.
+/// What is made of it goes to standard output, and a fault's line to standard error. Connections come where the line asks
+/// for `serve`, and nowhere else. `start` stands for what the files of STORE hold as the run begins.
+pub fn run<S: Surroundings, D: Start, I: Read, O: Write, E: Write>(
+    surroundings: &mut S,
     alloc: Global,
     start: D,
     input: &mut I,
     output: &mut O,
     errors: &mut E,
 ) -> (u8, Ended<FileFrom<D>>)
-    ensures { IsRun (S.known_words surroundings.now)
-        (record { files = S.known_file surroundings.now; stores = S.known_store surroundings.now })
+    ensures { IsRun (S.known_words surroundings.old)
+        (found_in (S.known_file surroundings.old) (S.known_store surroundings.old)
+        (S.known_port surroundings.old) (S.log surroundings.old) (S.log surroundings.new))
         (image_at D.Start)
         (I.remaining input.old) (I.remaining input.new)
         (outputs_of O.contents E.contents output.old output.new errors.old errors.new)
@@ -55,8 +58,8 @@ pub fn run<S: Surroundings + Clock, D: Start, I: Read, O: Write, E: Write>(
 }
 
 // Does what a line asks for.
-fn answer<S: Surroundings + Clock, D: Start, I: Read, O: Write, E: Write>(
-    surroundings: &S,
+fn answer<S: Surroundings, D: Start, I: Read, O: Write, E: Write>(
+    surroundings: &mut S,
     alloc: Global,
     line: Result<Line, LineFault>,
     start: D,
@@ -65,7 +68,8 @@ fn answer<S: Surroundings + Clock, D: Start, I: Read, O: Write, E: Write>(
     errors: &mut E,
 ) -> (u8, Ended<FileFrom<D>>)
     ensures { IsAnswered
-        (record { files = S.known_file surroundings.now; stores = S.known_store surroundings.now })
+        (found_in (S.known_file surroundings.old) (S.known_store surroundings.old)
+        (S.known_port surroundings.old) (S.log surroundings.old) (S.log surroundings.new))
         (image_at D.Start) line
         (I.remaining input.old) (I.remaining input.new)
         (outputs_of O.contents E.contents output.old output.new errors.old errors.new)
@@ -109,6 +113,21 @@ fn answer<S: Surroundings + Clock, D: Start, I: Read, O: Write, E: Write>(
         }
         Ok(Line::Migrate { store }) => {
             migrate_file(surroundings, alloc, store.as_str(), start, output, errors)
+        }
+        Ok(Line::ErrSysmods { files }) => {
+            let report = Report::ErrSysmods;
+            let status = do_report(surroundings, alloc, report, &files, input, output, errors);
+            (status, Ended::Nothing)
+        }
+        Ok(Line::MissingFix { files }) => {
+            let report = Report::MissingFix;
+            let status = do_report(surroundings, alloc, report, &files, input, output, errors);
+            (status, Ended::Nothing)
+        }
+        Ok(Line::Chain { sysmod, files }) => {
+            let sysmod = sysmod.as_str();
+            let status = do_chain(surroundings, alloc, sysmod, &files, input, output, errors);
+            (status, Ended::Nothing)
         }
         Err(LineFault::Words(text)) => (explain(errors, text.as_str()), Ended::Nothing),
         Err(LineFault::Memory) => (refuse(errors, ProgramFault::Memory), Ended::Nothing),
@@ -180,7 +199,8 @@ fn do_init<S: Surroundings, D: Start, O: Write, E: Write>(
     errors: &mut E,
 ) -> (u8, Ended<FileFrom<D>>)
     ensures { IsInit
-        (record { files = S.known_file surroundings.now; stores = S.known_store surroundings.now })
+        (found_in (S.known_file surroundings.now) (S.known_store surroundings.now)
+        (S.known_port surroundings.now) (S.log surroundings.now) (S.log surroundings.now))
         (image_at D.Start) store.now callers.now
         (outputs_of O.contents E.contents output.old output.new errors.old errors.new)
         result.0 result.1 }

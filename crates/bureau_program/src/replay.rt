@@ -5,8 +5,10 @@ ghost use Rattle.bureau.specs.Joint.{IsRun};
 ghost use Rattle.bureau_http.specs.List.{AreServed};
 ghost use Rattle.bureau_http.specs.Replay.{IsReplayed};
 ghost use Rattle.bureau_program.specs.Holds.{fault_in};
-ghost use Rattle.bureau_program.specs.Replay.{IsAlwaysClean, IsAlwaysRight, IsNotReplayed, IsNotServed, IsReplayOutput, IsReplayRun, joined};
+ghost use Rattle.bureau_program.specs.Replay.{IsAlwaysClean, IsAlwaysRight, IsNewDatabase, IsNotReplayed, IsNotServed, IsReplayOutput, IsReplayRun, joined};
 ghost use Rattle.bureau_store.specs.Tables.{opened};
+ghost use Rattle.sqlite.specs.Files.{file_state};
+ghost use Rattle.sqlite.specs.Held.{state};
 ghost use Rattle.transfer.specs.Transfer.{AppendsFront};
 
 use crate::cache::cache_of;
@@ -20,6 +22,7 @@ use chain_cache::ChainCache;
 use faults::AnyFault;
 use ram_disk::RamDisk;
 use sqlite::{Alter, Connection, FileStore, Files, Options};
+use sqlite_disk::Disk;
 use std::alloc::Global;
 use std::hash::RandomState;
 use std::io::Write;
@@ -124,7 +127,8 @@ fn serve_over<S: Alter + Drop>(
     ensures served { IsAlwaysClean S.Store → IsAlwaysRight judge
         → IfOk result (λ written. AreServed IsRun (opened rows.now)
         (map (λ file. file.items) files.items) (map (λ text. text.items) written.items)) }
-    ensures fault { IfErr result IsNotServed }
+    ensures fault { IsAlwaysClean S.Store → IsNewDatabase (state S.Store conn)
+        → IfErr result IsNotServed }
 {
     let store = match SqlStore::init(alloc, conn, rows) {
         Ok(store) => store,
@@ -144,6 +148,8 @@ fn serve_over<S: Alter + Drop>(
 // A database in memory, made of the same pages as one in a file.
 fn database_in_memory(alloc: Global) -> Result<Connection<FileStore<RamDisk>>, StoreFault>
     ensures rest { IfOk result (λ conn. conn.in_transaction ≡ false) }
+    ensures new { IfOk result (λ conn. IsNewDatabase (file_state {g = ⟦<RamDisk as Disk>⟧} conn)) }
+    ensures fault { IfErr result (λ fault. fault ≡ StoreFault.Memory) }
 {
     let log = RamDisk::new(alloc);
     let db = RamDisk::new(alloc);

@@ -48,7 +48,8 @@ pub fn run_report<W: Write, E: Write>(
 ) -> u8
     requires { AreNamed asked.now.files.now
         (inputs_of asked.now.lists (map (λ body. body.items) publications.items)) }
-    ensures { IsReportRun asked.now.files.now (made_of asked.now (map (λ body. body.items) publications.items))
+    ensures { IsReportRun asked.now.files.now
+        (made_of asked.now (map (λ body. body.items) publications.items))
         (W.contents writer.old) (W.contents writer.new)
         (E.contents errors.old) (E.contents errors.new) result }
 {

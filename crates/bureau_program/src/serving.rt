@@ -1,11 +1,9 @@
 //! `serve`: a desk whose store is kept in a file.
-ghost use Rattle.std.specs.Prelude.{◌≡◌, IfErr, IfOk, OnErr, OnOk, None, false};
+ghost use Rattle.std.specs.Prelude.{◌≡◌, IfErr, IfOk, OnErr, OnOk, false};
 ghost use Rattle.std.specs.Io.KnownBytes.{Appends};
-ghost use Rattle.bureau_program.specs.Arrived.{KeepsOver};
 ghost use Rattle.bureau_program.specs.Holds.{fault_in};
-ghost use Rattle.bureau_program.specs.Replay.{IsAlwaysRight};
-ghost use Rattle.bureau_program.specs.Keeping.{KeepsServed};
-ghost use Rattle.bureau_program.specs.Serving.{IsNewCache, IsNotListening, IsServeOutput, IsServeRun, IsUnheard, ServesAll, ServesUntil, desk_ends, file_ends, listening_text, store_ends};
+ghost use Rattle.bureau_program.specs.Program.{IsServe, found_in, outputs_of};
+ghost use Rattle.bureau_program.specs.Serving.{IsNewCache, IsNotListening, IsServeOutput, IsServeRun, IsUnheard, ServesAll, ServesUntil, desk_ends, listening_text, session_of, store_ends};
 ghost use Rattle.sqlite_wal.specs.Files.{image_at};
 
 use crate::cache::cache_of;
@@ -14,17 +12,14 @@ use crate::ended::{Ended, end};
 use crate::fault::ProgramFault;
 use crate::surroundings::Surroundings;
 use bureau::Bureau;
-use bureau_http::{Listening, Patience, Sockets, serve_while_open};
+use bureau_http::{Listening, serve_while_open};
 use bureau_sql::SqlStore;
 use bureau_store::{Store, StoreFault};
 use chain_cache::ChainCache;
 use faults::AnyFault;
-use sqlite::{Alter, Connection, FileFrom, FileStore, Start};
-use sqlite_disk::Disk;
+use sqlite::{Alter, Connection, FileFrom, Start};
 use std::alloc::Global;
 use std::io::Write;
-use std::net::TcpListener;
-use std::time::Clock;
 
 /// How a desk is served: the port of 127.0.0.1 where it listens, how many frames it keeps, and how many connections it
 /// takes.
@@ -39,9 +34,10 @@ pub struct Service {
 /// it does. Returns the exit status, and what is left of the files.
 ///
 /// A fault is told on `errors` alone. Behind the line only a device that failed is told: then no further connection is
-/// served.
-pub fn run_serve<S: Surroundings + Clock, D: Start, W: Write, E: Write>(
-    surroundings: &S,
+/// served. Whatever a stop leaves of the files from then on, the next opening finds the store in it, with the tables after
+/// the calls of the connections that came.
+pub fn run_serve<S: Surroundings, D: Start, W: Write, E: Write>(
+    surroundings: &mut S,
     alloc: Global,
     service: Service,
     store: &str,
@@ -49,11 +45,12 @@ pub fn run_serve<S: Surroundings + Clock, D: Start, W: Write, E: Write>(
     writer: &mut W,
     errors: &mut E,
 ) -> (u8, Ended<FileFrom<D>>)
-    ensures run { IsServeRun (file_ends service.cache service.connections (image_at D.Start) result.1)
-        service.port (W.contents writer.old) (W.contents writer.new)
-        (E.contents errors.old) (E.contents errors.new) result.0 }
-    ensures named { S.known_store surroundings.now store.now (image_at D.Start) }
-    ensures kept { KeepsServed (image_at D.Start) None None result.1 }
+    ensures { IsServe
+        (found_in (S.known_file surroundings.old) (S.known_store surroundings.old)
+        (S.known_port surroundings.old) (S.log surroundings.old) (S.log surroundings.new))
+        (image_at D.Start) service store.now
+        (outputs_of W.contents E.contents writer.old writer.new errors.old errors.new)
+        result.0 result.1 }
 {
     match surroundings.connect(store, false, start) {
         Ok(conn) => {
@@ -65,8 +62,8 @@ pub fn run_serve<S: Surroundings + Clock, D: Start, W: Write, E: Write>(
 }
 
 /// Serves the desk whose store a connection has, and gives the connection back.
-pub fn open_and_serve<S: Surroundings + Clock, D: Alter + Drop, W: Write, E: Write>(
-    surroundings: &S,
+pub fn open_and_serve<S: Surroundings, D: Alter + Drop, W: Write, E: Write>(
+    surroundings: &mut S,
     alloc: Global,
     service: Service,
     conn: Connection<D>,
@@ -74,7 +71,9 @@ pub fn open_and_serve<S: Surroundings + Clock, D: Alter + Drop, W: Write, E: Wri
     errors: &mut E,
 ) -> (u8, Connection<D>)
     requires rest { conn.in_transaction ≡ false }
-    ensures { IsServeRun (store_ends D.Store service.cache service.connections conn result.1)
+    ensures { IsServeRun (store_ends D.Store
+        (session_of service (S.known_port surroundings.old)
+        (S.log surroundings.old) (S.log surroundings.new)) conn result.1)
         service.port (W.contents writer.old) (W.contents writer.new)
         (E.contents errors.old) (E.contents errors.new) result.0 }
 {
@@ -88,46 +87,47 @@ pub fn open_and_serve<S: Surroundings + Clock, D: Alter + Drop, W: Write, E: Wri
 }
 
 // Serves a store, and gives it back.
-fn serve_store<S: Surroundings + Clock, D: Alter + Drop, W: Write>(
-    surroundings: &S,
+fn serve_store<S: Surroundings, D: Alter + Drop, W: Write>(
+    surroundings: &mut S,
     alloc: Global,
     service: Service,
     store: SqlStore<D>,
     writer: &mut W,
 ) -> (Result<(), AnyFault>, SqlStore<D>)
-    ensures { IsServeOutput (desk_ends D.Store service.cache service.connections store result.1)
+    ensures { IsServeOutput (desk_ends D.Store
+        (session_of service (S.known_port surroundings.old)
+        (S.log surroundings.old) (S.log surroundings.new)) store result.1)
         (fault_in result.0) service.port (W.contents writer.old) (W.contents writer.new) }
 {
     match announce(surroundings, alloc, service, writer) {
-        Ok((cache, listener)) => {
-            let connections = service.connections;
-            match serve_sockets(alloc, surroundings, &listener, store, cache, connections) {
-                (Ok(()), store) => (Ok(()), store),
-                (Err(fault), store) => (Err(of_store(fault)), store),
-            }
-        }
+        Ok(cache) => match serve_arrivals(alloc, store, cache, surroundings, service.connections) {
+            (Ok(()), store) => (Ok(()), store),
+            (Err(fault), store) => (Err(of_store(fault)), store),
+        },
         Err(fault) => (Err(fault), store),
     }
 }
 
 // Makes the cache, listens, and prints where.
 fn announce<S: Surroundings, W: Write>(
-    surroundings: &S,
+    surroundings: &mut S,
     alloc: Global,
     service: Service,
     writer: &mut W,
-) -> Result<(ChainCache, TcpListener), AnyFault>
-    ensures cache { IfOk result (λ both. IsNewCache service.cache both.0) }
+) -> Result<ChainCache, AnyFault>
+    ensures cache { IfOk result (IsNewCache service.cache) }
     ensures line { OnOk result (Appends (W.contents writer.old) (W.contents writer.new)
         (listening_text service.port)) }
+    ensures port { OnOk result (S.known_port surroundings.old service.port) }
+    ensures none { S.log surroundings.new ≡ S.log surroundings.old }
     ensures fault { IfErr result (λ fault. IsUnheard fault service.port
         (W.contents writer.old) (W.contents writer.new)) }
 {
     let cache = new_cache(surroundings, alloc, service.cache)?;
     let line = listening_line(alloc, service.port)?;
-    let listener = listen(surroundings, service.port)?;
+    listen(surroundings, service.port)?;
     printed(writer, line.as_slice())?;
-    Ok((cache, listener))
+    Ok(cache)
 }
 
 // An empty cache with room for so many frames, which are looked up by keys that nobody knows.
@@ -153,47 +153,15 @@ fn listening_line(alloc: Global, port: u16) -> Result<Vec<u8>, AnyFault>
     Ok(numbered_line(alloc, b"LISTENING 127.0.0.1:", u64::from(port))?)
 }
 
-fn listen<S: Surroundings>(surroundings: &S, port: u16) -> Result<TcpListener, AnyFault>
+fn listen<S: Surroundings>(surroundings: &mut S, port: u16) -> Result<(), AnyFault>
+    ensures port { S.known_port surroundings.old port }
+    ensures none { S.log surroundings.new ≡ S.log surroundings.old }
     ensures fault { IfErr result IsNotListening }
 {
     match surroundings.listen(port) {
-        Ok(listener) => Ok(listener),
+        Ok(()) => Ok(()),
         Err(_) => Err(AnyFault::from(ProgramFault::NotListening)),
     }
-}
-
-// Serves so many connections that come to a socket's listener.
-fn serve_sockets<C: Clock, S: Store>(
-    alloc: Global,
-    clock: &C,
-    listener: &TcpListener,
-    store: S,
-    cache: ChainCache,
-    connections: u32,
-) -> (Result<(), StoreFault>, S)
-    ensures served { OnOk result.0 (ServesAll S.tables_view None None connections cache store result.1) }
-    ensures ended { OnErr result.0 (ServesUntil S.tables_view None None connections cache store result.1) }
-    ensures fault { IfErr result.0 (λ fault. fault ≡ StoreFault.Device) }
-{
-    let mut sockets = Sockets::new(listener, clock, Patience::usual());
-    serve_arrivals(alloc, store, cache, &mut sockets, connections)
-}
-
-/// Serves so many connections to a desk over a store that is kept in files, and ends its connection. Whatever a stop
-/// leaves of the files from then on, the next opening finds the store in it, with the tables after the calls of the
-/// connections that came (`kept`): for every source of connections that knows what came, and for whatever the files held.
-pub fn serve_files<L: Listening, D: Disk + Drop>(
-    alloc: Global,
-    store: SqlStore<FileStore<D>>,
-    cache: ChainCache,
-    listening: &mut L,
-    connections: u32,
-) -> (Result<(), StoreFault>, Ended<D>)
-    ensures kept { IsAlwaysRight cache
-        → KeepsOver (L.log listening.old) (L.log listening.new) store result.1 }
-{
-    let (served, store) = serve_arrivals(alloc, store, cache, listening, connections);
-    (served, end(store.into_connection()))
 }
 
 /// Serves so many connections to a desk over a store, one after the other, with a cache that all callers share. Gives

@@ -1,5 +1,6 @@
-//! What surrounds a run: the words of its command line, files by their names, ports, and random keys.
-ghost use Rattle.std.specs.Prelude.{◌≡◌, ℕ, List, Option, None, false, map, string_bytes, IfOk, IfErr, IfSome};
+//! What surrounds a run: the words of its command line, files by their names, ports and the connections to them, and random
+//! keys.
+ghost use Rattle.std.specs.Prelude.{◌≡◌, ℕ, List, Option, None, false, map, string_bytes, IfOk, IfErr, IfSome, OnOk};
 ghost use Rattle.faults.specs.Refusal.{IsRefusal};
 ghost use Rattle.sqlite_wal.specs.Files.{image_at};
 ghost use Rattle.sqlite_wal.specs.Recovery.{Image};
@@ -8,18 +9,19 @@ ghost use Rattle.bureau_program.specs.Surroundings.{KnownFile, IsNotOpened, IsOp
 
 use crate::ended::Ended;
 use crate::line::LineFault;
+use bureau_http::Listening;
 use bureau_store::StoreFault;
 use sqlite::{Connection, FileFrom, FileStore, Start};
 use std::alloc::Global;
 use std::hash::RandomState;
 use std::io::{self, Read};
-use std::net::TcpListener;
 
-/// The words of a command line, and the files that they may name.
+/// The words of a command line, the files that they may name, and the connections that come to a port.
 ///
-/// Those of a system tell nothing of what they have. Others, as lists of words and of files, can tell all of it. So what
-/// is proved of every `Surroundings` says which words and which files a run reads.
-pub trait Surroundings {
+/// Those of a system tell nothing of what they have. Others, as lists of words, of files and of connections, can tell all
+/// of it. So what is proved of every `Surroundings` says which words and which files a run reads, and which connections
+/// it serves. No connection comes before a port is listened on.
+pub trait Surroundings: Listening {
     type File: Read + Drop;
 
     /// The words after the program's name, where they are known.
@@ -28,8 +30,12 @@ pub trait Surroundings {
     /// What a file of a name is known to be.
     ghost known_file: { Self → List ℕ → KnownFile };
 
-    /// What the two files of a store of a name are known to hold.
+    /// That the two files of a store of this name were asked for, and that these bytes stand for what they hold. A body
+    /// gives it from `connect` alone, so it says which name was asked for. It says nothing of the bytes.
     ghost known_store: { Self → List ℕ → Image → Type 0 };
+
+    /// That this port was asked for. A body gives it from `listen` alone.
+    ghost known_port: { Self → ℕ → Type 0 };
 
     /// The words after the program's name.
     ///
@@ -71,12 +77,14 @@ pub trait Surroundings {
         ensures refused { IfErr result
             (λ refused. IsRefused makes (image_at D.Start) refused.0 refused.1) };
 
-    /// Listens on a port of 127.0.0.1.
+    /// Listens on a port of 127.0.0.1. From then on the connections are those that come to it.
     ///
     /// # Errors
     ///
     /// The port is in use, or may not be listened on.
-    fn listen(&self, port: u16) -> io::Result<TcpListener>;
+    fn listen(&mut self, port: u16) -> io::Result<()>
+        ensures named { known_port self.old port }
+        ensures none { Self.log self.new ≡ Self.log self.old };
 
     /// Random keys for a hasher, which no client can know.
     ///

@@ -41,11 +41,11 @@ fn files_that_are_interrupted_and_the_name_of_a_store(rt: HostRuntime) -> Result
 fn assert_ended(alloc: Global, keys: RandomState, row: &Row) -> Result<(), Fail> {
     let (words, interruptions, status, told) = *row;
     let case = (words, interruptions);
-    let around = Around::reading(words, interruptions, keys);
+    let mut around = Around::reading(words, interruptions, keys);
     let (mut output, mut errors) = (Vec::new(alloc), Vec::new(alloc));
     let mut input = b"".as_slice();
     let (ended, _) = run(
-        &around,
+        &mut around,
         alloc,
         Unknown,
         &mut input,

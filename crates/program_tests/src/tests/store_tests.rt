@@ -13,7 +13,7 @@ use std::io::{Read, Write};
 use std::net::{TcpListener, TcpStream};
 use std::str;
 use std::test::Fail;
-use testing::{assert_equal, assert_equal_at};
+use testing::{Ticking, assert_equal, assert_equal_at};
 
 // A connection to the file that is kept in memory, with an empty log.
 fn connected(alloc: Global, db: Memory) -> Result<Connection<FileStore<Memory>>, Fail>
@@ -156,7 +156,7 @@ fn a_store_of_version_1_is_migrated_once(rt: HostRuntime) -> Result<(), Fail> {
 
 // What `serve` tells on standard output alone, over a new store in this file, where so many connections are served.
 fn served<S: Alter + Drop>(
-    around: &Around<'_>,
+    around: &mut Around<'_>,
     alloc: Global,
     conn: Connection<S>,
     connections: u32,
@@ -178,11 +178,18 @@ fn served<S: Alter + Drop>(
 const LISTENING: &str = "0 LISTENING 127.0.0.1:4711\n";
 
 // A desk at which nobody connects serves so many connections, and pauses as often.
-fn assert_deserted(around: &Around<'_>, alloc: Global, connections: u32) -> Result<(), Fail> {
-    let told = served(around, alloc, fresh(alloc)?, connections)?;
+fn assert_deserted(
+    listener: &TcpListener,
+    alloc: Global,
+    keys: RandomState,
+    connections: u32,
+) -> Result<(), Fail> {
+    let clock = Ticking::new(0);
+    let mut deserted = Around::listening(listener, &clock, keys);
+    let told = served(&mut deserted, alloc, fresh(alloc)?, connections)?;
     assert_equal_at(connections, told.as_str(), LISTENING)?;
-    assert_equal_at(connections, around.port(), 4_711)?;
-    assert_equal(around.paused(), 20 * u128::from(connections))
+    assert_equal_at(connections, deserted.port, 4_711)?;
+    assert_equal(clock.paused(), 20 * u128::from(connections))
 }
 
 #[test]
@@ -193,8 +200,7 @@ fn a_desk_waits_as_often_as_it_is_asked_to(rt: HostRuntime) -> Result<(), Fail> 
     listener.set_nonblocking(true)?;
     // most, and more than fit in 16 bits
     for connections in [0, 1, 65_537, 1_000_000] {
-        let deserted = Around::listening(&listener, 0, keys);
-        assert_deserted(&deserted, rt.alloc(), connections)?;
+        assert_deserted(&listener, rt.alloc(), keys, connections)?;
     }
     Ok(())
 }
@@ -232,8 +238,9 @@ fn a_desk_waits_ten_minutes_for_a_connection(rt: HostRuntime) -> Result<(), Fail
     let listener = TcpListener::bind(&rt, "127.0.0.1:0")?;
     let sent = repeated(alloc, b"GET /zones HTTP/1.1\r\n\r\n", 8)?;
     let mut client = sender(&rt, &listener, sent.as_slice())?;
-    let hurried = Around::listening(&listener, 100, keys);
-    let told = served(&hurried, alloc, fresh(alloc)?, 1)?;
+    let clock = Ticking::new(100);
+    let mut hurried = Around::listening(&listener, &clock, keys);
+    let told = served(&mut hurried, alloc, fresh(alloc)?, 1)?;
     assert_equal(told.as_str(), LISTENING)?;
     // 100 seconds pass before each look at the clock: it comes at 100, one read brings all requests at 200, and a reply
     // goes out at 300, 400, 500 and 600

@@ -1,29 +1,27 @@
 //! What surrounds a run of a test.
 use super::desk_tests::CALLERS;
+use bureau_http::{ConnFault, Listening, Patience, Served, Side, Sockets};
 use bureau_program::{Ended, LineFault, Surroundings};
 use bureau_store::StoreFault;
 use sqlite::{Connection, FileFrom, FileStore, Start};
 use std::alloc::Global;
-use std::cell::Cell;
 use std::hash::RandomState;
 use std::io::{self, ErrorKind};
 use std::net::TcpListener;
-use std::time::{Clock, Duration};
 use testing::{Failures, Pieces, Ticking};
 
 /// The name of a store, whose blanks count.
 pub(crate) const STORE: &str = " a store ";
 
-/// Words, files that are interrupted so often, one listener or none, and a clock that a test sets. Memory runs out
+/// Words, files that are interrupted so often, and one listener, by a clock that a test sets, or none. Memory runs out
 /// where a store may be made, and there is none where it may not. A store of another name can't be opened.
 #[derive(Drop)]
 pub(crate) struct Around<'a> {
     words: &'static [&'static str],
     interruptions: u32,
-    listener: Option<&'a TcpListener>,
-    // The port that was asked for.
-    port: Cell<u16>,
-    clock: Ticking,
+    sockets: Option<Sockets<'a, 'a, Ticking>>,
+    /// The port that was asked for.
+    pub(crate) port: u16,
     keys: RandomState,
 }
 
@@ -37,51 +35,53 @@ impl<'a> Around<'a> {
         Around {
             words,
             interruptions,
-            listener: None,
-            port: Cell::new(0),
-            clock: Ticking::new(1),
+            sockets: None,
+            port: 0,
             keys,
         }
     }
 
-    /// No words. Each port is this listener's, and so many seconds pass before each look at the clock.
+    /// No words. Each port is this listener's, and time goes by this clock.
     pub(crate) fn listening(
         listener: &'a TcpListener,
-        seconds: u64,
+        clock: &'a Ticking,
         keys: RandomState,
     ) -> Around<'a> {
         Around {
             words: &[],
             interruptions: 0,
-            listener: Some(listener),
-            port: Cell::new(0),
-            clock: Ticking::new(seconds),
+            sockets: Some(Sockets::new(listener, clock, Patience::usual())),
+            port: 0,
             keys,
         }
     }
-
-    /// The port that was asked for last.
-    pub(crate) fn port(&self) -> u16 {
-        self.port.get()
-    }
-
-    /// How many milliseconds all pauses were to take.
-    pub(crate) fn paused(&self) -> u128 {
-        self.clock.paused()
-    }
 }
 
-impl Clock for Around<'_> {
-    fn monotonic(&self) -> io::Result<Duration> {
-        self.clock.monotonic()
+impl<'a> Listening for Around<'a> {
+    ghost use Rattle.std.specs.Prelude.{None};
+
+    type Reader = Side<'a, Ticking>;
+
+    type Writer = Side<'a, Ticking>;
+
+    ghost log = { λ _. None };
+
+    fn accept(&mut self) -> io::Result<(Side<'a, Ticking>, Side<'a, Ticking>)> {
+        match &mut self.sockets {
+            Some(sockets) => sockets.accept(),
+            None => Err(io::Error::from(ErrorKind::NotConnected)),
+        }
     }
 
-    fn since_1970(&self) -> io::Result<Duration> {
-        self.monotonic()
-    }
-
-    fn sleep(&self, duration: Duration) {
-        self.clock.sleep(duration);
+    fn close(
+        &mut self,
+        reader: Side<'a, Ticking>,
+        writer: Side<'a, Ticking>,
+        ended: Result<Served, ConnFault>,
+    ) {
+        if let Some(sockets) = &mut self.sockets {
+            sockets.close(reader, writer, ended);
+        }
     }
 }
 
@@ -96,6 +96,8 @@ impl Surroundings for Around<'_> {
     ghost known_file = { λ _ _. Unknown };
 
     ghost known_store = { λ _ _ _. Unit {0} };
+
+    ghost known_port = { λ _ _. Unit {0} };
 
     fn words(&self, alloc: Global) -> Result<Vec<String>, LineFault> {
         let mut words = Vec::new(alloc);
@@ -130,10 +132,10 @@ impl Surroundings for Around<'_> {
         Err((fault, Ended::Nothing))
     }
 
-    fn listen(&self, port: u16) -> io::Result<TcpListener> {
-        self.port.set(port);
-        match self.listener {
-            Some(listener) => listener.try_clone(),
+    fn listen(&mut self, port: u16) -> io::Result<()> {
+        self.port = port;
+        match self.sockets {
+            Some(_) => Ok(()),
             None => Err(io::Error::from(ErrorKind::AddrInUse)),
         }
     }

@@ -1,4 +1,4 @@
-use Rattle.std.proofs.Common.{◌≡◌, true, ap, ap₂, ◌∙◌, codes}
+use Rattle.std.proofs.Common.{ap, ap₂, ◌∙◌}
 use Rattle.std.proofs.lemmas.Result.{IfOk-weaker}
 use Rattle.clap.specs.Words.{App, with_subcommand}
 use Rattle.bureau_program.proofs.commands.command.Goals as goal
@@ -13,6 +13,12 @@ returns c =
     ∙ ap₂ with_subcommand with_init (ap (λ (app : App). app.top) c.in_ok-serve_command.ensures.app) in
     let with_replay = c.in_ok-with_replay.ensures.shape c.in_ok-replay_command.ensures.local
     ∙ ap₂ with_subcommand with_serve (ap (λ (app : App). app.top) c.in_ok-replay_command.ensures.app) in
-    IfOk-weaker c.subcommand-5.result _ _
-    (λ command adds. adds.shape c.in_ok-migrate_command.ensures.local ∙ ap₂ with_subcommand with_replay (ap (λ (app : App). app.top) c.in_ok-migrate_command.ensures.app))
-    c.subcommand-5.ensures
+    let with_migrate = c.in_ok-with_migrate.ensures.shape c.in_ok-migrate_command.ensures.local
+    ∙ ap₂ with_subcommand with_replay (ap (λ (app : App). app.top) c.in_ok-migrate_command.ensures.app) in
+    let with_errsysmods = c.in_ok-with_errsysmods.ensures.shape c.in_ok-err_sysmods_command.ensures.local
+    ∙ ap₂ with_subcommand with_migrate (ap (λ (app : App). app.top) c.in_ok-err_sysmods_command.ensures.app) in
+    let with_missingfix = c.in_ok-with_missingfix.ensures.shape c.in_ok-missing_fix_command.ensures.local
+    ∙ ap₂ with_subcommand with_errsysmods (ap (λ (app : App). app.top) c.in_ok-missing_fix_command.ensures.app) in
+    IfOk-weaker c.subcommand-8.result _ _
+    (λ command adds. adds.shape c.in_ok-chain_command.ensures.local ∙ ap₂ with_subcommand with_missingfix (ap (λ (app : App). app.top) c.in_ok-chain_command.ensures.app))
+    c.subcommand-8.ensures

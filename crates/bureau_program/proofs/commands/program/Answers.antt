@@ -1,7 +1,6 @@
 use Rattle.std.proofs.Common.{◌≡◌, true, ap, ◌∙◌, codes}
 use Rattle.clap.specs.Simple.{app_of_fields}
 use Rattle.clap.specs.Words.{App, app_of, new_app}
-use Rattle.bureau_program.specs.Line.{commands_named}
 use Rattle.bureau_program.proofs.commands.program.Goals as goal
 
 pub returns : goal.returns

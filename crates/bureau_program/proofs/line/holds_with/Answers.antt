@@ -3,7 +3,7 @@ use Rattle.clap.specs.Words.{Row, first_of, found_of, rows_of}
 use Rattle.clap.proofs.WalkLemmas.{first_value-rows}
 use Rattle.bureau_program.specs.Line.{IsLineWith}
 use Rattle.bureau_program.specs.declared.line.Line.{Line}
-use Rattle.bureau_program.specs.declared.line.Line.TheVariants.{Holds, Init, Migrate, Replay, Serve}
+use Rattle.bureau_program.specs.declared.line.Line.TheVariants.{Chain, ErrSysmods, Holds, Init, Migrate, MissingFix, Replay, Serve}
 use Rattle.bureau_program.proofs.LineFacts.{letter, other_command}
 use Rattle.bureau_program.proofs.line.holds_with.Goals as goal
 
@@ -13,6 +13,9 @@ fileless rows (Init store callers) none is = other_command 104 105 (omega arith)
 fileless rows (Serve port cache connections store) none is = other_command 104 115 (omega arith) (ap letter is.0)
 fileless rows (Replay cache callers files) none is = other_command 104 114 (omega arith) (ap letter is.0)
 fileless rows (Migrate store) none is = other_command 104 109 (omega arith) (ap letter is.0)
+fileless rows (ErrSysmods files) none is = other_command 104 101 (omega arith) (ap letter is.0)
+fileless rows (MissingFix files) none is = other_command 104 109 (omega arith) (ap letter is.0)
+fileless rows (Chain sysmod files) none is = other_command 104 99 (omega arith) (ap letter is.0)
 
 pub returns-in_default : goal.returns-in_default
 returns-in_default c line is =

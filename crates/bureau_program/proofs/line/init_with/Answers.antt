@@ -3,7 +3,7 @@ use Rattle.clap.specs.Words.{Row, Text, first_of, found_of, rows_of}
 use Rattle.clap.proofs.WalkLemmas.{first_value-rows}
 use Rattle.bureau_program.specs.Line.{IsLineWith}
 use Rattle.bureau_program.specs.declared.line.Line.{Line}
-use Rattle.bureau_program.specs.declared.line.Line.TheVariants.{Holds, Init, Migrate, Replay, Serve}
+use Rattle.bureau_program.specs.declared.line.Line.TheVariants.{Chain, ErrSysmods, Holds, Init, Migrate, MissingFix, Replay, Serve}
 use Rattle.bureau_program.proofs.LineFacts.{letter, other_command}
 use Rattle.bureau_program.proofs.line.init_with.Goals as goal
 
@@ -15,6 +15,9 @@ no_line rows (Init store callers) none is = none (string_bytes store) (string_by
 no_line rows (Serve port cache connections store) none is = other_command 105 115 (omega arith) (ap letter is.0)
 no_line rows (Replay cache callers files) none is = other_command 105 114 (omega arith) (ap letter is.0)
 no_line rows (Migrate store) none is = other_command 105 109 (omega arith) (ap letter is.0)
+no_line rows (ErrSysmods files) none is = other_command 105 101 (omega arith) (ap letter is.0)
+no_line rows (MissingFix files) none is = other_command 105 109 (omega arith) (ap letter is.0)
+no_line rows (Chain sysmod files) none is = other_command 105 99 (omega arith) (ap letter is.0)
 
 pub returns-in_default : goal.returns-in_default
 returns-in_default c line is =

@@ -3,8 +3,8 @@ use Rattle.clap.specs.Words.{Row, first_of, found_of, rows_of}
 use Rattle.clap.proofs.WalkLemmas.{first_value-rows}
 use Rattle.bureau_program.specs.Line.{IsLineWith}
 use Rattle.bureau_program.specs.declared.line.Line.{Line}
-use Rattle.bureau_program.specs.declared.line.Line.TheVariants.{Holds, Init, Migrate, Replay, Serve}
-use Rattle.bureau_program.proofs.LineFacts.{letter, other_command}
+use Rattle.bureau_program.specs.declared.line.Line.TheVariants.{Chain, ErrSysmods, Holds, Init, Migrate, MissingFix, Replay, Serve}
+use Rattle.bureau_program.proofs.LineFacts.{letter, other_command, third_letter}
 use Rattle.bureau_program.proofs.line.migrate_with.Goals as goal
 
 storeless : (rows : List Row) (line : Line) → first_of (codes "store") rows ≡ None → IsLineWith (codes "migrate") rows line → ⊥
@@ -13,6 +13,9 @@ storeless rows (Init store callers) none is = other_command 109 105 (omega arith
 storeless rows (Serve port cache connections store) none is = other_command 109 115 (omega arith) (ap letter is.0)
 storeless rows (Replay cache callers files) none is = other_command 109 114 (omega arith) (ap letter is.0)
 storeless rows (Migrate store) none is = let no : None ≡ Some (string_bytes store) = sym none ∙ is.1 in cc
+storeless rows (ErrSysmods files) none is = other_command 109 101 (omega arith) (ap letter is.0)
+storeless rows (MissingFix files) none is = other_command 103 115 (omega arith) (ap third_letter is.0)
+storeless rows (Chain sysmod files) none is = other_command 109 99 (omega arith) (ap letter is.0)
 
 pub returns-in_default : goal.returns-in_default
 returns-in_default c line is =

@@ -3,7 +3,7 @@ use Rattle.clap.specs.Words.{Row, Text, all_of, first_of, found_of, one_of, rows
 use Rattle.clap.proofs.WalkLemmas.{first_value-rows, raw_values-rows}
 use Rattle.bureau_program.specs.Line.{IsCapacity, IsLineWith}
 use Rattle.bureau_program.specs.declared.line.Line.{Line}
-use Rattle.bureau_program.specs.declared.line.Line.TheVariants.{Holds, Init, Migrate, Replay, Serve}
+use Rattle.bureau_program.specs.declared.line.Line.TheVariants.{Chain, ErrSysmods, Holds, Init, Migrate, MissingFix, Replay, Serve}
 use Rattle.bureau_program.proofs.LineFacts.{letter, other_command}
 use Rattle.bureau_program.proofs.line.replay_with.Goals as goal
 
@@ -19,6 +19,9 @@ no_line rows (Init store callers) none is = other_command 114 105 (omega arith) 
 no_line rows (Serve port cache connections store) none is = other_command 114 115 (omega arith) (ap letter is.0)
 no_line rows (Replay cache callers files) none is = none cache (string_bytes callers) (map string_bytes files.items) is.1
 no_line rows (Migrate store) none is = other_command 114 109 (omega arith) (ap letter is.0)
+no_line rows (ErrSysmods files) none is = other_command 114 101 (omega arith) (ap letter is.0)
+no_line rows (MissingFix files) none is = other_command 114 109 (omega arith) (ap letter is.0)
+no_line rows (Chain sysmod files) none is = other_command 114 99 (omega arith) (ap letter is.0)
 
 pub returns-in_default : goal.returns-in_default
 returns-in_default c line is =

@@ -1,14 +1,16 @@
-use Rattle.std.proofs.Common.{List, Ok, ℕ, subst, sym, string_bytes, ap, ◌∙◌}
+use Rattle.std.proofs.Common.{List, Ok, ℕ, refl, subst, sym, string_bytes, ap, ◌∙◌}
 use Rattle.std.proofs.KnownBytes.{Keeps-refl}
 use Rattle.sqlite_wal.specs.Files.{image_at}
-use Rattle.bureau_program.specs.Program.{Found, IsAnswered, Outputs}
+use Rattle.bureau_program.specs.Program.{Found, IsAnswered, IsServe, Outputs, found_in}
+use Rattle.bureau_program.specs.declared.serving.Service.{Service}
 use Rattle.bureau_program.proofs.DeskFacts.{same_init}
 use Rattle.bureau_program.proofs.KeptFacts.{kept_migrated}
 use Rattle.bureau_program.proofs.program.answer.Goals as goal
 
 pub returns-in-Ok-Init : goal.returns-in-Ok-Init
 returns-in-Ok-Init g c =
-    let of : Found = record { files = g.S.Surroundings.known_file c.args.surroundings.now; stores = g.S.Surroundings.known_store c.args.surroundings.now } in
+    let at = c.args.surroundings.now in
+    let of : Found = found_in (g.S.Surroundings.known_file at) (g.S.Surroundings.known_store at) (g.S.Surroundings.known_port at) (g.S.Listening.log at) (g.S.Listening.log at) in
     let input = g.I.Read.remaining c.args.input.now in
     let outputs : Outputs = record {
       output = g.O.Write.contents c.args.output.now;
@@ -18,14 +20,17 @@ returns-in-Ok-Init g c =
     } in
     subst (λ line. IsAnswered of (image_at g.D.Start) line input input outputs c.do_init.result.0 c.do_init.result.1) (sym (c.in-Ok-Init.is ∙ ap Ok c.in-Ok-Init.field-0-is)) (
       Keeps-refl input,
+      refl,
       same_init of (image_at g.D.Start) c.do_init.result.1 (string_bytes c.in-Ok-Init.store) c.as_str-store.result.now (string_bytes c.in-Ok-Init.callers) c.as_str-callers-in-Ok-Init.result.now
           outputs c.do_init.result.0 c.as_str-store.ensures.value c.as_str-callers-in-Ok-Init.ensures.value c.do_init.ensures,
     )
 
 pub returns-in-Ok-Serve : goal.returns-in-Ok-Serve
 returns-in-Ok-Serve g c =
-    let of : Found = record { files = g.S.Surroundings.known_file c.args.surroundings.now; stores = g.S.Surroundings.known_store c.args.surroundings.now } in
+    let at = c.args.surroundings.now in
+    let of : Found = found_in (g.S.Surroundings.known_file at) (g.S.Surroundings.known_store at) (g.S.Surroundings.known_port at) (g.S.Listening.log at) (g.S.Listening.log c.run_serve.new.surroundings) in
     let input = g.I.Read.remaining c.args.input.now in
+    let service : Service = record { port = c.in-Ok-Serve.port; cache = c.in-Ok-Serve.cache; connections = c.in-Ok-Serve.connections } in
     let outputs : Outputs = record {
       output = g.O.Write.contents c.args.output.now;
       written = g.O.Write.contents c.run_serve.new.writer;
@@ -34,16 +39,13 @@ returns-in-Ok-Serve g c =
     } in
     subst (λ line. IsAnswered of (image_at g.D.Start) line input input outputs c.run_serve.result.0 c.run_serve.result.1) (sym (c.in-Ok-Serve.is ∙ ap Ok c.in-Ok-Serve.field-0-is)) (
       Keeps-refl input,
-      record {
-        named = subst (λ (name : List ℕ). g.S.Surroundings.known_store c.args.surroundings.now name (image_at g.D.Start)) c.as_str-store-in-Ok-Serve.ensures.value c.run_serve.ensures.named;
-        served = c.run_serve.ensures.run;
-        kept = c.run_serve.ensures.kept;
-      },
+      subst (λ (name : List ℕ). IsServe of (image_at g.D.Start) service name outputs c.run_serve.result.0 c.run_serve.result.1) c.as_str-store-in-Ok-Serve.ensures.value c.run_serve.ensures,
     )
 
 pub returns-in-Ok-Migrate : goal.returns-in-Ok-Migrate
 returns-in-Ok-Migrate g c =
-    let of : Found = record { files = g.S.Surroundings.known_file c.args.surroundings.now; stores = g.S.Surroundings.known_store c.args.surroundings.now } in
+    let at = c.args.surroundings.now in
+    let of : Found = found_in (g.S.Surroundings.known_file at) (g.S.Surroundings.known_store at) (g.S.Surroundings.known_port at) (g.S.Listening.log at) (g.S.Listening.log at) in
     let input = g.I.Read.remaining c.args.input.now in
     let outputs : Outputs = record {
       output = g.O.Write.contents c.args.output.now;
@@ -53,8 +55,9 @@ returns-in-Ok-Migrate g c =
     } in
     subst (λ line. IsAnswered of (image_at g.D.Start) line input input outputs c.migrate_file.result.0 c.migrate_file.result.1) (sym (c.in-Ok-Migrate.is ∙ ap Ok c.in-Ok-Migrate.field-0-is)) (
       Keeps-refl input,
+      refl,
       record {
-        named = subst (λ (name : List ℕ). g.S.Surroundings.known_store c.args.surroundings.now name (image_at g.D.Start)) c.as_str-in-Ok-Migrate.ensures.value c.migrate_file.ensures.named;
+        named = subst (λ (name : List ℕ). g.S.Surroundings.known_store at name (image_at g.D.Start)) c.as_str-in-Ok-Migrate.ensures.value c.migrate_file.ensures.named;
         migrated = c.migrate_file.ensures.run;
         kept = kept_migrated (image_at g.D.Start) c.migrate_file.ensures.run.outcome c.migrate_file.result.1 c.migrate_file.ensures.run.left;
       },

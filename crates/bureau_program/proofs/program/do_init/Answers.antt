@@ -1,14 +1,15 @@
 use Rattle.std.proofs.Common.{subst, sym}
 use Rattle.std.proofs.KnownBytes.{Keeps-refl}
 use Rattle.sqlite_wal.specs.Files.{image_at}
-use Rattle.bureau_program.specs.Program.{Found, Outputs}
+use Rattle.bureau_program.specs.Program.{Found, Outputs, found_in}
 use Rattle.bureau_program.specs.Surroundings.{IsContent}
 use Rattle.bureau_program.proofs.DeskFacts.{made_over_files, not_connected}
 use Rattle.bureau_program.proofs.program.do_init.Goals as goal
 
 pub returns-in-Ok-connect : goal.returns-in-Ok-connect
 returns-in-Ok-connect g c =
-    let of : Found = record { files = g.S.Surroundings.known_file c.args.surroundings.now; stores = g.S.Surroundings.known_store c.args.surroundings.now } in
+    let at = c.args.surroundings.now in
+    let of : Found = found_in (g.S.Surroundings.known_file at) (g.S.Surroundings.known_store at) (g.S.Surroundings.known_port at) (g.S.Listening.log at) (g.S.Listening.log at) in
     let outputs : Outputs = record {
       output = g.O.Write.contents c.args.output.now;
       written = g.O.Write.contents c.run_init-status.new.writer;
@@ -22,7 +23,8 @@ returns-in-Ok-connect g c =
 
 pub returns : goal.returns
 returns g c =
-    let of : Found = record { files = g.S.Surroundings.known_file c.args.surroundings.now; stores = g.S.Surroundings.known_store c.args.surroundings.now } in
+    let at = c.args.surroundings.now in
+    let of : Found = found_in (g.S.Surroundings.known_file at) (g.S.Surroundings.known_store at) (g.S.Surroundings.known_port at) (g.S.Listening.log at) (g.S.Listening.log at) in
     let outputs : Outputs = record {
       output = g.O.Write.contents c.args.output.now;
       written = g.O.Write.contents c.args.output.now;

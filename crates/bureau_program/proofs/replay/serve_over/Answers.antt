@@ -4,7 +4,8 @@ use Rattle.bureau_store.specs.Tables.{opened}
 use Rattle.bureau_sql.specs.SqlView.{IsOurStore, sql_view}
 use Rattle.sqlite_trees.specs.View.{doubt}
 use Rattle.chain_cache.specs.Cache.{IsRightFor}
-use Rattle.bureau_program.proofs.ReplayFacts.{device_not_served, memory_not_served}
+use Rattle.sqlite.specs.Held.{state}
+use Rattle.bureau_program.proofs.ReplayFacts.{device_not_served, memory_not_served, not_made}
 use Rattle.bureau_program.proofs.replay.serve_over.Goals as goal
 
 pub returns-in-Ok-served-clause-served : goal.returns-in-Ok-served-clause-served
@@ -21,8 +22,12 @@ returns-in-Ok-served-clause-served g c = λ always rights.
     let right = subst (λ at. IsRightFor at this.content) judge (rights this.content) in
     untold _ (λ at next calls run. run.run) _ _ _ (c.in-Ok-served.ensures.served.told ours (ap doubt (always _)) this (stands, right))
 
+pub returns-in-Err-clause-fault : goal.returns-in-Err-clause-fault
+unfolding doubt
+returns-in-Err-clause-fault g c = λ always new. not_made (state g.S.Store c.args.conn) c.in-Err.fault c.of_store.result (ap doubt (always _)) new c.in-Err.ensures.cause c.of_store.ensures
+
 pub returns-then-device_failed-clause-fault : goal.returns-then-device_failed-clause-fault
-returns-then-device_failed-clause-fault g c = device_not_served c.of_store-then-device_failed.result c.of_store-then-device_failed.ensures
+returns-then-device_failed-clause-fault g c = λ always new. device_not_served c.of_store-then-device_failed.result c.of_store-then-device_failed.ensures
 
 pub returns-clause-fault : goal.returns-clause-fault
-returns-clause-fault g c = memory_not_served c.in-Err-served.fault c.from.result c.from.ensures
+returns-clause-fault g c = λ always new. memory_not_served c.in-Err-served.fault c.from.result c.from.ensures

@@ -6,3 +6,7 @@ use Rattle.bureau_program.proofs.replay.serve_rows.Goals as goal
 pub returns-clause-served : goal.returns-clause-served
 unfolding state
 returns-clause-served c = c.serve_over.ensures.served (λ store. refl) c.in_ok-judge.ensures.right
+
+pub returns-clause-fault : goal.returns-clause-fault
+unfolding state
+returns-clause-fault c = c.serve_over.ensures.fault (λ store. refl) c.in_ok-conn.ensures.new

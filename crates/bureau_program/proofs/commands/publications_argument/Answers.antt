@@ -1,0 +1,14 @@
+use Rattle.std.proofs.Common.{rules, ◌≡◌, codes, Option, Some, None, ap}
+use Rattle.std.specs.Prelude.{IsSomeAnd}
+use Rattle.clap.specs.Words.{rule_of}
+use Rattle.bureau_program.specs.Line.{several_rule}
+use Rattle.bureau_program.proofs.commands.publications_argument.Goals as goal
+
+given_range : {T : Type 0} (given : Option T) (range : T) → IsSomeAnd given (λ r. r ≡ range) → given ≡ Some range
+given_range None range is = absurd is
+given_range (Some r) range is = ap Some is
+
+pub returns-clause-rule : goal.returns-clause-rule
+returns-clause-rule c =
+    let range = given_range _ _ c.num_args.ensures.1 in
+    search rules
