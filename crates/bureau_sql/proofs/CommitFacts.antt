@@ -13,6 +13,7 @@ use Rattle.sql_tables.specs.Stored.{Stored}
 use Rattle.sql_state.specs.Ours.{IsOurs, held_by}
 use Rattle.sql_state.proofs.OursFacts as own
 use Rattle.sql_state.specs.Writing.{Changes, IsKnown}
+use Rattle.bureau_sql.specs.Failing.{FailsToEnd}
 use Rattle.bureau_sql.specs.Committed.{AreChanged, HaveChange, IsCommitted}
 use Rattle.sql_state.proofs.StopFacts.{kept_begun, kept_failing, kept_then, kept_unchanged, no_read, was_clean}
 
@@ -24,6 +25,12 @@ pub refused_commit : {Done : Type 0} (old new : State) (result : Result Done Err
     → OnErr result (HasCleanDisk new → KeepsCommit old new)
 refused_commit old new (Ok done) fails = tt
 refused_commit old new (Err e) fails = λ clean. failed_commit_keeps old new e (fails clean)
+
+-- what was written is refused where it is committed
+pub commit_fails : {Answer Done : Type 0} (written : Result Answer Error) (old new : State) (result : Result Done Error) → IsOk written → (HasCleanDisk new → IfErr result (FailsToCommit old new))
+    → IfErr result (λ error. HasCleanDisk new → FailsToEnd written old new error)
+commit_fails written old new (Ok done) wrote fails = tt
+commit_fails written old new (Err e) wrote fails = λ clean. inr (wrote, fails clean)
 
 -- The connection at rest, as its transaction begins, after what was written, and after the end.
 module _ (old begun mid new : State) (change : Stored → Stored) (same_now : begun.now ≡ old.now) (same_committed : begun.committed ≡ old.committed)

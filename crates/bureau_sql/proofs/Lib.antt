@@ -5,6 +5,7 @@ pub mod RecentFacts
 pub mod CommitFacts
 pub mod MadeFacts
 pub mod MigratedFacts
+pub mod FailingFacts
 pub mod FilesFacts
 pub mod FitFacts
 pub mod OpenFacts

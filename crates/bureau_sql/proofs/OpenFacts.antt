@@ -27,7 +27,7 @@ use Rattle.sql_texts.specs.Meaning.{MakesTable, Reads}
 use Rattle.sql_texts.specs.Reads as read
 use Rattle.sql_texts.specs.Schema.{bureau, bureau_1, sysmod_cond}
 use Rattle.sql_state.proofs.StopFacts.{failed_after, no_read, read_on, was_clean}
-use Rattle.bureau_sql.specs.Opening.{Asked, CanAsk, CanMakeConditions, CannotAsk, CannotMakeConditions, HasConditions, HasOtherShape, HasTables, IsAskedBy, IsNoStore, IsNotEarlier, IsNotOf, IsOfBureau, IsOneStatement, IsOther, IsSeen, IsTaken, IsUnderstood, LacksConditions, LacksMore, LacksTables, LacksText, LacksVersion, TellsVersion, of_conditions, of_tables, of_version}
+use Rattle.bureau_sql.specs.Opening.{Asked, CanAsk, CanMakeConditions, CannotAsk, CannotMakeConditions, HasConditions, HasOtherShape, HasTables, IsAskedBy, IsNoStore, IsNotEarlier, IsNotMigrated, IsNotOf, IsOfBureau, IsOneStatement, IsOther, IsSeen, IsUnderstood, LacksConditions, LacksMore, LacksTables, LacksText, LacksVersion, TellsVersion, of_conditions, of_tables, of_version}
 use Rattle.bureau_sql.specs.SqlState.{SqlState}
 use Rattle.bureau_sql.specs.SqlView.{IsAtRest, IsOurStore, shown, sql_view}
 use Rattle.bureau_sql.proofs.FitFacts.{all_seen, all_so_far}
@@ -257,7 +257,7 @@ conditions_to_make text schema tables means makes = (tables, (text, makes, means
 
 -- ---- what is looked for by a store, and by what makes a file of version 1 one of version 2
 
-module _ (wanted : ℕ) (schema : Schema) (Lacks : Schema → Type 0) (IsIt IsOtherOurs IsChanged : Database → Type 0) (text : List ℕ) (of_bureau : IsOfBureau schema)
+module _ (wanted : ℕ) (schema : Schema) (Lacks : Schema → Type 0) (IsIt IsOtherOurs : Database → Type 0) (IsChanged : State → State → Type 0) (text : List ℕ) (of_bureau : IsOfBureau schema)
     (means : IsOneStatement schema text) (lacks_more : (other : Schema) → (IsOneStatement other text → ⊥) → Lacks other)
     (its_schema : (database : Database) → IsIt database → database.schema ≡ schema) (other_schema : (database : Database) → IsOtherOurs database → IsOfBureau database.schema)
     (apart : (database : Database) → TellsVersion (Some wanted) database → IsOtherOurs database → ⊥)
@@ -292,14 +292,21 @@ module _ (wanted : ℕ) (schema : Schema) (Lacks : Schema → Type 0) (IsIt IsOt
 two_versions : (one other : ℕ) → Some one ≡ Some other → one ≡ other
 two_versions one other is = ap (λ (o : Option ℕ). unwrap_or o 0) is
 
+-- what tells one version is no store of the other
+pub no_earlier_store : (database : Database) → TellsVersion (Some 2) database → IsOfVersion1 database → ⊥
+no_earlier_store database told earlier = omega (arith, two_versions 2 1 (told.earlier earlier))
+
+pub no_later_store : (database : Database) → TellsVersion (Some 1) database → IsOurs database → ⊥
+no_later_store database told ours = omega (arith, two_versions 1 2 (told.ours ours))
+
 pub no_store : (text : List ℕ) (at new : State) (fault : StoreFault) → IsAskedBy of_conditions text → IsSeen (LacksMore 2 text) (IsOther 2) at new fault → IsNoStore at new fault
 no_store text at new fault asks =
-    not_of 2 bureau LacksConditions IsOurs IsOfVersion1 (λ database. ⊥) text (inl refl) (one_of_asked bureau text _ _ _ asks) (λ other none. (text, asks, none)) (λ database is. is.schema) (λ database is. inr is.schema)
+    not_of 2 bureau LacksConditions IsOurs IsOfVersion1 (λ old new. ⊥) text (inl refl) (one_of_asked bureau text _ _ _ asks) (λ other none. (text, asks, none)) (λ database is. is.schema) (λ database is. inr is.schema)
     (λ database told earlier. omega (arith, two_versions 2 1 (told.earlier earlier))) (λ version database told. told.ours) at new fault
 
 pub not_earlier : (text : List ℕ) (at new : State) (fault : StoreFault) → MakesTable bureau_1 text sysmod_cond bureau → IsSeen (LacksMore 1 text) (IsOther 1) at new fault → IsNotEarlier at new fault
 not_earlier text at new fault makes =
-    not_of 1 bureau_1 CannotMakeConditions IsOfVersion1 IsOurs IsTaken text (inr refl) (_, makes.statement, omega arith, refl) (λ other none. (text, makes, none)) (λ database is. is.schema) (λ database is. inl is.schema)
+    not_of 1 bureau_1 CannotMakeConditions IsOfVersion1 IsOurs IsNotMigrated text (inr refl) (_, makes.statement, omega arith, refl) (λ other none. (text, makes, none)) (λ database is. is.schema) (λ database is. inl is.schema)
     (λ database told ours. omega (arith, two_versions 1 2 (told.ours ours))) (λ version database told. told.earlier) at new fault
 
 -- ---- what is taken for a store

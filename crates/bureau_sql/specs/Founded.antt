@@ -1,13 +1,14 @@
 -- What is left of a connection at rest by a transaction that leads from one kind of database to another.
-use Rattle.std.specs.Prelude.{◌≡◌, ◌≢◌, ◌↔◌, IsTrue, List, OnErr, OnOk, Result}
+use Rattle.std.specs.Prelude.{◌≡◌, ◌≢◌, ◌↔◌, ◌⊎◌, IsTrue, List, OnErr, OnOk, Result}
 use Rattle.bureau_store.specs.Store.{IsOfCall}
 use Rattle.bureau_store.specs.declared.caller.CallerRow.{CallerRow}
 use Rattle.bureau_store.specs.declared.fault.StoreFault.{StoreFault}
-use Rattle.bureau_store.specs.declared.fault.StoreFault.TheVariants.{Shape}
+use Rattle.bureau_store.specs.declared.fault.StoreFault.TheVariants.{Memory, Shape}
 use Rattle.sqlite.specs.Effect.{Database}
 use Rattle.sqlite.specs.State.{HasCleanDisk, KeepsCommit, State, Survives}
 use Rattle.sqlite_trees.specs.Tree.{Trees}
-use Rattle.sql_writes.specs.Making.{IsEmpty, IsOpened}
+use Rattle.sql_writes.specs.Making.{AreFit, IsEmpty, IsOpened}
+use Rattle.bureau_sql.specs.Failing.{CannotWrite}
 
 -- the connection was open, and the trees are those of a database of the second kind where what was committed is of the first
 abbrev pub AreLed : State → (Database → Type 0) → (Database → Type 0) → Trees → Type 0
@@ -28,3 +29,8 @@ AreFounded old callers trees =
 pub record IsNotMade (at : State) (fault : StoreFault) : Type 0 where
   pub taken : IsTrue at.is_open → (fault ≡ Shape) ↔ (IsEmpty at.committed → ⊥)
   pub other : fault ≢ Shape → IsOfCall fault
+
+-- And of an empty database, with callers that are fit, it is want of memory, or it couldn't be written.
+abbrev pub FailsToFound : State → State → List CallerRow → StoreFault → Type 0
+FailsToFound at new callers fault =
+    IsEmpty at.committed → AreFit callers → (fault ≡ Shape) ⊎ ((fault ≡ Memory) ⊎ CannotWrite at new)

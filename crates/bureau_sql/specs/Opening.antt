@@ -14,6 +14,7 @@ use Rattle.sqlite_resolve.specs.declared.compiled.Compiled.{Compiled}
 use Rattle.sqlite_trees.specs.declared.error.StoreError.{StoreError}
 use Rattle.sqlite_trees.specs.declared.error.StoreError.TheVariants.{Broken, Corrupt, Full, Io, OutOfMemory, Unstorable}
 use Rattle.sql_reads.specs.Version.{HasVersion, WithholdsVersion}
+use Rattle.bureau_sql.specs.Failing.{CannotWrite}
 use Rattle.sql_state.specs.Earlier.{IsOfVersion1}
 use Rattle.sql_state.specs.Ours.{IsOurs}
 use Rattle.sql_state.specs.Reading.{HasFailed}
@@ -112,7 +113,7 @@ HasOtherShape wanted Lacks database =
     CannotAsk database.schema of_version
     ⊎ (HasVersion (Some wanted) database × (LacksTable database.schema ⊎ Lacks database.schema))
 
-module _ (wanted : ℕ) (Lacks : Schema → Type 0) (IsIt IsOtherOurs IsChanged : Database → Type 0) where
+module _ (wanted : ℕ) (Lacks : Schema → Type 0) (IsIt IsOtherOurs : Database → Type 0) (IsChanged : State → State → Type 0) where
   -- Its tables are other ones than those of a version, and no database of ours of either version is refused so; or they are
   -- of another version, which no database of ours of this one has; or memory ran out; or the device failed or was shut, or
   -- the tables of the version show nothing; or a change was begun, for which there was no room, or which failed.
@@ -121,16 +122,20 @@ module _ (wanted : ℕ) (Lacks : Schema → Type 0) (IsIt IsOtherOurs IsChanged 
   IsNotOf old new Version = IsTrue old.is_open × (IsIt old.committed → ⊥)
       × (version : Option ℕ) × (version ≢ Some wanted) × HasVersion version old.committed
   IsNotOf old new Memory = Unit {0}
-  IsNotOf old new Device = HasFailed old new ⊎ (WithholdsVersion old.step_limit old.committed ⊎ IsChanged old.committed)
-  IsNotOf old new Size = IsChanged old.committed
+  IsNotOf old new Device = HasFailed old new ⊎ (WithholdsVersion old.step_limit old.committed ⊎ IsChanged old new)
+  IsNotOf old new Size = IsChanged old new
 
 -- it isn't of version 2, which is seen without a change
 abbrev pub IsNoStore : State → State → StoreFault → Type 0
-IsNoStore = IsNotOf 2 LacksConditions IsOurs IsOfVersion1 (λ database. ⊥)
+IsNoStore = IsNotOf 2 LacksConditions IsOurs IsOfVersion1 (λ old new. ⊥)
+
+-- A change was begun of a database that was taken for one of version 1, and is refused. Where it is ours, the device failed.
+abbrev pub IsNotMigrated : State → State → Type 0
+IsNotMigrated old new = IsTaken old.committed × (IsOfVersion1 old.committed → CannotWrite old new)
 
 -- it isn't of version 1, or it wasn't made one of version 2
 abbrev pub IsNotEarlier : State → State → StoreFault → Type 0
-IsNotEarlier = IsNotOf 1 CannotMakeConditions IsOfVersion1 IsOurs IsTaken
+IsNotEarlier = IsNotOf 1 CannotMakeConditions IsOfVersion1 IsOurs IsNotMigrated
 
 -- ---- No part of what is promised: private contracts cite it.
 

@@ -1,7 +1,8 @@
 //! A change begins and ends here, and it is committed here alone.
-ghost use Rattle.std.specs.Prelude.{◌≡◌, IsOk, IsTrue, OnErr, OnOk, false, true};
+ghost use Rattle.std.specs.Prelude.{◌≡◌, IfErr, IsOk, IsTrue, OnErr, OnOk, false, true};
 ghost use Rattle.sqlite.specs.Held.{state};
 ghost use Rattle.sqlite.specs.State.{HasCleanDisk, KeepsCommit, Shows, Survives};
+ghost use Rattle.bureau_sql.specs.Failing.{FailsToEnd};
 
 use sqlite::{Connection, Error, Transaction};
 use sqlite_trees::store::Alter;
@@ -26,6 +27,8 @@ pub(crate) fn end<S: Alter>(tx: Transaction<'_, S>, written: Result<(), Error>) 
         (state S.Store tx.entry.conn.now).now (state S.Store tx.entry.conn.now).now false)) }
     ensures refused { OnErr result (HasCleanDisk (state S.Store tx.exit.0.now)
         → KeepsCommit (state S.Store tx.entry.conn.now) (state S.Store tx.exit.0.now)) }
+    ensures fails { IfErr result (λ error. HasCleanDisk (state S.Store tx.exit.0.now)
+        → FailsToEnd written (state S.Store tx.entry.conn.now) (state S.Store tx.exit.0.now) error) }
     ensures survives { Survives (state S.Store tx.entry.conn.now) (state S.Store tx.exit.0.now)
         (λ trees. IsOk written × (trees ≡ (state S.Store tx.entry.conn.now).now.trees)) }
 {

@@ -3,8 +3,9 @@ ghost use Rattle.std.specs.Prelude.{◌≡◌, ◌↔◌, IfErr, IfOk, IsTrue, f
 ghost use Rattle.bureau_store.specs.Tables.{opened};
 ghost use Rattle.sqlite.specs.Held.{state};
 ghost use Rattle.sqlite.specs.State.{HasCleanDisk, KeepsCommit, Survives};
-ghost use Rattle.sql_writes.specs.Making.{IsEmpty, IsOpened};
-ghost use Rattle.bureau_sql.specs.Founded.{AreFounded, IsLed, IsNotMade};
+ghost use Rattle.sql_writes.specs.Making.{AreFit, IsEmpty, IsOpened};
+ghost use Rattle.bureau_sql.specs.Failing.{RefusesExcused};
+ghost use Rattle.bureau_sql.specs.Founded.{AreFounded, FailsToFound, IsLed, IsNotMade};
 ghost use Rattle.bureau_sql.specs.SqlView.{IsAtRest, IsOurStore, shown, sql_view};
 
 use crate::commit::{begin, end};
@@ -32,6 +33,8 @@ fn found<S: Alter>(conn: &mut Connection<S>, callers: &[CallerRow]) -> Result<()
     ensures mode { conn.new.in_transaction ≡ false }
     ensures led { IsLed (state S.Store conn.old) (state S.Store conn.new) result IsEmpty
         (IsOpened callers.now) }
+    ensures excused { AreFit callers.now
+        → RefusesExcused (state S.Store conn.old) (state S.Store conn.new) result IsEmpty }
 {
     let mut tx = begin(conn);
     let written = sql_writes::create(&mut tx, callers);
@@ -45,7 +48,8 @@ impl<S: Alter> SqlStore<S> {
     /// # Errors
     ///
     /// [`StoreFault::Shape`] where a table, an index or a view is there already; `Memory`, `Size` or `Device` where
-    /// memory or room ran out or the device failed. Each hands the connection back, with nothing committed.
+    /// memory or room ran out or the device failed. `Device` also where two callers have one name or one token. Each
+    /// hands the connection back, with nothing committed.
     #[tactic(auto, using(crate::proofs::FoundedFacts::ours_made, crate::proofs::FoundedFacts::tables_made))]
     pub fn init(
         alloc: Global,
@@ -66,6 +70,8 @@ impl<S: Alter> SqlStore<S> {
         ensures refused { IfErr result (λ refused. HasCleanDisk (state S.Store refused.1)
             → KeepsCommit (state S.Store conn) (state S.Store refused.1)) }
         ensures cause { IfErr result (λ refused. IsNotMade (state S.Store conn) refused.0) }
+        ensures failed { IfErr result (λ refused. HasCleanDisk (state S.Store refused.1)
+            → FailsToFound (state S.Store conn) (state S.Store refused.1) callers.now refused.0) }
         ensures rest { IfErr result (λ refused. refused.1.in_transaction ≡ false) }
         ensures stopped { IfErr result (λ refused. Survives (state S.Store conn) (state S.Store refused.1)
             (AreFounded (state S.Store conn) callers.now)) }

@@ -1,23 +1,25 @@
 //! A file of version 1 becomes one of version 2.
-ghost use Rattle.std.specs.Prelude.{◌≡◌, ◌≢◌, IfErr, IfOk, IsTrue, OnErr, OnOk, Some, false};
+ghost use Rattle.std.specs.Prelude.{◌≡◌, ◌≢◌, ◌⊎◌, IfErr, IfOk, IsTrue, OnErr, OnOk, Some, false};
 ghost use Rattle.bureau_store.specs.Store.{IsOfCall};
-ghost use Rattle.bureau_store.specs.declared.fault.StoreFault.TheVariants.{Device};
+ghost use Rattle.bureau_store.specs.declared.fault.StoreFault.TheVariants.{Device, Memory};
 ghost use Rattle.sqlite.specs.Held.{state};
-ghost use Rattle.sqlite.specs.State.{HasCleanDisk, KeepsCommit, Survives};
+ghost use Rattle.sqlite.specs.State.{HasCleanDisk, KeepsCommit, Survives, store_error};
+ghost use Rattle.sqlite_trees.specs.declared.error.StoreError.TheVariants.{OutOfMemory};
 ghost use Rattle.sql_reads.specs.Version.{HasVersion};
 ghost use Rattle.sql_state.specs.Earlier.{IsOfVersion1, held_by_version_1};
 ghost use Rattle.sql_state.specs.Ours.{version_rows};
-ghost use Rattle.sql_state.specs.Reading.{OnlyReads};
+ghost use Rattle.sql_state.specs.Reading.{HasFailed, OnlyReads};
 ghost use Rattle.sql_tables.specs.Stored.{tables_of};
 ghost use Rattle.sql_writes.specs.Migrating.{HoldsAll};
-ghost use Rattle.bureau_sql.specs.Migrated.{AreMigrated, IsMigrated, IsUntouched};
+ghost use Rattle.bureau_sql.specs.Failing.{RefusesExcused};
+ghost use Rattle.bureau_sql.specs.Migrated.{AreMigrated, IsMigrated, LeadsToMigration, LeavesUntouched};
 ghost use Rattle.bureau_sql.specs.Opening.{CanMakeConditions, HasTables, IsNotEarlier};
 ghost use Rattle.bureau_sql.specs.SqlView.{IsAtRest, IsOurStore, shown, sql_view};
 
 use crate::SqlStore;
 use crate::commit::{begin, end};
 use crate::open::holds;
-use crate::probe::is_open;
+use crate::probe::look;
 use crate::store::refusal_of;
 use bureau_store::StoreFault;
 use sql_texts::create;
@@ -30,29 +32,38 @@ fn migrated<S: Alter>(conn: &mut Connection<S>) -> Result<(), Error>
     requires rest { conn.old.in_transaction ≡ false }
     ensures mode { conn.new.in_transaction ≡ false }
     ensures migrated { IsMigrated (state S.Store conn.old) (state S.Store conn.new) result }
+    ensures done { LeadsToMigration (state S.Store conn.old) (state S.Store conn.new) result }
+    ensures excused { RefusesExcused (state S.Store conn.old) (state S.Store conn.new) result IsOfVersion1 }
 {
     let mut tx = begin(conn);
     let written = sql_writes::migrate(&mut tx);
     end(tx, written)
 }
 
-// Why the transaction was refused. Only an open connection is told to be out of memory or of room.
+// Why the transaction was refused. Only an open connection is told to be out of room. Where memory is too short to see
+// whether it is open, that is told.
 fn refusal<S: Alter>(conn: &mut Connection<S>, error: Error) -> StoreFault
     requires rest { conn.old.in_transaction ≡ false }
     ensures reads { OnlyReads (state S.Store conn.old) (state S.Store conn.new) }
     ensures mode { conn.new.in_transaction ≡ false }
     ensures call { IsOfCall result }
-    ensures is_open { result ≢ Device → HasCleanDisk (state S.Store conn.new)
+    ensures failed { result ≢ Memory → HasCleanDisk (state S.Store conn.new)
+        → (error ≢ store_error OutOfMemory) ⊎ HasFailed (state S.Store conn.old) (state S.Store conn.new) }
+    ensures is_open { result ≢ Device → result ≢ Memory → HasCleanDisk (state S.Store conn.new)
         → IsTrue (state S.Store conn.new).is_open }
     ensures rests { IsAtRest (state S.Store conn.new) }
 {
     let fault = refusal_of(error);
-    if !matches!(fault, StoreFault::Device) && is_open(conn) {
-        let _settled = conn.is_autocommit();
-        return fault;
-    }
+    let seen = if matches!(fault, StoreFault::Device) {
+        Ok(())
+    } else {
+        look(conn)
+    };
     let _settled = conn.is_autocommit();
-    StoreFault::Device
+    match seen {
+        Ok(()) => fault,
+        Err(told) => told,
+    }
 }
 
 // Makes the tables of version 1 those of version 2, where the connection has them.
@@ -77,8 +88,7 @@ fn bring<S: Alter>(conn: &mut Connection<S>) -> Result<(), StoreFault>
         → KeepsCommit (state S.Store conn.old) (state S.Store conn.new)) }
     ensures cause { IfErr result (λ fault. HasCleanDisk (state S.Store conn.new)
         → IsNotEarlier (state S.Store conn.old) (state S.Store conn.new) fault) }
-    ensures untouched { IfErr result (λ fault. fault ≢ Device
-        → IsUntouched (state S.Store conn.old) (state S.Store conn.new)) }
+    ensures untouched { IfErr result (λ fault. LeavesUntouched (state S.Store conn.old) (state S.Store conn.new) fault) }
 {
     holds(conn, 1, create::sysmod_cond())?;
     match migrated(conn) {
@@ -96,8 +106,9 @@ impl<S: Alter> SqlStore<S> {
     ///
     /// [`StoreFault::Version`] where the tables are of another version than 1, [`StoreFault::Shape`] where one of them
     /// or of their columns is missing, or where there is a table of requisites under a condition already; `Memory` or
-    /// `Size` where memory or room ran out. Each of these hands the connection back with the file as it was. `Device`
-    /// where the device failed: then a stop may have left either.
+    /// `Size` where memory or room ran out. Each of these hands the connection back with the file as it was, unless the
+    /// device failed besides and memory was too short to see it. `Device` where the device failed, or where the tables
+    /// are somebody else's and their own rules refuse the change: then a stop may have left either.
     #[tactic(auto, using(crate::proofs::MigratedFacts::ours_migrated, crate::proofs::MigratedFacts::tables_migrated))]
     pub fn migrate(
         alloc: Global,
@@ -123,8 +134,8 @@ impl<S: Alter> SqlStore<S> {
             (AreMigrated (state S.Store conn))) }
         ensures refused { IfErr result (λ refused. HasCleanDisk (state S.Store refused.1)
             → KeepsCommit (state S.Store conn) (state S.Store refused.1)) }
-        ensures untouched { IfErr result (λ refused. refused.0 ≢ Device
-            → IsUntouched (state S.Store conn) (state S.Store refused.1)) }
+        ensures untouched { IfErr result (λ refused.
+            LeavesUntouched (state S.Store conn) (state S.Store refused.1) refused.0) }
         ensures cause { IfErr result (λ refused. HasCleanDisk (state S.Store refused.1)
             → IsNotEarlier (state S.Store conn) (state S.Store refused.1) refused.0) }
         ensures rest { IfErr result (λ refused. refused.1.in_transaction ≡ false) }

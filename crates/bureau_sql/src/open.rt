@@ -4,6 +4,7 @@ ghost use Rattle.std.specs.List.{AllByRecursion};
 ghost use Rattle.bureau_store.specs.declared.fault.StoreFault.TheVariants.{Version};
 ghost use Rattle.sqlite.specs.Held.{state};
 ghost use Rattle.sqlite.specs.State.{HasCleanDisk};
+ghost use Rattle.sql_state.specs.Earlier.{IsOfVersion1};
 ghost use Rattle.sql_state.specs.Ours.{IsOurs, held_by};
 ghost use Rattle.sql_state.specs.Reading.{OnlyReads};
 ghost use Rattle.sql_reads.specs.Version.{HasVersion};
@@ -201,6 +202,8 @@ impl<S: Alter> SqlStore<S> {
         ensures found { IfOk result (λ store. HasCleanDisk (shown S.Store store)
             → HasTables (state S.Store conn).committed.schema
             × HasConditions (state S.Store conn).committed.schema) }
+        ensures other { IfOk result (λ store. HasCleanDisk (shown S.Store store)
+            → IsOfVersion1 (state S.Store conn).committed → ⊥) }
         ensures ours { IfOk result (λ store. HasCleanDisk (shown S.Store store)
             → IsOurs (state S.Store conn).committed → IsOurStore S.Store store) }
         ensures tables { IfOk result (λ store. HasCleanDisk (shown S.Store store)

@@ -3,7 +3,9 @@ ghost use Rattle.std.specs.Prelude.{◌≡◌, ◌≢◌, ◌≤◌, ◌<◌, �
 ghost use Rattle.catalogue.specs.View.{HasFailed};
 ghost use Rattle.catalogue.specs.declared.fault.SourceFault.TheVariants.{Device, Memory};
 ghost use Rattle.bureau_store.specs.Store.{IsOfCall, IsOfRead};
-ghost use Rattle.bureau_store.specs.declared.fault.StoreFault.TheVariants.{Device as StoreDevice};
+ghost use Rattle.bureau_store.specs.declared.fault.StoreFault.TheVariants.{Device as StoreDevice, Memory as StoreMemory};
+ghost use Rattle.sqlite.specs.State.{store_error};
+ghost use Rattle.sqlite_trees.specs.declared.error.StoreError.TheVariants.{OutOfMemory};
 ghost use Rattle.sql_state.specs.Reading.{OnlyReads};
 ghost use Rattle.bureau_sql.specs.SqlView.{IsAtRest, shown, sql_view};
 ghost use Rattle.bureau_sql.specs.Told.{IsRefusedAs, IsTold};
@@ -170,7 +172,8 @@ impl<S: Alter> SqlStore<S> {
 
 // What a refusal of the database may be told as: want of memory, or of room. All else is a failure.
 pub(crate) fn refusal_of(error: Error) -> StoreFault
-    ensures { IsOfCall result }
+    ensures call { IsOfCall result }
+    ensures memory { error ≡ store_error OutOfMemory → result ≡ StoreMemory }
 {
     match error {
         Error::SqliteFailure(ErrorCode::OutOfMemory) => StoreFault::Memory,

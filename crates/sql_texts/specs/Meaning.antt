@@ -1,6 +1,7 @@
 -- What a text of SQL means to a database with a schema. No text here has RETURNING, and none reads the time.
-use Rattle.std.specs.Prelude.{◌≡◌, ℕ, ◌+◌, List, [], ◌∷◌, length, map, None, Ok, false}
-use Rattle.std.specs.List.{range_with_len}
+use Rattle.std.specs.Prelude.{◌≡◌, ℕ, ◌+◌, List, [], ◌∷◌, codes, length, map, nat_lt, None, Ok, false, true}
+use Rattle.std.specs.Char.{is_ascii}
+use Rattle.std.specs.List.{list_all, range_with_len}
 use Rattle.sqlite.specs.Command.{Command}
 use Rattle.sqlite.specs.Command.TheVariants.{CreateIndex, CreateTable, Select}
 use Rattle.sqlite.specs.Change.{created, indexed}
@@ -9,8 +10,10 @@ use Rattle.sqlite.specs.Listing.{reads_listing, understood}
 use Rattle.sqlite.specs.Query.{Query}
 use Rattle.sqlite.specs.Schema.{Schema}
 use Rattle.sqlite.specs.Table.{Table}
+use Rattle.sqlite_catalog.specs.Listing.{is_fit}
 use Rattle.sqlite_resolve.specs.declared.compiled.Compiled.{Compiled}
 use Rattle.sqlite_schema.specs.declared.schema.Index.{Index}
+use Rattle.sqlite_value.specs.declared.value.Value.TheVariants.{Text}
 
 -- parameters are written ?1 to ?9
 abbrev pub parameter : ℕ → List ℕ
@@ -42,10 +45,18 @@ pub record Reads (schema : Schema) (text : List ℕ) (query : Query) (names : Li
   pub statement : understood schema text ≡ Ok (statement (selection query names) parameters text)
   pub unlisted : reads_listing schema text ≡ false
 
+-- The text is one that a database lists with what it makes, a table or an index (`kind`) of this name for the table of
+-- that name: it is ASCII, it begins as such a text does, and it has less than a thousand bytes.
+pub record IsListable (kind name table text : List ℕ) : Type 0 where
+  pub ascii : list_all is_ascii text ≡ true
+  pub fit : is_fit (Text kind) (Text name) (Text table) (Text text) ≡ true
+  pub short : nat_lt (length text) 1000 ≡ true
+
 -- The text makes this table with its keys, which takes one schema to the next. Before a table has its tree it is
 -- defined with the tree 0.
 pub record MakesTable (before : Schema) (text : List ℕ) (table : Table) (after : Schema) : Type 0 where
   pub statement : understood before text ≡ Ok (statement CreateTable 0 text)
+  pub listable : IsListable (codes "table") table.name table.name text
   pub defined : table_defined_by text ≡ Ok (record table { tree = 0 })
   pub made : created before table ≡ after
 
@@ -53,5 +64,6 @@ pub record MakesTable (before : Schema) (text : List ℕ) (table : Table) (after
 pub record MakesIndex (before : Schema) (text : List ℕ) (table_index : ℕ) (table : Table) (index : Index)
     (after : Schema) : Type 0 where
   pub statement : understood before text ≡ Ok (statement (CreateIndex table_index) 0 text)
+  pub listable : IsListable (codes "index") index.name table.name text
   pub defined : index_defined_by table text ≡ Ok (record index { tree = 0 })
   pub made : indexed before table index ≡ after

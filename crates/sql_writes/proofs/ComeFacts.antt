@@ -6,24 +6,23 @@ use Rattle.catalogue.specs.declared.conditional.CondNeed.{CondNeed}
 use Rattle.catalogue.specs.declared.sysmod.Sysmod.{Sysmod}
 use Rattle.zone_lists.specs.declared.zones.ZoneRow.{ZoneRow}
 use Rattle.bureau_store.specs.Tables.{LastChange}
-use Rattle.bureau_store.specs.declared.caller.CallerRow.{CallerRow}
 use Rattle.sqlite.specs.Cast.{cast}
 use Rattle.sqlite.specs.Edit.{next_rowid}
 use Rattle.sqlite.specs.Kind.TheVariants as kind
 use Rattle.sqlite.specs.State.{HasCleanDisk, State}
 use Rattle.sqlite.specs.Values.{bound, bound_value}
-use Rattle.sqlite.specs.declared.types.Value.TheVariants.{Int, Text, Blob}
+use Rattle.sqlite.specs.declared.types.Value.TheVariants.{Int, Blob}
 use Rattle.sqlite_value.specs.Value.{owned}
 use Rattle.sqlite_value.specs.declared.value.ValueRef.{ValueRef}
 use Rattle.sql_texts.specs.Meaning.{Means}
 use Rattle.sql_texts.specs.Schema as schema
 use Rattle.sql_texts.specs.Schema.{bureau}
 use Rattle.sql_texts.specs.Writes.{insert_given}
-use Rattle.sql_tables.specs.Rows.{caller_row, change_row, cond_row, head_row, hold_row, received_row, sup_row, sysmod_row, zone_row}
+use Rattle.sql_tables.specs.Rows.{change_row, cond_row, head_row, hold_row, received_row, sup_row, sysmod_row, zone_row}
 use Rattle.sql_tables.specs.Values.{date_value, hold_kind_value, id_value, ids_value, optional_id_value, state_order, state_value, sysmod_kind_order, sysmod_kind_value, texts_value}
 use Rattle.sql_state.specs.Ours.{held_by}
 use Rattle.sql_state.specs.Writing.{Changes}
-use Rattle.sql_writes.specs.Parts.{with_callers, with_conds, with_head, with_hold, with_last, with_received, with_rows, with_sups, with_sysmod}
+use Rattle.sql_writes.specs.Parts.{with_conds, with_head, with_hold, with_last, with_received, with_rows, with_sups, with_sysmod}
 use Rattle.sql_writes.specs.Running.{Ran}
 use Rattle.sql_writes.proofs.ChangeFacts.{changed_by}
 use Rattle.sql_writes.proofs.StatementFacts.{cast_int, cast_null, inserts}
@@ -50,18 +49,6 @@ bound_date (Some number) = refl
 -- ---- one row each
 
 module _ {A F : Type 0} (old new : State) (text : List ℕ) (result : Result A F) where
-  pub callers_come : (row : CallerRow) (a b : ValueRef) → owned a ≡ id_value row.name → owned b ≡ Text row.token
-      → (HasCleanDisk old → Means bureau text (insert_given 1 2) 2) → Ran text (bound (a ∷ b ∷ [])) old new result → Changes old new result (with_callers (row ∷ []))
-  callers_come row a b at_a at_b means ran =
-      let rows = old.now.trees 1 in
-      let values = caller_row row in
-      changed_by old new text values result (with_callers (row ∷ [])) (subst (λ row. Ran text row old new result) (λ i. bound_value (at_a i) ∷ bound_value (at_b i) ∷ []) ran) (λ clean count known executes.
-      let set = inserts text 1 schema.caller 2 values values old new count (means clean) refl refl refl (λ i. cast_null i ∷ caller_row row) known.schema known.numbered.1.0 executes in (
-        known_after 1 _ old.now new.now known.numbered set,
-        held_set 1 _ old.now new.now set ∙ ap (λ all. record (held_by old.now) { callers = all }) (come rows (Int (next_rowid rows) ∷ values)),
-        set.others.0 (λ e. omega (arith, e)),
-      ))
-
   pub changes_come : (name : List ℕ) (last : LastChange) (a b c : ValueRef) → owned a ≡ id_value name → owned b ≡ Int (pos last.number) → owned c ≡ Blob last.reply
       → (HasCleanDisk old → Means bureau text (insert_given 2 3) 3) → Ran text (bound (a ∷ b ∷ c ∷ [])) old new result → Changes old new result (with_last name last)
   changes_come name last a b c at_a at_b at_c means ran =

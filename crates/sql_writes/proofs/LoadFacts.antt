@@ -5,11 +5,11 @@ use Rattle.std.proofs.lemmas.List.Sums.{fold_push}
 use Rattle.std.proofs.lemmas.List.{append-nil, map-append, take_all, take_more}
 use Rattle.sqlite.specs.Order.{Row}
 use Rattle.sqlite.specs.State.{State}
-use Rattle.sql_tables.specs.Rows.{caller_row, cond_row, sup_row, zone_row}
+use Rattle.sql_tables.specs.Rows.{cond_row, sup_row, zone_row}
 use Rattle.sql_tables.specs.Changes.{published, replaced}
 use Rattle.sql_tables.specs.Stored.{Stored, is_of, is_of_both}
 use Rattle.sql_state.specs.Writing.{Changes}
-use Rattle.sql_writes.specs.Parts.{with_callers, with_conds, with_rows, with_sups, without_conds, without_rows, without_sups}
+use Rattle.sql_writes.specs.Parts.{with_conds, with_rows, with_sups, without_conds, without_rows, without_sups}
 use Rattle.sql_writes.proofs.ChangeFacts.{alike, changes_then}
 
 -- the same success, told otherwise
@@ -57,12 +57,6 @@ pub conds_turn : (id : List ℕ) → ComesInTurn (without_conds id) (λ cond. wi
 conds_turn id = record {
   none = λ stored. ap (λ rows. record stored { conds = rows }) (sym (append-nil (replaced (is_of id) [] stored.conds)));
   more = λ xs x stored. ap (λ rows. record stored { conds = rows }) (in_turn (cond_row id) (replaced (is_of id) [] stored.conds) xs x);
-}
-
-pub callers_turn : ComesInTurn (λ stored. stored) (λ row. with_callers (row ∷ [])) with_callers
-callers_turn = record {
-  none = λ stored. ap (λ rows. record stored { callers = rows }) (sym (append-nil stored.callers));
-  more = λ xs x stored. ap (λ rows. record stored { callers = rows }) (in_turn caller_row stored.callers xs x);
 }
 
 pub published_turn : ComesInTurn (λ stored. stored) (λ change stored. published stored change) (λ changes stored. fold published stored changes)

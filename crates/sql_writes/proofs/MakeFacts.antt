@@ -1,10 +1,9 @@
 -- What a statement that makes a table or the index leaves, and what the statements leave together.
-use Rattle.std.proofs.Common.{◌≡◌, ℕ, false, List, [], ◌∷◌, ◌++◌, Some, None, Result, Ok, Err, IsTrue, OnOk, length, take, refl, sym, ◌∙◌, ap, subst, arith}
-use Rattle.std.specs.Prelude.{◌-◌, slice_get, slice_range}
+use Rattle.std.proofs.Common.{◌≡◌, ℕ, false, List, [], ◌∷◌, ◌++◌, Some, None, Result, Ok, Err, IsTrue, OnOk, take, refl, sym, ◌∙◌, ap, subst, arith}
+use Rattle.std.specs.Prelude.{slice_get}
 use Rattle.std.specs.List.{AllByRecursion}
 use Rattle.std.specs.Result.{IsErr}
 use Rattle.std.proofs.lemmas.Bool.{false≢true}
-use Rattle.std.proofs.lemmas.List.{take_all}
 use Rattle.sqlite.proofs.Callers.{IsPlain, command_of, runs_as, statement_of}
 use Rattle.sqlite.specs.Change.{KeepsRows, created, indexed, next_tree}
 use Rattle.sqlite.specs.Command.TheVariants.{CreateIndex, CreateTable}
@@ -16,24 +15,19 @@ use Rattle.sqlite.specs.Table.{Table}
 use Rattle.sqlite.specs.Tree.{Trees}
 use Rattle.sqlite_schema.specs.declared.schema.Index.{Index}
 use Rattle.sqlite.specs.Schema.{Schema}
-use Rattle.bureau_store.specs.declared.caller.CallerRow.{CallerRow}
 use Rattle.sql_texts.specs.Meaning.{MakesIndex, MakesTable, Means}
 use Rattle.sql_texts.specs.Schema.{bureau, made, tables}
 use Rattle.sql_texts.specs.Writes.{this_version}
 use Rattle.sql_tables.specs.InTrees.{columns_of}
 use Rattle.sql_state.specs.Numbered.{IsNumbered}
-use Rattle.sql_state.specs.Ours.{held_by, version_rows}
-use Rattle.sql_state.specs.Writing.{Changes, IsKnown}
+use Rattle.sql_state.specs.Ours.{version_rows}
 use Rattle.sql_writes.specs.Making.{IsMade, IsOpened, Leads}
-use Rattle.sql_writes.specs.Parts.{with_callers}
 use Rattle.sql_writes.specs.Running.{Ran}
 use Rattle.sql_state.proofs.StopFacts.{survives_both, was_clean}
 use Rattle.sql_writes.proofs.ChangeFacts.{keeps_both}
+use Rattle.sql_writes.proofs.RefusalFacts.{whole_text}
 use Rattle.sql_writes.proofs.StatementFacts.{inserts_version, on_table, same_value, went}
 use Rattle.sql_writes.proofs.StoredFacts.{known_after}
-
-whole_text : (text : List ℕ) → slice_range text 0 (length text) ≡ text
-whole_text text = take_all (length text - 0) text (omega arith)
 
 -- what CREATE TABLE leaves
 pub record HasTable (table : Table) (before after : Schema) (old new : Database) : Type 0 where
@@ -75,7 +69,7 @@ makes_index before after table_index text table index old new count makes at has
     let ran = runs_as text [] old new before has (CreateIndex table_index) (ap command_of makes.statement) plain count h in
     let w = subst (λ t. Writes old new None (CreateIndex table_index) t [] count) (ap (statement_of text) makes.statement ∙ whole_text text) ran in
     let here : slice_get old.now.schema.tables table_index ≡ Some table = ap (λ s. slice_get s.tables table_index) has ∙ at in
-    let all = went (on_table old.step_limit (mode_of old) [] old.now table_index (λ task. Defines (mode_of old) (IndexMade text old.now task.table)) table (w.tally, new.now) here w.changed) in
+    let all = went (on_table old.step_limit (mode_of old) [] old.now table_index (λ task. Defines (mode_of old) (IndexMade text old.now task.table)) table (Ok (w.tally, new.now)) here w.changed) in
     let it = all.1 in
     let same : it.index ≡ record index { tree = 0 } = same_value (sym it.defined ∙ makes.defined) in
     let schema : all.0.schema ≡ after = it.is ∙ ap (λ s. indexed s table it.index) has ∙ ap (indexed before table) same ∙ makes.made in
@@ -170,6 +164,7 @@ opened_by text old new count means executes so_far =
     record {
       known = known_after 0 (version_rows 2) old.now new.now (all_numbered old.now.trees tables e) set;
       version = set.rows_are;
+      callers_are = o.1.0 (λ x. omega (arith, x)) ∙ e.1.0;
       held = λ i. record {
         callers = columns_of ((o.1.0 (λ x. omega (arith, x)) ∙ e.1.0) i);
         changes = columns_of ((o.1.1.0 (λ x. omega (arith, x)) ∙ e.1.1.0) i);
@@ -186,20 +181,3 @@ opened_by text old new count means executes so_far =
 pub version_comes : {A F : Type 0} (text : List ℕ) (old new : State) (result : Result A F) → Means bureau text this_version 0 → Ran text [] old new result → Leads old new result (IsMade 10 11) (IsOpened [])
 version_comes text old new result means ran =
     leads_by text [] old new result (IsMade 10 11) (IsOpened []) ran (λ count executes. opened_by text old new count means executes)
-
-pub callers_come_in : {A F : Type 0} (callers : List CallerRow) (old new : State) (result : Result A F) → Changes old new result (with_callers callers) → Leads old new result (IsOpened []) (IsOpened callers)
-callers_come_in {A} {F} callers old new result h = record { keeps = h.keeps; survives = h.survives; done = by result h.done }
-  where
-    by : (r : Result A F)
-        → OnOk r (HasCleanDisk new → IsTrue old.in_transaction → IsTrue new.is_open × IsTrue new.in_transaction
-        × (IsKnown old.now → IsKnown new.now × (held_by new.now ≡ with_callers callers (held_by old.now)) × (new.now.trees 0 ≡ old.now.trees 0)))
-        → OnOk r (HasCleanDisk new → IsTrue old.in_transaction → IsTrue new.is_open × IsTrue new.in_transaction × (IsOpened [] old.now → IsOpened callers new.now))
-    by (Ok a) done = λ clean inside.
-        let it = done clean inside in (
-          it.0,
-          it.1,
-          λ before.
-              let here = it.2 before.known in
-              record { known = here.0; version = here.2 ∙ before.version; held = here.1 ∙ ap (with_callers callers) before.held },
-        )
-    by (Err e) done = tt

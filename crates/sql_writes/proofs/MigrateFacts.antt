@@ -1,17 +1,22 @@
 -- What the statements that make a database of version 1 one of version 2 leave of it.
-use Rattle.std.proofs.Common.{◌∙◌, ℕ, List, [], ◌∷◌, Result, ap, refl, subst, sym}
+use Rattle.std.proofs.Common.{◌∙◌, ℕ, List, [], ◌∷◌, Err, IsTrue, Ok, OnOk, Result, ap, refl, subst, sym}
 use Rattle.std.specs.Prelude.{filter, not, take}
 use Rattle.std.specs.List.{AllByRecursion}
 use Rattle.sqlite.specs.Change.{KeepsRows}
-use Rattle.sqlite.specs.State.{State}
+use Rattle.sqlite.specs.Order.{Row}
+use Rattle.sqlite.specs.Effect.{Database}
+use Rattle.sqlite.specs.State.{HasCleanDisk, State}
 use Rattle.sqlite.specs.Table.{Table}
 use Rattle.sqlite.specs.Tree.{Trees}
+use Rattle.sqlite_schema.specs.Rules.{Keeps}
+use Rattle.sqlite_schema.specs.declared.schema.Constraint.TheVariants.{Unique}
 use Rattle.sql_texts.specs.Found.{passes}
 use Rattle.sql_texts.specs.Meaning.{MakesTable, Means}
 use Rattle.sql_texts.specs.Schema.{bureau, bureau_1, bureau_version, sysmod_cond, tables}
 use Rattle.sql_texts.specs.Writes.{delete_of, this_version}
 use Rattle.sql_tables.specs.InTrees.{columns_of}
 use Rattle.sql_tables.specs.Stored.{Stored}
+use Rattle.sql_state.specs.Earlier.{IsOfVersion1, held_by_version_1}
 use Rattle.sql_state.specs.Numbered.{IsNumbered}
 use Rattle.sql_state.specs.Ours.{version_rows}
 use Rattle.sql_writes.specs.Making.{Leads}
@@ -72,3 +77,17 @@ module _ {A F : Type 0} (text : List ℕ) (old new : State) (result : Result A F
         version = set.rows_are;
         held = held_set 0 (version_rows 2) old.now new.now set ∙ from.held;
       })
+
+-- the rows of a database of version 1 that is ours are its own
+pub from_version_1 : {A F : Type 0} (old new : State) (result : Result A F) (To : Database → Type 0) → Leads old new result (HeldEarlier (held_by_version_1 old.now)) To → Leads old new result IsOfVersion1 To
+from_version_1 {A} {F} old new result To leads = record { keeps = leads.keeps; survives = leads.survives; done = by result leads.done }
+  where
+    by : (r : Result A F)
+        → OnOk r (HasCleanDisk new → IsTrue old.in_transaction → IsTrue new.is_open × IsTrue new.in_transaction × (HeldEarlier (held_by_version_1 old.now) old.now → To new.now))
+        → OnOk r (HasCleanDisk new → IsTrue old.in_transaction → IsTrue new.is_open × IsTrue new.in_transaction × (IsOfVersion1 old.now → To new.now))
+    by (Ok a) done = λ clean inside. let it = done clean inside in (it.0, it.1, λ ours. it.2 (record { ours = ours; held = refl }))
+    by (Err e) done = tt
+
+-- the keys of the rows of version 2 are each there once
+pub keys_once : (of_version : List Row) (stored : Stored) (database : Database) → HoldsAll of_version stored database → Keeps Unique bureau database.trees
+keys_once of_version stored database is = subst (λ schema. Keeps Unique schema database.trees) is.known.schema (is.known.sound.obeys.rules Unique)

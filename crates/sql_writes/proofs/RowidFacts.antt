@@ -129,7 +129,7 @@ abbrev stepped : ℤ → Row → ℤ
 stepped n row = id_in (rowid row) +ℤ pos 1
 
 -- each row is below the rowid after the last
-all_below : (start : ℤ) (row : Row) (rows : List Row) → IsNumbered (row ∷ rows)
+pub all_below : (start : ℤ) (row : Row) (rows : List Row) → IsNumbered (row ∷ rows)
     → AllByRecursion (λ r. value_cmp (rowid r) (Int (fold stepped (stepped start row) rows)) ≡ Less) (row ∷ rows)
 all_below start row [] numbered =
     (ap (λ v. value_cmp v (Int (id_in (rowid row) +ℤ pos 1))) (int_is (rowid row) numbered.1.0) ∙ value_cmp-Int _ _ ∙ below_next (id_in (rowid row)), tt)

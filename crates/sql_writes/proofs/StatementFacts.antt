@@ -10,7 +10,7 @@ use Rattle.sqlite.specs.Effect.{Database, IsDatabase, value_rows}
 use Rattle.sqlite.specs.Listing.{understood}
 use Rattle.sqlite.specs.Order.{Row}
 use Rattle.sqlite.specs.Program.{overlay}
-use Rattle.sqlite.specs.Rows.{Counts, Part, Task, Written, count_of, rowids_for, stamped}
+use Rattle.sqlite.specs.Rows.{Counts, Outcome, Part, Task, Written, count_of, rowids_for, stamped}
 use Rattle.sqlite.specs.Rowids.{Rowids}
 use Rattle.sqlite.specs.Rowids.TheVariants.{Chosen, Given}
 use Rattle.sqlite.specs.State.{Executes, State, mode_of}
@@ -55,11 +55,11 @@ pub same_value : {B E : Type 0} {a b : B} → ◌≡◌ {A = Result B E} (Ok a) 
 same_value e = cc
 
 -- the table at an index of the schema
-pub on_table : (limit : Option ℕ) (mode : Mode) (params : Row) (db : Database) (table_index : ℕ) (P : Task → Part (Tally × Database)) (table : Table) (done : Tally × Database)
-    → slice_get db.schema.tables table_index ≡ Some table → OnTable limit mode params db table_index P (Ok done)
-    → P (record { limit = limit; keys = mode.keys; schema = db.schema; table = table; params = params }) (Ok done)
-on_table limit mode params db table_index P table done at h =
-    subst (λ found. AtPlace (λ t. P (record { limit = limit; keys = mode.keys; schema = db.schema; table = t; params = params })) found (Ok done)) at h
+pub on_table : (limit : Option ℕ) (mode : Mode) (params : Row) (db : Database) (table_index : ℕ) (P : Task → Part (Tally × Database)) (table : Table) (out : Outcome (Tally × Database))
+    → slice_get db.schema.tables table_index ≡ Some table → OnTable limit mode params db table_index P out
+    → P (record { limit = limit; keys = mode.keys; schema = db.schema; table = table; params = params }) out
+on_table limit mode params db table_index P table out at h =
+    subst (λ found. AtPlace (λ t. P (record { limit = limit; keys = mode.keys; schema = db.schema; table = t; params = params })) found out) at h
 
 -- no table here counts its rowids
 uncounted_rows : (task : Task) (mid next : Trees) (counter : Option Row) (top : _) → task.table.is_counted ≡ false → Counts task mid counter top (Ok next) → next ≡ mid
@@ -95,7 +95,7 @@ deletes text table_index table tests parameters params old new count means at ou
     let plain = subst IsPlain (sym means.statement) (refl, refl) in
     let w = runs_as text params old new bureau ours command (ap command_of means.statement) plain count h in
     let ran = subst (λ s. Does old.step_limit (mode_of old) params (record old.now { schema = s }) (statement_of text (understood bureau text)) None command (Ok (w.tally, new.now))) ours w.changed in
-    let done = went (on_table old.step_limit (mode_of old) params (record old.now { schema = bureau }) table_index (λ task. OnRows task (mode_of old) None command db) table (w.tally, new.now) at ran) in
+    let done = went (on_table old.step_limit (mode_of old) params (record old.now { schema = bureau }) table_index (λ task. OnRows task (mode_of old) None command db) table (Ok (w.tally, new.now)) at ran) in
     let now = ap (λ (p : Tally × Database). p.1) (same_value (went (went done.2).2).2) in
     let given = went done.1 in
     let edits = went given.2 in
@@ -130,7 +130,7 @@ inserts text table_index table columns values params old new count means at unco
     let plain = subst IsPlain (sym means.statement) (refl, refl) in
     let w = runs_as text params old new bureau ours command (ap command_of means.statement) plain count h in
     let ran = subst (λ s. Does old.step_limit (mode_of old) params (record old.now { schema = s }) (statement_of text (understood bureau text)) None command (Ok (w.tally, new.now))) ours w.changed in
-    let done = went (on_table old.step_limit (mode_of old) params (record old.now { schema = bureau }) table_index (λ task. OnRows task (mode_of old) None command db) table (w.tally, new.now) at ran) in
+    let done = went (on_table old.step_limit (mode_of old) params (record old.now { schema = bureau }) table_index (λ task. OnRows task (mode_of old) None command db) table (Ok (w.tally, new.now)) at ran) in
     let now = ap (λ (p : Tally × Database). p.1) (same_value (went (went done.2).2).2) in
     let given = went done.1 in
     let counted = went given.2 in

@@ -3,12 +3,14 @@ use Rattle.std.specs.Prelude.{ℕ, List, Result}
 use Rattle.sqlite.specs.Effect.{Database}
 use Rattle.sqlite.specs.Held.{Held, state}
 use Rattle.sqlite.specs.State.{HasCleanDisk}
+use Rattle.sqlite.specs.declared.error.Error.{Error}
 use Rattle.sqlite_trees.specs.declared.store.Store.{Ghosts}
 use Rattle.sql_texts.specs.Meaning.{Means}
 use Rattle.sql_texts.specs.Schema.{bureau}
 use Rattle.sql_texts.specs.Writes.{insert_given}
 use Rattle.sql_tables.specs.Stored.{Stored}
 use Rattle.sql_state.specs.Writing.{Changes}
+use Rattle.sql_writes.specs.Excused.{IsExcused}
 use Rattle.sql_writes.specs.Making.{Leads}
 
 -- the rows change so
@@ -22,3 +24,7 @@ Turns ghosts old new result From To = Leads (state ghosts old) (state ghosts new
 -- a text inserts one row of so many given columns into the table at this index, where the disk is clean
 abbrev pub Inserts : {S : Type 0} → Ghosts S → Held S → List ℕ → ℕ → ℕ → Type 0
 Inserts ghosts held text table_index columns = HasCleanDisk (state ghosts held) → Means bureau text (insert_given table_index columns) columns
+
+-- a refusal in such a database has an excuse
+abbrev pub RefusesExcused : {S Answer : Type 0} → Ghosts S → Held S → Held S → Result Answer Error → (Database → Type 0) → Type 0
+RefusesExcused ghosts old new result From = IsExcused (state ghosts old) (state ghosts new) result From

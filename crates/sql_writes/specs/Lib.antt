@@ -1,5 +1,6 @@
 pub mod Altering
 pub mod Effects
+pub mod Excused
 pub mod Making
 pub mod Migrating
 pub mod Parts

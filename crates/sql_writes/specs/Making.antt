@@ -1,9 +1,12 @@
 -- How the tables of version 2 come to be in an empty database.
-use Rattle.std.specs.Prelude.{◌≡◌, ℕ, IsTrue, List, [], map, take, OnOk, Result}
+use Rattle.std.specs.Prelude.{◌≡◌, ◌≤◌, ◌<◌, ◌+◌, ◌^◌, ℕ, suc, pos, IsTrue, List, [], ◌∷◌, length, map, slice_get, take, OnOk, Result, Some}
 use Rattle.std.specs.List.{AllByRecursion}
+use Rattle.mcs_reader.specs.Id.{text_of}
 use Rattle.bureau_store.specs.declared.caller.CallerRow.{CallerRow}
 use Rattle.sqlite.specs.Effect.{Database, IsDatabase}
+use Rattle.sqlite.specs.Order.{Row}
 use Rattle.sqlite.specs.State.{HasCleanDisk, KeepsCommit, State, Survives}
+use Rattle.sqlite.specs.declared.types.Value.TheVariants.{Int}
 use Rattle.sql_texts.specs.Schema.{made, tables}
 use Rattle.sql_tables.specs.Rows.{caller_row}
 use Rattle.sql_tables.specs.Stored.{opened}
@@ -20,11 +23,30 @@ pub record IsMade (so_many so_many_indexes : ℕ) (database : Database) : Type 0
   pub sound : IsDatabase database
   pub empty : AllByRecursion (λ table. database.trees table.tree ≡ []) (take so_many tables)
 
+-- rows of callers, under numbers that follow one another from this on
+abbrev pub caller_rows : ℕ → List CallerRow → List Row
+caller_rows first [] = []
+caller_rows first (caller ∷ callers) = (Int (pos first) ∷ caller_row caller) ∷ caller_rows (suc first) callers
+
 -- all tables, with the version and these callers and no other row
 pub record IsOpened (callers : List CallerRow) (database : Database) : Type 0 where
   pub known : IsKnown database
   pub version : database.trees 0 ≡ version_rows 2
+  pub callers_are : database.trees 1 ≡ caller_rows 1 callers
   pub held : held_by database ≡ opened (map caller_row callers)
+
+-- two callers with the same text of this kind are one
+abbrev pub AreApart : (CallerRow → List ℕ) → List CallerRow → Type 0
+AreApart text callers =
+    (i j : ℕ) (one other : CallerRow) → slice_get callers i ≡ Some one → slice_get callers j ≡ Some other → text one ≡ text other → i ≡ j
+
+-- Callers that can be written: no two have one name or one token, and neither a token nor their list is too long for a
+-- database, of which a row has at most a billion bytes.
+pub record AreFit (callers : List CallerRow) : Type 0 where
+  pub names : AreApart (λ caller. text_of caller.name) callers
+  pub tokens : AreApart (λ caller. caller.token) callers
+  pub short : (i : ℕ) (one : CallerRow) → slice_get callers i ≡ Some one → length (text_of one.name) + length one.token + 100 ≤ 10 ^ 9
+  pub few : length callers < 2 ^ 63
 
 -- Statements of a transaction: nothing is committed, and done, they lead from such a database to such a one, as the
 -- transaction sees them, which stays open. Refused, a stop and the rows that are committed are as before.

@@ -1,8 +1,10 @@
 //! Rows that come, one by each statement, after those of their table.
-ghost use Rattle.std.specs.Prelude.{◌≡◌, ◌≤◌, ◌∷◌, []};
+ghost use Rattle.std.specs.Prelude.{◌≡◌, ◌≤◌, ◌++◌, List, ◌∷◌, []};
 ghost use Rattle.bureau_store.specs.Store.{greatest_number};
-ghost use Rattle.sql_writes.specs.Altering.{Alters, Inserts};
-ghost use Rattle.sql_writes.specs.Parts.{with_callers, with_conds, with_head, with_hold, with_last, with_received, with_rows, with_sups, with_sysmod};
+ghost use Rattle.sql_writes.specs.Altering.{Alters, Inserts, RefusesExcused, Turns};
+ghost use Rattle.sql_writes.specs.Making.{AreFit, IsOpened};
+ghost use Rattle.bureau_store.specs.declared.caller.CallerRow.{CallerRow};
+ghost use Rattle.sql_writes.specs.Parts.{with_conds, with_head, with_hold, with_last, with_received, with_rows, with_sups, with_sysmod};
 
 use crate::run::{run, run_prepared};
 use crate::values::{id_of, number_of};
@@ -21,18 +23,17 @@ use sqlite::{Alter, Error, Statement, Transaction};
 use std::alloc::Global;
 use zone_lists::{Pattern, ZoneRow};
 
-/// A caller with its token, by the statement of `write::insert_caller`.
-pub(crate) fn caller<S: Alter>(
-    tx: &mut Transaction<'_, S>,
-    statement: &Statement,
-    row: &CallerRow,
-) -> Result<(), Error>
-    requires means { Inserts S.Store tx.old.conn.now statement.now.text 1 2 }
+/// A caller with its token, in tables that were made with those before it.
+pub(crate) fn caller<S: Alter>(tx: &mut Transaction<'_, S>, row: &CallerRow) -> Result<(), Error>
     ensures same { tx.new.conn.ghost_name ≡ tx.old.conn.ghost_name }
-    ensures changes { Alters S.Store tx.old.conn.now tx.new.conn.now result (with_callers (row.now ∷ [])) }
+    ensures opened { (before : List CallerRow)
+        → Turns S.Store tx.old.conn.now tx.new.conn.now result
+        (IsOpened before) (IsOpened (before ++ row.now ∷ [])) }
+    ensures excused { (before : List CallerRow) → AreFit (before ++ row.now ∷ [])
+        → RefusesExcused S.Store tx.old.conn.now tx.new.conn.now result (IsOpened before) }
 {
     let params = [id_of(&row.name), ValueRef::Text(row.token.as_bytes())];
-    run_prepared(tx, statement, &params)
+    run(tx, write::insert_caller(), &params)
 }
 
 /// The last change of the caller of this name: its number and the reply that is kept.

@@ -1,14 +1,12 @@
 //! Lists of rows that come, each list by one prepared statement.
 ghost use Rattle.std.specs.Prelude.{◌≡◌};
 ghost use Rattle.sql_writes.specs.Altering.{Alters, Inserts};
-ghost use Rattle.sql_writes.specs.Parts.{with_callers, with_conds, with_rows, with_sups, without_conds, without_rows, without_sups};
+ghost use Rattle.sql_writes.specs.Parts.{with_conds, with_rows, with_sups, without_conds, without_rows, without_sups};
 
 use crate::run::prepare;
 use crate::{delete, insert};
-use bureau_store::CallerRow;
 use catalogue::CondNeed;
 use mcs_reader::Id;
-use sql_texts::write;
 use sql_texts::write::{TableById, TableByZone};
 use sqlite::{Alter, Error, Statement, Transaction};
 use zone_lists::ZoneRow;
@@ -67,21 +65,6 @@ pub(crate) fn conditional<S: Alter>(
     delete::by_id(tx, TableById::SysmodCond, id)?;
     for cond in conds {
         insert::cond_row(tx, statement, id, cond)?;
-    }
-    Ok(())
-}
-
-/// The callers.
-pub(crate) fn callers<S: Alter>(
-    tx: &mut Transaction<'_, S>,
-    rows: &[CallerRow],
-) -> Result<(), Error>
-    ensures same { tx.new.conn.ghost_name ≡ tx.old.conn.ghost_name }
-    ensures changes { Alters S.Store tx.old.conn.now tx.new.conn.now result (with_callers rows.now) }
-{
-    let statement = prepare(tx, write::insert_caller())?;
-    for row in rows {
-        insert::caller(tx, &statement, row)?;
     }
     Ok(())
 }

@@ -4,7 +4,7 @@ ghost use Rattle.sqlite.specs.Held.{state};
 ghost use Rattle.sqlite.specs.State.{HasCleanDisk};
 ghost use Rattle.sqlite.specs.Values.{bound};
 ghost use Rattle.sql_writes.specs.Altering.{Alters};
-ghost use Rattle.sql_writes.specs.Running.{Ran};
+ghost use Rattle.sql_writes.specs.Running.{FailsInside, Ran};
 
 use sqlite::types::ValueRef;
 use sqlite::{Alter, Error, Statement, Transaction};
@@ -17,6 +17,8 @@ pub(crate) fn run<S: Alter>(
 ) -> Result<(), Error>
     ensures same { tx.new.conn.ghost_name ≡ tx.old.conn.ghost_name }
     ensures ran { Ran text.now (bound params.now)
+        (state S.Store tx.old.conn.now) (state S.Store tx.new.conn.now) result }
+    ensures fails { FailsInside text.now (bound params.now)
         (state S.Store tx.old.conn.now) (state S.Store tx.new.conn.now) result }
 {
     tx.execute(text, params)?;

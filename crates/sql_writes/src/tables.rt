@@ -1,9 +1,9 @@
 //! The tables of version 2, made one after the other in an empty database.
 ghost use Rattle.std.specs.Prelude.{◌≡◌, []};
-ghost use Rattle.sql_writes.specs.Altering.{Turns};
-ghost use Rattle.sql_writes.specs.Making.{IsEmpty, IsMade, IsOpened};
+ghost use Rattle.sql_writes.specs.Altering.{RefusesExcused, Turns};
+ghost use Rattle.sql_writes.specs.Making.{AreFit, IsEmpty, IsMade, IsOpened};
 
-use crate::load;
+use crate::insert;
 use crate::run::run;
 use bureau_store::CallerRow;
 use sql_texts::{create as texts, write};
@@ -12,6 +12,7 @@ use sqlite::{Alter, Error, Transaction};
 fn bureau_version<S: Alter>(tx: &mut Transaction<'_, S>) -> Result<(), Error>
     ensures same { tx.new.conn.ghost_name ≡ tx.old.conn.ghost_name }
     ensures made { Turns S.Store tx.old.conn.now tx.new.conn.now result IsEmpty (IsMade 1 0) }
+    ensures excused { RefusesExcused S.Store tx.old.conn.now tx.new.conn.now result IsEmpty }
 {
     run(tx, texts::bureau_version(), &[])
 }
@@ -19,6 +20,7 @@ fn bureau_version<S: Alter>(tx: &mut Transaction<'_, S>) -> Result<(), Error>
 fn up_to_caller<S: Alter>(tx: &mut Transaction<'_, S>) -> Result<(), Error>
     ensures same { tx.new.conn.ghost_name ≡ tx.old.conn.ghost_name }
     ensures made { Turns S.Store tx.old.conn.now tx.new.conn.now result IsEmpty (IsMade 2 2) }
+    ensures excused { RefusesExcused S.Store tx.old.conn.now tx.new.conn.now result IsEmpty }
 {
     bureau_version(tx)?;
     run(tx, texts::caller(), &[])
@@ -27,6 +29,7 @@ fn up_to_caller<S: Alter>(tx: &mut Transaction<'_, S>) -> Result<(), Error>
 fn up_to_last_change<S: Alter>(tx: &mut Transaction<'_, S>) -> Result<(), Error>
     ensures same { tx.new.conn.ghost_name ≡ tx.old.conn.ghost_name }
     ensures made { Turns S.Store tx.old.conn.now tx.new.conn.now result IsEmpty (IsMade 3 3) }
+    ensures excused { RefusesExcused S.Store tx.old.conn.now tx.new.conn.now result IsEmpty }
 {
     up_to_caller(tx)?;
     run(tx, texts::last_change(), &[])
@@ -35,6 +38,7 @@ fn up_to_last_change<S: Alter>(tx: &mut Transaction<'_, S>) -> Result<(), Error>
 fn up_to_sysmod<S: Alter>(tx: &mut Transaction<'_, S>) -> Result<(), Error>
     ensures same { tx.new.conn.ghost_name ≡ tx.old.conn.ghost_name }
     ensures made { Turns S.Store tx.old.conn.now tx.new.conn.now result IsEmpty (IsMade 4 4) }
+    ensures excused { RefusesExcused S.Store tx.old.conn.now tx.new.conn.now result IsEmpty }
 {
     up_to_last_change(tx)?;
     run(tx, texts::sysmod(), &[])
@@ -43,6 +47,7 @@ fn up_to_sysmod<S: Alter>(tx: &mut Transaction<'_, S>) -> Result<(), Error>
 fn up_to_sysmod_sup<S: Alter>(tx: &mut Transaction<'_, S>) -> Result<(), Error>
     ensures same { tx.new.conn.ghost_name ≡ tx.old.conn.ghost_name }
     ensures made { Turns S.Store tx.old.conn.now tx.new.conn.now result IsEmpty (IsMade 5 5) }
+    ensures excused { RefusesExcused S.Store tx.old.conn.now tx.new.conn.now result IsEmpty }
 {
     up_to_sysmod(tx)?;
     run(tx, texts::sysmod_sup(), &[])
@@ -51,6 +56,7 @@ fn up_to_sysmod_sup<S: Alter>(tx: &mut Transaction<'_, S>) -> Result<(), Error>
 fn up_to_by_member<S: Alter>(tx: &mut Transaction<'_, S>) -> Result<(), Error>
     ensures same { tx.new.conn.ghost_name ≡ tx.old.conn.ghost_name }
     ensures made { Turns S.Store tx.old.conn.now tx.new.conn.now result IsEmpty (IsMade 5 6) }
+    ensures excused { RefusesExcused S.Store tx.old.conn.now tx.new.conn.now result IsEmpty }
 {
     up_to_sysmod_sup(tx)?;
     run(tx, texts::by_member(), &[])
@@ -59,6 +65,7 @@ fn up_to_by_member<S: Alter>(tx: &mut Transaction<'_, S>) -> Result<(), Error>
 fn up_to_hold_row<S: Alter>(tx: &mut Transaction<'_, S>) -> Result<(), Error>
     ensures same { tx.new.conn.ghost_name ≡ tx.old.conn.ghost_name }
     ensures made { Turns S.Store tx.old.conn.now tx.new.conn.now result IsEmpty (IsMade 6 7) }
+    ensures excused { RefusesExcused S.Store tx.old.conn.now tx.new.conn.now result IsEmpty }
 {
     up_to_by_member(tx)?;
     run(tx, texts::hold_row(), &[])
@@ -67,6 +74,7 @@ fn up_to_hold_row<S: Alter>(tx: &mut Transaction<'_, S>) -> Result<(), Error>
 fn up_to_zone_head<S: Alter>(tx: &mut Transaction<'_, S>) -> Result<(), Error>
     ensures same { tx.new.conn.ghost_name ≡ tx.old.conn.ghost_name }
     ensures made { Turns S.Store tx.old.conn.now tx.new.conn.now result IsEmpty (IsMade 7 8) }
+    ensures excused { RefusesExcused S.Store tx.old.conn.now tx.new.conn.now result IsEmpty }
 {
     up_to_hold_row(tx)?;
     run(tx, texts::zone_head(), &[])
@@ -75,6 +83,7 @@ fn up_to_zone_head<S: Alter>(tx: &mut Transaction<'_, S>) -> Result<(), Error>
 fn up_to_zone_row<S: Alter>(tx: &mut Transaction<'_, S>) -> Result<(), Error>
     ensures same { tx.new.conn.ghost_name ≡ tx.old.conn.ghost_name }
     ensures made { Turns S.Store tx.old.conn.now tx.new.conn.now result IsEmpty (IsMade 8 9) }
+    ensures excused { RefusesExcused S.Store tx.old.conn.now tx.new.conn.now result IsEmpty }
 {
     up_to_zone_head(tx)?;
     run(tx, texts::zone_row(), &[])
@@ -83,6 +92,7 @@ fn up_to_zone_row<S: Alter>(tx: &mut Transaction<'_, S>) -> Result<(), Error>
 fn up_to_received_list<S: Alter>(tx: &mut Transaction<'_, S>) -> Result<(), Error>
     ensures same { tx.new.conn.ghost_name ≡ tx.old.conn.ghost_name }
     ensures made { Turns S.Store tx.old.conn.now tx.new.conn.now result IsEmpty (IsMade 9 10) }
+    ensures excused { RefusesExcused S.Store tx.old.conn.now tx.new.conn.now result IsEmpty }
 {
     up_to_zone_row(tx)?;
     run(tx, texts::received_list(), &[])
@@ -91,6 +101,7 @@ fn up_to_received_list<S: Alter>(tx: &mut Transaction<'_, S>) -> Result<(), Erro
 fn up_to_sysmod_cond<S: Alter>(tx: &mut Transaction<'_, S>) -> Result<(), Error>
     ensures same { tx.new.conn.ghost_name ≡ tx.old.conn.ghost_name }
     ensures made { Turns S.Store tx.old.conn.now tx.new.conn.now result IsEmpty (IsMade 10 11) }
+    ensures excused { RefusesExcused S.Store tx.old.conn.now tx.new.conn.now result IsEmpty }
 {
     up_to_received_list(tx)?;
     run(tx, texts::sysmod_cond(), &[])
@@ -99,6 +110,7 @@ fn up_to_sysmod_cond<S: Alter>(tx: &mut Transaction<'_, S>) -> Result<(), Error>
 fn with_version<S: Alter>(tx: &mut Transaction<'_, S>) -> Result<(), Error>
     ensures same { tx.new.conn.ghost_name ≡ tx.old.conn.ghost_name }
     ensures made { Turns S.Store tx.old.conn.now tx.new.conn.now result IsEmpty (IsOpened []) }
+    ensures excused { RefusesExcused S.Store tx.old.conn.now tx.new.conn.now result IsEmpty }
 {
     up_to_sysmod_cond(tx)?;
     run(tx, write::insert_version(), &[])
@@ -108,7 +120,12 @@ fn with_version<S: Alter>(tx: &mut Transaction<'_, S>) -> Result<(), Error>
 pub fn create<S: Alter>(tx: &mut Transaction<'_, S>, callers: &[CallerRow]) -> Result<(), Error>
     ensures same { tx.new.conn.ghost_name ≡ tx.old.conn.ghost_name }
     ensures made { Turns S.Store tx.old.conn.now tx.new.conn.now result IsEmpty (IsOpened callers.now) }
+    ensures excused { AreFit callers.now
+        → RefusesExcused S.Store tx.old.conn.now tx.new.conn.now result IsEmpty }
 {
     with_version(tx)?;
-    load::callers(tx, callers)
+    for caller in callers {
+        insert::caller(tx, caller)?;
+    }
+    Ok(())
 }

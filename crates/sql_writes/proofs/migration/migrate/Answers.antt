@@ -1,8 +1,12 @@
-use Rattle.std.proofs.Common.{[]}
+use Rattle.std.proofs.Common.{◌≡◌, []}
+use Rattle.sqlite.specs.Held.{state}
+use Rattle.sql_state.specs.Earlier.{IsOfVersion1, held_by_version_1}
 use Rattle.sql_state.specs.Ours.{version_rows}
-use Rattle.sql_writes.specs.Migrating.{HeldEarlier, HoldsAll}
+use Rattle.sql_writes.specs.Migrating.{HeldEarlier, HoldsAll, IsWithoutVersion}
+use Rattle.sql_writes.proofs.ExcuseFacts.{excused_then, version_excused}
 use Rattle.sql_writes.proofs.MakeFacts.{leads_nowhere, leads_then}
-use Rattle.sql_writes.proofs.MigrateFacts.{version_comes_anew}
+use Rattle.sql_writes.proofs.MigrateFacts.{from_version_1, keys_once, version_comes_anew}
+use Rattle.sql_writes.proofs.RunFacts.{version_follows}
 use Rattle.sql_writes.proofs.migration.migrate.Goals as goal
 
 pub returns-in_err-without_version-clause-made : goal.returns-in_err-without_version-clause-made
@@ -13,3 +17,18 @@ pub returns-clause-made : goal.returns-clause-made
 returns-clause-made g c stored =
     leads_then _ _ _ tt _ (HeldEarlier stored) (HoldsAll [] stored) (HoldsAll (version_rows 2) stored) (c.in_ok-without_version.ensures.made stored)
     (version_comes_anew _ _ _ _ c.insert_version.ensures c.run.ensures.ran stored)
+
+pub returns-clause-excused : goal.returns-clause-excused
+returns-clause-excused g c =
+    let old = state g.S.Store c.args.tx.now.conn.now in
+    let stored = held_by_version_1 old.now in
+    excused_then old _ _ tt _ IsOfVersion1 (HoldsAll [] stored) (from_version_1 old _ _ (HoldsAll [] stored) (c.in_ok-without_version.ensures.made stored)) c.run.ensures.ran.survives
+    (version_excused _ _ _ _ (HoldsAll [] stored) (λ database is. is.known.schema) (keys_once [] stored) (λ database is. is.version) c.insert_version.ensures c.run.ensures.fails)
+
+pub returns-in_err-without_version-clause-done : goal.returns-in_err-without_version-clause-done
+returns-in_err-without_version-clause-done g c before =
+    leads_nowhere _ _ _ _ (λ database. database ≡ before) (IsWithoutVersion before) _ c.from_residual.ensures.0 (c.in_err-without_version.ensures.done before)
+
+pub returns-clause-done : goal.returns-clause-done
+returns-clause-done g c before =
+    leads_then _ _ _ tt _ (λ database. database ≡ before) (IsWithoutVersion before) _ (c.in_ok-without_version.ensures.done before) (version_follows _ _ _ _ before c.run.ensures.ran c.insert_version.ensures)

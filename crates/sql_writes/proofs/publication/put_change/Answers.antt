@@ -1,7 +1,6 @@
 use Rattle.std.proofs.Common.{ℕ, List, Ok, [], ◌∷◌, ap, ap₂, subst, sym, ◌∙◌}
 use Rattle.std.specs.Prelude.{map}
 use Rattle.catalogue.specs.declared.change.Change.{Change}
-use Rattle.catalogue.specs.declared.change.Change.TheVariants.{Whole}
 use Rattle.catalogue.specs.declared.conditional.CondNeed.{CondNeed}
 use Rattle.sqlite.specs.Held.{state}
 use Rattle.sqlite.specs.Order.{Row}

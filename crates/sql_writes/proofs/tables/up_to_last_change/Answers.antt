@@ -1,7 +1,10 @@
 use Rattle.std.proofs.Common.{refl}
 use Rattle.sql_texts.specs.Schema as schema
+use Rattle.sql_texts.specs.Schema.{made}
 use Rattle.sql_writes.specs.Making.{IsEmpty, IsMade}
+use Rattle.sql_writes.proofs.ExcuseFacts.{excused_then, table_excused}
 use Rattle.sql_writes.proofs.MakeFacts.{leads_nowhere, leads_then, table_comes}
+use Rattle.sql_writes.proofs.NewFacts.{last_change_is_new}
 use Rattle.sql_writes.proofs.tables.up_to_last_change.Goals as goal
 
 pub returns-in_err-up_to_caller-clause-made : goal.returns-in_err-up_to_caller-clause-made
@@ -11,3 +14,8 @@ pub returns-clause-made : goal.returns-clause-made
 returns-clause-made g c =
     leads_then _ _ _ tt _ IsEmpty (IsMade 2 2) _ c.in_ok-up_to_caller.ensures.made
     (table_comes (IsMade 2 2) 2 2 3 3 _ schema.last_change _ _ _ (λ database so_far. (so_far.schema, so_far.empty)) c.last_change.ensures refl refl refl c.run.ensures.ran)
+
+pub returns-clause-excused : goal.returns-clause-excused
+returns-clause-excused g c =
+    excused_then _ _ _ tt _ IsEmpty (IsMade 2 2) c.in_ok-up_to_caller.ensures.made c.run.ensures.ran.survives
+    (table_excused _ _ _ _ (IsMade 2 2) (made 2 2) (made 3 3) schema.last_change (λ database so_far. so_far.schema) c.last_change.ensures last_change_is_new refl c.run.ensures.fails)

@@ -1,7 +1,10 @@
 use Rattle.std.proofs.Common.{refl}
 use Rattle.sql_texts.specs.Schema as schema
+use Rattle.sql_texts.specs.Schema.{made}
 use Rattle.sql_writes.specs.Making.{IsEmpty, IsMade}
+use Rattle.sql_writes.proofs.ExcuseFacts.{excused_then, table_excused}
 use Rattle.sql_writes.proofs.MakeFacts.{leads_nowhere, leads_then, table_comes}
+use Rattle.sql_writes.proofs.NewFacts.{zone_head_is_new}
 use Rattle.sql_writes.proofs.tables.up_to_zone_head.Goals as goal
 
 pub returns-in_err-up_to_hold_row-clause-made : goal.returns-in_err-up_to_hold_row-clause-made
@@ -11,3 +14,8 @@ pub returns-clause-made : goal.returns-clause-made
 returns-clause-made g c =
     leads_then _ _ _ tt _ IsEmpty (IsMade 6 7) _ c.in_ok-up_to_hold_row.ensures.made
     (table_comes (IsMade 6 7) 6 7 7 8 _ schema.zone_head _ _ _ (λ database so_far. (so_far.schema, so_far.empty)) c.zone_head.ensures refl refl refl c.run.ensures.ran)
+
+pub returns-clause-excused : goal.returns-clause-excused
+returns-clause-excused g c =
+    excused_then _ _ _ tt _ IsEmpty (IsMade 6 7) c.in_ok-up_to_hold_row.ensures.made c.run.ensures.ran.survives
+    (table_excused _ _ _ _ (IsMade 6 7) (made 6 7) (made 7 8) schema.zone_head (λ database so_far. so_far.schema) c.zone_head.ensures zone_head_is_new refl c.run.ensures.fails)

@@ -3,7 +3,8 @@ use Rattle.sqlite.specs.Held.{state}
 use Rattle.sqlite.specs.State.{HasCleanDisk}
 use Rattle.sql_writes.specs.Making.{IsEmpty, IsOpened}
 use Rattle.bureau_sql.specs.SqlView.{shown}
-use Rattle.bureau_sql.proofs.FoundedFacts.{ours_made, tables_made}
+use Rattle.bureau_sql.proofs.FailingFacts.{fails_to_found}
+use Rattle.bureau_sql.proofs.FoundedFacts.{founded, ours_made, tables_made}
 use Rattle.bureau_sql.proofs.store.SqlStore.init.Goals as goal
 
 made : (g : _) (c : goal.After-over g) → HasCleanDisk (shown g.S.Store c.over.result)
@@ -20,3 +21,11 @@ returns-in-Ok-clause-ours g c = ours_made g.S.Store c.over.result c.args.callers
 
 pub returns-in-Ok-clause-tables : goal.returns-in-Ok-clause-tables
 returns-in-Ok-clause-tables g c = tables_made g.S.Store c.over.result c.args.callers.now c.callers.ensures (made g c)
+
+pub returns-in-Err-clause-failed : goal.returns-in-Err-clause-failed
+returns-in-Err-clause-failed g c =
+    fails_to_found (state g.S.Store c.args.conn) (state g.S.Store c.found.new.conn) c.args.callers.now c.in-Err.error _ c.refusal_of.ensures.memory c.in-Err.ensures.excused
+
+pub returns-in-Err-clause-stopped : goal.returns-in-Err-clause-stopped
+returns-in-Err-clause-stopped g c =
+    founded (state g.S.Store c.args.conn) (state g.S.Store c.found.new.conn) c.args.callers.now (λ here. (c.if-not-is_empty.ensures here).0 refl) c.in-Err.ensures.led.survives

@@ -2,11 +2,15 @@ use Rattle.std.proofs.Common.{IsTrue, subst, sym}
 use Rattle.sqlite.specs.Held.{state}
 use Rattle.sqlite.specs.State.{HasCleanDisk}
 use Rattle.sql_state.specs.Reading.{OnlyReads}
-use Rattle.bureau_sql.proofs.OpenFacts.{conditions_found, no_store, ours_opened}
+use Rattle.bureau_sql.proofs.OpenFacts.{conditions_found, no_earlier_store, no_store, ours_opened}
 use Rattle.bureau_sql.proofs.store.SqlStore.open.Goals as goal
 
 pub returns-in-Ok-clause-version : goal.returns-in-Ok-clause-version
 returns-in-Ok-clause-version g c clean = (c.in-Ok.ensures.version (subst (λ conn. HasCleanDisk (state g.S.Store conn)) c.over.ensures.same.0 clean)).has
+
+pub returns-in-Ok-clause-other : goal.returns-in-Ok-clause-other
+returns-in-Ok-clause-other g c clean earlier =
+    no_earlier_store _ (c.in-Ok.ensures.version (subst (λ conn. HasCleanDisk (state g.S.Store conn)) c.over.ensures.same.0 clean)) earlier
 
 pub returns-in-Ok-clause-found : goal.returns-in-Ok-clause-found
 returns-in-Ok-clause-found g c clean =

@@ -1,0 +1,414 @@
+-- What the rules of a database say against a statement: nothing, where what it makes is new and what it writes is sound.
+use Rattle.std.proofs.Common.{◌≡◌, ◌≢◌, ◌||◌, ◌≤◌, ◌<◌, ◌+◌, ◌^◌, ℕ, Bool, true, false, List, [], ◌∷◌, Option, Some, None, Ok, Err, length, refl, sym, ◌∙◌, ap, subst, inl, inr, arith, zero, suc, ℤ, pos, negsuc}
+use Rattle.std.specs.Prelude.{IsSome, IsUtf8, ◌/◌, ◌*◌, codes, nat_lt, slice_index, not, slice_get}
+use Rattle.std.specs.Char.{is_ascii}
+use Rattle.std.specs.List.{AllByRecursion, list_all}
+use Rattle.std.specs.Float.{NotNan}
+use Rattle.std.specs.Int.{bit_at}
+use lib.Ieee.{is_nan}
+use Rattle.std.proofs.lemmas.List.Elements.{All-from_recursion}
+use Rattle.std.proofs.lemmas.Nat.Bits.{bit_at-zero}
+use Rattle.std.proofs.lemmas.Bool.{and_parts, false≢true, ltb-true}
+use Rattle.std.proofs.lemmas.List.{length-append}
+use Rattle.std.proofs.lemmas.Str.{IsUtf8-from_ascii}
+use Rattle.sqlite.specs.Change.{created, indexed, next_tree}
+use Rattle.sqlite.specs.Compile.{index_defined_by, table_defined_by}
+use Rattle.sqlite.specs.Command.TheVariants.{CreateIndex, CreateTable, Insert}
+use Rattle.sqlite.specs.Does.{Concludes, Defines, Does, MakesIndex as IndexMade, MakesSequence, MakesTable as TableMade, OnRows, lacks_sequence}
+use Rattle.sqlite.specs.Effect.{Database, value_rows}
+use Rattle.sqlite.specs.Order.{Row}
+use Rattle.sqlite.specs.Rows.{Counter, Counts, Edited, Inserts, Queried, Sourced, Task, Written, count_of, rowids_for, stamped}
+use Rattle.sqlite.specs.Schema.{Schema}
+use Rattle.sqlite.specs.State.{State, mode_of}
+use Rattle.sqlite.specs.Source.TheVariants.{Values}
+use Rattle.sqlite.specs.Table.{Table}
+use Rattle.sqlite.specs.Term.{Term}
+use Rattle.sqlite.specs.Tree.{Trees}
+use Rattle.sqlite.specs.declared.error.Error.{Error}
+use Rattle.sqlite.specs.declared.run.Mode.{Mode}
+use Rattle.sqlite_catalog.specs.Calls.{RefusesIndex, RefusesTable}
+use Rattle.sqlite_catalog.specs.Change.{automatics, is_reserved, is_used}
+use Rattle.sqlite_catalog.specs.Listing.{is_fit, is_formed}
+use Rattle.sqlite_catalog.specs.declared.error.Refusal as alter
+use Rattle.sqlite_catalog.specs.declared.error.Refusal.TheVariants.{BadKey, BadName, BadText, Invalid, NameTaken, TooBig, Violates}
+use Rattle.sqlite_rules.specs.Action.{Leads, Writes, works}
+use Rattle.sqlite_rules.specs.Calls.{ids_of}
+use Rattle.sqlite_rules.specs.Edit.{Edit, IsOversized, IsRefused, are_fresh, edit_of, edited, numbered, taken_by}
+use Rattle.sqlite_rules.specs.Lists.{Has}
+use Rattle.sqlite_rules.specs.declared.error.Refusal.{Refusal}
+use Rattle.sqlite_rules.specs.declared.error.Refusal.TheVariants as rule
+use Rattle.sqlite_rules.specs.declared.error.Refusal.TheVariants.{BadReference, Mismatch, NoRowid, TooDeep}
+use Rattle.sqlite_rules.specs.declared.error.Rowids.{Rowids}
+use Rattle.sqlite_rules.specs.declared.error.Rowids.TheVariants.{Chosen, Given}
+use Rattle.sqlite_rules.proofs.ListLemmas.{all_has, test_has}
+use Rattle.sqlite_schema.specs.Rules.{Keeps, Refers, index_reals, passes, table_reals}
+use Rattle.sqlite_schema.specs.declared.schema.Among.TheVariants.{All}
+use Rattle.sqlite_schema.specs.declared.schema.Constraint.TheVariants.{Check, Datatype, ForeignKey, NotNull, PrimaryKey, Unique}
+use Rattle.sqlite_schema.specs.declared.schema.Index.{Index}
+use Rattle.sqlite_schema.specs.declared.schema.Keys.{Keys}
+use Rattle.sqlite_schema.specs.declared.schema.Keys.TheVariants.{Enforced}
+use Rattle.sqlite_typing.specs.Types.{accepts_terms}
+use Rattle.sqlite_trees.specs.Tree.{with_tree}
+use Rattle.sqlite_trees.specs.View.{IsStorable, IsStorableRow}
+use Rattle.sqlite.specs.Cast.{cast_row}
+use Rattle.sqlite.specs.Ops.{binary}
+use Rattle.sqlite_value.specs.Order.{number, value_cmp}
+use Rattle.sqlite_value.specs.declared.value.Value.TheVariants.{Int, Null, Text}
+use Rattle.sql_texts.specs.Meaning.{MakesIndex, MakesTable}
+use Rattle.sql_texts.specs.Reads.{from_table}
+use Rattle.sql_texts.specs.Schema.{bureau, bureau_version, indexes}
+use Rattle.sql_texts.specs.Writes.{delete_of}
+use Rattle.sql_writes.proofs.RefusalFacts.{gave, halts}
+use Rattle.sql_writes.proofs.StatementFacts.{cast_int, cast_null, on_table, same_value}
+
+-- ---- names that are new
+
+ascii_at : (text : List ℕ) → list_all is_ascii text ≡ true → (i : ℕ) → slice_index text i < 128
+ascii_at [] all i = omega arith
+ascii_at (b ∷ text) all zero = ltb-true b 128 (and_parts (is_ascii b) (list_all is_ascii text) all).0
+ascii_at (b ∷ text) all (suc i) = ascii_at text (and_parts (is_ascii b) (list_all is_ascii text) all).1 i
+
+ascii_utf8 : (text : List ℕ) → list_all is_ascii text ≡ true → IsUtf8 text
+ascii_utf8 text ascii = IsUtf8-from_ascii text (ascii_at text ascii)
+
+-- a table, or an index, whose names are used by nothing in the schema, and which has its key
+pub record IsNew (before : Schema) (table : Table) : Type 0 where
+  pub free : is_used before table.name ≡ false
+  pub keys_free : list_all (λ (index : Index). not (is_used before index.name)) (automatics (record table { tree = 0 }) 0 0 table.uniques) ≡ true
+  pub ascii : list_all is_ascii table.name ≡ true
+  pub own : is_reserved table.name ≡ false
+  pub short : nat_lt (length table.name) 1000 ≡ true
+  pub few : nat_lt (next_tree before + length table.uniques) 65536 ≡ true
+  pub reals : nat_lt (table_reals table) (2 ^ 64) ≡ true
+  pub keys_reals : list_all (λ key. nat_lt (index_reals (table_reals table) key) (2 ^ 64)) table.uniques ≡ true
+  pub formed : is_formed table ≡ true
+
+-- a test that fails where it passes
+pub both : {b : Bool} → b ≡ true → b ≡ false → ⊥
+both passes fails = false≢true (sym fails ∙ passes)
+
+below : {a b : ℕ} → nat_lt a b ≡ true → b ≤ a → ⊥
+below {a} {b} low high = let it = ltb-true a b low in omega (arith, it, high)
+
+module _ (before after : Schema) (text : List ℕ) (table : Table) (makes : MakesTable before text table after) (new : IsNew before table) where
+  same_table : (other : Table) → table_defined_by text ≡ Ok other → other ≡ record table { tree = 0 }
+  same_table other defined = same_value (sym defined ∙ makes.defined)
+
+  never_refused : (why : alter.Refusal) → RefusesTable before text why → ⊥
+  never_refused (Invalid e) it = let none = sym it ∙ makes.defined in cc
+  never_refused NameTaken it =
+      let same = same_table it.0 it.1 in
+      elim it.2 [
+        | inl used ↦ both (subst (λ (t : Table). is_used before t.name ≡ true) same used) new.free
+        | inr key ↦ both (test_has _ _ key.0 new.keys_free (subst (λ (t : Table). Has (automatics t 0 0 t.uniques) key.0) same key.1)) (ap not key.2)
+      ]
+  never_refused BadName it =
+      let same = same_table it.0 it.1 in
+      elim it.2 [
+        | inl odd ↦ odd (subst (λ (t : Table). IsUtf8 t.name) (sym same) (ascii_utf8 table.name new.ascii))
+        | inr reserved ↦ both (subst (λ (t : Table). is_reserved t.name ≡ true) same reserved.0) new.own
+      ]
+  never_refused TooBig it =
+      let same = same_table it.0 it.1 in
+      elim it.2 [
+        | inl many ↦ below new.few (subst (λ (t : Table). 65536 ≤ next_tree before + length t.uniques) same many)
+        | inr more ↦ elim more [
+          | inl wide ↦ below new.reals (subst (λ (t : Table). 2 ^ 64 ≤ table_reals t) same wide)
+          | inr key ↦ below (test_has _ _ key.0 new.keys_reals (subst (λ (t : Table). Has t.uniques key.0) same key.1)) (subst (λ (t : Table). 2 ^ 64 ≤ index_reals (table_reals t) key.0) same key.2)
+        ]
+      ]
+  never_refused BadKey it = both new.formed (subst (λ (t : Table). is_formed t ≡ false) (same_table it.0 it.1) it.2)
+  never_refused BadText it = both makes.listable.fit (subst (λ (t : Table). is_fit (Text (codes "table")) (Text t.name) (Text t.name) (Text text) ≡ false) (same_table it.0 it.1) it.2)
+  never_refused (Violates rule) it = it
+
+  never_stops : (db : Database) → db.schema ≡ before → (stop : Option Error) → TableMade text db (Err stop) → ⊥
+  never_stops db has None long =
+      let same = same_table long.0 long.1 in
+      let size = subst (λ (t : Table). 10 ^ 9 ≤ 2 * length t.name + length text + 200) same long.2 in
+      let text_short = ltb-true _ _ makes.listable.short in
+      let name_short = ltb-true _ _ new.short in
+      omega (arith, size, text_short, name_short)
+  never_stops db has (Some e) (inl odd) = odd.0 (ascii_utf8 text makes.listable.ascii)
+  never_stops db has (Some e) (inr refused) = never_refused refused.0 (subst (λ s. RefusesTable s text refused.0) has refused.1)
+
+  pub table_stops : (old : State) → old.now.schema ≡ before → lacks_sequence after ≡ false → (stop : Option Error)
+      → Does old.step_limit (mode_of old) [] old.now text None CreateTable (Err stop) → IsSome old.step_limit
+  table_stops old has unlacking stop h = absurd (halts h (λ s first. halts first (λ s′ made. never_stops old.now has s′ made) (λ on. sequenced s on.0 on.1 on.2)) (λ on. gave on.2))
+    where
+      sequenced : (s : Option Error) (made : Database) → TableMade text old.now (Ok made) → MakesSequence made (Err s) → ⊥
+      sequenced s made it more =
+          let schema : made.schema ≡ after = it.is ∙ ap (λ was. created was it.table) has ∙ ap (created before) (same_table it.table it.defined) ∙ makes.made in
+          let none : lacks_sequence made.schema ≡ false = ap lacks_sequence schema ∙ unlacking in
+          gave (rw none at more)
+
+-- ---- an index
+
+-- an index on a table whose name is used by nothing in the schema
+pub record IsNewIndex (before : Schema) (table : Table) (index : Index) : Type 0 where
+  pub free : is_used before index.name ≡ false
+  pub ascii : list_all is_ascii index.name ≡ true
+  pub table_ascii : list_all is_ascii table.name ≡ true
+  pub own : is_reserved index.name ≡ false
+  pub short : nat_lt (length index.name) 1000 ≡ true
+  pub table_short : nat_lt (length table.name) 1000 ≡ true
+  pub few : nat_lt (next_tree before) 65536 ≡ true
+  pub reals : nat_lt (table_reals table) (2 ^ 64) ≡ true
+  pub key_reals : nat_lt (index_reals (table_reals table) index.columns) (2 ^ 64) ≡ true
+
+-- no row breaks a rule where there are no rows
+keeps_empty : (schema : Schema) (db : Trees) (all : List Table) → AllByRecursion (λ t. db t.tree ≡ []) all
+    → AllByRecursion (λ t. AllByRecursion (λ row. passes Unique schema db t row ≡ true) (db t.tree)) all
+keeps_empty schema db [] empty = tt
+keeps_empty schema db (table ∷ all) empty = (subst (AllByRecursion (λ row. passes Unique schema db table row ≡ true)) (sym empty.0) tt, keeps_empty schema db all empty.1)
+
+module _ (before after : Schema) (text : List ℕ) (table_index : ℕ) (table : Table) (index : Index) (makes : MakesIndex before text table_index table index after)
+    (new : IsNewIndex before table index) (at : slice_get before.tables table_index ≡ Some table) (db : Database) (has : db.schema ≡ before)
+    (empty : AllByRecursion (λ t. db.trees t.tree ≡ []) before.tables) (no_rows : db.trees table.tree ≡ []) where
+  same_index : (other : Index) → index_defined_by table text ≡ Ok other → other ≡ record index { tree = 0 }
+  same_index other defined = same_value (sym defined ∙ makes.defined)
+
+  no_refusal : (why : alter.Refusal) → RefusesIndex before db.trees table text why → ⊥
+  no_refusal (Invalid e) it = let none = sym it ∙ makes.defined in cc
+  no_refusal NameTaken it = both (subst (λ (i : Index). is_used before i.name ≡ true) (same_index it.0 it.1) it.2) new.free
+  no_refusal BadName it =
+      let same = same_index it.0 it.1 in
+      elim it.2 [
+        | inl bad ↦ elim bad [
+          | inl odd ↦ odd (subst (λ (i : Index). IsUtf8 i.name) (sym same) (ascii_utf8 index.name new.ascii))
+          | inr reserved ↦ both (subst (λ (i : Index). is_reserved i.name ≡ true) same reserved.0) new.own
+        ]
+        | inr odd ↦ odd (ascii_utf8 table.name new.table_ascii)
+      ]
+  no_refusal TooBig it =
+      elim it.2 [
+        | inl many ↦ below new.few many
+        | inr more ↦ elim more [
+          | inl wide ↦ below new.reals wide
+          | inr key ↦ below new.key_reals (subst (λ (i : Index). 2 ^ 64 ≤ index_reals (table_reals table) i.columns) (same_index it.0 it.1) key)
+        ]
+      ]
+  no_refusal BadKey it = it
+  no_refusal BadText it =
+      both makes.listable.fit (subst (λ (i : Index). is_fit (Text (codes "index")) (Text i.name) (Text table.name) (Text text) ≡ false) (same_index it.0 it.1) it.2)
+  no_refusal (Violates rule) it = it.3 (keeps_empty (indexed before table it.0) db.trees before.tables empty)
+
+  no_stop : (stop : Option Error) → IndexMade text db table (Err stop) → ⊥
+  no_stop None long = elim long.2 [
+    | inl size ↦
+        let name = subst (λ (i : Index). 10 ^ 9 ≤ length i.name + length table.name + length text + 200) (same_index long.0 long.1) size in
+        let text_short = ltb-true _ _ makes.listable.short in
+        let name_short = ltb-true _ _ new.short in
+        let table_short = ltb-true _ _ new.table_short in
+        omega (arith, name, text_short, name_short, table_short)
+    | inr wide ↦ subst (λ rows. Has rows wide.0) no_rows wide.1
+  ]
+  no_stop (Some e) (inl odd) = odd.0 (ascii_utf8 text makes.listable.ascii)
+  no_stop (Some e) (inr refused) = no_refusal refused.0 (subst (λ s. RefusesIndex s db.trees table text refused.0) has refused.1)
+
+  pub index_stops : (limit : Option ℕ) (mode : Mode) (stop : Option Error) → Does limit mode [] db text None (CreateIndex table_index) (Err stop) → ⊥
+  index_stops limit mode stop h =
+      let here : slice_get db.schema.tables table_index ≡ Some table = ap (λ s. slice_get s.tables table_index) has ∙ at in
+      let made = on_table limit mode [] db table_index (λ task. Defines mode (IndexMade text db task.table)) table (Err stop) here h in
+      halts made (λ s first. no_stop s first) (λ on. gave on.2)
+
+-- ---- rows
+
+-- a step that no rule refuses, and that no foreign key follows
+edit_stops : (schema : Schema) (keys : Keys) (db : Trees) (edit : Edit) (why : Option Refusal) → works schema keys 0 edit.table.tree (taken_by db edit) edit.news ≡ []
+    → ((r : Refusal) → IsRefused schema keys db edit r → ⊥) → ((row : Row) → Has edit.news row → IsOversized schema edit.table row → ⊥) → Writes schema keys db edit (Err why) → ⊥
+edit_stops schema keys db edit why none sound small (inl refused) = sound refused.0 refused.1
+edit_stops schema keys db edit why none sound small (inr (inl big)) = small big.0 big.1 big.2
+edit_stops schema keys db edit why none sound small (inr (inr went)) = settled went.2.0 (rw none at went.2.1)
+  where
+    settled : (n : ℕ) → Leads schema keys n went.0 [] (Err why) → ⊥
+    settled zero h = let e = h.1 in cc
+    settled (suc n) h = absurd (omega (arith, ap length h.2, length-append h.0 (h.1 ∷ [])))
+
+-- no table of the bureau has a foreign key
+all_hold : {X : Type 0} (xs : List X) → AllByRecursion (λ x. ◌≡◌ {A = Bool} true true) xs
+all_hold [] = tt
+all_hold (x ∷ xs) = (refl, all_hold xs)
+
+refers : (db : Trees) → Refers All bureau db
+refers db = (all_hold (db 0), (all_hold (db 1), (all_hold (db 4), (all_hold (db 6), (all_hold (db 8), (all_hold (db 11), (all_hold (db 13), (all_hold (db 15), (all_hold (db 17), (all_hold (db 19), tt))))))))))
+
+concluded : {P : Type 0} (task : Task) (old : State) (written : Written) (stop : Option Error) → task.schema ≡ bureau → Concludes task (mode_of old) None written (Err stop) → P
+concluded task old written stop ours h =
+    absurd (halts h (λ s tested. tested.0 (subst (λ schema. Refers All schema written.trees) (sym ours) (refers written.trees))) (λ on. halts on.2 (λ s shows. gave shows) (λ rows. gave rows.2)))
+
+-- an edit that no rule refuses, of rows that can be stored
+pub record IsSound (db : Trees) (edit : Edit) : Type 0 where
+  pub free : works bureau Enforced 0 edit.table.tree (taken_by db edit) edit.news ≡ []
+  pub ruled : (r : Refusal) → IsRefused bureau Enforced db edit r → ⊥
+  pub small : (row : Row) → Has edit.news row → IsOversized bureau edit.table row → ⊥
+
+unedited : {P : Type 0} (db : Trees) (edit : Edit) (stop : Option Error) → IsSound db edit → Edited bureau Enforced db edit (Err stop) → P
+unedited db edit stop sound h = absurd (edit_stops bureau Enforced db edit h.0 sound.free sound.ruled sound.small h.1)
+
+-- ---- INSERT
+
+module _ (old : State) (text : List ℕ) (table_index : ℕ) (table : Table) (terms : List Term) (width : ℕ) (params : Row) (rows : List Row) (ours : old.now.schema ≡ bureau)
+    (at : slice_get bureau.tables table_index ≡ Some table) (uncounted : table.is_counted ≡ false) (accepted : accepts_terms terms (stamped table params) ≡ true)
+    (source : value_rows (stamped table params) width (length terms / width) terms ≡ rows) (sound : IsSound old.now.trees (edit_of old.now.trees table [] Chosen 0 rows)) where
+  abbrev task : Task
+  task = record { limit = old.step_limit; keys = Enforced; schema = bureau; table = table; params = params }
+
+  unsourced : (stop : Option Error) → Sourced old.step_limit (record { schema = bureau; trees = old.now.trees }) (stamped table params) (Values terms width) (Err stop) → IsSome old.step_limit
+  unsourced None none = absurd none
+  unsourced (Some e) (inl mismatch) = absurd (both accepted mismatch.1)
+  unsourced (Some e) (inr limited) = limited.1
+
+  chosen : (top : ℤ) → rowids_for table top ≡ Chosen
+  chosen top = rw uncounted
+
+  uncounted_stop : {P : Type 0} (stop : Option Error) → Counter task old.now.trees (Err stop) → P
+  uncounted_stop stop h = gave (rw uncounted at h)
+
+  uncounts : {P : Type 0} (mid : Trees) (counter : Option Row) (top : ℤ) (stop : Option Error) → Counts task mid counter top (Err stop) → P
+  uncounts mid counter top stop h = gave (rw uncounted at h)
+
+  unwritten : (stop : Option Error) → Inserts task (Values terms width) old.now.trees (Err stop) → IsSome old.step_limit
+  unwritten stop h = halts h (λ s from. unsourced s from) (λ given. halts given.2 (λ s counter. uncounted_stop s counter) (λ counted. halts counted.2
+      (λ s edits. unedited old.now.trees (edit_of old.now.trees table [] Chosen 0 rows) s sound
+      (subst (λ (r : Rowids). Edited bureau Enforced old.now.trees (edit_of old.now.trees table [] r 0 rows) (Err s)) (chosen (count_of counted.0))
+      (subst (λ all. Edited bureau Enforced old.now.trees (edit_of old.now.trees table [] (rowids_for table (count_of counted.0)) 0 all) (Err s)) (given.1.1 ∙ source) edits)))
+      (λ mid. halts mid.2 (λ s counts. uncounts mid.0 counted.0 _ s counts) (λ next. gave next.2))))
+
+  pub insert_stops : (stop : Option Error) → Does old.step_limit (mode_of old) params old.now text None (Insert table_index (Values terms width)) (Err stop) → IsSome old.step_limit
+  insert_stops stop h =
+      let here = subst (λ s. Does old.step_limit (mode_of old) params (record old.now { schema = s }) text None (Insert table_index (Values terms width)) (Err stop)) ours h in
+      let on = on_table old.step_limit (mode_of old) params (record old.now { schema = bureau }) table_index (λ task. OnRows task (mode_of old) None (Insert table_index (Values terms width)) old.now.trees) table (Err stop) at here in
+      halts on (λ s writes. unwritten s writes) (λ written. concluded task old written.0 stop refl written.2)
+
+-- ---- DELETE, of the row of the version
+
+-- rows that go break no rule of the version's table, which has no key of its own
+keeps_version : (db : Trees) (rows : List Row) → Keeps Unique bureau db → Keeps Unique bureau (with_tree db 0 rows)
+keeps_version db rows keeps = (all_pass rows, keeps.1)
+  where
+    all_pass : (rows : List Row) → AllByRecursion (λ row. passes Unique bureau (with_tree db 0 rows) bureau_version row ≡ true) rows
+    all_pass [] = tt
+    all_pass (row ∷ rows) = (refl, all_pass rows)
+
+gone_soundly : (db : Trees) (ids : List ℤ) → Keeps Unique bureau db → IsSound db (edit_of db bureau_version ids Given 0 [])
+gone_soundly db ids keeps = record { free = refl; ruled = ruled; small = λ row none. absurd none }
+  where
+    edit : Edit
+    edit = edit_of db bureau_version ids Given 0 []
+
+    or_true : (b : Bool) → (b || true) ≡ true
+    or_true true = refl
+    or_true false = refl
+
+    ruled : (r : Refusal) → IsRefused bureau Enforced db edit r → ⊥
+    ruled (rule.Violates Datatype) fails = false≢true (sym fails)
+    ruled (rule.Violates NotNull) fails = false≢true (sym fails)
+    ruled (rule.Violates Check) fails = false≢true (sym fails)
+    ruled (rule.Violates PrimaryKey) fails = false≢true (sym fails)
+    ruled (rule.Violates Unique) fails = fails (keeps_version db (edited db edit) keeps)
+    ruled (rule.Violates ForeignKey) fails = fails
+    ruled Mismatch fails = false≢true (sym fails)
+    ruled NoRowid fails = false≢true (sym fails)
+    ruled BadReference fails = false≢true (sym fails ∙ or_true (not (nat_lt 0 (length ids))))
+    ruled TooDeep fails = fails
+
+pub delete_stops : (old : State) (text : List ℕ) → old.now.schema ≡ bureau → Keeps Unique bureau old.now.trees → (stop : Option Error)
+    → Does old.step_limit (mode_of old) [] old.now text None (delete_of 0 0 []) (Err stop) → IsSome old.step_limit
+delete_stops old text ours keeps stop h =
+    let here = subst (λ s. Does old.step_limit (mode_of old) [] (record old.now { schema = s }) text None (delete_of 0 0 []) (Err stop)) ours h in
+    let on = on_table old.step_limit (mode_of old) [] (record old.now { schema = bureau }) 0 (λ task. OnRows task (mode_of old) None (delete_of 0 0 []) old.now.trees) bureau_version (Err stop) refl here in
+    halts on (λ s writes. halts writes (λ s′ asked. unasked s′ asked) (λ found. halts found.2 (λ s′ edits. unedited old.now.trees _ s′ (gone_soundly old.now.trees (ids_of found.0) keeps) edits) (λ done. gave done.2)))
+    (λ written. concluded (record { limit = old.step_limit; keys = Enforced; schema = bureau; table = bureau_version; params = [] }) old written.0 stop refl written.2)
+  where
+    unasked : (s : Option Error) → Queried old.step_limit (record { schema = bureau; trees = old.now.trees }) (record { lets = []; body = from_table 0 [] (0 ∷ []) [] }) [] (Err s) → IsSome old.step_limit
+    unasked None none = absurd none
+    unasked (Some e) (inl mismatch) = absurd (false≢true (sym mismatch.1))
+    unasked (Some e) (inr (inl overflows)) = absurd (elim overflows.1 [ inl none ↦ none | inr some ↦ some.4 ])
+    unasked (Some e) (inr (inr limited)) = limited.1
+
+-- ---- a row that can be stored
+
+pub whole_number : (n : ℤ) → NotNan (number (Int n))
+unfolding is_nan
+whole_number (pos n) = tt
+whole_number (negsuc n) = tt
+
+pub plain_text : (t : List ℕ) → NotNan (number (Text t))
+unfolding is_nan
+plain_text t = tt
+
+no_value : NotNan (number Null)
+unfolding is_nan
+no_value = tt
+
+-- the columns of no table here are REAL
+pub untyped : (c : ℕ) → bit_at 0 c ≡ 1 → ⊥
+untyped c one = let none = bit_at-zero c in omega (arith, one, none)
+
+-- ---- the version
+
+abbrev version_row : Row
+version_row = Int (pos 1) ∷ Null ∷ Int (pos 2) ∷ []
+
+version_fits : (db : Trees) → Keeps Unique bureau db → db 0 ≡ [] → IsSound db (record { table = bureau_version; gone = []; news = version_row ∷ [] })
+unfolding binary value_cmp is_nan lib.Ieee.lt
+version_fits db keeps none = record { free = refl; ruled = ruled; small = small }
+  where
+    fresh : are_fresh (db 0) (version_row ∷ []) ≡ true
+    fresh = ap (λ rows. are_fresh rows (version_row ∷ [])) none
+
+    ruled : (r : Refusal) → IsRefused bureau Enforced db (record { table = bureau_version; gone = []; news = version_row ∷ [] }) r → ⊥
+    ruled (rule.Violates Datatype) fails = false≢true (sym fails)
+    ruled (rule.Violates NotNull) fails = false≢true (sym fails)
+    ruled (rule.Violates Check) fails = false≢true (sym fails)
+    ruled (rule.Violates PrimaryKey) fails = both fresh fails
+    ruled (rule.Violates Unique) fails = fails (keeps_version db (edited db (record { table = bureau_version; gone = []; news = version_row ∷ [] })) keeps)
+    ruled (rule.Violates ForeignKey) fails = fails
+    ruled Mismatch fails = false≢true (sym fails)
+    ruled NoRowid fails = false≢true (sym fails)
+    ruled BadReference fails = false≢true (sym fails)
+    ruled TooDeep fails = fails
+
+    storable : IsStorable (table_reals bureau_version) version_row
+    storable = record {
+      typed = λ c one. absurd (untyped c one);
+      columns = (omega arith, omega arith);
+      numbers = All-from_recursion (λ v. NotNan (number v)) version_row (whole_number (pos 1), (no_value, (whole_number (pos 2), tt)));
+      short = omega arith;
+    }
+
+    small : (row : Row) → Has (version_row ∷ []) row → IsOversized bureau bureau_version row → ⊥
+    small row (inl same) (inl big) = big (subst (IsStorableRow (table_reals bureau_version)) (sym same) (storable, omega arith))
+    small row (inl same) (inr key) = all_has (λ (i : Index). i.table ≢ 0) indexes key.0 (
+      (λ e. omega (arith, e)),
+      (
+        (λ e. omega (arith, e)),
+        (
+          (λ e. omega (arith, e)),
+          (
+            (λ e. omega (arith, e)),
+            (
+              (λ e. omega (arith, e)),
+              (
+                (λ e. omega (arith, e)),
+                (
+                  (λ e. omega (arith, e)),
+                  (
+                    (λ e. omega (arith, e)),
+                    ((λ e. omega (arith, e)), ((λ e. omega (arith, e)), ((λ e. omega (arith, e)), tt))),
+                  ),
+                ),
+              ),
+            ),
+          ),
+        ),
+      ),
+    ) key.1 key.2
+    small row (inr none) big = absurd none
+
+cast_version : cast_row bureau_version version_row ≡ version_row
+cast_version = λ i. cast_int (pos 1) i ∷ cast_null i ∷ cast_int (pos 2) i ∷ []
+
+pub version_sound : (db : Trees) → Keeps Unique bureau db → db 0 ≡ [] → IsSound db (edit_of db bureau_version [] Chosen 0 (version_row ∷ []))
+version_sound db keeps none =
+    subst (λ row. IsSound db (record { table = bureau_version; gone = []; news = numbered Chosen (db 0) (row ∷ []) })) (sym cast_version) (version_fits db keeps none)

@@ -1,0 +1,17 @@
+-- What excuses that a statement of a transaction is refused, where its text is right and its values keep to the rules of the
+-- tables.
+use Rattle.std.specs.Prelude.{◌≡◌, ◌⊎◌, IfErr, IsSome, IsTrue, Result}
+use Rattle.sqlite.specs.Effect.{Database}
+use Rattle.sqlite.specs.State.{HasCleanDisk, State, store_error}
+use Rattle.sqlite.specs.declared.error.Error.{Error}
+use Rattle.sqlite_trees.specs.declared.error.StoreError.TheVariants.{OutOfMemory}
+use Rattle.sql_state.specs.Reading.{HasFailed}
+
+-- Memory ran out. Or the device has failed since, or the connection was shut. Or a statement may take only so many steps.
+abbrev pub Excuses : State → State → Error → Type 0
+Excuses old new error = (error ≡ store_error OutOfMemory) ⊎ (HasFailed old new ⊎ IsSome old.step_limit)
+
+-- a refusal has such an excuse, where the transaction saw such a database
+abbrev pub IsExcused : {Answer : Type 0} → State → State → Result Answer Error → (Database → Type 0) → Type 0
+IsExcused old new result From =
+    IfErr result (λ error. HasCleanDisk new → IsTrue old.in_transaction → From old.now → Excuses old new error)
