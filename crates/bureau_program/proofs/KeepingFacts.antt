@@ -1,5 +1,5 @@
 -- From what a connection finds in the files of a store to what a stop leaves of them.
-use Rattle.std.proofs.Common.{◌≡◌, ◌∙◌, ◌+◌, ◌++◌, ◌∷◌, ℕ, List, Option, None, Some, [], ap, append-nil, arith, inl, inr, length, refl, subst, sym}
+use Rattle.std.proofs.Common.{◌≡◌, ◌⊎◌, ◌∙◌, ◌+◌, ◌++◌, ◌∷◌, ℕ, List, Option, None, Some, [], ap, append-nil, arith, inl, inr, length, refl, subst, sym}
 use Rattle.std.proofs.Math.Logic.{∥∥₁_map}
 use Rattle.bureau_store.specs.Tables.{AreInOrder, Tables}
 use Rattle.bureau_store.specs.declared.caller.CallerRow.{CallerRow}
@@ -11,10 +11,10 @@ use Rattle.bureau.specs.Kept.{IsWithOneRefused, MayBeLeft, Rests}
 use Rattle.bureau.specs.Runs.{IsLawfulRun}
 use Rattle.bureau_http.specs.Arrivals.{AreHeard, AreMade, Arrival, Event, Logs}
 use Rattle.bureau_http.specs.Service.{AreServed, IsSound}
-use Rattle.bureau_sql.specs.Files.{HoldTables, HoldTrees, HoldsStore}
+use Rattle.bureau_sql.specs.Files.{HoldTables, HoldTrees, HoldsEarlier, HoldsStore}
 use Rattle.bureau_sql.specs.SqlState.{SqlState}
 use Rattle.bureau_sql.specs.SqlView.{IsAtRest, IsOurStore, shown, sql_view}
-use Rattle.bureau_sql.proofs.FilesFacts.{store_found}
+use Rattle.bureau_sql.proofs.FilesFacts.{earlier_found, store_found}
 use Rattle.chain_cache.specs.Cache.{CacheLists, IsRightFor}
 use Rattle.faults.specs.declared.any.AnyFault.{AnyFault}
 use Rattle.sql_state.specs.Ours.{AreOurs, IsOurs, held_by}
@@ -26,20 +26,21 @@ use Rattle.sql_tables.proofs.ChangeFacts.{tables_in_order}
 use Rattle.sqlite_disk.specs.declared.Disk as disk
 use Rattle.sqlite_store.specs.FileStore.{view}
 use Rattle.sqlite_store.specs.declared.store.FileStore.{FileStore}
+use Rattle.sqlite_trees.specs.Tree.{Trees}
 use Rattle.sqlite_trees.specs.View.{IsClean}
 use Rattle.sqlite_wal.specs.Recovery.{Image}
-use Rattle.sqlite.specs.Files.{file_state, over_files}
+use Rattle.sqlite.specs.Files.{HoldsDatabase, file_state, over_files}
 use Rattle.sqlite.specs.Held.{Held}
 use Rattle.sqlite.specs.State.{HasCleanDisk}
 use Rattle.bureau_program.specs.Desk.{HasOpened, of_store}
 use Rattle.bureau_program.specs.Ended.{HasEnded, HasFound, IsEndOf, IsLeftOver}
-use Rattle.bureau_program.specs.Keeping.{IsServedFrom, KeepsServed, Leaves, MayFollow}
+use Rattle.bureau_program.specs.Keeping.{EndsWell, HasNoTables, IsServedFrom, KeepsEarlier, KeepsServed, Leaves, MayFollow}
 use Rattle.bureau_program.specs.Replay.{IsAlwaysRight}
 use Rattle.bureau_program.specs.Serving.{IsServeOutput, IsServedOver, Session, desk_ends, desk_over, file_ends, store_ends}
 use Rattle.bureau_program.specs.declared.ended.Ended.{Ended}
 use Rattle.bureau_program.specs.declared.ended.Ended.TheVariants.{Nothing, Left, Closed}
 use Rattle.bureau_program.proofs.EndFacts.{left_of}
-use Rattle.bureau_program.proofs.StayFacts.{kept_tables}
+use Rattle.bureau_program.proofs.StayFacts.{earlier_stays, kept_earlier, kept_tables}
 
 pub in_order : (from : Image) (before : Tables) → HoldsStore from before → AreInOrder before
 in_order from before holds = subst AreInOrder holds.tables (tables_in_order (stored_in holds.trees))
@@ -222,9 +223,42 @@ module _ {D : Type 0} {g : disk.Ghosts D} (session : Session) (from : Image) (fo
       nothing_served before session.log session.log_after (Some fault) (Leaves from (Closed last)) did.3
       (refused_from from before holds found finds did.0 left did.1 last ends still)
 
+-- a store of version 1 is not opened, so it is only read
+module _ {D : Type 0} {g : disk.Ghosts D} (session : Session) (from : Image) (found left : Held (FileStore D g)) (finds : HasFound from found)
+    (last : FileStore D g) (ends : HasEnded left last) where
+  not_earlier : (before : Tables) → HoldsEarlier from before → (opened : SqlState (FileStore D g)) → HasOpened over_files (file_state found) opened → HasCleanDisk (shown over_files opened) → ⊥
+  not_earlier before holds opened has clean =
+      let was = was_clean (file_state found) (shown over_files opened) (λ trees. ⊥) has.reads.survives clean in
+      let live = finds.opened was in
+      has.other clean (earlier_found from (file_state found).committed before (live.1 live.0.is_open).1 (finds.found was).holds holds).0
+
+  closing_clean : IsClean (view last) → (closing : SqlState (FileStore D g)) → left ≡ closing.conn → HasCleanDisk (shown over_files closing)
+  closing_clean still closing is = subst (λ (conn : Held (FileStore D g)). HasCleanDisk (file_state conn)) is (ends.clean still)
+
+  earlier_never : (before : Tables) → HoldsEarlier from before → IsClean (view last)
+      → (store_ends over_files session found left).served ⊎ ((store_ends over_files session found left).failed ⊎ (store_ends over_files session found left).unserved) → ⊥
+  earlier_never before holds still (inl over) =
+      not_earlier before holds over.opened over.has_opened (over.did.1.did.goes.clean (closing_clean still over.closing over.after_is))
+  earlier_never before holds still (inr (inl over)) =
+      not_earlier before holds over.opened over.has_opened (over.did.1.did.goes.clean (closing_clean still over.closing over.after_is))
+  earlier_never before holds still (inr (inr over)) =
+      let is = over.after_is ∙ ap (λ (store : SqlState (FileStore D g)). store.conn) over.did.0 in
+      not_earlier before holds over.opened over.has_opened (closing_clean still over.opened is)
+
+  earlier_read : (refused : StoreFault) → (store_ends over_files session found left).refused refused → KeepsEarlier from (Closed last)
+  earlier_read refused did = earlier_stays from (Closed last) (λ now. ⊥) (λ trees holds still image may.
+      let clean = was_clean (file_state found) (file_state left) (λ trees. ⊥) did.1.survives (ends.clean still) in
+      let is_open = (finds.opened clean).0.is_open in
+      ∥∥₁_map (left_of from left last ends still image may) (λ it.
+      let same : it.0 ≡ (file_state found).committed.trees = elim (did.1.survives.crash (ends.clean still) it.0 it.2) [
+        | inl was ↦ did.0 it.0 is_open was
+        | inr none ↦ absurd none
+      ] in
+      let r : (now : Trees) × HoldsDatabase image now × ((now ≡ trees) ⊎ (HasNoTables trees × ⊥)) = (it.0, it.1, inl (same ∙ (finds.found clean).holds trees holds)) in r))
+
 module _ {D : Type 0} {g : disk.Ghosts D} (session : Session) (from : Image) where
   closed_so : (last : FileStore D g) (outcome : Option AnyFault) (port : ℕ) (old new : Option (List ℕ)) → IsServeOutput (file_ends session from (Closed last)) outcome port old new
-      → KeepsServed from session.log session.log_after outcome (Closed last)
+      → EndsWell from (Closed last) → (before : Tables) → HoldsStore from before → IsServedFrom before session.log session.log_after outcome (Leaves from (Closed last))
   unfolding kept_over
   closed_so last None port old new output well before holds =
       let used = output.0 in kept_all session from used.found used.left used.finds last used.ends well before holds used.used
@@ -235,6 +269,18 @@ module _ {D : Type 0} {g : disk.Ghosts D} (session : Session) (from : Image) whe
   closed_so last (Some fault) port old new (inr (inr ((refused, is, inl not), keeps))) well before holds = absurd not.0.left
   closed_so last (Some fault) port old new (inr (inr ((refused, is, inr used), keeps))) well before holds =
       kept_refused session from used.found used.left used.finds last used.ends well before holds fault refused used.used
+
+  closed_earlier : (last : FileStore D g) (outcome : Option AnyFault) (port : ℕ) (old new : Option (List ℕ)) → IsServeOutput (file_ends session from (Closed last)) outcome port old new
+      → KeepsEarlier from (Closed last)
+  closed_earlier last None port old new output before holds well =
+      let used = output.0 in absurd (earlier_never session from used.found used.left used.finds last used.ends before holds well (inl used.used))
+  closed_earlier last (Some fault) port old new (inl device) before holds well =
+      let used = device.1 in absurd (earlier_never session from used.found used.left used.finds last used.ends before holds well (inr (inl used.used)))
+  closed_earlier last (Some fault) port old new (inr (inl unheard)) before holds well =
+      let used = unheard.0 in absurd (earlier_never session from used.found used.left used.finds last used.ends before holds well (inr (inr used.used)))
+  closed_earlier last (Some fault) port old new (inr (inr ((refused, is, inl not), keeps))) before holds well = absurd not.0.left
+  closed_earlier last (Some fault) port old new (inr (inr ((refused, is, inr used), keeps))) before holds well =
+      earlier_read session from used.found used.left used.finds last used.ends refused used.used before holds well
 
   -- where no connection could be made
   NotMade : Ended D g → Type 0
@@ -251,12 +297,16 @@ module _ {D : Type 0} {g : disk.Ghosts D} (session : Session) (from : Image) whe
 
   unopened_so : (ended : Ended D g) (outcome : Option AnyFault) → NotMade ended → KeepsServed from session.log session.log_after outcome ended
   unfolding NotMade
-  unopened_so ended outcome not well before holds =
-      nothing_served before session.log session.log_after outcome (Leaves from ended) not.1 (kept_tables from ended not.0 before holds well)
+  unopened_so ended outcome not = record {
+    served = λ well before holds.
+        nothing_served before session.log session.log_after outcome (Leaves from ended) not.1 (kept_tables from ended not.0 before holds well);
+    earlier = kept_earlier from ended not.0;
+  }
 
   -- A run of `serve`, however it ended.
   pub kept_served : (ended : Ended D g) (outcome : Option AnyFault) (port : ℕ) (old new : Option (List ℕ)) → IsServeOutput (file_ends session from ended) outcome port old new
       → KeepsServed from session.log session.log_after outcome ended
   kept_served Nothing outcome port old new output = unopened_so Nothing outcome (not_made Nothing (λ conn none. none) outcome port old new output)
   kept_served (Left it) outcome port old new output = unopened_so (Left it) outcome (not_made (Left it) (λ conn none. none) outcome port old new output)
-  kept_served (Closed last) outcome port old new output = closed_so last outcome port old new output
+  kept_served (Closed last) outcome port old new output =
+      record { served = closed_so last outcome port old new output; earlier = closed_earlier last outcome port old new output }

@@ -5,7 +5,7 @@ use Rattle.faults.specs.declared.any.AnyFault.{AnyFault}
 use Rattle.bureau_store.specs.Tables.{Tables, opened}
 use Rattle.bureau_sql.specs.Files.{HoldTrees, HoldsEarlier, HoldsStore}
 use Rattle.bureau_sql.specs.SqlView.{IsAtRest}
-use Rattle.bureau_sql.proofs.FilesFacts.{earlier_found}
+use Rattle.bureau_sql.proofs.FilesFacts.{earlier_found, store_found}
 use Rattle.bureau_sql.specs.Migrated.{AreMigrated}
 use Rattle.sql_state.specs.Earlier.{AreOfVersion1, IsOfVersion1, held_by_version_1}
 use Rattle.sql_state.specs.Ours.{AreOurs, IsOurs, version_rows}
@@ -27,13 +27,13 @@ use Rattle.sqlite.specs.Held.{Held}
 use Rattle.sqlite.specs.State.{HasCleanDisk, Survives}
 use Rattle.bureau_program.specs.Desk.{AreFoundedBy, InitSurvives, IsInitLeft, LeavesMade}
 use Rattle.bureau_program.specs.Ended.{HasEnded, HasFound, IsLeftOver, IsUsed}
-use Rattle.bureau_program.specs.Keeping.{AreMadeFor, HasNoTables, HoldCallers, Keeps, KeepsMade, KeepsMigrated, Leaves}
+use Rattle.bureau_program.specs.Keeping.{AreMadeFor, HasNoTables, HoldCallers, Keeps, KeepsMade, KeepsMigrated, KeepsTables, Leaves}
 use Rattle.bureau_program.specs.Migrating.{IsMigrateLeft, LeavesMigrated}
 use Rattle.bureau_program.specs.declared.ended.Ended.{Ended}
 use Rattle.bureau_program.specs.declared.ended.Ended.TheVariants.{Nothing, Left, Closed}
 use Rattle.bureau_program.proofs.EndFacts.{left_of}
 use Rattle.bureau_program.proofs.LeftFacts.{found_nothing}
-use Rattle.bureau_program.proofs.StayFacts.{earlier_stays, kept_earlier, store_stays}
+use Rattle.bureau_program.proofs.StayFacts.{earlier_stays, kept_earlier, kept_tables, store_stays}
 
 -- ---- init
 
@@ -189,7 +189,29 @@ earlier_left : {D : Type 0} {g : disk.Ghosts D} (from : Image) (outcome : Option
 earlier_left from outcome ended other of = record {
   earlier = λ before holds well left may. ∥∥₁_map (kept_earlier from ended of before holds well left may) inl;
   brought = λ none. absurd (other none);
+  store = kept_tables from ended of;
 }
+
+-- a store of version 2 is not taken
+module _ {D : Type 0} {g : disk.Ghosts D} (from : Image) (found left : Held (FileStore D g)) (finds : HasFound from found) (rests : IsAtRest (file_state found))
+    (stopped : Survives (file_state found) (file_state left) (AreMigrated (file_state found))) (last : FileStore D g) (ends : HasEnded left last) where
+  store_kept : KeepsTables from (Closed last)
+  store_kept before holds still image may =
+      let clean = was_clean (file_state found) (file_state left) (AreMigrated (file_state found)) stopped (ends.clean still) in
+      let opened = finds.opened clean in
+      let there = store_found from (file_state found).committed before (opened.1 opened.0.is_open).1 (finds.found clean).holds holds in
+      ∥∥₁_map (left_of from left last ends still image may) (λ it.
+      let same : it.0 ≡ (file_state found).committed.trees = elim (stopped.crash (ends.clean still) it.0 it.2) [
+        | inl was ↦ rests it.0 opened.0.is_open was
+        | inr made ↦ absurd (made.other there.0)
+      ] in
+      let store : HoldsStore image before = record {
+        trees = it.0;
+        held = it.1;
+        ours = subst AreOurs (sym same) there.0.rows;
+        tables = ap (λ trees. tables_of (stored_in trees)) same ∙ there.1;
+      } in
+      let r : (this : Tables) × HoldsStore image this × (this ≡ before) = (before, store, refl) in r)
 
 closed_left : {D : Type 0} {g : disk.Ghosts D} (from : Image) (outcome : Option AnyFault) (last : FileStore D g)
     → (used : IsUsed from (λ found left. IsAtRest (file_state found) × IsMigrateLeft outcome (file_state found) (file_state left) × Survives (file_state found) (file_state left) (AreMigrated (file_state found))) (Closed last))
@@ -197,6 +219,7 @@ closed_left : {D : Type 0} {g : disk.Ghosts D} (from : Image) (outcome : Option 
 closed_left from outcome last used = record {
   earlier = λ before holds still. either_left from before holds used.found used.left used.finds used.used.0 used.used.2 last used.ends still;
   brought = λ none before holds still. brought from before holds used.found used.left used.finds used.used.0 used.used.2 last used.ends still outcome used.used.1 none;
+  store = store_kept from used.found used.left used.finds used.used.0 used.used.2 last used.ends;
 }
 
 pub kept_migrated : {D : Type 0} {g : disk.Ghosts D} (from : Image) (outcome : Option AnyFault) (ended : Ended D g) → LeavesMigrated from outcome ended → KeepsMigrated from outcome ended

@@ -1,5 +1,5 @@
 -- What `migrate` leaves of a database, and what it tells.
-use Rattle.std.proofs.Common.{◌≡◌, ◌≢◌, ℕ, List, Option, Some, Ok, Err, Result, IfErr, ap, false, inl, inr}
+use Rattle.std.proofs.Common.{◌≡◌, ℕ, List, Option, Some, Ok, Err, Result, IfErr, ap, false, inl, inr}
 use Rattle.std.proofs.KnownBytes.{Keeps-refl}
 use Rattle.faults.specs.declared.any.AnyFault.{AnyFault}
 use Rattle.sqlite_disk.specs.declared.Disk as disk
@@ -11,8 +11,7 @@ use Rattle.sqlite.specs.State.{HasCleanDisk, KeepsCommit, State, Survives}
 use Rattle.sqlite_trees.specs.declared.store.Store.{Ghosts}
 use Rattle.sql_state.specs.Earlier.{IsOfVersion1, held_by_version_1}
 use Rattle.sql_tables.specs.Stored.{tables_of}
-use Rattle.bureau_store.specs.declared.fault.StoreFault.TheVariants.{Device}
-use Rattle.bureau_sql.specs.Migrated.{AreMigrated, IsUntouched}
+use Rattle.bureau_sql.specs.Migrated.{AreMigrated, LeavesUntouched}
 use Rattle.bureau_sql.specs.Opening.{CanMakeConditions, HasTables, IsNotEarlier}
 use Rattle.sql_reads.specs.Version.{HasVersion}
 use Rattle.bureau_sql.specs.SqlState.{SqlState}
@@ -54,7 +53,7 @@ migrated (Err why) before after has told = inl (told, has)
 
 pub not_migrated : (refused : StoreFault) (fault : AnyFault) (before after : State) → fault ≡ of_store refused
     → (HasCleanDisk after → IsNotEarlier before after refused) → (HasCleanDisk after → KeepsCommit before after)
-    → (refused ≢ Device → IsUntouched before after) → IsMigrateLeft (Some fault) before after
+    → LeavesUntouched before after refused → IsMigrateLeft (Some fault) before after
 not_migrated refused fault before after is why kept untouched = inr (refused, is, why, kept, untouched)
 
 -- no connection to the files could be made

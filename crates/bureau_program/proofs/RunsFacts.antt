@@ -192,7 +192,7 @@ pub goes_on : Isolation → {D : Type 0} {g : disk.Ghosts D} (from : Image) (log
 goes_on isolation from log log_after why ended kept well source image made runs are left may =
     let this : FileRun = Serves log log_after why left in
     let is : IsRunOver from this = λ before holds.
-    let it = kept well before holds in
+    let it = kept.served well before holds in
     record {
       arrivals = it.arrivals;
       logged = it.logged;

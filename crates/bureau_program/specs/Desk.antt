@@ -16,6 +16,7 @@ use Rattle.bureau_sql.specs.Opening.{HasConditions, HasTables, IsNoStore}
 use Rattle.bureau_sql.specs.SqlState.{SqlState}
 use Rattle.bureau_sql.specs.SqlView.{IsAtRest, IsOurStore, shown, sql_view}
 use Rattle.sql_reads.specs.Version.{HasVersion}
+use Rattle.sql_state.specs.Earlier.{IsOfVersion1}
 use Rattle.sql_state.specs.Ours.{IsOurs, held_by}
 use Rattle.sql_state.specs.Reading.{OnlyReads}
 use Rattle.sqlite_disk.specs.declared.Disk as disk
@@ -118,11 +119,12 @@ pub record IsInitRun (Leaves : Option AnyFault → Type 0) (source : List ℕ) (
 -- ---- a store that is opened
 
 -- No device has failed, and the database was only read. Where the disk returned what was written, it is of version 2, its
--- tables and conditions are there, and a store that was ours is ours.
+-- tables and conditions are there, and a store that was ours is ours. A store of version 1 is not opened.
 pub record HasOpened {S : Type 0} (ghosts : Ghosts S) (before : State) (store : SqlState S) : Type 0 where
   pub opened : store.failures ≡ 0
   pub reads : OnlyReads before (shown ghosts store)
   pub version : HasCleanDisk (shown ghosts store) → HasVersion (Some 2) before.committed
+  pub other : HasCleanDisk (shown ghosts store) → IsOfVersion1 before.committed → ⊥
   pub found : HasCleanDisk (shown ghosts store) → HasTables before.committed.schema × HasConditions before.committed.schema
   pub ours : HasCleanDisk (shown ghosts store) → IsOurs before.committed → IsOurStore ghosts store
   -- its tables are those of the rows that were committed, and a stop leaves them and no others

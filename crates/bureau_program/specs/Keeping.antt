@@ -107,11 +107,11 @@ module _ {D : Type 0} {g : disk.Ghosts D} where
   abbrev pub KeepsEarlier : Image → Ended D g → Type 0
   KeepsEarlier from ended = (before : Tables) → HoldsEarlier from before → Keeps from ended (λ left. ∥ HoldsEarlier left before ∥₁)
 
-  -- A run of `serve` over files that hold the bureau's own store, wherever it ends: also where no files were opened, or an open
-  -- failed, or the store was refused. Then no connection was served.
-  abbrev pub KeepsServed : Image → Option (List Event) → Option (List Event) → Option AnyFault → Ended D g → Type 0
-  KeepsServed from log log_after outcome ended = EndsWell from ended → (before : Tables) → HoldsStore from before
-      → IsServedFrom before log log_after outcome (Leaves from ended)
+  -- A run of `serve`, wherever it ends. Over files that hold the bureau's own store it served connections from its tables. Where no
+  -- files were opened, or an open failed, or the store was refused, it served none. A store of version 1 stays, with its tables.
+  pub record KeepsServed (from : Image) (log log_after : Option (List Event)) (outcome : Option AnyFault) (ended : Ended D g) : Type 0 where
+    pub served : EndsWell from ended → (before : Tables) → HoldsStore from before → IsServedFrom before log log_after outcome (Leaves from ended)
+    pub earlier : KeepsEarlier from ended
 
   -- A run of `init` that could not open the files. A database stays as it is, tree by tree, and so a store of either version does.
   -- Where there is none yet, there is none afterwards, or one that has no tables.
@@ -134,7 +134,8 @@ module _ {D : Type 0} {g : disk.Ghosts D} where
     pub made : outcome ≡ None → Keeps from ended (HoldCallers source)
 
   -- A run of `migrate`, wherever it ends. A store of version 1 stays, with its tables, or is one of version 2 with the same tables;
-  -- and once the run has ended without a fault, it is that.
+  -- and once the run has ended without a fault, it is that. A store of version 2 stays, with its tables.
   pub record KeepsMigrated (from : Image) (outcome : Option AnyFault) (ended : Ended D g) : Type 0 where
     pub earlier : (before : Tables) → HoldsEarlier from before → Keeps from ended (λ left. ∥ HoldsEarlier left before ⊎ HoldsStore left before ∥₁)
     pub brought : outcome ≡ None → (before : Tables) → HoldsEarlier from before → Keeps from ended (λ left. ∥ HoldsStore left before ∥₁)
+    pub store : KeepsTables from ended

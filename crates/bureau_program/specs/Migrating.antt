@@ -1,5 +1,5 @@
 -- What `migrate` prints, why it ends, and what it leaves of a database.
-use Rattle.std.specs.Prelude.{◌≡◌, ◌≢◌, ◌⊎◌, ℕ, IsTrue, List, codes, false, Option, Some, None}
+use Rattle.std.specs.Prelude.{◌≡◌, ◌⊎◌, ℕ, IsTrue, List, codes, false, Option, Some, None}
 use Rattle.std.specs.Io.KnownBytes.{Appends, Keeps}
 use Rattle.faults.specs.declared.any.AnyFault.{AnyFault}
 use Rattle.transfer.specs.Transfer.{AppendsFront}
@@ -8,8 +8,7 @@ use Rattle.sqlite_disk.specs.declared.Disk as disk
 use Rattle.sqlite_wal.specs.Recovery.{Image}
 use Rattle.sqlite.specs.Files.{file_state}
 use Rattle.sqlite.specs.State.{HasCleanDisk, KeepsCommit, State, Survives}
-use Rattle.bureau_store.specs.declared.fault.StoreFault.TheVariants.{Device}
-use Rattle.bureau_sql.specs.Migrated.{AreMigrated, IsUntouched}
+use Rattle.bureau_sql.specs.Migrated.{AreMigrated, LeavesUntouched}
 use Rattle.bureau_sql.specs.SqlView.{IsAtRest}
 use Rattle.bureau_sql.specs.Opening.{CanMakeConditions, HasTables, IsNotEarlier}
 use Rattle.sql_reads.specs.Version.{HasVersion}
@@ -49,13 +48,13 @@ HasMigrated before after = HasCleanDisk after → HasVersion (Some 1) before.com
     × (IsOfVersion1 before.committed → IsMigratedTo before after)
 
 -- What is left of the database of a connection: version 2 with the same tables, also where only the line couldn't be written;
--- else what was there. Unless the device failed, a stop leaves what was there too.
+-- else what was there. Unless the device failed, a stop leaves what was there too (`LeavesUntouched`).
 abbrev pub IsMigrateLeft : Option AnyFault → State → State → Type 0
 IsMigrateLeft None before after = HasMigrated before after
 IsMigrateLeft (Some fault) before after =
     ((fault ≡ of_program NotWritten) × HasMigrated before after)
     ⊎ ((refused : StoreFault) × (fault ≡ of_store refused) × (HasCleanDisk after → IsNotEarlier before after refused)
-    × (HasCleanDisk after → KeepsCommit before after) × (refused ≢ Device → IsUntouched before after))
+    × (HasCleanDisk after → KeepsCommit before after) × LeavesUntouched before after refused)
 
 -- What is left of the files of a store: no connection to them could be made, and the fault tells why; or one was made, and of its
 -- database that is left, as also after a stop.

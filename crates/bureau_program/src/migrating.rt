@@ -1,9 +1,8 @@
 //! `migrate`: a store of version 1 in a file becomes one of version 2.
-ghost use Rattle.std.specs.Prelude.{◌≡◌, ◌≢◌, false, IfErr, IfOk};
+ghost use Rattle.std.specs.Prelude.{◌≡◌, false, IfErr, IfOk};
 ghost use Rattle.bureau_program.specs.Holds.{fault_in};
 ghost use Rattle.bureau_program.specs.Migrating.{HasMigrated, IsMigrateLeft, IsMigrateOutput, IsMigrateRun, LeavesMigrated};
-ghost use Rattle.bureau_sql.specs.Migrated.{AreMigrated, IsUntouched};
-ghost use Rattle.bureau_store.specs.declared.fault.StoreFault.TheVariants.{Device};
+ghost use Rattle.bureau_sql.specs.Migrated.{AreMigrated, LeavesUntouched};
 ghost use Rattle.bureau_sql.specs.Opening.{IsNotEarlier};
 ghost use Rattle.bureau_sql.specs.SqlView.{IsAtRest};
 ghost use Rattle.sqlite.specs.Held.{state};
@@ -81,8 +80,8 @@ fn migrate<S: Alter + Drop>(
         → IsNotEarlier (state S.Store conn) (state S.Store refused.1) refused.0) }
     ensures kept { IfErr result (λ refused. HasCleanDisk (state S.Store refused.1)
         → KeepsCommit (state S.Store conn) (state S.Store refused.1)) }
-    ensures untouched { IfErr result (λ refused. refused.0 ≢ Device
-        → IsUntouched (state S.Store conn) (state S.Store refused.1)) }
+    ensures untouched { IfErr result (λ refused.
+        LeavesUntouched (state S.Store conn) (state S.Store refused.1) refused.0) }
     ensures rest { IfErr result (λ refused. refused.1.in_transaction ≡ false) }
 {
     match SqlStore::migrate(alloc, conn) {
