@@ -4,6 +4,7 @@ use Rattle.std.specs.Prelude.{IfSome, not}
 use Rattle.std.specs.List.{Contains, cons_option, filter, filter_map, slice_get}
 use Rattle.zone_lists.specs.declared.zones.ZoneRow.{ZoneRow}
 use Rattle.catalogue.specs.Content.{Content}
+use Rattle.catalogue.specs.Ids.{in_order}
 use Rattle.catalogue.proofs.IdFacts.{in_order_has}
 use Rattle.supersede.specs.Reach.{has}
 use Rattle.chains.specs.Judge.{status_of}
@@ -92,7 +93,7 @@ choice_is : (content : Content) (status : Status) (hold : HoldLists) (id : List 
 choice_is content status hold id e =
     let kinds = of_status status hold.resolvers in
     let among = map (λ (r : Resolver). r.id) (received_or_all kinds) in
-    let top = got_inside (on_top content among) (length (on_top content among) - 1) id e in
+    let top = (in_order_has (on_top content among) id).0 (got_inside (in_order (on_top content among)) (length (in_order (on_top content among)) - 1) id e) in
     let own = map_from (λ (r : Resolver). r.id) (received_or_all kinds) id (kept_or_all (λ i. not (has (superseded_by content among) i)) among id top) in
     let kept = kept_from (λ (r : Resolver). same_status r.status status) hold.resolvers own.from (kept_or_all (λ (r : Resolver). r.received) kinds own.from own.member) in
     record { resolver = own.from; listed = kept.member; is = own.is; kind = same_is own.from.status status kept.passes }

@@ -1,21 +1,23 @@
 -- The members of a plan, by index and by id.
-use Rattle.std.proofs.Common.{◌≡◌, ◌∙◌, ◌<◌, ◌⊎◌, ℕ, List, [], ◌∷◌, ◌++◌, Bool, true, false, length, get_or, map, refl, sym, ap, subst, inl, inr, arith}
-use Rattle.std.specs.List.{Contains, filter}
+use Rattle.std.proofs.Common.{◌≡◌, ◌∙◌, ◌<◌, ◌⊎◌, ◌&&◌, ℕ, List, [], ◌∷◌, ◌++◌, Bool, true, false, Result, Ok, Err, length, get_or, map, refl, sym, ap, subst, inl, inr, arith}
+use Rattle.std.specs.Prelude.{IfOk, not}
+use Rattle.std.specs.List.{Contains, filter, list_any}
+use Rattle.std.proofs.lemmas.List.FromFn.{get_or-map-range_with_len}
 use Rattle.std.proofs.lemmas.Bool.{cases_lt}
 use Rattle.std.proofs.lemmas.List.{get_or_past, length-map, map-append}
 use Rattle.zone_lists.specs.declared.zones.ZoneRow.{ZoneRow}
 use Rattle.catalogue.specs.Content.{Content}
 use Rattle.catalogue.specs.Ids.{Ascend}
-use Rattle.supersede.specs.Giving.{givers_of, is_candidate, is_there, needs_in}
+use Rattle.supersede.specs.Giving.{gives, givers_of, is_candidate, is_there, needs_in}
 use Rattle.supersede.specs.Leading.{Gives, IsThere}
-use Rattle.supersede.proofs.LeadingFacts.{there_is}
+use Rattle.supersede.proofs.LeadingFacts.{gives_is, there_is}
 use Rattle.requisites.specs.Leads.{Leads}
-use Rattle.requisites.specs.Nodes.{IsMarked, Links, row}
+use Rattle.requisites.specs.Nodes.{IsMarked, Links, mark_of, row}
 use Rattle.requisites.specs.World.{IsGivenIn, IsPlan}
 use Rattle.requisites.proofs.LeadsFacts.{leads_closed, leads_itself, leads_more}
 use Rattle.requisites.proofs.SourceFacts.{marked_inside}
-use Rattle.install_order.specs.Left.{AreGivers, AreLeft}
-use Rattle.install_order.specs.Steps.{AreInOrder, AreNext, IsClosed, IsNext, StandsIn}
+use Rattle.install_order.specs.Left.{AreGivers, AreLeft, is_outdone, left_in}
+use Rattle.install_order.specs.Steps.{AreInOrder, AreNext, AreSteps, IsClosed, IsNext, StandsIn}
 use Rattle.install_order.proofs.PutFacts.{stands_before, stands_cases}
 use Rattle.install_order.proofs.RingFacts.{leads_joined}
 use Rattle.chains.specs.Candidates.{candidates_unless_there}
@@ -28,9 +30,11 @@ use Rattle.chains.specs.declared.verdict.Status.TheVariants as status
 use Rattle.chains.proofs.AnswerFacts.{index_is}
 use Rattle.chains.proofs.IndexFacts.{at_inside, inside_at}
 use Rattle.chains.proofs.PartFacts.{at_map}
-use Rattle.chains.proofs.SearchFacts.{first_inside, map_from, map_inside, none_inside, rest_inside}
+use Rattle.chains.proofs.SearchFacts.{any_at, any_from, both_true, first_inside, first_true, map_from, map_inside, none_inside, rest_inside, second_true}
 use Rattle.zone_plans.specs.Graphs.{AreGiven, AreReachedFrom, AreStartsOf, ReadingLists, ids_of_steps, known_givers, list_at, needs_at, reading_of}
-use Rattle.zone_plans.specs.Members.{AreStepsAfter, AreZoneSteps, HasCause, IsGivenBy, IsPlanned, NeedsMember, joined, united}
+use Rattle.zone_plans.specs.Members.{AreStepsAfter, AreZoneSteps, HasCause, IsGivenBy, IsPlanned, NeedsMember, joined, needs_id, outdoes, united}
+use Rattle.zone_plans.proofs.OutdoneFacts.{outdone_is}
+use Rattle.zone_plans.proofs.ValueFacts.{ByIndex, steps_are}
 use Rattle.zone_plans.proofs.PlannedFacts.{answer_for, answer_has, answer_says, catalogued, chosen_in_united, flat_from, flat_inside, gives_itself, gives_joined, known_has, known_says, member_candidate, need_given, planned}
 
 -- ---- steps by id
@@ -66,7 +70,9 @@ module _ (content : Content) (rows : List ZoneRow) (chosen ids : List (List ℕ)
     (given : AreGiven (candidates_unless_there content rows) ids left readings needs)
     (started : AreStartsOf ids above left chosen starts)
     (reached : AreReachedFrom needs starts members)
-    (stepped : AreInOrder needs members steps) where
+    (stepped : AreInOrder needs members steps)
+    (marks : left ≡ left_in above (length ids))
+    (valued : AreSteps needs members steps) where
   as_many : length readings ≡ length ids
   as_many = ap length read ∙ length-map ids (reading_of content rows)
 
@@ -404,8 +410,99 @@ module _ (content : Content) (rows : List ZoneRow) (chosen ids : List (List ℕ)
         leads = leads_by_id from.start p (start_member from.start from.marked) (out_members from.start p from.leads);
       }
 
+  -- ---- what is known by index
+
+  left_is : (p : ℕ) → p < length ids → mark_of left p ≡ not (list_any (outdoes content (id_at ids p)) ids)
+  left_is p within =
+      ap (λ (l : List Bool). mark_of l p) marks
+      ∙ get_or-map-range_with_len (λ p. not (is_outdone above p)) 0 (length ids) p p false within (omega arith)
+      ∙ ap not (outdone_is content ids above ascend given_at at_given are_givers.within p within)
+
+  absent_test : (need : List ℕ) → (IsThere content rows need → ⊥) → not (is_there content rows need) ≡ true
+  absent_test need absent = go (is_there content rows need) refl where
+    go : (b : Bool) → is_there content rows need ≡ b → not b ≡ true
+    go true on = absurd (absent ((there_is content rows need).0 on))
+    go false off = refl
+
+  test_absent : (need : List ℕ) → not (is_there content rows need) ≡ true → IsThere content rows need → ⊥
+  test_absent need h there = go (is_there content rows need) ((there_is content rows need).1 there) h where
+    go : (b : Bool) → b ≡ true → not b ≡ true → ⊥
+    go true on off = cc off
+    go false on off = cc on
+
+  linked : (p q : ℕ) → IsMarked left p → Links needs (length members) p q → IsMarked left q × (needs_id content rows (id_at ids p) (id_at ids q) ≡ true)
+  linked p q marked link =
+      let is = need_link p q (left_inside p marked) link.listed in (
+        is.marked,
+        any_at (λ (need : List ℕ). not (is_there content rows need) && gives content (id_at ids q) need) (needs_in content rows (id_at ids p)) is.need is.needed
+            (both_true (not (is_there content rows is.need)) (gives content (id_at ids q) is.need) (absent_test is.need is.absent) ((gives_is content (id_at ids q) is.need).1 is.gives)),
+      )
+
+  link : (p q : ℕ) → IsMarked left p → IsMarked left q → needs_id content rows (id_at ids p) (id_at ids q) ≡ true → Links needs (length members) p q
+  link p q marked other h =
+      let found = any_from (λ (need : List ℕ). not (is_there content rows need) && gives content (id_at ids q) need) (needs_in content rows (id_at ids p)) h in
+      let need = found.element in
+      let absent = test_absent need (first_true (not (is_there content rows need)) (gives content (id_at ids q) need) found.passes) in
+      let gave = (gives_is content (id_at ids q) need).0 (second_true (not (is_there content rows need)) (gives content (id_at ids q) need) found.passes) in
+      let within = left_inside p marked in
+      let inside = left_inside q other in
+      let N : List (List ℕ) → Type 0 = λ l. Contains l need in
+      record {
+        listed = (given.each p (omega (arith, within, as_many))).whole q (record {
+          need = need;
+          needed = subst N (sym (needs_of p within)) found.member;
+          givers = filter (λ giver. is_candidate content rows giver) (givers_of content need);
+          answer = answer_for content rows need absent;
+          gives = record { within = inside; marked = other; listed = answer_has content rows need (id_at ids q) (candidate_at q inside) gave };
+        });
+        index = omega (arith, inside, members_len);
+      }
+
+  start_of : (p : ℕ) → IsMarked left p → list_any (gives content (id_at ids p)) chosen ≡ true → IsMarked members p
+  start_of p marked h =
+      let found = any_from (gives content (id_at ids p)) chosen h in
+      let P : List (List ℕ) → Type 0 = λ l. Contains l found.element in
+      let at = inside_at ids found.element (subst P (sym are) (chosen_in_united content rows chosen are_good found.element found.member)) in
+      let G : List ℕ → Type 0 = λ x. gives content (id_at ids p) x ≡ true in
+      let gave = (gives_is content (id_at ids p) (id_at ids at.index)).0 (subst G (sym at.is) found.passes) in
+      let inside = left_inside p marked in
+      let C : List ℕ → Type 0 = λ x. Contains chosen x in
+      start_member p (started.whole p (record {
+        marked = marked;
+        resolver = at.index;
+        within = at.within;
+        is_chosen = subst C (sym at.is) found.member;
+        leads = leads_more (leads_itself (Links above (length ids)) at.index) (record { listed = at_given at.index p at.within inside gave; index = inside });
+      }))
+
+  caused : (p : ℕ) → IsMarked members p → (start : ℕ) × IsMarked left start × (list_any (gives content (id_at ids start)) chosen ≡ true) × Leads (Links needs (length members)) start p
+  caused p marked =
+      let from = reached.marked p marked in
+      let start = started.marked from.start from.marked in
+      let gave = gives_above start.resolver from.start (id_at ids start.resolver) start.leads (gives_itself content rows (id_at ids start.resolver) (candidate_at start.resolver start.within)) in (
+        from.start,
+        start.marked,
+        any_at (gives content (id_at ids from.start)) chosen (id_at ids start.resolver) start.is_chosen ((gives_is content (id_at ids from.start) (id_at ids start.resolver)).1 gave),
+        out_members from.start p from.leads,
+      )
+
+  pub by_index : ByIndex content rows chosen ids left needs members
+  by_index = record {
+    ascend = ascend;
+    left_len = are_left.len;
+    len = members_len;
+    left_is = left_is;
+    linked = linked;
+    link = link;
+    within = member_left;
+    closed = members_closed;
+    start = start_of;
+    caused = caused;
+  }
+
   pub are_zone_steps : AreZoneSteps content rows chosen (ids_of_steps ids steps)
   are_zone_steps = record {
+    are = steps_are content rows chosen ids left needs members by_index steps are valued;
     order = order_by_id [] steps (λ p stands. absurd (none_stands p stands)) stepped.only (λ p q stands link. absurd (none_stands p stands)) stepped.order;
     plan = is_plan steps stepped.only (λ p q stands link. stepped.whole q (members_closed p q (stepped.only p stands) link));
     resolved = resolved_by;
@@ -430,3 +527,8 @@ module _ (content : Content) (rows : List ZoneRow) (chosen ids : List (List ℕ)
         let same : q.index ≡ p.index = are_left.alone p.index q.index (member_left p.index p_member) (member_left q.index q_member) turned in
         sym q.is ∙ ap (id_at ids) same ∙ p.is;
   }
+
+-- a result with two facts
+pub ok_both : {X E : Type 0} (P Q : X → Type 0) (r : Result X E) → IfOk r P → IfOk r Q → IfOk r (λ x. P x × Q x)
+ok_both P Q (Ok x) first second = (first, second)
+ok_both P Q (Err e) first second = tt

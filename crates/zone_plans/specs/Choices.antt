@@ -2,13 +2,14 @@
 use Rattle.std.specs.Prelude.{ℕ, Bool, true, false, not, List, [], ◌∷◌, Option, filter, length, map, ◌-◌}
 use Rattle.std.specs.List.{flat_map, slice_get}
 use Rattle.catalogue.specs.Content.{Content, record_of}
+use Rattle.catalogue.specs.Ids.{in_order}
 use Rattle.supersede.specs.Giving.{sup_of}
 use Rattle.supersede.specs.Reach.{has, is_other}
 use Rattle.chains.specs.declared.verdict.Status.{Status}
 use Rattle.chains.specs.declared.verdict.Status.TheVariants.{Good, Held, Lack}
 use Rattle.zone_plans.specs.declared.holds.Resolver.{Resolver}
 
--- A hold of a report as contracts see it: the held SYSMOD, the reason, and what resolves it, ascending.
+-- A hold of a report as contracts see it: the held SYSMOD, the reason, and what resolves it.
 pub record HoldLists : Type 0 where
   pub sysmod : List ℕ
   pub reason : List ℕ
@@ -31,9 +32,12 @@ abbrev pub or_all : {A : Type 0} → List A → List A → List A
 or_all [] all = all
 or_all (first ∷ more) all = first ∷ more
 
--- the last of a list
+-- the greatest of some ids: the last of them in order
 abbrev pub last_of : List (List ℕ) → Option (List ℕ)
 last_of ids = slice_get ids (length ids - 1)
+
+abbrev pub greatest_of : List (List ℕ) → Option (List ℕ)
+greatest_of ids = last_of (in_order ids)
 
 -- of some resolvers those of a kind; of these those that the client has received, or all where it has received none
 abbrev pub of_status : Status → List Resolver → List Resolver
@@ -54,4 +58,4 @@ on_top content ids = or_all (filter (λ id. not (has (superseded_by content ids)
 -- supersedes, then the greatest id
 abbrev pub choice : Content → Status → HoldLists → Option (List ℕ)
 choice content status hold =
-    last_of (on_top content (map (λ resolver. resolver.id) (received_or_all (of_status status hold.resolvers))))
+    greatest_of (on_top content (map (λ resolver. resolver.id) (received_or_all (of_status status hold.resolvers))))

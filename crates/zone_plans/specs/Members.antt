@@ -1,14 +1,16 @@
 -- What is to be installed in a zone so that holds are resolved, and in which order (IBM z/OS SMP/E Reference, `++VER`,
 -- operands PRE, REQ and SUP).
-use Rattle.std.specs.Prelude.{◌≡◌, ◌++◌, ℕ, List, [], ◌∷◌, Contains}
-use Rattle.std.specs.List.{flat_map}
+use Rattle.std.specs.Prelude.{◌≡◌, ◌++◌, ◌&&◌, ◌||◌, ℕ, zero, suc, Bool, not, List, [], ◌∷◌, filter, length, Contains}
+use Rattle.std.specs.List.{flat_map, list_any}
+use Rattle.std.specs.Ordering.{is_lt}
 use Rattle.zone_lists.specs.declared.zones.ZoneRow.{ZoneRow}
 use Rattle.catalogue.specs.Content.{Content}
-use Rattle.catalogue.specs.Ids.{in_order}
-use Rattle.supersede.specs.Giving.{needs_in}
+use Rattle.catalogue.specs.Ids.{id_cmp, in_order, same_id}
+use Rattle.supersede.specs.Giving.{gives, is_there, needs_in}
 use Rattle.supersede.specs.Leading.{Gives, IsThere}
 use Rattle.requisites.specs.Leads.{Leads}
 use Rattle.requisites.specs.World.{IsPlan}
+use Rattle.install_order.specs.Steps.{steps_of}
 use Rattle.chains.specs.Verdicts.{Judged, good, held, lack, verdict_of}
 use Rattle.chains.specs.Worlds.{world_of}
 
@@ -72,10 +74,58 @@ AreStepsAfter content rows members before [] = Unit {0}
 AreStepsAfter content rows members before (step ∷ later) =
     IsNextStep content rows members before step × AreStepsAfter content rows members (before ++ step ∷ []) later
 
--- The steps in which is installed what some chosen resolvers want. All members together are a plan; for each chosen resolver
+-- ---- the members and their steps, as a function
+
+-- whether an id comes before another one
+abbrev pub is_less : List ℕ → List ℕ → Bool
+is_less id other = is_lt (id_cmp id other)
+
+-- whether another one outdoes an id: it gives the id, and the id doesn't give it, or is less
+abbrev pub outdoes : Content → List ℕ → List ℕ → Bool
+outdoes content id other =
+    not (same_id other id) && (gives content other id && (is_less id other || not (gives content id other)))
+
+-- of some ids those that no other of them outdoes
+abbrev pub left_of : Content → List (List ℕ) → List (List ℕ)
+left_of content ids = filter (λ id. not (list_any (outdoes content id) ids)) ids
+
+-- whether an id needs something that isn't there and that another one gives
+abbrev pub needs_id : Content → List ZoneRow → List ℕ → List ℕ → Bool
+needs_id content rows id other =
+    list_any (λ need. not (is_there content rows need) && gives content other need) (needs_in content rows id)
+
+-- whether needs lead from one to another of some ids in at most so many steps
+abbrev pub needed_within : Content → List ZoneRow → List (List ℕ) → ℕ → List ℕ → List ℕ → Bool
+needed_within content rows ids zero from to = same_id from to
+needed_within content rows ids (suc steps) from to =
+    same_id from to || list_any (λ next. needs_id content rows from next && needed_within content rows ids steps next to) ids
+
+-- whether they do in any number of steps: more than there are ids lead nowhere else
+abbrev pub is_needed : Content → List ZoneRow → List (List ℕ) → List ℕ → List ℕ → Bool
+is_needed content rows ids from to = needed_within content rows ids (length ids) from to
+
+-- of some ids those that give a chosen resolver, and those to which needs lead from one that does
+abbrev pub caused_in : Content → List ZoneRow → List (List ℕ) → List (List ℕ) → List (List ℕ)
+caused_in content rows chosen ids =
+    filter (λ id. list_any (λ start. list_any (gives content start) chosen && is_needed content rows ids start id) ids) ids
+
+-- the members for some chosen resolvers
+abbrev pub members_of : Content → List ZoneRow → List (List ℕ) → List (List ℕ)
+members_of content rows chosen = caused_in content rows chosen (left_of content (united content rows chosen))
+
+-- and the steps in which they are installed
+abbrev pub zone_steps_of : Content → List ZoneRow → List (List ℕ) → List (List (List ℕ))
+zone_steps_of content rows chosen =
+    steps_of (is_needed content rows (members_of content rows chosen)) (length (united content rows chosen)) (members_of content rows chosen)
+
+-- ---- what is so of them
+
+-- The steps in which is installed what some chosen resolvers want: those of the function. All members
+-- together are a plan; for each chosen resolver
 -- there is a member that gives it; no member is there without a cause, or comes of no chosen plan; and no member gives
 -- another one, itself or through others.
 pub record AreZoneSteps (content : Content) (rows : List ZoneRow) (chosen : List (List ℕ)) (steps : List (List (List ℕ))) : Type 0 where
+  pub are : steps ≡ zone_steps_of content rows chosen
   pub order : AreStepsAfter content rows (joined steps) [] steps
   pub plan : IsPlan (world_of content rows) (joined steps)
   pub resolved : (id : List ℕ) → Contains chosen id → IsGivenBy content (joined steps) id

@@ -7,9 +7,10 @@ ghost use Rattle.catalogue.specs.View.{MayAsk, Tells};
 ghost use Rattle.catalogue.specs.declared.fault.SourceFault.TheVariants.{Device};
 ghost use Rattle.supersede.specs.Giving.{sup_of};
 ghost use Rattle.supersede.specs.Reach.{has, is_other};
-ghost use Rattle.zone_plans.specs.Choices.{choice, last_of, of_status, on_top, or_all, received_or_all, same_status, superseded_by};
+ghost use Rattle.zone_plans.specs.Choices.{choice, greatest_of, last_of, of_status, on_top, or_all, received_or_all, same_status, superseded_by};
 
 use crate::holds::{HoldResolvers, Resolver};
+use crate::united::put_all;
 use catalogue::{Published, SourceFault, Sysmod};
 use chains::Status;
 use faults::NoMemory;
@@ -30,7 +31,7 @@ pub(crate) fn choice<P: Published>(
 {
     let among = candidates(alloc, status, hold.resolvers())?;
     let top = tops(alloc, source, among)?;
-    Ok(last(&top))
+    Ok(greatest(alloc, &top)?)
 }
 
 // The resolvers of a kind, those that were received where there are any.
@@ -187,6 +188,16 @@ pub(crate) fn is_among(ids: &[Id], id: &Id) -> bool
     ensures { result ≡ has ids.now id.now }
 {
     supersede::index_among(ids, id).is_some()
+}
+
+// The greatest of some ids, in whatever order they stand.
+fn greatest(alloc: Global, ids: &[Id]) -> Result<Option<Id>, NoMemory>
+    ensures { IfOk result (λ greatest. greatest ≡ greatest_of ids.now) }
+{
+    let mut found = BTreeSet::new(alloc);
+    put_all(&mut found, ids)?;
+    let all = listed(alloc, found)?;
+    Ok(last(&all))
 }
 
 fn last(ids: &[Id]) -> Option<Id>

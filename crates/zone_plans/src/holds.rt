@@ -26,7 +26,7 @@ pub struct HoldOn {
     pub reason: Id,
 }
 
-/// A hold of a report, with the SYSMODs that resolve it, ascending. A contract sees the list of these.
+/// A hold of a report, with the SYSMODs that resolve it. A contract sees the list of these.
 #[derive(Debug, Drop)]
 pub struct HoldResolvers {
     sysmod: Id,
@@ -107,7 +107,7 @@ impl HoldResolvers {
         self.reason
     }
 
-    /// What resolves it, ascending.
+    /// What resolves it.
     pub fn resolvers(&self) -> &[Resolver]
         ensures { result.now ≡ self.now.resolvers }
     {

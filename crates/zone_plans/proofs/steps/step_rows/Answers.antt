@@ -8,10 +8,10 @@ use Rattle.chains.specs.Indices.{AreIndicesOf, RowsAre}
 use Rattle.chains.proofs.IndexFacts.{ok_so}
 use Rattle.chains.specs.Candidates.{candidates_unless_there}
 use Rattle.install_order.specs.Left.{is_outdone}
-use Rattle.install_order.specs.Steps.{AreInOrder, IsClosed}
+use Rattle.install_order.specs.Steps.{AreInOrder, AreSteps, IsClosed}
 use Rattle.zone_plans.specs.Graphs.{AreGiven, AreReachedFrom, AreStartsOf, list_at, lists_of}
 use Rattle.zone_plans.proofs.MarkFacts.{reached_closed, within_by}
-use Rattle.zone_plans.proofs.StepFacts.{are_zone_steps}
+use Rattle.zone_plans.proofs.StepFacts.{are_zone_steps, ok_both}
 use Rattle.zone_plans.proofs.steps.step_rows.Goals as goal
 
 pub steps-requires : goal.steps-requires
@@ -48,11 +48,12 @@ returns-clause-steps c =
     let left = c.in_ok-left.left.items in
     let starts = c.in_ok-starts.starts.items in
     let members = c.in_ok-members.members.items in
-    ok_so c.steps.result c.steps.ensures.order (λ steps stepped. λ content rows are known read asked answers good.
+    ok_so c.steps.result (ok_both _ _ c.steps.result c.steps.ensures.order c.steps.ensures.steps) (λ steps told. λ content rows are known read asked answers good.
     let G : List Bool → Type 0 = λ l. AreGiven (candidates_unless_there content rows) ids l readings needs in
     let O : List Bool → Type 0 = λ l. AreStartsOf ids c.in_ok-above.above l c.args.chosen.now starts in
     let S : List Bool → Type 0 = λ l. AreReachedFrom needs l members in
     let T : List Bool → Type 0 = λ l. AreInOrder needs l steps in
+    let V : List Bool → Type 0 = λ l. AreSteps needs l steps in
     let lists = lists_of c.args.givers.now in
     let R : ℕ → Type 0 = λ n. RowsAre (λ p indices. AreIndicesOf ids (list_at lists p) indices) n c.in_ok-above.above in
     let indexed = subst R (sym (length-map c.args.givers.now (λ (l : Vec Id). l.items))) c.in_ok-above.ensures in
@@ -61,4 +62,4 @@ returns-clause-steps c =
     (subst G c.deref.ensures.value (c.in_ok-needs.ensures (candidates_unless_there content rows) answers asked))
     (subst O c.deref-2.ensures.value c.in_ok-starts.ensures)
     (subst S c.deref-3.ensures.value c.in_ok-members.ensures)
-    (subst T c.deref-4.ensures.value stepped))
+    (subst T c.deref-4.ensures.value told.0) c.in_ok-left.ensures.marks (subst V c.deref-4.ensures.value told.1))
