@@ -9,7 +9,7 @@ name of a file are lost too. Each image of the files is opened by the program. I
 without the change that was on its way, and from there on the calls are told what they are told without a loss. What is told is compared
 with a second desk, tests/plain_desk.py. At last a disk that does nothing at a sync of the log has to lose something.
 
-    --quick        some two hundred images
+    --quick        some three hundred images
     --images N     so many images of each way that draws, at each moment (4 where it isn't given)
     --seed N       other draws
     --ways WAY..   these ways alone. With `around`, which is not among them else, anything stands in the whole sectors at both ends of
