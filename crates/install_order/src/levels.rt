@@ -137,7 +137,8 @@ fn nodes_by_level(
     levels: &[Option<usize>],
     count: usize,
 ) -> Result<Vec<Vec<usize>>, NoMemory>
-    ensures nodes { IfOk result (λ nodes. AreNodesWith levels.now (length levels.now) (lists_in nodes.items)) }
+    ensures nodes { IfOk result
+        (λ nodes. AreNodesWith levels.now (length levels.now) (lists_in nodes.items)) }
     ensures len { IfOk result (λ nodes. length nodes.items ≡ count) }
 {
     let mut nodes = no_nodes(alloc, count)?;

@@ -14,11 +14,11 @@ use Rattle.chains.specs.declared.verdict.Status.TheVariants.{Good, Held, Lack}
 use Rattle.chains.proofs.SearchFacts.{first_inside, inside_cases, kept_from, map_from, map_inside, none_inside, rest_inside}
 use Rattle.zone_plans.specs.Choices.{HoldLists, choice, of_status, on_top, or_all, received_or_all, same_status, superseded_by}
 use Rattle.zone_plans.specs.Members.{AreZoneSteps, IsGivenBy, joined}
-use Rattle.zone_plans.specs.Plans.{AreBlocked, AreTold, HeldLists, IsZonePlan, chosen_in, fate_by, placed, resolver_by, unresolved_in}
+use Rattle.zone_plans.specs.Plans.{AreBlocked, AreTold, HeldLists, IsHeld, IsZonePlan, chosen_in, fate_by, placed, resolver_by, unresolved_in, waiting_by}
 use Rattle.zone_plans.specs.declared.holds.HoldOn.{HoldOn}
 use Rattle.zone_plans.specs.declared.holds.Resolver.{Resolver}
 use Rattle.zone_plans.specs.declared.placing.Placed.{Placed}
-use Rattle.zone_plans.proofs.BlockedFacts.{row_ungiven}
+use Rattle.zone_plans.proofs.BlockedFacts.{row_ungiven, status_held, whole_row}
 
 -- ---- lists
 
@@ -128,14 +128,38 @@ module _ (content : Content) (rows : List ZoneRow) (holds : List HoldLists) wher
   each_resolved steps are hold inside None e = tt
   each_resolved steps are hold inside (Some id) e = are.resolved id (chosen_inside hold id inside e)
 
-  pub is_zone_plan : (steps : List (List (List ℕ))) (unresolved : List HoldOn) (held : List HeldLists) → AreZoneSteps content rows (chosen_in (map (placed content) holds)) steps
+  abbrev second_of : Option (HoldOn × List ℕ) → Option (List ℕ)
+  second_of None = None
+  second_of (Some both) = Some both.1
+
+  -- a hold that waits has a resolver that is held
+  waits_for : (good waiting : Option (List ℕ)) (hold other : HoldOn) (id : List ℕ) → waiting_by hold (fate_by good waiting) ≡ Some (other, id) → waiting ≡ Some id
+  waits_for (Some x) waiting hold other id e = absurd (cc e)
+  waits_for None (Some x) hold other id e = ap second_of e
+  waits_for None None hold other id e = absurd (cc e)
+
+  waiting_held : AreTold content rows holds → (held : List HeldLists) → AreBlocked content rows (map (placed content) holds) held → (one : HeldLists) → Contains held one → IsHeld (verdict_of content rows one.resolver)
+  waiting_held told held blocked one inside =
+      let key : HeldLists → HoldOn × List ℕ = λ h. (h.hold, h.resolver) in
+      let P : List (HoldOn × List ℕ) → Type 0 = λ l. Contains l (one.hold, one.resolver) in
+      let listed = subst P blocked.keys (map_inside key held one inside) in
+      let made = made_from (λ (p : Placed). waiting_by p.hold p.fate) (map (placed content) holds) (one.hold, one.resolver) listed in
+      let from = map_from (placed content) holds made.from made.member in
+      let W : Placed → Type 0 = λ p. waiting_by p.hold p.fate ≡ Some (one.hold, one.resolver) in
+      let on : waiting_by (placed content from.from).hold (placed content from.from).fate ≡ Some (one.hold, one.resolver) = subst W (sym from.is) made.is in
+      let waiting = waits_for (choice content Good from.from) (choice content Held from.from) (placed content from.from).hold one.hold one.resolver on in
+      let own = choice_is content Held from.from one.resolver waiting in
+      let V : List ℕ → Type 0 = λ x. status_of (verdict_of content rows x) ≡ Held in
+      status_held (verdict_of content rows one.resolver) (subst V own.is (sym (told from.from own.resolver from.member own.listed) ∙ own.kind))
+
+  pub is_zone_plan : AreTold content rows holds → (steps : List (List (List ℕ))) (unresolved : List HoldOn) (held : List HeldLists) → AreZoneSteps content rows (chosen_in (map (placed content) holds)) steps
       → unresolved ≡ unresolved_in (map (placed content) holds) → AreBlocked content rows (map (placed content) holds) held
       → IsZonePlan content rows holds (record { steps = steps; unresolved = unresolved; held = held })
-  is_zone_plan steps unresolved held are none blocked = record {
+  is_zone_plan told steps unresolved held are none blocked = record {
     steps = are;
     resolved = λ hold inside. each_resolved steps are hold inside (choice content Good hold) refl;
     unresolved = none;
     held = blocked.keys;
-    blocked = blocked.blocked;
+    blocked = λ one inside. whole_row content rows (one.resolver ∷ []) one.resolver one.blocked (waiting_held told held blocked one inside) (blocked.blocked one inside);
     ungiven = λ one need inside listed giver gives. row_ungiven content rows (one.resolver ∷ []) one.resolver one.blocked (blocked.blocked one inside) need listed giver gives;
   }

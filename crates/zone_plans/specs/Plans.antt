@@ -82,15 +82,10 @@ abbrev pub GoesOn : Option (List ℕ) → (List ℕ → Type 0) → List (List �
 GoesOn None IsRow later = later ≡ []
 GoesOn (Some giver) IsRow later = IsRow giver
 
-abbrev pub IsHeld : Judged → Type 0
-IsHeld (good plan) = ⊥
-IsHeld (held need) = Unit {0}
-IsHeld lack = ⊥
-
 -- The row of needs that block a SYSMOD. The first is its blocked need; the row goes on with the least candidate that gives this
 -- need, which is blocked in its turn, down to a need that no candidate gives, or that one gives which was come to before.
 abbrev pub IsBlockedRow : Content → List ZoneRow → List (List ℕ) → List ℕ → List (List ℕ) → Type 0
-IsBlockedRow content rows seen id [] = ¬ IsHeld (verdict_of content rows id)
+IsBlockedRow content rows seen id [] = ⊥
 IsBlockedRow content rows seen id (need ∷ later) =
     (verdict_of content rows id ≡ held need)
     × GoesOn (unless_seen seen (first_giver (candidates_unless_there content rows need)))
@@ -124,12 +119,26 @@ pub record IsZonePlan (content : Content) (rows : List ZoneRow) (holds : List Ho
 
 -- ---- No part of what is promised: private contracts cite it.
 
+-- whether it is held
+abbrev pub IsHeld : Judged → Type 0
+IsHeld (good plan) = ⊥
+IsHeld (held need) = Unit {0}
+IsHeld lack = ⊥
+
+-- a row of blocked needs that may end at a SYSMOD that isn't held
+abbrev pub IsRowSoFar : Content → List ZoneRow → List (List ℕ) → List ℕ → List (List ℕ) → Type 0
+IsRowSoFar content rows seen id [] = ¬ IsHeld (verdict_of content rows id)
+IsRowSoFar content rows seen id (need ∷ later) =
+    (verdict_of content rows id ≡ held need)
+    × GoesOn (unless_seen seen (first_giver (candidates_unless_there content rows need)))
+    (λ giver. IsRowSoFar content rows (seen ++ giver ∷ []) giver later) later
+
 -- the holds that wait, each with its row
 pub record AreBlocked (content : Content) (rows : List ZoneRow) (holds : List Placed) (found : List HeldLists) : Type 0 where
   pub keys : map (λ held. (held.hold, held.resolver)) found ≡ waiting_in holds
-  pub blocked : (held : HeldLists) → Contains found held → IsBlockedRow content rows (held.resolver ∷ []) held.resolver held.blocked
+  pub blocked : (held : HeldLists) → Contains found held → IsRowSoFar content rows (held.resolver ∷ []) held.resolver held.blocked
 
 -- one more hold was looked at
 pub record AreBlockedMore (content : Content) (rows : List ZoneRow) (one : Placed) (old new : List HeldLists) : Type 0 where
   pub keys : map (λ held. (held.hold, held.resolver)) new ≡ map (λ held. (held.hold, held.resolver)) old ++ cons_option (waiting_by one.hold one.fate) []
-  pub blocked : (held : HeldLists) → Contains new held → Contains old held ⊎ IsBlockedRow content rows (held.resolver ∷ []) held.resolver held.blocked
+  pub blocked : (held : HeldLists) → Contains new held → Contains old held ⊎ IsRowSoFar content rows (held.resolver ∷ []) held.resolver held.blocked

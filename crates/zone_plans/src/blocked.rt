@@ -5,7 +5,7 @@ ghost use Rattle.catalogue.specs.declared.fault.SourceFault.TheVariants.{Device}
 ghost use Rattle.supersede.specs.Reach.{has};
 ghost use Rattle.chains.specs.Candidates.{candidates_unless_there};
 ghost use Rattle.zone_plans.specs.Plans as Plans;
-ghost use Rattle.zone_plans.specs.Plans.{AreBlocked, AreBlockedMore, IsBlockedRow};
+ghost use Rattle.zone_plans.specs.Plans.{AreBlocked, AreBlockedMore, IsRowSoFar};
 ghost use Rattle.zone_plans.specs.BlockedSteps.{step_after, step_by, step_with};
 ghost use Rattle.chains.specs.Verdicts.{verdict_of};
 
@@ -130,7 +130,7 @@ fn blocked_row<P: Published, J: Judge<P>>(
     ensures asks { MayAsk P.content_view Device source.old source.new result }
     ensures row { IfOk result (λ row. Tells P.content_view source.old source.new
         (λ content. J.is_right judge.old content
-        → IsBlockedRow content zone.now (resolver.now ∷ []) resolver.now row.items)) }
+        → IsRowSoFar content zone.now (resolver.now ∷ []) resolver.now row.items)) }
     ensures right { Tells P.content_view source.old source.new
         (λ content. J.is_right judge.old content → J.is_right judge.new content) }
 {

@@ -61,7 +61,8 @@ fn givers_at<P: Published>(
 ) -> Result<Vec<Id>, SourceFault>
     ensures asks { MayAsk P.content_view Device source.old source.new result }
     ensures givers { IfOk result (λ list. Tells P.content_view source.old source.new
-        (λ content. list.items ≡ givers_or (option_map (λ ids. ids.items) answer.now) (givers_of content id.now))) }
+        (λ content. list.items
+        ≡ givers_or (option_map (λ ids. ids.items) answer.now) (givers_of content id.now))) }
 {
     match answer {
         Some(known) => Ok(copied(known)?),

@@ -23,7 +23,8 @@ pub(crate) type Answer = Option<Vec<Id>>;
 pub(crate) fn member_rows(alloc: Global, ids: &[Id], lists: &[Vec<Id>]) -> Result<Rows, NoMemory>
     requires { Ascend ids.now }
     ensures { IfOk result (λ rows. RowsAre
-        (λ p indices. AreIndicesOf ids.now (list_at (lists_of lists.now) p) indices) (length lists.now) rows) }
+        (λ p indices. AreIndicesOf ids.now (list_at (lists_of lists.now) p) indices)
+        (length lists.now) rows) }
 {
     let mut rows = Rows::new(alloc);
     let mut own = Vec::new(alloc);

@@ -28,7 +28,7 @@ returns-clause-plan g c =
     let B : List Placed → Type 0 = λ l. AreBlocked content rows l c.in_ok-held.held.items in
     let good : (id : List ℕ) → Contains c.deref-2.result.now id → status_of (verdict_of content rows id) ≡ status.Good =
     (λ id inside. let P : List (List ℕ) → Type 0 = λ l. Contains l id in chosen_are_good content rows holds told id (subst P chosen inside)) in
-    is_zone_plan content rows holds c.in_ok-steps.steps c.in_ok-unresolved.unresolved.items c.in_ok-held.held.items
+    is_zone_plan content rows holds told c.in_ok-steps.steps c.in_ok-unresolved.unresolved.items c.in_ok-held.held.items
     (subst S chosen (facts.1.0 right good))
     (c.in_ok-unresolved.ensures ∙ ap Plans.unresolved_in (c.deref-4.ensures.value ∙ facts.0))
     (subst B (c.deref-3.ensures.value ∙ facts.0) (held (facts.1.1 right))))
