@@ -160,7 +160,8 @@ fn first_faults(rt: HostRuntime) -> Result<(), Fail> {
 
 fn assert_fault(alloc: Global, row: usize, case: &Case) -> Result<(), Fail> {
     let publications = all_of(alloc, case.publications)?;
-    match err_report(alloc, &id(b"TGT1")?, case.lists, publications) {
+    // the report that reads all lists
+    match missing_report(alloc, &id(b"TGT1")?, case.lists, publications) {
         Ok(_) => Err(Fail::new("a report in place of a fault")),
         Err(told) => assert_told(row, told, case),
     }
