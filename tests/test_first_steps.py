@@ -5,7 +5,6 @@ import atexit
 import os
 import re
 import shutil
-import signal
 import subprocess
 import time
 
@@ -70,6 +69,7 @@ without_time = lambda lines: re.sub(r"ASKED [0-9: -]{19}", "ASKED", lines)
 same("as it stands on the page", without_time(open(saved).read()), without_time(job))
 browser.end()
 run(end)
-server.send_signal(signal.SIGINT)
+# a terminal sends Ctrl-C, which a run in the background ignores
+server.terminate()
 server.wait()
 finish("first steps")
