@@ -21,10 +21,31 @@ fn text_in(line: Result<Line, LineFault>) -> Option<String> {
 }
 
 // Words, and what they ask for.
-static TAKEN: [(&[&str], &str); 9] = [
+static TAKEN: [(&[&str], &str); 12] = [
     (&["holds", "-"], "Holds { file: \"-\" }"),
     (&["init", "s", "c"], "Init { store: \"s\", callers: \"c\" }"),
     (&["migrate", "s"], "Migrate { store: \"s\" }"),
+    (
+        &["errsysmods", "--zone", "z", "f", "-"],
+        "ErrSysmods { files: ReportFiles { zone: \"z\", categories: None, received: None, name: None, publications: [\"f\", \"-\"] } }",
+    ),
+    (
+        &[
+            "missingfix",
+            "f",
+            "--name=N",
+            "--received",
+            "r",
+            "--zone=z",
+            "--categories",
+            "c",
+        ],
+        "MissingFix { files: ReportFiles { zone: \"z\", categories: Some(\"c\"), received: Some(\"r\"), name: Some(\"N\"), publications: [\"f\"] } }",
+    ),
+    (
+        &["chain", "--zone", "z", "s", "f"],
+        "Chain { sysmod: \"s\", files: ReportFiles { zone: \"z\", categories: None, received: None, name: None, publications: [\"f\"] } }",
+    ),
     (
         &["serve", "s"],
         "Serve { port: 8080, cache: 1024, connections: 1000000, store: \"s\" }",
@@ -60,11 +81,31 @@ static TAKEN: [(&[&str], &str); 9] = [
 ];
 
 // Words, and what is told of them.
-static REFUSED: [(&[&str], &str); 20] = [
+static REFUSED: [(&[&str], &str); 25] = [
     (&["init", "s"], "Usage: bureau init <STORE> <CALLERS>"),
     (&["serve"], "Usage: bureau serve <STORE>"),
     (&["migrate"], "Usage: bureau migrate <STORE>"),
     (&["migrate", "s", "t"], "unexpected argument 't'"),
+    (
+        &["errsysmods", "f"],
+        "Usage: bureau errsysmods --zone <ZONE> <FILE>...",
+    ),
+    (
+        &["errsysmods", "--zone", "z", "--categories", "c", "f"],
+        "unexpected argument '--categories'",
+    ),
+    (
+        &["missingfix", "--zone", "z", "f"],
+        "Usage: bureau missingfix --zone <ZONE> --categories <CATEGORIES> <FILE>...",
+    ),
+    (
+        &["chain", "--zone", "z", "s"],
+        "Usage: bureau chain --zone <ZONE> <SYSMOD> <FILE>...",
+    ),
+    (
+        &["chain", "--zone", "z", "--received", "r", "s", "f"],
+        "unexpected argument '--received'",
+    ),
     (&["serve", "--port", "0", "s"], "0 is not in 1..=65535"),
     (
         &["serve", "--port", "65536", "s"],

@@ -12,7 +12,7 @@ use testing::assert_equal_at;
 type Row = (&'static [&'static str], u32, u8, &'static str);
 
 // 64 retries serve all files of a run.
-static ROWS: [Row; 8] = [
+static ROWS: [Row; 11] = [
     (&["replay", "callers", "empty", "empty"], 21, 0, ""),
     (
         &["replay", "callers", "empty", "empty"],
@@ -21,6 +21,24 @@ static ROWS: [Row; 8] = [
         "FAULT 71\n",
     ),
     (&["replay", "callers", "missing"], 0, 3, "FAULT 71\n"),
+    (
+        &["errsysmods", "--zone", "callers", "empty", "empty"],
+        21,
+        1,
+        "FAULT 31 callers\n",
+    ),
+    (
+        &["errsysmods", "--zone", "callers", "empty", "empty"],
+        22,
+        3,
+        "FAULT 71\n",
+    ),
+    (
+        &["chain", "--zone", "-", "--name", "N", "S", "-"],
+        0,
+        2,
+        "standard input is one file: give - once\n",
+    ),
     (&["init", STORE, "callers"], 64, 3, "FAULT 41\n"),
     (&["init", STORE, "callers"], 65, 3, "FAULT 71\n"),
     (&["init", "another store", "callers"], 0, 3, "FAULT 42\n"),
