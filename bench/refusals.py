@@ -11,6 +11,7 @@
     init       `init` is refused
     migrate    `migrate` is refused
     holds      `holds` is refused
+    reports    `errsysmods`, `missingfix` and `chain` are refused, over files with the same lists and publications
 
 For N = 1, 2, .. the Nth growth alone is refused, up to the first run that meets no refusal. What is told otherwise than by 503 is
 what a second desk tells, which never got the call that was answered 503. The second desk is tests/plain_desk.py. With --every N
@@ -183,6 +184,44 @@ def holds(refusing, place):
     return "no print" if ended else "the print", refusing.met()
 
 
+RECEIVED, CATEGORIES = b"SYSMOD\nUA10005\n", b"CATEGORY\nIBM.*\n"
+REPORTS = {
+    "errsysmods": (("errsysmods", "--zone", "zone", "--received", "received"), ()),
+    "missingfix": (("missingfix", "--zone", "zone", "--categories", "categories", "--received", "received"), ()),
+    "chains/UA10002": (("chain", "--zone", "zone"), ("UA10002",)),
+}
+
+
+def desks_report(path):
+    """What a second desk tells a client that has sent the lists of these files, with a line end after a chain."""
+    publications = [sent for sent in SCRIPT if sent.startswith(b"POST ")]
+    sent = publications + [
+        request("PUT /zones/TGT1", ALPHA, 1, BOTH),
+        request("PUT /zones/TGT1/categories", ALPHA, 2, CATEGORIES),
+        request("PUT /received", ALPHA, 3, RECEIVED),
+        request("GET /zones/TGT1/" + path, ALPHA),
+    ]
+    told, _ = second(sent)
+    see(all(reply.startswith(b"HTTP/1.1 200 ") for reply in told), "the second desk", told)
+    return told[-1].split(b"\r\n\r\n", 1)[1] + (b"\n" if path.startswith("chains/") else b"")
+
+
+def report(path):
+    """A refused report prints nothing, and one that is printed is whole."""
+
+    def way(refusing, place):
+        bodies = [sent.split(b"\r\n\r\n", 1)[1] for sent in SCRIPT if sent.startswith(b"POST ")]
+        files = [refusing.write("publication%d" % i, body) for i, body in enumerate(bodies)]
+        for name, text in (("zone", BOTH), ("categories", CATEGORIES), ("received", RECEIVED)):
+            refusing.write(name, text)
+        words, more = REPORTS[path]
+        ended, output = refusing.refused_run(place, *words, "--name", "TGT1", *more, *files, cwd=refusing.room)
+        see(ended or output == desks_report(path), "got", output, "wanted", desks_report(path))
+        return "no report" if ended else "the report", refusing.met()
+
+    return way
+
+
 def init(refusing, place):
     """A refused `init` leaves nothing, or nothing that keeps it from being made after it; or a store with its callers."""
     store = os.path.join(refusing.room, "made")
@@ -335,6 +374,7 @@ def of_version_1(store):
 
 WAYS = {
     "holds": [holds],
+    "reports": [report(path) for path in REPORTS],
     "init": [init],
     "migrate": [migrating],
     "open": [opening],
