@@ -17,7 +17,7 @@ import sys
 import tempfile
 import time
 
-from texts import statements, zone
+from texts import apars, statements, zone
 
 HERE = os.path.dirname(os.path.abspath(__file__))
 PROGRAM = os.environ.get("BUREAU_PROGRAM") or os.path.join(HERE, "..", "crates", "bureau_main", "out", "bureau_main")
@@ -101,22 +101,26 @@ def tables():
     return conn
 
 
-def python_publication(count):
-    """The same rows, by prepared statements in one transaction."""
+def python_publication(count, superseded, deletes):
+    """The same rows, by prepared statements in one transaction. With `deletes` each row that could be there is deleted first, as
+    the desk does it; without them nothing is done but the inserts."""
     conn = tables()
     began = time.monotonic()
     conn.execute("BEGIN")
     conn.execute("INSERT INTO sysmod VALUES ('HBB7790', 0, '', '', '')")
     for i in range(count):
         name, before = "U%d" % i, "U%d" % max(0, i - 7)
-        conn.execute("DELETE FROM sysmod WHERE id = ?", (name,))
-        conn.execute("DELETE FROM sysmod_sup WHERE id = ?", (name,))
+        if deletes:
+            conn.execute("DELETE FROM sysmod WHERE id = ?", (name,))
+            conn.execute("DELETE FROM sysmod_sup WHERE id = ?", (name,))
         conn.execute("INSERT INTO sysmod VALUES (?, 1, 'HBB7790', ?, '')", (name, before))
-        conn.execute("INSERT INTO sysmod_sup VALUES (?, ?)", (name, "A%d" % i))
+        for apar in apars(i, superseded):
+            conn.execute("INSERT INTO sysmod_sup VALUES (?, ?)", (name, apar))
     for i in range(count):
         name = "U%d" % i
         for kind, reason, css, date in ((0, "B%d" % i, "PE", 12045), (1, "IPL", "", -1)):
-            conn.execute("DELETE FROM hold_row WHERE sysmod = ? AND kind = ? AND reason = ?", (name, kind, reason))
+            if deletes:
+                conn.execute("DELETE FROM hold_row WHERE sysmod = ? AND kind = ? AND reason = ?", (name, kind, reason))
             conn.execute("INSERT INTO hold_row VALUES (?, ?, ?, 'HBB7790', ?, ?, '', '')", (name, kind, reason, css, date))
     conn.execute("COMMIT")
     took = time.monotonic() - began
@@ -151,7 +155,12 @@ fresh = iter(range(1 << 30))
 
 
 def publication(count=30000):
-    text = statements(count)
+    for superseded in (1, 5):
+        one_publication(count, superseded)
+
+
+def one_publication(count, superseded):
+    text = statements(count, superseded=superseded)
     peaks = []
 
     def ours():
@@ -161,9 +170,11 @@ def publication(count=30000):
         desk.end()
         return took
 
-    mine, theirs = least(ours, lambda: python_publication(count))
-    print("a publication of %d SYSMODs with %d holds: %.2f; python's sqlite3 %.2f; %.2f times; peak %.0f MB, text %.1f MB" % (
-        count, 2 * count, mine, theirs, mine / theirs, max(peaks), len(text) / 1e6))
+    mine, deleting, inserting = least(
+        ours, lambda: python_publication(count, superseded, True), lambda: python_publication(count, superseded, False))
+    print("a publication of %d SYSMODs, %d superseded ids and %d holds: %.2f; python's sqlite3 with deletes %.2f: %.2f times; "
+          "inserts alone %.2f: %.2f times; peak %.0f MB, text %.1f MB" % (
+              count, superseded * count, 2 * count, mine, deleting, mine / deleting, inserting, mine / inserting, max(peaks), len(text) / 1e6))
 
 
 def a_zone(count=40000):
