@@ -16,7 +16,7 @@ import shutil
 import subprocess
 import sys
 
-from service import CLIENT, SAMPLE, TOP, Client, Desk, check, finish, folder, same, write
+from service import CLIENT, PROGRAM, SAMPLE, TOP, Client, Desk, check, finish, folder, same, write
 
 NORTH, SOUTH, PUBLISHER = "north-token", "south-token", "publisher-token"
 CALLERS = os.path.join(SAMPLE, "callers.csv")
@@ -349,6 +349,38 @@ def page_job(bench, chain, out):
     return subprocess.run(["node", place + "/run.mjs"], capture_output=True, text=True).stdout
 
 
+def symptoms():
+    """The rows with the symptoms that `publication` wrote of their holds."""
+    bench = Bench()
+    text = "++PTF(@J2).\n++VER(Z038) FMID(HBB77E0) SUP(AJ1).\n"
+    text += "++HOLD(@J1) ERROR FMID(HBB77E0) REASON(AJ1) DATE(25001) CLASS(HIPER)\n COMMENT(SMRTDATA(SYMP(PRV,DAL) FIX(@J2,UJ3) CHGDT(250102))).\n"
+    text += "++HOLD(UJ2) ERROR REASON(AJ1).\n"
+    more = "++HOLD(@J1) ERROR FMID(HBB77E0) REASON(AJ1) DATE(25009) CLASS(HIPER)\n COMMENT(SMRTDATA(SYMP(=IPL) CHGDT(250109))).\n"
+    bench.publish(text)
+    bench.zone("A", "HBB77E0", "@J1", "UJ2")
+    table, path = bench.place + "/symptoms.csv", bench.place + "/publication"
+    make = lambda: subprocess.run([TOP + "/clients/publication", "--symptoms", table, path], env={**os.environ, "BUREAU_PROGRAM": PROGRAM}, capture_output=True)
+    same("the symptoms are written", make().returncode, 0)
+    joined = lambda **more: bench.north.run("errsysmods", "--csv", "A", "--symptoms", table, **more)
+    heading = "FMID,SYSMOD,REASON,RESOLVER,STATUS,RECEIVED,CLASS,DATE,CHGDT,SYMP,FIX\n"
+    other = ",UJ2,AJ1,'@J2,GOOD,NO,,,,,\n"
+    first = "HBB77E0,'@J1,AJ1,'@J2,GOOD,NO,HIPER,25001,250102,PRV DAL,'@J2 UJ3\n"
+    same("joined, by SYSMOD and reason", joined(), (0, heading + other + first, ""))
+    same("in another code", joined(BUREAU_CODE="ISO-8859-1"), (0, heading + other + first, ""))
+    same("with an alert", bench.north.run("errsysmods", "--csv", "A", "--symptoms", table, "--alert", "HIPER")[0], 4)
+    write(path, text + more)
+    same("and anew", make().returncode, 0)
+    same("the last record of a hold counts", joined()[1], heading + other + "HBB77E0,'@J1,AJ1,'@J2,GOOD,NO,HIPER,25009,250109,'=IPL,\n")
+    with open(table, "ab") as file:
+        file.write(b"\r\n")
+    same("an empty line at its end is none", joined()[0], 0)
+    for name, text in (("another table", "SYSMOD,REASON\n"), ("nothing", "")):
+        write(table, text)
+        status, out, err = joined()
+        check(name, (status, out) == (1, "") and "does not begin with SYSMOD,REASON,DATE,CHGDT,SYMP,FIX" in err, (status, out, err))
+    bench.desk.end()
+
+
 def alone():
     """The client alone sends and asks. What follows from the reports needs Python, and the file beside it, also by a link."""
     bench, place = sample(), folder()
@@ -379,7 +411,7 @@ def many(count):
     bench.desk.end()
 
 
-for part in (words_that_are_wrong, alerts, why_empty, overviews, news, jobs, alone):
+for part in (words_that_are_wrong, alerts, why_empty, overviews, news, symptoms, jobs, alone):
     part()
 many(int(sys.argv[1]) if len(sys.argv) > 1 else 1000)
 finish("client's reports")
