@@ -88,7 +88,7 @@ class DrawnDesk:
         if parts == ["published"]:
             return b"PUBLISHED SYSMODS 20000 HOLDS 40000\n"
         if parts == ["zones"]:
-            rows = "".join("%-8s %d\n" % (name, len(zone.errors)) for name, zone in self.zones.items())
+            rows = "".join("%-8s %d\n" % (name, len(zone.errors) + 1) for name, zone in self.zones.items())
             return ("ZONE     SYSMODS\n%sROWS %d\n" % (rows, len(self.zones))).encode()
         zone = self.zones.get(parts[1]) if parts[0] == "zones" and len(parts) > 2 else None
         if zone and parts[2:] in (["errsysmods"], ["missingfix"]):

@@ -56,7 +56,11 @@ def sample():
     same(
         "sync, the first time", north.run("sync", SITE + "/north"), (0, wanted[2] + wanted[4] + wanted[3], "")
     )
-    same("sync, nothing new", (north.run("sync", SITE + "/north"), desk.last(NORTH)), ((0, "", ""), 3))
+    same(
+        "sync, nothing new",
+        (north.run("sync", SITE + "/north"), desk.last(NORTH)),
+        ((0, "", "bureau-client: nothing to do: %s has accepted each list of %s\n" % (desk.url, SITE + "/north")), 3),
+    )
     same("sync --all", (north.run("sync", "--all", SITE + "/north")[0], desk.last(NORTH)), (0, 6))
     same("errsysmods", north.run("errsysmods", "MVSPROD"), (0, wanted[5], ""))
     same("missingfix", north.run("missingfix", "MVSPROD"), (0, wanted[6], ""))

@@ -211,6 +211,61 @@ def lost_statements():
     check("an id in lower case is told", status == 1 and "FAULT 2" in err and "upper case" in err, err)
 
 
+def differences():
+    """SYSMODs of which a desk knows less than SMP/E are named and counted."""
+    status, out, err = run(PUBLICATION, "../differences/publication.txt")
+    same("the sample has no fault", (status, err.count("publication: ")), (0, 5))
+    check("VERs that differ", "1 SYSMOD with ++VERs that differ in PRE, REQ or ++IF." in err and "\npublication:     UJ94001\n" in err, err)
+    check("NPRE", "1 SYSMOD with NPRE." in err and "\npublication:     UJ94003\n" in err, err)
+    two = "++PTF(UJ%d).\n++VER(Z038) FMID(HBB77E0) %s.\n%s++VER(Z038) FMID(HDZ33E0) %s.\n%s"
+    for name, text, is_named in (
+        ("alike in another order", two % (1, "PRE(A,B)", "", "PRE(B) REQ(A)", ""), False),
+        ("a PRE alone", two % (1, "PRE(A)", "", "", ""), True),
+        ("a comment in a list", two % (1, "PRE(A /* ( B */)", "", "/* PRE(C) */ REQ(A)", ""), False),
+        ("another SUP", two % (1, "SUP(A)", "", "SUP(B)", ""), False),
+        ("an IF of one", two % (1, "", "++IF FMID(A) REQ(B).\n", "", ""), True),
+        ("the same IF of both", two % (1, "", "++IF FMID(A) REQ(B).\n", "", "++IF FMID(A) REQ(B).\n"), False),
+        ("an IF of another function", two % (1, "", "++IF FMID(A) REQ(B).\n", "", "++IF FMID(C) REQ(B).\n"), True),
+        ("NPRE in a comment", two % (1, "/* NPRE(A) */", "", "", ""), False),
+        ("NPRE in one of them", two % (1, "", "", "NPRE(A)", ""), True),
+    ):
+        same(name, "UJ1" in run(PUBLICATION, "--unchecked", "-", given=text.encode())[2], is_named)
+    many = "".join(two % (at, "PRE(A)", "", "", "") for at in range(25))
+    lines = [line.split()[1:] for line in run(PUBLICATION, "--unchecked", "-", given=many.encode())[2].splitlines() if line.startswith("publication:  ")]
+    same("each is named", lines, [["UJ%d" % at for at in range(begin, min(25, begin + 10))] for begin in (0, 10, 20)])
+    refused = two % (1, "PRE(a)", "", "NPRE(A)", "")
+    same("one that is left out is not", "with" in run(PUBLICATION, "-", given=refused.encode())[2].split("SYSMODs,")[1].replace("with a fault", ""), False)
+
+
+def symptoms():
+    """What SMRTDATA says, as CSV."""
+    place = folder()
+    heading = "SYSMOD,REASON,DATE,CHGDT,SYMP,FIX\n"
+
+    def written(text, *words):
+        status, _, err = run(PUBLICATION, *words, "--symptoms", place + "/csv", "-", given=text.encode())
+        check("it is written", status == 0 and "the symptoms of" in err, (status, err))
+        return open(place + "/csv").read()
+
+    sample = "UJ90012,AH61140,25011,25011,FUNC,UJ90500\nUJ90118,IPL,25030,25030,FUNC,UJ90505\nUJ90177,AH61490,25051,25051,FUNC,UJ90510\n"
+    same("of a sample", written(open(LISTS + "/../holddata.txt").read()), heading + sample)
+    hold = "++HOLD(UJ1) ERROR REASON(AJ1)\n COMMENT(%s).\n"
+    for name, text, wanted in (
+        ("several values, in any order", hold % "SMRTDATA(FIX(UJ2,UJ3)\n SYMP(PRV , DAL) CHGDT(250102))", "UJ1,AJ1,,250102,PRV DAL,UJ2 UJ3\n"),
+        ("text around it", hold % "SEE (AJ2) SMRTDATA (SYMP(IPL)) AND (MORE)", "UJ1,AJ1,,,IPL,\n"),
+        ("none", hold % "SMRT DATA(SYMP(IPL))", ""),
+        ("in a comment", "++HOLD(UJ1) ERROR REASON(AJ1) /* COMMENT(SMRTDATA(SYMP(A))) */.\n", ""),
+        ("over a line", hold % "SMRTDATA(SYMP(\n A) FIX(\n UJ2))", "UJ1,AJ1,,,A,UJ2\n"),
+        ("two of a hold", hold % "SMRTDATA(SYMP(A)) SMRTDATA(SYMP(B))", "UJ1,AJ1,,,A,\nUJ1,AJ1,,,B,\n"),
+        ("what a spreadsheet would take for a formula", hold % "SMRTDATA(SYMP(=A\"B))", 'UJ1,AJ1,,,"\'=A""B",\n'),
+        ("columns 73 to 80", "++HOLD(UJ1) ERROR REASON(AJ1)\n%-72s00000010\n COMMENT(SMRTDATA(SYMP(A))).\n" % " DATE(25001)", "UJ1,AJ1,25001,,A,\n"),
+    ):
+        same("symptoms: " + name, written(text), heading + wanted)
+    same("in parts too", written(hold % "SMRTDATA(SYMP(A))", "--parts", place + "/part"), heading + "UJ1,AJ1,,,A,\n")
+    same("a folder that is not there", run(PUBLICATION, "--symptoms", place + "/none/csv", "-", given=b"++PTF(A).\n")[0], 3)
+    same("no file named", run(PUBLICATION, "--symptoms", place + "/csv")[0], 2)
+
+
 def parts():
     """What is too large for a desk is not printed, and is written in parts that are none too large."""
     hold = "++HOLD(UJ%05d) ERROR REASON(AJ00001)\n COMMENT(" + "X" * 60 + ")" + ("\n /* " + "and so on " * 6 + "*/") * 40 + ".\n"
@@ -236,5 +291,7 @@ listings_that_are_none()
 restores()
 publications()
 lost_statements()
+differences()
+symptoms()
 parts()
 finish("lists")

@@ -186,6 +186,7 @@ same(
 north = Client(desk.url, "north-token")
 same("sync", north.run("sync", place + "/examples/site/north")[0], 0)
 same("errsysmods", north.run("errsysmods", "MVSPROD")[1].splitlines()[-1], "ROWS 2")
+same("overview", north.run("overview")[1].splitlines()[-2:], ["ROWS 1", "PUBLISHED SYSMODS 8 HOLDS 5"])
 desk.end()
 
 debs = [name for name in os.listdir(made) if name.endswith(".deb")]

@@ -7,7 +7,9 @@ Pictures of the page go to FOLDER, where one is named.
 """
 import csv
 import io
+import json
 import os
+import re
 import time
 
 from chromium import Browser
@@ -90,7 +92,7 @@ def sample(browser, front, north):
     click(browser, "tbody tr.first")
     shows(browser, "UJ92003 can be installed, together with 1 other SYSMOD.", ".beside")
     same("its members", browser.run("[...document.querySelectorAll('.members .id')].map(e => e.innerText)"), ["UJ92003", "UJ93001"])
-    chain_job(browser)
+    chain_job(browser, north)
     browser.run("(i => { i.value = 'uj92005'; i.form.requestSubmit(); })(document.querySelector('.ask-chain input'))")
     shows(browser, "UJ92005 can be installed by itself.", ".beside")
     same("any SYSMOD has an address", browser.run("location.hash"), "#MVSPROD/fixes/UJ92005")
@@ -103,13 +105,18 @@ def sample(browser, front, north):
     check("the form is there again", browser.run("document.getElementById('token').offsetParent !== null"))
 
 
-def chain_job(browser):
-    """The chain as an SMP/E job, also where the desk has no plans."""
+def without_time(text):
+    return re.sub(r"ASKED [0-9-]{10}( \*/\n /\*)? [0-9:]{8}", "ASKED", text)
+
+
+def chain_job(browser, north):
+    """The chain as an SMP/E job, also where the desk has no plans. bureau-client makes the same."""
     place = folder()
     browser.call("Browser.setDownloadBehavior", behavior="allow", downloadPath=place)
     click(browser, ".beside [aria-label='Save as SMP/E job']")
     path = place + "/MVSPROD-UJ92003.smpcntl.txt"
     check("the chain is saved as a job", until(lambda: os.path.exists(path)))
+    same("as bureau-client makes it", without_time(open(path).read()), without_time(north.run("job", "MVSPROD", "UJ92003")[1]))
     lines = [line for line in open(path).read().splitlines() if line and not line.startswith(" /*")]
     same(
         "with both members",
@@ -129,6 +136,42 @@ def sent_link(browser, front):
     shows(browser, "UJ92002 can’t be installed now", ".beside")
     same("what the link says", browser.run("location.hash"), "#MVSPROD/errors/UJ92002?status=GOOD")
     same("the row of its hold is marked", browser.run("document.querySelector('tr.chosen .of-resolver').innerText"), "UJ92002")
+
+
+def symptoms(browser, north):
+    """A file of symptoms joins the holds. It stays in the tab until the token is forgotten."""
+    give = """(input => { const data = new DataTransfer(); data.items.add(new File([%s], 'symptoms.csv'));
+        input.files = data.files; input.dispatchEvent(new Event('change')); })(document.querySelector('input[type=file]'))"""
+    text = "SYSMOD,REASON,DATE,CHGDT,SYMP,FIX\nUJ92001,AJ64001,25001,250102,PRV DAL,UJ92005\nUJ1,AJ2,,,'=IPL,\n"
+    place = folder()
+    go(browser, "#MVSPROD/errors")
+    browser.run(give % json.dumps("SYSMOD,STATE\n"))
+    said(browser, "This file has no symptoms.")
+    same("no column", browser.run("document.querySelectorAll('.of-symptom').length"), 0)
+    browser.run(give % json.dumps(text))
+    said(browser, "The file has the symptoms of 2 holds.")
+    browser.until("document.querySelector('td.of-symptom')")
+    same("a column more", [line[-1] for line in open_all(browser)], ["PRV DAL", ""])
+    click(browser, "tbody tr.first")
+    shows(browser, "HOLDDATA says: symptoms PRV DAL, fix UJ92005, held 25001, changed 250102.", ".beside")
+    picture(browser, "symptoms")
+    browser.call("Browser.setDownloadBehavior", behavior="allow", downloadPath=place)
+    click(browser, ".report [aria-label='Save as CSV']")
+    check("it is saved", until(lambda: os.path.exists(place + "/MVSPROD-errsysmods.csv")))
+    time.sleep(0.2)
+    by_client = north.run("errsysmods", "--csv", "MVSPROD", "--symptoms", write(place + "/symptoms.csv", text))[1]
+    same("as bureau-client joins it", open(place + "/MVSPROD-errsysmods.csv").read(), by_client)
+    go(browser, "#MVSPROD/errors?symptom=DAL")
+    same("a filter", (len(lines(browser)), browser.run("document.querySelector('select[aria-label=Symptom]')?.value ?? ''")), (1, "=DAL"))
+    click(browser, "#again")
+    browser.until("document.querySelector('td.of-symptom')")
+    go(browser, "#MVSPROD/fixes")
+    same("not for the fixes", browser.run("document.querySelectorAll('.of-symptom, input[type=file]').length"), 0)
+    click(browser, "#leave")
+    enter(browser, NORTH)
+    go(browser, "#MVSPROD/errors")
+    browser.until("document.querySelector('tbody tr.first')")
+    same("forgotten with the token", browser.run("document.querySelectorAll('.of-symptom').length"), 0)
 
 
 def refusals(browser, front):
@@ -170,6 +213,10 @@ def marks(browser, front, client):
     same("a row without a resolver", lines(browser)[0][3:], ["no resolver", "none", ""])
     click(browser, "tbody tr.first")
     shows(browser, "No published SYSMOD resolves this hold yet.", ".beside")
+    go(browser, "#Z0/fixes")
+    shows(browser, "No fix is missing, or no fix categories are set for this zone")
+    go(browser, "#Z1/errors")
+    shows(browser, "This zone has no SYSMOD: its list is empty.")
     go(browser, "#Z%40%23%24/errors/%40A%24%23001")
     shows(browser, "SYSTEM hold: IPL", ".beside")
     shows(browser, "USER hold: OURS", ".beside")
@@ -270,6 +317,7 @@ def main():
     publisher.run("publish", os.path.join(SITE, "publication.txt"))
     sample(browser, front, north)
     sent_link(browser, front)
+    symptoms(browser, north)
     refusals(browser, front)
     publisher.run(
         "publish",
@@ -285,6 +333,7 @@ def main():
     south.run("zone", "Z@#$", write(place + "/z", "SYSMOD,STATE\nHBB77E0,APPLIED\nUJ1,APPLIED\n"))
     south.run("categories", "Z@#$", write(place + "/c", "CATEGORY\n*\n"))
     south.run("zone", "Z0", write(place + "/0", "SYSMOD,STATE\nHBB77E0,APPLIED\n"))
+    south.run("zone", "Z1", write(place + "/1", "SYSMOD,STATE\n"))
     marks(browser, front, south)
     slow(browser)
     away(browser, front, desk)

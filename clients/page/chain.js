@@ -65,9 +65,9 @@ async function rowOfNeeds(first, chainOf) {
 
 export class ChainPanel {
   // CHAIN(sysmod) asks; GO(sysmod) makes another one the address; CLOSE leaves; ISRECEIVED(id) tells what is known of
-  // it; AGE() is how old all of it is.
-  constructor({ chain, go, close, faultOf, isReceived, age, say }) {
-    Object.assign(this, { chain, go, faultOf, isReceived, age, say, turn: 0 });
+  // it; AGE() is how old all of it is; SYMPTOMSOF(hold) is what a file of symptoms says of it.
+  constructor({ chain, go, close, faultOf, isReceived, age, symptomsOf, say }) {
+    Object.assign(this, { chain, go, faultOf, isReceived, age, symptomsOf, say, turn: 0 });
     this.input = make('input', 'id');
     Object.assign(this.input, { autocomplete: 'off', spellcheck: false, required: true });
     Object.assign(this.input, { maxLength: 7, pattern: '[A-Za-z0-9@#$]{1,7}' });
@@ -155,10 +155,12 @@ export class ChainPanel {
       if (each.id === sysmod) made.setAttribute('aria-current', 'true');
       return made;
     });
+    const symptoms = this.symptomsOf(hold);
     const names = hold.class || hold.categories.length === 0 ? [classBadge(hold.class)] : [];
     return [
       make('p', '', ...names, ' ', make('strong', 'id', hold.sysmod), ' is held for ', make('strong', 'id', hold.reason)),
       ...hold.categories.map((name) => make('p', 'soft category', name)),
+      ...(symptoms ? [make('p', 'soft symptoms', symptoms)] : []),
       make('div', 'picks', ...resolvers),
     ];
   }

@@ -37,6 +37,7 @@ export class Snapshot {
     this.asked = new Date();
     this.answers = new Map();
     this.counts = new Map();
+    this.symptoms = null; // of a file, where one was opened
     this.ending = new AbortController();
     this.running = 0;
     this.waiting = [];

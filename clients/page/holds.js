@@ -58,6 +58,11 @@ class Hold {
     this.rank = Math.min(this.rank, rankOf(this.report, row));
   }
 
+  // Which column has the SYSMOD that is held.
+  get held() {
+    return this.report.held;
+  }
+
   get sysmod() {
     return this.report.field(this.rows[0], this.report.held);
   }

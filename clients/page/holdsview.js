@@ -1,9 +1,10 @@
 // A report as a table of its holds, with filters, and as a file.
-import { classBadge, make, receivedMark, statusBadge } from './make.js';
+import { classBadge, fileButton, make, receivedMark, statusBadge } from './make.js';
 import { byUrgency } from './holds.js';
 import { Filters } from './filters.js';
 import { Table } from './table.js';
 import { csvOf, saveButtons } from './save.js';
+import { SYMPTOMS } from './symptoms.js';
 
 const TITLES = { errsysmods: 'Exception SYSMODs of ', missingfix: 'Missing fixes of ' };
 const UNITS = { errsysmods: ['hold', 'holds'], missingfix: ['fix', 'fixes'] };
@@ -57,32 +58,55 @@ const KINDS = {
   missingfix: [{ name: 'category', title: 'Category', of: (hold) => hold.categories, isList: true }, STATUS, RECEIVED],
 };
 
-// The rows of these holds, as the report has them: its columns first.
-function rowsFor(report, holds) {
-  const rows = holds.flatMap((hold) => hold.rows).sort((one, other) => one - other);
-  return [report.names, ...rows.map((row) => report.fields(row))];
+// What symptoms add to the columns, and to the filters.
+function symptomColumn(symptoms) {
+  const words = (hold) => symptoms.of(hold).join(' ');
+  const cell = (hold, member, isFirst) => {
+    if (!isFirst) return '';
+    const made = make('span', 'cut', words(hold));
+    made.title = symptoms.wordsOf(hold);
+    return made;
+  };
+  return { name: 'symptom', title: 'Symptoms', of: words, cell };
 }
 
-// WAYS are {choose(hold, member), changed(words), say(text)}.
+const symptomKind = (symptoms) => ({ name: 'symptom', title: 'Symptom', of: (hold) => symptoms.of(hold), isList: true });
+
+// The rows of these holds, as the report has them: its columns first, and last what symptoms add.
+function rowsFor(report, holds, symptoms) {
+  const rows = holds.flatMap((hold) => hold.rows).sort((one, other) => one - other);
+  if (!symptoms) return [report.names, ...rows.map((row) => report.fields(row))];
+  const more = (row) => symptoms.fieldsOf(report.field(row, 'SYSMOD'), report.field(row, 'REASON'));
+  return [[...report.names, ...SYMPTOMS], ...rows.map((row) => [...report.fields(row), ...more(row)])];
+}
+
+// WAYS are {choose(hold, member), changed(words), say(text), read(text)}. SYMPTOMS may be absent, and so are they of
+// missing fixes.
 export class HoldsView {
-  constructor(name, zone, report, words, ways) {
+  constructor(name, zone, report, words, symptoms, ways) {
     this.report = report;
     this.title = TITLES[name] + zone;
-    this.filters = new Filters(KINDS[name], UNITS[name], () => {
+    const more = symptoms ? { columns: [symptomColumn(symptoms)], kinds: [symptomKind(symptoms)] } : { columns: [], kinds: [] };
+    this.filters = new Filters([...KINDS[name], ...more.kinds], UNITS[name], () => {
       ways.changed(this.filters.words);
       this.show();
     });
     this.filters.words = words;
     this.filters.offer(report.holds);
     this.table = new Table({
-      caption: this.title, columns: COLUMNS[name], order: byUrgency, choose: ways.choose,
+      caption: this.title, columns: [...COLUMNS[name], ...more.columns], order: byUrgency, choose: ways.choose,
     });
-    const rows = () => rowsFor(report, this.shown);
+    const rows = () => rowsFor(report, this.shown, symptoms);
     const forms = [
       { title: 'CSV', name: zone + '-' + name + '.csv', kind: 'text/csv', text: () => csvOf(rows()) },
       { title: 'JSON', name: zone + '-' + name + '.json', kind: 'application/json', text: () => this.json(rows()) },
     ];
-    const bar = make('div', 'bar', this.filters.element, saveButtons(forms, ways.say));
+    const saves = saveButtons(forms, ways.say);
+    if (name === 'errsysmods') {
+      const open = fileButton('Open', ways.read, 'Open a file of symptoms');
+      saves.prepend(make('span', 'pair', make('span', 'pair-name', 'Symptoms'), open));
+    }
+    const bar = make('div', 'bar', this.filters.element, saves);
     this.element = make('div', 'report ' + name, bar, this.table.element);
     this.show();
   }

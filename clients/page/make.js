@@ -16,6 +16,19 @@ export function button(text, className, action, label) {
   return made;
 }
 
+// A button that lets one choose a file. TAKE gets its text.
+export function fileButton(text, take, label) {
+  const input = make('input', 'off');
+  Object.assign(input, { type: 'file', tabIndex: -1, accept: '.csv,text/csv' });
+  input.setAttribute('aria-hidden', 'true');
+  input.addEventListener('change', async () => {
+    const [file] = input.files;
+    if (file) take(await file.text());
+    input.value = ''; // so that the same file may be chosen again
+  });
+  return make('span', '', button(text, '', () => input.click(), label), input);
+}
+
 export function link(text, className, address, label) {
   const made = make('a', className, text);
   made.href = address;

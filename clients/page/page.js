@@ -57,8 +57,10 @@ function forget(words) {
 
 // Asks for everything anew. What was shown before goes first.
 async function begin(token) {
+  const symptoms = snapshot?.symptoms ?? null;
   empty();
   const mine = new Snapshot(token);
+  mine.symptoms = symptoms;
   snapshot = mine;
   lay(true);
   at('level').textContent = '';

@@ -1,17 +1,21 @@
 // One zone: its errors, its fixes and its plan as tabs, and the chain beside them.
 import { button, link, make, painted } from './make.js';
-import { counted } from './words.js';
+import { counted, several } from './words.js';
 import { REPORT_OF, addressOf } from './address.js';
 import { ChainPanel } from './chain.js';
 import { HoldsView } from './holdsview.js';
 import { PlanView } from './planview.js';
+import { NoSymptoms, Symptoms } from './symptoms.js';
 
 const TITLES = { errors: 'Errors', fixes: 'Fixes', plan: 'Plan' };
 
-function emptyWords(tab, level) {
+// Why a report has no rows, as far as the desk tells. It does not tell the categories.
+function emptyWords(tab, { level, zones }, zone) {
   if (level.sysmods === 0 && level.holds === 0) return 'Nothing is published yet, so there is nothing to report.';
+  if (level.holds === 0) return 'No hold is published yet, so there is nothing to report.';
+  if (zones.some((each) => each.zone === zone && each.sysmods === 0)) return 'This zone has no SYSMOD: its list is empty.';
   if (tab === 'errors') return 'Nothing is wrong: no installed SYSMOD of this zone is held in error.';
-  return 'No fix is missing, or no fix categories are set for this zone.';
+  return 'No fix is missing, or no fix categories are set for this zone: the desk does not tell which.';
 }
 
 export class ZoneView {
@@ -29,6 +33,7 @@ export class ZoneView {
       faultOf: ways.faultOf,
       isReceived: (id) => this.isReceived(id),
       age: () => snapshot.age,
+      symptomsOf: (hold) => (hold.held === 'SYSMOD' ? snapshot.symptoms?.wordsOf(hold) ?? '' : ''),
       say: ways.say,
     });
     const list = make('div', 'tabs', ...Object.values(this.tabs));
@@ -128,9 +133,10 @@ export class ZoneView {
       const report = await this.snapshot.report(this.zone, name);
       if (report.holds.length === 0) {
         this.view = {};
-        return [make('p', 'nothing', emptyWords(where.tab, this.snapshot.level))];
+        return [make('p', 'nothing', emptyWords(where.tab, this.snapshot, this.zone))];
       }
-      this.view = new HoldsView(name, this.zone, report, where.words, {
+      const symptoms = name === 'errsysmods' ? this.snapshot.symptoms : null;
+      this.view = new HoldsView(name, this.zone, report, where.words, symptoms, {
         choose: (hold, member, isEntered) => {
           this.hold = hold;
           this.isEntered = isEntered;
@@ -141,9 +147,24 @@ export class ZoneView {
           this.ways.replace(this.where);
         },
         say: this.ways.say,
+        read: (text) => this.readSymptoms(text),
       });
       return [this.view.element];
     });
+  }
+
+  // The symptoms of a file are there for all zones, until the token is forgotten.
+  async readSymptoms(text) {
+    try {
+      this.snapshot.symptoms = new Symptoms(text);
+    } catch (fault) {
+      if (!(fault instanceof NoSymptoms)) throw fault;
+      this.ways.say('This file has no symptoms. publication --symptoms makes one that has.', true);
+      return;
+    }
+    this.ways.say('The file has the symptoms of ' + several(this.snapshot.symptoms.known.size, 'hold') + '.');
+    await this.showReport(this.where);
+    this.showChain(this.where);
   }
 
   showPlan() {

@@ -1,0 +1,417 @@
+#!/usr/bin/env python3
+"""What bureau-client makes of reports, against a desk: alerts, why a report is empty, the overview, news, and jobs.
+
+    test_client_reports.py [SYSMODS]
+
+SYSMODS is how many are drawn for the large zones.
+"""
+import collections
+import csv
+import io
+import json
+import os
+import random
+import re
+import shutil
+import subprocess
+import sys
+
+from service import CLIENT, PROGRAM, SAMPLE, TOP, Client, Desk, check, finish, folder, same, write
+
+NORTH, SOUTH, PUBLISHER = "north-token", "south-token", "publisher-token"
+CALLERS = os.path.join(SAMPLE, "callers.csv")
+SITE = os.path.join(TOP, "examples", "site")
+OVERVIEW = "ZONE     SYSMODS IN-ERROR HOLDS  HIPER  PE     OTHER  NONE   HELD   GOOD   FIXES\n"
+NO_ZONE = OVERVIEW + "ROWS 0\n"
+
+
+class Bench:
+    """A desk with its publisher and NORTH, and a folder for files."""
+
+    def __init__(self):
+        self.desk, self.place = Desk(CALLERS), folder()
+        self.publisher, self.north = (Client(self.desk.url, token) for token in (PUBLISHER, NORTH))
+
+    def publish(self, text):
+        same("published", self.publisher.run("publish", write(self.place + "/publication", text))[0], 0)
+
+    def send(self, *words, text):
+        same("sent: " + " ".join(words), self.north.run(*words, write(self.place + "/list", text))[0], 0)
+
+    def zone(self, name, *sysmods):
+        rows = ["SYSMOD,STATE", *(each + ",APPLIED" for each in sysmods)]
+        self.send("zone", name, text="\n".join(rows) + "\n")
+
+
+def sample():
+    """The sample's desk, with the lists of NORTH."""
+    bench = Bench()
+    same("published", bench.publisher.run("publish", SITE + "/publication.txt")[0], 0)
+    same("sent", bench.north.run("sync", SITE + "/north")[0], 0)
+    return bench
+
+
+def words_that_are_wrong():
+    north = Client("http://127.0.0.1:9", NORTH)
+    kept = write(folder() + "/kept", "")
+    for words in (
+        ("errsysmods", "A", "--alert"),
+        ("errsysmods", "A", "--alert", "hiper"),
+        ("missingfix", "A", "--alert", "PE"),
+        ("errsysmods", "A", "--since", kept),
+        ("news",),
+        ("news", "a"),
+        ("news", "A", "--since", kept + "-none"),
+        ("news", "A", "--csv"),
+        ("overview", "A"),
+        ("errsysmods", "A", "--symptoms", kept),
+        ("missingfix", "A", "--csv", "--symptoms", kept),
+        ("errsysmods", "A", "--csv", "--symptoms", kept + "-none"),
+        ("job", "A"),
+        ("job", "A", "uj1"),
+        ("job", "A", "UJ1", "UJ1234567"),
+        ("zones", "--all"),
+    ):
+        same("no such words: %s" % (words,), north.run(*words)[0], 2)
+
+
+def alerts():
+    bench = sample()
+    text = bench.north.run("errsysmods", "MVSPROD")[1]
+    for words, status in (
+        (("HIPER",), 0),
+        (("PE",), 4),
+        (("P",), 0),
+        (("ANY",), 4),
+        (("HIPER", "PE"), 4),
+    ):
+        options = [word for each in words for word in ("--alert", each)]
+        same("alert: %s" % (words,), bench.north.run("errsysmods", "MVSPROD", *options), (status, text, ""))
+    same("also as CSV", bench.north.run("errsysmods", "--csv", "MVSPROD", "--alert", "PE")[0], 4)
+    same("a zone that is not there", bench.north.run("errsysmods", "NONE", "--alert", "ANY")[0], 1)
+    bench.zone("GOOD", "HBB77E0")
+    same("no row, no alert", bench.north.run("errsysmods", "GOOD", "--alert", "ANY")[0], 0)
+    bench.publish("++HOLD(HBB77E0) ERROR REASON(AJ1).\n")
+    same("a row without a class is one of any", bench.north.run("errsysmods", "GOOD", "--alert", "ANY")[0], 4)
+    same("and of no class", bench.north.run("errsysmods", "GOOD", "--alert", "HIPER", "--alert", "PE")[0], 0)
+    bench.desk.end()
+
+
+def why_empty():
+    """A report without rows says why on standard error. The report itself is the desk's."""
+    bench = Bench()
+
+    def says(report, zone, words, client=bench.north):
+        status, out, err = client.run(report, zone)
+        check("%s of %s: %s" % (report, zone, words), status == 0 and out.endswith("ROWS 0\n") and words in err, (status, out, err))
+
+    bench.zone("A", "UJ1")
+    for report in ("errsysmods", "missingfix"):
+        says(report, "A", "nothing is published yet")
+    bench.publish("++PTF(UJ1).\n")
+    for report in ("errsysmods", "missingfix"):
+        says(report, "A", "no hold is published yet, so there is nothing to report: PUBLISHED SYSMODS 1 HOLDS 0")
+    bench.publish("++HOLD(UJ2) ERROR REASON(AJ2).\n++HOLD(UJ2) FIXCAT REASON(AJ3) CATEGORY(IBM.X).\n")
+    says("errsysmods", "A", "nothing is wrong: of what is published, no ERROR hold concerns the zone A. PUBLISHED SYSMODS 1 HOLDS 2")
+    says("missingfix", "A", "no fix categories of the zone A were sent from here")
+    bench.send("categories", "A", text="CATEGORY\n")
+    says("missingfix", "A", "no fix categories are set for the zone A: the list that was sent has none")
+    bench.send("categories", "A", text="CATEGORY\nIBM.*\n")
+    says("missingfix", "A", "nothing is wrong: no fix of the categories of the zone A is missing. PUBLISHED SYSMODS 1 HOLDS 2")
+    same("in another code", "no fix of" in bench.north.run("missingfix", "A", BUREAU_CODE="ISO-8859-1")[2], True)
+    says("missingfix", "A", "were sent from here", Client(bench.desk.url, NORTH))
+    bench.zone("EMPTY")
+    for report in ("errsysmods", "missingfix"):
+        says(report, "EMPTY", "the zone EMPTY has no SYSMOD at http://127.0.0.1:")
+    bench.zone("B", "UJ2")
+    same("one with rows says nothing", bench.north.run("errsysmods", "B")[2], "")
+    same("a refused one too", "nothing" in bench.north.run("errsysmods", "C")[2], False)
+    bench.desk.end()
+
+
+def drawn(dice, count):
+    """A publication of so many PTFs with ERROR and FIXCAT holds, zones of them, and what was received."""
+    functions = ["HBB77E%d" % at for at in range(6)]
+    ptfs = ["UJ%05d" % at for at in range(count)]
+    lines = ["++FUNCTION(%s).\n++VER(Z038)." % each for each in functions]
+    for at, ptf in enumerate(ptfs):
+        fmid, older = dice.choice(functions), ptfs[max(0, at - 40) : at]
+        pre = dice.sample(older, min(len(older), dice.choice((0, 0, 1, 2))))
+        sup = dice.sample(older, min(len(older), dice.choice((0, 0, 1)))) + ["AJ%05d" % at]
+        lines.append("++PTF(%s).\n++VER(Z038) FMID(%s)" % (ptf, fmid))
+        lines += [" PRE(%s)" % ",".join(pre)] * bool(pre) + [" SUP(%s)." % ",".join(sup)]
+    for ptf in dice.sample(ptfs, count // 4):
+        kind = dice.choice(("HIPER", "PE", "PE", "OTHER", ""))
+        lines.append("++HOLD(%s) ERROR FMID(%s)\n REASON(AJ%05d)%s." % (ptf, functions[0], dice.randrange(count + count // 8), " CLASS(%s)" % kind if kind else ""))
+    for ptf in dice.sample(ptfs, count // 20):
+        lines.append("++HOLD(%s) FIXCAT REASON(AJ%05d)\n CATEGORY(IBM.A%d,IBM.B%d)." % (ptf, dice.randrange(count), dice.randrange(5), dice.randrange(5)))
+    for ptf in dice.sample(ptfs, count // 20):
+        lines.append("++HOLD(%s) SYSTEM REASON(%s)." % (ptf, dice.choice(("IPL", "DOC", "ACTION"))))
+    zones = {name: functions[:3] + dice.sample(ptfs, count // share) for name, share in (("LARGE", 2), ("SMALL", 20), ("Z@#$", 50))}
+    return "\n".join(lines) + "\n", zones, dice.sample(ptfs, count // 5)
+
+
+def drawn_site(count):
+    bench = Bench()
+    text, zones, received = drawn(random.Random(count), count)
+    bench.publish(text)
+    for name, sysmods in zones.items():
+        bench.zone(name, *sysmods)
+    bench.send("categories", "LARGE", text="CATEGORY\n*\n")
+    bench.send("categories", "Z@#$", text="CATEGORY\nIBM.A*\n")
+    bench.send("received", text="SYSMOD\n" + "".join(each + "\n" for each in received))
+    return bench
+
+
+def rows_of(north, report, zone):
+    """The report by the client's CSV."""
+    rows = list(csv.DictReader(io.StringIO(north.run(report, "--csv", zone)[1])))
+    return [{name: text.removeprefix("'") for name, text in row.items()} for row in rows]
+
+
+def counts(north, zone):
+    """What the overview has to say of a zone: from its rows, one after the other."""
+    holds = collections.defaultdict(lambda: [set(), ""])
+    for row in rows_of(north, "errsysmods", zone):
+        hold = holds[row["SYSMOD"] + " " + row["REASON"]]
+        hold[0].add(row["STATUS"])
+        hold[1] = row["CLASS"]
+    classes = [kind if kind in ("HIPER", "PE") else "OTHER" for _, kind in holds.values()]
+    best = ["GOOD" if "GOOD" in found else "HELD" if "HELD" in found else "NONE" for found, _ in holds.values()]
+    fixes = {row["FMID"] + " " + row["REASON"] for row in rows_of(north, "missingfix", zone)}
+    names = {key.split()[0] for key in holds}
+    by = [each.count(name) for each, some in ((classes, ("HIPER", "PE", "OTHER")), (best, ("NONE", "HELD", "GOOD"))) for name in some]
+    return [str(number) for number in (len(names), len(holds), *by, len(fixes))]
+
+
+def overviews():
+    bench = Bench()
+    same("no zone", bench.north.run("overview"), (0, NO_ZONE + "PUBLISHED SYSMODS 0 HOLDS 0\n", ""))
+    same("the publisher's", bench.publisher.run("overview"), (0, "PUBLISHED SYSMODS 0 HOLDS 0\nLAST PUBLICATION 0\n", ""))
+    bench.desk.end()
+    bench = sample()
+    line = "MVSPROD  3       1        1      0      1      0      0      0      1      1\n"
+    same("of the sample", bench.north.run("overview"), (0, OVERVIEW + line + "ROWS 1\nPUBLISHED SYSMODS 8 HOLDS 5\n", ""))
+    heading = "ZONE,SYSMODS,IN-ERROR,HOLDS,HIPER,PE,OTHER,NONE,HELD,GOOD,FIXES\n"
+    same("as CSV", bench.north.run("overview", "--csv"), (0, heading + "MVSPROD,3,1,1,0,1,0,0,0,1,1\n", ""))
+    same("in another code", bench.north.run("overview", BUREAU_CODE="ISO-8859-1")[1].splitlines()[1] + "\n", line)
+    same("the publisher's", bench.publisher.run("overview"), (0, "PUBLISHED SYSMODS 8 HOLDS 5\nLAST PUBLICATION 1\n", ""))
+    same("an unknown token", Client(bench.desk.url, "nobodys-token").run("overview")[0], 1)
+    bench.desk.end()
+    same("no desk", bench.north.run("overview")[:2], (3, ""))
+
+
+def overview_of_many(bench):
+    status, out, err = bench.north.run("overview", "--csv")
+    same("an overview of many", (status, err), (0, ""))
+    for zone, sysmods, *got in list(csv.reader(io.StringIO(out)))[1:]:
+        same("of " + zone, [each.removeprefix("'") for each in got], counts(bench.north, zone.removeprefix("'")))
+        check("which has some", int(got[1]) > 0, got)
+
+
+def news():
+    bench = sample()
+    north = bench.north
+    status, out, err = north.run("news", "MVSPROD")
+    check("the first", (status, out) == (0, "") and "first news of the zone MVSPROD" in err, (status, out, err))
+    same("nothing is new", north.run("news", "MVSPROD"), (0, "", ""))
+    kept = write(bench.place + "/kept", north.run("errsysmods", "MVSPROD")[1])
+    bench.publish("++RELEASE(UJ92001) ERROR REASON(AJ64001).\n")
+    heading = "EXCEPTION SYSMOD REPORT FOR ZONE MVSPROD\n     FMID     SYSMOD   REASON   RESOLVER STATUS RECEIVED CLASS\n"
+    rows = ["HBB77E0  UJ92001  AJ64001  UJ92002  HELD   NO       PE\n", "HBB77E0  UJ92001  AJ64001  UJ92005  GOOD   YES      PE\n"]
+    went = heading + "".join("WENT " + row for row in rows) + "CAME 0 WENT 2 CHANGED 0\n"
+    same("what went", north.run("news", "MVSPROD"), (0, went, ""))
+    same("is told once", north.run("news", "MVSPROD"), (0, "", ""))
+    same("since a kept report", north.run("news", "--since", kept, "MVSPROD"), (0, went, ""))
+    same("as often as it is asked", north.run("news", "MVSPROD", "--since", kept), (0, went, ""))
+    bench.publish("++HOLD(UJ92001) ERROR FMID(HBB77E0) REASON(AJ64001) CLASS(HIPER).\n")
+    changed = [row.replace("PE", "HIPER") for row in rows]
+    pairs = "".join("WAS  %sNOW  %s" % pair for pair in zip(rows, changed))
+    same("what changed", north.run("news", "MVSPROD", "--since", kept), (0, heading + pairs + "CAME 0 WENT 0 CHANGED 2\n", ""))
+    came = "".join("CAME " + row for row in changed)
+    same("what came", north.run("news", "MVSPROD")[1], heading + came + "CAME 2 WENT 0 CHANGED 0\n")
+    bench.send("categories", "MVSPROD", text="CATEGORY\nIBM.Function.*\n")
+    status, out, _ = north.run("news", "MVSPROD")
+    check("of the missing fixes too", out.startswith("MISSING FIX REPORT FOR ZONE MVSPROD\n     CATEGORY ") and out.endswith("CAME 0 WENT 1 CHANGED 0\n"), out)
+    bench.send("received", text="SYSMOD\n")
+    before = north.run("errsysmods", "MVSPROD")[1]
+    with open("/dev/full", "w") as full:
+        run = subprocess.run([CLIENT, "news", "MVSPROD"], env=north.environment, stdout=full, stderr=subprocess.PIPE)
+    same("what could not be told", run.returncode, 3)
+    same("is told the next time", "NOW  HBB77E0  UJ92001  AJ64001  UJ92005  GOOD   NO       HIPER" in north.run("news", "MVSPROD")[1], True)
+    same("a report in another code", north.run("news", "MVSPROD", "--since", write(bench.place + "/now", before), BUREAU_CODE="ISO-8859-1"), (0, "", ""))
+    for name, text in (
+        ("no report", "SYSMOD,STATE\n"),
+        ("nothing", ""),
+        ("half a report", before[:-7]),
+        ("the report of another zone", before.replace("MVSPROD", "MVSTEST")),
+    ):
+        status, out, err = north.run("news", "--since", write(bench.place + "/bad", text), "MVSPROD")
+        check("since " + name, (status, out) == (1, "") and "no report on the zone MVSPROD" in err, (status, out, err))
+    same("with CR LF", north.run("news", "--since", write(bench.place + "/crlf", before.replace("\n", "\r\n")), "MVSPROD"), (0, "", ""))
+    same("no such zone", north.run("news", "NONE")[:2], (1, ""))
+    bench.desk.end()
+
+
+def news_of_many(bench):
+    """Each row that came, went or changed is told, and no other."""
+    old = {each: bench.north.run(each, "LARGE")[1].splitlines()[2:-1] for each in ("errsysmods", "missingfix")}
+    bench.north.run("news", "LARGE")
+    rows = bench.desk.ask("GET", "/zones/LARGE/errsysmods", NORTH)[1].decode().splitlines()[2:-1]
+    releases = ["++RELEASE(%s) ERROR REASON(%s)." % (row[9:16].strip(), row[18:25].strip()) for row in rows[::9]]
+    bench.publish("\n".join(releases) + "\n++HOLD(HBB77E1) ERROR REASON(AJ00001).\n")
+    bench.send("received", text="SYSMOD\n" + "".join(sorted({row[27:34].strip() + "\n" for row in rows[1::7] if row[27] != "-"})))
+    status, out, err = bench.north.run("news", "LARGE")
+    same("news of many", (status, err), (0, ""))
+    told = {word: sorted(line[5:] for line in out.splitlines() if line.startswith(word)) for word in ("CAME ", "WENT ", "WAS ", "NOW ")}
+    told = {word: [line for line in lines if not line.startswith("WENT")] for word, lines in told.items()}
+    gone, come = [], []
+    for report, before in old.items():
+        after = bench.north.run(report, "LARGE")[1].splitlines()[2:-1]
+        gone += set(before) - set(after)
+        come += set(after) - set(before)
+    counts_told = [line for line in out.splitlines() if re.fullmatch(r"CAME \d+ WENT \d+ CHANGED \d+", line)]
+    told["CAME "] = [line for line in told["CAME "] if not re.fullmatch(r"\d+ WENT \d+ CHANGED \d+", line)]
+    same("what went, and what was", sorted(told["WENT "] + told["WAS "]), sorted(gone))
+    same("what came, and what is now", sorted(told["CAME "] + told["NOW "]), sorted(come))
+    check("of each kind some", all(told.values()) and counts_told, {word: len(lines) for word, lines in told.items()})
+
+
+def without_time(text):
+    return re.sub(r"ASKED [0-9-]{10}( \*/\n /\*)? [0-9:]{8}", "ASKED", text)
+
+
+def jobs():
+    bench = sample()
+    north = bench.north
+    with open(os.path.join(TOP, "docs", "FIRST-STEPS.md")) as page:
+        shown = re.search(r"^```\n( /\* CHAIN OF.*?)^```$", page.read(), re.M | re.S)[1]
+    status, out, err = north.run("job", "MVSPROD", "UJ92005")
+    same("as the page of the first steps shows it", (status, without_time(out), err), (0, without_time(shown), ""))
+    status, out, err = north.run("job", "MVSPROD", "UJ92003", "UJ92002", "UJ92005", "UJ99999")
+    same("what can't be installed ends it with 1", status, 1)
+    for sentence in ("UJ92002 can't be installed: AJ64002 is in the way", "UJ99999 is not published, or is for a function that the zone lacks"):
+        check("and is told", sentence in err, err)
+        check("in the job too", sentence.upper() in " ".join(re.findall(r" /\* (.*) \*/", out)), out)
+    lines = [line for line in out.splitlines() if line and not line.startswith(" /*")]
+    same(
+        "what was received is not received again",
+        lines,
+        [
+            " SET BOUNDARY(GLOBAL).", " RECEIVE SYSMODS SELECT(", "    UJ92003,UJ93001", "    ).",
+            " SET BOUNDARY(MVSPROD).", " APPLY CHECK SELECT(", "    UJ92003,UJ92005,UJ93001", "    )", " .",
+        ],
+    )
+    once, twice = (north.run("job", "MVSPROD", *["UJ92003"] * times)[1] for times in (1, 2))
+    same("one that is named twice stands once", without_time(twice), without_time(once))
+    check("nothing is left", "NOTHING CAN BE INSTALLED" in north.run("job", "MVSPROD", "UJ92002")[1])
+    same("no such zone", north.run("job", "NONE", "UJ92005")[:2], (1, ""))
+    bench.desk.end()
+
+
+def jobs_of_many(bench):
+    """The job of a chain is that of the page's own code, where node is there to run it; each line is one of SMP/E."""
+    rows = [row for row in rows_of(bench.north, "errsysmods", "LARGE") if row["STATUS"] == "GOOD"]
+    dice = random.Random(1)
+    several = [row["RESOLVER"] for row in dice.sample(rows, min(len(rows), 40))]
+    for resolvers in (*([each] for each in several[:12]), several):
+        status, out, err = bench.north.run("job", "LARGE", *resolvers)
+        same("a job of %d" % len(resolvers), (status, err), (0, ""))
+        check("in columns 1 to 71", all(len(line) <= 71 and line == line.upper() and line[:1] in ("", " ") for line in out.splitlines()), out)
+        chains = [json.loads(bench.desk.ask("GET", "/zones/LARGE/chains/" + each, NORTH)[1]) for each in resolvers]
+        members = sorted({member["id"] for chain in chains for member in chain["plan"]})
+        selected = re.search(r"APPLY CHECK SELECT\((.*?)\)", out, re.S)[1]
+        same("with all members", re.findall("[A-Z0-9]+", selected), members)
+        if shutil.which("node") and len(resolvers) == 1:
+            same("as the page makes it", out, page_job(bench, chains[0], out))
+    check("some have holds to heed", any("BYPASS" in bench.north.run("job", "LARGE", row["RESOLVER"])[1] for row in rows[:40]))
+
+
+def page_job(bench, chain, out):
+    """What clients/page/job.js makes of a chain, with the title of a job."""
+    place = folder()
+    shutil.copy(os.path.join(TOP, "clients", "page", "job.js"), place + "/job.mjs")
+    rows = rows_of(bench.north, "errsysmods", "LARGE") + rows_of(bench.north, "missingfix", "LARGE")
+    holds = []
+    for row in rows:
+        hold = {"sysmod": row.get("SYSMOD", row["FMID"]), "reason": row["REASON"]}
+        if row["RESOLVER"] == chain["sysmod"] and hold not in holds:
+            holds.append(hold)
+    received = bench.received
+    members = [
+        {**member, "received": member["id"] in received, "needed_by": [] if own else [chain["sysmod"]], "holds": holds if own else []}
+        for member in chain["plan"]
+        for own in [member["id"] == chain["sysmod"]]
+    ]
+    title = " ".join(re.findall(r"^ /\* (.*) \*/$", out.split(" /* MADE BY")[0], re.M))
+    plan = {"zone": "LARGE", "members": members, "unresolved": [], "held": []}
+    write(place + "/run.mjs", "import { jobOf } from './job.mjs';\nprocess.stdout.write(jobOf(%s, %s));\n" % (json.dumps(plan), json.dumps(title)))
+    return subprocess.run(["node", place + "/run.mjs"], capture_output=True, text=True).stdout
+
+
+def symptoms():
+    """The rows with the symptoms that `publication` wrote of their holds."""
+    bench = Bench()
+    text = "++PTF(@J2).\n++VER(Z038) FMID(HBB77E0) SUP(AJ1).\n"
+    text += "++HOLD(@J1) ERROR FMID(HBB77E0) REASON(AJ1) DATE(25001) CLASS(HIPER)\n COMMENT(SMRTDATA(SYMP(PRV,DAL) FIX(@J2,UJ3) CHGDT(250102))).\n"
+    text += "++HOLD(UJ2) ERROR REASON(AJ1).\n"
+    more = "++HOLD(@J1) ERROR FMID(HBB77E0) REASON(AJ1) DATE(25009) CLASS(HIPER)\n COMMENT(SMRTDATA(SYMP(=IPL) CHGDT(250109))).\n"
+    bench.publish(text)
+    bench.zone("A", "HBB77E0", "@J1", "UJ2")
+    table, path = bench.place + "/symptoms.csv", bench.place + "/publication"
+    make = lambda: subprocess.run([TOP + "/clients/publication", "--symptoms", table, path], env={**os.environ, "BUREAU_PROGRAM": PROGRAM}, capture_output=True)
+    same("the symptoms are written", make().returncode, 0)
+    joined = lambda **more: bench.north.run("errsysmods", "--csv", "A", "--symptoms", table, **more)
+    heading = "FMID,SYSMOD,REASON,RESOLVER,STATUS,RECEIVED,CLASS,DATE,CHGDT,SYMP,FIX\n"
+    other = ",UJ2,AJ1,'@J2,GOOD,NO,,,,,\n"
+    first = "HBB77E0,'@J1,AJ1,'@J2,GOOD,NO,HIPER,25001,250102,PRV DAL,'@J2 UJ3\n"
+    same("joined, by SYSMOD and reason", joined(), (0, heading + other + first, ""))
+    same("in another code", joined(BUREAU_CODE="ISO-8859-1"), (0, heading + other + first, ""))
+    same("with an alert", bench.north.run("errsysmods", "--csv", "A", "--symptoms", table, "--alert", "HIPER")[0], 4)
+    write(path, text + more)
+    same("and anew", make().returncode, 0)
+    same("the last record of a hold counts", joined()[1], heading + other + "HBB77E0,'@J1,AJ1,'@J2,GOOD,NO,HIPER,25009,250109,'=IPL,\n")
+    with open(table, "ab") as file:
+        file.write(b"\r\n")
+    same("an empty line at its end is none", joined()[0], 0)
+    for name, text in (("another table", "SYSMOD,REASON\n"), ("nothing", "")):
+        write(table, text)
+        status, out, err = joined()
+        check(name, (status, out) == (1, "") and "does not begin with SYSMOD,REASON,DATE,CHGDT,SYMP,FIX" in err, (status, out, err))
+    bench.desk.end()
+
+
+def alone():
+    """The client alone sends and asks. What follows from the reports needs Python, and the file beside it, also by a link."""
+    bench, place = sample(), folder()
+    shutil.copy(CLIENT, place + "/bureau-client")
+    run = lambda path, *words, **more: subprocess.run([path, *words], env={**bench.north.environment, **more}, capture_output=True, text=True)
+    same("by itself", run(place + "/bureau-client", "errsysmods", "MVSPROD", "--alert", "PE").returncode, 4)
+    for words in (("overview",), ("news", "MVSPROD"), ("job", "MVSPROD", "UJ92005")):
+        done = run(place + "/bureau-client", *words)
+        check("without the file: %s" % (words,), done.returncode == 2 and "reports.py is not in " + place in done.stderr, done)
+    os.symlink(CLIENT, place + "/link")
+    os.symlink("link", place + "/another")
+    same("by a link", run(place + "/another", "overview").returncode, 0)
+    tools = folder()
+    for name in ("sh", "awk", "cat", "cksum", "cp", "curl", "cut", "dirname", "ls", "mkdir", "rm", "sed", "tail", "tr", "wc"):
+        os.symlink(shutil.which(name), tools + "/" + name)
+    done = run(CLIENT, "overview", PATH=tools)
+    check("without Python", done.returncode == 2 and "python3 is not there" in done.stderr, done)
+    same("a report needs none", run(CLIENT, "errsysmods", "MVSPROD", PATH=tools).returncode, 0)
+    bench.desk.end()
+
+
+def many(count):
+    bench = drawn_site(count)
+    bench.received = set(drawn(random.Random(count), count)[2])
+    overview_of_many(bench)
+    jobs_of_many(bench)
+    news_of_many(bench)
+    bench.desk.end()
+
+
+for part in (words_that_are_wrong, alerts, why_empty, overviews, news, symptoms, jobs, alone):
+    part()
+many(int(sys.argv[1]) if len(sys.argv) > 1 else 1000)
+finish("client's reports")

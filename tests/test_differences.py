@@ -1,0 +1,16 @@
+#!/usr/bin/env python3
+"""Each case of docs/DIFFERENCES.md, run as it stands: what follows a command on the page is what it prints."""
+import os
+import re
+import subprocess
+
+from service import PROGRAM, TOP, finish, same
+
+with open(os.path.join(TOP, "docs", "DIFFERENCES.md")) as page:
+    blocks = re.findall(r"^```\n(.*?)^```$", page.read(), re.M | re.S)
+same("the cases", len(blocks), 6)
+for command, printed in zip(blocks[::2], blocks[1::2]):
+    words = [PROGRAM if word == "./bureau" else word for word in command.split()]
+    run = subprocess.run(words, cwd=TOP, capture_output=True, text=True)
+    same(command, (run.returncode, run.stdout, run.stderr), (0, printed, ""))
+finish("differences")
