@@ -2,7 +2,7 @@
 """What bureau-client makes of a desk's answers: an overview, what is new, jobs for SMP/E, and rows with their symptoms.
 
 bureau-client asks the desk, and gives the answers to this as files. So nothing is sent from here, and no token comes
-here. It needs Python 3 alone. All files are UTF-8, and so is what it prints.
+here. It needs Python 3.9 or later, and nothing else. All files are UTF-8, and so is what it prints.
 
     reports.py [--csv] overview FOLDER            a line for each zone, of the answers in FOLDER
     reports.py news OLD NEW                       the rows that came, went or changed from OLD to NEW

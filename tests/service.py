@@ -1,5 +1,6 @@
 """What the tests of the service share: a desk on a port, the client, and the count of what passed."""
 import os
+import re
 import shutil
 import socket
 import subprocess
@@ -105,6 +106,11 @@ def write(path, text):
     with open(path, "wb") as out:
         out.write(text if isinstance(text, bytes) else text.encode())
     return path
+
+
+def without_time(job):
+    """A job for SMP/E without the time of asking in its title, which may stand on two lines."""
+    return re.sub(r"ASKED( \*/\n /\*)? [0-9-]{10}( \*/\n /\*)? [0-9:]{8}", "ASKED", job)
 
 
 def curl_that_loses_replies(place):

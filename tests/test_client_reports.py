@@ -16,7 +16,7 @@ import shutil
 import subprocess
 import sys
 
-from service import CLIENT, PROGRAM, SAMPLE, TOP, Client, Desk, check, finish, folder, same, write
+from service import CLIENT, PROGRAM, SAMPLE, TOP, Client, Desk, check, finish, folder, same, without_time, write
 
 NORTH, SOUTH, PUBLISHER = "north-token", "south-token", "publisher-token"
 CALLERS = os.path.join(SAMPLE, "callers.csv")
@@ -275,10 +275,6 @@ def news_of_many(bench):
     same("what went, and what was", sorted(told["WENT "] + told["WAS "]), sorted(gone))
     same("what came, and what is now", sorted(told["CAME "] + told["NOW "]), sorted(come))
     check("of each kind some", all(told.values()) and counts_told, {word: len(lines) for word, lines in told.items()})
-
-
-def without_time(text):
-    return re.sub(r"ASKED [0-9-]{10}( \*/\n /\*)? [0-9:]{8}", "ASKED", text)
 
 
 def jobs():

@@ -10,7 +10,7 @@ import time
 
 from chromium import Browser
 from page import check, click, enter, picture, same, shows
-from service import PROGRAM, TOP, finish, folder, free_port
+from service import PROGRAM, TOP, finish, folder, free_port, without_time
 from stand_in import until
 
 place = folder()
@@ -65,8 +65,8 @@ click(browser, ".beside [aria-label='Save as SMP/E job']")
 saved = os.path.join(place, "MVSPROD-UJ92005.smpcntl.txt")
 check("the job is saved", until(lambda: os.path.exists(saved)))
 time.sleep(0.2)
-without_time = lambda lines: re.sub(r"ASKED [0-9: -]{19}", "ASKED", lines)
 same("as it stands on the page", without_time(open(saved).read()), without_time(job))
+same("as the client prints it", without_time(run(path + "BUREAU_HOME=north bureau-client job MVSPROD UJ92005\n")), without_time(job))
 browser.end()
 run(end)
 # a terminal sends Ctrl-C, which a run in the background ignores

@@ -207,6 +207,7 @@ if debs:
     same("the unit names what is there", [path for path in named if not os.path.exists(root + path)], [])
     same("the unit names its page and the program", len(named), 2)
     same("with the client", hidden(root, "usr/bin/bureau-client help | head -n 1")[0], 0)
+    same("which finds what is beside it", hidden(root, "usr/bin/bureau-client overview 2>&1 | grep -c 'there is no token'"), (0, b"1\n"))
     same(
         "each command is found",
         [

@@ -9,14 +9,13 @@ import csv
 import io
 import json
 import os
-import re
 import time
 
 from chromium import Browser
 from drawn_desk import DrawnDesk, Zone
 from front import Front
 from page import NORTH, PUBLISHER, SOUTH, ZONES, check, click, enter, go, is_wide, lines, no_faults, picture, said, same, shows
-from service import SAMPLE, TOP, Client, Desk, finish, folder, write
+from service import SAMPLE, TOP, Client, Desk, finish, folder, without_time, write
 from stand_in import StandIn, until
 
 SITE = os.path.join(TOP, "examples", "site")
@@ -103,10 +102,6 @@ def sample(browser, front, north):
     said(browser, "The token is forgotten.")
     same("forgotten", (browser.run("sessionStorage.length"), browser.run("document.querySelectorAll('main *').length")), (0, 0))
     check("the form is there again", browser.run("document.getElementById('token').offsetParent !== null"))
-
-
-def without_time(text):
-    return re.sub(r"ASKED [0-9-]{10}( \*/\n /\*)? [0-9:]{8}", "ASKED", text)
 
 
 def chain_job(browser, north):
