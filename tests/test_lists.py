@@ -221,6 +221,8 @@ def differences():
     for name, text, is_named in (
         ("alike in another order", two % (1, "PRE(A,B)", "", "PRE(B) REQ(A)", ""), False),
         ("a PRE alone", two % (1, "PRE(A)", "", "", ""), True),
+        ("a comma before the list", two % (1, "PRE,(A)", "", "REQ , (B)", ""), True),
+        ("a list in a list", two % (1, "XY(PRE(A))", "", "XY(PRE(B))", ""), False),
         ("a comment in a list", two % (1, "PRE(A /* ( B */)", "", "/* PRE(C) */ REQ(A)", ""), False),
         ("another SUP", two % (1, "SUP(A)", "", "SUP(B)", ""), False),
         ("an IF of one", two % (1, "", "++IF FMID(A) REQ(B).\n", "", ""), True),
