@@ -9,8 +9,8 @@ here. It needs Python 3.9 or later, and nothing else. All files are UTF-8, and s
     reports.py symptoms REPORT FILE               the exception SYSMODs as CSV, with the symptoms of FILE
     reports.py job TIME FOLDER SYSMOD..           a job for SMP/E, of the answers in FOLDER
 
-docs/CLIENT.md shows each. Exit status: 0 done; 1 OLD has no report of the zone, or a SYSMOD of a job can't be installed;
-3 what came is no answer of a desk, or a file can't be read or written.
+docs/CLIENT.md shows each. Exit status: 0 done; 1 OLD or FILE is none, or a SYSMOD of a job can't be installed; 2 it has
+no words; 3 what came is no answer of a desk, or a file can't be read or written.
 """
 import csv
 import json
@@ -367,6 +367,9 @@ def run(words):
 
 
 def main():
+    if len(sys.argv) < 3:
+        print(__doc__, file=sys.stderr)
+        sys.exit(2)
     sys.stdout.reconfigure(encoding="utf-8", newline="\n")
     try:
         status = run(sys.argv[1:])

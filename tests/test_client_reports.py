@@ -1,9 +1,9 @@
 #!/usr/bin/env python3
 """What bureau-client makes of reports, against a desk: alerts, why a report is empty, the overview, news, and jobs.
 
-    test_client_reports.py [SYSMODS]
+    test_client_reports.py [SYSMODS [SHELL]]
 
-SYSMODS is how many are drawn for the large zones.
+SYSMODS is how many are drawn for the large zones. SHELL runs the client, such as `ksh93` or `bash --posix`.
 """
 import collections
 import csv
@@ -18,11 +18,16 @@ import sys
 
 from service import CLIENT, PROGRAM, SAMPLE, TOP, Client, Desk, check, finish, folder, same, without_time, write
 
-NORTH, SOUTH, PUBLISHER = "north-token", "south-token", "publisher-token"
+SHELL = sys.argv[2] if len(sys.argv) > 2 else None
+NORTH, PUBLISHER = "north-token", "publisher-token"
 CALLERS = os.path.join(SAMPLE, "callers.csv")
 SITE = os.path.join(TOP, "examples", "site")
 OVERVIEW = "ZONE     SYSMODS IN-ERROR HOLDS  HIPER  PE     OTHER  NONE   HELD   GOOD   FIXES\n"
 NO_ZONE = OVERVIEW + "ROWS 0\n"
+
+
+def client(url, token):
+    return Client(url, token, SHELL)
 
 
 class Bench:
@@ -30,7 +35,7 @@ class Bench:
 
     def __init__(self):
         self.desk, self.place = Desk(CALLERS), folder()
-        self.publisher, self.north = (Client(self.desk.url, token) for token in (PUBLISHER, NORTH))
+        self.publisher, self.north = (client(self.desk.url, token) for token in (PUBLISHER, NORTH))
 
     def publish(self, text):
         same("published", self.publisher.run("publish", write(self.place + "/publication", text))[0], 0)
@@ -52,7 +57,7 @@ def sample():
 
 
 def words_that_are_wrong():
-    north = Client("http://127.0.0.1:9", NORTH)
+    north = client("http://127.0.0.1:9", NORTH)
     kept = write(folder() + "/kept", "")
     for words in (
         ("errsysmods", "A", "--alert"),
@@ -101,8 +106,8 @@ def why_empty():
     """A report without rows says why on standard error. The report itself is the desk's."""
     bench = Bench()
 
-    def says(report, zone, words, client=bench.north):
-        status, out, err = client.run(report, zone)
+    def says(report, zone, words, caller=bench.north):
+        status, out, err = caller.run(report, zone)
         check("%s of %s: %s" % (report, zone, words), status == 0 and out.endswith("ROWS 0\n") and words in err, (status, out, err))
 
     bench.zone("A", "UJ1")
@@ -119,7 +124,7 @@ def why_empty():
     bench.send("categories", "A", text="CATEGORY\nIBM.*\n")
     says("missingfix", "A", "nothing is wrong: no fix of the categories of the zone A is missing. PUBLISHED SYSMODS 1 HOLDS 2")
     same("in another code", "no fix of" in bench.north.run("missingfix", "A", BUREAU_CODE="ISO-8859-1")[2], True)
-    says("missingfix", "A", "were sent from here", Client(bench.desk.url, NORTH))
+    says("missingfix", "A", "were sent from here", client(bench.desk.url, NORTH))
     bench.zone("EMPTY")
     for report in ("errsysmods", "missingfix"):
         says(report, "EMPTY", "the zone EMPTY has no SYSMOD at http://127.0.0.1:")
@@ -196,7 +201,7 @@ def overviews():
     same("as CSV", bench.north.run("overview", "--csv"), (0, heading + "MVSPROD,3,1,1,0,1,0,0,0,1,1\n", ""))
     same("in another code", bench.north.run("overview", BUREAU_CODE="ISO-8859-1")[1].splitlines()[1] + "\n", line)
     same("the publisher's", bench.publisher.run("overview"), (0, "PUBLISHED SYSMODS 8 HOLDS 5\nLAST PUBLICATION 1\n", ""))
-    same("an unknown token", Client(bench.desk.url, "nobodys-token").run("overview")[0], 1)
+    same("an unknown token", client(bench.desk.url, "nobodys-token").run("overview")[0], 1)
     bench.desk.end()
     same("no desk", bench.north.run("overview")[:2], (3, ""))
 
@@ -410,4 +415,4 @@ def many(count):
 for part in (words_that_are_wrong, alerts, why_empty, overviews, news, symptoms, jobs, alone):
     part()
 many(int(sys.argv[1]) if len(sys.argv) > 1 else 1000)
-finish("client's reports")
+finish("client's reports" + (", " + SHELL if SHELL else ""))
