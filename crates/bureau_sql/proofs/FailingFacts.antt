@@ -80,7 +80,7 @@ cannot_write old new e known (inr other) = other
 -- why a store isn't made, told as a fault
 pub fails_to_found : (old new : State) (callers : List CallerRow) (e : Error) (fault : StoreFault) → (e ≡ store_error OutOfMemory → fault ≡ Memory)
     → (AreFit callers → HasCleanDisk new → IsEmpty old.committed → Excuses old new e) → HasCleanDisk new → FailsToFound old new callers fault
-fails_to_found old new callers e fault known excused clean empty fit = elim (excused fit clean empty) [
+fails_to_found old new callers e fault known excused clean fit empty = elim (excused fit clean empty) [
   | inl memory ↦ inr (inl (known memory))
   | inr other ↦ inr (inr other)
 ]

@@ -1,4 +1,5 @@
 pub mod PlainFacts
+pub mod CallersFacts
 pub mod RefusedFacts
 pub mod ToldFacts
 pub mod RecentFacts

@@ -30,7 +30,10 @@ pub record IsNotMade (at : State) (fault : StoreFault) : Type 0 where
   pub taken : IsTrue at.is_open → (fault ≡ Shape) ↔ (IsEmpty at.committed → ⊥)
   pub other : fault ≢ Shape → IsOfCall fault
 
--- And of an empty database, with callers that are fit, it is want of memory, or it couldn't be written.
+-- And of an empty database it is want of memory, or it couldn't be written.
+abbrev pub IsNotFounded : State → State → StoreFault → Type 0
+IsNotFounded at new fault = IsEmpty at.committed → (fault ≡ Shape) ⊎ ((fault ≡ Memory) ⊎ CannotWrite at new)
+
+-- So it is with callers that are fit.
 abbrev pub FailsToFound : State → State → List CallerRow → StoreFault → Type 0
-FailsToFound at new callers fault =
-    IsEmpty at.committed → AreFit callers → (fault ≡ Shape) ⊎ ((fault ≡ Memory) ⊎ CannotWrite at new)
+FailsToFound at new callers fault = AreFit callers → IsNotFounded at new fault

@@ -1,6 +1,8 @@
-//! What an opening finds in the files of a store, as a law.
-ghost use Rattle.std.specs.Prelude.{◌≡◌};
+//! What holds of the files of a store, and of the callers of a new one, as laws.
+ghost use Rattle.std.specs.Prelude.{◌≡◌, ℕ, List, Ok};
+ghost use Rattle.bureau_store.specs.Callers.{callers_of};
 ghost use Rattle.bureau_store.specs.Tables.{Tables};
+ghost use Rattle.bureau_store.specs.declared.caller.CallerRow.{CallerRow};
 ghost use Rattle.sqlite.specs.Effect.{Database, IsDatabase};
 ghost use Rattle.sqlite.specs.Files.{HoldsDatabase};
 ghost use Rattle.sqlite_trees.specs.Tree.{Trees};
@@ -8,6 +10,7 @@ ghost use Rattle.sqlite_wal.specs.Recovery.{Image};
 ghost use Rattle.sql_state.specs.Earlier.{IsOfVersion1, held_by_version_1};
 ghost use Rattle.sql_state.specs.Ours.{IsOurs, held_by};
 ghost use Rattle.sql_tables.specs.Stored.{tables_of};
+ghost use Rattle.sql_writes.specs.Making.{AreFit};
 ghost use Rattle.bureau_sql.specs.Files.{HoldsEarlier, HoldsStore};
 
 /// An opening that finds the database which the files hold finds the bureau's own where they hold it, with the tables
@@ -20,4 +23,9 @@ pub fn found()
         → ((trees : Trees) → HoldsDatabase image trees → database.trees ≡ trees)
         → HoldsEarlier image this
         → IsOfVersion1 database × (tables_of (held_by_version_1 database) ≡ this) }
+{}
+
+/// The callers of a callers file are fit to be written: no rule of the tables speaks against them.
+pub fn callers_fit()
+    ensures { (text : List ℕ) (rows : List CallerRow) → callers_of text ≡ Ok rows → AreFit rows }
 {}

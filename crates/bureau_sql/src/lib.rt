@@ -3,7 +3,7 @@
 //! - [`SqlStore`]: the store, over a connection of the kit's `sqlite`: [`SqlStore::init`], [`SqlStore::open`],
 //!   [`SqlStore::migrate`], [`SqlStore::into_connection`]. It is a `Published` and a `Store`
 //!
-//! - [`end`]: a run over files ends; [`law`]: what the next one finds in them
+//! - [`law`]: what an opening finds in the files of a store, and that the callers of a callers file can be written
 //!
 //! `specs/` says how such a store is looked at (`SqlView`), how what a connection gives is told (`Told`), what a change
 //! of it leaves (`Committed`), how it is made (`Founded`), why a connection isn't taken for one (`Opening`), what is left
@@ -27,7 +27,6 @@
 
 mod changes;
 mod commit;
-mod files;
 mod fit;
 mod init;
 pub mod law;
@@ -39,5 +38,4 @@ mod recent;
 mod store;
 mod tables;
 
-pub use files::end;
 pub use store::SqlStore;
