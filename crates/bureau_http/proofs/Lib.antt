@@ -1,12 +1,12 @@
 mod AskingFacts
 mod ReplyFacts
 mod ExchangeFacts
-mod ServingFacts
+pub mod ServingFacts
 mod ArrivalFacts
-mod IsolatedFacts
+pub mod IsolatedFacts
 mod ListFacts
-mod NextFacts
+pub mod NextFacts
 mod ConnectionFacts
 pub mod ReplayFacts
 mod LawfulFacts
-mod ServiceFacts
+pub mod ServiceFacts

@@ -23,7 +23,7 @@ use Rattle.bureau_http.specs.Connection.{IsConnection, IsLast, IsRequest, ReadsT
 use Rattle.bureau_http.specs.Exchange.{Exchange, IsAnswered, call_in, calls_of, exchange_text, refusal_answer, replies_text}
 use Rattle.bureau_http.specs.declared.serving.Served.{Served}
 use Rattle.bureau_http.specs.declared.serving.Step.TheVariants as step
-use Rattle.bureau_http.specs.Served.{AreWritten, IsAsked, IsCutOff, StopsBy, Exchanged, HasExchanged, HasRun, asked_as, IsExchanged, IsFailedWrite, IsOneRun, IsServed, IsSoFar, IsUnfinishedOf, IsWritten, Serves, StopsUnfinished}
+use Rattle.bureau_http.specs.Served.{AreWritten, IfEnded, IsAsked, IsCutOff, StopsBy, Exchanged, HasExchanged, HasRun, asked_as, IsExchanged, IsFailedWrite, IsOneRun, IsServed, IsSoFar, IsUnfinishedOf, IsWritten, Serves, StopsUnfinished}
 use Rattle.bureau_http.specs.Told.{told_text}
 use Rattle.bureau_http.specs.declared.reply.Told.TheVariants.{Refused}
 use Rattle.bureau_http.proofs.ExchangeFacts.{has_exchanged, same_text}
@@ -320,6 +320,11 @@ map_some (Some a) p h = h a p
 -- what a call answers that ends with a fault
 pub exit_as : {A E : Type 0} (P : Result A E → Type 0) (r : Result A E) (e f : E) → ((y : E) × (r ≡ Err y) × (y ≡ e)) → e ≡ f → P (Err f) → P r
 exit_as P r e f exit same p = subst P (sym (exit.1 ∙ ap (λ x. Err x) (exit.2 ∙ same))) p
+
+-- where a read fails or memory runs out, the input didn't end
+pub no_end : (fault : TransferFault) (Fact : Type 0) → IfEnded (Err (of_transfer fault)) Fact
+no_end (transfer.Read error) Fact = tt
+no_end transfer.Memory Fact = tt
 
 -- a head that is refused ends the connection
 pub head_refused : (Runs : Tables → List CallBy → Tables → Type 0) (this : Tables) (ordinal : ℕ) (refusal : Refusal) (bare : Bool) (bytes : List ℕ) (Writes : List ℕ → Type 0)

@@ -107,7 +107,7 @@ pub record IsServed (Runs : Tables → List CallBy → Tables → Type 0) (this 
   pub ran : IsOneRun Runs this (calls_of exchanges)
   pub exchanged : AreExchanged this.callers left old new answer bytes exchanges
 
--- ---- a step of it, and what is so far: these serve private contracts alone
+-- ---- a step of it, which `serve_next` promises
 
 -- a request stands next, which may end the connection
 abbrev pub IsAsked : List CallerRow → ℕ → List ℕ → Asked → Type 0
@@ -119,6 +119,8 @@ pub record Exchanged (Runs : Tables → List CallBy → Tables → Type 0) (this
   pub has : HasExchanged Runs this exchange
   pub written : Writes (exchange_text exchange)
 
+-- What serving the next request does: the bytes that were held and left to read began so, what the desk was asked is a run,
+-- and the reply was written.
 abbrev pub Serves : (Tables → List CallBy → Tables → Type 0) → Tables → ℕ → List ℕ → Option (List ℕ) → Option (List ℕ) → Option (List ℕ) → Result Step ConnFault → List ℕ → Type 0
 Serves Runs this ordinal held left old new (Ok step.CleanEnd) bytes = IsNext bytes clean_end × Runs this [] this × Appends old new []
 Serves Runs this ordinal held left old new (Ok step.Stays) bytes =
@@ -129,7 +131,18 @@ Serves Runs this ordinal held left old new (Err Write) bytes = Exchanged Runs th
 Serves Runs this ordinal held left old new (Err EndInside) bytes = IsNext bytes end_inside × Runs this [] this × Appends old new []
 Serves Runs this ordinal held left old new (Err Memory) bytes = Runs this [] this × Appends old new [] × IsUnfinishedOf held left bytes
 
--- what serving a whole request does
+-- what holds where the input ended before a request stood whole
+abbrev pub IfEnded : Result Step ConnFault → Type 0 → Type 0
+IfEnded (Ok step.CleanEnd) Fact = Fact
+IfEnded (Ok step.Stays) Fact = Unit {0}
+IfEnded (Ok step.Ends) Fact = Unit {0}
+IfEnded (Err Read) Fact = Unit {0}
+IfEnded (Err Write) Fact = Unit {0}
+IfEnded (Err EndInside) Fact = Fact
+IfEnded (Err Memory) Fact = Unit {0}
+
+-- ---- private: what serving a whole request does, and what is so far
+
 abbrev pub asked_as : What → Bool → Bool → Bool → Answer → Exchange
 asked_as what has_token is_bare closes answer =
     record { asked = record { what = what; has_token = has_token; is_bare = is_bare; closes = closes }; answer = answer }

@@ -2,6 +2,7 @@
 //!
 //! - [`Desk`]: what answers calls
 //! - [`serve_one`]: one connection, to its end; [`Served`], [`ConnFault`]
+//! - [`serve_next`]: the next request of a connection; [`Step`], [`Retries`]
 //! - [`serve_list`]: connections in memory, one after the other; [`RunFault`]
 //! - [`replay`]: the same over a store in memory that begins with the callers of a file
 //! - [`serve_listener`]: connections as they come, from a [`Listening`]
@@ -45,5 +46,5 @@ pub use list::serve_list;
 pub use listening::{Listening, serve_listener};
 pub use replaying::replay;
 pub use service::serve_while_open;
-pub use serving::{Served, serve_one};
+pub use serving::{Retries, Served, Step, serve_next, serve_one};
 pub use sockets::{Patience, Side, Sockets};

@@ -1,8 +1,8 @@
 //! One connection, from its bytes to the bytes of its replies.
 ghost use Rattle.std.specs.Prelude.{◌≡◌, ◌<◌, ◌||◌, nat_le, IfOk, IfSome};
-ghost use Rattle.std.specs.Io.KnownBytes.{prepend_known};
+ghost use Rattle.std.specs.Io.KnownBytes.{Keeps, prepend_known};
 ghost use Rattle.bureau_http.specs.Asked.{has_token, most_requests, what_of};
-ghost use Rattle.bureau_http.specs.Served.{HasRun, IsExchanged, IsServed, Serves};
+ghost use Rattle.bureau_http.specs.Served.{HasRun, IfEnded, IsExchanged, IsServed, Serves};
 ghost use Rattle.bureau.specs.Kept.{IsKeptRun};
 ghost use Rattle.bureau.specs.Runs.{IsLawfulRun};
 ghost use Rattle.catalogue.specs.View.{Goes, Tells};
@@ -29,22 +29,24 @@ pub struct Served {
     pub requests: u64,
 }
 
-// What came next in a connection.
+/// What came next in a connection.
 #[derive(Clone, Copy, Debug, PartialEq, Eq)]
-pub(crate) enum Step {
-    // The end of its input.
+pub enum Step {
+    /// The end of its input.
     CleanEnd,
-    // A request, whose reply doesn't end the connection.
+    /// A request, whose reply doesn't end the connection.
     Stays,
-    // A request, whose reply ends the connection.
+    /// A request, whose reply ends the connection.
     Ends,
 }
 
-// How many interrupted reads and writes are made again.
+/// How many interrupted reads and writes are made again.
 #[derive(Clone, Copy, Debug)]
-pub(crate) struct Retries {
-    pub(crate) reads: u32,
-    pub(crate) writes: u32,
+pub struct Retries {
+    /// Reads.
+    pub reads: u32,
+    /// Writes, and flushes.
+    pub writes: u32,
 }
 
 /// Serves one connection to its end: reads its requests, answers each, and writes the replies, in order.
@@ -120,8 +122,16 @@ pub(crate) fn serve_connection<D: Desk, R: Read, W: Write>(
     }
 }
 
-// Serves what stands next in a connection, its request at this ordinal, counted from 1.
-fn serve_next<D: Desk, R: Read, W: Write>(
+/// Serves what stands next in a connection: reads its request at this ordinal, counted from 1, answers it, and writes the
+/// reply. Bytes that came further stay in the intake, for the next one.
+///
+/// It reads no byte where a whole request is at hand. Where the input ends before, the bytes that came stay in the intake.
+///
+/// # Errors
+///
+/// [`ConnFault::Read`], [`ConnFault::EndInside`] and [`ConnFault::Memory`] where no request stands whole; the desk is asked
+/// nothing then. [`ConnFault::Write`] where the request was answered, and a front part of the reply written.
+pub fn serve_next<D: Desk, R: Read, W: Write>(
     desk: &mut D,
     routes: &Routes,
     ordinal: u64,
@@ -138,6 +148,9 @@ fn serve_next<D: Desk, R: Read, W: Write>(
         IfSome (prepend_known intake.old (R.remaining reader.old))
         (Serves (IsKeptRun D.tables_view desk.old desk.new) this ordinal intake.new
         (R.remaining reader.new) (W.contents writer.old) (W.contents writer.new) result)) }
+    ensures kept { Tells D.tables_view desk.old desk.new (λ this. IfEnded result
+        (Keeps (prepend_known intake.old (R.remaining reader.old))
+        (prepend_known intake.new (R.remaining reader.new)))) }
 {
     match read_next(intake, reader, &mut retries.reads)? {
         NextRequest::CleanEnd => Ok(Step::CleanEnd),

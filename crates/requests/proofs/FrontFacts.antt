@@ -165,12 +165,12 @@ never_without true u n e = absurd (cc)
 never_without false true n e = absurd (cc)
 never_without false false n e = absurd (cc)
 
-ends_at : (end : Option ℕ) (limit n : ℕ) (held : List ℕ) → front_with end limit held ≡ Head n → end ≡ Some n
+pub ends_at : (end : Option ℕ) (limit n : ℕ) (held : List ℕ) → front_with end limit held ≡ Head n → end ≡ Some n
 ends_at None limit n held e =
     absurd (never_without (nat_le limit (length held)) (empty_lines_len held == length held) n e)
 ends_at (Some m) limit n held e = let same : m ≡ n = cc in ap (λ k. Some k) same
 
-found_by : (first : Result ℕ Ending) (n : ℕ) → result_ok first ≡ Some n → first ≡ Ok n
+pub found_by : (first : Result ℕ Ending) (n : ℕ) → result_ok first ≡ Some n → first ≡ Ok n
 found_by (Ok m) n e = let same : m ≡ n = cc in ap (λ k. Ok k) same
 found_by (Err ending) n e = absurd (cc)
 

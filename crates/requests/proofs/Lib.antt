@@ -11,3 +11,4 @@ mod SearchFacts
 mod TextFacts
 mod NextRequestFacts
 mod ReadingFacts
+mod LaterFacts

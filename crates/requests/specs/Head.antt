@@ -1,5 +1,5 @@
 -- The head of a request as the spans of its parts in its bytes, as `httparse` reads it.
-use Rattle.std.specs.Prelude.{◌≤◌, ℕ, List, [], length, option_map, IfSome}
+use Rattle.std.specs.Prelude.{ℕ, List, [], length, option_map, IfSome}
 use Rattle.httparse.specs.Grammar.{RequestHead, ReadsRequest}
 use Rattle.httparse.specs.Spans.{IsWithin, span_bytes}
 use Rattle.requests.specs.Request.{Parts}

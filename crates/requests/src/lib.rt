@@ -6,7 +6,8 @@
 //!
 //! - [`read_front`], [`Front`]: what the bytes of a connection begin with
 //! - [`decide`]: a whole [`Head`] and the length of its body, or why it is [`Refused`]
-//! - [`read_next`], [`NextRequest`], [`Request`]: all of this together; [`one_reading`]: it can be read in one way only
+//! - [`read_next`], [`NextRequest`], [`Request`]: all of this together; [`one_reading`]: it can be read in one way only;
+//!   [`later_bytes`]: bytes that come later change nothing of it
 //! - [`Head`]: the token, the number and the [`Action`] that a request asks for, by its [`Routes`]
 //! - [`Resource`]: what a path names
 //! - [`read_whole`]: so many bytes, or all that there are
@@ -46,7 +47,7 @@ mod text;
 pub use action::Action;
 pub use front::{Front, read_front, read_whole};
 pub use head::Head;
-pub use law::one_reading;
+pub use law::{later_bytes, one_reading};
 pub use next_request::{NextRequest, Request, read_next};
 pub use order::{Refused, decide};
 pub use refusal::Refusal;

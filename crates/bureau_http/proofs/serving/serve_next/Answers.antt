@@ -1,5 +1,5 @@
 use Rattle.std.proofs.Common.{refl, ap, ◌∙◌, subst, ◌||◌, nat_le, drop, ◌++◌}
-use Rattle.std.specs.Io.KnownBytes.{Appends}
+use Rattle.std.specs.Io.KnownBytes.{Appends, Keeps, prepend_known}
 use Rattle.std.proofs.lemmas.Result.{err_from_is_err_and}
 use Rattle.requests.specs.NextRequest.{IsNext, IsReadAs, body_in, parts_in, request_len}
 use Rattle.requests.specs.Order.{is_bare}
@@ -9,9 +9,9 @@ use Rattle.bureau_http.specs.ConnFault.{of_transfer}
 use Rattle.bureau_http.specs.Asked.{has_token, most_requests, what_of}
 use Rattle.bureau.specs.Kept.{IsKeptRun}
 use Rattle.transfer.specs.Transfer.{AppendsFront}
-use Rattle.bureau_http.specs.Served.{IsExchanged, Serves}
+use Rattle.bureau_http.specs.Served.{IfEnded, IsExchanged, IsFailedWrite, Serves}
 use Rattle.bureau_http.specs.declared.fault.ConnFault.TheVariants.{Write}
-use Rattle.bureau_http.proofs.ServingFacts.{also_asked, exit_as, head_refused, map_some, read_failed, unfinished_of, whole_cut}
+use Rattle.bureau_http.proofs.ServingFacts.{also_asked, exit_as, head_refused, map_some, no_end, read_failed, unfinished_of, whole_cut}
 use Rattle.bureau_http.proofs.serving.serve_next.Goals as goal
 
 pub returns-in_err-write-in-Refused-clause-next : goal.returns-in_err-write-in-Refused-clause-next
@@ -68,4 +68,32 @@ returns-in_err-read_next-clause-next g c = record {
       exit_as (λ r. Serves runs this c.args.ordinal held left kept kept r bytes) c.from_residual.result (of_transfer fault) (of_transfer fault)
       (err_from_is_err_and c.from_residual.result c.from_residual.ensures.1) refl
       (read_failed runs this c.args.ordinal held left kept kept bytes fault (refl, idle g.D.Desk.tables_view c.args.desk.now this stands) (Appends-nil kept) unfinished));
+}
+
+-- ---- where the input ended, the bytes stay
+
+pub returns-in_err-read_next-clause-kept : goal.returns-in_err-read_next-clause-kept
+returns-in_err-read_next-clause-kept g c = record {
+  told = λ ours clean this stands.
+      let fault = c.in_err-read_next.field-0.0 in
+      let kept = Keeps (prepend_known c.args.intake.now (g.R.Read.remaining c.args.reader.now)) (prepend_known c.read_next.new.intake (g.R.Read.remaining c.read_next.new.reader)) in
+      exit_as (λ r. IfEnded r kept) c.from_residual.result (of_transfer fault) (of_transfer fault)
+      (err_from_is_err_and c.from_residual.result c.from_residual.ensures.1) refl (no_end fault kept);
+}
+
+pub returns-in_err-write-in-Refused-clause-kept : goal.returns-in_err-write-in-Refused-clause-kept
+returns-in_err-write-in-Refused-clause-kept g c = record {
+  told = λ ours clean this stands.
+      let kept = Keeps (prepend_known c.args.intake.now (g.R.Read.remaining c.args.reader.now)) (prepend_known c.read_next.new.intake (g.R.Read.remaining c.read_next.new.reader)) in
+      exit_as (λ r. IfEnded r kept) c.from_residual-in_err-write-in-Refused.result c.in_err-write-in-Refused.field-0.0 Write
+      (err_from_is_err_and c.from_residual-in_err-write-in-Refused.result c.from_residual-in_err-write-in-Refused.ensures.1) c.in_err-write-in-Refused.ensures.err.0 tt;
+}
+
+pub returns-in_err-serve_request-in-Whole-clause-kept : goal.returns-in_err-serve_request-in-Whole-clause-kept
+returns-in_err-serve_request-in-Whole-clause-kept g c = record {
+  told = λ ours clean this stands.
+      let kept = Keeps (prepend_known c.args.intake.now (g.R.Read.remaining c.args.reader.now)) (prepend_known c.read_next.new.intake (g.R.Read.remaining c.read_next.new.reader)) in
+      let failed = subst IsFailedWrite c.in_err-serve_request-in-Whole.was (c.serve_request.ensures.exchanged.told ours clean this stands).failed in
+      exit_as (λ r. IfEnded r kept) c.from_residual-in_err-serve_request-in-Whole.result c.in_err-serve_request-in-Whole.field-0.0 Write
+      (err_from_is_err_and c.from_residual-in_err-serve_request-in-Whole.result c.from_residual-in_err-serve_request-in-Whole.ensures.1) failed tt;
 }
