@@ -11,6 +11,7 @@ use Rattle.bureau_store.specs.Effect.{Effect, zone_put, zone_dropped, received_p
 use Rattle.bureau_store.specs.Lists.{ClientTable}
 use Rattle.bureau_store.specs.Tables.{LastChange, PatternsAscend, ZoneTable, Zones, name_order, patterns_of, rows_of, zone_named}
 use Rattle.bureau_store.specs.Caller.{caller_with}
+use Rattle.bureau_store.specs.SetCallers.{token_of}
 use Rattle.bureau_store.specs.declared.caller.Caller.{Caller}
 use Rattle.bureau_store.specs.declared.caller.CallerRow.{CallerRow}
 use Rattle.bureau_store.specs.declared.kept.Put.{Put}
@@ -44,3 +45,7 @@ with_zone name zone last client = record client { last = last; zones = insert_en
 -- a map finds under each token the first of these rows that has it
 abbrev pub KnowsTokens : {Text : Type 0} → (Text → List ℕ) → List (Text × Caller) → List CallerRow → Type 0
 KnowsTokens text_of entries rows = (token : List ℕ) → lookup (λ text. is_at (slice_cmp nat_cmp token) (text_of text)) entries ≡ caller_with rows token
+
+-- a map has under each name the token of the caller of that name among these rows
+abbrev pub KnowsNames : List (List ℕ × List ℕ) → List CallerRow → Type 0
+KnowsNames entries rows = (name : List ℕ) → lookup (is_at (slice_cmp nat_cmp name)) entries ≡ token_of rows name

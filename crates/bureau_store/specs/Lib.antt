@@ -6,6 +6,7 @@ pub mod Gathered
 pub mod Held
 pub mod Kept
 pub mod Lists
+pub mod SetCallers
 pub mod Store
 pub mod StoreFault
 pub mod Tables

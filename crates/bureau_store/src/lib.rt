@@ -4,6 +4,7 @@
 //! - [`ListStore`]: the store in lists
 //! - [`Caller`], [`CallerRow`], [`Token`]: who calls, and by which token a caller is known
 //! - [`callers`]: reads the file of them; [`CALLER_RECORDS`]: how many it may have
+//! - [`callers_that_change`]: who comes and who is gone with another file; [`CallerCounts`]: how many
 //! - [`StoreFault`], [`CallerFault`]: why a store doesn't do what it is asked, and why no callers file is read;
 //!   [`NoMemory`]: memory ran out
 //!
@@ -31,6 +32,7 @@ mod fault;
 mod held;
 mod kept;
 mod list_store;
+mod set_callers;
 mod store;
 
 pub use caller::{Caller, CallerRow, Token};
@@ -38,4 +40,5 @@ pub use callers_file::{CALLER_RECORDS, callers};
 pub use fault::{CallerFault, StoreFault};
 pub use faults::NoMemory;
 pub use list_store::ListStore;
+pub use set_callers::{CallerCounts, callers_that_change};
 pub use store::Store;

@@ -1,7 +1,7 @@
 -- What is found of callers.
-use Rattle.std.proofs.Common.{◌≡◌, ℕ, List, [], ◌∷◌, refl, sym, ◌∙◌, ap, subst, inl, inr, Some, None}
+use Rattle.std.proofs.Common.{◌≡◌, ℕ, List, [], ◌∷◌, refl, sym, ◌∙◌, ap, subst, inl, inr, Some, None, true}
 use Rattle.std.specs.Prelude.{filter, map, Option, option_map}
-use Rattle.std.specs.List.{AllByRecursion}
+use Rattle.std.specs.List.{AllByRecursion, filter_map}
 use Rattle.std.specs.List.Sorted.{IsPermutation}
 use Rattle.sqlite.specs.Query.{IsAnswer}
 use Rattle.sqlite.specs.Tree.{Trees}
@@ -12,7 +12,7 @@ use Rattle.bureau_store.specs.declared.caller.Caller.{Caller}
 use Rattle.bureau_store.specs.declared.caller.CallerRow.{CallerRow}
 use Rattle.mcs_reader.specs.Id.{IsId}
 use Rattle.sql_tables.specs.InTrees.{columns_of, stored_in}
-use Rattle.sql_tables.specs.Rows.{caller_row}
+use Rattle.sql_tables.specs.Rows.{caller_found, caller_row}
 use Rattle.sql_tables.specs.Stored.{has_token, tables_of}
 use Rattle.sql_tables.specs.Values.{id_in}
 use Rattle.sql_tables.specs.Whole.{AreRowsOf, IsWhole}
@@ -21,7 +21,8 @@ use Rattle.sql_tables.proofs.TreeFacts.{column_after}
 use Rattle.sql_texts.specs.Found.{is_text, shown}
 use Rattle.sql_texts.specs.Reads as read
 use Rattle.sql_reads.specs.Answering.{one_of}
-use Rattle.sql_reads.proofs.TableFacts.{filter_alike, one_case, one_passes, table_found}
+use Rattle.sql_reads.proofs.ClientFacts.{table_said}
+use Rattle.sql_reads.proofs.TableFacts.{filter_alike, filter_true, one_case, one_passes, table_found}
 use Rattle.sql_state.proofs.TextFacts.{one_given}
 
 abbrev pub name_shown : Row → Option Caller
@@ -49,3 +50,11 @@ caller_told trees token rows found whole answer one =
           (let name = named_as (id_in (column its.0 0)) its.2 its.3 in
           its.4 ∙ ap Some (sym name.2) ∙ sym (one_caller callers token its.0 name.0 its.1 (one_passes (has_token token) callers its.0 its.1) name.1))
     ]
+
+-- all callers
+pub callers_told : (trees : Trees) (rows : List Row) (found : List CallerRow) → IsAnswer read.callers trees [] rows → map Some found ≡ map caller_found rows
+    → IsPermutation (tables_of (stored_in trees)).callers found
+callers_told trees rows found answer said =
+    let callers = columns_of (trees 1) in
+    subst (λ kept. IsPermutation (filter_map caller_found kept) found) (filter_true callers)
+    (table_said caller_found (shown (0 ∷ 1 ∷ [])) (filter (λ row. true) callers) rows found (table_found 1 [] (0 ∷ 1 ∷ []) (1 ∷ []) [] trees rows (λ row. true) (λ row. refl) answer) said)

@@ -36,12 +36,8 @@ use Rattle.sql_texts.specs.Reads as read
 use Rattle.sql_reads.specs.Answering.{one_of}
 use Rattle.sql_reads.proofs.ClientFacts.{table_said}
 use Rattle.sql_reads.proofs.MemberFacts.{filtered, passed, read_from, read_to}
-use Rattle.sql_reads.proofs.TableFacts.{one_case, one_passes, table_found}
+use Rattle.sql_reads.proofs.TableFacts.{filter_true, one_case, one_passes, table_found}
 use Rattle.sql_state.proofs.TextFacts.{of_given}
-
-filter_true : (rows : List Row) → filter (λ row. true) rows ≡ rows
-filter_true [] = refl
-filter_true (row ∷ rows) = ap (λ others. row ∷ others) (filter_true rows)
 
 -- ---- records
 

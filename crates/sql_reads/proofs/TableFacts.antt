@@ -116,6 +116,11 @@ table_found tree tests indices order params trees rows test alike answer =
     (shown_later indices (filter (passes params tests) (trees tree)) ∙ ap (map (shown indices)) (filter_after (passes params tests) test alike (trees tree)))
     (table_answer tree tests (map suc indices) order trees params rows answer)
 
+-- a test that every row passes
+pub filter_true : (rows : List Row) → filter (λ row. true) rows ≡ rows
+filter_true [] = refl
+filter_true (row ∷ rows) = ap (λ others. row ∷ others) (filter_true rows)
+
 -- tests that agree on all rows there are
 pub filter_alike : (p q : Row → Bool) (rows : List Row) → AllByRecursion (λ row. p row ≡ q row) rows → filter p rows ≡ filter q rows
 filter_alike p q [] all = refl

@@ -1,8 +1,10 @@
 //! Reads of the callers, and of the last change of each.
-ghost use Rattle.std.specs.Prelude.{◌≡◌, IfOk, IfSome, false};
+ghost use Rattle.std.specs.Prelude.{◌≡◌, IfOk, IfSome, false, map};
+ghost use Rattle.std.specs.List.Sorted.{IsPermutation};
 ghost use Rattle.sqlite.specs.Held.{state};
 ghost use Rattle.sqlite_value.specs.Value.{owned};
 ghost use Rattle.bureau_store.specs.Caller.{IsProper, caller_with};
+ghost use Rattle.bureau_store.specs.Tables.{NamesAscend};
 ghost use Rattle.sql_reads.specs.Answering.{IsNameOf};
 ghost use Rattle.sql_state.specs.Reading.{Finds};
 ghost use Rattle.sql_tables.specs.Stored.{tables_of};
@@ -10,11 +12,30 @@ ghost use Rattle.sql_tables.specs.Stored.{tables_of};
 use crate::rows::rows_of;
 use crate::values::id_of;
 use crate::{ReadFault, found};
-use bureau_store::Caller;
+use bureau_store::{Caller, CallerRow};
 use sql_texts::read;
 use sqlite::types::ValueRef;
 use sqlite::{Alter, Connection};
 use std::alloc::Global;
+
+/// All callers, ascending by name, each with its token.
+///
+/// # Errors
+///
+/// Those of [`ReadFault`].
+pub fn all_callers<S: Alter>(
+    alloc: Global,
+    conn: &mut Connection<S>,
+) -> Result<Vec<CallerRow>, ReadFault>
+    requires rest { conn.old.in_transaction ≡ false }
+    ensures mode { conn.new.in_transaction ≡ false }
+    ensures finds { Finds (state S.Store conn.old) (state S.Store conn.new) result
+        (λ stored callers. IsPermutation (tables_of stored).callers callers.items) }
+    ensures ascend { IfOk result (λ callers. NamesAscend (map (λ row. row.name) callers.items)) }
+{
+    let rows = rows_of(conn, read::callers(), &[])?;
+    found::callers(alloc, rows.as_slice())
+}
 
 /// The caller whose token this is, or `None` where no caller has it.
 ///

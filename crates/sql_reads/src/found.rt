@@ -3,25 +3,25 @@ ghost use Rattle.std.specs.Prelude.{◌≡◌, ◌<◌, ◌↔◌, [], map, opti
 ghost use Rattle.std.specs.Ordering.{is_lt};
 ghost use Rattle.sqlite_value.specs.Order as order;
 ghost use Rattle.bureau_store.specs.Caller.{IsProper, caller_named, is_publisher};
-ghost use Rattle.bureau_store.specs.Tables.{PatternsAscend, no_change};
+ghost use Rattle.bureau_store.specs.Tables.{NamesAscend, PatternsAscend, no_change};
 ghost use Rattle.holddata.specs.HoldBook.{IsInKeyOrder};
 ghost use Rattle.holddata.specs.HoldKey.{key_cmp, kind_order};
 ghost use Rattle.catalogue.specs.Conditional.{CondsAscend};
 ghost use Rattle.catalogue.specs.Ids.{Ascend};
 ghost use Rattle.zone_lists.specs.ZoneList.{RowsAscend};
 ghost use Rattle.sql_reads.specs.Answering.{one_of};
-ghost use Rattle.sql_tables.specs.Rows.{change_found, cond_found, hold_found, sysmod_found, zone_row_found};
+ghost use Rattle.sql_tables.specs.Rows.{caller_found, change_found, cond_found, hold_found, sysmod_found, zone_row_found};
 ghost use Rattle.sql_tables.specs.Stored.{first};
 ghost use Rattle.sql_tables.specs.Values as value;
 
 use crate::ReadFault;
-use bureau_store::Caller;
+use bureau_store::{Caller, CallerRow};
 use catalogue::{CondNeed, CondNeeds, Ids, Sysmod};
 use holddata::{Hold, HoldKey, Kind};
 use mcs_reader::Id;
 use sql_tables::{
-    change_in, cond_in, count_in, hold_in, id_row_in, ids_row_in, patterns_row_in, sysmod_in,
-    zone_row_in,
+    caller_in, change_in, cond_in, count_in, hold_in, id_row_in, ids_row_in, patterns_row_in,
+    sysmod_in, zone_row_in,
 };
 use sqlite::Row;
 use std::alloc::Global;
@@ -72,6 +72,35 @@ fn is_publisher(name: &Id) -> bool
         Some(publisher) => *name == publisher,
         None => false,
     }
+}
+
+/// The callers of all rows, in the order of their names.
+pub(crate) fn callers(alloc: Global, rows: &[Row]) -> Result<Vec<CallerRow>, ReadFault>
+    ensures callers { IfOk result (λ callers. map Some callers.items ≡ map caller_found rows.now) }
+    ensures ascend { IfOk result (λ callers. NamesAscend (map (λ row. row.name) callers.items)) }
+{
+    let callers = each_caller(alloc, rows)?;
+    if !callers_ascend(callers.as_slice()) {
+        return Err(ReadFault::Device);
+    }
+    Ok(callers)
+}
+
+fn each_caller(alloc: Global, rows: &[Row]) -> Result<Vec<CallerRow>, ReadFault>
+    ensures { IfOk result (λ callers. map Some callers.items ≡ map caller_found rows.now) }
+{
+    let mut callers = Vec::with_capacity(alloc, rows.len())?;
+    for row in rows {
+        callers.push(caller_in(alloc, row)?.ok_or(ReadFault::Device)?)?;
+    }
+    Ok(callers)
+}
+
+// Whether the names of callers ascend, each once.
+fn callers_ascend(callers: &[CallerRow]) -> bool
+    ensures { IsTrue result ↔ NamesAscend (map (λ row. row.name) callers.now) }
+{
+    callers.is_sorted_by(|caller, next| caller.name.cmp(&next.name).is_lt())
 }
 
 /// The number and the reply in the one row.

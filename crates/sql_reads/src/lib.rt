@@ -3,7 +3,7 @@
 //! What a read tells, it tells of the rows that are committed. Rows that are out of order, or that the bureau never
 //! wrote, are a fault of the device.
 //!
-//! - [`caller_of`], [`last`]: callers, and the last change of each
+//! - [`all_callers`], [`caller_of`], [`last`]: callers, and the last change of each
 //! - [`zones`], [`zone_count`], [`has_zone`], [`zone`], [`zone_rows`], [`patterns`], [`received`]: what a
 //!   client has; [`held_in`]: the holds on it
 //! - [`ids`], [`sysmod`], [`superseders`], [`holds_on`], [`counts`]: what is published
@@ -22,7 +22,7 @@ mod tables_version;
 mod values;
 mod zone_counts;
 
-pub use callers::{caller_of, last};
+pub use callers::{all_callers, caller_of, last};
 pub use clients::{has_zone, held_in, patterns, received, zone, zone_count, zone_rows};
 pub use fault::ReadFault;
 pub use published::{counts, holds_on, ids, superseders, sysmod};

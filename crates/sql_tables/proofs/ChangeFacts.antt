@@ -193,7 +193,7 @@ change_made (Client client) e last stored can = client_made client e last stored
 
 -- ---- before the first change
 
-callers_again : (rows : List CallerRow) → AllByRecursion (λ (row : CallerRow). IsId row.name) rows → filter_map caller_found (map caller_row rows) ≡ rows
+pub callers_again : (rows : List CallerRow) → AllByRecursion (λ (row : CallerRow). IsId row.name) rows → filter_map caller_found (map caller_row rows) ≡ rows
 callers_again [] h = refl
 callers_again (row ∷ rows) h =
     ap (λ o. cons_option (option_map (λ name. record { name = name; token = row.token }) o) (filter_map caller_found (map caller_row rows))) (id_again row.name h.0)

@@ -9,6 +9,7 @@ pub mod OrderFacts
 pub mod ReadFacts
 pub mod RecordFacts
 pub mod RowFacts
+pub mod SetCallersFacts
 pub mod SetFacts
 pub mod TreeFacts
 pub mod ValueFacts

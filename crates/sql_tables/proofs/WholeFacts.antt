@@ -1,5 +1,5 @@
 -- Each change leaves rows whole.
-use Rattle.std.proofs.Common.{◌≡◌, ◌≢◌, ◌<◌, ℕ, zero, suc, arith, Bool, true, false, cond, ◌&&◌, ◌||◌, List, [], ◌∷◌, ◌++◌, refl, sym, ◌∙◌, ap}
+use Rattle.std.proofs.Common.{◌≡◌, ◌≢◌, ◌<◌, ◌+◌, ℕ, zero, suc, arith, Bool, true, false, cond, ◌&&◌, ◌||◌, List, [], ◌∷◌, ◌++◌, refl, sym, ◌∙◌, ap}
 use Rattle.std.specs.Prelude.{filter, fold, map, not, take, Some}
 use Rattle.std.specs.List.{AllByRecursion, list_any, list_all}
 use Rattle.std.specs.List.Sorted.{IsStrictlySortedBy}
@@ -20,7 +20,7 @@ use Rattle.bureau_store.specs.declared.caller.Caller.{Caller}
 use Rattle.bureau_store.specs.declared.caller.Caller.TheVariants.{Publisher, Client}
 use Rattle.bureau_store.specs.declared.caller.CallerRow.{CallerRow}
 use Rattle.sqlite_value.specs.Order.{Row, column}
-use Rattle.sql_tables.specs.Changes.{heads_after, is_kind, is_under, published, replaced, rows_after, stored_after}
+use Rattle.sql_tables.specs.Changes.{heads_after, is_kind, is_under, published, replaced, rows_after, stored_after, with_callers, without_caller}
 use Rattle.sql_tables.specs.Fit.{CanBeWritten, IsCond, IsFit, IsFitChange, IsHold, IsRecord}
 use Rattle.sql_tables.specs.Rows.{caller_row, cond_row, head_row, hold_row, sup_row, sysmod_row, zone_row}
 use Rattle.sql_tables.specs.Stored.{Stored, is_named, is_of, is_of_both, opened}
@@ -322,3 +322,45 @@ whole_opened rows all = record {
     callers : (them : List CallerRow) → AllByRecursion (λ (row : CallerRow). IsId row.name) them → AreRowsOf caller_row (λ (caller : CallerRow). IsId caller.name) (map caller_row them)
     callers [] h = tt
     callers (caller ∷ them) h = ((caller, h.0, refl), callers them h.1)
+
+-- ---- other callers
+
+by_first : (columns : ℕ) (name : List ℕ) (a b : Row) → take (1 + columns) a ≡ take (1 + columns) b → is_of name a ≡ is_of name b
+by_first columns name a b same = ap (is_named name) (same_column (1 + columns) 0 (omega arith) a b same)
+
+whole_without : (name : List ℕ) (stored : Stored) → IsWhole stored → IsWhole (without_caller stored name)
+whole_without name stored whole = record {
+  callers = whole.callers;
+  sysmods = whole.sysmods;
+  sysmod_keys = whole.sysmod_keys;
+  sups = whole.sups;
+  conds = whole.conds;
+  holds = whole.holds;
+  hold_keys = whole.hold_keys;
+  heads = written_again row_of_head IsHead (is_of name) [] stored.heads whole.heads tt;
+  head_keys = own_replaced 2 (is_of name) (by_first 1 name) [] stored.heads tt tt whole.head_keys;
+  rows = written_again row_of_zone_sysmod IsZoneSysmod (is_of name) [] stored.rows whole.rows tt;
+  row_keys = own_replaced 3 (is_of name) (by_first 2 name) [] stored.rows tt tt whole.row_keys;
+}
+
+all_without : (names : List (List ℕ)) (stored : Stored) → IsWhole stored → IsWhole (fold without_caller stored names)
+all_without [] stored whole = whole
+all_without (name ∷ names) stored whole = all_without names (without_caller stored name) (whole_without name stored whole)
+
+pub whole_with_callers : (names : List (List ℕ)) (rows : List CallerRow) (stored : Stored) → AllByRecursion (λ (row : CallerRow). IsId row.name) rows → IsWhole stored
+    → IsWhole (with_callers names rows stored)
+whole_with_callers names rows stored all whole =
+    let left = all_without names stored whole in
+    record {
+      callers = (whole_opened rows all).callers;
+      sysmods = left.sysmods;
+      sysmod_keys = left.sysmod_keys;
+      sups = left.sups;
+      conds = left.conds;
+      holds = left.holds;
+      hold_keys = left.hold_keys;
+      heads = left.heads;
+      head_keys = left.head_keys;
+      rows = left.rows;
+      row_keys = left.row_keys;
+    }

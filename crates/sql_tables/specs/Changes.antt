@@ -12,9 +12,10 @@ use Rattle.bureau_store.specs.Effect.{Effect, publication, zone_put, zone_droppe
 use Rattle.bureau_store.specs.Tables.{LastChange}
 use Rattle.bureau_store.specs.declared.caller.Caller.{Caller}
 use Rattle.bureau_store.specs.declared.caller.Caller.TheVariants.{Publisher, Client}
+use Rattle.bureau_store.specs.declared.caller.CallerRow.{CallerRow}
 use Rattle.sqlite_value.specs.Order.{Row, column}
 use Rattle.sqlite_value.specs.declared.value.Value.{Value}
-use Rattle.sql_tables.specs.Rows.{change_row, cond_row, head_row, hold_row, received_row, sup_row, sysmod_row, zone_row}
+use Rattle.sql_tables.specs.Rows.{caller_row, change_row, cond_row, head_row, hold_row, received_row, sup_row, sysmod_row, zone_row}
 use Rattle.sql_tables.specs.Stored.{Stored, is_named, is_of, is_of_both, name_of}
 use Rattle.sql_tables.specs.Values.{hold_kind_in}
 
@@ -101,3 +102,18 @@ numbered caller last stored = record stored { changes = with_last (name_of calle
 -- the rows after a caller's change
 abbrev pub stored_after : Caller → Effect → LastChange → Stored → Stored
 stored_after caller effect last stored = numbered caller last (changed caller effect stored)
+
+-- ---- other callers
+
+-- a caller of this name leaves nothing: no last change, no zone, nothing received
+abbrev pub without_caller : Stored → List ℕ → Stored
+without_caller stored name = record stored {
+  changes = replaced (is_of name) [] stored.changes;
+  heads = replaced (is_of name) [] stored.heads;
+  rows = replaced (is_of name) [] stored.rows;
+  received = replaced (is_of name) [] stored.received;
+}
+
+-- callers of these names leave nothing, and these are the callers
+abbrev pub with_callers : List (List ℕ) → List CallerRow → Stored → Stored
+with_callers names callers stored = record (fold without_caller stored names) { callers = map caller_row callers }

@@ -15,12 +15,14 @@ ghost use Rattle.catalogue.specs.declared.conditional.CondNeed.{CondNeed as Some
 ghost use Rattle.catalogue.specs.declared.sysmod.Sysmod.{Sysmod as SomeSysmod};
 ghost use Rattle.bureau_store.specs.Caller.{caller_named, caller_with};
 ghost use Rattle.bureau_store.specs.Effect.{Effect, tables_after};
+ghost use Rattle.bureau_store.specs.SetCallers as set;
+ghost use Rattle.bureau_store.specs.SetCallers.{counts_of, names_that_change};
 ghost use Rattle.bureau_store.specs.Tables as tables;
-ghost use Rattle.bureau_store.specs.Tables.{AreInOrder, LastChange, zone_named};
+ghost use Rattle.bureau_store.specs.Tables.{AreInOrder, LastChange, NamesAscend, zone_named};
 ghost use Rattle.bureau_store.specs.declared.caller.Caller.{Caller as SomeCaller};
 ghost use Rattle.bureau_store.specs.declared.caller.CallerRow.{CallerRow as SomeCallerRow};
 ghost use Rattle.sqlite_value.specs.Order.{Row, column};
-ghost use Rattle.sql_tables.specs.Changes.{stored_after};
+ghost use Rattle.sql_tables.specs.Changes.{stored_after, with_callers};
 ghost use Rattle.sql_tables.specs.Fit.{CanBeMade, CanBeWritten};
 ghost use Rattle.sql_tables.specs.Rows.{caller_found, caller_row, cond_found, hold_found, sysmod_found};
 ghost use Rattle.sql_tables.specs.Stored.{Stored, beside_of, conds_of, content_of, has_token, is_of, is_of_both, opened, rows_as_stored, shown, sup_of, sysmods_of, tables_of, zone_of, zone_rows_of, zones_of};
@@ -47,6 +49,26 @@ pub fn change()
         → CanBeMade caller effect (tables_of stored)
         → tables_of (stored_after caller effect last stored)
         ≡ tables_after caller effect last (tables_of stored) }
+{}
+
+/// What other callers make of the rows stands for what they make of the tables, where the callers before were read in the
+/// order of their names: `found` are those of the tables. And as many come and go.
+pub fn other_callers()
+    ensures tables { (found rows : List SomeCallerRow) (stored : Stored)
+        → AllByRecursion (λ row. IsId row.name) rows
+        → NamesAscend (map (λ row. row.name) found) → IsPermutation (tables_of stored).callers found
+        → tables_of (with_callers (names_that_change found rows) rows stored)
+        ≡ set.with_callers rows (tables_of stored) }
+    ensures counts { (found rows these : List SomeCallerRow)
+        → NamesAscend (map (λ row. row.name) found) → IsPermutation these found
+        → counts_of found rows ≡ counts_of these rows }
+{}
+
+/// Rows with other callers are whole where those before were.
+pub fn whole_with_callers()
+    ensures { (names : List (List ℕ)) (rows : List SomeCallerRow) (stored : Stored)
+        → AllByRecursion (λ row. IsId row.name) rows → IsWhole stored
+        → IsWhole (with_callers names rows stored) }
 {}
 
 /// The rows of the callers alone are whole.

@@ -21,8 +21,8 @@ pub use lists::{
     categories_in, categories_value, ids_in, joined_ids, joined_patterns, patterns_in,
 };
 pub use rows::{
-    change_in, cond_in, count_in, hold_in, id_row_in, ids_row_in, patterns_row_in, sysmod_in,
-    zone_row_in,
+    caller_in, change_in, cond_in, count_in, hold_in, id_row_in, ids_row_in, patterns_row_in,
+    sysmod_in, zone_row_in,
 };
 pub use values::{
     date_in, date_value, hold_kind_in, hold_kind_value, id_in, id_value, optional_id_in,

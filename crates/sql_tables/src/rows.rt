@@ -11,7 +11,9 @@ use crate::NoMemory;
 use crate::lists::{categories_in, ids_in, patterns_in};
 use crate::values::{
     bytes_in, date_in, hold_kind_in, id_in, number_in, optional_id_in, state_in, sysmod_kind_in,
+    text_in,
 };
+use bureau_store::{CallerRow, Token};
 use catalogue::{CondNeed, CondNeeds, Ids, Sysmod};
 use holddata::{Hold, HoldKey};
 use mcs_reader::Id;
@@ -105,6 +107,22 @@ fn hold_with(alloc: Global, key: HoldKey, row: &Row) -> Result<Option<Hold>, NoM
         dated,
         categories,
     }))
+}
+
+/// A caller with its token, of all columns of its table.
+///
+/// # Errors
+///
+/// Memory ran out.
+pub fn caller_in(alloc: Global, row: &Row) -> Result<Option<CallerRow>, NoMemory>
+    ensures { IfOk result (λ found. found ≡ spec.caller_found row.now) }
+{
+    let Some(name) = id_in(column(row, 0)) else {
+        return Ok(None);
+    };
+    let token = Vec::from_slice(alloc, text_in(column(row, 1)))?;
+    let token = Token::new(token);
+    Ok(Some(CallerRow { name, token }))
 }
 
 /// A caller's last change, of the columns `number` and `body`: its number and the reply that is kept.

@@ -10,7 +10,7 @@ use sqlite::types::ValueRef;
 use zone_lists::ZoneState;
 
 /// The bytes of a text; none of any other value.
-fn text_in<'a>(value: ValueRef<'a>) -> &'a [u8]
+pub(crate) fn text_in<'a>(value: ValueRef<'a>) -> &'a [u8]
     ensures { result.now ≡ spec.text_in (owned value.entry) }
 {
     match value {

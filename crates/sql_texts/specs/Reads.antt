@@ -53,6 +53,10 @@ version = from_table 0 [] (2 ∷ []) (0 ∷ [])
 abbrev pub caller_with_token : Query
 caller_with_token = from_table 1 (is_given 2 0 ∷ []) (1 ∷ []) (1 ∷ [])
 
+-- all callers, each with its token
+abbrev pub callers : Query
+callers = from_table 1 [] (1 ∷ 2 ∷ []) (1 ∷ [])
+
 -- number and reply of a caller's last change
 abbrev pub last_change : Query
 last_change = from_table 4 (is_given 1 0 ∷ []) (2 ∷ 3 ∷ []) (1 ∷ [])

@@ -23,6 +23,13 @@ pub fn caller_with_token() -> &'static str
     "SELECT name FROM caller WHERE token = ?1 ORDER BY name"
 }
 
+/// All callers, ascending by name, each with its token.
+pub fn callers() -> &'static str
+    ensures { Reads bureau result.now read.callers (codes "name" ∷ codes "token" ∷ []) 0 }
+{
+    "SELECT name, token FROM caller ORDER BY name"
+}
+
 /// Number and reply of the last change of the caller ?1.
 pub fn last_change() -> &'static str
     ensures reads { Reads bureau result.now read.last_change (codes "number" ∷ codes "body" ∷ []) 1 }

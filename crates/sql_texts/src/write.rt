@@ -97,6 +97,17 @@ impl TableByZone {
             TableByZone::ZoneRow => "DELETE FROM zone_row WHERE client = ?1 AND zone = ?2",
         }
     }
+
+    /// The text by which the rows of all zones of the client ?1 go.
+    pub fn client_deletion(self) -> &'static str
+        ensures { Means bureau result.now
+            (delete_of (by_zone self).table_index (by_zone self).tree (is_given 1 0 ∷ [])) 1 }
+    {
+        match self {
+            TableByZone::ZoneHead => "DELETE FROM zone_head WHERE client = ?1",
+            TableByZone::ZoneRow => "DELETE FROM zone_row WHERE client = ?1",
+        }
+    }
 }
 
 /// The version of these tables, 2.
@@ -126,6 +137,13 @@ pub fn delete_version() -> &'static str
     ensures { Means bureau result.now (delete_of 0 0 []) 0 }
 {
     "DELETE FROM bureau_version"
+}
+
+/// All callers go.
+pub fn delete_callers() -> &'static str
+    ensures { Means bureau result.now (delete_of 1 1 []) 0 }
+{
+    "DELETE FROM caller"
 }
 
 /// The hold with the SYSMOD ?1, the kind ?2 and the reason ?3 goes.
