@@ -11,5 +11,6 @@ mod ProperFacts
 mod PublishedFacts
 mod QuietFacts
 mod TableFacts
+mod TallyFacts
 mod VersionFacts
 mod ZoneFacts

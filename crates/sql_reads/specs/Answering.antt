@@ -1,4 +1,4 @@
--- No part of what is promised: private contracts cite it. What a text that reads gives of a connection at rest.
+-- What a text that reads gives of a connection at rest. What is said of one row, and of names, serves private contracts alone.
 use Rattle.std.specs.Prelude.{◌≡◌, ◌⊎◌, ℕ, List, [], ◌∷◌, IsTrue, Option, Some, None, option_map, Result, IfOk, Vec}
 use Rattle.std.specs.declared.alloc.Global.{Global}
 use Rattle.sqlite.specs.Query.{IsAnswer, Query}

@@ -1,3 +1,4 @@
 pub mod Answering
+pub mod Tally
 pub mod Version
 pub mod ZoneCounts

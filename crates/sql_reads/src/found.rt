@@ -53,7 +53,7 @@ pub(crate) fn caller(rows: &[Row]) -> Result<Option<Caller>, ReadFault>
 
 // The caller of a name.
 #[tactic(auto, using(crate::proofs::ProperFacts::other_name))]
-fn named(name: Id) -> Caller
+pub(crate) fn named(name: Id) -> Caller
     ensures caller { result ≡ caller_named name }
     ensures proper { IsProper result }
 {

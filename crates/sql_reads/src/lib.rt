@@ -7,6 +7,8 @@
 //! - [`zones`], [`zone_count`], [`has_zone`], [`zone`], [`zone_rows`], [`patterns`], [`received`]: what a
 //!   client has; [`held_in`]: the holds on it
 //! - [`ids`], [`sysmod`], [`superseders`], [`holds_on`], [`counts`]: what is published
+//! - [`caller_tally`]: how much a caller has
+//! - [`rows_of`]: what any text that reads the tables finds
 //! - [`ReadFault`]: why a read is refused
 //!
 //! A contract says by `Finds` of `sql_state` what a read tells and what it leaves.
@@ -19,6 +21,7 @@ mod found;
 mod published;
 mod rows;
 mod tables_version;
+mod tally;
 mod values;
 mod zone_counts;
 
@@ -26,5 +29,7 @@ pub use callers::{all_callers, caller_of, last};
 pub use clients::{has_zone, held_in, patterns, received, zone, zone_count, zone_rows};
 pub use fault::ReadFault;
 pub use published::{counts, holds_on, ids, superseders, sysmod};
+pub use rows::rows_of;
 pub use tables_version::version;
+pub use tally::{CallerTally, caller_tally};
 pub use zone_counts::zones;

@@ -9,8 +9,12 @@ use crate::ReadFault;
 use sqlite::types::ValueRef;
 use sqlite::{Alter, Connection, Row};
 
-/// All rows that a text finds, with these parameters.
-pub(crate) fn rows_of<S: Alter>(
+/// All rows that a text of the bureau's tables finds, with these parameters.
+///
+/// # Errors
+///
+/// Those of [`ReadFault`].
+pub fn rows_of<S: Alter>(
     conn: &mut Connection<S>,
     text: &str,
     params: &[ValueRef<'_>],
