@@ -6,23 +6,24 @@ use Rattle.catalogue.specs.declared.conditional.CondNeed.{CondNeed}
 use Rattle.catalogue.specs.declared.sysmod.Sysmod.{Sysmod}
 use Rattle.zone_lists.specs.declared.zones.ZoneRow.{ZoneRow}
 use Rattle.bureau_store.specs.Tables.{LastChange}
+use Rattle.bureau_store.specs.declared.caller.CallerRow.{CallerRow}
 use Rattle.sqlite.specs.Cast.{cast}
 use Rattle.sqlite.specs.Edit.{next_rowid}
 use Rattle.sqlite.specs.Kind.TheVariants as kind
 use Rattle.sqlite.specs.State.{HasCleanDisk, State}
 use Rattle.sqlite.specs.Values.{bound, bound_value}
-use Rattle.sqlite.specs.declared.types.Value.TheVariants.{Int, Blob}
+use Rattle.sqlite.specs.declared.types.Value.TheVariants.{Int, Blob, Text}
 use Rattle.sqlite_value.specs.Value.{owned}
 use Rattle.sqlite_value.specs.declared.value.ValueRef.{ValueRef}
 use Rattle.sql_texts.specs.Meaning.{Means}
 use Rattle.sql_texts.specs.Schema as schema
 use Rattle.sql_texts.specs.Schema.{bureau}
 use Rattle.sql_texts.specs.Writes.{insert_given}
-use Rattle.sql_tables.specs.Rows.{change_row, cond_row, head_row, hold_row, received_row, sup_row, sysmod_row, zone_row}
+use Rattle.sql_tables.specs.Rows.{caller_row, change_row, cond_row, head_row, hold_row, received_row, sup_row, sysmod_row, zone_row}
 use Rattle.sql_tables.specs.Values.{date_value, hold_kind_value, id_value, ids_value, optional_id_value, state_order, state_value, sysmod_kind_order, sysmod_kind_value, texts_value}
 use Rattle.sql_state.specs.Ours.{held_by}
 use Rattle.sql_state.specs.Writing.{Changes}
-use Rattle.sql_writes.specs.Parts.{with_conds, with_head, with_hold, with_last, with_received, with_rows, with_sups, with_sysmod}
+use Rattle.sql_writes.specs.Parts.{with_callers, with_conds, with_head, with_hold, with_last, with_received, with_rows, with_sups, with_sysmod}
 use Rattle.sql_writes.specs.Running.{Ran}
 use Rattle.sql_writes.proofs.ChangeFacts.{changed_by}
 use Rattle.sql_writes.proofs.StatementFacts.{cast_int, cast_null, inserts}
@@ -70,6 +71,18 @@ module _ {A F : Type 0} (old new : State) (text : List ℕ) (result : Result A F
       let set = inserts text 3 schema.sysmod 5 values values old new count (means clean) refl refl refl (λ i. cast_null i ∷ id_value sysmod.id ∷ cast_int (pos (sysmod_kind_order sysmod.kind)) i ∷ ids_value sysmod.fmids ∷ ids_value sysmod.pre ∷ ids_value sysmod.req ∷ []) known.schema known.numbered.1.1.1.0 executes in (
         known_after 6 _ old.now new.now known.numbered set,
         held_set 6 _ old.now new.now set ∙ ap (λ all. record (held_by old.now) { sysmods = all }) (come rows (Int (next_rowid rows) ∷ values)),
+        set.others.0 (λ e. omega (arith, e)),
+      ))
+
+  pub callers_come : (caller : CallerRow) (a b : ValueRef) → owned a ≡ id_value caller.name → owned b ≡ Text caller.token
+      → (HasCleanDisk old → Means bureau text (insert_given 1 2) 2) → Ran text (bound (a ∷ b ∷ [])) old new result → Changes old new result (with_callers (caller ∷ []))
+  callers_come caller a b at_a at_b means ran =
+      let rows = old.now.trees 1 in
+      let values = caller_row caller in
+      changed_by old new text values result (with_callers (caller ∷ [])) (subst (λ row. Ran text row old new result) (λ i. bound_value (at_a i) ∷ bound_value (at_b i) ∷ []) ran) (λ clean count known executes.
+      let set = inserts text 1 schema.caller 2 values values old new count (means clean) refl refl refl (λ i. cast_null i ∷ caller_row caller) known.schema known.numbered.1.0 executes in (
+        known_after 1 _ old.now new.now known.numbered set,
+        held_set 1 _ old.now new.now set ∙ ap (λ all. record (held_by old.now) { callers = all }) (come rows (Int (next_rowid rows) ∷ values)),
         set.others.0 (λ e. omega (arith, e)),
       ))
 

@@ -1,6 +1,6 @@
 -- What a statement that deletes makes of the rows of its table.
 use Rattle.std.proofs.Common.{◌≡◌, ◌≢◌, ◌==◌, ℕ, List, [], ◌∷◌, Result, Some, refl, ◌∙◌, ap, subst, arith}
-use Rattle.std.specs.Prelude.{cond, drop, slice_get}
+use Rattle.std.specs.Prelude.{cond, drop, filter, not, slice_get}
 use Rattle.std.proofs.lemmas.Bool.{and_parts}
 use Rattle.holddata.specs.declared.key.HoldKey.{HoldKey}
 use Rattle.mcs_reader.specs.Id.{IsId}
@@ -30,7 +30,7 @@ use Rattle.sql_tables.specs.Values.{hold_kind_value, id_value}
 use Rattle.sql_state.specs.Numbered.{AreNumbered, IsNumbered}
 use Rattle.sql_state.specs.Ours.{held_by}
 use Rattle.sql_state.specs.Writing.{Changes}
-use Rattle.sql_writes.specs.Parts.{without_conds, without_head, without_hold, without_id, without_last, without_received, without_rows, without_sups, without_sysmod, without_zone}
+use Rattle.sql_writes.specs.Parts.{without_callers, without_client, without_conds, without_head, without_heads_of, without_hold, without_id, without_last, without_received, without_rows, without_rows_of, without_sups, without_sysmod, without_zone}
 use Rattle.sql_writes.specs.Running.{Ran}
 use Rattle.sql_writes.proofs.ChangeFacts.{changed_by}
 use Rattle.sql_writes.proofs.KindFacts.{key_given}
@@ -90,6 +90,25 @@ module _ {A F : Type 0} (old new : State) (text : List ℕ) (result : Result A F
   pub zones_go : (table : TableByZone) → ZoneGoes (by_zone table).table_index (by_zone table).tree (without_zone table)
   zones_go ZoneHead = zone_goes 6 schema.zone_head without_head refl (λ numbered. numbered.1.1.1.1.1.1.0) (λ e. omega (arith, e)) (λ client zone left same. ap (λ rows. record (held_by old.now) { heads = rows }) same)
   zones_go ZoneRow = zone_goes 7 schema.zone_row without_rows refl (λ numbered. numbered.1.1.1.1.1.1.1.0) (λ e. omega (arith, e)) (λ client zone left same. ap (λ rows. record (held_by old.now) { rows = rows }) same)
+
+  -- the rows of all zones of a client
+  pub clients_go : (table : TableByZone) → IdGoes (by_zone table).table_index (by_zone table).tree (without_client table)
+  clients_go ZoneHead = id_goes 6 schema.zone_head without_heads_of refl (λ numbered. numbered.1.1.1.1.1.1.0) (λ e. omega (arith, e)) (λ id left same. ap (λ rows. record (held_by old.now) { heads = rows }) same)
+  clients_go ZoneRow = id_goes 7 schema.zone_row without_rows_of refl (λ numbered. numbered.1.1.1.1.1.1.1.0) (λ e. omega (arith, e)) (λ id left same. ap (λ rows. record (held_by old.now) { rows = rows }) same)
+
+  -- all callers
+  pub callers_go : Means bureau text (delete_of 1 1 []) 0 → Ran text [] old new result → Changes old new result without_callers
+  callers_go means ran =
+      changed_by old new text [] result without_callers ran (λ clean count known executes.
+      let set = deletes text 1 schema.caller [] 0 [] old new count means refl known.schema known.numbered.1.0 executes in (
+        known_after 1 _ old.now new.now known.numbered set,
+        held_set 1 _ old.now new.now set ∙ ap (λ left. record (held_by old.now) { callers = columns_of left }) (none_left (old.now.trees 1)),
+        set.others.0 (λ e. omega (arith, e)),
+      ))
+    where
+      none_left : (rows : List Row) → filter (λ row. not (passes [] [] row)) rows ≡ []
+      none_left [] = refl
+      none_left (row ∷ rows) = none_left rows
 
   -- The kinds of holds are whole numbers by the rules of their table.
   pub holds_go : (key : HoldKey) (a b c : ValueRef) → IsId key.sysmod → IsId key.reason

@@ -5,11 +5,12 @@ use Rattle.std.proofs.lemmas.List.Sums.{fold_push}
 use Rattle.std.proofs.lemmas.List.{append-nil, map-append, take_all, take_more}
 use Rattle.sqlite.specs.Order.{Row}
 use Rattle.sqlite.specs.State.{State}
-use Rattle.sql_tables.specs.Rows.{cond_row, sup_row, zone_row}
-use Rattle.sql_tables.specs.Changes.{published, replaced}
+use Rattle.sql_tables.specs.Rows.{caller_row, cond_row, sup_row, zone_row}
+use Rattle.sql_tables.specs.Changes as changes
+use Rattle.sql_tables.specs.Changes.{published, replaced, without_caller}
 use Rattle.sql_tables.specs.Stored.{Stored, is_of, is_of_both}
 use Rattle.sql_state.specs.Writing.{Changes}
-use Rattle.sql_writes.specs.Parts.{with_conds, with_rows, with_sups, without_conds, without_rows, without_sups}
+use Rattle.sql_writes.specs.Parts.{with_callers, with_conds, with_rows, with_sups, without_callers, without_conds, without_rows, without_sups}
 use Rattle.sql_writes.proofs.ChangeFacts.{alike, changes_then}
 
 -- the same success, told otherwise
@@ -61,3 +62,13 @@ conds_turn id = record {
 
 pub published_turn : ComesInTurn (λ stored. stored) (λ change stored. published stored change) (λ changes stored. fold published stored changes)
 published_turn = record { none = λ stored. refl; more = λ xs x stored. sym (fold_push published stored xs x) }
+
+-- callers leave nothing, and then others come
+pub leaving_turn : ComesInTurn without_callers (λ name stored. without_caller stored name) (λ names stored. without_callers (fold without_caller stored names))
+leaving_turn = record { none = λ stored. refl; more = λ xs x stored. ap without_callers (sym (fold_push without_caller stored xs x)) }
+
+pub callers_turn : (names : List (List ℕ)) → ComesInTurn (λ stored. without_callers (fold without_caller stored names)) (λ caller. with_callers (caller ∷ [])) (changes.with_callers names)
+callers_turn names = record {
+  none = λ stored. refl;
+  more = λ xs x stored. ap (λ rows. record (fold without_caller stored names) { callers = rows }) (sym (map-append caller_row xs (x ∷ [])));
+}

@@ -6,12 +6,13 @@ use Rattle.catalogue.specs.declared.conditional.CondNeed.{CondNeed}
 use Rattle.catalogue.specs.declared.sysmod.Sysmod.{Sysmod}
 use Rattle.zone_lists.specs.declared.zones.ZoneRow.{ZoneRow}
 use Rattle.bureau_store.specs.Tables.{LastChange}
+use Rattle.bureau_store.specs.declared.caller.CallerRow.{CallerRow}
 use Rattle.sql_texts.specs.declared.write.TableById.{TableById}
 use Rattle.sql_texts.specs.declared.write.TableById.TheVariants as by_id
 use Rattle.sql_texts.specs.declared.write.TableByZone.{TableByZone}
 use Rattle.sql_texts.specs.declared.write.TableByZone.TheVariants as by_zone
 use Rattle.sql_tables.specs.Changes.{is_under, replaced}
-use Rattle.sql_tables.specs.Rows.{change_row, cond_row, head_row, hold_row, received_row, sup_row, sysmod_row, zone_row}
+use Rattle.sql_tables.specs.Rows.{caller_row, change_row, cond_row, head_row, hold_row, received_row, sup_row, sysmod_row, zone_row}
 use Rattle.sql_tables.specs.Stored.{Stored, is_of, is_of_both}
 
 -- ---- what goes
@@ -53,7 +54,24 @@ abbrev pub without_zone : TableByZone → List ℕ → List ℕ → Stored → S
 without_zone by_zone.ZoneHead = without_head
 without_zone by_zone.ZoneRow = without_rows
 
+abbrev pub without_heads_of : List ℕ → Stored → Stored
+without_heads_of client stored = record stored { heads = replaced (is_of client) [] stored.heads }
+
+abbrev pub without_rows_of : List ℕ → Stored → Stored
+without_rows_of client stored = record stored { rows = replaced (is_of client) [] stored.rows }
+
+-- the rows of all zones of a client leave a table
+abbrev pub without_client : TableByZone → List ℕ → Stored → Stored
+without_client by_zone.ZoneHead = without_heads_of
+without_client by_zone.ZoneRow = without_rows_of
+
+abbrev pub without_callers : Stored → Stored
+without_callers stored = record stored { callers = [] }
+
 -- ---- what comes
+
+abbrev pub with_callers : List CallerRow → Stored → Stored
+with_callers callers stored = record stored { callers = stored.callers ++ map caller_row callers }
 
 abbrev pub with_last : List ℕ → LastChange → Stored → Stored
 with_last name last stored = record stored { changes = stored.changes ++ change_row name last ∷ [] }

@@ -1,7 +1,7 @@
 //! Rows that go, by one statement. Rows that aren't there are no fault.
 ghost use Rattle.std.specs.Prelude.{◌≡◌};
 ghost use Rattle.sql_writes.specs.Altering.{Alters};
-ghost use Rattle.sql_writes.specs.Parts.{without_hold, without_id, without_zone};
+ghost use Rattle.sql_writes.specs.Parts.{without_callers, without_client, without_hold, without_id, without_zone};
 
 use crate::run::run;
 use crate::values::id_of;
@@ -36,6 +36,27 @@ pub(crate) fn by_zone<S: Alter>(
         (without_zone table client.now zone.now) }
 {
     run(tx, table.deletion(), &[id_of(client), id_of(zone)])
+}
+
+/// The rows of all zones of a client.
+pub(crate) fn by_client<S: Alter>(
+    tx: &mut Transaction<'_, S>,
+    table: TableByZone,
+    client: &Id,
+) -> Result<(), Error>
+    ensures same { tx.new.conn.ghost_name ≡ tx.old.conn.ghost_name }
+    ensures changes { Alters S.Store tx.old.conn.now tx.new.conn.now result
+        (without_client table client.now) }
+{
+    run(tx, table.client_deletion(), &[id_of(client)])
+}
+
+/// All callers.
+pub(crate) fn callers<S: Alter>(tx: &mut Transaction<'_, S>) -> Result<(), Error>
+    ensures same { tx.new.conn.ghost_name ≡ tx.old.conn.ghost_name }
+    ensures changes { Alters S.Store tx.old.conn.now tx.new.conn.now result without_callers }
+{
+    run(tx, write::delete_callers(), &[])
 }
 
 /// The hold with this key.

@@ -4,7 +4,7 @@ ghost use Rattle.bureau_store.specs.Store.{greatest_number};
 ghost use Rattle.sql_writes.specs.Altering.{Alters, Inserts, RefusesExcused, Turns};
 ghost use Rattle.sql_writes.specs.Making.{AreFit, IsOpened};
 ghost use Rattle.bureau_store.specs.declared.caller.CallerRow.{CallerRow};
-ghost use Rattle.sql_writes.specs.Parts.{with_conds, with_head, with_hold, with_last, with_received, with_rows, with_sups, with_sysmod};
+ghost use Rattle.sql_writes.specs.Parts.{with_callers, with_conds, with_head, with_hold, with_last, with_received, with_rows, with_sups, with_sysmod};
 
 use crate::run::{run, run_prepared};
 use crate::values::{id_of, number_of};
@@ -23,9 +23,10 @@ use sqlite::{Alter, Error, Statement, Transaction};
 use std::alloc::Global;
 use zone_lists::{Pattern, ZoneRow};
 
-/// A caller with its token, in tables that were made with those before it.
+/// A caller with its token. `opened` and `excused` speak of tables that were made with the callers before it.
 pub(crate) fn caller<S: Alter>(tx: &mut Transaction<'_, S>, row: &CallerRow) -> Result<(), Error>
     ensures same { tx.new.conn.ghost_name ≡ tx.old.conn.ghost_name }
+    ensures changes { Alters S.Store tx.old.conn.now tx.new.conn.now result (with_callers (row.now ∷ [])) }
     ensures opened { (before : List CallerRow)
         → Turns S.Store tx.old.conn.now tx.new.conn.now result
         (IsOpened before) (IsOpened (before ++ row.now ∷ [])) }

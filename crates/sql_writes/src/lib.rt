@@ -1,6 +1,7 @@
 //! What the bureau's changes write into a store's file, each in a transaction that is lent. Nothing is committed here.
 //!
 //! - [`write`]: a change of a client or of the publisher, with its number and its reply; [`Effect`]: what it does
+//! - [`set_callers`]: a store gets other callers
 //! - [`create`]: the tables of version 2 with the callers, in an empty database
 //! - [`migrate`]: the tables of version 1 become those of version 2, with the rows that they hold
 //!
@@ -9,6 +10,7 @@
 //! and `specs/Migrating` what `migrate` does.
 #![tactic(auto)]
 
+mod callers;
 mod change;
 mod delete;
 mod effect;
@@ -21,6 +23,7 @@ mod tables;
 mod values;
 mod zone;
 
+pub use callers::set_callers;
 pub use change::write;
 pub use effect::Effect;
 pub use migration::migrate;

@@ -1,0 +1,53 @@
+//! A store gets other callers.
+ghost use Rattle.std.specs.Prelude.{◌≡◌, fold};
+ghost use Rattle.sql_tables.specs.Changes.{with_callers, without_caller};
+ghost use Rattle.sql_writes.specs.Altering.{Alters};
+ghost use Rattle.sql_writes.specs.Parts.{without_callers};
+
+use crate::{delete, insert};
+use bureau_store::CallerRow;
+use mcs_reader::Id;
+use sql_texts::write::{TableById, TableByZone};
+use sqlite::{Alter, Error, Transaction};
+
+/// The caller of this name leaves nothing: its last change, its zones and what it has received go.
+fn leave_nothing<S: Alter>(tx: &mut Transaction<'_, S>, name: &Id) -> Result<(), Error>
+    ensures same { tx.new.conn.ghost_name ≡ tx.old.conn.ghost_name }
+    ensures changes { Alters S.Store tx.old.conn.now tx.new.conn.now result
+        (λ stored. without_caller stored name.now) }
+{
+    delete::by_id(tx, TableById::LastChange, name)?;
+    delete::by_client(tx, TableByZone::ZoneHead, name)?;
+    delete::by_client(tx, TableByZone::ZoneRow, name)?;
+    delete::by_id(tx, TableById::ReceivedList, name)
+}
+
+/// No caller is left, and those of these names leave nothing.
+fn remove_callers<S: Alter>(tx: &mut Transaction<'_, S>, names: &[Id]) -> Result<(), Error>
+    ensures same { tx.new.conn.ghost_name ≡ tx.old.conn.ghost_name }
+    ensures changes { Alters S.Store tx.old.conn.now tx.new.conn.now result
+        (λ stored. without_callers (fold without_caller stored names.now)) }
+{
+    delete::callers(tx)?;
+    for name in names {
+        leave_nothing(tx, name)?;
+    }
+    Ok(())
+}
+
+/// Callers of these names leave nothing, and then these are the callers, and no others.
+pub fn set_callers<S: Alter>(
+    tx: &mut Transaction<'_, S>,
+    names: &[Id],
+    callers: &[CallerRow],
+) -> Result<(), Error>
+    ensures same { tx.new.conn.ghost_name ≡ tx.old.conn.ghost_name }
+    ensures changes { Alters S.Store tx.old.conn.now tx.new.conn.now result
+        (with_callers names.now callers.now) }
+{
+    remove_callers(tx, names)?;
+    for caller in callers {
+        insert::caller(tx, caller)?;
+    }
+    Ok(())
+}
