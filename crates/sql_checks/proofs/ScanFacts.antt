@@ -1,0 +1,238 @@
+-- What is told of the rows that a text shows, of those that stand in the table.
+use Rattle.std.proofs.Common.{◌≡◌, ◌⊎◌, ◌↔◌, ℕ, arith, inl, inr, suc, Bool, true, false, List, [], ◌∷◌, drop, refl, sym, ◌∙◌, ap, subst, IsTrue, Ok, Err, Result, None, Some}
+use Rattle.std.specs.Prelude.{codes, filter, map, Option, Vec, IfOk, pos}
+use Rattle.std.specs.declared.alloc.Global.{Global}
+use Rattle.std.specs.List.{AllByRecursion, Contains}
+use Rattle.std.specs.List.Sorted.{IsPermutation}
+use Rattle.std.proofs.lemmas.List.Elements.{All-from_recursion, recursion_from_All}
+use Rattle.std.proofs.lemmas.List.Sorted.{All-permutation, Contains-permutation, IsPermutation-sym, length_permutation}
+use Rattle.sqlite.specs.Effect.{Database, IsDatabase}
+use Rattle.sqlite.specs.Query.{IsAnswer}
+use Rattle.sqlite.specs.State.{HasCleanDisk, State}
+use Rattle.sqlite.specs.Tree.{Trees}
+use Rattle.sqlite_value.specs.Order.{Row, column}
+use Rattle.sqlite_value.specs.declared.value.Value.TheVariants.{Int}
+use Rattle.sql_reads.specs.Answering.{Answers}
+use Rattle.sql_reads.specs.Version.{version_in}
+use Rattle.sql_state.proofs.StopFacts.{no_read, read_on, was_clean}
+use Rattle.sql_state.specs.Ours.{held_by}
+use Rattle.sql_tables.proofs.MemberFacts.{cases_in, first_in, none_in}
+use Rattle.sql_tables.proofs.TreeFacts.{shown_after}
+use Rattle.sql_tables.specs.InTrees.{columns_of, stored_in}
+use Rattle.sql_tables.specs.Stored.{Stored}
+use Rattle.sql_tables.specs.Values.{number_in}
+use Rattle.sql_texts.proofs.AnswerFacts.{table_answer}
+use Rattle.sql_texts.specs.Found.{passes, shown}
+use Rattle.sql_texts.specs.Meaning.{Reads}
+use Rattle.sql_texts.specs.Reads as read
+use Rattle.sql_texts.specs.Schema.{bureau}
+use Rattle.sql_checks.proofs.SaidFacts.{number_said}
+use Rattle.sql_checks.proofs.OursFacts.{ours}
+use Rattle.sql_checks.specs.Checked.{Finds, IsFound, IsRowSeen, IsSeen, Looks, TellsVersion2, WrongIn}
+use Rattle.sql_checks.specs.declared.checking.Finding.{Finding}
+use Rattle.sql_checks.specs.declared.checking.Finding.TheVariants.{Whole, OtherTables, OtherVersion, WrongRow}
+use Rattle.sql_checks.specs.Kept.{AreKept, KeepTo, KeepsTo, all_of, indices_in, names_in, rows_in, table_of}
+use Rattle.sql_checks.specs.declared.table.StoreTable.{StoreTable}
+use Rattle.sql_checks.specs.declared.table.StoreTable.TheVariants.{Caller, LastChange, Sysmod, SysmodSup, SysmodCond, HoldRow, ZoneHead, ZoneRow, ReceivedList}
+
+-- ---- one look after another
+
+-- a look that is refused leaves what it leaves
+pub refused_so : {A B Fault : Type 0} (old new : State) (e : Fault) (First : Database → A → Type 0) (Fact : Database → B → Type 0)
+    → Looks {Answer = A} {Fault = Fault} old new (Err e) First → Looks {Answer = B} {Fault = Fault} old new (Err e) Fact
+refused_so old new e First Fact look = record { reads = look.reads; is_open = tt; told = tt }
+
+pub look_so : {A B Fault : Type 0} (old new : State) (a : A) (b : B) (First : Database → A → Type 0) (Fact : Database → B → Type 0)
+    → Looks {Answer = A} {Fault = Fault} old new (Ok a) First → ((database : Database) → First database a → Fact database b) → Looks {Answer = B} {Fault = Fault} old new (Ok b) Fact
+look_so old new a b First Fact look step = record { reads = look.reads; is_open = look.is_open; told = λ clean is_open has. step old.committed (look.told clean is_open has) }
+
+pub look_on : {A B Fault : Type 0} (old mid new : State) (a : A) (result : Result B Fault) (First : Database → A → Type 0) (Second Fact : Database → B → Type 0)
+    → Looks {Answer = A} {Fault = Fault} old mid (Ok a) First → Looks {Answer = B} {Fault = Fault} mid new result Second
+    → ((database : Database) (b : B) → First database a → Second database b → Fact database b) → Looks {Answer = B} {Fault = Fault} old new result Fact
+look_on old mid new a (Ok b) First Second Fact first second step = record {
+  reads = read_on old mid new first.reads second.reads;
+  is_open = λ clean is_open. second.is_open clean (first.is_open (was_clean mid new _ second.reads.survives clean) is_open);
+  told = λ clean is_open has.
+      let before = was_clean mid new _ second.reads.survives clean in
+      let between = first.is_open before is_open in
+      let same : mid.committed ≡ old.committed = (first.reads.keeps before).committed between in
+      step old.committed b (first.told before is_open has)
+      (subst (λ database. Second database b) same (second.told clean between (subst (λ (database : Database). database.schema ≡ bureau) (sym same) has)));
+}
+look_on old mid new a (Err e) First Second Fact first second step = record { reads = read_on old mid new first.reads second.reads; is_open = tt; told = tt }
+
+-- of no table
+pub none_wrong : {Fault : Type 0} (at : State) → Looks {Answer = Option StoreTable} {Fault = Fault} at at (Ok None) (λ database found. WrongIn [] (held_by database) found)
+none_wrong at = record { reads = no_read at; is_open = λ clean is_open. is_open; told = λ clean is_open has. tt }
+
+-- ---- all rows of a table
+
+all_there : (P : Row → Type 0) (xs ys : List Row) → IsPermutation xs ys → AllByRecursion P xs → AllByRecursion P ys
+all_there P xs ys permuted all = recursion_from_All P ys (All-permutation P xs ys permuted (All-from_recursion P xs all))
+
+every : (rows : List Row) → filter (passes [] []) rows ≡ rows
+every [] = refl
+every (row ∷ rows) = ap (λ others. row ∷ others) (every rows)
+
+-- a row keeps to its table just where its columns do
+columns_keep : (table : StoreTable) (row : Row) → KeepsTo table (shown (indices_in table) row) → KeepsTo table row
+columns_keep Caller row h = h
+columns_keep LastChange row h = h
+columns_keep Sysmod row h = h
+columns_keep SysmodSup row h = h
+columns_keep SysmodCond row h = h
+columns_keep HoldRow row h = h
+columns_keep ZoneHead row h = h
+columns_keep ZoneRow row h = h
+columns_keep ReceivedList row h = h
+
+row_keeps : (table : StoreTable) (row : Row) → KeepsTo table row → KeepsTo table (shown (indices_in table) row)
+row_keeps Caller row h = h
+row_keeps LastChange row h = h
+row_keeps Sysmod row h = h
+row_keeps SysmodSup row h = h
+row_keeps SysmodCond row h = h
+row_keeps HoldRow row h = h
+row_keeps ZoneHead row h = h
+row_keeps ZoneRow row h = h
+row_keeps ReceivedList row h = h
+
+shown_keep : (table : StoreTable) (rows : List Row) → AllByRecursion (KeepsTo table) (map (shown (map suc (indices_in table))) rows) → AllByRecursion (KeepsTo table) (columns_of rows)
+shown_keep table [] all = tt
+shown_keep table (row ∷ rows) all =
+    (columns_keep table (drop 1 row) (subst (KeepsTo table) (sym (shown_after (indices_in table) row)) all.0), shown_keep table rows all.1)
+
+keep_shown : (table : StoreTable) (rows : List Row) → AllByRecursion (KeepsTo table) (columns_of rows) → AllByRecursion (KeepsTo table) (map (shown (map suc (indices_in table))) rows)
+keep_shown table [] all = tt
+keep_shown table (row ∷ rows) all =
+    (subst (KeepsTo table) (shown_after (indices_in table) row) (row_keeps table (drop 1 row) all.0), keep_shown table rows all.1)
+
+in_tree : (table : StoreTable) (trees : Trees) → columns_of (trees (table_of table).tree) ≡ rows_in table (stored_in trees)
+in_tree Caller trees = refl
+in_tree LastChange trees = refl
+in_tree Sysmod trees = refl
+in_tree SysmodSup trees = refl
+in_tree SysmodCond trees = refl
+in_tree HoldRow trees = refl
+in_tree ZoneHead trees = refl
+in_tree ZoneRow trees = refl
+in_tree ReceivedList trees = refl
+
+all_keep : (table : StoreTable) (trees : Trees) (rows : List Row) → IsAnswer (all_of table) trees [] rows
+    → AllByRecursion (KeepsTo table) rows ↔ KeepTo table (stored_in trees)
+all_keep table trees rows answer =
+    let tree = (table_of table).tree in
+    let there : IsPermutation (map (shown (map suc (indices_in table))) (trees tree)) rows =
+    subst (λ kept. IsPermutation (map (shown (map suc (indices_in table))) kept) rows) (every (trees tree)) (table_answer tree [] (map suc (indices_in table)) [] trees [] rows answer) in (
+      λ all. subst (AllByRecursion (KeepsTo table)) (in_tree table trees)
+          (shown_keep table (trees tree) (all_there (KeepsTo table) rows (map (shown (map suc (indices_in table))) (trees tree)) (IsPermutation-sym _ rows there) all)),
+      λ all. all_there (KeepsTo table) (map (shown (map suc (indices_in table))) (trees tree)) rows there
+          (keep_shown table (trees tree) (subst (AllByRecursion (KeepsTo table)) (sym (in_tree table trees)) all)),
+    )
+
+pub kept_told : {Fault : Type 0} (table : StoreTable) (text : List ℕ) → Reads bureau text (all_of table) (names_in table) 0 → (old new : State) (rows : Vec Row Global) (seen : List Row) → seen ≡ rows.items
+    → Answers {Fault = Fault} text [] old new (Ok rows) → (result : Result Bool Fault) → IfOk result (λ keeps. IsTrue keeps ↔ AllByRecursion (KeepsTo table) seen)
+    → Looks old new result (λ database keeps. IsTrue keeps ↔ KeepTo table (held_by database))
+kept_told table text reads old new rows seen same answers (Err e) is = record { reads = answers.reads; is_open = tt; told = tt }
+kept_told table text reads old new rows seen same answers (Ok keeps) is = record {
+  reads = answers.reads;
+  is_open = λ clean is_open. answers.is_open clean;
+  told = λ clean is_open has.
+      let answer = subst (IsAnswer (all_of table) old.committed.trees []) (sym same) (answers.told clean bureau has (all_of table) (names_in table) 0 reads) in
+      let all = all_keep table old.committed.trees seen answer in
+      (λ keeps. all.0 (is.0 keeps), λ kept. is.1 (all.1 kept));
+}
+
+pub refused_rows : {A Fault : Type 0} (text : List ℕ) (old new : State) (other : Fault) (Fact : Database → A → Type 0) (result : Result (Vec Row Global) Fault) → Answers {Fault = Fault} text [] old new result
+    → Looks {Answer = A} {Fault = Fault} old new (Err other) Fact
+refused_rows text old new other Fact result answers = record { reads = answers.reads; is_open = tt; told = tt }
+
+-- ---- the version
+
+one_again : (row : Row) (rows : List Row) → IsPermutation (row ∷ []) rows → rows ≡ row ∷ []
+one_again row [] permuted = absurd (omega (arith, length_permutation (row ∷ []) [] permuted))
+one_again row (other ∷ []) permuted =
+    let here : Contains (row ∷ []) other = Contains-permutation (other ∷ []) (row ∷ []) other (IsPermutation-sym (row ∷ []) (other ∷ []) permuted) (first_in other []) in
+    elim (cases_in row other [] here) [ inl e ↦ ap (λ it. it ∷ []) (sym e) | inr e ↦ absurd (none_in other e) ]
+one_again row (other ∷ more ∷ rows) permuted = absurd (omega (arith, length_permutation (row ∷ []) (other ∷ more ∷ rows) permuted))
+
+-- the one row that is shown is the version alone
+version_alone : (rows : List Row) (row : Row) → map (shown (2 ∷ [])) rows ≡ row ∷ [] → number_in (column row 0) ≡ Some 2 → row ≡ Int (pos 2) ∷ []
+version_alone [] row e told = cc
+version_alone (r ∷ []) row e told =
+    let same : column r 2 ∷ [] ≡ row = cc in
+    sym same ∙ ap (λ v. v ∷ []) (number_said (column r 2) 2 (subst (λ x. number_in (column x 0) ≡ Some 2) (sym same) told))
+version_alone (r ∷ s ∷ rows) row e told = cc
+
+-- rows that are shown of the table of the version tell 2 just where it has one row that does
+pub version_both : (rows seen : List Row) → IsPermutation (map (shown (2 ∷ [])) rows) seen → (version_in seen ≡ Some 2) ↔ (map (shown (2 ∷ [])) rows ≡ (Int (pos 2) ∷ []) ∷ [])
+version_both rows seen permuted = (there seen permuted, λ is. ap version_in (one_again (Int (pos 2) ∷ []) seen (subst (λ all. IsPermutation all seen) is permuted)))
+  where
+    there : (seen : List Row) → IsPermutation (map (shown (2 ∷ [])) rows) seen → version_in seen ≡ Some 2 → map (shown (2 ∷ [])) rows ≡ (Int (pos 2) ∷ []) ∷ []
+    there [] p h = cc
+    there (row ∷ []) p h =
+        let is = one_again row (map (shown (2 ∷ [])) rows) (IsPermutation-sym (map (shown (2 ∷ [])) rows) (row ∷ []) p) in
+        is ∙ ap (λ r. r ∷ []) (version_alone rows row is h)
+    there (row ∷ other ∷ more) p h = cc
+
+pub version_told : {Fault : Type 0} (text : List ℕ) → Reads bureau text read.version (codes "version" ∷ []) 0 → (old new : State) (rows : Vec Row Global) (seen : List Row) → seen ≡ rows.items
+    → Answers {Fault = Fault} text [] old new (Ok rows) → (is : Bool) → (IsTrue is ↔ (version_in seen ≡ Some 2))
+    → Looks {Answer = Bool} {Fault = Fault} old new (Ok is) (λ database is. IsTrue is ↔ TellsVersion2 database)
+version_told text reads old new rows seen same answers is told = record {
+  reads = answers.reads;
+  is_open = λ clean is_open. answers.is_open clean;
+  told = λ clean is_open has.
+      let answer = subst (IsAnswer read.version old.committed.trees []) (sym same) (answers.told clean bureau has read.version (codes "version" ∷ []) 0 reads) in
+      let permuted = subst (λ kept. IsPermutation (map (shown (2 ∷ [])) kept) seen) (every (old.committed.trees 0)) (table_answer 0 [] (2 ∷ []) (0 ∷ []) old.committed.trees [] seen answer) in
+      let alike = version_both (old.committed.trees 0) seen permuted in
+      (λ h. alike.0 (told.0 h), λ h. told.1 (alike.1 h));
+}
+
+-- ---- all tables
+
+abbrev all_tables : List StoreTable
+all_tables = Caller ∷ LastChange ∷ Sysmod ∷ SysmodSup ∷ SysmodCond ∷ HoldRow ∷ ZoneHead ∷ ZoneRow ∷ ReceivedList ∷ []
+
+pub all_kept : (stored : Stored) → AllByRecursion (λ table. KeepTo table stored) all_tables → AreKept stored
+all_kept stored all Caller = all.0
+all_kept stored all LastChange = all.1.0
+all_kept stored all Sysmod = all.1.1.0
+all_kept stored all SysmodSup = all.1.1.1.0
+all_kept stored all SysmodCond = all.1.1.1.1.0
+all_kept stored all HoldRow = all.1.1.1.1.1.0
+all_kept stored all ZoneHead = all.1.1.1.1.1.1.0
+all_kept stored all ZoneRow = all.1.1.1.1.1.1.1.0
+all_kept stored all ReceivedList = all.1.1.1.1.1.1.1.1.0
+
+-- one table more
+pub wrong_more : (stored : Stored) (table : StoreTable) (rest tables : List StoreTable) → tables ≡ table ∷ rest → KeepTo table stored → (found : Option StoreTable) → WrongIn rest stored found → WrongIn tables stored found
+wrong_more stored table rest tables are kept None all = subst (AllByRecursion (λ t. KeepTo t stored)) (sym are) (kept, all)
+wrong_more stored table rest tables are kept (Some wrong) is = is
+
+pub row_seen : (database : Database) (finding : Finding) → TellsVersion2 database → IsRowSeen database finding → IsSeen database finding
+row_seen database Whole two kept = (two, kept)
+row_seen database OtherTables two none = absurd none
+row_seen database OtherVersion two none = absurd none
+row_seen database (WrongRow table) two wrong = wrong
+
+-- what is seen of a database that obeys its schema is found of it
+pub seen_found : (database : Database) → IsDatabase database → database.schema ≡ bureau → (finding : Finding) → IsSeen database finding → IsFound database finding
+seen_found database obeys has Whole seen = (λ numbered. ours database obeys has numbered seen.0 seen.1, seen.1)
+seen_found database obeys has OtherTables seen = absurd seen
+seen_found database obeys has OtherVersion seen = (has, seen)
+seen_found database obeys has (WrongRow table) seen = (has, seen)
+
+pub found_so : {Fault : Type 0} (old new : State) (result : Result Finding Fault) → Looks old new result IsSeen → (IsTrue old.is_open → old.committed.schema ≡ bureau)
+    → (IsTrue old.is_open → IsDatabase old.committed) → Finds old new result IsFound
+found_so old new (Ok finding) look has obeys = record {
+  reads = look.reads;
+  is_open = look.is_open;
+  told = λ clean is_open. seen_found old.committed (obeys is_open) (has is_open) finding (look.told clean is_open (has is_open));
+}
+found_so old new (Err e) look has obeys = record { reads = look.reads; is_open = tt; told = tt }
+
+pub other_tables : {Fault : Type 0} (at : State) → (IsTrue at.is_open → at.committed.schema ≡ bureau → ⊥) → Finds {Answer = Finding} {Fault = Fault} at at (Ok OtherTables) IsFound
+other_tables at other = record { reads = no_read at; is_open = λ clean is_open. is_open; told = λ clean is_open. other is_open }
+
+pub no_finding : {Fault : Type 0} (at : State) (e : Fault) → Finds {Answer = Finding} {Fault = Fault} at at (Err e) IsFound
+no_finding at e = record { reads = no_read at; is_open = tt; told = tt }

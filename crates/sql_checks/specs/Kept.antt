@@ -1,0 +1,123 @@
+-- What each row of a store keeps to, so that it is one that the bureau writes, and that a read takes.
+use Rattle.std.specs.Prelude.{◌≡◌, ℕ, suc, Bool, true, false, List, [], ◌∷◌, codes, map, IsSome, IsTrue, Some}
+use Rattle.std.specs.List.{AllByRecursion}
+use Rattle.bureau_store.specs.Tables.{PatternsAscend}
+use Rattle.catalogue.specs.Ids.{Ascend}
+use Rattle.sqlite.specs.Query.{Query}
+use Rattle.sqlite.specs.Table.{Table}
+use Rattle.sqlite_value.specs.Order.{Row, column}
+use Rattle.sqlite_value.specs.declared.value.Value.{Value}
+use Rattle.sqlite_value.specs.declared.value.Value.TheVariants.{Null, Int, Real, Text, Blob}
+use Rattle.sql_tables.specs.Rows.{hold_found}
+use Rattle.sql_tables.specs.Stored.{Stored}
+use Rattle.sql_tables.specs.Values.{bytes_in, id_in, ids_in, number_in, patterns_in, state_in, sysmod_kind_in}
+use Rattle.sql_texts.specs.Reads.{from_table}
+use Rattle.sql_texts.specs.Schema as made
+use Rattle.sql_texts.specs.Schema.{columns_of}
+use Rattle.sql_checks.specs.declared.table.StoreTable.{StoreTable}
+use Rattle.sql_checks.specs.declared.table.StoreTable.TheVariants.{Caller, LastChange, Sysmod, SysmodSup, SysmodCond, HoldRow, ZoneHead, ZoneRow, ReceivedList}
+
+-- ---- the tables
+
+-- as the database makes it
+abbrev pub table_of : StoreTable → Table
+table_of Caller = made.caller
+table_of LastChange = made.last_change
+table_of Sysmod = made.sysmod
+table_of SysmodSup = made.sysmod_sup
+table_of SysmodCond = made.sysmod_cond
+table_of HoldRow = made.hold_row
+table_of ZoneHead = made.zone_head
+table_of ZoneRow = made.zone_row
+table_of ReceivedList = made.received_list
+
+abbrev pub table_name : StoreTable → List ℕ
+table_name table = (table_of table).name
+
+-- its rows
+abbrev pub rows_in : StoreTable → Stored → List Row
+rows_in Caller stored = stored.callers
+rows_in LastChange stored = stored.changes
+rows_in Sysmod stored = stored.sysmods
+rows_in SysmodSup stored = stored.sups
+rows_in SysmodCond stored = stored.conds
+rows_in HoldRow stored = stored.holds
+rows_in ZoneHead stored = stored.heads
+rows_in ZoneRow stored = stored.rows
+rows_in ReceivedList stored = stored.received
+
+-- its columns, from 0 on
+abbrev pub indices_in : StoreTable → List ℕ
+indices_in Caller = 0 ∷ 1 ∷ []
+indices_in LastChange = 0 ∷ 1 ∷ 2 ∷ []
+indices_in Sysmod = 0 ∷ 1 ∷ 2 ∷ 3 ∷ 4 ∷ []
+indices_in SysmodSup = 0 ∷ 1 ∷ []
+indices_in SysmodCond = 0 ∷ 1 ∷ 2 ∷ []
+indices_in HoldRow = 0 ∷ 1 ∷ 2 ∷ 3 ∷ 4 ∷ 5 ∷ 6 ∷ 7 ∷ []
+indices_in ZoneHead = 0 ∷ 1 ∷ 2 ∷ []
+indices_in ZoneRow = 0 ∷ 1 ∷ 2 ∷ 3 ∷ []
+indices_in ReceivedList = 0 ∷ 1 ∷ []
+
+abbrev pub names_in : StoreTable → List (List ℕ)
+names_in table = columns_of (table_of table)
+
+-- the query of all its rows, with all columns
+abbrev pub all_of : StoreTable → Query
+all_of table = from_table (table_of table).tree [] (map suc (indices_in table)) []
+
+-- ---- what a row keeps to
+
+abbrev pub is_any_text : Value → Bool
+is_any_text (Text t) = true
+is_any_text (Blob b) = false
+is_any_text (Int n) = false
+is_any_text (Real x) = false
+is_any_text Null = false
+
+abbrev pub IsIdColumn : Row → ℕ → Type 0
+IsIdColumn row index = IsSome (id_in (column row index))
+
+-- a list of ids that ascend, each once
+abbrev pub AreIdsColumn : Row → ℕ → Type 0
+AreIdsColumn row index = (ids : List (List ℕ)) × (ids_in (column row index) ≡ Some ids) × Ascend ids
+
+-- a list of patterns of fix categories that ascend, each once
+abbrev pub ArePatternsColumn : Row → ℕ → Type 0
+ArePatternsColumn row index = (patterns : List (List ℕ)) × (patterns_in (column row index) ≡ Some patterns) × PatternsAscend patterns
+
+abbrev pub IsCallerRow : Row → Type 0
+IsCallerRow row = IsIdColumn row 0 × IsTrue (is_any_text (column row 1))
+
+abbrev pub IsChangeRow : Row → Type 0
+IsChangeRow row = IsIdColumn row 0 × IsSome (number_in (column row 1)) × IsSome (bytes_in (column row 2))
+
+abbrev pub IsSysmodRow : Row → Type 0
+IsSysmodRow row = IsIdColumn row 0 × IsSome (sysmod_kind_in (column row 1)) × AreIdsColumn row 2 × AreIdsColumn row 3 × AreIdsColumn row 4
+
+abbrev pub IsHoldRow : Row → Type 0
+IsHoldRow row = IsSome (hold_found row)
+
+abbrev pub IsHeadRow : Row → Type 0
+IsHeadRow row = IsIdColumn row 0 × IsIdColumn row 1 × ArePatternsColumn row 2
+
+abbrev pub IsZoneRow : Row → Type 0
+IsZoneRow row = IsIdColumn row 0 × IsIdColumn row 1 × IsIdColumn row 2 × IsSome (state_in (column row 3))
+
+abbrev pub KeepsTo : StoreTable → Row → Type 0
+KeepsTo Caller row = IsCallerRow row
+KeepsTo LastChange row = IsChangeRow row
+KeepsTo Sysmod row = IsSysmodRow row
+KeepsTo SysmodSup row = IsIdColumn row 0 × IsIdColumn row 1
+KeepsTo SysmodCond row = IsIdColumn row 0 × IsIdColumn row 1 × IsIdColumn row 2
+KeepsTo HoldRow row = IsHoldRow row
+KeepsTo ZoneHead row = IsHeadRow row
+KeepsTo ZoneRow row = IsZoneRow row
+KeepsTo ReceivedList row = IsIdColumn row 0 × AreIdsColumn row 1
+
+-- all rows of a table keep to it
+abbrev pub KeepTo : StoreTable → Stored → Type 0
+KeepTo table stored = AllByRecursion (KeepsTo table) (rows_in table stored)
+
+-- all rows of all tables do
+abbrev pub AreKept : Stored → Type 0
+AreKept stored = (table : StoreTable) → KeepTo table stored

@@ -1,0 +1,94 @@
+//! Whether a database is the bureau's own, with all its rows.
+ghost use Rattle.std.specs.Prelude.{◌≡◌, ◌↔◌, IfOk, IsTrue, false};
+ghost use Rattle.sqlite.specs.Held.{state};
+ghost use Rattle.sql_checks.specs.Checked.{Finds, IsFound, IsRowSeen, IsSeen, Looks};
+ghost use Rattle.sql_texts.specs.Schema.{bureau};
+
+use crate::law::sound;
+use crate::scan::{is_version_2, wrong_among};
+use crate::schema::is_store_schema;
+use crate::table::StoreTable;
+use sql_reads::ReadFault;
+use sqlite::{Alter, Connection};
+use std::alloc::Global;
+
+/// What is found of a database.
+#[derive(Clone, Copy, Debug, PartialEq, Eq)]
+pub enum Finding {
+    /// It has the tables of version 2, and each row is one that the bureau writes.
+    Whole,
+    /// Its tables or its indexes are others, or are made otherwise.
+    OtherTables,
+    /// Its tables tell another version, or none.
+    OtherVersion,
+    /// A row of this table is none that the bureau writes.
+    WrongRow(StoreTable),
+}
+
+// Whether a connection has the tables of version 2, made as the bureau makes them.
+fn has_tables<S: Alter>(alloc: Global, conn: &Connection<S>) -> Result<bool, ReadFault>
+    requires { conn.now.in_transaction ≡ false }
+    ensures { IfOk result (λ has. IsTrue (state S.Store conn.now).is_open
+        → IsTrue has ↔ ((state S.Store conn.now).committed.schema ≡ bureau)) }
+{
+    let _settled = conn.is_autocommit();
+    Ok(is_store_schema(alloc, conn.schema())?)
+}
+
+/// Looks a database through: its tables, their version, and each row of them.
+///
+/// # Errors
+///
+/// Those of [`ReadFault`].
+pub fn check<S: Alter>(alloc: Global, conn: &mut Connection<S>) -> Result<Finding, ReadFault>
+    requires rest { conn.old.in_transaction ≡ false }
+    ensures mode { conn.new.in_transaction ≡ false }
+    ensures finds { Finds (state S.Store conn.old) (state S.Store conn.new) result IsFound }
+{
+    sound(conn);
+    match has_tables(alloc, conn) {
+        Ok(true) => look_through(alloc, conn),
+        Ok(false) => Ok(Finding::OtherTables),
+        Err(fault) => Err(fault),
+    }
+}
+
+// The same of a connection that has the tables.
+fn look_through<S: Alter>(alloc: Global, conn: &mut Connection<S>) -> Result<Finding, ReadFault>
+    requires rest { conn.old.in_transaction ≡ false }
+    ensures mode { conn.new.in_transaction ≡ false }
+    ensures looks { Looks (state S.Store conn.old) (state S.Store conn.new) result IsSeen }
+{
+    match is_version_2(conn) {
+        Ok(true) => wrong_row(alloc, conn),
+        Ok(false) => Ok(Finding::OtherVersion),
+        Err(fault) => Err(fault),
+    }
+}
+
+// The first table with a wrong row.
+fn wrong_row<S: Alter>(alloc: Global, conn: &mut Connection<S>) -> Result<Finding, ReadFault>
+    requires rest { conn.old.in_transaction ≡ false }
+    ensures mode { conn.new.in_transaction ≡ false }
+    ensures looks { Looks (state S.Store conn.old) (state S.Store conn.new) result IsRowSeen }
+{
+    match wrong_among(
+        alloc,
+        conn,
+        &[
+            StoreTable::Caller,
+            StoreTable::LastChange,
+            StoreTable::Sysmod,
+            StoreTable::SysmodSup,
+            StoreTable::SysmodCond,
+            StoreTable::HoldRow,
+            StoreTable::ZoneHead,
+            StoreTable::ZoneRow,
+            StoreTable::ReceivedList,
+        ],
+    ) {
+        Ok(Some(table)) => Ok(Finding::WrongRow(table)),
+        Ok(None) => Ok(Finding::Whole),
+        Err(fault) => Err(fault),
+    }
+}

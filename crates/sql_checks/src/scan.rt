@@ -1,0 +1,86 @@
+//! The rows of a table are looked through.
+ghost use Rattle.std.specs.Prelude.{◌≡◌, ◌↔◌, IfOk, IsTrue, Some, false};
+ghost use Rattle.std.specs.List.{AllByRecursion};
+ghost use Rattle.sqlite.specs.Held.{state};
+ghost use Rattle.sql_checks.specs.Checked.{Looks, TellsVersion2, WrongIn};
+ghost use Rattle.sql_checks.specs.Kept.{KeepTo, KeepsTo};
+ghost use Rattle.sql_state.specs.Ours.{held_by};
+ghost use Rattle.sql_reads.specs.Version.{version_in};
+
+use crate::row::keep_to;
+use crate::table::StoreTable;
+use sql_reads::{ReadFault, rows_of};
+use sql_tables::count_in;
+use sql_texts::read;
+use sqlite::{Alter, Connection, Row};
+use std::alloc::Global;
+
+// Whether all rows of a table are such that the bureau writes them.
+fn keeps<S: Alter>(
+    alloc: Global,
+    conn: &mut Connection<S>,
+    table: StoreTable,
+) -> Result<bool, ReadFault>
+    requires rest { conn.old.in_transaction ≡ false }
+    ensures mode { conn.new.in_transaction ≡ false }
+    ensures looks { Looks (state S.Store conn.old) (state S.Store conn.new) result
+        (λ database keeps. IsTrue keeps ↔ KeepTo table (held_by database)) }
+{
+    match rows_of(conn, table.text(), &[]) {
+        Ok(rows) => all_keep(alloc, table, rows.as_slice()),
+        Err(fault) => Err(fault),
+    }
+}
+
+fn all_keep(alloc: Global, table: StoreTable, rows: &[Row]) -> Result<bool, ReadFault>
+    ensures { IfOk result (λ keep. IsTrue keep ↔ AllByRecursion (KeepsTo table) rows.now) }
+{
+    Ok(keep_to(alloc, table, rows)?)
+}
+
+// Whether the one row of the version tells 2.
+pub(crate) fn is_version_2<S: Alter>(conn: &mut Connection<S>) -> Result<bool, ReadFault>
+    requires rest { conn.old.in_transaction ≡ false }
+    ensures mode { conn.new.in_transaction ≡ false }
+    ensures looks { Looks (state S.Store conn.old) (state S.Store conn.new) result
+        (λ database is. IsTrue is ↔ TellsVersion2 database) }
+{
+    match rows_of(conn, read::version(), &[]) {
+        Ok(rows) => Ok(is_2(rows.as_slice())),
+        Err(fault) => Err(fault),
+    }
+}
+
+fn is_2(rows: &[Row]) -> bool
+    ensures { IsTrue result ↔ (version_in rows.now ≡ Some 2) }
+{
+    match rows {
+        [row] => count_in(row) == Some(2),
+        _ => false,
+    }
+}
+
+/// The first of these tables with a row that the bureau doesn't write, if there is one.
+///
+/// # Errors
+///
+/// Those of [`ReadFault`].
+pub(crate) fn wrong_among<S: Alter>(
+    alloc: Global,
+    conn: &mut Connection<S>,
+    tables: &[StoreTable],
+) -> Result<Option<StoreTable>, ReadFault>
+    requires rest { conn.old.in_transaction ≡ false }
+    ensures mode { conn.new.in_transaction ≡ false }
+    ensures looks { Looks (state S.Store conn.old) (state S.Store conn.new) result
+        (λ database found. WrongIn tables.now (held_by database) found) }
+{
+    match tables.split_first() {
+        None => Ok(None),
+        Some((table, tables)) => match keeps(alloc, conn, *table) {
+            Ok(true) => wrong_among(alloc, conn, tables),
+            Ok(false) => Ok(Some(*table)),
+            Err(fault) => Err(fault),
+        },
+    }
+}

@@ -1,0 +1,80 @@
+//! How much a store has.
+ghost use Rattle.std.specs.Prelude.{◌≡◌, false, map, IfOk};
+ghost use Rattle.sqlite.specs.Held.{state};
+ghost use Rattle.sql_checks.specs.Checked.{Looks};
+ghost use Rattle.sql_checks.specs.Tally.{HasTallied, IsTallyOf, line_of};
+ghost use Rattle.sql_state.specs.Ours.{IsOurs, held_by};
+ghost use Rattle.sql_tables.specs.Stored.{tables_of};
+
+use bureau_store::CallerRow;
+use mcs_reader::Id;
+use sql_reads::{CallerTally, ReadFault, caller_tally, counts};
+use sqlite::{Alter, Connection};
+use std::alloc::Global;
+
+/// How much a caller has.
+#[derive(Clone, Copy, Debug, PartialEq, Eq)]
+pub struct CallerLine {
+    pub name: Id,
+    pub has: CallerTally,
+}
+
+/// How much a store has.
+#[derive(Debug, Drop)]
+pub struct StoreTally {
+    /// How many SYSMODs are catalogued.
+    pub sysmods: u64,
+    /// How many holds there are.
+    pub holds: u64,
+    /// How much each of some callers has.
+    pub callers: Vec<CallerLine>,
+}
+
+/// How much a store has, and how much each of these callers has in it.
+///
+/// # Errors
+///
+/// Those of [`ReadFault`].
+pub fn store_tally<S: Alter>(
+    alloc: Global,
+    conn: &mut Connection<S>,
+    callers: &[CallerRow],
+) -> Result<StoreTally, ReadFault>
+    requires rest { conn.old.in_transaction ≡ false }
+    ensures mode { conn.new.in_transaction ≡ false }
+    ensures looks { Looks (state S.Store conn.old) (state S.Store conn.new) result
+        (λ database tally. IsOurs database
+        → IsTallyOf (tables_of (held_by database)) callers.now tally) }
+{
+    let counts = counts(conn)?;
+    match lines(alloc, conn, callers) {
+        Ok(callers) => Ok(StoreTally {
+            sysmods: counts.0,
+            holds: counts.1,
+            callers,
+        }),
+        Err(fault) => Err(fault),
+    }
+}
+
+// How much each of these callers has.
+fn lines<S: Alter>(
+    alloc: Global,
+    conn: &mut Connection<S>,
+    callers: &[CallerRow],
+) -> Result<Vec<CallerLine>, ReadFault>
+    requires rest { conn.old.in_transaction ≡ false }
+    ensures mode { conn.new.in_transaction ≡ false }
+    ensures looks { Looks (state S.Store conn.old) (state S.Store conn.new) result
+        (λ database lines. HasTallied callers.now database lines.items) }
+{
+    let mut lines = Vec::with_capacity(alloc, callers.len())?;
+    for caller in callers {
+        let has = caller_tally(alloc, conn, &caller.name)?;
+        lines.push(CallerLine {
+            name: caller.name,
+            has,
+        })?;
+    }
+    Ok(lines)
+}
