@@ -2,8 +2,10 @@
 ghost use Rattle.std.specs.Prelude.{◌≡◌, ◌⊎◌};
 
 use bureau_http::{ConnFault, Listening, Patience, Served, Side, Sockets};
-use bureau_program::{Ended, LineFault, Surroundings};
+use bureau_program::Surroundings;
 use bureau_store::StoreFault;
+use command_line::LineFault;
+use run_parts::Files;
 use sqlite::{Connection, Error, ErrorCode, FileFrom, FileStore, Start};
 use std::alloc::Global;
 use std::fs::File;
@@ -11,6 +13,7 @@ use std::hash::RandomState;
 use std::net::{Ipv4Addr, TcpListener};
 use std::path::Path;
 use std::{env, io};
+use store_runs::{Ended, Stores};
 
 /// The system's own words, files, ports and clocks.
 #[derive(Drop)]
@@ -54,34 +57,20 @@ impl<'a> Listening for System<'a> {
     }
 }
 
-impl Surroundings for System<'_> {
-    ghost use Rattle.bureau_program.specs.Surroundings.{Unknown};
-    ghost use Rattle.std.specs.Prelude.{None};
+impl Files for System<'_> {
+    ghost use Rattle.run_parts.specs.Files.{Unknown};
 
     type File = File;
 
-    ghost known_words = { λ _. None };
-
     ghost known_file = { λ _ _. Unknown };
-
-    ghost known_store = { λ _ _ _. Unit {0} };
-
-    ghost known_port = { λ _ _. Unit {0} };
-
-    fn words(&self, alloc: Global) -> Result<Vec<String>, LineFault> {
-        match env::args(self.rt) {
-            Ok(words) => Ok(words.skip(1).collect(alloc)?),
-            Err(error) if error.kind() == io::ErrorKind::OutOfMemory => Err(LineFault::Memory),
-            Err(_) => {
-                let text = "error: a word of the command line is no text\n";
-                Err(LineFault::Words(String::from_str(alloc, text)?))
-            }
-        }
-    }
 
     fn open(&self, name: &str) -> io::Result<File> {
         File::open(self.rt, name)
     }
+}
+
+impl Stores for System<'_> {
+    ghost known_store = { λ _ _ _. Unit {0} };
 
     fn connect<D: Start>(
         &self,
@@ -96,6 +85,25 @@ impl Surroundings for System<'_> {
             Ok(conn) => Ok(conn),
             Err((error, Some(left))) => Err((fault_of(error), Ended::Left(left))),
             Err((error, None)) => Err((fault_of(error), Ended::Nothing)),
+        }
+    }
+}
+
+impl Surroundings for System<'_> {
+    ghost use Rattle.std.specs.Prelude.{None};
+
+    ghost known_words = { λ _. None };
+
+    ghost known_port = { λ _ _. Unit {0} };
+
+    fn words(&self, alloc: Global) -> Result<Vec<String>, LineFault> {
+        match env::args(self.rt) {
+            Ok(words) => Ok(words.skip(1).collect(alloc)?),
+            Err(error) if error.kind() == io::ErrorKind::OutOfMemory => Err(LineFault::Memory),
+            Err(_) => {
+                let text = "error: a word of the command line is no text\n";
+                Err(LineFault::Words(String::from_str(alloc, text)?))
+            }
         }
     }
 

@@ -32,15 +32,16 @@ use Rattle.sqlite_wal.specs.Recovery.{Image}
 use Rattle.sqlite.specs.Files.{HoldsDatabase, file_state, over_files}
 use Rattle.sqlite.specs.Held.{Held}
 use Rattle.sqlite.specs.State.{HasCleanDisk}
-use Rattle.bureau_program.specs.Desk.{HasOpened, of_store}
-use Rattle.bureau_program.specs.Ended.{HasEnded, HasFound, IsEndOf, IsLeftOver}
-use Rattle.bureau_program.specs.Keeping.{EndsWell, HasNoTables, IsServedFrom, KeepsEarlier, KeepsServed, Leaves, MayFollow}
+use Rattle.store_runs.specs.Desk.{HasOpened, of_store}
+use Rattle.store_runs.specs.Ended.{HasEnded, HasFound, IsEndOf, IsLeftOver}
+use Rattle.store_runs.specs.Keeping.{EndsWell, HasNoTables, KeepsEarlier, Leaves}
+use Rattle.bureau_program.specs.Served.{IsServedFrom, KeepsServed, MayFollow}
 use Rattle.bureau_program.specs.Replay.{IsAlwaysRight}
 use Rattle.bureau_program.specs.Serving.{IsServeOutput, IsServedOver, Session, desk_ends, desk_over, file_ends, store_ends}
-use Rattle.bureau_program.specs.declared.ended.Ended.{Ended}
-use Rattle.bureau_program.specs.declared.ended.Ended.TheVariants.{Nothing, Left, Closed}
-use Rattle.bureau_program.proofs.EndFacts.{left_of}
-use Rattle.bureau_program.proofs.StayFacts.{earlier_stays, kept_earlier, kept_tables}
+use Rattle.store_runs.specs.declared.ended.Ended.{Ended}
+use Rattle.store_runs.specs.declared.ended.Ended.TheVariants.{Nothing, Left, Closed}
+use Rattle.store_runs.proofs.EndFacts.{left_of}
+use Rattle.store_runs.proofs.StayFacts.{earlier_stays, kept_earlier, kept_tables}
 
 pub in_order : (from : Image) (before : Tables) → HoldsStore from before → AreInOrder before
 in_order from before holds = subst AreInOrder holds.tables (tables_in_order (stored_in holds.trees))

@@ -1,20 +1,7 @@
 -- What is read of files, one after the other.
-use Rattle.std.proofs.Common.{◌≡◌, ℕ, ◌+◌, ◌<◌, List, [], ◌∷◌, ◌++◌, length, map, take, get_or, sym, ap, ◌∙◌, subst, append-nil, Option, Some, None}
-use Rattle.std.specs.Io.KnownBytes.{Consumes, IsAtEnd}
+use Rattle.std.proofs.Common.{◌≡◌, ℕ, ◌+◌, ◌<◌, List, [], ◌∷◌, ◌++◌, length, map, take, get_or, sym, ap, ◌∙◌, subst}
 use Rattle.std.proofs.lemmas.List.{map-append, take_more}
-use Rattle.bureau_program.specs.Surroundings.{KnownFile, Unknown, Missing, Holds, AreContents, IsContent, IsOpened}
-
--- what is read of a file to its end is what stands in it
-pub content_read : (file : KnownFile) (before after : Option (List ℕ)) (bytes : List ℕ) → IsOpened file before → Consumes before after bytes → IsAtEnd after
-    → IsContent file bytes
-content_read Unknown before after bytes opened takes ends = tt
-content_read Missing before after bytes opened takes ends = absurd opened
-content_read (Holds known) None after bytes opened takes ends = cc opened
-content_read (Holds known) (Some xs) None bytes opened takes ends = absurd takes
-content_read (Holds known) (Some xs) (Some ys) bytes opened takes ends =
-    let both : Some xs ≡ Some known = opened in
-    let same : xs ≡ known = cc in
-    sym (append-nil bytes) ∙ ap (λ l. bytes ++ l) (sym ends) ∙ sym takes ∙ same
+use Rattle.run_parts.specs.Files.{KnownFile, AreContents, IsContent}
 
 module _ (files : List ℕ → KnownFile) where
   -- one file more was read

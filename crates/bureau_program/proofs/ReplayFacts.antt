@@ -13,7 +13,7 @@ use Rattle.bureau_sql.specs.Founded.{IsNotMade}
 use Rattle.bureau_http.specs.ConnFault.{run_told}
 use Rattle.bureau_http.specs.declared.fault.RunFault.{RunFault}
 use Rattle.bureau_http.specs.declared.fault.RunFault.TheVariants as run
-use Rattle.bureau_program.specs.Desk.{of_store}
+use Rattle.store_runs.specs.Desk.{of_store}
 use Rattle.sql_texts.specs.Schema.{made}
 use Rattle.sqlite_catalog.proofs.ReadLemmas.{lists_once}
 use Rattle.sqlite_disk.specs.declared.Disk as disk
@@ -24,7 +24,7 @@ use Rattle.sqlite.specs.Files.{Finds, IsOpened, file_state, image_of}
 use Rattle.sqlite.specs.Held.{Held}
 use Rattle.sqlite.specs.State.{HasCleanDisk, State}
 use Rattle.bureau_program.specs.Replay.{IsNewDatabase, IsNotServed, joined}
-use Rattle.bureau_program.proofs.LeftFacts.{found_nothing}
+use Rattle.store_runs.proofs.LeftFacts.{found_nothing}
 
 joined_on : (before more : List (List ℕ)) → joined (before ++ more) ≡ joined before ++ joined more
 joined_on before more = flat_map-append (λ text. text) before more

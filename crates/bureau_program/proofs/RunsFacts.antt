@@ -16,9 +16,10 @@ use Rattle.bureau_http.specs.Arrivals.{Event}
 use Rattle.bureau_sql.specs.Files.{HoldTables, HoldsStore}
 use Rattle.sqlite_disk.specs.declared.Disk as disk
 use Rattle.sqlite_wal.specs.Recovery.{Image}
-use Rattle.bureau_program.specs.Keeping.{HoldCallers, KeepsServed, Leaves, MayFollow}
+use Rattle.store_runs.specs.Keeping.{HoldCallers, Leaves}
+use Rattle.bureau_program.specs.Served.{KeepsServed, MayFollow}
 use Rattle.bureau_program.specs.Runs.{AreFoundAs, AreJoined, AreOneRun, AreRuns, AreRunsIn, AreRunsOver, FileRun, GoesOn, HasMade, HoldAfter, HoldSinceInit, IsRunOver, Other, Run, Serves, as_made, left_by}
-use Rattle.bureau_program.specs.declared.ended.Ended.{Ended}
+use Rattle.store_runs.specs.declared.ended.Ended.{Ended}
 use Rattle.bureau_program.proofs.KeepingFacts.{in_order}
 
 abbrev pub Isolation : Type 0

@@ -21,14 +21,14 @@ use Rattle.sqlite_trees.specs.declared.store.Store.{Ghosts}
 use Rattle.sqlite_wal.specs.Recovery.{Image}
 use Rattle.sqlite.specs.Files.{over_files}
 use Rattle.sqlite.specs.Held.{Held, state}
-use Rattle.bureau_program.specs.Desk.{HasOpened, IsNotOpened, of_store}
-use Rattle.bureau_program.specs.Ended.{HasFound, IsEndOf, IsRefused, IsUsed}
-use Rattle.bureau_program.specs.Holds.{IsTold, run_status}
-use Rattle.bureau_program.specs.ProgramFault.{of_program}
+use Rattle.store_runs.specs.Desk.{HasOpened, IsNotOpened, of_store}
+use Rattle.store_runs.specs.Ended.{HasFound, IsEndOf, IsRefused, IsUsed}
+use Rattle.run_parts.specs.Outputs.{IsTold, run_status}
+use Rattle.run_parts.specs.ProgramFault.{of_program}
 use Rattle.bureau_program.specs.Replay.{IsAlwaysRight}
 use Rattle.bureau_program.specs.Serving.{Ends, IsNewCache, IsNotListening, IsServeOutput, IsServeRun, IsServedOver, IsUnheard, ServesAll, ServesUntil, Session, desk_ends, desk_over, file_ends, listening_text, store_ends}
-use Rattle.bureau_program.specs.declared.ended.Ended.{Ended}
-use Rattle.bureau_program.specs.declared.fault.ProgramFault.TheVariants.{NotWritten}
+use Rattle.store_runs.specs.declared.ended.Ended.{Ended}
+use Rattle.run_parts.specs.declared.fault.ProgramFault.TheVariants.{NotWritten}
 
 -- ---- from one kind of ends to another
 

@@ -1,16 +1,5 @@
-pub mod Contents
-pub mod Desk
-pub mod Ended
-pub mod Holds
-pub mod Keeping
-pub mod Line
-pub mod Migrating
-pub mod Outputs
 pub mod Program
-pub mod ProgramFault
 pub mod Replay
-pub mod ReportFiles
-pub mod Reporting
 pub mod Runs
+pub mod Served
 pub mod Serving
-pub mod Surroundings

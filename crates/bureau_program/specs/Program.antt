@@ -1,46 +1,29 @@
 -- What a run does: from the words of a command line to what it reads, what both streams get, and the exit status.
-use Rattle.std.specs.Prelude.{◌≡◌, ◌≢◌, ◌⊎◌, ℕ, [], List, codes, map, true, Option, Some, Result, Ok, Err, IfSome, string_bytes}
+use Rattle.std.specs.Prelude.{◌≡◌, ◌≢◌, ◌⊎◌, ℕ, [], List, map, Option, Result, Ok, Err, IfSome, string_bytes}
 use Rattle.std.specs.Io.KnownBytes.{Keeps}
 use Rattle.bureau_http.specs.Arrivals.{Event}
-use Rattle.bureau_store.specs.declared.fault.StoreFault.{StoreFault}
 use Rattle.clap.specs.Words.{fault_of}
 use Rattle.sqlite_disk.specs.declared.Disk as disk
 use Rattle.sqlite_wal.specs.Recovery.{Image}
-use Rattle.faults.specs.declared.any.AnyFault.{AnyFault}
-use Rattle.bureau_program.specs.Holds.{IsHoldsRun, IsTold}
-use Rattle.bureau_program.specs.Line.{bureau_app, IsLineOf}
-pub use Rattle.bureau_program.specs.Outputs.{Outputs, IsEndedBy, IsExplained, outputs_of}
-use Rattle.bureau_program.specs.Desk.{IsCallersFault, IsInitRun, LeavesMade, of_store}
-use Rattle.bureau_program.specs.Ended.{IsNothing, IsRefused}
-use Rattle.bureau_program.specs.Keeping.{KeepsFound, KeepsMade, KeepsMigrated, KeepsServed}
-use Rattle.bureau_program.specs.Migrating.{IsMigrateRun, LeavesMigrated}
-use Rattle.bureau_program.specs.Runs.{GoesOn}
-use Rattle.bureau_program.specs.Serving.{IsServeRun, file_ends, session_of}
-use Rattle.bureau_program.specs.ProgramFault.{of_program, status_of}
+use Rattle.command_line.specs.Line.{bureau_app, IsLineOf}
+use Rattle.command_line.specs.declared.line.Line.{Line}
+use Rattle.command_line.specs.declared.line.Line.TheVariants as line
+use Rattle.command_line.specs.declared.line.LineFault.{LineFault}
+use Rattle.command_line.specs.declared.line.LineFault.TheVariants as line_fault
+use Rattle.report_runs.specs.Holds.{IsHolds}
+use Rattle.report_runs.specs.ReportFiles.{IsChain, IsReport}
+use Rattle.report_runs.specs.declared.reporting.Report.TheVariants.{ErrSysmods, MissingFix}
+use Rattle.run_parts.specs.Files.{KnownFile, AreContents, IsContent}
+pub use Rattle.run_parts.specs.Outputs.{Outputs, IsEndedBy, IsExplained, outputs_of}
+use Rattle.run_parts.specs.declared.fault.ProgramFault.TheVariants.{NotRead, Memory}
+use Rattle.store_runs.specs.Ended.{IsNothing}
+use Rattle.store_runs.specs.NamedStore.{IsInit, IsMigrate}
+use Rattle.store_runs.specs.declared.ended.Ended.{Ended}
 use Rattle.bureau_program.specs.Replay.{IsReplayRun}
-use Rattle.bureau_program.specs.ReportFiles.{IsChain, IsReport}
-use Rattle.bureau_program.specs.Surroundings.{KnownFile, AreContents, IsContent, IsNotOpened, IsOpened}
-use Rattle.bureau_program.specs.declared.ended.Ended.{Ended}
-use Rattle.bureau_program.specs.declared.fault.ProgramFault.TheVariants.{NotRead, Memory}
-use Rattle.bureau_program.specs.declared.line.Line.{Line}
-use Rattle.bureau_program.specs.declared.line.Line.TheVariants as line
-use Rattle.bureau_program.specs.declared.line.LineFault.{LineFault}
-use Rattle.bureau_program.specs.declared.line.LineFault.TheVariants as line_fault
-use Rattle.bureau_program.specs.declared.reporting.Report.TheVariants.{ErrSysmods, MissingFix}
+use Rattle.bureau_program.specs.Runs.{GoesOn}
+use Rattle.bureau_program.specs.Served.{KeepsServed}
+use Rattle.bureau_program.specs.Serving.{IsServeRun, file_ends, session_of}
 use Rattle.bureau_program.specs.declared.serving.Service.{Service}
-
--- the hold book of what a file has; or the file can't be opened
-abbrev pub IsHoldsOf : KnownFile → Outputs → ℕ → Type 0
-IsHoldsOf file outputs status =
-    ((bytes : Option (List ℕ)) × (rest : Option (List ℕ)) × IsOpened file bytes
-    × IsHoldsRun bytes rest outputs.output outputs.written outputs.errors outputs.told status)
-    ⊎ (IsNotOpened file × IsEndedBy NotRead outputs status)
-
--- `holds FILE`: FILE is `-`, and standard input is read; or it isn't, and the file of that name is, and standard input stays
-abbrev pub IsHolds : (List ℕ → KnownFile) → List ℕ → Option (List ℕ) → Option (List ℕ) → Outputs → ℕ → Type 0
-IsHolds files name input rest outputs status =
-    ((name ≡ codes "-") × IsHoldsRun input rest outputs.output outputs.written outputs.errors outputs.told status)
-    ⊎ ((name ≢ codes "-") × Keeps input rest × IsHoldsOf (files name) outputs status)
 
 -- `replay CALLERS FILE..`: the callers file and each FILE are read, and nothing else
 pub record IsServed (files : List ℕ → KnownFile) (callers : List ℕ) (names : List (List ℕ)) (outputs : Outputs) (status : ℕ) : Type 0 where
@@ -54,19 +37,6 @@ pub record IsServed (files : List ℕ → KnownFile) (callers : List ℕ) (names
 abbrev pub IsReplay : (List ℕ → KnownFile) → List ℕ → List (List ℕ) → Outputs → ℕ → Type 0
 IsReplay files callers names outputs status =
     IsServed files callers names outputs status ⊎ IsEndedBy NotRead outputs status ⊎ IsEndedBy Memory outputs status
-
--- a run that ends with a fault before it makes anything: standard output stays, standard error has the fault's line
-abbrev pub IsToldAlone : AnyFault → Outputs → ℕ → Type 0
-IsToldAlone fault outputs status =
-    Keeps outputs.output outputs.written × IsTold (Some fault) outputs.errors outputs.told × (status ≡ status_of fault.cause)
-
--- the callers file has a fault
-abbrev pub HasCallerFault : KnownFile → AnyFault → Type 0
-HasCallerFault callers fault = (source : List ℕ) × IsContent callers source × IsCallersFault source fault
-
--- the callers file can't be read or has a fault, or memory ran out
-abbrev pub IsNotBegun : KnownFile → AnyFault → Type 0
-IsNotBegun callers fault = (fault ≡ of_program NotRead) ⊎ (fault ≡ of_program Memory) ⊎ HasCallerFault callers fault
 
 -- What a run may find: files by their names, what the two files of a store of a name may hold, the ports that it asks for, and
 -- what came over its connections before it and by its end.
@@ -86,28 +56,6 @@ abbrev pub NobodyCame : Found → Type 0
 NobodyCame found = found.log_after ≡ found.log
 
 module _ (found : Found) (from : Image) {D : Type 0} {g : disk.Ghosts D} where
-  -- the callers file is read, and a store with its callers is made in the database that a connection finds in the store's files
-  pub record IsMade (name callers : List ℕ) (outputs : Outputs) (status : ℕ) (ended : Ended D g) : Type 0 where
-    pub named : found.stores name from
-    pub source : List ℕ
-    pub callers_are : IsContent (found.files callers) source
-    pub made : IsInitRun (λ outcome. LeavesMade from source outcome ended) source outputs.output outputs.written outputs.errors outputs.told status
-    pub kept : KeepsMade from source made.outcome ended
-
-  -- no connection to the store's files can be made, which is told
-  pub record IsNotMade (name : List ℕ) (outputs : Outputs) (status : ℕ) (ended : Ended D g) : Type 0 where
-    pub named : found.stores name from
-    pub fault : StoreFault
-    pub refused : IsRefused true from fault ended
-    pub kept : KeepsFound from ended
-    pub told : IsToldAlone (of_store fault) outputs status
-
-  -- `init STORE CALLERS`. What is wrong with the callers file may be told before the store's files are opened.
-  abbrev pub IsInit : List ℕ → List ℕ → Outputs → ℕ → Ended D g → Type 0
-  IsInit name callers outputs status ended =
-      IsMade name callers outputs status ended ⊎ IsNotMade name outputs status ended
-      ⊎ ((fault : AnyFault) × IsNotBegun (found.files callers) fault × IsToldAlone fault outputs status × IsNothing ended)
-
   -- `serve --port P --cache N --connections K STORE`
   pub record IsServe (service : Service) (name : List ℕ) (outputs : Outputs) (status : ℕ) (ended : Ended D g) : Type 0 where
     pub named : found.stores name from
@@ -115,12 +63,6 @@ module _ (found : Found) (from : Image) {D : Type 0} {g : disk.Ghosts D} where
         outputs.output outputs.written outputs.errors outputs.told status
     pub kept : KeepsServed from found.log found.log_after served.outcome ended
     pub goes_on : GoesOn from found.log found.log_after served.outcome ended
-
-  -- `migrate STORE`
-  pub record IsMigrate (name : List ℕ) (outputs : Outputs) (status : ℕ) (ended : Ended D g) : Type 0 where
-    pub named : found.stores name from
-    pub migrated : IsMigrateRun (λ outcome. LeavesMigrated from outcome ended) outputs.output outputs.written outputs.errors outputs.told status
-    pub kept : KeepsMigrated from migrated.outcome ended
 
   -- What a line asks for is done, or what is wrong with the words is told. Standard input is read where a FILE is `-`, connections
   -- come for `serve` alone, and the files of a store are opened where a STORE is named, and nowhere else.
@@ -130,11 +72,11 @@ module _ (found : Found) (from : Image) {D : Type 0} {g : disk.Ghosts D} where
   IsAnswered (Ok (line.Replay cache callers names)) input rest outputs status ended =
       Keeps input rest × IsReplay found.files (string_bytes callers) (map string_bytes names.items) outputs status × NobodyCame found × IsNothing ended
   IsAnswered (Ok (line.Init store callers)) input rest outputs status ended =
-      Keeps input rest × NobodyCame found × IsInit (string_bytes store) (string_bytes callers) outputs status ended
+      Keeps input rest × NobodyCame found × IsInit found.files found.stores from (string_bytes store) (string_bytes callers) outputs status ended
   IsAnswered (Ok (line.Serve port cache connections store)) input rest outputs status ended =
       Keeps input rest × IsServe (record { port = port; cache = cache; connections = connections }) (string_bytes store) outputs status ended
   IsAnswered (Ok (line.Migrate store)) input rest outputs status ended =
-      Keeps input rest × NobodyCame found × IsMigrate (string_bytes store) outputs status ended
+      Keeps input rest × NobodyCame found × IsMigrate found.stores from (string_bytes store) outputs status ended
   IsAnswered (Ok (line.ErrSysmods files)) input rest outputs status ended =
       IsReport found.files ErrSysmods files input rest outputs status × NobodyCame found × IsNothing ended
   IsAnswered (Ok (line.MissingFix files)) input rest outputs status ended =

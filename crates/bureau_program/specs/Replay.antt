@@ -10,11 +10,11 @@ use Rattle.bureau_store.specs.Store.{IsOfCall}
 use Rattle.bureau_store.specs.declared.fault.StoreFault.{StoreFault}
 use Rattle.catalogue.specs.Content.{Content}
 use Rattle.chain_cache.specs.Cache.{CacheLists, IsRightFor}
-use Rattle.bureau_program.specs.Desk.{IsCallersFault, of_store}
+use Rattle.store_runs.specs.Desk.{IsCallersFault, of_store}
 use Rattle.transfer.specs.Transfer.{AppendsFront}
-use Rattle.bureau_program.specs.Holds.{IsTold, run_status}
-use Rattle.bureau_program.specs.ProgramFault.{of_program}
-use Rattle.bureau_program.specs.declared.fault.ProgramFault.TheVariants.{NotWritten, Memory}
+use Rattle.run_parts.specs.Outputs.{IsTold, run_status}
+use Rattle.run_parts.specs.ProgramFault.{of_program}
+use Rattle.run_parts.specs.declared.fault.ProgramFault.TheVariants.{NotWritten, Memory}
 use Rattle.sql_writes.specs.Making.{IsEmpty}
 use Rattle.sqlite.specs.State.{HasCleanDisk, State}
 use Rattle.sqlite_trees.specs.declared.store.Store.{Ghosts}

@@ -14,9 +14,10 @@ use Rattle.bureau_http.specs.Arrivals.{AreMade, Arrival, Event, Logs, log_of}
 use Rattle.bureau_sql.specs.Files.{HoldTables, HoldsStore}
 use Rattle.sqlite_disk.specs.declared.Disk as disk
 use Rattle.sqlite_wal.specs.Recovery.{Image}
-use Rattle.bureau_program.specs.Desk.{AreRowsOf, of_store}
-use Rattle.bureau_program.specs.Keeping.{EndsWell, HoldCallers, IsServedFrom, Leaves, MayFollow}
-use Rattle.bureau_program.specs.declared.ended.Ended.{Ended}
+use Rattle.store_runs.specs.Desk.{AreRowsOf, of_store}
+use Rattle.store_runs.specs.Keeping.{EndsWell, HoldCallers, Leaves}
+use Rattle.bureau_program.specs.Served.{IsServedFrom, MayFollow}
+use Rattle.store_runs.specs.declared.ended.Ended.{Ended}
 
 -- ---- runs over files
 

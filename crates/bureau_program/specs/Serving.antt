@@ -22,13 +22,13 @@ use Rattle.sqlite_wal.specs.Recovery.{Image}
 use Rattle.sqlite.specs.Files.{over_files}
 use Rattle.sqlite.specs.Held.{Held, state}
 use Rattle.sqlite.specs.State.{HasCleanDisk}
-use Rattle.bureau_program.specs.Desk.{HasOpened, of_store}
-use Rattle.bureau_program.specs.Ended.{IsRefused, IsUsed}
-use Rattle.bureau_program.specs.Holds.{IsTold, run_status}
-use Rattle.bureau_program.specs.ProgramFault.{of_program}
+use Rattle.store_runs.specs.Desk.{HasOpened, of_store}
+use Rattle.store_runs.specs.Ended.{IsRefused, IsUsed}
+use Rattle.run_parts.specs.Outputs.{IsTold, run_status}
+use Rattle.run_parts.specs.ProgramFault.{of_program}
 use Rattle.bureau_program.specs.Replay.{IsAlwaysRight}
-use Rattle.bureau_program.specs.declared.ended.Ended.{Ended}
-use Rattle.bureau_program.specs.declared.fault.ProgramFault.TheVariants.{NotListening, NotWritten, Memory}
+use Rattle.store_runs.specs.declared.ended.Ended.{Ended}
+use Rattle.run_parts.specs.declared.fault.ProgramFault.TheVariants.{NotListening, NotWritten, Memory}
 use Rattle.bureau_program.specs.declared.serving.Service.{Service}
 
 -- where the desk listens

@@ -2,8 +2,8 @@
 ghost use Rattle.std.specs.Prelude.{◌≡◌, ◌≤◌, IfErr, IfOk};
 ghost use Rattle.bureau_program.specs.Replay.{IsAlwaysRight};
 
-use crate::fault::ProgramFault;
 use chain_cache::ChainCache;
+use run_parts::ProgramFault;
 use std::alloc::Global;
 use std::hash::RandomState;
 

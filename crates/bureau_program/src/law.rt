@@ -3,7 +3,7 @@ ghost use Rattle.std.specs.Prelude.{◌≡◌, ℕ, List};
 ghost use Rattle.bureau_sql.specs.Files.{HoldTables};
 ghost use Rattle.bureau_store.specs.Tables.{Tables};
 ghost use Rattle.sqlite_wal.specs.Recovery.{Image};
-ghost use Rattle.bureau_program.specs.Keeping.{HoldCallers};
+ghost use Rattle.store_runs.specs.Keeping.{HoldCallers};
 ghost use Rattle.bureau_program.specs.Runs.{AreRunsOver, FileRun, HoldAfter, HoldSinceInit};
 
 /// Once `init` has made a store, any number of runs of the program may come one after the other, and each may stop at any

@@ -1,32 +1,22 @@
 //! A run of the program: what its words ask for, over files and the three streams.
-ghost use Rattle.std.specs.Prelude.{◌≡◌, ◌↔◌, codes, false, map, string_bytes, IfErr, IfOk, IsTrue, Some};
+ghost use Rattle.std.specs.Prelude.{◌≡◌, map, string_bytes, IfErr, IfOk};
 ghost use Rattle.faults.specs.Refusal.{IsRefusal};
-ghost use Rattle.transfer.specs.Transfer.{AppendsFront};
 ghost use Rattle.sqlite_wal.specs.Files.{image_at};
-ghost use Rattle.bureau_program.specs.Program.{IsAnswered, IsHolds, IsInit, IsNotBegun, IsReplay, IsRun, found_in, outputs_of};
-ghost use Rattle.bureau_program.specs.Holds.{IsTold};
-ghost use Rattle.bureau_program.specs.ProgramFault.{of_program};
-ghost use Rattle.bureau_program.specs.Surroundings.{AreContents, IsContent};
+ghost use Rattle.run_parts.specs.Files.{AreContents, IsContent};
+ghost use Rattle.run_parts.specs.Outputs.{outputs_of};
+ghost use Rattle.bureau_program.specs.Program.{IsAnswered, IsReplay, IsRun, found_in};
 
-use crate::desk::{callers_in, of_store, run_init, told};
-use crate::ended::{Ended, end};
-use crate::fault::{ProgramFault, exit_status, report, tell};
-use crate::holds::run_holds;
-use crate::line::{Line, LineFault, line_of};
-use crate::migrating::migrate_file;
 use crate::replay::run_replay;
-use crate::report_files::{do_chain, do_report};
-use crate::reporting::Report;
 use crate::serving::{Service, run_serve};
 use crate::surroundings::Surroundings;
-use faults::AnyFault;
+use command_line::{Line, LineFault, line_of};
+use report_runs::{Report, do_chain, do_holds, do_report};
+use run_parts::{ProgramFault, explain, read_file, refuse};
 use sqlite::{FileFrom, Start};
 use std::alloc::Global;
 use std::io::{Read, Write};
-use transfer::{RETRIES, read_source};
-
-// The exit status where the words aren't understood.
-const NOT_UNDERSTOOD: u8 = 2;
+use store_runs::{Ended, do_init, migrate_file};
+use transfer::RETRIES;
 
 /// Does what the words of the command line ask for, and returns the exit status, and what is left of a store's files.
 ///
@@ -134,34 +124,6 @@ fn answer<S: Surroundings, D: Start, I: Read, O: Write, E: Write>(
     }
 }
 
-fn do_holds<S: Surroundings, I: Read, O: Write, E: Write>(
-    surroundings: &S,
-    alloc: Global,
-    file: &str,
-    input: &mut I,
-    output: &mut O,
-    errors: &mut E,
-) -> u8
-    ensures { IsHolds (S.known_file surroundings.now) file.now
-        (I.remaining input.old) (I.remaining input.new)
-        (outputs_of O.contents E.contents output.old output.new errors.old errors.new) result }
-{
-    if is_standard_input(file) {
-        return run_holds(alloc, input, output, errors);
-    }
-    match surroundings.open(file) {
-        Ok(mut source) => run_holds(alloc, &mut source, output, errors),
-        Err(_) => refuse(errors, ProgramFault::NotRead),
-    }
-}
-
-// Whether a FILE of the command line stands for standard input.
-pub(crate) fn is_standard_input(file: &str) -> bool
-    ensures { IsTrue result ↔ (file.now ≡ codes "-") }
-{
-    file == "-"
-}
-
 // Serves the connections that stand in files, with the callers of the callers file.
 fn do_replay<S: Surroundings, O: Write, E: Write>(
     surroundings: &S,
@@ -188,55 +150,6 @@ fn do_replay<S: Surroundings, O: Write, E: Write>(
     }
 }
 
-// Makes a store in a file, with the callers of the callers file.
-fn do_init<S: Surroundings, D: Start, O: Write, E: Write>(
-    surroundings: &S,
-    alloc: Global,
-    store: &str,
-    callers: &str,
-    start: D,
-    output: &mut O,
-    errors: &mut E,
-) -> (u8, Ended<FileFrom<D>>)
-    ensures { IsInit
-        (found_in (S.known_file surroundings.now) (S.known_store surroundings.now)
-        (S.known_port surroundings.now) (S.log surroundings.now) (S.log surroundings.now))
-        (image_at D.Start) store.now callers.now
-        (outputs_of O.contents E.contents output.old output.new errors.old errors.new)
-        result.0 result.1 }
-{
-    let callers = match read_callers(surroundings, alloc, store, callers) {
-        Ok(callers) => callers,
-        Err(fault) => return (told(errors, Err(fault)), Ended::Nothing),
-    };
-    match surroundings.connect(store, true, start) {
-        Ok(conn) => {
-            let (status, conn) = run_init(alloc, conn, callers.as_slice(), output, errors);
-            (status, end(conn))
-        }
-        Err((fault, ended)) => (told(errors, Err(of_store(fault))), ended),
-    }
-}
-
-// What stands in the callers file. Where the file of the store isn't there, a fault of the callers file is found before
-// one is made.
-fn read_callers<S: Surroundings>(
-    surroundings: &S,
-    alloc: Global,
-    store: &str,
-    callers: &str,
-) -> Result<Vec<u8>, AnyFault>
-    ensures callers { IfOk result (λ source.
-        IsContent (S.known_file surroundings.now callers.now) source.items) }
-    ensures fault { IfErr result (IsNotBegun (S.known_file surroundings.now callers.now)) }
-{
-    let source = read_file(surroundings, alloc, callers, &mut { RETRIES })?;
-    if surroundings.open(store).is_err() {
-        let _rows = callers_in(alloc, source.as_slice())?;
-    }
-    Ok(source)
-}
-
 // What stands in the callers file, and in the file of each connection. They are read in this order, with 64 retries in
 // all.
 fn read_files<S: Surroundings>(
@@ -259,44 +172,4 @@ fn read_files<S: Surroundings>(
         connections.push(read_file(surroundings, alloc, file.as_str(), &mut retries)?)?;
     }
     Ok((callers, connections))
-}
-
-// All that stands in a file, in room of its own size.
-#[tactic(auto, using(crate::proofs::ReadFacts::content_read))]
-fn read_file<S: Surroundings>(
-    surroundings: &S,
-    alloc: Global,
-    name: &str,
-    retries: &mut u32,
-) -> Result<Vec<u8>, ProgramFault>
-    ensures bytes { IfOk result (λ bytes. IsContent (S.known_file surroundings.now name.now) bytes.items) }
-    ensures fault { IfErr result (IsRefusal ProgramFault.Memory (λ fault. fault ≡ ProgramFault.NotRead)) }
-{
-    match surroundings.open(name) {
-        Ok(mut source) => {
-            let mut bytes = read_source(alloc, &mut source, usize::MAX, retries)?;
-            bytes.shrink_to_fit();
-            Ok(bytes)
-        }
-        Err(_) => Err(ProgramFault::NotRead),
-    }
-}
-
-// Tells a fault on standard error, and gives the exit status.
-pub(crate) fn refuse<E: Write>(errors: &mut E, fault: ProgramFault) -> u8
-    ensures told { IsTold (Some (of_program fault)) (E.contents errors.old) (E.contents errors.new) }
-    ensures status { result ≡ 3 }
-{
-    let fault = AnyFault::from(fault);
-    let _ = report(errors, fault);
-    exit_status(fault)
-}
-
-// Tells why the words of the command line name no command that could be done.
-pub(crate) fn explain<E: Write>(errors: &mut E, text: &str) -> u8
-    ensures told { AppendsFront (E.contents errors.old) (E.contents errors.new) text.now }
-    ensures status { result ≡ 2 }
-{
-    let _ = tell(errors, text.as_bytes());
-    NOT_UNDERSTOOD
 }

@@ -4,7 +4,7 @@ ghost use Rattle.std.specs.Io.KnownBytes.{Appends};
 ghost use Rattle.bureau.specs.Joint.{IsRun};
 ghost use Rattle.bureau_http.specs.List.{AreServed};
 ghost use Rattle.bureau_http.specs.Replay.{IsReplayed};
-ghost use Rattle.bureau_program.specs.Holds.{fault_in};
+ghost use Rattle.run_parts.specs.Outputs.{fault_in};
 ghost use Rattle.bureau_program.specs.Replay.{IsAlwaysClean, IsAlwaysRight, IsNewDatabase, IsNotReplayed, IsNotServed, IsReplayOutput, IsReplayRun, joined};
 ghost use Rattle.bureau_store.specs.Tables.{opened};
 ghost use Rattle.sqlite.specs.Files.{file_state};
@@ -12,8 +12,6 @@ ghost use Rattle.sqlite.specs.Held.{state};
 ghost use Rattle.transfer.specs.Transfer.{AppendsFront};
 
 use crate::cache::cache_of;
-use crate::desk::{callers_in, of_store};
-use crate::fault::{ProgramFault, exit_status, report};
 use bureau::Bureau;
 use bureau_http::serve_list;
 use bureau_sql::SqlStore;
@@ -21,11 +19,13 @@ use bureau_store::{CallerRow, Store, StoreFault};
 use chain_cache::ChainCache;
 use faults::AnyFault;
 use ram_disk::RamDisk;
+use run_parts::{ProgramFault, told};
 use sqlite::{Alter, Connection, FileStore, Files, Options};
 use sqlite_disk::Disk;
 use std::alloc::Global;
 use std::hash::RandomState;
 use std::io::Write;
+use store_runs::{callers_in, of_store};
 use transfer::{RETRIES, write_whole};
 
 // How many pages are kept besides those in the files, which stand in memory too: one mebibyte of them.
@@ -54,13 +54,8 @@ pub fn run_replay<W: Write, E: Write>(
         (W.contents writer.old) (W.contents writer.new)
         (E.contents errors.old) (E.contents errors.new) result }
 {
-    match print_replies(alloc, callers, files, cache, keys, writer) {
-        Ok(()) => 0,
-        Err(fault) => {
-            let _ = report(errors, fault);
-            exit_status(fault)
-        }
-    }
+    let printed = print_replies(alloc, callers, files, cache, keys, writer);
+    told(errors, printed)
 }
 
 // Prints what is written to connections.

@@ -1,15 +1,12 @@
 //! `serve`: a desk whose store is kept in a file.
 ghost use Rattle.std.specs.Prelude.{◌≡◌, IfErr, IfOk, OnErr, OnOk, false};
 ghost use Rattle.std.specs.Io.KnownBytes.{Appends};
-ghost use Rattle.bureau_program.specs.Holds.{fault_in};
-ghost use Rattle.bureau_program.specs.Program.{IsServe, found_in, outputs_of};
+ghost use Rattle.run_parts.specs.Outputs.{fault_in, outputs_of};
+ghost use Rattle.bureau_program.specs.Program.{IsServe, found_in};
 ghost use Rattle.bureau_program.specs.Serving.{IsNewCache, IsNotListening, IsServeOutput, IsServeRun, IsUnheard, ServesAll, ServesUntil, desk_ends, listening_text, session_of, store_ends};
 ghost use Rattle.sqlite_wal.specs.Files.{image_at};
 
 use crate::cache::cache_of;
-use crate::desk::{numbered_line, of_store, printed, run_open, told};
-use crate::ended::{Ended, end};
-use crate::fault::ProgramFault;
 use crate::surroundings::Surroundings;
 use bureau::Bureau;
 use bureau_http::{Listening, serve_while_open};
@@ -17,9 +14,11 @@ use bureau_sql::SqlStore;
 use bureau_store::{Store, StoreFault};
 use chain_cache::ChainCache;
 use faults::AnyFault;
+use run_parts::{ProgramFault, numbered_line, printed, told};
 use sqlite::{Alter, Connection, FileFrom, Start};
 use std::alloc::Global;
 use std::io::Write;
+use store_runs::{Ended, end, of_store, run_open};
 
 /// How a desk is served: the port of 127.0.0.1 where it listens, how many frames it keeps, and how many connections it
 /// takes.

@@ -1,5 +1,5 @@
 //! Worked sources through `run_holds`, and readers and writers that fail.
-use bureau_program::run_holds;
+use report_runs::run_holds;
 use std::alloc::Global;
 use std::fmt::Debug;
 use std::io::{ErrorKind, Read};

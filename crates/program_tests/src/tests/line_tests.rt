@@ -1,5 +1,5 @@
 //! What the words of a command line ask for, and what is told of words that are refused.
-use bureau_program::{Line, LineFault, line_of};
+use command_line::{Line, LineFault, line_of};
 use faults::NoMemory;
 use std::alloc::Global;
 use std::test::Fail;

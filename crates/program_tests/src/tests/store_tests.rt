@@ -4,7 +4,7 @@ ghost use Rattle.sqlite_disk.specs.Memory.{memory_is_usable};
 
 use super::desk_tests::CALLERS;
 use super::surroundings::Around;
-use bureau_program::{Service, open_and_serve, run_init, run_migrate, run_open};
+use bureau_program::{Service, open_and_serve};
 use sqlite::{Alter, Connection, FileStore, Files, Options};
 use sqlite_disk::Memory;
 use std::alloc::Global;
@@ -13,6 +13,7 @@ use std::io::{Read, Write};
 use std::net::{TcpListener, TcpStream};
 use std::str;
 use std::test::Fail;
+use store_runs::{run_init, run_migrate, run_open};
 use testing::{Ticking, assert_equal, assert_equal_at};
 
 // A connection to the file that is kept in memory, with an empty log.

@@ -1,13 +1,16 @@
 //! What surrounds a run of a test.
 use super::desk_tests::CALLERS;
 use bureau_http::{ConnFault, Listening, Patience, Served, Side, Sockets};
-use bureau_program::{Ended, LineFault, Surroundings};
+use bureau_program::Surroundings;
 use bureau_store::StoreFault;
+use command_line::LineFault;
+use run_parts::Files;
 use sqlite::{Connection, FileFrom, FileStore, Start};
 use std::alloc::Global;
 use std::hash::RandomState;
 use std::io::{self, ErrorKind};
 use std::net::TcpListener;
+use store_runs::{Ended, Stores};
 use testing::{Failures, Pieces, Ticking};
 
 /// The name of a store, whose blanks count.
@@ -85,28 +88,12 @@ impl<'a> Listening for Around<'a> {
     }
 }
 
-impl Surroundings for Around<'_> {
-    ghost use Rattle.bureau_program.specs.Surroundings.{Unknown};
-    ghost use Rattle.std.specs.Prelude.{None};
+impl Files for Around<'_> {
+    ghost use Rattle.run_parts.specs.Files.{Unknown};
 
     type File = Pieces<'static>;
 
-    ghost known_words = { λ _. None };
-
     ghost known_file = { λ _ _. Unknown };
-
-    ghost known_store = { λ _ _ _. Unit {0} };
-
-    ghost known_port = { λ _ _. Unit {0} };
-
-    fn words(&self, alloc: Global) -> Result<Vec<String>, LineFault> {
-        let mut words = Vec::new(alloc);
-        for word in self.words {
-            let word = String::from_str(alloc, *word)?;
-            words.push(word).ok().ok_or(LineFault::Memory)?;
-        }
-        Ok(words)
-    }
 
     fn open(&self, name: &str) -> io::Result<Pieces<'static>> {
         let rest: &'static [u8] = match name {
@@ -117,6 +104,10 @@ impl Surroundings for Around<'_> {
         let failures = Failures::interruptions(self.interruptions);
         Ok(Pieces::new(rest, usize::MAX, failures))
     }
+}
+
+impl Stores for Around<'_> {
+    ghost known_store = { λ _ _ _. Unit {0} };
 
     fn connect<D: Start>(
         &self,
@@ -130,6 +121,23 @@ impl Surroundings for Around<'_> {
             (false, _) => StoreFault::Device,
         };
         Err((fault, Ended::Nothing))
+    }
+}
+
+impl Surroundings for Around<'_> {
+    ghost use Rattle.std.specs.Prelude.{None};
+
+    ghost known_words = { λ _. None };
+
+    ghost known_port = { λ _ _. Unit {0} };
+
+    fn words(&self, alloc: Global) -> Result<Vec<String>, LineFault> {
+        let mut words = Vec::new(alloc);
+        for word in self.words {
+            let word = String::from_str(alloc, *word)?;
+            words.push(word).ok().ok_or(LineFault::Memory)?;
+        }
+        Ok(words)
     }
 
     fn listen(&mut self, port: u16) -> io::Result<()> {

@@ -1,16 +1,17 @@
 use Rattle.std.proofs.Common.{List, Ok, ℕ, refl, subst, sym, string_bytes, ap, ◌∙◌}
 use Rattle.std.proofs.KnownBytes.{Keeps-refl}
 use Rattle.sqlite_wal.specs.Files.{image_at}
-use Rattle.bureau_program.specs.Program.{Found, IsAnswered, IsServe, Outputs, found_in}
+use Rattle.bureau_program.specs.Program.{Found, IsAnswered, IsServe, found_in}
+use Rattle.run_parts.specs.Outputs.{Outputs}
 use Rattle.bureau_program.specs.declared.serving.Service.{Service}
-use Rattle.bureau_program.proofs.DeskFacts.{same_init}
-use Rattle.bureau_program.proofs.KeptFacts.{kept_migrated}
+use Rattle.store_runs.proofs.DeskFacts.{same_init}
+use Rattle.store_runs.proofs.KeptFacts.{kept_migrated}
 use Rattle.bureau_program.proofs.program.answer.Goals as goal
 
 pub returns-in-Ok-Init : goal.returns-in-Ok-Init
 returns-in-Ok-Init g c =
     let at = c.args.surroundings.now in
-    let of : Found = found_in (g.S.Surroundings.known_file at) (g.S.Surroundings.known_store at) (g.S.Surroundings.known_port at) (g.S.Listening.log at) (g.S.Listening.log at) in
+    let of : Found = found_in (g.S.Files.known_file at) (g.S.Stores.known_store at) (g.S.Surroundings.known_port at) (g.S.Listening.log at) (g.S.Listening.log at) in
     let input = g.I.Read.remaining c.args.input.now in
     let outputs : Outputs = record {
       output = g.O.Write.contents c.args.output.now;
@@ -21,14 +22,14 @@ returns-in-Ok-Init g c =
     subst (λ line. IsAnswered of (image_at g.D.Start) line input input outputs c.do_init.result.0 c.do_init.result.1) (sym (c.in-Ok-Init.is ∙ ap Ok c.in-Ok-Init.field-0-is)) (
       Keeps-refl input,
       refl,
-      same_init of (image_at g.D.Start) c.do_init.result.1 (string_bytes c.in-Ok-Init.store) c.as_str-store.result.now (string_bytes c.in-Ok-Init.callers) c.as_str-callers-in-Ok-Init.result.now
+      same_init of.files of.stores (image_at g.D.Start) c.do_init.result.1 (string_bytes c.in-Ok-Init.store) c.as_str-store.result.now (string_bytes c.in-Ok-Init.callers) c.as_str-callers-in-Ok-Init.result.now
           outputs c.do_init.result.0 c.as_str-store.ensures.value c.as_str-callers-in-Ok-Init.ensures.value c.do_init.ensures,
     )
 
 pub returns-in-Ok-Serve : goal.returns-in-Ok-Serve
 returns-in-Ok-Serve g c =
     let at = c.args.surroundings.now in
-    let of : Found = found_in (g.S.Surroundings.known_file at) (g.S.Surroundings.known_store at) (g.S.Surroundings.known_port at) (g.S.Listening.log at) (g.S.Listening.log c.run_serve.new.surroundings) in
+    let of : Found = found_in (g.S.Files.known_file at) (g.S.Stores.known_store at) (g.S.Surroundings.known_port at) (g.S.Listening.log at) (g.S.Listening.log c.run_serve.new.surroundings) in
     let input = g.I.Read.remaining c.args.input.now in
     let service : Service = record { port = c.in-Ok-Serve.port; cache = c.in-Ok-Serve.cache; connections = c.in-Ok-Serve.connections } in
     let outputs : Outputs = record {
@@ -45,7 +46,7 @@ returns-in-Ok-Serve g c =
 pub returns-in-Ok-Migrate : goal.returns-in-Ok-Migrate
 returns-in-Ok-Migrate g c =
     let at = c.args.surroundings.now in
-    let of : Found = found_in (g.S.Surroundings.known_file at) (g.S.Surroundings.known_store at) (g.S.Surroundings.known_port at) (g.S.Listening.log at) (g.S.Listening.log at) in
+    let of : Found = found_in (g.S.Files.known_file at) (g.S.Stores.known_store at) (g.S.Surroundings.known_port at) (g.S.Listening.log at) (g.S.Listening.log at) in
     let input = g.I.Read.remaining c.args.input.now in
     let outputs : Outputs = record {
       output = g.O.Write.contents c.args.output.now;
@@ -57,7 +58,7 @@ returns-in-Ok-Migrate g c =
       Keeps-refl input,
       refl,
       record {
-        named = subst (λ (name : List ℕ). g.S.Surroundings.known_store at name (image_at g.D.Start)) c.as_str-in-Ok-Migrate.ensures.value c.migrate_file.ensures.named;
+        named = subst (λ (name : List ℕ). g.S.Stores.known_store at name (image_at g.D.Start)) c.as_str-in-Ok-Migrate.ensures.value c.migrate_file.ensures.named;
         migrated = c.migrate_file.ensures.run;
         kept = kept_migrated (image_at g.D.Start) c.migrate_file.ensures.run.outcome c.migrate_file.result.1 c.migrate_file.ensures.run.left;
       },

@@ -1,11 +1,11 @@
 use Rattle.std.proofs.Common.{◌+◌, map, take, string_bytes, subst, sym}
-use Rattle.bureau_program.specs.Surroundings.{AreContents, IsContent}
+use Rattle.run_parts.specs.Files.{AreContents, IsContent}
 use Rattle.bureau_program.proofs.ReadFacts.{one_more}
 use Rattle.bureau_program.proofs.program.read_files.Goals as goal
 
 pub loop-file-preserved : goal.loop-file-preserved
 loop-file-preserved g c =
-    let known = g.S.Surroundings.known_file c.args.surroundings.now in
+    let known = g.S.Files.known_file c.args.surroundings.now in
     let bytes = c.in_ok-read_file.field-0 in
     let now = subst (λ name. IsContent (known name) bytes.items) c.as_str.ensures.value c.in_ok-read_file.ensures.bytes in
     subst (λ read. AreContents known (map string_bytes (take (c.loop-file.file-index + 1) c.args.files.now)) (map (λ file. file.items) read))

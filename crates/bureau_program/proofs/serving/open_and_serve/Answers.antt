@@ -1,5 +1,5 @@
 use Rattle.std.proofs.Common.{ap, refl, subst}
-use Rattle.bureau_program.specs.Holds.{IsTold, fault_in}
+use Rattle.run_parts.specs.Outputs.{IsTold, fault_in}
 use Rattle.bureau_program.specs.Serving.{session_of}
 use Rattle.bureau_program.proofs.ServingFacts.{not_opened, served_over}
 use Rattle.bureau_program.proofs.serving.open_and_serve.Goals as goal

@@ -1,0 +1,213 @@
+-- What the words of a command line ask for, as clap defines the matches of a command.
+use Rattle.std.specs.Prelude.{◌≡◌, ◌≤◌, ℕ, pos, true, List, [], ◌∷◌, codes, map, Option, Some, None, Ok, option_map, string_bytes}
+use Rattle.std.specs.Str.Parse.{ParsesUnsigned}
+use Rattle.clap.specs.Words.{App, Row, Rule, Text, all_of, first_of, new_app, new_rule, one_of, subcommand_of, with_rule, with_subcommand}
+use Rattle.clap.specs.declared.builder.ArgAction.TheVariants.{Append, Set}
+use Rattle.clap.specs.declared.builder.value_parser.ValueParser.TheVariants.{Signed}
+use Rattle.command_line.specs.declared.line.Line.{Line}
+use Rattle.run_parts.specs.declared.report_files.ReportFiles.{ReportFiles}
+use Rattle.command_line.specs.declared.line.Line.TheVariants.{Chain, ErrSysmods, Holds, Init, Migrate, MissingFix, Replay, Serve}
+
+-- an argument that has to be given, with one value
+abbrev pub required_rule : Text → Rule
+required_rule id = record (new_rule id) { action = Some Set; required = true; value_names = 1 }
+
+-- `holds FILE`
+abbrev pub holds_app : App
+holds_app = with_rule (new_app (codes "holds")) (required_rule (codes "file"))
+
+-- an argument that has to be given, with one value or more
+abbrev pub several_rule : Text → Rule
+several_rule id = record (new_rule id) {
+  action = Some Append;
+  range = Some (record { start_inclusive = 1; end_inclusive = 18446744073709551615 });
+  required = true;
+  value_names = 1;
+}
+
+-- `--NAME N`, a number from one to another, and this text where it isn't given
+abbrev pub number_rule : Text → ℕ → ℕ → Text → Rule
+number_rule name least most default = record (new_rule name) {
+  long = Some name;
+  action = Some Set;
+  parser = Some (Signed (pos least) (pos most));
+  value_names = 1;
+  defaults = default ∷ [];
+}
+
+-- `--cache N`: how many frames are kept at most
+abbrev pub cache_rule : Rule
+cache_rule = number_rule (codes "cache") 1 65536 (codes "1024")
+
+-- `--port P`: the port of 127.0.0.1 that is listened on
+abbrev pub port_rule : Rule
+port_rule = number_rule (codes "port") 1 65535 (codes "8080")
+
+-- `--connections K`: how many connections are served
+abbrev pub connections_rule : Rule
+connections_rule = number_rule (codes "connections") 1 1000000 (codes "1000000")
+
+-- `init STORE CALLERS`
+abbrev pub init_app : App
+init_app = with_rule (with_rule (new_app (codes "init")) (required_rule (codes "store"))) (required_rule (codes "callers"))
+
+-- `serve --port P --cache N --connections K STORE`
+abbrev pub serve_app : App
+serve_app =
+    with_rule (with_rule (with_rule (with_rule (new_app (codes "serve")) port_rule) cache_rule) connections_rule)
+    (required_rule (codes "store"))
+
+-- `replay --cache N CALLERS FILE..`
+abbrev pub replay_app : App
+replay_app =
+    with_rule (with_rule (with_rule (new_app (codes "replay")) cache_rule) (required_rule (codes "callers"))) (several_rule (codes "files"))
+
+-- `migrate STORE`
+abbrev pub migrate_app : App
+migrate_app = with_rule (new_app (codes "migrate")) (required_rule (codes "store"))
+
+-- `--NAME TEXT`: an option, which has to be given or may be left out
+abbrev pub text_rule : Text → Rule
+text_rule name = record (new_rule name) { long = Some name; action = Some Set; value_names = 1 }
+
+abbrev pub zone_rule : Rule
+zone_rule = record (text_rule (codes "zone")) { required = true }
+
+abbrev pub categories_rule : Rule
+categories_rule = record (text_rule (codes "categories")) { required = true }
+
+abbrev pub received_rule : Rule
+received_rule = text_rule (codes "received")
+
+abbrev pub name_rule : Rule
+name_rule = text_rule (codes "name")
+
+-- `errsysmods --zone ZONE [--received R] [--name NAME] FILE..`
+abbrev pub err_sysmods_app : App
+err_sysmods_app =
+    with_rule (with_rule (with_rule (with_rule (new_app (codes "errsysmods")) zone_rule) received_rule) name_rule) (several_rule (codes "files"))
+
+-- `missingfix --zone ZONE --categories C [--received R] [--name NAME] FILE..`
+abbrev pub missing_fix_app : App
+missing_fix_app =
+    with_rule (with_rule (with_rule (with_rule (with_rule (new_app (codes "missingfix")) zone_rule) categories_rule) received_rule) name_rule)
+    (several_rule (codes "files"))
+
+-- `chain --zone ZONE [--name NAME] SYSMOD FILE..`
+abbrev pub chain_app : App
+chain_app =
+    with_rule (with_rule (with_rule (with_rule (new_app (codes "chain")) zone_rule) name_rule) (required_rule (codes "sysmod"))) (several_rule (codes "files"))
+
+-- a command that takes the words after its own name, has a version, and wants the name of one below it
+abbrev pub commands_named : Text → App
+commands_named name =
+    let above = new_app name in
+    record above { top = record above.top { has_version = true; no_binary_name = true; subcommand_required = true } }
+
+-- the commands that there are
+abbrev pub bureau_app : App
+bureau_app =
+    let holds = with_subcommand (commands_named (codes "bureau")) holds_app.top in
+    let init = with_subcommand holds init_app.top in
+    let serve = with_subcommand init serve_app.top in
+    let replay = with_subcommand serve replay_app.top in
+    let migrate = with_subcommand replay migrate_app.top in
+    let errsysmods = with_subcommand migrate err_sysmods_app.top in
+    let missingfix = with_subcommand errsysmods missing_fix_app.top in
+    with_subcommand missingfix chain_app.top
+
+-- the text is a number in decimal digits, this one, and it is in the range
+abbrev pub IsNumberIn : ℕ → ℕ → Option Text → ℕ → Type 0
+IsNumberIn least most None number = ⊥
+IsNumberIn least most (Some text) number = ParsesUnsigned {E = ⊥} 32 10 text (Ok number) × (least ≤ number) × (number ≤ most)
+
+-- a cache may have this capacity, the port this number, and so many connections may be served
+abbrev pub IsCapacity : Option Text → ℕ → Type 0
+IsCapacity = IsNumberIn 1 65536
+
+abbrev pub IsPort : Option Text → ℕ → Type 0
+IsPort = IsNumberIn 1 65535
+
+abbrev pub IsManyConnections : Option Text → ℕ → Type 0
+IsManyConnections = IsNumberIn 1 1000000
+
+-- the command that a line has
+abbrev pub command_of : Line → Text
+command_of (Holds file) = codes "holds"
+command_of (Init store callers) = codes "init"
+command_of (Serve port cache connections store) = codes "serve"
+command_of (Replay cache callers files) = codes "replay"
+command_of (Migrate store) = codes "migrate"
+command_of (ErrSysmods files) = codes "errsysmods"
+command_of (MissingFix files) = codes "missingfix"
+command_of (Chain sysmod files) = codes "chain"
+
+-- the names of a report's files among the matches; what may be left out is there or not
+abbrev pub HasFiles : List Row → ReportFiles → Type 0
+HasFiles rows files =
+    (first_of (codes "zone") rows ≡ Some (string_bytes files.zone))
+    × (first_of (codes "categories") rows ≡ option_map string_bytes files.categories)
+    × (first_of (codes "received") rows ≡ option_map string_bytes files.received)
+    × (first_of (codes "name") rows ≡ option_map string_bytes files.name)
+    × (all_of (codes "files") rows ≡ Some (map string_bytes files.publications.items))
+
+-- each value among the matches is that of the line
+abbrev pub HasValues : List Row → Line → Type 0
+HasValues rows (Holds file) = first_of (codes "file") rows ≡ Some (string_bytes file)
+HasValues rows (Init store callers) =
+    (first_of (codes "store") rows ≡ Some (string_bytes store)) × (first_of (codes "callers") rows ≡ Some (string_bytes callers))
+HasValues rows (Serve port cache connections store) =
+    IsPort (one_of (codes "port") rows) port
+    × IsCapacity (one_of (codes "cache") rows) cache
+    × IsManyConnections (one_of (codes "connections") rows) connections
+    × (first_of (codes "store") rows ≡ Some (string_bytes store))
+HasValues rows (Replay cache callers files) =
+    IsCapacity (one_of (codes "cache") rows) cache
+    × (first_of (codes "callers") rows ≡ Some (string_bytes callers))
+    × (all_of (codes "files") rows ≡ Some (map string_bytes files.items))
+HasValues rows (Migrate store) = first_of (codes "store") rows ≡ Some (string_bytes store)
+HasValues rows (ErrSysmods files) = HasFiles rows files
+HasValues rows (MissingFix files) = HasFiles rows files
+HasValues rows (Chain sysmod files) = (first_of (codes "sysmod") rows ≡ Some (string_bytes sysmod)) × HasFiles rows files
+
+-- the command of this name, with these matches, has the line: each argument's value is that of the line
+abbrev pub IsLineWith : Text → List Row → Line → Type 0
+IsLineWith name rows line = (name ≡ command_of line) × HasValues rows line
+
+-- the matches name a command, which has the line
+abbrev pub IsLineIn : Option (Text × List Row) → Line → Type 0
+IsLineIn None line = ⊥
+IsLineIn (Some (name, rows)) line = IsLineWith name rows line
+
+-- the line has what clap defines as the matches of the words
+abbrev pub IsLineOf : List Text → Line → Type 0
+IsLineOf words line = IsLineIn (subcommand_of bureau_app words) line
+
+-- what a report's files say: the names that are always given, and those that may be left out
+abbrev pub texts_said : ReportFiles → List Text
+texts_said files = string_bytes files.zone ∷ map string_bytes files.publications.items
+
+abbrev pub options_said : ReportFiles → List (Option Text)
+options_said files =
+    option_map string_bytes files.categories ∷ option_map string_bytes files.received ∷ option_map string_bytes files.name ∷ []
+
+-- what a line says: its command, its numbers, its texts, and what may be left out
+abbrev pub said : Line → Text × List ℕ × List Text × List (Option Text)
+said (Holds file) = (codes "holds", [], string_bytes file ∷ [], [])
+said (Init store callers) = (codes "init", [], string_bytes store ∷ string_bytes callers ∷ [], [])
+said (Serve port cache connections store) =
+    (codes "serve", port ∷ cache ∷ connections ∷ [], string_bytes store ∷ [], [])
+said (Replay cache callers files) = (codes "replay", cache ∷ [], string_bytes callers ∷ map string_bytes files.items, [])
+said (Migrate store) = (codes "migrate", [], string_bytes store ∷ [], [])
+said (ErrSysmods files) = (codes "errsysmods", [], texts_said files, options_said files)
+said (MissingFix files) = (codes "missingfix", [], texts_said files, options_said files)
+said (Chain sysmod files) = (codes "chain", [], string_bytes sysmod ∷ texts_said files, options_said files)
+
+-- words have at most one line
+abbrev pub HasOneLine : List Text → Type 0
+HasOneLine words = (line other : Line) → IsLineOf words line → IsLineOf words other → said line ≡ said other
+
+-- Serves private contracts alone: the line is such a one, or there is no such line.
+abbrev pub IsFound : {A : Type 0} → (A → Type 0) → Option A → Type 0
+IsFound {A} Is None = (line : A) → Is line → ⊥
+IsFound Is (Some line) = Is line

@@ -1,0 +1,297 @@
+//! The commands of the program, as `clap` reads them.
+ghost use Rattle.std.specs.Prelude.{◌≡◌, false, codes, IfOk};
+ghost use Rattle.clap.specs.Words.{app_of, rule_of};
+ghost use Rattle.clap.specs.declared.builder.command.Command.TheViews.{out-Command as fields_of};
+ghost use Rattle.command_line.specs.Line.{bureau_app, cache_rule, categories_rule, chain_app, commands_named, connections_rule, err_sysmods_app, holds_app, init_app, migrate_app, missing_fix_app, name_rule, port_rule, received_rule, replay_app, required_rule, serve_app, several_rule, zone_rule};
+
+use crate::help::{STATUSES_AND_FAULTS, VERSION};
+use clap::{Arg, ArgAction, Command};
+use faults::NoMemory;
+use std::alloc::Global;
+
+/// The commands that there are.
+pub fn command<'a>(alloc: Global) -> Result<Command<'a>, NoMemory>
+    ensures { IfOk result (λ command. app_of command ≡ bureau_app) }
+{
+    let bureau = program(alloc)?;
+    let with_holds = bureau.subcommand(holds_command(alloc)?)?;
+    let with_init = with_holds.subcommand(init_command(alloc)?)?;
+    let with_serve = with_init.subcommand(serve_command(alloc)?)?;
+    let with_replay = with_serve.subcommand(replay_command(alloc)?)?;
+    let with_migrate = with_replay.subcommand(migrate_command(alloc)?)?;
+    let with_errsysmods = with_migrate.subcommand(err_sysmods_command(alloc)?)?;
+    let with_missingfix = with_errsysmods.subcommand(missing_fix_command(alloc)?)?;
+    with_missingfix.subcommand(chain_command(alloc)?)
+}
+
+// The program, with no command yet.
+fn program<'a>(alloc: Global) -> Result<Command<'a>, NoMemory>
+    ensures { IfOk result (λ command. app_of command ≡ commands_named (codes "bureau")) }
+{
+    let bureau = Command::new(alloc, "bureau").bin_name("bureau")?;
+    Ok(
+        bureau
+            .about("Exception SYSMODs and missing fixes of z/OS SMP/E zones")
+            .version(VERSION)
+            .after_help(STATUSES_AND_FAULTS)
+            .no_binary_name(true)
+            .subcommand_required(true),
+    )
+}
+
+// `holds FILE`
+fn holds_command<'a>(alloc: Global) -> Result<Command<'a>, NoMemory>
+    ensures app { IfOk result (λ command. app_of command ≡ holds_app) }
+    ensures local { IfOk result (λ command. (fields_of command).has_globals ≡ false) }
+{
+    let file = Arg::new(alloc, "file")
+        .required(true)
+        .action(ArgAction::Set)
+        .value_name("FILE")
+        .help("The HOLDDATA to read; `-` is standard input");
+    Command::new(alloc, "holds")
+        .about("Prints the hold book that the ++HOLD and ++RELEASE statements of FILE leave")
+        .arg(file)
+}
+
+// `init STORE CALLERS`
+fn init_command<'a>(alloc: Global) -> Result<Command<'a>, NoMemory>
+    ensures app { IfOk result (λ command. app_of command ≡ init_app) }
+    ensures local { IfOk result (λ command. (fields_of command).has_globals ≡ false) }
+{
+    let store = store_argument(alloc);
+    let callers = callers_argument(alloc);
+    Command::new(alloc, "init")
+        .about("Makes STORE, the file of a desk that has these callers and nothing else")
+        .arg(store)?
+        .arg(callers)
+}
+
+// `serve --port P --cache N --connections K STORE`
+fn serve_command<'a>(alloc: Global) -> Result<Command<'a>, NoMemory>
+    ensures app { IfOk result (λ command. app_of command ≡ serve_app) }
+    ensures local { IfOk result (λ command. (fields_of command).has_globals ≡ false) }
+{
+    let store = store_argument(alloc);
+    Command::new(alloc, "serve")
+        .about("Serves the desk in STORE on 127.0.0.1, one connection after the other")
+        .arg(port_option(alloc))?
+        .arg(cache_option(alloc))?
+        .arg(connections_option(alloc))?
+        .arg(store)
+}
+
+// `replay --cache N CALLERS FILE..`
+fn replay_command<'a>(alloc: Global) -> Result<Command<'a>, NoMemory>
+    ensures app { IfOk result (λ command. app_of command ≡ replay_app) }
+    ensures local { IfOk result (λ command. (fields_of command).has_globals ≡ false) }
+{
+    let callers = callers_argument(alloc);
+    let files = Arg::new(alloc, "files")
+        .required(true)
+        .action(ArgAction::Append)
+        .num_args(1..)
+        .value_name("FILE")
+        .help("The bytes of a connection to the desk: HTTP/1.1 requests one after the other");
+    Command::new(alloc, "replay")
+        .about(
+            "Serves each FILE as a connection to a desk in memory, and prints what the desk replies",
+        )
+        .arg(cache_option(alloc))?
+        .arg(callers)?
+        .arg(files)
+}
+
+// `migrate STORE`
+fn migrate_command<'a>(alloc: Global) -> Result<Command<'a>, NoMemory>
+    ensures app { IfOk result (λ command. app_of command ≡ migrate_app) }
+    ensures local { IfOk result (λ command. (fields_of command).has_globals ≡ false) }
+{
+    let store = store_argument(alloc);
+    Command::new(alloc, "migrate")
+        .about("Makes STORE, a file of version 1, one of version 2")
+        .arg(store)
+}
+
+// `errsysmods --zone ZONE [--received R] [--name NAME] FILE..`
+fn err_sysmods_command<'a>(alloc: Global) -> Result<Command<'a>, NoMemory>
+    ensures app { IfOk result (λ command. app_of command ≡ err_sysmods_app) }
+    ensures local { IfOk result (λ command. (fields_of command).has_globals ≡ false) }
+{
+    Command::new(alloc, "errsysmods")
+        .about("Prints the exception SYSMOD report on a zone, from files and with no desk")
+        .arg(zone_option(alloc))?
+        .arg(received_option(alloc))?
+        .arg(name_option(alloc))?
+        .arg(publications_argument(alloc))
+}
+
+// `missingfix --zone ZONE --categories C [--received R] [--name NAME] FILE..`
+fn missing_fix_command<'a>(alloc: Global) -> Result<Command<'a>, NoMemory>
+    ensures app { IfOk result (λ command. app_of command ≡ missing_fix_app) }
+    ensures local { IfOk result (λ command. (fields_of command).has_globals ≡ false) }
+{
+    Command::new(alloc, "missingfix")
+        .about("Prints the missing fix report on a zone, from files and with no desk")
+        .arg(zone_option(alloc))?
+        .arg(categories_option(alloc))?
+        .arg(received_option(alloc))?
+        .arg(name_option(alloc))?
+        .arg(publications_argument(alloc))
+}
+
+// `chain --zone ZONE [--name NAME] SYSMOD FILE..`
+fn chain_command<'a>(alloc: Global) -> Result<Command<'a>, NoMemory>
+    ensures app { IfOk result (λ command. app_of command ≡ chain_app) }
+    ensures local { IfOk result (λ command. (fields_of command).has_globals ≡ false) }
+{
+    Command::new(alloc, "chain")
+        .about("Prints whether a SYSMOD can be installed in a zone, and with what, as JSON")
+        .arg(zone_option(alloc))?
+        .arg(name_option(alloc))?
+        .arg(sysmod_argument(alloc))?
+        .arg(publications_argument(alloc))
+}
+
+// `--zone ZONE`
+fn zone_option<'a>(alloc: Global) -> Arg<'a>
+    ensures rule { rule_of result ≡ zone_rule }
+    ensures local { result.global ≡ false }
+{
+    Arg::new(alloc, "zone")
+        .long("zone")
+        .required(true)
+        .action(ArgAction::Set)
+        .value_name("ZONE")
+        .help("The SYSMODs of the zone: CSV with the header SYSMOD,STATE")
+}
+
+// `--categories C`
+fn categories_option<'a>(alloc: Global) -> Arg<'a>
+    ensures rule { rule_of result ≡ categories_rule }
+    ensures local { result.global ≡ false }
+{
+    Arg::new(alloc, "categories")
+        .long("categories")
+        .required(true)
+        .action(ArgAction::Set)
+        .value_name("CATEGORIES")
+        .help("The fix categories that are asked for: CSV with the header CATEGORY")
+}
+
+// `--received R`
+fn received_option<'a>(alloc: Global) -> Arg<'a>
+    ensures rule { rule_of result ≡ received_rule }
+    ensures local { result.global ≡ false }
+{
+    Arg::new(alloc, "received")
+        .long("received")
+        .action(ArgAction::Set)
+        .value_name("RECEIVED")
+        .help("The SYSMODs that are received: CSV with the header SYSMOD")
+}
+
+// `--name NAME`
+fn name_option<'a>(alloc: Global) -> Arg<'a>
+    ensures rule { rule_of result ≡ name_rule }
+    ensures local { result.global ≡ false }
+{
+    Arg::new(alloc, "name")
+        .long("name")
+        .action(ArgAction::Set)
+        .value_name("NAME")
+        .help("The name of the zone; without it that of its file up to the period, in upper case")
+}
+
+// `SYSMOD`
+fn sysmod_argument<'a>(alloc: Global) -> Arg<'a>
+    ensures rule { rule_of result ≡ required_rule (codes "sysmod") }
+    ensures local { result.global ≡ false }
+{
+    Arg::new(alloc, "sysmod")
+        .required(true)
+        .action(ArgAction::Set)
+        .value_name("SYSMOD")
+        .help("The SYSMOD whose chain is asked for")
+}
+
+// `FILE..`
+fn publications_argument<'a>(alloc: Global) -> Arg<'a>
+    ensures rule { rule_of result ≡ several_rule (codes "files") }
+    ensures local { result.global ≡ false }
+{
+    Arg::new(alloc, "files")
+        .required(true)
+        .action(ArgAction::Append)
+        .num_args(1..)
+        .value_name("FILE")
+        .help(
+            "HOLDDATA, SYSMODs or both, in the order in which they are published; `-` is standard input",
+        )
+}
+
+// `--cache N`
+fn cache_option<'a>(alloc: Global) -> Arg<'a>
+    ensures rule { rule_of result ≡ cache_rule }
+    ensures local { result.global ≡ false }
+{
+    Arg::new(alloc, "cache")
+        .long("cache")
+        .action(ArgAction::Set)
+        .value_parser(clap::value_parser!(u32).range(1..=65536))
+        .value_name("N")
+        .default_value("1024")
+        .help("How many frames are kept at most, 1 to 65536")
+}
+
+// `STORE`
+fn store_argument<'a>(alloc: Global) -> Arg<'a>
+    ensures rule { rule_of result ≡ required_rule (codes "store") }
+    ensures local { result.global ≡ false }
+{
+    Arg::new(alloc, "store")
+        .required(true)
+        .action(ArgAction::Set)
+        .value_name("STORE")
+        .help("The file that keeps all that the desk has")
+}
+
+// `CALLERS`
+fn callers_argument<'a>(alloc: Global) -> Arg<'a>
+    ensures rule { rule_of result ≡ required_rule (codes "callers") }
+    ensures local { result.global ≡ false }
+{
+    Arg::new(alloc, "callers")
+        .required(true)
+        .action(ArgAction::Set)
+        .value_name("CALLERS")
+        .help("The callers of the desk: CSV with the header NAME,TOKEN")
+}
+
+// `--port P`
+fn port_option<'a>(alloc: Global) -> Arg<'a>
+    ensures rule { rule_of result ≡ port_rule }
+    ensures local { result.global ≡ false }
+{
+    Arg::new(alloc, "port")
+        .long("port")
+        .action(ArgAction::Set)
+        .value_parser(clap::value_parser!(u32).range(1..=65535))
+        .value_name("P")
+        .default_value("8080")
+        .help("The port to listen on, 1 to 65535")
+}
+
+// `--connections K`
+fn connections_option<'a>(alloc: Global) -> Arg<'a>
+    ensures rule { rule_of result ≡ connections_rule }
+    ensures local { result.global ≡ false }
+{
+    Arg::new(alloc, "connections")
+        .long("connections")
+        .action(ArgAction::Set)
+        .value_parser(clap::value_parser!(u32).range(1..=1000000))
+        .value_name("K")
+        .default_value("1000000")
+        .help("How many connections are served before the program ends, 1 to 1000000")
+}

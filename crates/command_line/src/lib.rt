@@ -1,0 +1,10 @@
+//! The command line of the program: what its words ask for, read with `clap`.
+//!
+//! - [`line_of`]: what words ask for, as a [`Line`]; or why they are none, as a [`LineFault`]
+#![tactic(auto)]
+
+mod commands;
+mod help;
+mod line;
+
+pub use line::{Line, LineFault, line_of};

@@ -1,0 +1,4 @@
+mod BookFacts
+mod OutputFacts
+mod ReportFilesFacts
+mod ReportingFacts

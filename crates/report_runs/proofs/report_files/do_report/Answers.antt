@@ -1,0 +1,23 @@
+use Rattle.std.proofs.KnownBytes.{Keeps-refl}
+use Rattle.report_runs.specs.Contents.{inputs_in}
+use Rattle.run_parts.specs.Outputs.{Outputs}
+use Rattle.report_runs.proofs.ReportFilesFacts.{are_named, not_read}
+use Rattle.report_runs.proofs.report_files.do_report.Goals as goal
+
+-- each input that was read stands in a file that has a name
+pub print-requires : goal.print-requires
+print-requires g c =
+    are_named (g.S.Files.known_file c.args.surroundings.now) c.args.files.now (inputs_in c.in-Ok.contents)
+    (g.I.Read.remaining c.args.input.now) (g.I.Read.remaining c.read_files.new.input) c.in-Ok.ensures.inputs
+
+pub returns-in-Err-read_files : goal.returns-in-Err-read_files
+returns-in-Err-read_files g c =
+    let outputs : Outputs = record {
+      output = g.O.Write.contents c.args.output.now;
+      written = g.O.Write.contents c.args.output.now;
+      errors = g.E.Write.contents c.args.errors.now;
+      told = g.E.Write.contents c.refuse-in-Err-read_files.new.errors;
+    } in
+    not_read (g.S.Files.known_file c.args.surroundings.now) c.args.report c.args.files.now (g.I.Read.remaining c.args.input.now) (g.I.Read.remaining c.read_files.new.input)
+    outputs c.refuse-in-Err-read_files.result c.in-Err-read_files.fault c.in-Err-read_files.ensures.fault (Keeps-refl outputs.output)
+    c.refuse-in-Err-read_files.ensures.told c.refuse-in-Err-read_files.ensures.status

@@ -1,0 +1,4 @@
+pub mod Contents
+pub mod Holds
+pub mod ReportFiles
+pub mod Reporting

@@ -1,0 +1,95 @@
+-- What a report from files makes of its inputs.
+use Rattle.std.specs.Prelude.{◌≡◌, ◌⊎◌, ◌++◌, ℕ, List, Option, Some, None, Result, Ok, Err, IsSome, codes, decimal, map, option_map, slice_get, string_bytes}
+use Rattle.std.specs.Io.KnownBytes.{Appends, Keeps}
+use Rattle.faults.specs.FaultText.{place_text, text_of}
+use Rattle.faults.specs.declared.any.AnyFault.{AnyFault}
+use Rattle.file_reports.specs.Inputs.{Inputs, IsFirstFault, IsGiven, Refused, Said}
+use Rattle.file_reports.specs.Lists.{inputs_of}
+use Rattle.file_reports.specs.Reports.{chain_text_said, err_text_said, missing_text_said, text_by}
+use Rattle.file_reports.specs.declared.fault.Input.{Input}
+use Rattle.file_reports.specs.declared.fault.Input.TheVariants.{Zone, Categories, Received, Publication}
+use Rattle.file_reports.specs.declared.fault.InputFault.{InputFault}
+use Rattle.transfer.specs.Transfer.{AppendsFront}
+use Rattle.run_parts.specs.ProgramFault.{of_program, status_of}
+use Rattle.run_parts.specs.declared.fault.ProgramFault.TheVariants.{NotWritten}
+use Rattle.run_parts.specs.declared.report_files.ReportFiles.{ReportFiles}
+use Rattle.report_runs.specs.declared.reporting.Report.{Report}
+use Rattle.report_runs.specs.declared.reporting.Report.TheVariants.{ErrSysmods, MissingFix, Chain}
+use Rattle.report_runs.specs.declared.reporting.ReportAsked.{ReportAsked}
+
+-- the text of a report on a zone of this name; a verdict has a line end after it
+abbrev pub report_text : Report → List ℕ → Said → List ℕ
+report_text ErrSysmods zone said = err_text_said zone said
+report_text MissingFix zone said = missing_text_said zone said
+report_text (Chain sysmod) zone said = chain_text_said zone sysmod said ++ codes "\n"
+
+-- the inputs that a report reads: fix categories are for the missing fixes alone, and a verdict asks for nothing that is received
+abbrev pub read_by : Report → Inputs → Inputs
+read_by ErrSysmods inputs = record inputs { categories = None }
+read_by MissingFix inputs = inputs
+read_by (Chain sysmod) inputs = record inputs { categories = None; received = None }
+
+-- what is made of the inputs: the text of the report, or the first fault
+abbrev pub made_by : Report → List ℕ → Inputs → Result (List ℕ) Refused
+made_by report zone inputs = text_by (report_text report zone) (read_by report inputs)
+
+-- the same of the lists and publications that a run is handed
+abbrev pub made_of : ReportAsked → List (List ℕ) → Result (List ℕ) Refused
+made_of asked publications = made_by asked.report asked.zone (inputs_of asked.lists publications)
+
+-- the name of the file that an input stands in
+abbrev pub name_of : ReportFiles → Input → Option (List ℕ)
+name_of files Zone = Some (string_bytes files.zone)
+name_of files Categories = option_map string_bytes files.categories
+name_of files Received = option_map string_bytes files.received
+name_of files (Publication index) = slice_get (map string_bytes files.publications.items) index
+
+-- each input that is given stands in a file that has a name
+abbrev pub AreNamed : ReportFiles → Inputs → Type 0
+AreNamed files inputs = (input : Input) → IsGiven inputs input → IsSome (name_of files input)
+
+-- the line of a fault, with the file that it is in
+abbrev pub line_in : AnyFault → List ℕ → List ℕ
+line_in fault name = codes "FAULT " ++ decimal fault.number ++ place_text fault.place ++ codes " " ++ name ++ codes "\n"
+
+-- what standard error gets of a fault: its line with the name of the file that it is in, or without one, where it is in none
+abbrev pub IsToldOf : ReportFiles → AnyFault → Option Input → Option (List ℕ) → Option (List ℕ) → Type 0
+IsToldOf files fault None old new = AppendsFront old new (text_of fault)
+IsToldOf files fault (Some input) old new =
+    (name : List ℕ) × (name_of files input ≡ Some name) × AppendsFront old new (line_in fault name)
+
+-- Serves private contracts alone: the input has a file's name, where there is one.
+abbrev pub HasName : ReportFiles → Option Input → Type 0
+HasName files None = Unit {0}
+HasName files (Some input) = IsSome (name_of files input)
+
+-- a write failed: standard output has a front of the report
+abbrev pub IsReportCutShort : InputFault → Result (List ℕ) Refused → Option (List ℕ) → Option (List ℕ) → Type 0
+IsReportCutShort told made old new =
+    (told ≡ record { input = None; fault = of_program NotWritten }) × ((text : List ℕ) × (made ≡ Ok text) × AppendsFront old new text)
+
+-- What standard output gets: the whole report; a front of it, where a write failed; or nothing, where an input has a fault
+-- or memory ran out.
+abbrev pub IsReportOutput : Option InputFault → Result (List ℕ) Refused → Option (List ℕ) → Option (List ℕ) → Type 0
+IsReportOutput None made old new = (text : List ℕ) × (made ≡ Ok text) × Appends old new text
+IsReportOutput (Some told) made old new = IsReportCutShort told made old new ⊎ (IsFirstFault made told × Keeps old new)
+
+-- what standard error gets: nothing, or the line that tells the fault, as far as it takes it
+abbrev pub IsReportTold : ReportFiles → Option InputFault → Option (List ℕ) → Option (List ℕ) → Type 0
+IsReportTold files None old new = Keeps old new
+IsReportTold files (Some told) old new = IsToldOf files told.fault told.input old new
+
+abbrev pub report_status : Option InputFault → ℕ
+report_status None = 0
+report_status (Some told) = status_of told.fault.cause
+
+abbrev pub input_fault_in : {T : Type 0} → Result T InputFault → Option InputFault
+input_fault_in (Ok _) = None
+input_fault_in (Err told) = Some told
+
+-- A whole run: from the inputs to what standard output and standard error get, and the exit status.
+pub record IsReportRun (files : ReportFiles) (made : Result (List ℕ) Refused) (old new old_errors new_errors : Option (List ℕ)) (status : ℕ) : Type 0 where
+  pub outcome : Option InputFault
+  pub output : IsReportOutput outcome made old new
+  pub told : IsReportTold files outcome old_errors new_errors
+  pub status_is : status ≡ report_status outcome

@@ -1,0 +1,22 @@
+//! The runs of the program that make reports from files, with no desk: `holds`, `errsysmods`, `missingfix` and `chain`.
+//!
+//! - [`run_holds`]: the hold book that a source leaves, in print; [`do_holds`]: of a FILE by its name
+//! - [`run_report`]: a report of bytes of files, as [`ReportAsked`]
+//! - [`do_report`], [`do_chain`]: a [`Report`] of files by their names
+//!
+//! ```
+//! let source = "++HOLD(UA10001) ERROR REASON(AA20002).";
+//! let (mut output, mut errors) = (Vec::new(alloc), Vec::new(alloc));
+//! let status = run_holds(alloc, &mut source.as_bytes(), &mut output, &mut errors);
+//! assert_eq!(rt; status, 0);
+//! assert!(rt; output.ends_with(b"ROWS 1\n"));
+//! ```
+#![tactic(auto)]
+
+mod holds;
+mod report_files;
+mod reporting;
+
+pub use holds::{do_holds, run_holds};
+pub use report_files::{do_chain, do_report};
+pub use reporting::{Report, ReportAsked, run_report};

@@ -1,0 +1,284 @@
+//! The files of a report: what stands in them.
+ghost use Rattle.std.specs.Prelude.{◌≡◌, ◌↔◌, ◌<◌, ◌≤◌, [], ◌∷◌, length, map, option_map, string_bytes, IfErr, IfOk, IsTrue};
+ghost use Rattle.std.specs.Option.{option_and_then, option_to_list};
+ghost use Rattle.faults.specs.Refusal.{IsRefusal};
+ghost use Rattle.mcs_reader.specs.Id.{id_of};
+ghost use Rattle.report_runs.specs.Contents.{inputs_in};
+ghost use Rattle.run_parts.specs.Outputs.{outputs_of};
+ghost use Rattle.report_runs.specs.ReportFiles.{AreInputs, AreRead, IsChain, IsRead, IsReadIfGiven, IsReport, name_of_file, standard_inputs, times_standard_input, zone_of};
+ghost use Rattle.report_runs.specs.Reporting.{AreNamed, IsReportRun, made_by};
+
+use crate::holds::read_input;
+use crate::reporting::{Report, ReportAsked, run_report};
+use faults::NoMemory;
+use file_reports::Lists;
+use mcs_reader::Id;
+use run_parts::{Files, ProgramFault, ReportFiles, explain, is_standard_input, refuse};
+use std::alloc::Global;
+use std::io::{Read, Write};
+use std::path::Path;
+use transfer::RETRIES;
+
+// What stands in the files of a report.
+#[derive(Drop)]
+pub(crate) struct Contents {
+    pub(crate) zone: Vec<u8>,
+    pub(crate) categories: Option<Vec<u8>>,
+    pub(crate) received: Option<Vec<u8>>,
+    pub(crate) publications: Vec<Vec<u8>>,
+}
+
+/// Prints the verdict on the SYSMOD of this name. Where that is no id, status 2 says so.
+pub fn do_chain<S: Files, I: Read, O: Write, E: Write>(
+    surroundings: &S,
+    alloc: Global,
+    sysmod: &str,
+    files: &ReportFiles,
+    input: &mut I,
+    output: &mut O,
+    errors: &mut E,
+) -> u8
+    ensures { IsChain (S.known_file surroundings.now) sysmod.now files.now
+        (I.remaining input.old) (I.remaining input.new)
+        (outputs_of O.contents E.contents output.old output.new errors.old errors.new) result }
+{
+    match Id::new(sysmod.as_bytes()) {
+        Some(sysmod) => {
+            let report = Report::Chain(sysmod);
+            do_report(surroundings, alloc, report, files, input, output, errors)
+        }
+        None => explain(errors, "SYSMOD is no id: 1 to 7 of A-Z 0-9 @ # $\n"),
+    }
+}
+
+/// Prints a report of these files. Nothing is read where the zone has no name, or where a second file is `-`: status 2
+/// says so.
+pub fn do_report<S: Files, I: Read, O: Write, E: Write>(
+    surroundings: &S,
+    alloc: Global,
+    report: Report,
+    files: &ReportFiles,
+    input: &mut I,
+    output: &mut O,
+    errors: &mut E,
+) -> u8
+    ensures { IsReport (S.known_file surroundings.now) report files.now
+        (I.remaining input.old) (I.remaining input.new)
+        (outputs_of O.contents E.contents output.old output.new errors.old errors.new) result }
+{
+    let zone = match zone_name(alloc, files) {
+        Ok(Some(zone)) => zone,
+        Ok(None) => return explain(
+            errors,
+            "the zone has no name that is an id: give it with --name\n",
+        ),
+        Err(_) => return refuse(errors, ProgramFault::Memory),
+    };
+    if is_read_twice(files) {
+        return explain(errors, "standard input is one file: give - once\n");
+    }
+    match read_files(surroundings, alloc, files, input) {
+        Ok(contents) => print(alloc, report, zone, files, contents, output, errors),
+        Err(fault) => refuse(errors, fault),
+    }
+}
+
+// Prints the report of what the files have.
+fn print<O: Write, E: Write>(
+    alloc: Global,
+    report: Report,
+    zone: Id,
+    files: &ReportFiles,
+    contents: Contents,
+    output: &mut O,
+    errors: &mut E,
+) -> u8
+    requires { AreNamed files.now (inputs_in contents) }
+    ensures { IsReportRun files.now (made_by report zone (inputs_in contents))
+        (O.contents output.old) (O.contents output.new)
+        (E.contents errors.old) (E.contents errors.new) result }
+{
+    let Contents {
+        zone: rows,
+        categories: patterns,
+        received: ids,
+        publications,
+    } = contents;
+    let (categories, received) = (bytes_of(&patterns), bytes_of(&ids));
+    let lists = Lists {
+        zone: rows.as_slice(),
+        categories,
+        received,
+    };
+    let asked = ReportAsked {
+        report,
+        zone,
+        lists,
+        files,
+    };
+    run_report(alloc, &asked, publications, output, errors)
+}
+
+// The bytes, where there are any.
+fn bytes_of(bytes: &Option<Vec<u8>>) -> Option<&[u8]>
+    ensures { option_map (λ bytes. bytes.now) result ≡ option_map (λ bytes. bytes.items) bytes.now }
+{
+    match bytes {
+        Some(bytes) => Some(bytes.as_slice()),
+        None => None,
+    }
+}
+
+// What stands in the files. They are read one after the other, with 64 retries in all.
+fn read_files<S: Files, I: Read>(
+    surroundings: &S,
+    alloc: Global,
+    files: &ReportFiles,
+    input: &mut I,
+) -> Result<Contents, ProgramFault>
+    ensures inputs { IfOk result (λ contents. AreInputs (S.known_file surroundings.now) files.now
+        (inputs_in contents) (I.remaining input.old) (I.remaining input.new)) }
+    ensures fault { IfErr result (IsRefusal ProgramFault.Memory (λ fault. fault ≡ ProgramFault.NotRead)) }
+{
+    let mut retries = RETRIES;
+    let zone = read_one(
+        surroundings,
+        alloc,
+        files.zone.as_str(),
+        input,
+        &mut retries,
+    )?;
+    let categories = read_given(surroundings, alloc, &files.categories, input, &mut retries)?;
+    let received = read_given(surroundings, alloc, &files.received, input, &mut retries)?;
+    let names = files.publications.as_slice();
+    let publications = read_all(surroundings, alloc, names, input, &mut retries)?;
+    Ok(Contents {
+        zone,
+        categories,
+        received,
+        publications,
+    })
+}
+
+// What stands in each file, in their order.
+fn read_all<S: Files, I: Read>(
+    surroundings: &S,
+    alloc: Global,
+    names: &[String],
+    input: &mut I,
+    retries: &mut u32,
+) -> Result<Vec<Vec<u8>>, ProgramFault>
+    ensures read { IfOk result (λ all. AreRead (S.known_file surroundings.now)
+        (map string_bytes names.now) (map (λ bytes. bytes.items) all.items)
+        (I.remaining input.old) (I.remaining input.new)) }
+    ensures fault { IfErr result (IsRefusal ProgramFault.Memory (λ fault. fault ≡ ProgramFault.NotRead)) }
+{
+    let mut all = Vec::with_capacity(alloc, names.len())?;
+    for name in names {
+        all.push(read_one(surroundings, alloc, name.as_str(), input, retries)?)?;
+    }
+    Ok(all)
+}
+
+// What stands in a file, where one is given.
+fn read_given<S: Files, I: Read>(
+    surroundings: &S,
+    alloc: Global,
+    name: &Option<String>,
+    input: &mut I,
+    retries: &mut u32,
+) -> Result<Option<Vec<u8>>, ProgramFault>
+    ensures read { IfOk result (λ bytes. IsReadIfGiven (S.known_file surroundings.now)
+        (option_map string_bytes name.now) (option_map (λ bytes. bytes.items) bytes)
+        (I.remaining input.old) (I.remaining input.new)) }
+    ensures fault { IfErr result (IsRefusal ProgramFault.Memory (λ fault. fault ≡ ProgramFault.NotRead)) }
+{
+    match name {
+        Some(name) => {
+            let bytes = read_one(surroundings, alloc, name.as_str(), input, retries)?;
+            Ok(Some(bytes))
+        }
+        None => Ok(None),
+    }
+}
+
+// What stands in a file, or in standard input where the name is `-`: all of it, or one byte more than an input may have.
+fn read_one<S: Files, I: Read>(
+    surroundings: &S,
+    alloc: Global,
+    name: &str,
+    input: &mut I,
+    retries: &mut u32,
+) -> Result<Vec<u8>, ProgramFault>
+    ensures read { IfOk result (λ bytes. IsRead (S.known_file surroundings.now) name.now bytes.items
+        (I.remaining input.old) (I.remaining input.new)) }
+    ensures fault { IfErr result (IsRefusal ProgramFault.Memory (λ fault. fault ≡ ProgramFault.NotRead)) }
+{
+    if is_standard_input(name) {
+        return read_input(alloc, input, retries);
+    }
+    match surroundings.open(name) {
+        Ok(mut source) => read_input(alloc, &mut source, retries),
+        Err(_) => Err(ProgramFault::NotRead),
+    }
+}
+
+// The id of the zone: the name that is given, or else that of its file.
+fn zone_name(alloc: Global, files: &ReportFiles) -> Result<Option<Id>, NoMemory>
+    ensures { IfOk result (λ zone. zone ≡ zone_of files.now) }
+{
+    match &files.name {
+        Some(name) => Ok(Id::new(name.as_bytes())),
+        None => id_of_file(alloc, files.zone.as_str()),
+    }
+}
+
+// The name of a file without its folder, up to its first period and in upper case, where that is an id.
+fn id_of_file(alloc: Global, file: &str) -> Result<Option<Id>, NoMemory>
+    ensures { IfOk result (λ id. id ≡ option_and_then id_of (name_of_file file.now)) }
+{
+    let Some(prefix) = Path::new(file).file_prefix() else {
+        return Ok(None);
+    };
+    let name = prefix.to_ascii_uppercase(alloc)?;
+    Ok(Id::new(name.as_bytes()))
+}
+
+// Whether more than one of the names is `-`.
+fn is_read_twice(files: &ReportFiles) -> bool
+    ensures { IsTrue result ↔ (1 < times_standard_input files.now) }
+{
+    let lists = once(files.zone.as_str())
+        + once_given(&files.categories)
+        + once_given(&files.received);
+    lists.saturating_add(standard_inputs_in(files.publications.as_slice())) > 1
+}
+
+// 1 where the name is `-`, and else 0.
+fn once(name: &str) -> usize
+    ensures times { result ≡ length (standard_inputs (name.now ∷ [])) }
+    ensures bound { result ≤ 1 }
+{
+    if is_standard_input(name) { 1 } else { 0 }
+}
+
+fn once_given(name: &Option<String>) -> usize
+    ensures times { result ≡ length (standard_inputs (option_to_list (option_map string_bytes name.now))) }
+    ensures bound { result ≤ 1 }
+{
+    match name {
+        Some(name) => once(name.as_str()),
+        None => 0,
+    }
+}
+
+// How many of the names are `-`.
+fn standard_inputs_in(names: &[String]) -> usize
+    ensures { result ≡ length (standard_inputs (map string_bytes names.now)) }
+{
+    let mut count = 0;
+    for name in names {
+        count += once(name.as_str());
+    }
+    count
+}

@@ -1,0 +1,174 @@
+//! `errsysmods`, `missingfix` and `chain`: reports from files, with no desk.
+ghost use Rattle.std.specs.Prelude.{◌≡◌, ◌-◌, ◌++◌, codes, length, map, option_map, string_bytes, take, IfErr, IfOk, IsSome, None, Ok, Some};
+ghost use Rattle.file_reports.specs.Inputs.{IsOutOfMemory, IsFirstFault};
+ghost use Rattle.transfer.specs.Transfer.{AppendsFront};
+ghost use Rattle.file_reports.specs.Lists.{inputs_of};
+ghost use Rattle.report_runs.specs.Reporting.{AreNamed, HasName, IsReportOutput, IsReportRun, IsToldOf, input_fault_in, line_in, made_of, name_of};
+
+use catalogue::SourceFault;
+use faults::AnyFault;
+use file_reports::{Input, InputFault, Lists, chain_report, err_report, missing_report};
+use mcs_reader::Id;
+use run_parts::{ReportFiles, exit_status, report, tell, write_text};
+use std::alloc::Global;
+use std::io::{self, Write};
+
+/// Which report is asked for.
+#[derive(Clone, Copy, Debug)]
+pub enum Report {
+    /// The exception SYSMODs.
+    ErrSysmods,
+    /// The missing fixes.
+    MissingFix,
+    /// The verdict on a SYSMOD.
+    Chain(Id),
+}
+
+/// What is asked: which report, of which zone, with its lists, and the names of all files.
+#[derive(Clone, Copy, Debug)]
+pub struct ReportAsked<'a, 'f> {
+    pub report: Report,
+    pub zone: Id,
+    pub lists: Lists<'a>,
+    pub files: &'f ReportFiles,
+}
+
+/// Prints a report of the publications and of a zone's lists. Returns the exit status.
+///
+/// The text is made whole before its first byte is written. A fault is told on `errors` alone, as `FAULT`, its number,
+/// its line or record, and the name of the file that it is in.
+pub fn run_report<W: Write, E: Write>(
+    alloc: Global,
+    asked: &ReportAsked<'_, '_>,
+    publications: Vec<Vec<u8>>,
+    writer: &mut W,
+    errors: &mut E,
+) -> u8
+    requires { AreNamed asked.now.files.now
+        (inputs_of asked.now.lists (map (λ body. body.items) publications.items)) }
+    ensures { IsReportRun asked.now.files.now
+        (made_of asked.now (map (λ body. body.items) publications.items))
+        (W.contents writer.old) (W.contents writer.new)
+        (E.contents errors.old) (E.contents errors.new) result }
+{
+    match print_report(alloc, asked, publications, writer) {
+        Ok(()) => 0,
+        Err(told) => {
+            let _ = tell_fault(errors, asked.files, told);
+            exit_status(told.fault)
+        }
+    }
+}
+
+// Prints the report.
+fn print_report<W: Write>(
+    alloc: Global,
+    asked: &ReportAsked<'_, '_>,
+    publications: Vec<Vec<u8>>,
+    writer: &mut W,
+) -> Result<(), InputFault>
+    ensures { IsReportOutput (input_fault_in result)
+        (made_of asked.now (map (λ body. body.items) publications.items))
+        (W.contents writer.old) (W.contents writer.new) }
+{
+    match report_text(alloc, asked, publications) {
+        Ok(text) => match write_text(writer, text.as_slice()) {
+            Ok(()) => Ok(()),
+            Err(fault) => Err(of_no_input(AnyFault::from(fault))),
+        },
+        Err(told) => Err(told),
+    }
+}
+
+// A fault that is in none of the inputs.
+fn of_no_input(fault: AnyFault) -> InputFault
+    ensures { result ≡ record { input = None; fault = fault } }
+{
+    InputFault { input: None, fault }
+}
+
+// The text of the report.
+fn report_text(
+    alloc: Global,
+    asked: &ReportAsked<'_, '_>,
+    publications: Vec<Vec<u8>>,
+) -> Result<Vec<u8>, InputFault>
+    ensures text { IfOk result (λ text.
+        made_of asked.now (map (λ body. body.items) publications.items) ≡ Ok text.items) }
+    ensures fault { IfErr result
+        (IsFirstFault (made_of asked.now (map (λ body. body.items) publications.items))) }
+{
+    match asked.report {
+        Report::ErrSysmods => err_report(alloc, &asked.zone, asked.lists, publications),
+        Report::MissingFix => missing_report(alloc, &asked.zone, asked.lists, publications),
+        Report::Chain(sysmod) => {
+            let text = chain_report(alloc, &asked.zone, &sysmod, asked.lists, publications)?;
+            with_line_end(text)
+        }
+    }
+}
+
+// A text with a line end after it.
+fn with_line_end(text: Vec<u8>) -> Result<Vec<u8>, InputFault>
+    ensures text { IfOk result (λ line. line.items ≡ text.items ++ codes "\n") }
+    ensures fault { IfErr result IsOutOfMemory }
+{
+    let mut text = text;
+    match text.push(b'\n') {
+        Ok(()) => Ok(text),
+        Err(_) => Err(InputFault::from(SourceFault::Memory)),
+    }
+}
+
+// Tells a fault, with the name of the file that it is in.
+fn tell_fault<E: Write>(errors: &mut E, files: &ReportFiles, told: InputFault) -> io::Result<()>
+    requires { HasName files.now told.input }
+    ensures { IsToldOf files.now told.fault told.input (E.contents errors.old) (E.contents errors.new) }
+{
+    match told.input {
+        None => report(errors, told.fault),
+        Some(input) => tell_in(errors, told.fault, name_in(files, input)),
+    }
+}
+
+// Tells a fault in the file of this name. It takes no memory.
+fn tell_in<E: Write>(errors: &mut E, fault: AnyFault, name: &str) -> io::Result<()>
+    ensures { AppendsFront (E.contents errors.old) (E.contents errors.new) (line_in fault name.now) }
+{
+    let line = fault.text();
+    tell(errors, without_end(line.as_str().as_bytes()))?;
+    tell(errors, b" ")?;
+    tell(errors, name.as_bytes())?;
+    tell(errors, b"\n")
+}
+
+// A line without its last byte.
+fn without_end(line: &[u8]) -> &[u8]
+    ensures { result.now ≡ take (length line.now - 1) line.now }
+{
+    &line[..line.len().saturating_sub(1)]
+}
+
+// The name of the file that an input stands in.
+fn name_in(files: &ReportFiles, input: Input) -> &str
+    requires { IsSome (name_of files.now input) }
+    ensures { name_of files.now input ≡ Some result.now }
+{
+    match input {
+        Input::Zone => files.zone.as_str(),
+        Input::Categories => text_in(&files.categories),
+        Input::Received => text_in(&files.received),
+        Input::Publication(index) => files.publications[index].as_str(),
+    }
+}
+
+// The text that is there.
+fn text_in(text: &Option<String>) -> &str
+    requires { IsSome (option_map string_bytes text.now) }
+    ensures { option_map string_bytes text.now ≡ Some result.now }
+{
+    match text {
+        Some(text) => text.as_str(),
+        None => unreachable!(),
+    }
+}

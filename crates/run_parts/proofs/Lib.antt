@@ -1,0 +1,2 @@
+pub mod FilesFacts
+pub mod OutputFacts

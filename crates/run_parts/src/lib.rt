@@ -1,0 +1,21 @@
+//! What the runs of the program share: the files that they read by name, and what they tell on their two streams.
+//!
+//! - [`Files`]: files by their names; [`read_file`]: all that stands in one; [`is_standard_input`]: the name `-`
+//! - [`ReportFiles`]: the names of the files of a report
+//! - [`ProgramFault`]: why the program itself can't do what it is asked
+//! - [`told`], [`refuse`], [`explain`]: what standard error gets where a run ends, and the exit status
+//! - [`report`], [`tell`], [`exit_status`]: a fault's line, a text for people, the status of a fault
+//! - [`printed`], [`write_text`], [`numbered_line`]: what standard output gets
+#![tactic(auto)]
+
+mod fault;
+mod files;
+mod printing;
+mod report_files;
+mod telling;
+
+pub use fault::{ProgramFault, exit_status, report, tell};
+pub use files::{Files, is_standard_input, read_file};
+pub use printing::{numbered_line, printed, write_text};
+pub use report_files::ReportFiles;
+pub use telling::{explain, refuse, told};

@@ -1,0 +1,141 @@
+-- What `init` leaves of a database, and what it and an opening tell.
+use Rattle.std.proofs.Common.{◌≡◌, ◌∙◌, ℕ, List, Option, Some, Ok, Err, Result, IfErr, IsTrue, ap, arith, inl, inr, refl, subst, sym, true}
+use Rattle.std.specs.Io.KnownBytes.{Keeps}
+use Rattle.faults.specs.declared.any.AnyFault.{AnyFault}
+use Rattle.bureau_sql.specs.Founded.{AreFounded, IsNotMade}
+use Rattle.bureau_sql.specs.SqlState.{SqlState}
+use Rattle.bureau_sql.specs.SqlView.{IsAtRest, IsOurStore, shown, sql_view}
+use Rattle.sqlite_disk.specs.declared.Disk as disk
+use Rattle.sqlite_store.specs.declared.store.FileStore.{FileStore}
+use Rattle.sqlite_trees.specs.declared.store.Store.{Ghosts}
+use Rattle.sqlite_wal.specs.Recovery.{Image}
+use Rattle.sqlite.specs.Files.{file_state}
+use Rattle.sqlite.specs.Held.{Held, state}
+use Rattle.sqlite.specs.State.{HasCleanDisk, KeepsCommit, State, Survives}
+use Rattle.sql_writes.specs.Making.{IsEmpty, IsOpened}
+use Rattle.bureau_store.specs.Callers.{callers_of}
+use Rattle.bureau_store.specs.Tables as tables
+use Rattle.bureau_store.specs.declared.caller.CallerRow.{CallerRow}
+use Rattle.bureau_store.specs.declared.fault.StoreFault.{StoreFault}
+use Rattle.store_runs.specs.Desk.{InitSurvives, IsInitLeft, IsInitRefused, IsInitRun, IsNewStore, IsOpenRefused, of_store}
+use Rattle.store_runs.specs.Ended.{HasFound, IsEndOf, IsNothing, IsRefused}
+use Rattle.run_parts.specs.Outputs.{IsTold, fault_in, run_status, IsToldAlone, Outputs}
+use Rattle.store_runs.specs.NamedStore.{IsInit, IsNotBegun}
+use Rattle.run_parts.specs.ProgramFault.{of_program}
+use Rattle.run_parts.specs.Files.{KnownFile, IsContent}
+use Rattle.store_runs.specs.declared.ended.Ended.{Ended}
+use Rattle.run_parts.specs.declared.fault.ProgramFault.TheVariants.{NotWritten}
+use Rattle.store_runs.proofs.StayFacts.{kept_found}
+use Rattle.store_runs.proofs.KeptFacts.{kept_made}
+
+-- ---- what is left of a database
+
+pub nothing_committed : (at : State) → KeepsCommit at at
+nothing_committed at = record { was_open = λ h. h; committed = λ h. refl }
+
+-- the tables are made, whether or not the line could be written
+pub tables_left : {T : Type 0} (outcome : Result T AnyFault) (source : List ℕ) (rows slice : List CallerRow) (before after : State) → callers_of source ≡ Ok rows
+    → slice ≡ rows → (HasCleanDisk after → IsNewStore slice after) → IfErr outcome (λ fault. fault ≡ of_program NotWritten)
+    → IsInitLeft (fault_in outcome) source before after
+tables_left (Ok done) source rows slice before after read same made fault = λ clean. (rows, read, subst (λ (these : List CallerRow). IsNewStore these after) same (made clean))
+tables_left (Err why) source rows slice before after read same made fault = inl (fault, λ clean. (rows, read, subst (λ (these : List CallerRow). IsNewStore these after) same (made clean)))
+
+pub none_left : (fault : AnyFault) (source : List ℕ) (before after : State) → IsInitRefused source before fault → (HasCleanDisk after → KeepsCommit before after)
+    → IsInitLeft (Some fault) source before after
+none_left fault source before after why kept = inr (why, kept)
+
+pub none_made : (source : List ℕ) (before : State) (refused : StoreFault) (fault : AnyFault) → fault ≡ of_store refused → IsNotMade before refused
+    → IsInitRefused source before fault
+none_made source before refused fault is why = inr (refused, is, why)
+
+-- what a stop may leave where nothing was asked of the database
+pub stays_alive : (source : List ℕ) (at : State) → InitSurvives source at at
+stays_alive source at = record {
+  clean = omega arith;
+  shield = λ h. h;
+  counts = omega arith;
+  limit = refl;
+  closes = λ clean was. inl was;
+  crash = λ clean trees left. inl left;
+}
+
+-- and where the tables were made, or were to be
+pub founded : (source : List ℕ) (rows slice : List CallerRow) (before after : State) → callers_of source ≡ Ok rows → slice ≡ rows
+    → Survives before after (AreFounded before slice) → InitSurvives source before after
+founded source rows slice before after read same survives = record {
+  clean = survives.clean;
+  shield = survives.shield;
+  counts = survives.counts;
+  limit = survives.limit;
+  closes = survives.closes;
+  crash = λ clean trees left. elim (survives.crash clean trees left) [
+    | inl was ↦ inl was
+    | inr now ↦ inr (slice, read ∙ ap Ok (sym same), now)
+  ];
+}
+
+-- the store that was made, by its connection
+pub new_store : {S : Type 0} (g : Ghosts S) (store : SqlState S) (conn : Held S) (rows : List CallerRow) (before : State) → conn ≡ store.conn → store.failures ≡ 0
+    → (HasCleanDisk (shown g store) → IsTrue (shown g store).is_open × IsEmpty before.committed × IsOpened rows (shown g store).committed)
+    → (HasCleanDisk (shown g store) → IsOurStore g store) → (HasCleanDisk (shown g store) → (sql_view g).stands store (tables.opened rows)) → IsAtRest (shown g store)
+    → HasCleanDisk (state g conn) → IsNewStore rows (state g conn)
+new_store g store conn rows before same standing made ours tables rests clean =
+    let here = subst (λ (conn : Held _). HasCleanDisk (state g conn)) same clean in
+    subst (λ (conn : Held _). IsNewStore rows (state g conn)) (sym same) (record {
+      is_open = (made here).0;
+      opened = (made here).2;
+      ours = ((ours here).1 standing).1;
+      tables = tables here standing;
+      rests = rests;
+    })
+
+-- ---- what is told
+
+pub open_refused : (Has : StoreFault → Type 0) (fault : StoreFault) (any : AnyFault) (old new : Option (List ℕ)) (status : ℕ) → Has fault
+    → any ≡ of_store fault → IsTold (Some any) old new → status ≡ run_status (Some any) → IsOpenRefused Has old new status
+open_refused Has fault any old new status has is told status_is =
+    (fault, has, subst (λ (it : AnyFault). IsTold (Some it) old new) is told, status_is ∙ ap (λ it. run_status (Some it)) is)
+
+-- ---- over files
+
+module _ (files : List ℕ → KnownFile) (stores : List ℕ → Image → Type 0) (from : Image) {D : Type 0} {g : disk.Ghosts D} (ended : Ended D g) where
+  -- a connection was made, a store was made in its database or not, and it was ended
+  pub made_over_files : (name callers source : List ℕ) (outputs : Outputs) (status : ℕ) (found left : Held (FileStore D g)) → stores name from → IsContent (files callers) source
+      → HasFound from found → IsEndOf left ended → IsAtRest (file_state found) → InitSurvives source (file_state found) (file_state left)
+      → IsInitRun (λ outcome. IsInitLeft outcome source (file_state found) (file_state left)) source outputs.output outputs.written outputs.errors outputs.told status
+      → IsInit files stores from name callers outputs status ended
+  made_over_files name callers source outputs status found left named is finds ends rested stopped run = inl (record {
+    named = named;
+    source = source;
+    callers_are = is;
+    made = record {
+      outcome = run.outcome;
+      left = record { found = found; finds = finds; left = left; used = (rested, run.left, stopped); ends = ends };
+      output = run.output;
+      told = run.told;
+      status_is = run.status_is;
+    };
+    kept = kept_made from source run.outcome ended (record { found = found; finds = finds; left = left; used = (rested, run.left, stopped); ends = ends });
+  })
+
+  -- no connection could be made
+  pub not_connected : (name callers : List ℕ) (outputs : Outputs) (status : ℕ) (fault : StoreFault) (any : AnyFault) → stores name from → IsRefused true from fault ended → any ≡ of_store fault
+      → Keeps outputs.output outputs.written → IsTold (Some any) outputs.errors outputs.told → status ≡ run_status (Some any) → IsInit files stores from name callers outputs status ended
+  not_connected name callers outputs status fault any named refused is keeps told status_is = inr (inl (record {
+    named = named;
+    fault = fault;
+    refused = refused;
+    kept = kept_found from ended refused.left;
+    told = subst (λ (any : AnyFault). IsToldAlone any outputs status) is (keeps, told, status_is);
+  }))
+
+  -- what is wrong was found before
+  pub not_begun : (name callers : List ℕ) (outputs : Outputs) (status : ℕ) (fault : AnyFault) → IsNotBegun (files callers) fault → Keeps outputs.output outputs.written
+      → IsTold (Some fault) outputs.errors outputs.told → status ≡ run_status (Some fault) → IsNothing ended → IsInit files stores from name callers outputs status ended
+  not_begun name callers outputs status fault why keeps told status_is nothing = inr (inr (fault, why, (keeps, told, status_is), nothing))
+
+  -- the same of names that are the same
+  pub same_init : (name name_slice callers callers_slice : List ℕ) (outputs : Outputs) (status : ℕ) → name_slice ≡ name → callers_slice ≡ callers
+      → IsInit files stores from name_slice callers_slice outputs status ended → IsInit files stores from name callers outputs status ended
+  same_init name name_slice callers callers_slice outputs status same same_callers init =
+      subst (λ (it : List ℕ). IsInit files stores from it callers outputs status ended) same (subst (λ (it : List ℕ). IsInit files stores from name_slice it outputs status ended) same_callers init)

@@ -1,0 +1,229 @@
+-- What a stop leaves of the files of a store that `init` makes or `migrate` brings to version 2.
+use Rattle.std.proofs.Common.{◌≡◌, ◌⊎◌, ◌∙◌, List, ℕ, Option, None, Some, ap, inl, inr, refl, subst, sym}
+use Rattle.std.proofs.Math.Logic.{∥∥₁_map}
+use Rattle.faults.specs.declared.any.AnyFault.{AnyFault}
+use Rattle.bureau_store.specs.Tables.{Tables, opened}
+use Rattle.bureau_sql.specs.Files.{HoldTrees, HoldsEarlier, HoldsStore}
+use Rattle.bureau_sql.specs.SqlView.{IsAtRest}
+use Rattle.bureau_sql.proofs.FilesFacts.{earlier_found, store_found}
+use Rattle.bureau_sql.specs.Migrated.{AreMigrated}
+use Rattle.sql_state.specs.Earlier.{AreOfVersion1, IsOfVersion1, held_by_version_1}
+use Rattle.sql_state.specs.Ours.{AreOurs, IsOurs, version_rows}
+use Rattle.sql_state.proofs.StopFacts.{was_clean}
+use Rattle.sql_tables.specs.InTrees.{stored_in}
+use Rattle.sql_tables.specs.Stored.{Stored, tables_of}
+use Rattle.sql_tables.specs.Whole.{IsWhole}
+use Rattle.sql_writes.specs.Migrating.{HoldsAll}
+use Rattle.sqlite_catalog.specs.Listing.{IsSound}
+use Rattle.sqlite_disk.specs.declared.Disk as disk
+use Rattle.sqlite_store.specs.FileStore.{view}
+use Rattle.sqlite_store.specs.declared.store.FileStore.{FileStore}
+use Rattle.sqlite_trees.specs.Tree.{Trees}
+use Rattle.sqlite_trees.specs.View.{IsClean}
+use Rattle.sqlite_wal.specs.Recovery.{Image}
+use Rattle.sqlite.specs.Effect.{Database}
+use Rattle.sqlite.specs.Files.{AreFoundIn, HoldsDatabase, IsNothing, file_state}
+use Rattle.sqlite.specs.Held.{Held}
+use Rattle.sqlite.specs.State.{HasCleanDisk, Survives}
+use Rattle.store_runs.specs.Desk.{AreFoundedBy, InitSurvives, IsInitLeft, LeavesMade}
+use Rattle.store_runs.specs.Ended.{HasEnded, HasFound, IsLeftOver, IsUsed}
+use Rattle.store_runs.specs.Keeping.{AreMadeFor, HasNoTables, HoldCallers, Keeps, KeepsMade, KeepsMigrated, KeepsTables, Leaves}
+use Rattle.store_runs.specs.Migrating.{IsMigrateLeft, LeavesMigrated}
+use Rattle.store_runs.specs.declared.ended.Ended.{Ended}
+use Rattle.store_runs.specs.declared.ended.Ended.TheVariants.{Nothing, Left, Closed}
+use Rattle.store_runs.proofs.EndFacts.{left_of}
+use Rattle.store_runs.proofs.LeftFacts.{found_nothing}
+use Rattle.store_runs.proofs.StayFacts.{earlier_stays, kept_earlier, kept_tables, store_stays}
+
+-- ---- init
+
+module _ {D : Type 0} {g : disk.Ghosts D} (from : Image) (source : List ℕ) (found left : Held (FileStore D g)) (finds : HasFound from found) (rests : IsAtRest (file_state found))
+    (stopped : InitSurvives source (file_state found) (file_state left)) (last : FileStore D g) (ends : HasEnded left last) where
+  clean : IsClean (view last) → HasCleanDisk (file_state found)
+  clean still = was_clean (file_state found) (file_state left) (AreFoundedBy source (file_state found)) stopped (ends.clean still)
+
+  -- what was committed, and is left or was made something else where it had no tables
+  there_or_made : IsClean (view last) → (trees : Trees) → (file_state left).may_leave trees
+      → (trees ≡ (file_state found).committed.trees) ⊎ (HasNoTables (file_state found).committed.trees × AreMadeFor source trees)
+  there_or_made still trees may =
+      let opened = finds.opened (clean still) in
+      elim (stopped.crash (ends.clean still) trees may) [
+        | inl was ↦ inl (rests trees opened.0.is_open was)
+        | inr made ↦
+            let sound = (opened.1 opened.0.is_open).1 in
+            inr (subst (λ schema. IsSound schema (file_state found).committed.trees) made.2.1 sound, (made.0, made.1, made.2.2))
+      ]
+
+  held : IsClean (view last) → (image : Image) → Leaves from (Closed last) image → HoldTrees (file_state left).may_leave image
+  held still image may = left_of from left last ends still image may
+
+  found_or_made : Keeps from (Closed last) (HoldTrees (λ now. AreFoundIn from now ⊎ AreMadeFor source now))
+  found_or_made still image may = ∥∥₁_map (held still image may) (λ it.
+      let either : AreFoundIn from it.0 ⊎ AreMadeFor source it.0 = elim (there_or_made still it.0 it.2) [
+        | inl same ↦ inl (subst (AreFoundIn from) (sym same) (finds.found (clean still)).reads)
+        | inr made ↦ inr made.1
+      ] in
+      let r : (trees : Trees) × HoldsDatabase image trees × (AreFoundIn from trees ⊎ AreMadeFor source trees) = (it.0, it.1, either) in r)
+
+  stays : (trees : Trees) → HoldsDatabase from trees → Keeps from (Closed last) (HoldTrees (λ now. (now ≡ trees) ⊎ (HasNoTables trees × AreMadeFor source now)))
+  stays trees holds still image may =
+      let same : (file_state found).committed.trees ≡ trees = (finds.found (clean still)).holds trees holds in
+      ∥∥₁_map (held still image may) (λ it.
+      let either : (it.0 ≡ trees) ⊎ (HasNoTables trees × AreMadeFor source it.0) = elim (there_or_made still it.0 it.2) [
+        | inl is ↦ inl (is ∙ same)
+        | inr made ↦ inr (subst HasNoTables same made.0, made.1)
+      ] in
+      let r : (now : Trees) × HoldsDatabase image now × ((now ≡ trees) ⊎ (HasNoTables trees × AreMadeFor source now)) = (it.0, it.1, either) in r)
+
+  begins : IsNothing from → Keeps from (Closed last) (λ left. IsNothing left ⊎ HoldTrees (λ now. HasNoTables now ⊎ AreMadeFor source now) left)
+  begins nothing still image may = inr (∥∥₁_map (held still image may) (λ it.
+      let either : HasNoTables it.0 ⊎ AreMadeFor source it.0 = elim (there_or_made still it.0 it.2) [
+        | inl same ↦ inl (subst HasNoTables (sym same) (found_nothing from _ nothing (finds.found (clean still)).reads))
+        | inr made ↦ inr made.1
+      ] in
+      let r : (trees : Trees) × HoldsDatabase image trees × (HasNoTables trees ⊎ AreMadeFor source trees) = (it.0, it.1, either) in r))
+
+  callers : (outcome : Option AnyFault) → IsInitLeft outcome source (file_state found) (file_state left) → outcome ≡ None → Keeps from (Closed last) (HoldCallers source)
+  callers (Some fault) is other still image may = absurd cc
+  callers None is same still image may =
+      let made = is (ends.clean still) in (
+        made.0,
+        made.1,
+        ∥∥₁_map (held still image may) (λ it.
+            let same = made.2.rests it.0 made.2.is_open it.2 in
+            let store : HoldsStore image (opened made.0) = record {
+              trees = it.0;
+              held = it.1;
+              ours = subst AreOurs (sym same) made.2.ours.rows;
+              tables = ap (λ trees. tables_of (stored_in trees)) same ∙ made.2.tables;
+            } in
+            let r : (this : Tables) × HoldsStore image this × (this ≡ opened made.0) = (opened made.0, store, refl) in r),
+      )
+
+  pub made_closed : (outcome : Option AnyFault) → IsInitLeft outcome source (file_state found) (file_state left) → KeepsMade from source outcome (Closed last)
+  made_closed outcome is = record {
+    found = found_or_made;
+    stays = stays;
+    begins = begins;
+    store = store_stays from (Closed last) (AreMadeFor source) stays;
+    earlier = earlier_stays from (Closed last) (AreMadeFor source) stays;
+    made = callers outcome is;
+  }
+
+pub kept_made : {D : Type 0} {g : disk.Ghosts D} (from : Image) (source : List ℕ) (outcome : Option AnyFault) (ended : Ended D g) → LeavesMade from source outcome ended
+    → KeepsMade from source outcome ended
+kept_made from source outcome Nothing used = absurd used.ends
+kept_made from source outcome (Left it) used = absurd used.ends
+kept_made from source outcome (Closed last) used =
+    made_closed from source used.found used.left used.finds used.used.0 used.used.2 last used.ends outcome used.used.1
+
+-- ---- migrate
+
+after_is_ours : (before after : Database) → IsOfVersion1 before → HoldsAll (version_rows 2) (held_by_version_1 before) after → IsOurs after
+after_is_ours before after was is = record {
+  schema = is.known.schema;
+  rows = record {
+    sound = subst (λ schema. IsSound schema after.trees) is.known.schema is.known.sound;
+    numbered = is.known.numbered;
+    version = is.version;
+    whole = subst IsWhole (sym is.held) was.rows.whole;
+  };
+}
+
+-- the rows of trees of version 1
+earlier_in : Database → Trees → Stored
+earlier_in database trees = held_by_version_1 (record database { trees = trees })
+
+module _ {D : Type 0} {g : disk.Ghosts D} (from : Image) (before : Tables) (holds : HoldsEarlier from before) (found left : Held (FileStore D g)) (finds : HasFound from found)
+    (rests : IsAtRest (file_state found)) (stopped : Survives (file_state found) (file_state left) (AreMigrated (file_state found)))
+    (last : FileStore D g) (ends : HasEnded left last) (still : IsClean (view last)) where
+  clean_found : HasCleanDisk (file_state found)
+  clean_found = was_clean (file_state found) (file_state left) (AreMigrated (file_state found)) stopped (ends.clean still)
+
+  there : IsOfVersion1 (file_state found).committed × (tables_of (held_by_version_1 (file_state found).committed) ≡ before)
+  there =
+      let opened = finds.opened clean_found in
+      earlier_found from (file_state found).committed before (opened.1 opened.0.is_open).1 (finds.found clean_found).holds holds
+
+  either : (image : Image) (trees : Trees) → HoldsDatabase image trees → (file_state left).may_leave trees → HoldsEarlier image before ⊎ HoldsStore image before
+  unfolding earlier_in
+  either image trees held may = elim (stopped.crash (ends.clean still) trees may) [
+    | inl was ↦ (
+        let same = rests trees (finds.opened clean_found).0.is_open was in
+        let r : HoldsEarlier image before = record {
+          trees = trees;
+          held = held;
+          ours = subst AreOfVersion1 (sym same) there.0.rows;
+          tables = ap (λ trees. tables_of (earlier_in (file_state found).committed trees)) same ∙ there.1;
+        } in inl r)
+    | inr made ↦ (
+        let it = made.led there.0 in
+        let ours = after_is_ours (file_state found).committed it.0 there.0 it.1 in
+        let r : HoldsStore image before = record {
+          trees = trees;
+          held = held;
+          ours = subst AreOurs it.2 ours.rows;
+          tables = ap (λ trees. tables_of (stored_in trees)) (sym it.2) ∙ ap tables_of it.1.held ∙ there.1;
+        } in inr r)
+  ]
+
+  brought : (outcome : Option AnyFault) → IsMigrateLeft outcome (file_state found) (file_state left) → outcome ≡ None
+      → (image : Image) → Leaves from (Closed last) image → ∥ HoldsStore image before ∥₁
+  brought (Some fault) is other image may = absurd cc
+  brought None is same image may =
+      let to = (is (ends.clean still)).3 there.0 in
+      ∥∥₁_map (left_of from left last ends still image may) (λ it.
+      let same = to.rests it.0 to.is_open it.2 in
+      let r : HoldsStore image before = record {
+        trees = it.0;
+        held = it.1;
+        ours = subst AreOurs (sym same) to.ours.rows;
+        tables = ap (λ trees. tables_of (stored_in trees)) same ∙ to.tables ∙ there.1;
+      } in r)
+
+  pub either_left : (image : Image) → Leaves from (Closed last) image → ∥ HoldsEarlier image before ⊎ HoldsStore image before ∥₁
+  either_left image may = ∥∥₁_map (left_of from left last ends still image may) (λ it. either image it.0 it.1 it.2)
+
+-- no connection to the files could be made
+earlier_left : {D : Type 0} {g : disk.Ghosts D} (from : Image) (outcome : Option AnyFault) (ended : Ended D g) → (outcome ≡ None → ⊥) → IsLeftOver from ended → KeepsMigrated from outcome ended
+earlier_left from outcome ended other of = record {
+  earlier = λ before holds well left may. ∥∥₁_map (kept_earlier from ended of before holds well left may) inl;
+  brought = λ none. absurd (other none);
+  store = kept_tables from ended of;
+}
+
+-- a store of version 2 is not taken
+module _ {D : Type 0} {g : disk.Ghosts D} (from : Image) (found left : Held (FileStore D g)) (finds : HasFound from found) (rests : IsAtRest (file_state found))
+    (stopped : Survives (file_state found) (file_state left) (AreMigrated (file_state found))) (last : FileStore D g) (ends : HasEnded left last) where
+  store_kept : KeepsTables from (Closed last)
+  store_kept before holds still image may =
+      let clean = was_clean (file_state found) (file_state left) (AreMigrated (file_state found)) stopped (ends.clean still) in
+      let opened = finds.opened clean in
+      let there = store_found from (file_state found).committed before (opened.1 opened.0.is_open).1 (finds.found clean).holds holds in
+      ∥∥₁_map (left_of from left last ends still image may) (λ it.
+      let same : it.0 ≡ (file_state found).committed.trees = elim (stopped.crash (ends.clean still) it.0 it.2) [
+        | inl was ↦ rests it.0 opened.0.is_open was
+        | inr made ↦ absurd (made.other there.0)
+      ] in
+      let store : HoldsStore image before = record {
+        trees = it.0;
+        held = it.1;
+        ours = subst AreOurs (sym same) there.0.rows;
+        tables = ap (λ trees. tables_of (stored_in trees)) same ∙ there.1;
+      } in
+      let r : (this : Tables) × HoldsStore image this × (this ≡ before) = (before, store, refl) in r)
+
+closed_left : {D : Type 0} {g : disk.Ghosts D} (from : Image) (outcome : Option AnyFault) (last : FileStore D g)
+    → (used : IsUsed from (λ found left. IsAtRest (file_state found) × IsMigrateLeft outcome (file_state found) (file_state left) × Survives (file_state found) (file_state left) (AreMigrated (file_state found))) (Closed last))
+    → KeepsMigrated from outcome (Closed last)
+closed_left from outcome last used = record {
+  earlier = λ before holds still. either_left from before holds used.found used.left used.finds used.used.0 used.used.2 last used.ends still;
+  brought = λ none before holds still. brought from before holds used.found used.left used.finds used.used.0 used.used.2 last used.ends still outcome used.used.1 none;
+  store = store_kept from used.found used.left used.finds used.used.0 used.used.2 last used.ends;
+}
+
+pub kept_migrated : {D : Type 0} {g : disk.Ghosts D} (from : Image) (outcome : Option AnyFault) (ended : Ended D g) → LeavesMigrated from outcome ended → KeepsMigrated from outcome ended
+kept_migrated from outcome ended (inl refused) = earlier_left from outcome ended (λ none. absurd cc) refused.2.left
+kept_migrated from outcome Nothing (inr used) = absurd used.ends
+kept_migrated from outcome (Left it) (inr used) = absurd used.ends
+kept_migrated from outcome (Closed last) (inr used) = closed_left from outcome last used

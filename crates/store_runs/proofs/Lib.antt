@@ -1,0 +1,6 @@
+pub mod DeskFacts
+pub mod EndFacts
+pub mod KeptFacts
+pub mod LeftFacts
+pub mod MigratingFacts
+pub mod StayFacts

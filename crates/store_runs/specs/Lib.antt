@@ -1,0 +1,5 @@
+pub mod Desk
+pub mod Ended
+pub mod Keeping
+pub mod Migrating
+pub mod NamedStore

@@ -1,0 +1,54 @@
+-- What `init` and `migrate` do with a store, by the name of its file: what they read, what is left of its files, what both streams
+-- get, and the exit status.
+use Rattle.std.specs.Prelude.{◌≡◌, ◌⊎◌, ℕ, List, true}
+use Rattle.faults.specs.declared.any.AnyFault.{AnyFault}
+use Rattle.bureau_store.specs.declared.fault.StoreFault.{StoreFault}
+use Rattle.sqlite_disk.specs.declared.Disk as disk
+use Rattle.sqlite_wal.specs.Recovery.{Image}
+use Rattle.run_parts.specs.Files.{KnownFile, IsContent}
+use Rattle.run_parts.specs.Outputs.{Outputs, IsToldAlone}
+use Rattle.run_parts.specs.ProgramFault.{of_program}
+use Rattle.run_parts.specs.declared.fault.ProgramFault.TheVariants.{NotRead, Memory}
+use Rattle.store_runs.specs.Desk.{IsCallersFault, IsInitRun, LeavesMade, of_store}
+use Rattle.store_runs.specs.Ended.{IsNothing, IsRefused}
+use Rattle.store_runs.specs.Keeping.{KeepsFound, KeepsMade, KeepsMigrated}
+use Rattle.store_runs.specs.Migrating.{IsMigrateRun, LeavesMigrated}
+use Rattle.store_runs.specs.declared.ended.Ended.{Ended}
+
+-- the callers file has a fault
+abbrev pub HasCallerFault : KnownFile → AnyFault → Type 0
+HasCallerFault callers fault = (source : List ℕ) × IsContent callers source × IsCallersFault source fault
+
+-- the callers file can't be read or has a fault, or memory ran out
+abbrev pub IsNotBegun : KnownFile → AnyFault → Type 0
+IsNotBegun callers fault = (fault ≡ of_program NotRead) ⊎ (fault ≡ of_program Memory) ⊎ HasCallerFault callers fault
+
+-- Of the files by their names, of what the two files of a store of a name may hold, and of what they held as the run began.
+module _ (files : List ℕ → KnownFile) (stores : List ℕ → Image → Type 0) (from : Image) {D : Type 0} {g : disk.Ghosts D} where
+  -- the callers file is read, and a store with its callers is made in the database that a connection finds in the store's files
+  pub record IsMade (name callers : List ℕ) (outputs : Outputs) (status : ℕ) (ended : Ended D g) : Type 0 where
+    pub named : stores name from
+    pub source : List ℕ
+    pub callers_are : IsContent (files callers) source
+    pub made : IsInitRun (λ outcome. LeavesMade from source outcome ended) source outputs.output outputs.written outputs.errors outputs.told status
+    pub kept : KeepsMade from source made.outcome ended
+
+  -- no connection to the store's files can be made, which is told
+  pub record IsNotMade (name : List ℕ) (outputs : Outputs) (status : ℕ) (ended : Ended D g) : Type 0 where
+    pub named : stores name from
+    pub fault : StoreFault
+    pub refused : IsRefused true from fault ended
+    pub kept : KeepsFound from ended
+    pub told : IsToldAlone (of_store fault) outputs status
+
+  -- `init STORE CALLERS`. What is wrong with the callers file may be told before the store's files are opened.
+  abbrev pub IsInit : List ℕ → List ℕ → Outputs → ℕ → Ended D g → Type 0
+  IsInit name callers outputs status ended =
+      IsMade name callers outputs status ended ⊎ IsNotMade name outputs status ended
+      ⊎ ((fault : AnyFault) × IsNotBegun (files callers) fault × IsToldAlone fault outputs status × IsNothing ended)
+
+-- `migrate STORE`
+pub record IsMigrate (stores : List ℕ → Image → Type 0) (from : Image) {D : Type 0} {g : disk.Ghosts D} (name : List ℕ) (outputs : Outputs) (status : ℕ) (ended : Ended D g) : Type 0 where
+  pub named : stores name from
+  pub migrated : IsMigrateRun (λ outcome. LeavesMigrated from outcome ended) outputs.output outputs.written outputs.errors outputs.told status
+  pub kept : KeepsMigrated from migrated.outcome ended

@@ -1,0 +1,198 @@
+//! A store is made in a database, or opened there.
+ghost use Rattle.std.specs.Prelude.{◌≡◌, false, IfErr, IfOk, OnOk};
+ghost use Rattle.run_parts.specs.Files.{IsContent};
+ghost use Rattle.run_parts.specs.Outputs.{fault_in, outputs_of};
+ghost use Rattle.store_runs.specs.Desk.{AreRowsOf, HasOpened, InitSurvives, IsCallersFault, IsInitLeft, IsInitOutput, IsInitRun, IsNewStore, IsNotOpened, init_text, of_store};
+ghost use Rattle.store_runs.specs.NamedStore.{IsInit, IsNotBegun};
+ghost use Rattle.sqlite.specs.Held.{state};
+ghost use Rattle.sqlite.specs.State.{HasCleanDisk, KeepsCommit, Survives};
+ghost use Rattle.sqlite_wal.specs.Files.{image_at};
+ghost use Rattle.bureau_sql.specs.Founded.{AreFounded, IsNotMade};
+ghost use Rattle.bureau_sql.specs.SqlView.{IsAtRest};
+
+use crate::ended::{Ended, end};
+use crate::stores::Stores;
+use bureau_sql::SqlStore;
+use bureau_store::{CallerRow, StoreFault, callers};
+use faults::AnyFault;
+use run_parts::{Files, numbered_line, printed, read_file, told};
+use sqlite::{Alter, Connection, FileFrom, Start};
+use std::alloc::Global;
+use std::io::Write;
+use transfer::RETRIES;
+
+/// Makes the tables of a store that has the callers of a callers file and nothing else, and prints how many there are.
+/// Returns the exit status, and the connection, at rest.
+///
+/// The line is made before the tables, so that they stand where it can't be written (72). A fault is told on `errors`
+/// alone.
+pub fn run_init<S: Alter + Drop, W: Write, E: Write>(
+    alloc: Global,
+    conn: Connection<S>,
+    callers: &[u8],
+    writer: &mut W,
+    errors: &mut E,
+) -> (u8, Connection<S>)
+    requires rest { conn.in_transaction ≡ false }
+    ensures run { IsInitRun
+        (λ outcome. IsInitLeft outcome callers.now (state S.Store conn) (state S.Store result.1))
+        callers.now (W.contents writer.old) (W.contents writer.new)
+        (E.contents errors.old) (E.contents errors.new) result.0 }
+    ensures stopped { InitSurvives callers.now (state S.Store conn) (state S.Store result.1) }
+    ensures rested { IsAtRest (state S.Store conn) }
+    ensures rest { result.1.in_transaction ≡ false }
+{
+    let (made, conn) = make_and_print(alloc, conn, callers, writer);
+    (told(errors, made), conn)
+}
+
+// Makes the tables, and prints how many callers they have.
+#[tactic(auto, using(crate::proofs::DeskFacts::nothing_committed, crate::proofs::DeskFacts::tables_left, crate::proofs::DeskFacts::none_left, crate::proofs::DeskFacts::none_made, crate::proofs::DeskFacts::stays_alive, crate::proofs::DeskFacts::founded))]
+fn make_and_print<S: Alter + Drop, W: Write>(
+    alloc: Global,
+    conn: Connection<S>,
+    source: &[u8],
+    writer: &mut W,
+) -> (Result<(), AnyFault>, Connection<S>)
+    requires rest { conn.in_transaction ≡ false }
+    ensures output { IsInitOutput (fault_in result.0) source.now
+        (W.contents writer.old) (W.contents writer.new) }
+    ensures left { IsInitLeft (fault_in result.0) source.now (state S.Store conn) (state S.Store result.1) }
+    ensures stopped { InitSurvives source.now (state S.Store conn) (state S.Store result.1) }
+    ensures rest { result.1.in_transaction ≡ false }
+{
+    let (rows, line) = match callers_and_line(alloc, source) {
+        Ok(both) => both,
+        Err(fault) => return (Err(fault), conn),
+    };
+    match make(alloc, conn, rows.as_slice()) {
+        Ok(conn) => (printed(writer, line.as_slice()), conn),
+        Err((fault, conn)) => (Err(of_store(fault)), conn),
+    }
+}
+
+// Makes the tables, with these callers.
+fn make<S: Alter + Drop>(
+    alloc: Global,
+    conn: Connection<S>,
+    rows: &[CallerRow],
+) -> Result<Connection<S>, (StoreFault, Connection<S>)>
+    requires rest { conn.in_transaction ≡ false }
+    ensures made { IfOk result (λ made. HasCleanDisk (state S.Store made)
+        → IsNewStore rows.now (state S.Store made)) }
+    ensures made_rest { IfOk result (λ made. made.in_transaction ≡ false) }
+    ensures survives { IfOk result (λ made. Survives (state S.Store conn) (state S.Store made)
+        (AreFounded (state S.Store conn) rows.now)) }
+    ensures stopped { IfErr result (λ refused. Survives (state S.Store conn) (state S.Store refused.1)
+        (AreFounded (state S.Store conn) rows.now)) }
+    ensures cause { IfErr result (λ refused. IsNotMade (state S.Store conn) refused.0) }
+    ensures kept { IfErr result (λ refused. HasCleanDisk (state S.Store refused.1)
+        → KeepsCommit (state S.Store conn) (state S.Store refused.1)) }
+    ensures rest { IfErr result (λ refused. refused.1.in_transaction ≡ false) }
+{
+    match SqlStore::init(alloc, conn, rows) {
+        Ok(store) => Ok(store.into_connection()),
+        Err(refused) => Err(refused),
+    }
+}
+
+// The callers of a file, and the line that tells how many they are.
+fn callers_and_line(alloc: Global, source: &[u8]) -> Result<(Vec<CallerRow>, Vec<u8>), AnyFault>
+    ensures rows { IfOk result (λ both. AreRowsOf source.now both.0.items) }
+    ensures line { IfOk result (λ both. both.1.items ≡ init_text both.0.items) }
+    ensures fault { IfErr result (IsCallersFault source.now) }
+{
+    let rows = callers_in(alloc, source)?;
+    let line = numbered_line(alloc, b"CALLERS ", rows.len() as u64)?;
+    Ok((rows, line))
+}
+
+/// The callers of a callers file.
+///
+/// # Errors
+///
+/// The fault of the callers file, or memory ran out.
+pub fn callers_in(alloc: Global, source: &[u8]) -> Result<Vec<CallerRow>, AnyFault>
+    ensures rows { IfOk result (λ rows. AreRowsOf source.now rows.items) }
+    ensures fault { IfErr result (IsCallersFault source.now) }
+{
+    Ok(callers(alloc, source)?)
+}
+
+/// What is told of a fault of the store.
+pub fn of_store(fault: StoreFault) -> AnyFault
+    ensures { result ≡ of_store fault }
+{
+    AnyFault::from(fault)
+}
+
+/// Makes a store in the file `store`, with the callers that stand in the file `callers`. Returns the exit status, and what is
+/// left of the store's files.
+///
+/// A file that isn't there is made. Where it isn't, a fault of the callers file is told before.
+pub fn do_init<S: Stores, D: Start, O: Write, E: Write>(
+    surroundings: &S,
+    alloc: Global,
+    store: &str,
+    callers: &str,
+    start: D,
+    output: &mut O,
+    errors: &mut E,
+) -> (u8, Ended<FileFrom<D>>)
+    ensures { IsInit (S.known_file surroundings.now) (S.known_store surroundings.now)
+        (image_at D.Start) store.now callers.now
+        (outputs_of O.contents E.contents output.old output.new errors.old errors.new)
+        result.0 result.1 }
+{
+    let callers = match read_callers(surroundings, alloc, store, callers) {
+        Ok(callers) => callers,
+        Err(fault) => return (told(errors, Err(fault)), Ended::Nothing),
+    };
+    match surroundings.connect(store, true, start) {
+        Ok(conn) => {
+            let (status, conn) = run_init(alloc, conn, callers.as_slice(), output, errors);
+            (status, end(conn))
+        }
+        Err((fault, ended)) => (told(errors, Err(of_store(fault))), ended),
+    }
+}
+
+// What stands in the callers file. Where the file of the store isn't there, a fault of the callers file is found before
+// one is made.
+fn read_callers<S: Stores>(
+    surroundings: &S,
+    alloc: Global,
+    store: &str,
+    callers: &str,
+) -> Result<Vec<u8>, AnyFault>
+    ensures callers { IfOk result (λ source.
+        IsContent (S.known_file surroundings.now callers.now) source.items) }
+    ensures fault { IfErr result (IsNotBegun (S.known_file surroundings.now callers.now)) }
+{
+    let source = read_file(surroundings, alloc, callers, &mut { RETRIES })?;
+    if surroundings.open(store).is_err() {
+        let _rows = callers_in(alloc, source.as_slice())?;
+    }
+    Ok(source)
+}
+
+/// The store in the database of a connection; or the exit status, where a fault was told, and the connection, at rest.
+#[tactic(auto, using(crate::proofs::DeskFacts::open_refused))]
+pub fn run_open<S: Alter + Drop, E: Write>(
+    alloc: Global,
+    conn: Connection<S>,
+    errors: &mut E,
+) -> Result<SqlStore<S>, (u8, Connection<S>)>
+    requires rest { conn.in_transaction ≡ false }
+    ensures opened { IfOk result (HasOpened S.Store (state S.Store conn)) }
+    ensures silent { OnOk result (errors.new ≡ errors.old) }
+    ensures rested { IsAtRest (state S.Store conn) }
+    ensures refused { IfErr result (λ refused. IsNotOpened (state S.Store conn) (state S.Store refused.1)
+        (E.contents errors.old) (E.contents errors.new) refused.0) }
+    ensures rest { IfErr result (λ refused. refused.1.in_transaction ≡ false) }
+{
+    match SqlStore::open(alloc, conn) {
+        Ok(store) => Ok(store),
+        Err((fault, conn)) => Err((told(errors, Err(of_store(fault))), conn)),
+    }
+}
