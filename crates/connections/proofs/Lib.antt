@@ -1,0 +1,6 @@
+mod SlotFacts
+mod ReadingFacts
+mod OwnFacts
+mod SideFacts
+mod SettledFacts
+mod IntakeFacts

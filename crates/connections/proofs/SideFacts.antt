@@ -1,0 +1,212 @@
+-- One item after another, beside the desk.
+use Rattle.std.proofs.Common.{◌≡◌, ◌≢◌, ◌⊎◌, inl, inr, ℕ, ◌+◌, ◌<◌, ◌==◌, List, [], ◌∷◌, ◌++◌, length, map, take, drop, get_or, take-append-drop, Option, Some, None, slice_get, slice_set, refl, sym, ap, ◌∙◌, subst, arith, append-nil}
+use Rattle.std.proofs.lemmas.Bool.Decides.{eqb_tells}
+use Rattle.std.proofs.lemmas.Grind.{flat_map-append}
+use Rattle.std.proofs.lemmas.List.{drop_more, map-append, take_more}
+use Rattle.catalogue.specs.View.{Goes, Tells, View}
+use Rattle.catalogue.proofs.SourceFacts.{goes_on, told_both, told_so}
+use Rattle.bureau_store.specs.Tables.{AreInOrder, Tables}
+use Rattle.bureau_store.specs.declared.caller.CallerRow.{CallerRow}
+use Rattle.bureau.specs.Joint.{CallBy, IsRun}
+use Rattle.bureau.specs.Kept.{IsKeptRun}
+use Rattle.bureau.specs.Runs.{IsLawfulRun}
+use Rattle.bureau.proofs.KeptFacts.{idle, kept_on, kept_run, stands_after}
+use Rattle.bureau.proofs.RunFacts.{lawful_run}
+use Rattle.bureau_http.specs.Exchange.{Exchange, call_in, calls_of}
+use Rattle.bureau_http.specs.Served.{HasExchanged, IsOneRun}
+use Rattle.bureau_http.proofs.IsolatedFacts.{Alike, Alone, isolated}
+use Rattle.bureau_http.proofs.NextFacts.{acts_once, kept_once, kept_plain}
+use Rattle.bureau_http.proofs.ServingFacts.{ActOnce, one_run, same_run}
+use Rattle.connections.specs.Items.{Answers, Event, Happens, IsDone, IsReady, Item, Leaves, Loses, Moves, Slots, Step, Steps, came, bytes, wrote, ended, failed, late, event_in, events_of, exchange_in, exchanges_of, fresh, happens, went, stray, missed, answered, lost, starved, finished, slot_of}
+use Rattle.connections.specs.SideBySide.{AreServedSideBySide, AreSoFar}
+use Rattle.connections.specs.Turns.{AreSettled, AreSettledBut, IsSettled, IsToldOf, Misses, Occurs, Turns}
+use Rattle.connections.specs.declared.connection.Connection.{Connection}
+use Rattle.connections.specs.declared.connection.Turn.{Turn}
+use Rattle.connections.specs.declared.connection.Turn.TheVariants.{Waits, Answered, Lost, Starved, Finished}
+use Rattle.connections.specs.declared.event.Told.{Told}
+use Rattle.connections.specs.declared.event.Told.TheVariants.{Done, Missed, Stray}
+use Rattle.connections.proofs.OwnFacts.{each_served}
+use Rattle.connections.proofs.SlotFacts.{back_by, get_other, get_same, moves_by, one_there, none_there}
+use Rattle.connections.proofs.ReadingFacts.{Later}
+
+steps_on : (rows : List CallerRow) (xs ys : List Item) (t u v : Slots) → Steps rows t xs u → Steps rows u ys v → Steps rows t (xs ++ ys) v
+steps_on rows [] ys t u v h k = subst (λ (l : Slots). Steps rows l ys v) h k
+steps_on rows (x ∷ xs) ys t u v h k = (h.0, h.1, steps_on rows xs ys h.0 u v h.2 k)
+
+calls_on : (xs ys : List Item) → calls_of (exchanges_of (xs ++ ys)) ≡ calls_of (exchanges_of xs) ++ calls_of (exchanges_of ys)
+calls_on xs ys = ap calls_of (flat_map-append exchange_in xs ys) ∙ flat_map-append call_in (exchanges_of xs) (exchanges_of ys)
+
+-- ---- one item
+
+-- nothing was asked
+pub none_so_far : (Runs : Tables → List CallBy → Tables → Type 0) (this : Tables) (t u : Slots) → Runs this [] this → u ≡ t → AreSoFar Runs this [] t u
+none_so_far Runs this t u run same = record { items = []; told = refl; steps = same; now = this; run = run; callers = refl }
+
+-- an item that asks nothing
+pub quiet : (Runs : Tables → List CallBy → Tables → Type 0) (this : Tables) (item : Item) (t u : Slots) → exchange_in item ≡ [] → Runs this [] this
+    → Step this.callers t item u → AreSoFar Runs this (event_in item) t u
+quiet Runs this item t u none run step = record {
+  items = item ∷ [];
+  told = append-nil (event_in item);
+  steps = (u, step, refl);
+  now = this;
+  run = subst (λ es. Runs this (calls_of es) this) (sym (append-nil (exchange_in item) ∙ none)) run;
+  callers = refl;
+}
+
+-- an item that asks one thing
+asks : (Runs : Tables → List CallBy → Tables → Type 0) (this : Tables) (item : Item) (exchange : Exchange) (t u : Slots) → exchange_in item ≡ exchange ∷ []
+    → event_in item ≡ [] → HasExchanged Runs this exchange → Step this.callers t item u → AreSoFar Runs this [] t u
+asks Runs this item exchange t u one none has step = record {
+  items = item ∷ [];
+  told = append-nil (event_in item) ∙ none;
+  steps = (u, step, refl);
+  now = has.next;
+  run = subst (λ es. Runs this (calls_of es) has.next) (sym (append-nil (exchange_in item) ∙ one))
+      (subst (λ cs. Runs this cs has.next) (sym (append-nil (call_in exchange))) has.run);
+  callers = has.callers;
+}
+
+-- ---- an event
+
+event_quiet : (Runs : Tables → List CallBy → Tables → Type 0) (this : Tables) (event : Event) (t u : Slots) → Runs this [] this → Misses t event u
+    → AreSoFar Runs this (event ∷ []) t u
+event_quiet Runs this (came slot) t u run h = absurd h
+event_quiet Runs this (bytes slot text) t u run h = quiet Runs this (missed slot text) t u refl run h
+event_quiet Runs this (wrote slot count) t u run h = absurd h
+event_quiet Runs this (ended slot) t u run h = absurd h
+event_quiet Runs this (failed slot) t u run h = absurd h
+event_quiet Runs this (late slot) t u run h = absurd h
+
+event_done : (Runs : Tables → List CallBy → Tables → Type 0) (this : Tables) (event : Event) (t u : Slots) → Runs this [] this → Occurs t event u
+    → AreSoFar Runs this (event ∷ []) t u
+event_done Runs this (came slot) t u run h = quiet Runs this (happens (came slot)) t u refl run h
+event_done Runs this (bytes slot text) t u run h = quiet Runs this (happens (bytes slot text)) t u refl run h
+event_done Runs this (wrote slot count) t u run h =
+    subst (λ n. AreSoFar Runs this (wrote slot n ∷ []) t u) h.1 (quiet Runs this (went slot h.0) t u refl run h.2)
+event_done Runs this (ended slot) t u run h = quiet Runs this (happens (ended slot)) t u refl run h
+event_done Runs this (failed slot) t u run h = quiet Runs this (happens (failed slot)) t u refl run h
+event_done Runs this (late slot) t u run h = quiet Runs this (happens (late slot)) t u refl run h
+
+pub event_so_far : (Runs : Tables → List CallBy → Tables → Type 0) (this : Tables) (told : Told) (event : Event) (t u : Slots) → Runs this [] this
+    → IsToldOf told t event u → AreSoFar Runs this (event ∷ []) t u
+event_so_far Runs this Done event t u run h = event_done Runs this event t u run h
+event_so_far Runs this Missed event t u run h = event_quiet Runs this event t u run h
+event_so_far Runs this Stray event t u run h = quiet Runs this (stray event) t u refl run h
+
+-- ---- a turn of the connection in a slot
+
+module _ (Runs : Tables → List CallBy → Tables → Type 0) (this : Tables) (slot : ℕ) (a b : Connection) (t u : Slots)
+    (at : slice_get t slot ≡ Some (Some a)) (out : u ≡ slice_set t slot None) where
+  left_by : (Why : Connection → Type 0) → Why a → Leaves t slot u Why
+  left_by Why why = record { before = a; at = at; why = why; new_is = out }
+
+  -- it stays in its slot
+  pub waits_on : (v : Slots) → v ≡ slice_set u slot (Some b) → Turns Runs this Waits a b → AreSoFar Runs this [] t v
+  waits_on v into turn = none_so_far Runs this t v turn.0
+      (back_by t u v slot a at out (into ∙ ap (λ c. slice_set u slot (Some c)) turn.1))
+
+  pub answered_on : (v : Slots) → v ≡ slice_set u slot (Some b) → Turns Runs this Answered a b → AreSoFar Runs this [] t v
+  answered_on v into turn = asks Runs this (answered slot turn.0) turn.0 t v refl refl turn.1
+      (moves_by t u v slot a b (Answers this.callers turn.0) at out into turn.2)
+
+  -- it leaves
+  pub lost_on : Turns Runs this Lost a b → AreSoFar Runs this [] t u
+  lost_on turn = asks Runs this (lost slot turn.0) turn.0 t u refl refl turn.1 (left_by (Loses this.callers turn.0) turn.2)
+
+  pub starved_on : Turns Runs this Starved a b → AreSoFar Runs this [] t u
+  starved_on turn = quiet Runs this (starved slot) t u refl turn.0 (left_by IsReady turn.1)
+
+  pub finished_on : Turns Runs this Finished a b → AreSoFar Runs this [] t u
+  finished_on turn = quiet Runs this (finished slot) t u refl turn.0 (left_by IsDone turn.1)
+
+-- what is told of a turn, by what it was
+pub turn_as : {Desk : Type 0} (view : View Desk Tables) (old new : Desk) (a b : Connection) (turn is : Turn) → turn ≡ is
+    → Tells view old new (λ this. Turns (IsKeptRun view old new) this turn a b) → Tells view old new (λ this. Turns (IsKeptRun view old new) this is a b)
+turn_as view old new a b turn is e told = told_so told (λ this turns. subst (λ t. Turns (IsKeptRun view old new) this t a b) e turns)
+
+-- what is told of an event, by what became of it
+pub told_as : (told is : Told) (event : Event) (t u : Slots) → told ≡ is → IsToldOf told t event u → IsToldOf is t event u
+told_as told is event t u e h = subst (λ r. IsToldOf r t event u) e h
+
+-- a desk that was asked nothing
+pub stays : {Desk : Type 0} (view : View Desk Tables) (desk : Desk) → Goes view desk desk
+stays view desk = record { clean = λ h. h; ours = λ h _. h; failures_rise = omega arith }
+
+-- ---- one after another
+
+module _ {Desk : Type 0} (view : View Desk Tables) (old between new : Desk) (goes : Goes view old between) (next_goes : Goes view between new) where
+  pub so_far_on : (xs ys : List Event) (t u v : Slots) → Tells view old between (λ this. AreSoFar (IsKeptRun view old between) this xs t u)
+      → Tells view between new (λ this. AreSoFar (IsKeptRun view between new) this ys u v)
+      → Tells view old new (λ this. AreSoFar (IsKeptRun view old new) this (xs ++ ys) t v)
+  so_far_on xs ys t u v first next = record {
+    told = λ ours clean this stand.
+        let so = first.told ours (next_goes.clean clean) this stand in
+        let more = next.told (goes.ours ours (next_goes.clean clean)) clean so.now (stands_after view old between this (calls_of (exchanges_of so.items)) so.now so.run) in
+        record {
+          items = so.items ++ more.items;
+          told = flat_map-append event_in so.items more.items ∙ ap (λ l. l ++ events_of more.items) so.told ∙ ap (λ l. xs ++ l) more.told;
+          steps = steps_on this.callers so.items more.items t u v so.steps (subst (λ rows. Steps rows u more.items v) so.callers more.steps);
+          now = more.now;
+          run = subst (λ cs. IsKeptRun view old new this cs more.now) (sym (calls_on so.items more.items))
+              (kept_on view old between new this so.now more.now (calls_of (exchanges_of so.items)) (calls_of (exchanges_of more.items)) so.run more.run);
+          callers = more.callers ∙ so.callers;
+        };
+  }
+
+  -- what is told of the later desk alone, where it hangs on no tables
+  pub later_told : (P : Type 0) (xs : List Event) (t u : Slots) → Tells view old between (λ this. AreSoFar (IsKeptRun view old between) this xs t u)
+      → Tells view between new (λ this. P) → Tells view old new (λ this. P)
+  later_told P xs t u first next = record {
+    told = λ ours clean this stand.
+        let so = first.told ours (next_goes.clean clean) this stand in
+        next.told (goes.ours ours (next_goes.clean clean)) clean so.now (stands_after view old between this (calls_of (exchanges_of so.items)) so.now so.run);
+  }
+
+  pub settled_on : (xs : List Event) (t u v : Slots) → Tells view old between (λ this. AreSoFar (IsKeptRun view old between) this xs t u)
+      → Tells view old between (λ this. AreSettled t → AreSettled u) → Tells view between new (λ this. AreSettled u → AreSettled v)
+      → Tells view old new (λ this. AreSettled t → AreSettled v)
+  settled_on xs t u v first so next = record {
+    told = λ ours clean this stand settled.
+        (later_told (AreSettled u → AreSettled v) xs t u first next).told ours clean this stand
+        (so.told ours (next_goes.clean clean) this stand settled);
+  }
+
+-- ---- all of it
+
+module _ {Desk : Type 0} (view : View Desk Tables) (old new : Desk) where
+  pub all_served : Later → Alone → Alike → ActOnce IsRun → (this : Tables) (events : List Event) (t u : Slots)
+      → AreSoFar (IsKeptRun view old new) this events t u → (AreSettled t → AreSettled u)
+      → AreServedSideBySide (IsLawfulRun view old new) this events t u
+  all_served later alone alike once this events t u so settled = record {
+    items = so.items;
+    told = so.told;
+    steps = so.steps;
+    ran = same_run (IsKeptRun view old new) (IsLawfulRun view old new) this (calls_of (exchanges_of so.items))
+        (λ closing run. lawful_run view old new this (calls_of (exchanges_of so.items)) closing run)
+        (one_run (IsKeptRun view old new) (kept_once view old new once) this so.now (calls_of (exchanges_of so.items)) so.run so.callers);
+    isolated = λ in_order. isolated this so.now (exchanges_of so.items) alone alike in_order
+        (kept_plain view old new this so.now (calls_of (exchanges_of so.items)) so.run);
+    own = each_served later this.callers so.items t u so.steps;
+    settled = settled;
+  }
+
+  pub lawful_side : Later → Alone → Alike → ActOnce IsRun → (events : List Event) (t u : Slots) → Tells view old new (λ this. AreSoFar (IsKeptRun view old new) this events t u)
+      → Tells view old new (λ this. AreSettled t → AreSettled u) → Tells view old new (λ this. AreServedSideBySide (IsLawfulRun view old new) this events t u)
+  lawful_side later alone alike once events t u so settled =
+      told_so (told_both so settled) (λ this both. all_served later alone alike once this events t u both.0 both.1)
+
+-- ---- events in a list
+
+pub more_events : {V : Type 0} (f : V → Event) (events : List V) (i : ℕ) (item : V) → i < length events → item ≡ get_or events i item
+    → map f (take i events) ++ f item ∷ [] ≡ map f (take (i + 1) events)
+more_events f events i item low is =
+    ap (λ v. map f (take i events) ++ f v ∷ []) is ∙ sym (ap (map f) (take_more events i item low) ∙ map-append f (take i events) (get_or events i item ∷ []))
+
+-- the events before one, it, and those after it
+pub all_events : {V : Type 0} (f : V → Event) (events : List V) (i : ℕ) (item : V) → i < length events → item ≡ get_or events i item
+    → map f events ≡ map f (take i events) ++ f item ∷ map f (drop (i + 1) events)
+all_events f events i item low is =
+    ap (map f) (sym (take-append-drop i events)) ∙ map-append f (take i events) (drop i events)
+    ∙ ap (λ l. map f (take i events) ++ map f l) (drop_more events i item low)
+    ∙ ap (λ v. map f (take i events) ++ f v ∷ map f (drop (i + 1) events)) (sym is)

@@ -1,0 +1,6 @@
+pub mod Outgoing
+pub mod Items
+pub mod Own
+pub mod Turns
+pub mod SideBySide
+pub mod Service

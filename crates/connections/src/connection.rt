@@ -1,0 +1,195 @@
+//! One connection.
+ghost use Rattle.std.specs.Prelude.{◌≡◌, ◌+◌, ◌<◌, ◌≤◌, [], length, take, OnOk};
+ghost use Rattle.bureau.specs.Kept.{IsKeptRun};
+ghost use Rattle.catalogue.specs.View.{Goes, Tells};
+ghost use Rattle.connections.specs.Items.{Grows, IsEnded, IsReady, Sends, fresh};
+ghost use Rattle.connections.specs.Turns.{Turns, rest_of};
+
+use crate::outgoing::Outgoing;
+use bureau_http::{ConnFault, Desk, Retries, Step, serve_next};
+use faults::NoMemory;
+use requests::{Routes, read_whole};
+use std::alloc::Global;
+use std::io;
+use transfer::{Intake, RETRIES};
+
+/// How far a connection has come.
+#[derive(Clone, Copy, Debug, PartialEq, Eq)]
+pub enum Phase {
+    /// Its peer may send more.
+    Open,
+    /// Its peer ended its side. Requests that came whole are still answered.
+    Ended,
+    /// Its last reply has to go out. What comes further isn't looked at.
+    Last,
+}
+
+// What was done about the next request of a connection.
+#[derive(Clone, Copy, Debug, PartialEq, Eq)]
+pub(crate) enum Turn {
+    // Nothing: a reply has still to go out, or no request stands whole.
+    Waits,
+    // It was answered, and its reply has to go out.
+    Answered,
+    // It was answered, and there was no memory for the reply.
+    Lost,
+    // There was no memory to look at what came.
+    Starved,
+    // There is none: all replies went out, and the connection ends.
+    Finished,
+}
+
+/// One connection, as a value.
+#[derive(Drop)]
+pub struct Connection {
+    /// What came over it, and was not yet taken off as a request.
+    pub held: Intake,
+    /// What has to go out, and was not yet written.
+    pub out: Outgoing,
+    /// The ordinal of its next request, counted from 1.
+    pub ordinal: u64,
+    /// How far it has come.
+    pub phase: Phase,
+}
+
+impl Connection {
+    /// A connection that has just come. It takes no memory.
+    pub fn new(alloc: Global) -> Connection
+        ensures { result ≡ fresh }
+    {
+        Connection {
+            held: Intake::new(alloc),
+            out: Outgoing::new(alloc),
+            ordinal: 1,
+            phase: Phase::Open,
+        }
+    }
+
+    // These bytes came. It is of no use any more where there is no memory for them.
+    pub(crate) fn take_in(&mut self, text: &[u8]) -> Result<(), NoMemory>
+        requires { self.old.phase ≡ Phase.Open }
+        ensures { OnOk result (Grows text.now self.old self.new) }
+    {
+        let mut rest = text;
+        let whole = self.held.len().checked_add(text.len()).ok_or(NoMemory)?;
+        match read_whole(&mut self.held, &mut rest, whole, &mut { RETRIES }) {
+            Ok(true) => Ok(()),
+            Ok(false) | Err(_) => Err(NoMemory),
+        }
+    }
+
+    // So many of the bytes that have to go out were written.
+    pub(crate) fn wrote(&mut self, count: usize)
+        requires { count ≤ length self.old.out }
+        ensures { Sends (take count self.old.out) self.old self.new }
+    {
+        self.out.wrote(count);
+    }
+
+    // Its peer ended its side.
+    pub(crate) fn end(&mut self)
+        requires { self.old.phase ≡ Phase.Open }
+        ensures { IsEnded self.old self.new }
+    {
+        self.phase = Phase::Ended;
+    }
+
+    // Its next request is answered once its last reply went out.
+    pub(crate) fn take_turn<D: Desk>(
+        &mut self,
+        alloc: Global,
+        desk: &mut D,
+        routes: &Routes,
+    ) -> Turn
+        ensures goes { Goes D.tables_view desk.old desk.new }
+        ensures turn { Tells D.tables_view desk.old desk.new (λ this.
+            Turns (IsKeptRun D.tables_view desk.old desk.new) this result self.old self.new) }
+    {
+        if !self.out.is_empty() {
+            return Turn::Waits;
+        }
+        if self.phase == Phase::Last {
+            return Turn::Finished;
+        }
+        self.answer_next(alloc, desk, routes)
+    }
+
+    // Answers its next request, if that stands whole.
+    fn answer_next<D: Desk>(&mut self, alloc: Global, desk: &mut D, routes: &Routes) -> Turn
+        requires { IsReady self.old }
+        ensures goes { Goes D.tables_view desk.old desk.new }
+        ensures turn { Tells D.tables_view desk.old desk.new (λ this.
+            Turns (IsKeptRun D.tables_view desk.old desk.new) this result self.old self.new) }
+    {
+        let mut text = Vec::new(alloc);
+        let mut retries = Retries {
+            reads: RETRIES,
+            writes: RETRIES,
+        };
+        match serve_next(
+            desk,
+            routes,
+            self.ordinal,
+            &mut self.held,
+            &mut io::empty(),
+            &mut text,
+            &mut retries,
+        ) {
+            Ok(Step::CleanEnd) => self.rests(),
+            Ok(Step::Stays) => {
+                self.put(alloc, text);
+                Turn::Answered
+            }
+            Ok(Step::Ends) => {
+                self.put_last(alloc, text);
+                Turn::Answered
+            }
+            Err(ConnFault::EndInside) => self.rests(),
+            Err(ConnFault::Write) => Turn::Lost,
+            Err(ConnFault::Read) => Turn::Starved,
+            Err(ConnFault::Memory) => Turn::Starved,
+        }
+    }
+
+    // What becomes of a connection in which no request stands whole.
+    fn rests(&self) -> Turn
+        ensures { result ≡ rest_of self.now.phase }
+    {
+        if self.phase == Phase::Ended {
+            Turn::Finished
+        } else {
+            Turn::Waits
+        }
+    }
+
+    // A reply has to go out. A connection over which nothing else came keeps no room for what comes.
+    fn put(&mut self, alloc: Global, text: Vec<u8>)
+        requires { self.old.ordinal < 10000 }
+        ensures { self.new ≡ record {
+          held = self.old.held;
+          out = text.items;
+          ordinal = self.old.ordinal + 1;
+          phase = self.old.phase;
+        } }
+    {
+        if self.held.len() == 0 {
+            self.held = Intake::new(alloc);
+        }
+        self.out = Outgoing::of(text);
+        self.ordinal += 1;
+    }
+
+    // The last reply has to go out. What came further isn't kept.
+    fn put_last(&mut self, alloc: Global, text: Vec<u8>)
+        ensures { self.new ≡ record {
+          held = [];
+          out = text.items;
+          ordinal = self.old.ordinal;
+          phase = Phase.Last;
+        } }
+    {
+        self.held = Intake::new(alloc);
+        self.out = Outgoing::of(text);
+        self.phase = Phase::Last;
+    }
+}

@@ -1,0 +1,47 @@
+//! What is told of connections.
+ghost use Rattle.std.specs.Prelude.{◌≡◌};
+ghost use Rattle.connections.specs.Items.{event_of, slot_of};
+
+/// What is told of the connection in a slot.
+#[derive(Drop)]
+pub enum Event {
+    /// It came.
+    Came(usize),
+    /// These bytes came over it.
+    Bytes(usize, Vec<u8>),
+    /// So many of the bytes that have to go out were written.
+    Wrote(usize, usize),
+    /// Its peer ended its side: no more bytes come.
+    Ended(usize),
+    /// A read or a write of it failed.
+    Failed(usize),
+    /// Its time is up.
+    Late(usize),
+}
+
+// What became of an event.
+#[derive(Clone, Copy, Debug, PartialEq, Eq)]
+pub(crate) enum Told {
+    // It did what it says.
+    Done,
+    // There was no memory for it, and the connection ended.
+    Missed,
+    // It can't be in that slot, and changed nothing.
+    Stray,
+}
+
+impl Event {
+    // The slot of which it is told.
+    pub(crate) fn slot(&self) -> usize
+        ensures { result ≡ slot_of (event_of self.now) }
+    {
+        match self {
+            Event::Came(slot) => *slot,
+            Event::Bytes(slot, _) => *slot,
+            Event::Wrote(slot, _) => *slot,
+            Event::Ended(slot) => *slot,
+            Event::Failed(slot) => *slot,
+            Event::Late(slot) => *slot,
+        }
+    }
+}

@@ -1,0 +1,44 @@
+//! Many connections beside one desk, as values: what came over each, what has to go out, and what is answered when.
+//!
+//! Nothing here reads or writes. Whoever does tells what happened, one [`Event`] after the other, in whatever order, and
+//! writes what [`Connections::outgoing`] shows. So no connection waits for another.
+//!
+//! - [`Connections`]: the connections, each in its slot
+//! - [`Event`]: what is told of one of them
+//! - [`serve_events`]: goes through events in order; [`serve_event`]: one of them
+//! - [`serve_while_open`]: the same over a store, as long as its device has not failed
+//!
+//! ```
+//! use bureau::Bureau;
+//! use bureau_store::{ListStore, callers};
+//! use chains::Whole;
+//! use connections::{Connections, Event, serve_events};
+//! use requests::Routes;
+//! let rows = callers(alloc, b"NAME,TOKEN\nPUBLISH,publisher-token\nALPHA,alpha-token\n")?;
+//! let mut bureau = Bureau::new(alloc, ListStore::new(alloc, &rows)?, Whole::new());
+//! let routes = Routes::new(alloc)?;
+//! let mut connections = Connections::new(alloc, 2)?;
+//! let half = Vec::from_slice(alloc, b"GET /zones HTTP/1.1\r\nbureau-token: ")?;
+//! let rest = Vec::from_slice(alloc, b"alpha-token\r\n\r\n")?;
+//! let mut events = Vec::new(alloc);
+//! events.push(Event::Came(0))?;
+//! events.push(Event::Bytes(0, half))?; // it waits, and keeps nobody waiting
+//! events.push(Event::Bytes(0, rest))?;
+//! serve_events(alloc, &mut bureau, &routes, &mut connections, events.as_slice());
+//! assert!(rt; connections.outgoing(0).starts_with(b"HTTP/1.1 200 OK\r\n"));
+//! ```
+#![tactic(auto)]
+
+mod connection;
+mod event;
+mod outgoing;
+mod service;
+mod serving;
+mod slots;
+
+pub use connection::{Connection, Phase};
+pub use event::Event;
+pub use outgoing::Outgoing;
+pub use service::serve_while_open;
+pub use serving::{serve_event, serve_events};
+pub use slots::Connections;

@@ -1,0 +1,74 @@
+//! What has to go out over a connection.
+ghost use Rattle.std.specs.Prelude.{◌≡◌, ◌==◌, ◌≤◌, [], length, drop};
+
+use std::alloc::Global;
+use std::marker::Model;
+
+/// What has to go out over a connection, and was not yet written.
+///
+/// A contract sees it as the list of these bytes.
+#[derive(Drop)]
+pub struct Outgoing {
+    text: Vec<u8>,
+    written: usize,
+}
+
+impl Model for Outgoing {
+    ghost use Rattle.std.specs.Prelude.{List, ℕ};
+
+    ghost Value = { List ℕ };
+
+    ghost use Rattle.connections.specs.Outgoing.{bytes_out, LiesInText};
+
+    ghost view = { bytes_out };
+
+    ghost invariant = { LiesInText };
+}
+
+impl Outgoing {
+    /// Nothing. It takes no memory.
+    pub fn new(alloc: Global) -> Outgoing
+        ensures { result ≡ [] }
+    {
+        Outgoing {
+            text: Vec::new(alloc),
+            written: 0,
+        }
+    }
+
+    /// A text of which nothing was written.
+    pub fn of(text: Vec<u8>) -> Outgoing
+        ensures { result ≡ text.items }
+    {
+        Outgoing { text, written: 0 }
+    }
+
+    /// The bytes.
+    pub fn bytes(&self) -> &[u8]
+        ensures { result.now ≡ self.now }
+    {
+        &self.text[self.written..]
+    }
+
+    /// How many bytes there are.
+    pub fn len(&self) -> usize
+        ensures { result ≡ length self.now }
+    {
+        self.text.len() - self.written
+    }
+
+    /// Whether there are none.
+    pub fn is_empty(&self) -> bool
+        ensures { result ≡ (length self.now == 0) }
+    {
+        self.len() == 0
+    }
+
+    /// The first bytes were written.
+    pub fn wrote(&mut self, count: usize)
+        requires { count ≤ length self.old }
+        ensures { self.new ≡ drop count self.old }
+    {
+        self.written += count;
+    }
+}

@@ -1,0 +1,70 @@
+//! The same over a store, until its device fails.
+ghost use Rattle.std.specs.Prelude.{◌≡◌, ◌∷◌, [], IfErr, OnErr, OnOk, map, nat_lt};
+ghost use Rattle.bureau.specs.Answering.{bureau_view};
+ghost use Rattle.bureau.specs.Kept.{IsKeptRun};
+ghost use Rattle.catalogue.specs.View.{Goes, Tells};
+ghost use Rattle.connections.specs.Items.{event_of};
+ghost use Rattle.connections.specs.Service.{AreServed, IsEnded, IsSound};
+ghost use Rattle.connections.specs.SideBySide.{AreSoFar};
+ghost use Rattle.connections.specs.Turns.{AreSettled};
+
+use crate::event::Event;
+use crate::serving::serve_event;
+use crate::slots::Connections;
+use bureau::{Bureau, isolation, repeats};
+use bureau_store::{Store, StoreFault};
+use chains::Judge;
+use requests::{Routes, later_bytes};
+use std::alloc::Global;
+
+/// Goes through events in order, beside a bureau. After each it looks whether the device of its store has failed.
+///
+/// # Errors
+///
+/// `Device` once the device has failed. Then nothing more is looked at, whatever connection it is of.
+pub fn serve_while_open<S: Store, J: Judge<S>>(
+    alloc: Global,
+    bureau: &mut Bureau<S, J>,
+    routes: &Routes,
+    connections: &mut Connections,
+    events: &[Event],
+) -> Result<(), StoreFault>
+    ensures goes { Goes (bureau_view S.tables_view J.is_right) bureau.old bureau.new }
+    ensures served { OnOk result (AreServed (bureau_view S.tables_view J.is_right) bureau.old bureau.new
+        (map event_of events.now) connections.old.slots.items connections.new.slots.items) }
+    ensures sound { OnOk result (IsSound (bureau_view S.tables_view J.is_right) bureau.new
+        (map event_of events.now)) }
+    ensures ended { OnErr result (IsEnded (bureau_view S.tables_view J.is_right) bureau.old bureau.new
+        (map event_of events.now) connections.old.slots.items connections.new.slots.items) }
+    ensures fault { IfErr result (λ fault. fault ≡ StoreFault.Device) }
+{
+    isolation();
+    repeats();
+    later_bytes();
+    for event in events {
+        if serve_and_look(alloc, bureau, routes, connections, event) {
+            return Err(StoreFault::Device);
+        }
+    }
+    Ok(())
+}
+
+// Serves one event. Whether the device has failed by then.
+fn serve_and_look<S: Store, J: Judge<S>>(
+    alloc: Global,
+    bureau: &mut Bureau<S, J>,
+    routes: &Routes,
+    connections: &mut Connections,
+    event: &Event,
+) -> bool
+    ensures goes { Goes (bureau_view S.tables_view J.is_right) bureau.old bureau.new }
+    ensures so_far { Tells (bureau_view S.tables_view J.is_right) bureau.old bureau.new (λ this.
+        AreSoFar (IsKeptRun (bureau_view S.tables_view J.is_right) bureau.old bureau.new) this
+        (event_of event.now ∷ []) connections.old.slots.items connections.new.slots.items) }
+    ensures settled { Tells (bureau_view S.tables_view J.is_right) bureau.old bureau.new (λ this.
+        AreSettled connections.old.slots.items → AreSettled connections.new.slots.items) }
+    ensures failed { result ≡ nat_lt 0 ((bureau_view S.tables_view J.is_right).failures bureau.new) }
+{
+    serve_event(alloc, bureau, routes, connections, event);
+    bureau.store().device_failed()
+}
