@@ -2,6 +2,8 @@ pub mod PlainFacts
 pub mod RefusedFacts
 pub mod ToldFacts
 pub mod RecentFacts
+pub mod ChangedFacts
+pub mod SetCallersFacts
 pub mod CommitFacts
 pub mod MadeFacts
 pub mod MigratedFacts

@@ -1,7 +1,7 @@
 //! The bureau's store in a database.
 //!
 //! - [`SqlStore`]: the store, over a connection of the kit's `sqlite`: [`SqlStore::init`], [`SqlStore::open`],
-//!   [`SqlStore::migrate`], [`SqlStore::into_connection`]. It is a `Published` and a `Store`
+//!   [`SqlStore::migrate`], [`SqlStore::set_callers`], [`SqlStore::into_connection`]. It is a `Published` and a `Store`
 //!
 //! - [`end`]: a run over files ends; [`law`]: what the next one finds in them
 //!
@@ -36,6 +36,7 @@ mod open;
 mod probe;
 mod published;
 mod recent;
+mod set_callers;
 mod store;
 mod tables;
 
