@@ -3,6 +3,8 @@ pub mod CallersFacts
 pub mod RefusedFacts
 pub mod ToldFacts
 pub mod RecentFacts
+pub mod ChangedFacts
+pub mod SetCallersFacts
 pub mod CommitFacts
 pub mod MadeFacts
 pub mod MigratedFacts

@@ -1,7 +1,7 @@
 //! The bureau's store in a database.
 //!
 //! - [`SqlStore`]: the store, over a connection of the kit's `sqlite`: [`SqlStore::init`], [`SqlStore::open`],
-//!   [`SqlStore::migrate`], [`SqlStore::into_connection`]. It is a `Published` and a `Store`
+//!   [`SqlStore::migrate`], [`SqlStore::set_callers`], [`SqlStore::into_connection`]. It is a `Published` and a `Store`
 //!
 //! - [`law`]: what an opening finds in the files of a store, and that the callers of a callers file can be written
 //!
@@ -35,6 +35,7 @@ mod open;
 mod probe;
 mod published;
 mod recent;
+mod set_callers;
 mod store;
 mod tables;
 
