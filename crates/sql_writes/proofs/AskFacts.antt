@@ -32,6 +32,23 @@ use Rattle.sql_state.proofs.StopFacts.{kept_failing, kept_unchanged, kept_unrun,
 use Rattle.sql_writes.proofs.ChangeFacts.{alike_here, changes_then}
 use Rattle.sql_writes.proofs.LoadFacts.{told}
 use Rattle.sql_writes.proofs.RowidFacts.{any_counts, any_mapped, is_some_of}
+use Rattle.std.specs.List.{range_with_len}
+use Rattle.std.specs.Prelude.{IsSome}
+use Rattle.std.specs.Result.{IsErrAnd}
+use Rattle.std.proofs.lemmas.Bool.{false≢true}
+use Rattle.std.proofs.lemmas.List.{append-nil}
+use Rattle.sqlite.specs.Clock.{timed}
+use Rattle.sqlite.specs.Effect.{RefusesToRead}
+use Rattle.sqlite.specs.Listing.{IsSourceOf, reads_listing}
+use Rattle.sqlite.specs.Schema.{Schema}
+use Rattle.sqlite_sql.specs.Program.{ProgramOverflows}
+use Rattle.sqlite_typing.specs.Types.{accepts_program}
+use Rattle.sql_texts.specs.Meaning.{parameter, selection, statement}
+use Rattle.sql_writes.specs.Excused.{Excuses, Takes}
+use Rattle.sql_writes.specs.Room.{AreUpTo}
+use Rattle.sql_writes.proofs.NumberFacts.{raised_up_to}
+use Rattle.sql_writes.proofs.RefusalFacts.{unrun}
+use Rattle.sql_writes.proofs.TakeFacts.{stopped_first}
 use Rattle.sql_state.proofs.TextFacts.{both_given}
 
 same_value : {B E : Type 0} {a b : B} → ◌≡◌ {A = Result B E} (Ok a) (Ok b) → a ≡ b
@@ -135,3 +152,66 @@ head_added old mid new client zone a result one none two =
     alike_here old new result (parts.with_head client zone []) (λ stored. record stored { heads = with_head client zone stored.heads })
     (λ clean known. ap (λ heads. record (held_by old.now) { heads = heads }) (head_added_here client zone (held_by old.now).heads (none (was_clean mid new _ two.survives clean) known)))
     (changes_then old mid new a result (λ stored. stored) (parts.with_head client zone []) one two)
+
+-- ---- why it is refused
+
+never_some : (o : Option Returning) → o ≡ None → IsSome o → ⊥
+never_some None is some = absurd (false≢true some)
+never_some (Some r) is some = absurd (cc)
+
+-- a read of the tables as they are, which asks for nothing that it may not have
+unread : (old new : State) (text : List ℕ) (params : Row) (query : Query) (names : List (List ℕ)) (parameters : ℕ) (e : Error) → Reads bureau text query names parameters → old.now.schema ≡ bureau
+    → length params ≡ length (map parameter (range_with_len 1 parameters)) → accepts_program bureau [] query params ≡ true → (ProgramOverflows old.now.trees params [] [] query → ⊥)
+    → FailsToQuery text params old new e ⊎ IsTooLate text params old new e → Excuses old new e
+unfolding FailsToQuery
+unread old new text params query names parameters e reads ours given accepted none h = by h
+  where
+    one : Compiled
+    one = statement (selection query names) parameters text
+
+    here : understood old.now.schema text ≡ Ok one
+    here = ap (λ s. understood s text) ours ∙ reads.statement
+
+    asks : (db : Database) → db ≡ old.now → RefusesToRead old.step_limit (selection query names) db params e → Excuses old new e
+    asks db is (inl mismatch) = absurd (let yes = subst (λ (s : Schema). accepts_program s [] query params ≡ true) (sym (ap (λ (d : Database). d.schema) is ∙ ours)) accepted in false≢true (sym mismatch.1 ∙ yes))
+    asks db is (inr (inl overflows)) = absurd (none (subst (λ (d : Database). ProgramOverflows d.trees params [] [] query) is overflows.1))
+    asks db is (inr (inr limited)) = inr (inr limited.1)
+
+    by : FailsToQuery text params old new e ⊎ IsTooLate text params old new e → Excuses old new e
+    by (inl (inl not_run)) = unrun old new text params (selection query names) parameters e here given not_run
+    by (inl (inr it)) =
+        let same : it.0 ≡ one = same_value (sym it.1.is ∙ here) in
+        let why = subst (λ (c : Compiled). FailsToShow old new text c (timed params c.formats it.1.now) e c.returning) same it.2 in
+        let plain : FailsToShow old new text one params e None = subst (λ row. FailsToShow old new text one row e None) (append-nil params) why in
+        let listed = ap (λ s. reads_listing s text) ours ∙ reads.unlisted in
+        asks plain.0 (subst (λ b. IsSourceOf b old.now plain.0) listed plain.1) plain.2
+    by (inr late) =
+        let same : late.0 ≡ one = same_value (sym late.1.is ∙ here) in
+        absurd (never_some late.0.returning (ap (λ (c : Compiled). c.returning) same) late.2)
+
+-- whether a client has a zone
+module _ (old new : State) (text : List ℕ) (client zone : List ℕ) (a b : ValueRef) (names : List (List ℕ)) (at_client : owned a ≡ id_value client) (at_zone : owned b ≡ id_value zone)
+    (reads : Reads bureau text patterns names 2) where
+  given_zone : bound (a ∷ b ∷ []) ≡ id_value client ∷ id_value zone ∷ []
+  given_zone = λ i. bound_value (at_client i) ∷ bound_value (at_zone i) ∷ []
+
+  pub asked_stopped : {B : Type 0} (e : Error) (result : Result B Error) → IsErrAnd result (λ f. f ≡ e) → (HasCleanDisk new → FailsToQuery text (bound (a ∷ b ∷ [])) old new e ⊎ IsTooLate text (bound (a ∷ b ∷ [])) old new e)
+      → Takes old new result 0 (λ stored. Unit {0})
+  asked_stopped e result same fails =
+      stopped_first {A = Unit {0}} old new e result 0 0 (λ stored. Unit {0}) (λ stored. Unit {0}) same (λ stored u. tt) (record {
+        excused = λ most room clean inside from.
+            unread old new text (id_value client ∷ id_value zone ∷ []) patterns names 2 e reads from.0.0.schema refl refl (λ overflows. elim overflows [ inl none ↦ none | inr some ↦ some.4 ])
+            (subst (λ row. FailsToQuery text row old new e ⊎ IsTooLate text row old new e) given_zone (fails clean));
+        numbers = tt;
+      }) (omega arith)
+
+  pub asked_takes : {B : Type 0} (done : B) (items : List Row) → (HasCleanDisk new → Shown text (bound (a ∷ b ∷ [])) old new items) → Takes old new (Ok done) 0 (λ stored. Unit {0})
+  unfolding Shown
+  asked_takes done items ok = record {
+    excused = λ most room. tt;
+    numbers = λ clean inside most from.
+        let it = ok clean in
+        let plain : it.0.returning ≡ None = ap (λ (c : Compiled). c.returning) (same_value (sym it.1.is ∙ ap (λ s. understood s text) from.0.schema ∙ reads.statement)) in
+        let same = unchanged_shown old new text it.0 _ items it.0.returning plain it.2 in
+        raised_up_to most 0 new.now.trees (subst (λ (d : Database). AreUpTo most d.trees) (sym same.0.now_is) from.1);
+  }

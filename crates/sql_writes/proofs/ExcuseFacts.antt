@@ -72,7 +72,7 @@ module _ {A : Type 0} (text : List ℕ) (old new : State) (result : Result A Err
 
 -- ---- one statement after others
 
-still_excused : (old mid new : State) (e : Error) → IsTrue mid.is_open → old.faults ≤ mid.faults → mid.step_limit ≡ old.step_limit → Excuses mid new e → Excuses old new e
+pub still_excused : (old mid new : State) (e : Error) → IsTrue mid.is_open → old.faults ≤ mid.faults → mid.step_limit ≡ old.step_limit → Excuses mid new e → Excuses old new e
 still_excused old mid new e here counts limit (inl memory) = inl memory
 still_excused old mid new e here counts limit (inr (inl (inl more))) = inr (inl (inl (omega (arith, more, counts))))
 still_excused old mid new e here counts limit (inr (inl (inr shut))) = absurd (false≢true (sym shut ∙ here))

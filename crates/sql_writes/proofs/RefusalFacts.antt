@@ -57,19 +57,13 @@ whole_text text = take_all (length text - 0) text (omega arith)
 self_le : (n : ℕ) → n ≤ n
 self_le n = omega arith
 
-module _ (old new : State) (text : List ℕ) (params : Row) (command : Command) (parameters : ℕ) (e : Error)
-    (is : understood old.now.schema text ≡ Ok (statement command parameters text)) (given : length params ≡ length (map parameter (range_with_len 1 parameters)))
-    (w : writes command ≡ true) (stops : (stop : Option Error) → Does old.step_limit (mode_of old) params old.now text None command (Err stop) → IsSome old.step_limit) where
-  abbrev one : Compiled
-  one = statement command parameters text
-
-  other : (k : Command) → writes k ≡ false → command ≡ k → ⊥
-  other k none same = false≢true (sym none ∙ ap writes (sym same) ∙ w)
-
-  no_statement : IsNoStatement old text params e → ⊥
+-- a text that is one statement, with its parameters
+module _ (old : State) (text : List ℕ) (params : Row) (command : Command) (parameters : ℕ) (e : Error)
+    (is : understood old.now.schema text ≡ Ok (statement command parameters text)) (given : length params ≡ length (map parameter (range_with_len 1 parameters))) where
+  pub no_statement : IsNoStatement old text params e → ⊥
   no_statement (inl fault) = let none = sym fault.1 ∙ is in cc
   no_statement (inr why) =
-      let same : why.0 ≡ one = same_value (sym why.1 ∙ is) in
+      let same : why.0 ≡ statement command parameters text = same_value (sym why.1 ∙ is) in
       elim why.2 [
         | inl more ↦ more.0 (subst (λ (c : Compiled). length text ≤ c.tail) (sym same) (self_le (length text)))
         | inr rest ↦ elim rest [
@@ -78,16 +72,33 @@ module _ (old new : State) (text : List ℕ) (params : Row) (command : Command) 
         ]
       ]
 
-  failing : (too_big : Type 0) → (too_big → IsSome old.step_limit) → Fails old new too_big e → Excuses old new e
-  failing too_big big failed = by failed.0 failed.1 failed.2
-    where
-      by : (cause : StoreError) → e ≡ store_error cause → HasCause old new too_big cause → Excuses old new e
-      by OutOfMemory known why = inl known
-      by Io known why = inr (inl (inl why))
-      by Corrupt known why = inr (inl (inl why))
-      by Full known why = inr (inl (inl why))
-      by Broken known why = inr (inl (inr why))
-      by Unstorable known why = inr (inr (big why))
+-- the store failed
+pub failing : (old new : State) (e : Error) (too_big : Type 0) → (too_big → IsSome old.step_limit) → Fails old new too_big e → Excuses old new e
+failing old new e too_big big failed = by failed.0 failed.1 failed.2
+  where
+    by : (cause : StoreError) → e ≡ store_error cause → HasCause old new too_big cause → Excuses old new e
+    by OutOfMemory known why = inl known
+    by Io known why = inr (inl (inl why))
+    by Corrupt known why = inr (inl (inl why))
+    by Full known why = inr (inl (inl why))
+    by Broken known why = inr (inl (inr why))
+    by Unstorable known why = inr (inr (big why))
+
+-- a statement that isn't run at all
+pub unrun : (old new : State) (text : List ℕ) (params : Row) (command : Command) (parameters : ℕ) (e : Error) → understood old.now.schema text ≡ Ok (statement command parameters text)
+    → length params ≡ length (map parameter (range_with_len 1 parameters)) → IsNotRun old new text params e → Excuses old new e
+unfolding IsNotRun
+unrun old new text params command parameters e is given (inl unread) = absurd (no_statement old text params command parameters e is given unread.0)
+unrun old new text params command parameters e is given (inr failed) = failing old new e ⊥ (λ none. absurd none) failed
+
+module _ (old new : State) (text : List ℕ) (params : Row) (command : Command) (parameters : ℕ) (e : Error)
+    (is : understood old.now.schema text ≡ Ok (statement command parameters text)) (given : length params ≡ length (map parameter (range_with_len 1 parameters)))
+    (w : writes command ≡ true) (stops : (stop : Option Error) → Does old.step_limit (mode_of old) params old.now text None command (Err stop) → IsSome old.step_limit) where
+  abbrev one : Compiled
+  one = statement command parameters text
+
+  other : (k : Command) → writes k ≡ false → command ≡ k → ⊥
+  other k none same = false≢true (sym none ∙ ap writes (sym same) ∙ w)
 
   placed : IsMisplaced old command e → ⊥
   placed (inl it) = elim it.1 [
@@ -106,13 +117,13 @@ module _ (old new : State) (text : List ℕ) (params : Row) (command : Command) 
           | inl misplaced ↦ absurd (placed misplaced)
           | inr changed ↦ inr (inr (stops (Some e) (subst (λ t. Does old.step_limit (mode_of old) params old.now t None command (Err (Some e))) (whole_text text) changed.1)))
         ]
-        | inr failed ↦ failing _ (λ big. stops None (subst (λ t. Does old.step_limit (mode_of old) params old.now t None command (Err None)) (whole_text text) big)) failed
+        | inr failed ↦ failing old new e _ (λ big. stops None (subst (λ t. Does old.step_limit (mode_of old) params old.now t None command (Err None)) (whole_text text) big)) failed
       ]
 
   alone : ExecutesIn false text params old new (Err e) → Excuses old new e
   unfolding ExecutesIn IsNotRun
-  alone (inl (inl unread)) = absurd (no_statement unread.0)
-  alone (inl (inr failed)) = failing ⊥ (λ none. absurd none) failed
+  alone (inl (inl unread)) = absurd (no_statement old text params command parameters e is given unread.0)
+  alone (inl (inr failed)) = failing old new e ⊥ (λ none. absurd none) failed
   alone (inr it) = ran it.0 it.1 it.2
 
   escapes : EndsScope 0 text params old → ⊥

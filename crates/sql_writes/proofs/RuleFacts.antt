@@ -71,7 +71,7 @@ all_hold (x ∷ xs) = (refl, all_hold xs)
 refers : (db : Trees) → Refers All bureau db
 refers db = (all_hold (db 0), (all_hold (db 1), (all_hold (db 4), (all_hold (db 6), (all_hold (db 8), (all_hold (db 11), (all_hold (db 13), (all_hold (db 15), (all_hold (db 17), (all_hold (db 19), tt))))))))))
 
-concluded : {P : Type 0} (task : Task) (old : State) (written : Written) (stop : Option Error) → task.schema ≡ bureau → Concludes task (mode_of old) None written (Err stop) → P
+pub concluded : {P : Type 0} (task : Task) (old : State) (written : Written) (stop : Option Error) → task.schema ≡ bureau → Concludes task (mode_of old) None written (Err stop) → P
 concluded task old written stop ours h =
     absurd (halts h (λ s tested. tested.0 (subst (λ schema. Refers All schema written.trees) (sym ours) (refers written.trees))) (λ on. halts on.2 (λ s shows. gave shows) (λ rows. gave rows.2)))
 
@@ -81,7 +81,7 @@ pub record IsSound (db : Trees) (edit : Edit) : Type 0 where
   pub ruled : (r : Refusal) → IsRefused bureau Enforced db edit r → ⊥
   pub small : (row : Row) → Has edit.news row → IsOversized bureau edit.table row → ⊥
 
-unedited : {P : Type 0} (db : Trees) (edit : Edit) (stop : Option Error) → IsSound db edit → Edited bureau Enforced db edit (Err stop) → P
+pub unedited : {P : Type 0} (db : Trees) (edit : Edit) (stop : Option Error) → IsSound db edit → Edited bureau Enforced db edit (Err stop) → P
 unedited db edit stop sound h = absurd (edit_stops bureau Enforced db edit h.0 sound.free sound.ruled sound.small h.1)
 
 -- ---- INSERT

@@ -10,7 +10,7 @@ use Rattle.sql_texts.specs.Schema.{bureau}
 use Rattle.sql_texts.specs.Writes.{insert_given}
 use Rattle.sql_tables.specs.Stored.{Stored}
 use Rattle.sql_state.specs.Writing.{Changes}
-use Rattle.sql_writes.specs.Excused.{IsExcused}
+use Rattle.sql_writes.specs.Excused.{IsExcused, Takes}
 use Rattle.sql_writes.specs.Making.{Leads}
 
 -- the rows change so
@@ -24,6 +24,10 @@ Turns ghosts old new result From To = Leads (state ghosts old) (state ghosts new
 -- a text inserts one row of so many given columns into the table at this index, where the disk is clean
 abbrev pub Inserts : {S : Type 0} → Ghosts S → Held S → List ℕ → ℕ → ℕ → Type 0
 Inserts ghosts held text table_index columns = HasCleanDisk (state ghosts held) → Means bureau text (insert_given table_index columns) columns
+
+-- so many rows come, into tables of which such a thing is true, and a refusal has an excuse where there is room for them
+abbrev pub TakesRoom : {S Answer : Type 0} → Ghosts S → Held S → Held S → Result Answer Error → ℕ → (Stored → Type 0) → Type 0
+TakesRoom ghosts old new result rows Fits = Takes (state ghosts old) (state ghosts new) result rows Fits
 
 -- a refusal in such a database has an excuse
 abbrev pub RefusesExcused : {S Answer : Type 0} → Ghosts S → Held S → Held S → Result Answer Error → (Database → Type 0) → Type 0

@@ -1,11 +1,14 @@
 -- What excuses that a statement of a transaction is refused, where its text is right and its values keep to the rules of the
 -- tables.
-use Rattle.std.specs.Prelude.{◌≡◌, ◌⊎◌, IfErr, IsSome, IsTrue, Result}
+use Rattle.std.specs.Prelude.{◌≡◌, ◌⊎◌, ◌<◌, ◌+◌, ◌^◌, ℕ, IfErr, IsSome, IsTrue, OnOk, Result}
 use Rattle.sqlite.specs.Effect.{Database}
 use Rattle.sqlite.specs.State.{HasCleanDisk, State, store_error}
 use Rattle.sqlite.specs.declared.error.Error.{Error}
 use Rattle.sqlite_trees.specs.declared.error.StoreError.TheVariants.{OutOfMemory}
+use Rattle.sql_tables.specs.Stored.{Stored}
+use Rattle.sql_state.specs.Ours.{held_by}
 use Rattle.sql_state.specs.Reading.{HasFailed}
+use Rattle.sql_writes.specs.Room.{AreUpTo, IsRoomy}
 
 -- Memory ran out. Or the device has failed since, or the connection was shut. Or a statement may take only so many steps.
 abbrev pub Excuses : State → State → Error → Type 0
@@ -15,3 +18,11 @@ Excuses old new error = (error ≡ store_error OutOfMemory) ⊎ (HasFailed old n
 abbrev pub IsExcused : {Answer : Type 0} → State → State → Result Answer Error → (Database → Type 0) → Type 0
 IsExcused old new result From =
     IfErr result (λ error. HasCleanDisk new → IsTrue old.in_transaction → From old.now → Excuses old new error)
+
+-- ---- No part of what is promised: private contracts cite it.
+
+-- Statements that add so many rows, in tables of which such a thing is true: a refusal has an excuse where the tables have as
+-- many numbers left. Done, no row has a higher number than they took.
+pub record Takes {Answer : Type 0} (old new : State) (result : Result Answer Error) (rows : ℕ) (Fits : Stored → Type 0) : Type 0 where
+  pub excused : (most : ℕ) → most + rows < 2 ^ 63 → IsExcused old new result (λ database. IsRoomy most database × Fits (held_by database))
+  pub numbers : OnOk result (HasCleanDisk new → IsTrue old.in_transaction → (most : ℕ) → IsRoomy most old.now → AreUpTo (most + rows) new.now.trees)

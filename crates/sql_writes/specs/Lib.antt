@@ -4,4 +4,5 @@ pub mod Excused
 pub mod Making
 pub mod Migrating
 pub mod Parts
+pub mod Room
 pub mod Running

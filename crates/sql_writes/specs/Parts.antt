@@ -1,5 +1,5 @@
 -- What one statement makes of the rows: those of a table that have a key go, or one more comes after those of a table.
-use Rattle.std.specs.Prelude.{ℕ, ◌++◌, List, [], ◌∷◌, map}
+use Rattle.std.specs.Prelude.{ℕ, ◌++◌, ◌&&◌, Bool, List, [], ◌∷◌, map}
 use Rattle.holddata.specs.declared.hold.Hold.{Hold}
 use Rattle.holddata.specs.declared.key.HoldKey.{HoldKey}
 use Rattle.catalogue.specs.declared.conditional.CondNeed.{CondNeed}
@@ -13,7 +13,12 @@ use Rattle.sql_texts.specs.declared.write.TableByZone.{TableByZone}
 use Rattle.sql_texts.specs.declared.write.TableByZone.TheVariants as by_zone
 use Rattle.sql_tables.specs.Changes.{is_under, replaced}
 use Rattle.sql_tables.specs.Rows.{caller_row, change_row, cond_row, head_row, hold_row, received_row, sup_row, sysmod_row, zone_row}
-use Rattle.sql_tables.specs.Stored.{Stored, is_of, is_of_both}
+use Rattle.sqlite_value.specs.Order.{Row, column}
+use Rattle.sql_tables.specs.Stored.{Stored, is_named, is_of, is_of_both}
+
+-- whether the first three columns are these names
+abbrev pub is_of_three : List ℕ → List ℕ → List ℕ → Row → Bool
+is_of_three first second third row = is_of first row && (is_named second (column row 1) && is_named third (column row 2))
 
 -- ---- what goes
 

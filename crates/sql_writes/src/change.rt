@@ -1,11 +1,13 @@
 //! A change, with its number and the reply that is kept for it.
-ghost use Rattle.std.specs.Prelude.{◌≡◌, ◌≤◌, Some};
+ghost use Rattle.std.specs.Prelude.{◌≡◌, ◌≤◌, ℕ, Some, true};
 ghost use Rattle.bureau_store.specs.Caller.{IsProper, publisher_name};
 ghost use Rattle.bureau_store.specs.Store.{greatest_number};
 ghost use Rattle.sql_tables.specs.Changes.{changed};
 ghost use Rattle.sql_tables.specs.Stored.{name_of};
-ghost use Rattle.sql_writes.specs.Altering.{Alters};
+ghost use Rattle.sql_tables.specs.Fit.{IsFit};
+ghost use Rattle.sql_writes.specs.Altering.{Alters, RefusesExcused, TakesRoom};
 ghost use Rattle.sql_writes.specs.Effects.{effect_as, maker_of, stored_by};
+ghost use Rattle.sql_writes.specs.Room.{HasRoom, IsRoomy, is_short_effect, rows_made};
 
 use crate::publication::put_changes;
 use crate::zone::keep_head;
@@ -25,6 +27,9 @@ fn change<S: Alter>(
     ensures same { tx.new.conn.ghost_name ≡ tx.old.conn.ghost_name }
     ensures changes { Alters S.Store tx.old.conn.now tx.new.conn.now result
         (changed (maker_of effect.now) (effect_as effect.now)) }
+    ensures takes { IsFit (effect_as effect.now) → is_short_effect (effect_as effect.now) ≡ true
+        → TakesRoom S.Store tx.old.conn.now tx.new.conn.now result
+        (rows_made (effect_as effect.now)) (λ stored. Unit {0}) }
 {
     match *effect {
         Effect::Publication { changes } => put_changes(alloc, tx, changes),
@@ -87,6 +92,9 @@ pub fn write<S: Alter>(
     ensures same { tx.new.conn.ghost_name ≡ tx.old.conn.ghost_name }
     ensures changes { Alters S.Store tx.old.conn.now tx.new.conn.now result
         (stored_by effect.now number reply.now) }
+    ensures excused { (most : ℕ) → IsFit (effect_as effect.now)
+        → HasRoom (effect_as effect.now) (record { number = number; reply = reply.now }) most
+        → RefusesExcused S.Store tx.old.conn.now tx.new.conn.now result (IsRoomy most) }
 {
     change(alloc, tx, effect)?;
     let name = name(effect);

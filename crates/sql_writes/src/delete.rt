@@ -1,6 +1,6 @@
 //! Rows that go, by one statement. Rows that aren't there are no fault.
 ghost use Rattle.std.specs.Prelude.{◌≡◌};
-ghost use Rattle.sql_writes.specs.Altering.{Alters};
+ghost use Rattle.sql_writes.specs.Altering.{Alters, TakesRoom};
 ghost use Rattle.sql_writes.specs.Parts.{without_callers, without_client, without_hold, without_id, without_zone};
 
 use crate::run::run;
@@ -20,6 +20,7 @@ pub(crate) fn by_id<S: Alter>(
 ) -> Result<(), Error>
     ensures same { tx.new.conn.ghost_name ≡ tx.old.conn.ghost_name }
     ensures changes { Alters S.Store tx.old.conn.now tx.new.conn.now result (without_id table id.now) }
+    ensures takes { TakesRoom S.Store tx.old.conn.now tx.new.conn.now result 0 (λ stored. Unit {0}) }
 {
     run(tx, table.deletion(), &[id_of(id)])
 }
@@ -34,6 +35,7 @@ pub(crate) fn by_zone<S: Alter>(
     ensures same { tx.new.conn.ghost_name ≡ tx.old.conn.ghost_name }
     ensures changes { Alters S.Store tx.old.conn.now tx.new.conn.now result
         (without_zone table client.now zone.now) }
+    ensures takes { TakesRoom S.Store tx.old.conn.now tx.new.conn.now result 0 (λ stored. Unit {0}) }
 {
     run(tx, table.deletion(), &[id_of(client), id_of(zone)])
 }
@@ -63,6 +65,7 @@ pub(crate) fn callers<S: Alter>(tx: &mut Transaction<'_, S>) -> Result<(), Error
 pub(crate) fn hold<S: Alter>(tx: &mut Transaction<'_, S>, key: &HoldKey) -> Result<(), Error>
     ensures same { tx.new.conn.ghost_name ≡ tx.old.conn.ghost_name }
     ensures changes { Alters S.Store tx.old.conn.now tx.new.conn.now result (without_hold key.now) }
+    ensures takes { TakesRoom S.Store tx.old.conn.now tx.new.conn.now result 0 (λ stored. Unit {0}) }
 {
     let params = [
         id_of(&key.sysmod),

@@ -1,10 +1,16 @@
 //! Rows that come, one by each statement, after those of their table.
-ghost use Rattle.std.specs.Prelude.{◌≡◌, ◌≤◌, ◌++◌, List, ◌∷◌, []};
+ghost use Rattle.std.specs.Prelude.{◌≡◌, ◌<◌, ◌≤◌, ◌++◌, List, ◌∷◌, [], false, true};
+ghost use Rattle.std.specs.List.{list_any};
+ghost use Rattle.catalogue.specs.declared.change.Change.TheVariants.{Whole};
 ghost use Rattle.bureau_store.specs.Store.{greatest_number};
-ghost use Rattle.sql_writes.specs.Altering.{Alters, Inserts, RefusesExcused, Turns};
+ghost use Rattle.sql_tables.specs.Changes.{is_under};
+ghost use Rattle.sql_tables.specs.Fit.{IsHold};
+ghost use Rattle.sql_tables.specs.Stored.{is_of, is_of_both};
+ghost use Rattle.sql_writes.specs.Altering.{Alters, Inserts, RefusesExcused, TakesRoom, Turns};
 ghost use Rattle.sql_writes.specs.Making.{AreFit, IsOpened};
 ghost use Rattle.bureau_store.specs.declared.caller.CallerRow.{CallerRow};
-ghost use Rattle.sql_writes.specs.Parts.{with_callers, with_conds, with_head, with_hold, with_last, with_received, with_rows, with_sups, with_sysmod};
+ghost use Rattle.sql_writes.specs.Room.{are_short, are_short_ids, is_short, is_short_change};
+ghost use Rattle.sql_writes.specs.Parts.{is_of_three, with_callers, with_conds, with_head, with_hold, with_last, with_received, with_rows, with_sups, with_sysmod};
 
 use crate::run::{run, run_prepared};
 use crate::values::{id_of, number_of};
@@ -48,6 +54,9 @@ pub(crate) fn last_change<S: Alter>(
     ensures same { tx.new.conn.ghost_name ≡ tx.old.conn.ghost_name }
     ensures changes { Alters S.Store tx.old.conn.now tx.new.conn.now result
         (with_last name.now (record { number = number; reply = reply.now })) }
+    ensures takes { 0 < number → is_short reply.now ≡ true
+        → TakesRoom S.Store tx.old.conn.now tx.new.conn.now result 1
+        (λ stored. list_any (is_of name.now) stored.changes ≡ false) }
 {
     let params = [id_of(name), number_of(number), ValueRef::Blob(reply)];
     run(tx, TableById::LastChange.insertion(), &params)
@@ -61,6 +70,9 @@ pub(crate) fn sysmod<S: Alter>(
 ) -> Result<(), Error>
     ensures same { tx.new.conn.ghost_name ≡ tx.old.conn.ghost_name }
     ensures changes { Alters S.Store tx.old.conn.now tx.new.conn.now result (with_sysmod sysmod.now) }
+    ensures takes { is_short_change (Whole sysmod.now) ≡ true
+        → TakesRoom S.Store tx.old.conn.now tx.new.conn.now result 1
+        (λ stored. list_any (is_of sysmod.now.id) stored.sysmods ≡ false) }
 {
     let fmids = joined_ids(alloc, sysmod.fmids.as_slice())?;
     let pre = joined_ids(alloc, sysmod.pre.as_slice())?;
@@ -86,6 +98,8 @@ pub(crate) fn sup_row<S: Alter>(
     ensures same { tx.new.conn.ghost_name ≡ tx.old.conn.ghost_name }
     ensures changes { Alters S.Store tx.old.conn.now tx.new.conn.now result
         (with_sups id.now (member.now ∷ [])) }
+    ensures takes { TakesRoom S.Store tx.old.conn.now tx.new.conn.now result 1
+        (λ stored. list_any (is_of_both id.now member.now) stored.sups ≡ false) }
 {
     run_prepared(tx, statement, &[id_of(id), id_of(member)])
 }
@@ -101,6 +115,8 @@ pub(crate) fn cond_row<S: Alter>(
     ensures same { tx.new.conn.ghost_name ≡ tx.old.conn.ghost_name }
     ensures changes { Alters S.Store tx.old.conn.now tx.new.conn.now result
         (with_conds id.now (cond.now ∷ [])) }
+    ensures takes { TakesRoom S.Store tx.old.conn.now tx.new.conn.now result 1
+        (λ stored. list_any (is_of_three id.now cond.now.fmid cond.now.need) stored.conds ≡ false) }
 {
     let params = [id_of(id), id_of(&cond.fmid), id_of(&cond.need)];
     run_prepared(tx, statement, &params)
@@ -110,6 +126,9 @@ pub(crate) fn cond_row<S: Alter>(
 pub(crate) fn hold<S: Alter>(tx: &mut Transaction<'_, S>, hold: &Hold) -> Result<(), Error>
     ensures same { tx.new.conn.ghost_name ≡ tx.old.conn.ghost_name }
     ensures changes { Alters S.Store tx.old.conn.now tx.new.conn.now result (with_hold hold.now) }
+    ensures takes { IsHold hold.now → are_short hold.now.categories ≡ true
+        → TakesRoom S.Store tx.old.conn.now tx.new.conn.now result 1
+        (λ stored. list_any (is_under hold.now.key) stored.holds ≡ false) }
 {
     let params = [
         id_of(&hold.key.sysmod),
@@ -135,6 +154,9 @@ pub(crate) fn head<S: Alter>(
     ensures same { tx.new.conn.ghost_name ≡ tx.old.conn.ghost_name }
     ensures changes { Alters S.Store tx.old.conn.now tx.new.conn.now result
         (with_head client.now zone.now patterns.now) }
+    ensures takes { are_short patterns.now ≡ true
+        → TakesRoom S.Store tx.old.conn.now tx.new.conn.now result 1
+        (λ stored. list_any (is_of_both client.now zone.now) stored.heads ≡ false) }
 {
     let joined = joined_patterns(alloc, patterns)?;
     let params = [
@@ -157,6 +179,8 @@ pub(crate) fn zone_row<S: Alter>(
     ensures same { tx.new.conn.ghost_name ≡ tx.old.conn.ghost_name }
     ensures changes { Alters S.Store tx.old.conn.now tx.new.conn.now result
         (with_rows client.now zone.now (row.now ∷ [])) }
+    ensures takes { TakesRoom S.Store tx.old.conn.now tx.new.conn.now result 1
+        (λ stored. list_any (is_of_three client.now zone.now row.now.sysmod) stored.rows ≡ false) }
 {
     let params = [
         id_of(client),
@@ -177,6 +201,9 @@ pub(crate) fn received<S: Alter>(
     ensures same { tx.new.conn.ghost_name ≡ tx.old.conn.ghost_name }
     ensures changes { Alters S.Store tx.old.conn.now tx.new.conn.now result
         (with_received client.now ids.now) }
+    ensures takes { are_short_ids ids.now ≡ true
+        → TakesRoom S.Store tx.old.conn.now tx.new.conn.now result 1
+        (λ stored. list_any (is_of client.now) stored.received ≡ false) }
 {
     let joined = joined_ids(alloc, ids)?;
     run(

@@ -1,6 +1,10 @@
 //! Lists of rows that come, each list by one prepared statement.
-ghost use Rattle.std.specs.Prelude.{◌≡◌};
-ghost use Rattle.sql_writes.specs.Altering.{Alters, Inserts};
+ghost use Rattle.std.specs.Prelude.{◌≡◌, length};
+ghost use Rattle.std.specs.List.{AllByRecursion};
+ghost use Rattle.catalogue.specs.Conditional.{CondsAscend};
+ghost use Rattle.catalogue.specs.Ids.{Ascend};
+ghost use Rattle.sql_tables.specs.Fit.{AreIds, AreZoneRows, IsCond};
+ghost use Rattle.sql_writes.specs.Altering.{Alters, Inserts, TakesRoom};
 ghost use Rattle.sql_writes.specs.Parts.{with_conds, with_rows, with_sups, without_conds, without_rows, without_sups};
 
 use crate::run::prepare;
@@ -21,6 +25,9 @@ pub(crate) fn zone_rows<S: Alter>(
     ensures same { tx.new.conn.ghost_name ≡ tx.old.conn.ghost_name }
     ensures changes { Alters S.Store tx.old.conn.now tx.new.conn.now result
         (λ stored. with_rows client.now zone.now rows.now (without_rows client.now zone.now stored)) }
+    ensures takes { AreZoneRows rows.now
+        → TakesRoom S.Store tx.old.conn.now tx.new.conn.now result
+        (length rows.now) (λ stored. Unit {0}) }
 {
     delete::by_zone(tx, TableByZone::ZoneRow, client, zone)?;
     let statement = prepare(tx, TableByZone::ZoneRow.insertion())?;
@@ -41,6 +48,9 @@ pub(crate) fn superseded<S: Alter>(
     ensures same { tx.new.conn.ghost_name ≡ tx.old.conn.ghost_name }
     ensures changes { Alters S.Store tx.old.conn.now tx.new.conn.now result
         (λ stored. with_sups id.now members.now (without_sups id.now stored)) }
+    ensures takes { AreIds members.now → Ascend members.now
+        → TakesRoom S.Store tx.old.conn.now tx.new.conn.now result
+        (length members.now) (λ stored. Unit {0}) }
 {
     delete::by_id(tx, TableById::SysmodSup, id)?;
     for member in members {
@@ -61,6 +71,9 @@ pub(crate) fn conditional<S: Alter>(
     ensures same { tx.new.conn.ghost_name ≡ tx.old.conn.ghost_name }
     ensures changes { Alters S.Store tx.old.conn.now tx.new.conn.now result
         (λ stored. with_conds id.now conds.now (without_conds id.now stored)) }
+    ensures takes { AllByRecursion IsCond conds.now → CondsAscend conds.now
+        → TakesRoom S.Store tx.old.conn.now tx.new.conn.now result
+        (length conds.now) (λ stored. Unit {0}) }
 {
     delete::by_id(tx, TableById::SysmodCond, id)?;
     for cond in conds {

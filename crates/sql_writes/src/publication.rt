@@ -1,8 +1,11 @@
 //! A publication, one change after the other.
-ghost use Rattle.std.specs.Prelude.{◌≡◌, fold};
+ghost use Rattle.std.specs.Prelude.{◌≡◌, fold, sum_by, true};
+ghost use Rattle.std.specs.List.{AllByRecursion, list_all};
 ghost use Rattle.holddata.specs.declared.hold.HoldChange.TheVariants.{Put};
 ghost use Rattle.sql_tables.specs.Changes.{holds_changed, published};
-ghost use Rattle.sql_writes.specs.Altering.{Alters, Inserts};
+ghost use Rattle.sql_tables.specs.Fit.{IsFitChange, IsHold};
+ghost use Rattle.sql_writes.specs.Altering.{Alters, Inserts, TakesRoom};
+ghost use Rattle.sql_writes.specs.Room.{are_short, is_short_change, rows_of_change};
 
 use crate::run::prepare;
 use crate::{delete, insert, load};
@@ -26,6 +29,8 @@ fn put_hold<S: Alter>(tx: &mut Transaction<'_, S>, hold: &Hold) -> Result<(), Er
     ensures same { tx.new.conn.ghost_name ≡ tx.old.conn.ghost_name }
     ensures changes { Alters S.Store tx.old.conn.now tx.new.conn.now result
         (λ stored. record stored { holds = holds_changed (Put hold.now) stored.holds }) }
+    ensures takes { IsHold hold.now → are_short hold.now.categories ≡ true
+        → TakesRoom S.Store tx.old.conn.now tx.new.conn.now result 1 (λ stored. Unit {0}) }
 {
     delete::hold(tx, &hold.key)?;
     insert::hold(tx, hold)
@@ -43,6 +48,9 @@ fn put_change<S: Alter>(
     ensures same { tx.new.conn.ghost_name ≡ tx.old.conn.ghost_name }
     ensures changes { Alters S.Store tx.old.conn.now tx.new.conn.now result
         (λ stored. published stored change.now) }
+    ensures takes { IsFitChange change.now → is_short_change change.now ≡ true
+        → TakesRoom S.Store tx.old.conn.now tx.new.conn.now result
+        (rows_of_change change.now) (λ stored. Unit {0}) }
 {
     match change {
         Change::Whole(sysmod) => {
@@ -65,6 +73,9 @@ pub(crate) fn put_changes<S: Alter>(
     ensures same { tx.new.conn.ghost_name ≡ tx.old.conn.ghost_name }
     ensures changes { Alters S.Store tx.old.conn.now tx.new.conn.now result
         (λ stored. fold published stored changes.now) }
+    ensures takes { AllByRecursion IsFitChange changes.now → list_all is_short_change changes.now ≡ true
+        → TakesRoom S.Store tx.old.conn.now tx.new.conn.now result
+        (sum_by rows_of_change changes.now) (λ stored. Unit {0}) }
 {
     let sups = prepare(tx, TableById::SysmodSup.insertion())?;
     let conds = prepare(tx, TableById::SysmodCond.insertion())?;

@@ -1,7 +1,7 @@
 //! The head of a client's zone, which says that the zone is there.
 ghost use Rattle.std.specs.Prelude.{◌≡◌, IfOk};
 ghost use Rattle.sql_tables.specs.Changes.{with_head};
-ghost use Rattle.sql_writes.specs.Altering.{Alters};
+ghost use Rattle.sql_writes.specs.Altering.{Alters, TakesRoom};
 ghost use Rattle.sql_writes.specs.Running.{FindsHead};
 
 use crate::insert;
@@ -15,6 +15,7 @@ use std::alloc::Global;
 fn has_head<S: Alter>(tx: &mut Transaction<'_, S>, client: &Id, zone: &Id) -> Result<bool, Error>
     ensures same { tx.new.conn.ghost_name ≡ tx.old.conn.ghost_name }
     ensures changes { Alters S.Store tx.old.conn.now tx.new.conn.now result (λ stored. stored) }
+    ensures takes { TakesRoom S.Store tx.old.conn.now tx.new.conn.now result 0 (λ stored. Unit {0}) }
     ensures found { IfOk result
         (FindsHead S.Store tx.old.conn.now tx.new.conn.now client.now zone.now) }
 {
@@ -33,6 +34,7 @@ pub(crate) fn keep_head<S: Alter>(
     ensures same { tx.new.conn.ghost_name ≡ tx.old.conn.ghost_name }
     ensures changes { Alters S.Store tx.old.conn.now tx.new.conn.now result
         (λ stored. record stored { heads = with_head client.now zone.now stored.heads }) }
+    ensures takes { TakesRoom S.Store tx.old.conn.now tx.new.conn.now result 1 (λ stored. Unit {0}) }
 {
     if has_head(tx, client, zone)? {
         return Ok(());

@@ -1,10 +1,12 @@
-use Rattle.std.proofs.Common.{ap}
+use Rattle.std.proofs.Common.{ap, arith}
 use Rattle.std.specs.Prelude.{◌∷◌, []}
 use Rattle.sql_tables.specs.Changes.{is_under}
 use Rattle.sql_tables.specs.Rows.{hold_row}
 use Rattle.sql_writes.specs.Parts.{with_hold, without_hold}
 use Rattle.sql_writes.proofs.ChangeFacts.{both, refused}
 use Rattle.sql_writes.proofs.StoredFacts.{replaced_then}
+use Rattle.sql_writes.proofs.LeaveFacts.{none_hold}
+use Rattle.sql_writes.proofs.TakeFacts.{stopped_first, takes_then}
 use Rattle.sql_writes.proofs.publication.put_hold.Goals as goal
 
 pub returns-in_err-hold-clause-changes : goal.returns-in_err-hold-clause-changes
@@ -15,3 +17,11 @@ returns-clause-changes g c =
     both _ _ _ tt _ (without_hold c.args.hold.now.key) (with_hold c.args.hold.now) _
     (λ stored. ap (λ rows. record stored { holds = rows }) (replaced_then (is_under c.args.hold.now.key) (hold_row c.args.hold.now ∷ []) stored.holds))
     c.in_ok-hold.ensures.changes c.hold-2.ensures.changes
+
+pub returns-in_err-hold-clause-takes : goal.returns-in_err-hold-clause-takes
+returns-in_err-hold-clause-takes g c is short =
+    stopped_first _ _ c.in_err-hold.field-0.0 _ 0 1 (λ stored. Unit {0}) (λ stored. Unit {0}) c.from_residual.ensures.1 (λ stored u. tt) c.in_err-hold.ensures.takes (omega arith)
+
+pub returns-clause-takes : goal.returns-clause-takes
+returns-clause-takes g c is short =
+    takes_then _ _ _ tt _ (without_hold c.args.hold.now.key) 0 1 (λ stored. Unit {0}) _ (λ stored u. none_hold c.args.hold.now.key stored) c.in_ok-hold.ensures.changes c.in_ok-hold.ensures.takes c.hold-2.ensures.changes.survives (c.hold-2.ensures.takes is short)

@@ -1,0 +1,208 @@
+-- Where no row has a key: as the database compares keys, and after rows with it went.
+use Rattle.std.proofs.Common.{◌≡◌, ◌≤◌, ◌<◌, ◌&&◌, ◌||◌, ◌++◌, ℕ, zero, suc, ℤ, Bool, true, false, List, [], ◌∷◌, Some, length, take, get_or, map, Less, Equal, Ordering, refl, sym, ◌∙◌, ap, ap₂, subst, inl, inr, arith}
+use Rattle.std.specs.Prelude.{None, drop, filter, not}
+use Rattle.std.specs.Cmp.Lexicographic.{slice_cmp}
+use Rattle.std.specs.List.{AllByRecursion, list_any}
+use Rattle.std.specs.List.Sorted.{IsStrictlySortedBy}
+use Rattle.std.specs.Ordering.{is_eq, nat_cmp}
+use Rattle.std.proofs.Math.Bool.{and-true}
+use Rattle.std.proofs.lemmas.Bool.{and_parts, both_ways, false_from_ne_true, false≢true, not-true}
+use Rattle.std.proofs.lemmas.List.{append-nil}
+use Rattle.holddata.specs.declared.key.HoldKey.{HoldKey}
+use Rattle.mcs_reader.specs.Id.{IsId, text_of}
+use Rattle.catalogue.specs.Conditional.{CondsAscend, cond_cmp}
+use Rattle.catalogue.specs.Ids.{Ascend, id_cmp}
+use Rattle.catalogue.specs.declared.conditional.CondNeed.{CondNeed}
+use Rattle.catalogue.proofs.IdFacts.{one_id}
+use Rattle.zone_lists.specs.ZoneList.{RowsAscend, row_order}
+use Rattle.zone_lists.specs.declared.zones.ZoneRow.{ZoneRow}
+use Rattle.sqlite.specs.Effect.{Database}
+use Rattle.sqlite.specs.Order.{Row, column}
+use Rattle.sqlite.specs.Edit.{next_rowid}
+use Rattle.sqlite.specs.Tree.{Trees, put_row}
+use Rattle.sqlite.specs.declared.types.Value.{Value}
+use Rattle.sqlite.specs.declared.types.Value.TheVariants.{Int}
+use Rattle.sqlite_rules.specs.Keys.{are_unique}
+use Rattle.sqlite_rules.specs.Lists.{Has}
+use Rattle.sqlite_rules.proofs.ListLemmas.{all_has, has_either, has_filtered, some_from, some_has}
+use Rattle.sqlite_schema.specs.Rules.{Keeps, agree, are_typed}
+use Rattle.sqlite_schema.specs.declared.schema.Constraint.TheVariants.{Datatype}
+use Rattle.sqlite_trees.proofs.ListLemmas.{all_weaker}
+use Rattle.sqlite_trees.specs.Tree.{with_tree}
+use Rattle.sqlite_value.specs.Keys.{first_key, plain}
+use Rattle.sql_texts.specs.Found.{passes}
+use Rattle.sql_texts.specs.Reads.{is_given}
+use Rattle.sql_texts.specs.Schema as schema
+use Rattle.sql_texts.specs.Schema.{bureau}
+use Rattle.sql_tables.specs.Changes.{is_under, replaced}
+use Rattle.sql_tables.specs.InTrees.{columns_of}
+use Rattle.sql_tables.specs.Rows.{cond_row, sup_row, zone_row}
+use Rattle.sql_tables.specs.Stored.{is_named, is_of, is_of_both}
+use Rattle.sql_tables.specs.Values.{hold_kind_value, id_value}
+use Rattle.sql_tables.proofs.ValueFacts.{named_value}
+use Rattle.sql_state.specs.Writing.{IsKnown}
+use Rattle.sql_state.proofs.TextFacts.{text_given}
+use Rattle.sql_writes.specs.Parts.{is_of_three}
+use Rattle.sql_writes.proofs.KindFacts.{key_given}
+use Rattle.sql_writes.proofs.RowidFacts.{any_mapped}
+use Rattle.sql_writes.proofs.SoundFacts.{unclashed}
+
+-- ---- how the database compares keys
+
+module _ (n : ℤ) (other : Row) where
+  agree_one : (id : List ℕ) (rest : Row) → IsId id → agree plain (1 ∷ []) other (1 ∷ []) (Int n ∷ id_value id ∷ rest) ≡ is_of id (drop 1 other)
+  unfolding first_key
+  agree_one id rest is = and-true _ ∙ text_given id is other 0
+
+  agree_two : (a b : List ℕ) (rest : Row) → IsId a → IsId b → agree plain (1 ∷ 2 ∷ []) other (1 ∷ 2 ∷ []) (Int n ∷ id_value a ∷ id_value b ∷ rest) ≡ is_of_both a b (drop 1 other)
+  unfolding first_key
+  agree_two a b rest is_a is_b = ap₂ ◌&&◌ (text_given a is_a other 0) (and-true _ ∙ text_given b is_b other 1)
+
+  agree_three : (a b c : List ℕ) (rest : Row) → IsId a → IsId b → IsId c
+      → agree plain (1 ∷ 2 ∷ 3 ∷ []) other (1 ∷ 2 ∷ 3 ∷ []) (Int n ∷ id_value a ∷ id_value b ∷ id_value c ∷ rest) ≡ is_of_three a b c (drop 1 other)
+  unfolding first_key
+  agree_three a b c rest is_a is_b is_c = ap₂ ◌&&◌ (text_given a is_a other 0) (ap₂ ◌&&◌ (text_given b is_b other 1) (and-true _ ∙ text_given c is_c other 2))
+
+  agree_hold : (key : HoldKey) (rest : Row) → IsId key.sysmod → IsId key.reason → are_typed None 0 schema.hold_row.columns (drop 1 other) ≡ true
+      → agree plain (1 ∷ 2 ∷ 3 ∷ []) other (1 ∷ 2 ∷ 3 ∷ []) (Int n ∷ id_value key.sysmod ∷ hold_kind_value key.kind ∷ id_value key.reason ∷ rest) ≡ is_under key (drop 1 other)
+  unfolding first_key
+  agree_hold key rest is_sysmod is_reason typed = key_given key is_sysmod is_reason other typed
+
+any_known : {X : Type 0} (f g : X → Bool) (xs : List X) → AllByRecursion (λ x. f x ≡ g x) xs → list_any f xs ≡ list_any g xs
+any_known f g [] same = refl
+any_known f g (x ∷ xs) same = ap₂ ◌||◌ same.0 (any_known f g xs same.1)
+
+every : {X : Type 0} (P : X → Type 0) → ((x : X) → P x) → (xs : List X) → AllByRecursion P xs
+every P each [] = tt
+every P each (x ∷ xs) = (each x, every P each xs)
+
+-- no row agrees where none has the key
+module _ (places : List ℕ) (test : Row → Bool) (n : ℤ) (values : Row) (rows : List Row) where
+  none_agrees : AllByRecursion (λ other. agree plain places other places (Int n ∷ values) ≡ test (drop 1 other)) rows → list_any test (columns_of rows) ≡ false
+      → list_any (λ other. agree plain places other places (Int n ∷ values)) rows ≡ false
+  none_agrees alike none =
+      any_known (λ other. agree plain places other places (Int n ∷ values)) (λ other. test (drop 1 other)) rows alike ∙ sym (any_mapped test (drop 1) rows) ∙ none
+
+  none_agree_so : ((other : Row) → agree plain places other places (Int n ∷ values) ≡ test (drop 1 other)) → list_any test (columns_of rows) ≡ false
+      → list_any (λ other. agree plain places other places (Int n ∷ values)) rows ≡ false
+  none_agree_so alike none = none_agrees (every (λ other. agree plain places other places (Int n ∷ values) ≡ test (drop 1 other)) alike rows) none
+
+-- ---- a new row keeps the keys of its table apart
+
+module _ (database : Database) (known : IsKnown database) where
+  abbrev db : Trees
+  db = database.trees
+
+  pub unique_last : (name : List ℕ) (rest : Row) → IsId name → list_any (is_of name) (columns_of (db 4)) ≡ false
+      → are_unique bureau.indexes (with_tree db 4 (put_row (Int (next_rowid (db 4)) ∷ id_value name ∷ rest) (db 4))) schema.last_change ((Int (next_rowid (db 4)) ∷ id_value name ∷ rest) ∷ []) ≡ true
+  unique_last name rest is none =
+      ap (λ b. not (b || false) && true)
+      (unclashed (1 ∷ []) (db 4) (next_rowid (db 4)) (id_value name ∷ rest)
+      (none_agree_so (1 ∷ []) (is_of name) (next_rowid (db 4)) (id_value name ∷ rest) (db 4) (λ other. agree_one (next_rowid (db 4)) other name rest is) none))
+
+  pub unique_sysmod : (id : List ℕ) (rest : Row) → IsId id → list_any (is_of id) (columns_of (db 6)) ≡ false
+      → are_unique bureau.indexes (with_tree db 6 (put_row (Int (next_rowid (db 6)) ∷ id_value id ∷ rest) (db 6))) schema.sysmod ((Int (next_rowid (db 6)) ∷ id_value id ∷ rest) ∷ []) ≡ true
+  unique_sysmod id rest is none =
+      ap (λ b. not (b || false) && true)
+      (unclashed (1 ∷ []) (db 6) (next_rowid (db 6)) (id_value id ∷ rest)
+      (none_agree_so (1 ∷ []) (is_of id) (next_rowid (db 6)) (id_value id ∷ rest) (db 6) (λ other. agree_one (next_rowid (db 6)) other id rest is) none))
+
+  pub unique_received : (client : List ℕ) (rest : Row) → IsId client → list_any (is_of client) (columns_of (db 17)) ≡ false
+      → are_unique bureau.indexes (with_tree db 17 (put_row (Int (next_rowid (db 17)) ∷ id_value client ∷ rest) (db 17))) schema.received_list ((Int (next_rowid (db 17)) ∷ id_value client ∷ rest) ∷ []) ≡ true
+  unique_received client rest is none =
+      ap (λ b. not (b || false) && true)
+      (unclashed (1 ∷ []) (db 17) (next_rowid (db 17)) (id_value client ∷ rest)
+      (none_agree_so (1 ∷ []) (is_of client) (next_rowid (db 17)) (id_value client ∷ rest) (db 17) (λ other. agree_one (next_rowid (db 17)) other client rest is) none))
+
+  pub unique_sup : (id member : List ℕ) → IsId id → IsId member → list_any (is_of_both id member) (columns_of (db 8)) ≡ false
+      → are_unique bureau.indexes (with_tree db 8 (put_row (Int (next_rowid (db 8)) ∷ sup_row id member) (db 8))) schema.sysmod_sup ((Int (next_rowid (db 8)) ∷ sup_row id member) ∷ []) ≡ true
+  unique_sup id member is is_member none =
+      ap (λ b. not (b || false) && true)
+      (unclashed (1 ∷ 2 ∷ []) (db 8) (next_rowid (db 8)) (sup_row id member)
+      (none_agree_so (1 ∷ 2 ∷ []) (is_of_both id member) (next_rowid (db 8)) (sup_row id member) (db 8) (λ other. agree_two (next_rowid (db 8)) other id member [] is is_member) none))
+
+  pub unique_head : (client zone : List ℕ) (rest : Row) → IsId client → IsId zone → list_any (is_of_both client zone) (columns_of (db 13)) ≡ false
+      → are_unique bureau.indexes (with_tree db 13 (put_row (Int (next_rowid (db 13)) ∷ id_value client ∷ id_value zone ∷ rest) (db 13))) schema.zone_head
+      ((Int (next_rowid (db 13)) ∷ id_value client ∷ id_value zone ∷ rest) ∷ []) ≡ true
+  unique_head client zone rest is is_zone none =
+      ap (λ b. not (b || false) && true)
+      (unclashed (1 ∷ 2 ∷ []) (db 13) (next_rowid (db 13)) (id_value client ∷ id_value zone ∷ rest)
+      (none_agree_so (1 ∷ 2 ∷ []) (is_of_both client zone) (next_rowid (db 13)) (id_value client ∷ id_value zone ∷ rest) (db 13) (λ other. agree_two (next_rowid (db 13)) other client zone rest is is_zone) none))
+
+  pub unique_zone_row : (client zone sysmod : List ℕ) (rest : Row) → IsId client → IsId zone → IsId sysmod → list_any (is_of_three client zone sysmod) (columns_of (db 15)) ≡ false
+      → are_unique bureau.indexes (with_tree db 15 (put_row (Int (next_rowid (db 15)) ∷ id_value client ∷ id_value zone ∷ id_value sysmod ∷ rest) (db 15))) schema.zone_row
+      ((Int (next_rowid (db 15)) ∷ id_value client ∷ id_value zone ∷ id_value sysmod ∷ rest) ∷ []) ≡ true
+  unique_zone_row client zone sysmod rest is is_zone is_sysmod none =
+      ap (λ b. not (b || false) && true)
+      (unclashed (1 ∷ 2 ∷ 3 ∷ []) (db 15) (next_rowid (db 15)) (id_value client ∷ id_value zone ∷ id_value sysmod ∷ rest)
+      (none_agree_so (1 ∷ 2 ∷ 3 ∷ []) (is_of_three client zone sysmod) (next_rowid (db 15)) (id_value client ∷ id_value zone ∷ id_value sysmod ∷ rest) (db 15)
+      (λ other. agree_three (next_rowid (db 15)) other client zone sysmod rest is is_zone is_sysmod) none))
+
+  pub unique_cond : (id fmid need : List ℕ) → IsId id → IsId fmid → IsId need → list_any (is_of_three id fmid need) (columns_of (db 19)) ≡ false
+      → are_unique bureau.indexes (with_tree db 19 (put_row (Int (next_rowid (db 19)) ∷ id_value id ∷ id_value fmid ∷ id_value need ∷ []) (db 19))) schema.sysmod_cond
+      ((Int (next_rowid (db 19)) ∷ id_value id ∷ id_value fmid ∷ id_value need ∷ []) ∷ []) ≡ true
+  unique_cond id fmid need is is_fmid is_need none =
+      ap (λ b. not (b || false) && true)
+      (unclashed (1 ∷ 2 ∷ 3 ∷ []) (db 19) (next_rowid (db 19)) (id_value id ∷ id_value fmid ∷ id_value need ∷ [])
+      (none_agree_so (1 ∷ 2 ∷ 3 ∷ []) (is_of_three id fmid need) (next_rowid (db 19)) (id_value id ∷ id_value fmid ∷ id_value need ∷ []) (db 19)
+      (λ other. agree_three (next_rowid (db 19)) other id fmid need [] is is_fmid is_need) none))
+
+  pub unique_hold : (key : HoldKey) (rest : Row) → IsId key.sysmod → IsId key.reason → list_any (is_under key) (columns_of (db 11)) ≡ false
+      → are_unique bureau.indexes (with_tree db 11 (put_row (Int (next_rowid (db 11)) ∷ id_value key.sysmod ∷ hold_kind_value key.kind ∷ id_value key.reason ∷ rest) (db 11))) schema.hold_row
+      ((Int (next_rowid (db 11)) ∷ id_value key.sysmod ∷ hold_kind_value key.kind ∷ id_value key.reason ∷ rest) ∷ []) ≡ true
+  unique_hold key rest is_sysmod is_reason none =
+      let values = id_value key.sysmod ∷ hold_kind_value key.kind ∷ id_value key.reason ∷ rest in
+      let sound = subst (λ s. Keeps Datatype s db) known.schema (known.sound.obeys.rules Datatype) in
+      let alike = all_weaker _ (λ other. agree plain (1 ∷ 2 ∷ 3 ∷ []) other (1 ∷ 2 ∷ 3 ∷ []) (Int (next_rowid (db 11)) ∷ values) ≡ is_under key (drop 1 other))
+      (λ other ok. agree_hold (next_rowid (db 11)) other key rest is_sysmod is_reason (and_parts _ _ ok).0) (db 11) sound.1.1.1.1.1.0 in
+      ap (λ b. not (b || false) && true)
+      (unclashed (1 ∷ 2 ∷ 3 ∷ []) (db 11) (next_rowid (db 11)) values (none_agrees (1 ∷ 2 ∷ 3 ∷ []) (is_under key) (next_rowid (db 11)) values (db 11) alike none))
+
+-- ---- after rows went
+
+-- no row passes a test that is finer than the one by which rows went
+gone_none : (test finer : Row → Bool) → ((row : Row) → finer row ≡ true → test row ≡ true) → (rows : List Row) → list_any finer (filter (λ row. not (test row)) rows) ≡ false
+gone_none test finer so rows = false_from_ne_true _ (λ any.
+    let it = some_has finer (filter (λ row. not (test row)) rows) any in
+    both_ways _ (not-true _ (has_filtered (λ row. not (test row)) rows it.0 it.1).1) (so it.0 it.2))
+
+pub gone_now : (test finer : Row → Bool) → ((row : Row) → finer row ≡ true → test row ≡ true) → (rows : List Row) → list_any finer (replaced test [] rows) ≡ false
+gone_now test finer so rows = ap (list_any finer) (append-nil (filter (λ row. not (test row)) rows)) ∙ gone_none test finer so rows
+
+-- and others came, none of which passes it
+pub gone_and_come : {X : Type 0} (test finer : Row → Bool) → ((row : Row) → finer row ≡ true → test row ≡ true) → (rows : List Row) (make : X → Row) (xs : List X)
+    → ((x : X) → Has xs x → finer (make x) ≡ true → ⊥) → list_any finer (replaced test [] rows ++ map make xs) ≡ false
+gone_and_come {X} test finer so rows make xs never = false_from_ne_true _ (λ any.
+    let it = some_has finer (replaced test [] rows ++ map make xs) any in
+    elim (has_either (replaced test [] rows) (map make xs) it.0 it.1) [
+      | inl left ↦ both_ways _ (gone_now test finer so rows) (there left it.2)
+      | inr came ↦ let x = made xs came in never x.0 x.1 (ap finer (sym x.2) ∙ it.2)
+    ])
+  where
+    there : {row : Row} → Has (replaced test [] rows) row → finer row ≡ true → list_any finer (replaced test [] rows) ≡ true
+    there here passes = some_from finer (replaced test [] rows) _ here passes
+
+    made : {row : Row} (ys : List X) → Has (map make ys) row → (x : X) × Has ys x × (row ≡ make x)
+    made [] none = absurd none
+    made (y ∷ ys) (inl same) = (y, inl refl, same)
+    made (y ∷ ys) (inr later) = let x = made ys later in (x.0, inr x.1, x.2)
+
+-- ---- lists whose elements ascend
+
+earlier_less : {X : Type 0} (order : X → X → Ordering) (xs : List X) → IsStrictlySortedBy order xs → (i : ℕ) (x : X) → i < length xs → x ≡ get_or xs i x → AllByRecursion (λ y. order y x ≡ Less) (take i xs)
+unfolding IsStrictlySortedBy
+earlier_less order [] up i x low at = absurd (omega (arith, low))
+earlier_less order (y ∷ ys) up zero x low at = tt
+earlier_less order (y ∷ ys) up (suc i) x low at =
+    let within : i < length ys = omega (arith, low) in
+    (all_has (λ z. order y z ≡ Less) ys x up.0 (here ys i within at), earlier_less order ys up.1 i x within at)
+  where
+    here : (zs : List _) (k : ℕ) → k < length zs → x ≡ get_or zs k x → Has zs x
+    here [] k low at = absurd (omega (arith, low))
+    here (z ∷ zs) zero low at = inl at
+    here (z ∷ zs) (suc k) low at = inr (here zs k (omega (arith, low)) at)
+
+-- so none before it is the same
+pub none_before : {X : Type 0} (order : X → X → Ordering) (xs : List X) → IsStrictlySortedBy order xs → (i : ℕ) (x : X) → i < length xs → x ≡ get_or xs i x
+    → (y : X) → Has (take i xs) y → is_eq (order y x) ≡ true → ⊥
+none_before order xs up i x low at y here tie = let less = all_has (λ z. order z x ≡ Less) (take i xs) y (earlier_less order xs up i x low at) here in false≢true (sym (ap is_eq less) ∙ tie)

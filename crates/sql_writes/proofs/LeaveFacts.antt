@@ -1,0 +1,178 @@
+-- Why the statement is refused that deletes rows, and that no row comes twice into a table by a list in order.
+use Rattle.std.proofs.Common.{◌≡◌, ◌<◌, ◌&&◌, ◌++◌, ℕ, zero, suc, false, true, List, [], ◌∷◌, Equal, Greater, Less, Ordering, Result, length, take, get_or, map, refl, sym, ◌∙◌, ap, ap₂, subst, inl, inr, arith}
+use Rattle.std.specs.List.{AllByRecursion, list_any}
+use Rattle.std.specs.List.Sorted.{IsStrictlySortedBy}
+use Rattle.std.specs.Ordering.{is_eq, ordering_then}
+use Rattle.std.proofs.lemmas.Bool.{and_from, and_parts}
+use Rattle.std.proofs.lemmas.Map.Text.{is_eq-slice_cmp}
+use Rattle.std.proofs.lemmas.Slice.Eq.{bytes_eq-Decides}
+use Rattle.holddata.specs.declared.key.HoldKey.{HoldKey}
+use Rattle.mcs_reader.specs.Id.{IsId}
+use Rattle.catalogue.specs.Conditional.{CondsAscend, cond_cmp}
+use Rattle.catalogue.specs.Ids.{Ascend, id_cmp}
+use Rattle.catalogue.specs.declared.conditional.CondNeed.{CondNeed}
+use Rattle.catalogue.proofs.IdFacts.{one_id}
+use Rattle.zone_lists.specs.declared.zones.ZoneRow.{ZoneRow}
+use Rattle.sqlite.specs.Order.{Row, column}
+use Rattle.sqlite.specs.State.{State}
+use Rattle.sqlite.specs.Values.{bound, bound_value}
+use Rattle.sqlite.specs.declared.error.Error.{Error}
+use Rattle.sqlite_rules.specs.Lists.{Has}
+use Rattle.sqlite_rules.proofs.ListLemmas.{all_has}
+use Rattle.sqlite_value.specs.Value.{owned}
+use Rattle.sqlite_value.specs.declared.value.ValueRef.{ValueRef}
+use Rattle.sql_texts.specs.Meaning.{Means}
+use Rattle.sql_texts.specs.Reads.{is_given}
+use Rattle.sql_texts.specs.Schema as schema
+use Rattle.sql_texts.specs.Schema.{bureau}
+use Rattle.sql_texts.specs.Writes.{by_id, by_zone, delete_of}
+use Rattle.sql_texts.specs.declared.write.TableById.{TableById}
+use Rattle.sql_texts.specs.declared.write.TableById.TheVariants.{LastChange, ReceivedList, Sysmod, SysmodCond, SysmodSup}
+use Rattle.sql_texts.specs.declared.write.TableByZone.{TableByZone}
+use Rattle.sql_texts.specs.declared.write.TableByZone.TheVariants.{ZoneHead, ZoneRow as OfZoneRow}
+use Rattle.sql_tables.specs.Changes.{is_under, replaced}
+use Rattle.sql_tables.specs.Fit.{AreIds, AreZoneRows, IsCond}
+use Rattle.sql_tables.specs.Rows.{cond_row, sup_row, zone_row}
+use Rattle.sql_tables.specs.Stored.{Stored, is_named, is_of, is_of_both}
+use Rattle.sql_tables.specs.Values.{hold_kind_value, id_value}
+use Rattle.sql_tables.proofs.ValueFacts.{named_value}
+use Rattle.sql_writes.specs.Excused.{Takes}
+use Rattle.sql_writes.specs.Parts.{is_of_three, with_conds, with_rows, with_sups, without_conds, without_head, without_hold, without_last, without_received, without_rows, without_sups, without_sysmod}
+use Rattle.sql_writes.specs.Running.{FailsInside, Ran}
+use Rattle.sql_writes.proofs.AbsentFacts.{gone_and_come, gone_now, none_before}
+use Rattle.sql_writes.proofs.StepFacts.{goes_takes}
+
+-- ---- rows that go
+
+module _ (old new : State) (text : List ℕ) (result : Result (Unit {0}) Error) where
+  -- the rows of an id
+  abbrev IdLeaves : ℕ → ℕ → Type 0
+  IdLeaves table_index tree = (id : List ℕ) (a : ValueRef) → owned a ≡ id_value id → Means bureau text (delete_of table_index tree (is_given 1 0 ∷ [])) 1
+      → Ran text (bound (a ∷ [])) old new result → FailsInside text (bound (a ∷ [])) old new result → Takes old new result 0 (λ stored. Unit {0})
+
+  given_id : (id : List ℕ) (a : ValueRef) → owned a ≡ id_value id → bound (a ∷ []) ≡ id_value id ∷ []
+  given_id id a at = λ i. bound_value (at i) ∷ []
+
+  pub ids_leave : (table : TableById) → IdLeaves (by_id table).table_index (by_id table).tree
+  ids_leave LastChange id a at means ran fails =
+      goes_takes text old new result 2 schema.last_change refl (λ database known. known.numbered.1.1.0) (λ most trees low. low.1.1.0) (is_given 1 0 ∷ []) 1 (id_value id ∷ []) means refl refl
+      (subst (λ row. Ran text row old new result) (given_id id a at) ran) (subst (λ row. FailsInside text row old new result) (given_id id a at) fails)
+  ids_leave Sysmod id a at means ran fails =
+      goes_takes text old new result 3 schema.sysmod refl (λ database known. known.numbered.1.1.1.0) (λ most trees low. low.1.1.1.0) (is_given 1 0 ∷ []) 1 (id_value id ∷ []) means refl refl
+      (subst (λ row. Ran text row old new result) (given_id id a at) ran) (subst (λ row. FailsInside text row old new result) (given_id id a at) fails)
+  ids_leave SysmodSup id a at means ran fails =
+      goes_takes text old new result 4 schema.sysmod_sup refl (λ database known. known.numbered.1.1.1.1.0) (λ most trees low. low.1.1.1.1.0) (is_given 1 0 ∷ []) 1 (id_value id ∷ []) means refl refl
+      (subst (λ row. Ran text row old new result) (given_id id a at) ran) (subst (λ row. FailsInside text row old new result) (given_id id a at) fails)
+  ids_leave SysmodCond id a at means ran fails =
+      goes_takes text old new result 9 schema.sysmod_cond refl (λ database known. known.numbered.1.1.1.1.1.1.1.1.1.0) (λ most trees low. low.1.1.1.1.1.1.1.1.1.0) (is_given 1 0 ∷ []) 1 (id_value id ∷ []) means refl refl
+      (subst (λ row. Ran text row old new result) (given_id id a at) ran) (subst (λ row. FailsInside text row old new result) (given_id id a at) fails)
+  ids_leave ReceivedList id a at means ran fails =
+      goes_takes text old new result 8 schema.received_list refl (λ database known. known.numbered.1.1.1.1.1.1.1.1.0) (λ most trees low. low.1.1.1.1.1.1.1.1.0) (is_given 1 0 ∷ []) 1 (id_value id ∷ []) means refl refl
+      (subst (λ row. Ran text row old new result) (given_id id a at) ran) (subst (λ row. FailsInside text row old new result) (given_id id a at) fails)
+
+  -- those of a client's zone
+  abbrev ZoneLeaves : ℕ → ℕ → Type 0
+  ZoneLeaves table_index tree = (client zone : List ℕ) (a b : ValueRef) → owned a ≡ id_value client → owned b ≡ id_value zone
+      → Means bureau text (delete_of table_index tree (is_given 1 0 ∷ is_given 2 1 ∷ [])) 2
+      → Ran text (bound (a ∷ b ∷ [])) old new result → FailsInside text (bound (a ∷ b ∷ [])) old new result → Takes old new result 0 (λ stored. Unit {0})
+
+  given_zone : (client zone : List ℕ) (a b : ValueRef) → owned a ≡ id_value client → owned b ≡ id_value zone → bound (a ∷ b ∷ []) ≡ id_value client ∷ id_value zone ∷ []
+  given_zone client zone a b at_a at_b = λ i. bound_value (at_a i) ∷ bound_value (at_b i) ∷ []
+
+  pub zones_leave : (table : TableByZone) → ZoneLeaves (by_zone table).table_index (by_zone table).tree
+  zones_leave ZoneHead client zone a b at_a at_b means ran fails =
+      goes_takes text old new result 6 schema.zone_head refl (λ database known. known.numbered.1.1.1.1.1.1.0) (λ most trees low. low.1.1.1.1.1.1.0) (is_given 1 0 ∷ is_given 2 1 ∷ []) 2 (id_value client ∷ id_value zone ∷ []) means refl refl
+      (subst (λ row. Ran text row old new result) (given_zone client zone a b at_a at_b) ran) (subst (λ row. FailsInside text row old new result) (given_zone client zone a b at_a at_b) fails)
+  zones_leave OfZoneRow client zone a b at_a at_b means ran fails =
+      goes_takes text old new result 7 schema.zone_row refl (λ database known. known.numbered.1.1.1.1.1.1.1.0) (λ most trees low. low.1.1.1.1.1.1.1.0) (is_given 1 0 ∷ is_given 2 1 ∷ []) 2 (id_value client ∷ id_value zone ∷ []) means refl refl
+      (subst (λ row. Ran text row old new result) (given_zone client zone a b at_a at_b) ran) (subst (λ row. FailsInside text row old new result) (given_zone client zone a b at_a at_b) fails)
+
+  -- a hold
+  pub holds_leave : (key : HoldKey) (a b c : ValueRef) → owned a ≡ id_value key.sysmod → owned b ≡ hold_kind_value key.kind → owned c ≡ id_value key.reason
+      → Means bureau text (delete_of 5 11 (is_given 1 0 ∷ is_given 2 1 ∷ is_given 3 2 ∷ [])) 3 → Ran text (bound (a ∷ b ∷ c ∷ [])) old new result → FailsInside text (bound (a ∷ b ∷ c ∷ [])) old new result
+      → Takes old new result 0 (λ stored. Unit {0})
+  holds_leave key a b c at_a at_b at_c means ran fails =
+      let given : bound (a ∷ b ∷ c ∷ []) ≡ id_value key.sysmod ∷ hold_kind_value key.kind ∷ id_value key.reason ∷ [] = λ i. bound_value (at_a i) ∷ bound_value (at_b i) ∷ bound_value (at_c i) ∷ [] in
+      goes_takes text old new result 5 schema.hold_row refl (λ database known. known.numbered.1.1.1.1.1.0) (λ most trees low. low.1.1.1.1.1.0) (is_given 1 0 ∷ is_given 2 1 ∷ is_given 3 2 ∷ []) 3 _ means refl refl
+      (subst (λ row. Ran text row old new result) given ran) (subst (λ row. FailsInside text row old new result) given fails)
+
+-- ---- what is there no more
+
+pub none_last : (name : List ℕ) (stored : Stored) → list_any (is_of name) (without_last name stored).changes ≡ false
+none_last name stored = gone_now (is_of name) (is_of name) (λ row h. h) stored.changes
+
+pub none_sysmod : (id : List ℕ) (stored : Stored) → list_any (is_of id) (without_sysmod id stored).sysmods ≡ false
+none_sysmod id stored = gone_now (is_of id) (is_of id) (λ row h. h) stored.sysmods
+
+pub none_hold : (key : HoldKey) (stored : Stored) → list_any (is_under key) (without_hold key stored).holds ≡ false
+none_hold key stored = gone_now (is_under key) (is_under key) (λ row h. h) stored.holds
+
+pub none_head : (client zone : List ℕ) (stored : Stored) → list_any (is_of_both client zone) (without_head client zone stored).heads ≡ false
+none_head client zone stored = gone_now (is_of_both client zone) (is_of_both client zone) (λ row h. h) stored.heads
+
+pub none_received : (client : List ℕ) (stored : Stored) → list_any (is_of client) (without_received client stored).received ≡ false
+none_received client stored = gone_now (is_of client) (is_of client) (λ row h. h) stored.received
+
+-- ---- lists in order
+
+taken_has : {X : Type 0} (n : ℕ) (xs : List X) (x : X) → Has (take n xs) x → Has xs x
+taken_has zero xs x h = absurd h
+taken_has (suc n) [] x h = h
+taken_has (suc n) (y ∷ ys) x (inl same) = inl same
+taken_has (suc n) (y ∷ ys) x (inr later) = inr (taken_has n ys x later)
+
+same_order : (a b : List ℕ) → a ≡ b → is_eq (id_cmp a b) ≡ true
+same_order a b same = is_eq-slice_cmp a b ∙ (bytes_eq-Decides a b).1 same
+
+tied : (o : Ordering) → is_eq o ≡ true → o ≡ Equal
+tied Less h = absurd (cc)
+tied Equal h = refl
+tied Greater h = absurd (cc)
+
+named : (id other : List ℕ) → IsId id → is_named other (id_value id) ≡ true → id ≡ other
+named id other is h = one_id id other (sym (named_value id other is) ∙ h)
+
+-- one more that a record supersedes
+pub next_sup : (id : List ℕ) (members : List (List ℕ)) (i : ℕ) (member : List ℕ) → AreIds members → Ascend members → i < length members → member ≡ get_or members i member
+    → (stored : Stored) → list_any (is_of_both id member) (with_sups id (take i members) (without_sups id stored)).sups ≡ false
+next_sup id members i member ids up low at stored =
+    gone_and_come (is_of id) (is_of_both id member) (λ row h. (and_parts _ _ h).0) stored.sups (sup_row id) (take i members) (λ other here h.
+    let same = named other member (all_has IsId members other ids (taken_has i members other here)) (and_parts _ _ h).1 in
+    none_before id_cmp members up i member low at other here (same_order other member same))
+
+-- one more that it requires under a condition
+pub next_cond : (id : List ℕ) (conds : List CondNeed) (i : ℕ) (cond : CondNeed) → AllByRecursion IsCond conds → CondsAscend conds → i < length conds → cond ≡ get_or conds i cond
+    → (stored : Stored) → list_any (is_of_three id cond.fmid cond.need) (with_conds id (take i conds) (without_conds id stored)).conds ≡ false
+next_cond id conds i cond ids up low at stored =
+    gone_and_come (is_of id) (is_of_three id cond.fmid cond.need) (λ row h. (and_parts _ _ h).0) stored.conds (cond_row id) (take i conds) (λ other here h.
+    let is = all_has IsCond conds other ids (taken_has i conds other here) in
+    let parts = and_parts _ _ (and_parts _ _ h).1 in
+    let same_fmid = named other.fmid cond.fmid is.0 parts.0 in
+    let same_need = named other.need cond.need is.1 parts.1 in
+    none_before cond_cmp conds up i cond low at other here
+    (ap (λ o. is_eq (ordering_then o (id_cmp other.need cond.need))) (tied _ (same_order other.fmid cond.fmid same_fmid)) ∙ same_order other.need cond.need same_need))
+
+-- rows ascend by what their order is of
+ascend_so : {X Y : Type 0} (order : Y → Y → Ordering) (of : X → Y) (xs : List X) → IsStrictlySortedBy order (map of xs) → IsStrictlySortedBy (λ a b. order (of a) (of b)) xs
+unfolding IsStrictlySortedBy
+ascend_so order of [] up = tt
+ascend_so {X} order of (x ∷ xs) up = (each xs up.0, ascend_so order of xs up.1)
+  where
+    each : (ys : List X) → AllByRecursion (λ y. order (of x) y ≡ Less) (map of ys) → AllByRecursion (λ y. order (of x) (of y) ≡ Less) ys
+    each [] all = tt
+    each (y ∷ ys) all = (all.0, each ys all.1)
+
+of_two : (client zone sysmod : List ℕ) (row : Row) → is_of_three client zone sysmod row ≡ true → is_of_both client zone row ≡ true
+of_two client zone sysmod row h =
+    let first = and_parts (is_of client row) (is_named zone (column row 1) && is_named sysmod (column row 2)) h in
+    let second = and_parts (is_named zone (column row 1)) (is_named sysmod (column row 2)) first.1 in
+    and_from (is_of client row) (is_named zone (column row 1)) first.0 second.0
+
+-- one more SYSMOD of a zone
+pub next_row : (client zone : List ℕ) (rows : List ZoneRow) (i : ℕ) (row : ZoneRow) → AreZoneRows rows → i < length rows → row ≡ get_or rows i row
+    → (stored : Stored) → list_any (is_of_three client zone row.sysmod) (with_rows client zone (take i rows) (without_rows client zone stored)).rows ≡ false
+next_row client zone rows i row are low at stored =
+    gone_and_come (is_of_both client zone) (is_of_three client zone row.sysmod)
+    (λ one h. of_two client zone row.sysmod one h) stored.rows (zone_row client zone) (take i rows) (λ other here h.
+    let same = named other.sysmod row.sysmod (all_has (λ r. IsId r.sysmod) rows other are.ids (taken_has i rows other here)) (and_parts _ _ (and_parts _ _ h).1).1 in
+    none_before (λ a b. id_cmp a.sysmod b.sysmod) rows (ascend_so id_cmp (λ (r : ZoneRow). r.sysmod) rows are.ascend) i row low at other here (same_order other.sysmod row.sysmod same))

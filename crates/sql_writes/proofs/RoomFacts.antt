@@ -1,0 +1,182 @@
+-- Why the statement is refused that inserts a row of one of the bureau's tables.
+use Rattle.std.proofs.Common.{◌≡◌, ◌≤◌, ◌<◌, ℕ, ℤ, pos, negsuc, false, true, List, [], ◌∷◌, Option, None, Some, Result, length, refl, sym, ◌∙◌, ap, subst, arith}
+use Rattle.std.specs.Prelude.{IfSome, nat_le}
+use Rattle.std.specs.List.{join_with_byte, list_any}
+use Rattle.std.proofs.Math.Bool.{and-true}
+use Rattle.std.proofs.lemmas.Bool.{and_parts}
+use Rattle.std.proofs.lemmas.Bool.Decides.{nat_tests}
+use Rattle.holddata.specs.HoldKey.{kind_order}
+use Rattle.holddata.specs.declared.hold.Hold.{Hold}
+use Rattle.holddata.specs.declared.key.Kind.{Kind}
+use Rattle.holddata.specs.declared.key.Kind.TheVariants.{ErrorHold, FixcatHold, SystemHold, UserHold}
+use Rattle.mcs_reader.specs.Id.{IsId, is_id_text, text_of}
+use Rattle.catalogue.specs.declared.change.Change.TheVariants.{Whole}
+use Rattle.catalogue.specs.declared.conditional.CondNeed.{CondNeed}
+use Rattle.catalogue.specs.declared.sysmod.Sysmod.{Sysmod}
+use Rattle.catalogue.specs.declared.sysmod.SysmodKind.{SysmodKind}
+use Rattle.catalogue.specs.declared.sysmod.SysmodKind.TheVariants.{Apar, Func, Ptf, Usermod}
+use Rattle.zone_lists.specs.declared.zones.ZoneRow.{ZoneRow}
+use Rattle.zone_lists.specs.declared.zones.ZoneState.{ZoneState}
+use Rattle.zone_lists.specs.declared.zones.ZoneState.TheVariants.{Accepted, Applied, Superseded}
+use Rattle.bureau_store.specs.Tables.{LastChange}
+use Rattle.sqlite.specs.Order.{Row}
+use Rattle.sqlite.specs.State.{HasCleanDisk, State}
+use Rattle.sqlite.specs.Values.{bound, bound_value}
+use Rattle.sqlite.specs.declared.error.Error.{Error}
+use Rattle.sqlite.specs.declared.types.Value.TheVariants.{Blob, Int, Text}
+use Rattle.sqlite_value.specs.Value.{owned}
+use Rattle.sqlite_value.specs.declared.value.ValueRef.{ValueRef}
+use Rattle.sql_texts.specs.Meaning.{Means}
+use Rattle.sql_texts.specs.Schema as schema
+use Rattle.sql_texts.specs.Schema.{bureau}
+use Rattle.sql_texts.specs.Writes.{insert_given}
+use Rattle.sql_tables.specs.Changes.{is_under}
+use Rattle.sql_tables.specs.Fit.{IsCond, IsHold}
+use Rattle.sql_tables.specs.Rows.{change_row, cond_row, head_row, hold_row, received_row, sup_row, sysmod_row, zone_row}
+use Rattle.sql_tables.specs.Stored.{is_of, is_of_both}
+use Rattle.sql_tables.specs.Values.{date_value, hold_kind_value, id_value, ids_value, optional_id_value, state_order, state_value, sysmod_kind_order, sysmod_kind_value, texts_value}
+use Rattle.sql_writes.specs.Excused.{Takes}
+use Rattle.sql_writes.specs.Parts.{is_of_three}
+use Rattle.sql_writes.specs.Room.{are_short, are_short_ids, is_short, is_short_change}
+use Rattle.sql_writes.specs.Running.{FailsInside, Ran}
+use Rattle.sql_writes.proofs.AbsentFacts.{unique_cond, unique_head, unique_hold, unique_last, unique_received, unique_sup, unique_sysmod, unique_zone_row}
+use Rattle.sql_writes.proofs.FittingFacts.{fits_cond, fits_head, fits_hold, fits_last_change, fits_received, fits_sup, fits_sysmod, fits_zone_row}
+use Rattle.sql_writes.proofs.StepFacts.{comes_takes}
+
+-- ---- lengths and numbers
+
+text_is_few : (text : List ℕ) → is_id_text text ≡ true → length text ≤ 7
+text_is_few text is = grind (arith, nat_tests)
+
+few : (id : List ℕ) → IsId id → length (text_of id) ≤ 7
+few id is = text_is_few (text_of id) is.0
+
+short_enough : (text : List ℕ) → is_short text ≡ true → length text ≤ 300000000
+short_enough text is = grind (arith, nat_tests)
+
+kind_low : (kind : Kind) → kind_order kind ≤ 3
+kind_low ErrorHold = omega arith
+kind_low SystemHold = omega arith
+kind_low UserHold = omega arith
+kind_low FixcatHold = omega arith
+
+sysmod_kind_low : (kind : SysmodKind) → sysmod_kind_order kind ≤ 3
+sysmod_kind_low Func = omega arith
+sysmod_kind_low Ptf = omega arith
+sysmod_kind_low Apar = omega arith
+sysmod_kind_low Usermod = omega arith
+
+state_low : (state : ZoneState) → state_order state ≤ 2
+state_low Applied = omega arith
+state_low Accepted = omega arith
+state_low Superseded = omega arith
+
+-- ---- what may be absent
+
+abbrev optional_text : Option (List ℕ) → List ℕ
+optional_text None = []
+optional_text (Some id) = text_of id
+
+optional_few : (id : Option (List ℕ)) → IfSome id IsId → length (optional_text id) ≤ 7
+optional_few None is = omega arith
+optional_few (Some id) is = few id is
+
+bound_optional : (id : Option (List ℕ)) → bound_value (optional_id_value id) ≡ Text (optional_text id)
+bound_optional None = refl
+bound_optional (Some id) = refl
+
+abbrev date_number : Option ℕ → ℤ
+date_number None = negsuc 0
+date_number (Some number) = pos number
+
+bound_date : (date : Option ℕ) → bound_value (date_value date) ≡ Int (date_number date)
+bound_date None = refl
+bound_date (Some number) = refl
+
+-- ---- one row each
+
+module _ (old new : State) (text : List ℕ) (result : Result (Unit {0}) Error) where
+  pub last_takes : (name : List ℕ) (last : LastChange) (a b c : ValueRef) → IsId name → owned a ≡ id_value name → owned b ≡ Int (pos last.number) → owned c ≡ Blob last.reply
+      → (HasCleanDisk old → Means bureau text (insert_given 2 3) 3) → Ran text (bound (a ∷ b ∷ c ∷ [])) old new result → FailsInside text (bound (a ∷ b ∷ c ∷ [])) old new result
+      → 0 < last.number → is_short last.reply ≡ true → Takes old new result 1 (λ stored. list_any (is_of name) stored.changes ≡ false)
+  last_takes name last a b c is at_a at_b at_c means ran fails some short =
+      let given : bound (a ∷ b ∷ c ∷ []) ≡ change_row name last = λ i. bound_value (at_a i) ∷ bound_value (at_b i) ∷ bound_value (at_c i) ∷ [] in
+      comes_takes text old new result 2 schema.last_change refl (λ database known. known.numbered.1.1.0) (λ most trees low. low.1.1.0) 3 (change_row name last) (λ stored. list_any (is_of name) stored.changes ≡ false)
+      means refl refl refl refl (fits_last_change (text_of name) last.number last.reply (few name is) (short_enough last.reply short) some)
+      (λ database known none. unique_last database known name (Int (pos last.number) ∷ Blob last.reply ∷ []) is none)
+      (subst (λ row. Ran text row old new result) given ran) (subst (λ row. FailsInside text row old new result) given fails)
+
+  pub sysmod_takes : (sysmod : Sysmod) (a b c d e : ValueRef) → IsId sysmod.id → owned a ≡ id_value sysmod.id → owned b ≡ sysmod_kind_value sysmod.kind → owned c ≡ ids_value sysmod.fmids → owned d ≡ ids_value sysmod.pre → owned e ≡ ids_value sysmod.req
+      → (HasCleanDisk old → Means bureau text (insert_given 3 5) 5) → Ran text (bound (a ∷ b ∷ c ∷ d ∷ e ∷ [])) old new result → FailsInside text (bound (a ∷ b ∷ c ∷ d ∷ e ∷ [])) old new result
+      → is_short_change (Whole sysmod) ≡ true → Takes old new result 1 (λ stored. list_any (is_of sysmod.id) stored.sysmods ≡ false)
+  sysmod_takes sysmod a b c d e is at_a at_b at_c at_d at_e means ran fails short =
+      let given : bound (a ∷ b ∷ c ∷ d ∷ e ∷ []) ≡ sysmod_row sysmod = λ i. bound_value (at_a i) ∷ bound_value (at_b i) ∷ bound_value (at_c i) ∷ bound_value (at_d i) ∷ bound_value (at_e i) ∷ [] in
+      let parts = and_parts (are_short_ids sysmod.fmids) _ short in
+      let rest = and_parts (are_short_ids sysmod.pre) (are_short_ids sysmod.req) parts.1 in
+      comes_takes text old new result 3 schema.sysmod refl (λ database known. known.numbered.1.1.1.0) (λ most trees low. low.1.1.1.0) 5 (sysmod_row sysmod) (λ stored. list_any (is_of sysmod.id) stored.sysmods ≡ false)
+      means refl refl refl refl
+      (fits_sysmod (text_of sysmod.id) (sysmod_kind_order sysmod.kind) _ _ _ (few sysmod.id is) (sysmod_kind_low sysmod.kind) (short_enough _ parts.0) (short_enough _ rest.0) (short_enough _ rest.1))
+      (λ database known none. unique_sysmod database known sysmod.id (sysmod_kind_value sysmod.kind ∷ ids_value sysmod.fmids ∷ ids_value sysmod.pre ∷ ids_value sysmod.req ∷ []) is none)
+      (subst (λ row. Ran text row old new result) given ran) (subst (λ row. FailsInside text row old new result) given fails)
+
+  pub sup_takes : (id member : List ℕ) (a b : ValueRef) → IsId id → IsId member → owned a ≡ id_value id → owned b ≡ id_value member
+      → (HasCleanDisk old → Means bureau text (insert_given 4 2) 2) → Ran text (bound (a ∷ b ∷ [])) old new result → FailsInside text (bound (a ∷ b ∷ [])) old new result
+      → Takes old new result 1 (λ stored. list_any (is_of_both id member) stored.sups ≡ false)
+  sup_takes id member a b is is_member at_a at_b means ran fails =
+      let given : bound (a ∷ b ∷ []) ≡ sup_row id member = λ i. bound_value (at_a i) ∷ bound_value (at_b i) ∷ [] in
+      comes_takes text old new result 4 schema.sysmod_sup refl (λ database known. known.numbered.1.1.1.1.0) (λ most trees low. low.1.1.1.1.0) 2 (sup_row id member) (λ stored. list_any (is_of_both id member) stored.sups ≡ false)
+      means refl refl refl refl (fits_sup (text_of id) (text_of member) (few id is) (few member is_member)) (λ database known none. unique_sup database known id member is is_member none)
+      (subst (λ row. Ran text row old new result) given ran) (subst (λ row. FailsInside text row old new result) given fails)
+
+  pub cond_takes : (id : List ℕ) (cond : CondNeed) (a b c : ValueRef) → IsId id → IsId cond.fmid → IsId cond.need → owned a ≡ id_value id → owned b ≡ id_value cond.fmid → owned c ≡ id_value cond.need
+      → (HasCleanDisk old → Means bureau text (insert_given 9 3) 3) → Ran text (bound (a ∷ b ∷ c ∷ [])) old new result → FailsInside text (bound (a ∷ b ∷ c ∷ [])) old new result
+      → Takes old new result 1 (λ stored. list_any (is_of_three id cond.fmid cond.need) stored.conds ≡ false)
+  cond_takes id cond a b c is is_fmid is_need at_a at_b at_c means ran fails =
+      let given : bound (a ∷ b ∷ c ∷ []) ≡ cond_row id cond = λ i. bound_value (at_a i) ∷ bound_value (at_b i) ∷ bound_value (at_c i) ∷ [] in
+      comes_takes text old new result 9 schema.sysmod_cond refl (λ database known. known.numbered.1.1.1.1.1.1.1.1.1.0) (λ most trees low. low.1.1.1.1.1.1.1.1.1.0) 3 (cond_row id cond) (λ stored. list_any (is_of_three id cond.fmid cond.need) stored.conds ≡ false)
+      means refl refl refl refl (fits_cond (text_of id) (text_of cond.fmid) (text_of cond.need) (few id is) (few cond.fmid is_fmid) (few cond.need is_need))
+      (λ database known none. unique_cond database known id cond.fmid cond.need is is_fmid is_need none)
+      (subst (λ row. Ran text row old new result) given ran) (subst (λ row. FailsInside text row old new result) given fails)
+
+  pub hold_takes : (hold : Hold) (a b c d e f h k : ValueRef) → owned a ≡ id_value hold.key.sysmod → owned b ≡ hold_kind_value hold.key.kind → owned c ≡ id_value hold.key.reason → owned d ≡ optional_id_value hold.fmid → owned e ≡ optional_id_value hold.class → owned f ≡ date_value hold.dated → owned h ≡ optional_id_value hold.resolver → owned k ≡ texts_value hold.categories
+      → (HasCleanDisk old → Means bureau text (insert_given 5 8) 8) → Ran text (bound (a ∷ b ∷ c ∷ d ∷ e ∷ f ∷ h ∷ k ∷ [])) old new result → FailsInside text (bound (a ∷ b ∷ c ∷ d ∷ e ∷ f ∷ h ∷ k ∷ [])) old new result
+      → IsHold hold → are_short hold.categories ≡ true → Takes old new result 1 (λ stored. list_any (is_under hold.key) stored.holds ≡ false)
+  hold_takes hold a b c d e f h k at_a at_b at_c at_d at_e at_f at_h at_k means ran fails is short =
+      let rest : Row = Text (optional_text hold.fmid) ∷ Text (optional_text hold.class) ∷ Int (date_number hold.dated) ∷ Text (optional_text hold.resolver) ∷ texts_value hold.categories ∷ [] in
+      let values : Row = id_value hold.key.sysmod ∷ hold_kind_value hold.key.kind ∷ id_value hold.key.reason ∷ rest in
+      let given : bound (a ∷ b ∷ c ∷ d ∷ e ∷ f ∷ h ∷ k ∷ []) ≡ values = λ i. bound_value (at_a i) ∷ bound_value (at_b i) ∷ bound_value (at_c i) ∷ (ap bound_value at_d ∙ bound_optional hold.fmid) i ∷ (ap bound_value at_e ∙ bound_optional hold.class) i ∷ (ap bound_value at_f ∙ bound_date hold.dated) i ∷ (ap bound_value at_h ∙ bound_optional hold.resolver) i ∷ bound_value (at_k i) ∷ [] in
+      comes_takes text old new result 5 schema.hold_row refl (λ database known. known.numbered.1.1.1.1.1.0) (λ most trees low. low.1.1.1.1.1.0) 8 values (λ stored. list_any (is_under hold.key) stored.holds ≡ false)
+      means refl refl refl refl
+      (fits_hold (text_of hold.key.sysmod) (kind_order hold.key.kind) (text_of hold.key.reason) (optional_text hold.fmid) (optional_text hold.class) (date_number hold.dated) (optional_text hold.resolver) _
+      (few hold.key.sysmod is.sysmod) (kind_low hold.key.kind) (few hold.key.reason is.reason) (optional_few hold.fmid is.fmid) (optional_few hold.class is.class) (optional_few hold.resolver is.resolver) (short_enough _ short))
+      (λ database known none. unique_hold database known hold.key rest is.sysmod is.reason none)
+      (subst (λ row. Ran text row old new result) given ran) (subst (λ row. FailsInside text row old new result) given fails)
+
+  pub head_takes : (client zone : List ℕ) (patterns : List (List ℕ)) (a b c : ValueRef) → IsId client → IsId zone → owned a ≡ id_value client → owned b ≡ id_value zone → owned c ≡ texts_value patterns
+      → (HasCleanDisk old → Means bureau text (insert_given 6 3) 3) → Ran text (bound (a ∷ b ∷ c ∷ [])) old new result → FailsInside text (bound (a ∷ b ∷ c ∷ [])) old new result
+      → are_short patterns ≡ true → Takes old new result 1 (λ stored. list_any (is_of_both client zone) stored.heads ≡ false)
+  head_takes client zone patterns a b c is is_zone at_a at_b at_c means ran fails short =
+      let given : bound (a ∷ b ∷ c ∷ []) ≡ head_row client zone patterns = λ i. bound_value (at_a i) ∷ bound_value (at_b i) ∷ bound_value (at_c i) ∷ [] in
+      comes_takes text old new result 6 schema.zone_head refl (λ database known. known.numbered.1.1.1.1.1.1.0) (λ most trees low. low.1.1.1.1.1.1.0) 3 (head_row client zone patterns) (λ stored. list_any (is_of_both client zone) stored.heads ≡ false)
+      means refl refl refl refl (fits_head (text_of client) (text_of zone) _ (few client is) (few zone is_zone) (short_enough _ short))
+      (λ database known none. unique_head database known client zone (texts_value patterns ∷ []) is is_zone none)
+      (subst (λ row. Ran text row old new result) given ran) (subst (λ row. FailsInside text row old new result) given fails)
+
+  pub zone_row_takes : (client zone : List ℕ) (row : ZoneRow) (a b c d : ValueRef) → IsId client → IsId zone → IsId row.sysmod → owned a ≡ id_value client → owned b ≡ id_value zone → owned c ≡ id_value row.sysmod → owned d ≡ state_value row.state
+      → (HasCleanDisk old → Means bureau text (insert_given 7 4) 4) → Ran text (bound (a ∷ b ∷ c ∷ d ∷ [])) old new result → FailsInside text (bound (a ∷ b ∷ c ∷ d ∷ [])) old new result
+      → Takes old new result 1 (λ stored. list_any (is_of_three client zone row.sysmod) stored.rows ≡ false)
+  zone_row_takes client zone row a b c d is is_zone is_sysmod at_a at_b at_c at_d means ran fails =
+      let given : bound (a ∷ b ∷ c ∷ d ∷ []) ≡ zone_row client zone row = λ i. bound_value (at_a i) ∷ bound_value (at_b i) ∷ bound_value (at_c i) ∷ bound_value (at_d i) ∷ [] in
+      comes_takes text old new result 7 schema.zone_row refl (λ database known. known.numbered.1.1.1.1.1.1.1.0) (λ most trees low. low.1.1.1.1.1.1.1.0) 4 (zone_row client zone row) (λ stored. list_any (is_of_three client zone row.sysmod) stored.rows ≡ false)
+      means refl refl refl refl (fits_zone_row (text_of client) (text_of zone) (text_of row.sysmod) (state_order row.state) (few client is) (few zone is_zone) (few row.sysmod is_sysmod) (state_low row.state))
+      (λ database known none. unique_zone_row database known client zone row.sysmod (state_value row.state ∷ []) is is_zone is_sysmod none)
+      (subst (λ row. Ran text row old new result) given ran) (subst (λ row. FailsInside text row old new result) given fails)
+
+  pub received_takes : (client : List ℕ) (ids : List (List ℕ)) (a b : ValueRef) → IsId client → owned a ≡ id_value client → owned b ≡ ids_value ids
+      → (HasCleanDisk old → Means bureau text (insert_given 8 2) 2) → Ran text (bound (a ∷ b ∷ [])) old new result → FailsInside text (bound (a ∷ b ∷ [])) old new result
+      → are_short_ids ids ≡ true → Takes old new result 1 (λ stored. list_any (is_of client) stored.received ≡ false)
+  received_takes client ids a b is at_a at_b means ran fails short =
+      let given : bound (a ∷ b ∷ []) ≡ received_row client ids = λ i. bound_value (at_a i) ∷ bound_value (at_b i) ∷ [] in
+      comes_takes text old new result 8 schema.received_list refl (λ database known. known.numbered.1.1.1.1.1.1.1.1.0) (λ most trees low. low.1.1.1.1.1.1.1.1.0) 2 (received_row client ids) (λ stored. list_any (is_of client) stored.received ≡ false)
+      means refl refl refl refl (fits_received (text_of client) _ (few client is) (short_enough _ short)) (λ database known none. unique_received database known client (ids_value ids ∷ []) is none)
+      (subst (λ row. Ran text row old new result) given ran) (subst (λ row. FailsInside text row old new result) given fails)
