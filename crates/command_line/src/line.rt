@@ -62,6 +62,10 @@ pub enum Line {
         store: String,
         callers: String,
     },
+    /// `check STORE`: the store in a file is looked through, and stays as it is.
+    Check {
+        store: String,
+    },
 }
 
 /// Why words are no line.
@@ -126,6 +130,7 @@ fn line_with(alloc: Global, name: &str, matches: &ArgMatches) -> Result<Option<L
         "missingfix" => missing_fix_with(alloc, matches),
         "chain" => chain_with(alloc, matches),
         "callers" => callers_with(alloc, matches),
+        "check" => check_with(alloc, matches),
         _ => Ok(None),
     }
 }
@@ -252,6 +257,16 @@ fn callers_with(alloc: Global, matches: &ArgMatches) -> Result<Option<Line>, NoM
     let store = String::from_str(alloc, store)?;
     let callers = String::from_str(alloc, callers)?;
     Ok(Some(Line::Callers { store, callers }))
+}
+
+fn check_with(alloc: Global, matches: &ArgMatches) -> Result<Option<Line>, NoMemory>
+    ensures { IfOk result (IsFound (IsLineWith (codes "check") (rows_of (found_of matches.now)))) }
+{
+    let Some(store) = matches.get_str("store") else {
+        return Ok(None);
+    };
+    let store = String::from_str(alloc, store)?;
+    Ok(Some(Line::Check { store }))
 }
 
 // The names of a report's files. What a command has no argument for isn't among its matches.

@@ -3,7 +3,7 @@ use Rattle.clap.specs.Words.{Row, Text, first_of, found_of, rows_of}
 use Rattle.clap.proofs.WalkLemmas.{first_value-rows}
 use Rattle.command_line.specs.Line.{IsLineWith}
 use Rattle.command_line.specs.declared.line.Line.{Line}
-use Rattle.command_line.specs.declared.line.Line.TheVariants.{Callers, Chain, ErrSysmods, Holds, Init, Migrate, MissingFix, Replay, Serve}
+use Rattle.command_line.specs.declared.line.Line.TheVariants.{Callers, Chain, Check, ErrSysmods, Holds, Init, Migrate, MissingFix, Replay, Serve}
 use Rattle.command_line.proofs.LineFacts.{letter, other_command, third_letter}
 use Rattle.command_line.proofs.line.callers_with.Goals as goal
 
@@ -19,6 +19,7 @@ no_line rows (ErrSysmods files) none is = other_command 99 101 (omega arith) (ap
 no_line rows (MissingFix files) none is = other_command 99 109 (omega arith) (ap letter is.0)
 no_line rows (Chain sysmod files) none is = other_command 108 97 (omega arith) (ap third_letter is.0)
 no_line rows (Callers store callers) none is = none (string_bytes store) (string_bytes callers) is.1
+no_line rows (Check store) none is = other_command 108 101 (omega arith) (ap third_letter is.0)
 
 pub returns-in_default : goal.returns-in_default
 returns-in_default c line is =
