@@ -4,7 +4,7 @@ use Rattle.clap.specs.Words.{Row, Text, subcommand_of}
 use Rattle.command_line.specs.Line.{HasFiles, HasOneLine, IsLineIn, IsLineWith, IsNumberIn, bureau_app, options_said, said, texts_said}
 use Rattle.command_line.specs.declared.line.Line.{Line}
 use Rattle.run_parts.specs.declared.report_files.ReportFiles.{ReportFiles}
-use Rattle.command_line.specs.declared.line.Line.TheVariants.{Chain, ErrSysmods, Holds, Init, Migrate, MissingFix, Replay, Serve}
+use Rattle.command_line.specs.declared.line.Line.TheVariants.{Callers, Chain, Check, ErrSysmods, Holds, Init, Migrate, MissingFix, Replay, Serve}
 
 -- the first letter of a command, by which the commands are told apart
 abbrev pub letter : Text → ℕ
@@ -53,6 +53,9 @@ one_with name rows (MissingFix files) (MissingFix other) is also = one_files row
 one_with name rows (Chain sysmod files) (Chain other_sysmod other) is also =
     one_files rows (codes "chain") (string_bytes sysmod ∷ []) files other is.1.1 also.1.1
     ∙ ap (λ (text : Text). (codes "chain", [], text ∷ texts_said other, options_said other)) (some_once _ _ _ is.1.0 also.1.0)
+one_with name rows (Callers store callers) (Callers other more) is also =
+    ap₂ (λ (text more : Text). (codes "callers", [], text ∷ more ∷ [], [])) (some_once _ _ _ is.1.0 also.1.0) (some_once _ _ _ is.1.1 also.1.1)
+one_with name rows (Check store) (Check other) is also = ap (λ (text : Text). (codes "check", [], text ∷ [], [])) (some_once _ _ _ is.1 also.1)
 one_with name rows (Holds file) (Init other_store other_callers) is also = other_command 104 105 (omega arith) (ap letter (sym is.0 ∙ also.0))
 one_with name rows (Holds file) (Serve other_port other_cache other_connections other_store) is also = other_command 104 115 (omega arith) (ap letter (sym is.0 ∙ also.0))
 one_with name rows (Holds file) (Replay other_cache other_callers other_files) is also = other_command 104 114 (omega arith) (ap letter (sym is.0 ∙ also.0))
@@ -60,6 +63,8 @@ one_with name rows (Holds file) (Migrate other_store) is also = other_command 10
 one_with name rows (Holds file) (ErrSysmods other_files) is also = other_command 104 101 (omega arith) (ap letter (sym is.0 ∙ also.0))
 one_with name rows (Holds file) (MissingFix other_files) is also = other_command 104 109 (omega arith) (ap letter (sym is.0 ∙ also.0))
 one_with name rows (Holds file) (Chain other_sysmod other_files) is also = other_command 104 99 (omega arith) (ap letter (sym is.0 ∙ also.0))
+one_with name rows (Holds file) (Callers other_store other_callers) is also = other_command 104 99 (omega arith) (ap letter (sym is.0 ∙ also.0))
+one_with name rows (Holds file) (Check other_store) is also = other_command 104 99 (omega arith) (ap letter (sym is.0 ∙ also.0))
 one_with name rows (Init store callers) (Holds other_file) is also = other_command 105 104 (omega arith) (ap letter (sym is.0 ∙ also.0))
 one_with name rows (Init store callers) (Serve other_port other_cache other_connections other_store) is also = other_command 105 115 (omega arith) (ap letter (sym is.0 ∙ also.0))
 one_with name rows (Init store callers) (Replay other_cache other_callers other_files) is also = other_command 105 114 (omega arith) (ap letter (sym is.0 ∙ also.0))
@@ -67,6 +72,8 @@ one_with name rows (Init store callers) (Migrate other_store) is also = other_co
 one_with name rows (Init store callers) (ErrSysmods other_files) is also = other_command 105 101 (omega arith) (ap letter (sym is.0 ∙ also.0))
 one_with name rows (Init store callers) (MissingFix other_files) is also = other_command 105 109 (omega arith) (ap letter (sym is.0 ∙ also.0))
 one_with name rows (Init store callers) (Chain other_sysmod other_files) is also = other_command 105 99 (omega arith) (ap letter (sym is.0 ∙ also.0))
+one_with name rows (Init store callers) (Callers other_store other_callers) is also = other_command 105 99 (omega arith) (ap letter (sym is.0 ∙ also.0))
+one_with name rows (Init store callers) (Check other_store) is also = other_command 105 99 (omega arith) (ap letter (sym is.0 ∙ also.0))
 one_with name rows (Serve port cache connections store) (Holds other_file) is also = other_command 115 104 (omega arith) (ap letter (sym is.0 ∙ also.0))
 one_with name rows (Serve port cache connections store) (Init other_store other_callers) is also = other_command 115 105 (omega arith) (ap letter (sym is.0 ∙ also.0))
 one_with name rows (Serve port cache connections store) (Replay other_cache other_callers other_files) is also = other_command 115 114 (omega arith) (ap letter (sym is.0 ∙ also.0))
@@ -74,6 +81,8 @@ one_with name rows (Serve port cache connections store) (Migrate other_store) is
 one_with name rows (Serve port cache connections store) (ErrSysmods other_files) is also = other_command 115 101 (omega arith) (ap letter (sym is.0 ∙ also.0))
 one_with name rows (Serve port cache connections store) (MissingFix other_files) is also = other_command 115 109 (omega arith) (ap letter (sym is.0 ∙ also.0))
 one_with name rows (Serve port cache connections store) (Chain other_sysmod other_files) is also = other_command 115 99 (omega arith) (ap letter (sym is.0 ∙ also.0))
+one_with name rows (Serve port cache connections store) (Callers other_store other_callers) is also = other_command 115 99 (omega arith) (ap letter (sym is.0 ∙ also.0))
+one_with name rows (Serve port cache connections store) (Check other_store) is also = other_command 115 99 (omega arith) (ap letter (sym is.0 ∙ also.0))
 one_with name rows (Replay cache callers files) (Holds other_file) is also = other_command 114 104 (omega arith) (ap letter (sym is.0 ∙ also.0))
 one_with name rows (Replay cache callers files) (Init other_store other_callers) is also = other_command 114 105 (omega arith) (ap letter (sym is.0 ∙ also.0))
 one_with name rows (Replay cache callers files) (Serve other_port other_cache other_connections other_store) is also = other_command 114 115 (omega arith) (ap letter (sym is.0 ∙ also.0))
@@ -81,6 +90,8 @@ one_with name rows (Replay cache callers files) (Migrate other_store) is also = 
 one_with name rows (Replay cache callers files) (ErrSysmods other_files) is also = other_command 114 101 (omega arith) (ap letter (sym is.0 ∙ also.0))
 one_with name rows (Replay cache callers files) (MissingFix other_files) is also = other_command 114 109 (omega arith) (ap letter (sym is.0 ∙ also.0))
 one_with name rows (Replay cache callers files) (Chain other_sysmod other_files) is also = other_command 114 99 (omega arith) (ap letter (sym is.0 ∙ also.0))
+one_with name rows (Replay cache callers files) (Callers other_store other_callers) is also = other_command 114 99 (omega arith) (ap letter (sym is.0 ∙ also.0))
+one_with name rows (Replay cache callers files) (Check other_store) is also = other_command 114 99 (omega arith) (ap letter (sym is.0 ∙ also.0))
 one_with name rows (Migrate store) (Holds other_file) is also = other_command 109 104 (omega arith) (ap letter (sym is.0 ∙ also.0))
 one_with name rows (Migrate store) (Init other_store other_callers) is also = other_command 109 105 (omega arith) (ap letter (sym is.0 ∙ also.0))
 one_with name rows (Migrate store) (Serve other_port other_cache other_connections other_store) is also = other_command 109 115 (omega arith) (ap letter (sym is.0 ∙ also.0))
@@ -88,6 +99,8 @@ one_with name rows (Migrate store) (Replay other_cache other_callers other_files
 one_with name rows (Migrate store) (ErrSysmods other_files) is also = other_command 109 101 (omega arith) (ap letter (sym is.0 ∙ also.0))
 one_with name rows (Migrate store) (MissingFix other_files) is also = other_command 103 115 (omega arith) (ap third_letter (sym is.0 ∙ also.0))
 one_with name rows (Migrate store) (Chain other_sysmod other_files) is also = other_command 109 99 (omega arith) (ap letter (sym is.0 ∙ also.0))
+one_with name rows (Migrate store) (Callers other_store other_callers) is also = other_command 109 99 (omega arith) (ap letter (sym is.0 ∙ also.0))
+one_with name rows (Migrate store) (Check other_store) is also = other_command 109 99 (omega arith) (ap letter (sym is.0 ∙ also.0))
 one_with name rows (ErrSysmods files) (Holds other_file) is also = other_command 101 104 (omega arith) (ap letter (sym is.0 ∙ also.0))
 one_with name rows (ErrSysmods files) (Init other_store other_callers) is also = other_command 101 105 (omega arith) (ap letter (sym is.0 ∙ also.0))
 one_with name rows (ErrSysmods files) (Serve other_port other_cache other_connections other_store) is also = other_command 101 115 (omega arith) (ap letter (sym is.0 ∙ also.0))
@@ -95,6 +108,8 @@ one_with name rows (ErrSysmods files) (Replay other_cache other_callers other_fi
 one_with name rows (ErrSysmods files) (Migrate other_store) is also = other_command 101 109 (omega arith) (ap letter (sym is.0 ∙ also.0))
 one_with name rows (ErrSysmods files) (MissingFix other_files) is also = other_command 101 109 (omega arith) (ap letter (sym is.0 ∙ also.0))
 one_with name rows (ErrSysmods files) (Chain other_sysmod other_files) is also = other_command 101 99 (omega arith) (ap letter (sym is.0 ∙ also.0))
+one_with name rows (ErrSysmods files) (Callers other_store other_callers) is also = other_command 101 99 (omega arith) (ap letter (sym is.0 ∙ also.0))
+one_with name rows (ErrSysmods files) (Check other_store) is also = other_command 101 99 (omega arith) (ap letter (sym is.0 ∙ also.0))
 one_with name rows (MissingFix files) (Holds other_file) is also = other_command 109 104 (omega arith) (ap letter (sym is.0 ∙ also.0))
 one_with name rows (MissingFix files) (Init other_store other_callers) is also = other_command 109 105 (omega arith) (ap letter (sym is.0 ∙ also.0))
 one_with name rows (MissingFix files) (Serve other_port other_cache other_connections other_store) is also = other_command 109 115 (omega arith) (ap letter (sym is.0 ∙ also.0))
@@ -102,6 +117,8 @@ one_with name rows (MissingFix files) (Replay other_cache other_callers other_fi
 one_with name rows (MissingFix files) (Migrate other_store) is also = other_command 115 103 (omega arith) (ap third_letter (sym is.0 ∙ also.0))
 one_with name rows (MissingFix files) (ErrSysmods other_files) is also = other_command 109 101 (omega arith) (ap letter (sym is.0 ∙ also.0))
 one_with name rows (MissingFix files) (Chain other_sysmod other_files) is also = other_command 109 99 (omega arith) (ap letter (sym is.0 ∙ also.0))
+one_with name rows (MissingFix files) (Callers other_store other_callers) is also = other_command 109 99 (omega arith) (ap letter (sym is.0 ∙ also.0))
+one_with name rows (MissingFix files) (Check other_store) is also = other_command 109 99 (omega arith) (ap letter (sym is.0 ∙ also.0))
 one_with name rows (Chain sysmod files) (Holds other_file) is also = other_command 99 104 (omega arith) (ap letter (sym is.0 ∙ also.0))
 one_with name rows (Chain sysmod files) (Init other_store other_callers) is also = other_command 99 105 (omega arith) (ap letter (sym is.0 ∙ also.0))
 one_with name rows (Chain sysmod files) (Serve other_port other_cache other_connections other_store) is also = other_command 99 115 (omega arith) (ap letter (sym is.0 ∙ also.0))
@@ -109,6 +126,26 @@ one_with name rows (Chain sysmod files) (Replay other_cache other_callers other_
 one_with name rows (Chain sysmod files) (Migrate other_store) is also = other_command 99 109 (omega arith) (ap letter (sym is.0 ∙ also.0))
 one_with name rows (Chain sysmod files) (ErrSysmods other_files) is also = other_command 99 101 (omega arith) (ap letter (sym is.0 ∙ also.0))
 one_with name rows (Chain sysmod files) (MissingFix other_files) is also = other_command 99 109 (omega arith) (ap letter (sym is.0 ∙ also.0))
+one_with name rows (Chain sysmod files) (Callers other_store other_callers) is also = other_command 97 108 (omega arith) (ap third_letter (sym is.0 ∙ also.0))
+one_with name rows (Chain sysmod files) (Check other_store) is also = other_command 97 101 (omega arith) (ap third_letter (sym is.0 ∙ also.0))
+one_with name rows (Callers store callers) (Holds other_file) is also = other_command 99 104 (omega arith) (ap letter (sym is.0 ∙ also.0))
+one_with name rows (Callers store callers) (Init other_store other_callers) is also = other_command 99 105 (omega arith) (ap letter (sym is.0 ∙ also.0))
+one_with name rows (Callers store callers) (Serve other_port other_cache other_connections other_store) is also = other_command 99 115 (omega arith) (ap letter (sym is.0 ∙ also.0))
+one_with name rows (Callers store callers) (Replay other_cache other_callers other_files) is also = other_command 99 114 (omega arith) (ap letter (sym is.0 ∙ also.0))
+one_with name rows (Callers store callers) (Migrate other_store) is also = other_command 99 109 (omega arith) (ap letter (sym is.0 ∙ also.0))
+one_with name rows (Callers store callers) (ErrSysmods other_files) is also = other_command 99 101 (omega arith) (ap letter (sym is.0 ∙ also.0))
+one_with name rows (Callers store callers) (MissingFix other_files) is also = other_command 99 109 (omega arith) (ap letter (sym is.0 ∙ also.0))
+one_with name rows (Callers store callers) (Chain other_sysmod other_files) is also = other_command 108 97 (omega arith) (ap third_letter (sym is.0 ∙ also.0))
+one_with name rows (Callers store callers) (Check other_store) is also = other_command 108 101 (omega arith) (ap third_letter (sym is.0 ∙ also.0))
+one_with name rows (Check store) (Holds other_file) is also = other_command 99 104 (omega arith) (ap letter (sym is.0 ∙ also.0))
+one_with name rows (Check store) (Init other_store other_callers) is also = other_command 99 105 (omega arith) (ap letter (sym is.0 ∙ also.0))
+one_with name rows (Check store) (Serve other_port other_cache other_connections other_store) is also = other_command 99 115 (omega arith) (ap letter (sym is.0 ∙ also.0))
+one_with name rows (Check store) (Replay other_cache other_callers other_files) is also = other_command 99 114 (omega arith) (ap letter (sym is.0 ∙ also.0))
+one_with name rows (Check store) (Migrate other_store) is also = other_command 99 109 (omega arith) (ap letter (sym is.0 ∙ also.0))
+one_with name rows (Check store) (ErrSysmods other_files) is also = other_command 99 101 (omega arith) (ap letter (sym is.0 ∙ also.0))
+one_with name rows (Check store) (MissingFix other_files) is also = other_command 99 109 (omega arith) (ap letter (sym is.0 ∙ also.0))
+one_with name rows (Check store) (Chain other_sysmod other_files) is also = other_command 101 97 (omega arith) (ap third_letter (sym is.0 ∙ also.0))
+one_with name rows (Check store) (Callers other_store other_callers) is also = other_command 101 108 (omega arith) (ap third_letter (sym is.0 ∙ also.0))
 
 one_in : (found : Option (Text × List Row)) (line other : Line) → IsLineIn found line → IsLineIn found other → said line ≡ said other
 one_in None line other is also = absurd is

@@ -6,7 +6,7 @@ use Rattle.clap.specs.declared.builder.ArgAction.TheVariants.{Append, Set}
 use Rattle.clap.specs.declared.builder.value_parser.ValueParser.TheVariants.{Signed}
 use Rattle.command_line.specs.declared.line.Line.{Line}
 use Rattle.run_parts.specs.declared.report_files.ReportFiles.{ReportFiles}
-use Rattle.command_line.specs.declared.line.Line.TheVariants.{Chain, ErrSysmods, Holds, Init, Migrate, MissingFix, Replay, Serve}
+use Rattle.command_line.specs.declared.line.Line.TheVariants.{Callers, Chain, Check, ErrSysmods, Holds, Init, Migrate, MissingFix, Replay, Serve}
 
 -- an argument that has to be given, with one value
 abbrev pub required_rule : Text → Rule
@@ -98,6 +98,14 @@ abbrev pub chain_app : App
 chain_app =
     with_rule (with_rule (with_rule (with_rule (new_app (codes "chain")) zone_rule) name_rule) (required_rule (codes "sysmod"))) (several_rule (codes "files"))
 
+-- `callers STORE CALLERS`
+abbrev pub callers_app : App
+callers_app = with_rule (with_rule (new_app (codes "callers")) (required_rule (codes "store"))) (required_rule (codes "callers"))
+
+-- `check STORE`
+abbrev pub check_app : App
+check_app = with_rule (new_app (codes "check")) (required_rule (codes "store"))
+
 -- a command that takes the words after its own name, has a version, and wants the name of one below it
 abbrev pub commands_named : Text → App
 commands_named name =
@@ -114,7 +122,9 @@ bureau_app =
     let migrate = with_subcommand replay migrate_app.top in
     let errsysmods = with_subcommand migrate err_sysmods_app.top in
     let missingfix = with_subcommand errsysmods missing_fix_app.top in
-    with_subcommand missingfix chain_app.top
+    let chain = with_subcommand missingfix chain_app.top in
+    let callers = with_subcommand chain callers_app.top in
+    with_subcommand callers check_app.top
 
 -- the text is a number in decimal digits, this one, and it is in the range
 abbrev pub IsNumberIn : ℕ → ℕ → Option Text → ℕ → Type 0
@@ -141,6 +151,8 @@ command_of (Migrate store) = codes "migrate"
 command_of (ErrSysmods files) = codes "errsysmods"
 command_of (MissingFix files) = codes "missingfix"
 command_of (Chain sysmod files) = codes "chain"
+command_of (Callers store callers) = codes "callers"
+command_of (Check store) = codes "check"
 
 -- the names of a report's files among the matches; what may be left out is there or not
 abbrev pub HasFiles : List Row → ReportFiles → Type 0
@@ -169,6 +181,9 @@ HasValues rows (Migrate store) = first_of (codes "store") rows ≡ Some (string_
 HasValues rows (ErrSysmods files) = HasFiles rows files
 HasValues rows (MissingFix files) = HasFiles rows files
 HasValues rows (Chain sysmod files) = (first_of (codes "sysmod") rows ≡ Some (string_bytes sysmod)) × HasFiles rows files
+HasValues rows (Callers store callers) =
+    (first_of (codes "store") rows ≡ Some (string_bytes store)) × (first_of (codes "callers") rows ≡ Some (string_bytes callers))
+HasValues rows (Check store) = first_of (codes "store") rows ≡ Some (string_bytes store)
 
 -- the command of this name, with these matches, has the line: each argument's value is that of the line
 abbrev pub IsLineWith : Text → List Row → Line → Type 0
@@ -202,6 +217,8 @@ said (Migrate store) = (codes "migrate", [], string_bytes store ∷ [], [])
 said (ErrSysmods files) = (codes "errsysmods", [], texts_said files, options_said files)
 said (MissingFix files) = (codes "missingfix", [], texts_said files, options_said files)
 said (Chain sysmod files) = (codes "chain", [], string_bytes sysmod ∷ texts_said files, options_said files)
+said (Callers store callers) = (codes "callers", [], string_bytes store ∷ string_bytes callers ∷ [], [])
+said (Check store) = (codes "check", [], string_bytes store ∷ [], [])
 
 -- words have at most one line
 abbrev pub HasOneLine : List Text → Type 0

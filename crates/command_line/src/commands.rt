@@ -2,7 +2,7 @@
 ghost use Rattle.std.specs.Prelude.{◌≡◌, false, codes, IfOk};
 ghost use Rattle.clap.specs.Words.{app_of, rule_of};
 ghost use Rattle.clap.specs.declared.builder.command.Command.TheViews.{out-Command as fields_of};
-ghost use Rattle.command_line.specs.Line.{bureau_app, cache_rule, categories_rule, chain_app, commands_named, connections_rule, err_sysmods_app, holds_app, init_app, migrate_app, missing_fix_app, name_rule, port_rule, received_rule, replay_app, required_rule, serve_app, several_rule, zone_rule};
+ghost use Rattle.command_line.specs.Line.{bureau_app, cache_rule, callers_app, categories_rule, chain_app, check_app, commands_named, connections_rule, err_sysmods_app, holds_app, init_app, migrate_app, missing_fix_app, name_rule, port_rule, received_rule, replay_app, required_rule, serve_app, several_rule, zone_rule};
 
 use crate::help::{STATUSES_AND_FAULTS, VERSION};
 use clap::{Arg, ArgAction, Command};
@@ -21,7 +21,9 @@ pub fn command<'a>(alloc: Global) -> Result<Command<'a>, NoMemory>
     let with_migrate = with_replay.subcommand(migrate_command(alloc)?)?;
     let with_errsysmods = with_migrate.subcommand(err_sysmods_command(alloc)?)?;
     let with_missingfix = with_errsysmods.subcommand(missing_fix_command(alloc)?)?;
-    with_missingfix.subcommand(chain_command(alloc)?)
+    let with_chain = with_missingfix.subcommand(chain_command(alloc)?)?;
+    let with_callers = with_chain.subcommand(callers_command(alloc)?)?;
+    with_callers.subcommand(check_command(alloc)?)
 }
 
 // The program, with no command yet.
@@ -151,6 +153,32 @@ fn chain_command<'a>(alloc: Global) -> Result<Command<'a>, NoMemory>
         .arg(name_option(alloc))?
         .arg(sysmod_argument(alloc))?
         .arg(publications_argument(alloc))
+}
+
+// `callers STORE CALLERS`
+fn callers_command<'a>(alloc: Global) -> Result<Command<'a>, NoMemory>
+    ensures app { IfOk result (λ command. app_of command ≡ callers_app) }
+    ensures local { IfOk result (λ command. (fields_of command).has_globals ≡ false) }
+{
+    let store = store_argument(alloc);
+    let callers = callers_argument(alloc);
+    Command::new(alloc, "callers")
+        .about(
+            "Gives STORE these callers and no others; who stays keeps all, and who is gone leaves nothing",
+        )
+        .arg(store)?
+        .arg(callers)
+}
+
+// `check STORE`
+fn check_command<'a>(alloc: Global) -> Result<Command<'a>, NoMemory>
+    ensures app { IfOk result (λ command. app_of command ≡ check_app) }
+    ensures local { IfOk result (λ command. (fields_of command).has_globals ≡ false) }
+{
+    let store = store_argument(alloc);
+    Command::new(alloc, "check")
+        .about("Looks through all of STORE, changes nothing, and prints how much each caller has")
+        .arg(store)
 }
 
 // `--zone ZONE`

@@ -57,6 +57,15 @@ pub enum Line {
         sysmod: String,
         files: ReportFiles,
     },
+    /// `callers STORE CALLERS`: the store in a file has these callers, and no others.
+    Callers {
+        store: String,
+        callers: String,
+    },
+    /// `check STORE`: the store in a file is looked through, and stays as it is.
+    Check {
+        store: String,
+    },
 }
 
 /// Why words are no line.
@@ -120,6 +129,8 @@ fn line_with(alloc: Global, name: &str, matches: &ArgMatches) -> Result<Option<L
         "errsysmods" => err_sysmods_with(alloc, matches),
         "missingfix" => missing_fix_with(alloc, matches),
         "chain" => chain_with(alloc, matches),
+        "callers" => callers_with(alloc, matches),
+        "check" => check_with(alloc, matches),
         _ => Ok(None),
     }
 }
@@ -232,6 +243,30 @@ fn chain_with(alloc: Global, matches: &ArgMatches) -> Result<Option<Line>, NoMem
     };
     let sysmod = String::from_str(alloc, sysmod)?;
     Ok(Some(Line::Chain { sysmod, files }))
+}
+
+fn callers_with(alloc: Global, matches: &ArgMatches) -> Result<Option<Line>, NoMemory>
+    ensures { IfOk result (IsFound (IsLineWith (codes "callers") (rows_of (found_of matches.now)))) }
+{
+    let Some(store) = matches.get_str("store") else {
+        return Ok(None);
+    };
+    let Some(callers) = matches.get_str("callers") else {
+        return Ok(None);
+    };
+    let store = String::from_str(alloc, store)?;
+    let callers = String::from_str(alloc, callers)?;
+    Ok(Some(Line::Callers { store, callers }))
+}
+
+fn check_with(alloc: Global, matches: &ArgMatches) -> Result<Option<Line>, NoMemory>
+    ensures { IfOk result (IsFound (IsLineWith (codes "check") (rows_of (found_of matches.now)))) }
+{
+    let Some(store) = matches.get_str("store") else {
+        return Ok(None);
+    };
+    let store = String::from_str(alloc, store)?;
+    Ok(Some(Line::Check { store }))
 }
 
 // The names of a report's files. What a command has no argument for isn't among its matches.

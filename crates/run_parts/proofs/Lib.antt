@@ -1,2 +1,3 @@
 pub mod FilesFacts
+pub mod LineFacts
 pub mod OutputFacts

@@ -1,5 +1,5 @@
 -- What the two streams of a run get, how it ends, and how a run ends that makes nothing.
-use Rattle.std.specs.Prelude.{◌≡◌, ℕ, List, Option, Some, None, Result, Ok, Err}
+use Rattle.std.specs.Prelude.{◌≡◌, ◌++◌, ℕ, List, Option, Some, None, Result, Ok, Err, codes, decimal}
 use Rattle.std.specs.Io.KnownBytes.{Keeps}
 use Rattle.faults.specs.FaultText as fault_text
 use Rattle.faults.specs.declared.any.AnyFault.{AnyFault}
@@ -11,6 +11,10 @@ use Rattle.run_parts.specs.declared.fault.ProgramFault.{ProgramFault}
 abbrev pub IsTold : Option AnyFault → Option (List ℕ) → Option (List ℕ) → Type 0
 IsTold None old new = Keeps old new
 IsTold (Some fault) old new = AppendsFront old new (fault_text.text_of fault)
+
+-- the line of a fault with a name after it: that of the file that it is in, or of the table
+abbrev pub line_in : AnyFault → List ℕ → List ℕ
+line_in fault name = codes "FAULT " ++ decimal fault.number ++ fault_text.place_text fault.place ++ codes " " ++ name ++ codes "\n"
 
 -- the exit status: 0, or that of the fault that ended the run
 abbrev pub run_status : Option AnyFault → ℕ

@@ -1,12 +1,12 @@
 //! What standard error gets where a run ends, and the exit status.
-ghost use Rattle.std.specs.Prelude.{◌≡◌, Some};
-ghost use Rattle.run_parts.specs.Outputs.{IsTold, fault_in, run_status};
+ghost use Rattle.std.specs.Prelude.{◌≡◌, ◌-◌, Some, length, take};
+ghost use Rattle.run_parts.specs.Outputs.{IsTold, fault_in, line_in, run_status};
 ghost use Rattle.run_parts.specs.ProgramFault.{of_program};
 ghost use Rattle.transfer.specs.Transfer.{AppendsFront};
 
 use crate::fault::{ProgramFault, exit_status, report, tell};
 use faults::AnyFault;
-use std::io::Write;
+use std::io::{self, Write};
 
 // The exit status where the words aren't understood.
 const NOT_UNDERSTOOD: u8 = 2;
@@ -42,4 +42,26 @@ pub fn explain<E: Write>(errors: &mut E, text: &str) -> u8
 {
     let _ = tell(errors, text.as_bytes());
     NOT_UNDERSTOOD
+}
+
+/// Tells a fault with a name after it, that of the file that it is in or of the table. It takes no memory.
+///
+/// # Errors
+///
+/// The writer's own. It has a front part of the line then.
+pub fn tell_in<E: Write>(errors: &mut E, fault: AnyFault, name: &str) -> io::Result<()>
+    ensures { AppendsFront (E.contents errors.old) (E.contents errors.new) (line_in fault name.now) }
+{
+    let line = fault.text();
+    tell(errors, without_end(line.as_str().as_bytes()))?;
+    tell(errors, b" ")?;
+    tell(errors, name.as_bytes())?;
+    tell(errors, b"\n")
+}
+
+// A line without its last byte.
+fn without_end(line: &[u8]) -> &[u8]
+    ensures { result.now ≡ take (length line.now - 1) line.now }
+{
+    &line[..line.len().saturating_sub(1)]
 }

@@ -1,3 +1,4 @@
+pub mod CauseFacts
 pub mod KeyFacts
 pub mod OursFacts
 pub mod RowFacts

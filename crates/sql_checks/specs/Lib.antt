@@ -1,4 +1,5 @@
 pub mod Checked
 pub mod Kept
+pub mod Refused
 pub mod Shapes
 pub mod Tally

@@ -1,7 +1,9 @@
 //! Whether a database is the bureau's own, with all its rows.
-ghost use Rattle.std.specs.Prelude.{◌≡◌, ◌↔◌, IfOk, IsTrue, false};
+ghost use Rattle.std.specs.Prelude.{◌≡◌, ◌↔◌, IfErr, IfOk, IsTrue, false};
 ghost use Rattle.sqlite.specs.Held.{state};
+ghost use Rattle.sqlite.specs.State.{HasCleanDisk};
 ghost use Rattle.sql_checks.specs.Checked.{Finds, IsFound, IsRowSeen, IsSeen, Looks};
+ghost use Rattle.sql_checks.specs.Refused.{AreUnseen, IsCausedBy, IsUnread, IsUnseen};
 ghost use Rattle.sql_texts.specs.Schema.{bureau};
 
 use crate::law::sound;
@@ -28,8 +30,9 @@ pub enum Finding {
 // Whether a connection has the tables of version 2, made as the bureau makes them.
 fn has_tables<S: Alter>(alloc: Global, conn: &Connection<S>) -> Result<bool, ReadFault>
     requires { conn.now.in_transaction ≡ false }
-    ensures { IfOk result (λ has. IsTrue (state S.Store conn.now).is_open
+    ensures has { IfOk result (λ has. IsTrue (state S.Store conn.now).is_open
         → IsTrue has ↔ ((state S.Store conn.now).committed.schema ≡ bureau)) }
+    ensures memory { IfErr result (λ fault. fault ≡ ReadFault.Memory) }
 {
     let _settled = conn.is_autocommit();
     Ok(is_store_schema(alloc, conn.schema())?)
@@ -44,6 +47,8 @@ pub fn check<S: Alter>(alloc: Global, conn: &mut Connection<S>) -> Result<Findin
     requires rest { conn.old.in_transaction ≡ false }
     ensures mode { conn.new.in_transaction ≡ false }
     ensures finds { Finds (state S.Store conn.old) (state S.Store conn.new) result IsFound }
+    ensures cause { IfErr result (λ fault. fault ≡ ReadFault.Device → HasCleanDisk (state S.Store conn.new)
+        → IsCausedBy IsUnread (state S.Store conn.old) (state S.Store conn.new)) }
 {
     sound(conn);
     match has_tables(alloc, conn) {
@@ -58,6 +63,8 @@ fn look_through<S: Alter>(alloc: Global, conn: &mut Connection<S>) -> Result<Fin
     requires rest { conn.old.in_transaction ≡ false }
     ensures mode { conn.new.in_transaction ≡ false }
     ensures looks { Looks (state S.Store conn.old) (state S.Store conn.new) result IsSeen }
+    ensures cause { IfErr result (λ fault. fault ≡ ReadFault.Device → HasCleanDisk (state S.Store conn.new)
+        → IsCausedBy IsUnseen (state S.Store conn.old) (state S.Store conn.new)) }
 {
     match is_version_2(conn) {
         Ok(true) => wrong_row(alloc, conn),
@@ -71,6 +78,8 @@ fn wrong_row<S: Alter>(alloc: Global, conn: &mut Connection<S>) -> Result<Findin
     requires rest { conn.old.in_transaction ≡ false }
     ensures mode { conn.new.in_transaction ≡ false }
     ensures looks { Looks (state S.Store conn.old) (state S.Store conn.new) result IsRowSeen }
+    ensures cause { IfErr result (λ fault. fault ≡ ReadFault.Device → HasCleanDisk (state S.Store conn.new)
+        → IsCausedBy AreUnseen (state S.Store conn.old) (state S.Store conn.new)) }
 {
     match wrong_among(
         alloc,

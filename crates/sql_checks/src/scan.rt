@@ -1,9 +1,11 @@
 //! The rows of a table are looked through.
-ghost use Rattle.std.specs.Prelude.{◌≡◌, ◌↔◌, IfOk, IsTrue, Some, false};
+ghost use Rattle.std.specs.Prelude.{◌≡◌, ◌↔◌, IfErr, IfOk, IsTrue, Some, false};
 ghost use Rattle.std.specs.List.{AllByRecursion};
 ghost use Rattle.sqlite.specs.Held.{state};
+ghost use Rattle.sqlite.specs.State.{HasCleanDisk};
 ghost use Rattle.sql_checks.specs.Checked.{Looks, TellsVersion2, WrongIn};
 ghost use Rattle.sql_checks.specs.Kept.{KeepTo, KeepsTo};
+ghost use Rattle.sql_checks.specs.Refused.{AreUnseen, IsCausedBy, IsUnshown, of_rows, of_version};
 ghost use Rattle.sql_state.specs.Ours.{held_by};
 ghost use Rattle.sql_reads.specs.Version.{version_in};
 
@@ -25,6 +27,8 @@ fn keeps<S: Alter>(
     ensures mode { conn.new.in_transaction ≡ false }
     ensures looks { Looks (state S.Store conn.old) (state S.Store conn.new) result
         (λ database keeps. IsTrue keeps ↔ KeepTo table (held_by database)) }
+    ensures cause { IfErr result (λ fault. fault ≡ ReadFault.Device → HasCleanDisk (state S.Store conn.new)
+        → IsCausedBy (IsUnshown (of_rows table)) (state S.Store conn.old) (state S.Store conn.new)) }
 {
     match rows_of(conn, table.text(), &[]) {
         Ok(rows) => all_keep(alloc, table, rows.as_slice()),
@@ -33,7 +37,8 @@ fn keeps<S: Alter>(
 }
 
 fn all_keep(alloc: Global, table: StoreTable, rows: &[Row]) -> Result<bool, ReadFault>
-    ensures { IfOk result (λ keep. IsTrue keep ↔ AllByRecursion (KeepsTo table) rows.now) }
+    ensures keep { IfOk result (λ keep. IsTrue keep ↔ AllByRecursion (KeepsTo table) rows.now) }
+    ensures memory { IfErr result (λ fault. fault ≡ ReadFault.Memory) }
 {
     Ok(keep_to(alloc, table, rows)?)
 }
@@ -44,6 +49,8 @@ pub(crate) fn is_version_2<S: Alter>(conn: &mut Connection<S>) -> Result<bool, R
     ensures mode { conn.new.in_transaction ≡ false }
     ensures looks { Looks (state S.Store conn.old) (state S.Store conn.new) result
         (λ database is. IsTrue is ↔ TellsVersion2 database) }
+    ensures cause { IfErr result (λ fault. fault ≡ ReadFault.Device → HasCleanDisk (state S.Store conn.new)
+        → IsCausedBy (IsUnshown of_version) (state S.Store conn.old) (state S.Store conn.new)) }
 {
     match rows_of(conn, read::version(), &[]) {
         Ok(rows) => Ok(is_2(rows.as_slice())),
@@ -74,6 +81,8 @@ pub(crate) fn wrong_among<S: Alter>(
     ensures mode { conn.new.in_transaction ≡ false }
     ensures looks { Looks (state S.Store conn.old) (state S.Store conn.new) result
         (λ database found. WrongIn tables.now (held_by database) found) }
+    ensures cause { IfErr result (λ fault. fault ≡ ReadFault.Device → HasCleanDisk (state S.Store conn.new)
+        → IsCausedBy AreUnseen (state S.Store conn.old) (state S.Store conn.new)) }
 {
     match tables.split_first() {
         None => Ok(None),

@@ -19,6 +19,10 @@ returns c =
     ∙ ap₂ with_subcommand with_migrate (ap (λ (app : App). app.top) c.in_ok-err_sysmods_command.ensures.app) in
     let with_missingfix = c.in_ok-with_missingfix.ensures.shape c.in_ok-missing_fix_command.ensures.local
     ∙ ap₂ with_subcommand with_errsysmods (ap (λ (app : App). app.top) c.in_ok-missing_fix_command.ensures.app) in
-    IfOk-weaker c.subcommand-8.result _ _
-    (λ command adds. adds.shape c.in_ok-chain_command.ensures.local ∙ ap₂ with_subcommand with_missingfix (ap (λ (app : App). app.top) c.in_ok-chain_command.ensures.app))
-    c.subcommand-8.ensures
+    let with_chain = c.in_ok-with_chain.ensures.shape c.in_ok-chain_command.ensures.local
+    ∙ ap₂ with_subcommand with_missingfix (ap (λ (app : App). app.top) c.in_ok-chain_command.ensures.app) in
+    let with_callers = c.in_ok-with_callers.ensures.shape c.in_ok-callers_command.ensures.local
+    ∙ ap₂ with_subcommand with_chain (ap (λ (app : App). app.top) c.in_ok-callers_command.ensures.app) in
+    IfOk-weaker c.subcommand-10.result _ _
+    (λ command adds. adds.shape c.in_ok-check_command.ensures.local ∙ ap₂ with_subcommand with_callers (ap (λ (app : App). app.top) c.in_ok-check_command.ensures.app))
+    c.subcommand-10.ensures

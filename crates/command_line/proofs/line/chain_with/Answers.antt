@@ -3,9 +3,9 @@ use Rattle.clap.specs.Words.{Row, Text, first_of, found_of, rows_of}
 use Rattle.clap.proofs.WalkLemmas.{first_value-rows}
 use Rattle.command_line.specs.Line.{HasFiles, IsLineWith}
 use Rattle.command_line.specs.declared.line.Line.{Line}
-use Rattle.command_line.specs.declared.line.Line.TheVariants.{Chain, ErrSysmods, Holds, Init, Migrate, MissingFix, Replay, Serve}
+use Rattle.command_line.specs.declared.line.Line.TheVariants.{Callers, Chain, Check, ErrSysmods, Holds, Init, Migrate, MissingFix, Replay, Serve}
 use Rattle.run_parts.specs.declared.report_files.ReportFiles.{ReportFiles}
-use Rattle.command_line.proofs.LineFacts.{letter, other_command}
+use Rattle.command_line.proofs.LineFacts.{letter, other_command, third_letter}
 use Rattle.command_line.proofs.line.chain_with.Goals as goal
 
 no_line : (rows : List Row) (line : Line) → ((sysmod : Text) (files : ReportFiles) → (first_of (codes "sysmod") rows ≡ Some sysmod) × HasFiles rows files → ⊥)
@@ -18,6 +18,8 @@ no_line rows (Migrate store) none is = other_command 99 109 (omega arith) (ap le
 no_line rows (ErrSysmods files) none is = other_command 99 101 (omega arith) (ap letter is.0)
 no_line rows (MissingFix files) none is = other_command 99 109 (omega arith) (ap letter is.0)
 no_line rows (Chain sysmod files) none is = none (string_bytes sysmod) files is.1
+no_line rows (Callers store callers) none is = other_command 97 108 (omega arith) (ap third_letter is.0)
+no_line rows (Check store) none is = other_command 97 101 (omega arith) (ap third_letter is.0)
 
 pub returns-in_default : goal.returns-in_default
 returns-in_default c line is =

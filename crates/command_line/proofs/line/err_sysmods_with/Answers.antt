@@ -2,7 +2,7 @@ use Rattle.std.proofs.Common.{rules, refl, codes, List, ap, arith}
 use Rattle.clap.specs.Words.{Row, found_of, rows_of}
 use Rattle.command_line.specs.Line.{HasFiles, IsLineWith}
 use Rattle.command_line.specs.declared.line.Line.{Line}
-use Rattle.command_line.specs.declared.line.Line.TheVariants.{Chain, ErrSysmods, Holds, Init, Migrate, MissingFix, Replay, Serve}
+use Rattle.command_line.specs.declared.line.Line.TheVariants.{Callers, Chain, Check, ErrSysmods, Holds, Init, Migrate, MissingFix, Replay, Serve}
 use Rattle.run_parts.specs.declared.report_files.ReportFiles.{ReportFiles}
 use Rattle.command_line.proofs.LineFacts.{letter, other_command}
 use Rattle.command_line.proofs.line.err_sysmods_with.Goals as goal
@@ -16,6 +16,8 @@ no_line rows (Migrate store) none is = other_command 101 109 (omega arith) (ap l
 no_line rows (ErrSysmods files) none is = none files is.1
 no_line rows (MissingFix files) none is = other_command 101 109 (omega arith) (ap letter is.0)
 no_line rows (Chain sysmod files) none is = other_command 101 99 (omega arith) (ap letter is.0)
+no_line rows (Callers store callers) none is = other_command 101 99 (omega arith) (ap letter is.0)
+no_line rows (Check store) none is = other_command 101 99 (omega arith) (ap letter is.0)
 
 pub returns-in_default : goal.returns-in_default
 returns-in_default c line is =

@@ -3,7 +3,7 @@ use Rattle.clap.specs.Words.{Row, first_of, found_of, rows_of}
 use Rattle.clap.proofs.WalkLemmas.{first_value-rows}
 use Rattle.command_line.specs.Line.{IsLineWith}
 use Rattle.command_line.specs.declared.line.Line.{Line}
-use Rattle.command_line.specs.declared.line.Line.TheVariants.{Chain, ErrSysmods, Holds, Init, Migrate, MissingFix, Replay, Serve}
+use Rattle.command_line.specs.declared.line.Line.TheVariants.{Callers, Chain, Check, ErrSysmods, Holds, Init, Migrate, MissingFix, Replay, Serve}
 use Rattle.command_line.proofs.LineFacts.{letter, other_command}
 use Rattle.command_line.proofs.line.holds_with.Goals as goal
 
@@ -16,6 +16,8 @@ fileless rows (Migrate store) none is = other_command 104 109 (omega arith) (ap 
 fileless rows (ErrSysmods files) none is = other_command 104 101 (omega arith) (ap letter is.0)
 fileless rows (MissingFix files) none is = other_command 104 109 (omega arith) (ap letter is.0)
 fileless rows (Chain sysmod files) none is = other_command 104 99 (omega arith) (ap letter is.0)
+fileless rows (Callers store callers) none is = other_command 104 99 (omega arith) (ap letter is.0)
+fileless rows (Check store) none is = other_command 104 99 (omega arith) (ap letter is.0)
 
 pub returns-in_default : goal.returns-in_default
 returns-in_default c line is =

@@ -3,7 +3,7 @@ use Rattle.clap.specs.Words.{Row, first_of, found_of, rows_of}
 use Rattle.clap.proofs.WalkLemmas.{first_value-rows}
 use Rattle.command_line.specs.Line.{IsLineWith}
 use Rattle.command_line.specs.declared.line.Line.{Line}
-use Rattle.command_line.specs.declared.line.Line.TheVariants.{Chain, ErrSysmods, Holds, Init, Migrate, MissingFix, Replay, Serve}
+use Rattle.command_line.specs.declared.line.Line.TheVariants.{Callers, Chain, Check, ErrSysmods, Holds, Init, Migrate, MissingFix, Replay, Serve}
 use Rattle.command_line.proofs.LineFacts.{letter, other_command, third_letter}
 use Rattle.command_line.proofs.line.migrate_with.Goals as goal
 
@@ -16,6 +16,8 @@ storeless rows (Migrate store) none is = let no : None ≡ Some (string_bytes st
 storeless rows (ErrSysmods files) none is = other_command 109 101 (omega arith) (ap letter is.0)
 storeless rows (MissingFix files) none is = other_command 103 115 (omega arith) (ap third_letter is.0)
 storeless rows (Chain sysmod files) none is = other_command 109 99 (omega arith) (ap letter is.0)
+storeless rows (Callers store callers) none is = other_command 109 99 (omega arith) (ap letter is.0)
+storeless rows (Check store) none is = other_command 109 99 (omega arith) (ap letter is.0)
 
 pub returns-in_default : goal.returns-in_default
 returns-in_default c line is =

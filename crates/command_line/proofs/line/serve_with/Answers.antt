@@ -3,7 +3,7 @@ use Rattle.clap.specs.Words.{Row, Text, first_of, found_of, one_of, rows_of}
 use Rattle.clap.proofs.WalkLemmas.{first_value-rows}
 use Rattle.command_line.specs.Line.{IsCapacity, IsLineWith, IsManyConnections, IsPort}
 use Rattle.command_line.specs.declared.line.Line.{Line}
-use Rattle.command_line.specs.declared.line.Line.TheVariants.{Chain, ErrSysmods, Holds, Init, Migrate, MissingFix, Replay, Serve}
+use Rattle.command_line.specs.declared.line.Line.TheVariants.{Callers, Chain, Check, ErrSysmods, Holds, Init, Migrate, MissingFix, Replay, Serve}
 use Rattle.command_line.proofs.LineFacts.{letter, other_command}
 use Rattle.command_line.proofs.line.serve_with.Goals as goal
 
@@ -25,6 +25,8 @@ no_line rows (Migrate store) none is = other_command 115 109 (omega arith) (ap l
 no_line rows (ErrSysmods files) none is = other_command 115 101 (omega arith) (ap letter is.0)
 no_line rows (MissingFix files) none is = other_command 115 109 (omega arith) (ap letter is.0)
 no_line rows (Chain sysmod files) none is = other_command 115 99 (omega arith) (ap letter is.0)
+no_line rows (Callers store callers) none is = other_command 115 99 (omega arith) (ap letter is.0)
+no_line rows (Check store) none is = other_command 115 99 (omega arith) (ap letter is.0)
 
 pub returns-in_default : goal.returns-in_default
 returns-in_default c line is =

@@ -1,7 +1,10 @@
 use Rattle.std.proofs.Common.{◌≡◌, ◌∷◌, rules}
+use Rattle.std.proofs.lemmas.Result.{IfErr-weaker}
 use Rattle.sqlite.specs.Held.{state}
 use Rattle.sql_state.specs.Ours.{held_by}
 use Rattle.sql_checks.specs.Checked.{WrongIn}
+use Rattle.sql_checks.specs.Refused.{AreUnseen, IsUnshown, of_rows}
+use Rattle.sql_checks.proofs.CauseFacts.{caused_after, caused_so}
 use Rattle.sql_checks.proofs.ScanFacts.{look_on, wrong_more}
 use Rattle.sql_checks.proofs.scan.+wrong_among.Goals as goal
 
@@ -13,3 +16,16 @@ returns-in-Ok-true-clause-looks g t c =
     c.in-Ok-true.ensures.looks c.wrong_among.ensures.looks
     (λ database found told wrong.
     wrong_more (held_by database) c.in-Some.table.now c.in-Some.tables.now c.args.tables.now are (told.0 c.in-Ok-true.field-0-test) found wrong)
+
+pub returns-in-Ok-true-clause-cause : goal.returns-in-Ok-true-clause-cause
+returns-in-Ok-true-clause-cause g t c =
+    IfErr-weaker c.wrong_among.result _ _
+    (λ fault told device clean.
+    caused_after AreUnseen (state g.S.Store c.args.conn.now) (state g.S.Store c.keeps.new.conn) (state g.S.Store c.wrong_among.new.conn) c.in-Ok-true.ensures.looks.reads
+    c.in-Ok-true.ensures.looks.is_open c.wrong_among.ensures.looks.reads clean (told device clean))
+    c.wrong_among.ensures.cause
+
+pub returns-in-Err-clause-cause : goal.returns-in-Err-clause-cause
+returns-in-Err-clause-cause g t c device clean =
+    caused_so (IsUnshown (of_rows c.in-Some.table.now)) AreUnseen (state g.S.Store c.args.conn.now) (state g.S.Store c.keeps.new.conn) (λ limit database why. (c.in-Some.table.now, why))
+    (c.in-Err.ensures.cause device clean)
