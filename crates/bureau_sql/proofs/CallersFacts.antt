@@ -1,5 +1,5 @@
 -- The callers of a callers file can be written: no two have one name or one token, and each is short.
-use Rattle.std.proofs.Common.{◌≡◌, ◌≤◌, ◌<◌, ◌+◌, ◌∙◌, ◌⊎◌, ◌||◌, ℕ, zero, suc, Bool, true, false, List, [], ◌∷◌, ◌++◌, length, Option, Some, None, Result, Ok, Err, IsTrue, inl, inr, refl, sym, ap, subst, arith, nat_le, length-append}
+use Rattle.std.proofs.Common.{◌≡◌, ◌≤◌, ◌<◌, ◌+◌, ◌∙◌, ◌⊎◌, ◌||◌, ℕ, zero, suc, Bool, true, false, List, [], ◌∷◌, ◌++◌, length, Option, Some, None, Result, Ok, Err, inl, inr, refl, sym, ap, subst, arith, nat_le, length-append}
 use Rattle.std.specs.Prelude.{slice_get}
 use Rattle.std.specs.BTreeSet.{insert_key}
 use Rattle.std.specs.List.{list_any}
@@ -7,7 +7,7 @@ use Rattle.std.specs.Ordering.{match_ordering}
 use Rattle.std.specs.Str.{bytes_eq}
 use Rattle.std.specs.declared.cmp.Ordering.{Ordering}
 use Rattle.std.specs.declared.cmp.Ordering.TheVariants.{Less, Equal, Greater}
-use Rattle.std.proofs.lemmas.Bool.{cases_Bool, false≢true, or_parts}
+use Rattle.std.proofs.lemmas.Bool.{cases_Bool, false≢true}
 use Rattle.std.proofs.lemmas.Bool.Decides.{nat_tests}
 use Rattle.std.proofs.lemmas.Slice.Eq.{bytes_eq-Decides}
 use Rattle.mcs_reader.proofs.IdFacts.{id_over_blanks, padded_over_blanks}
@@ -20,7 +20,6 @@ use Rattle.zone_lists.proofs.EachFacts.{In}
 use Rattle.zone_lists.proofs.ListFacts.{after, answer_after, answer_read, go_on, in_order_more, next_entry}
 use Rattle.bureau_store.specs.Callers.{caller_fields, caller_list, callers_of, comes_again, has_publisher, is_token, named_row, row_order, with_publisher}
 use Rattle.bureau_store.specs.declared.caller.CallerRow.{CallerRow}
-use Rattle.bureau_store.specs.declared.fault.CallerFault.{CallerFault}
 use Rattle.sql_writes.specs.Making.{AreApart, AreFit}
 
 -- ---- one record

@@ -1,5 +1,5 @@
 -- A change of a connection, and how it is told, are a change of the store, whatever it changes.
-use Rattle.std.proofs.Common.{◌≡◌, ◌∙◌, ◌⊎◌, ◌<◌, ◌≤◌, ℕ, Err, IfErr, IsTrue, Ok, OnErr, OnOk, Result, ap, arith, inl, inr, refl, subst, sym}
+use Rattle.std.proofs.Common.{◌≡◌, ◌∙◌, ◌⊎◌, ◌<◌, ◌≤◌, ℕ, Bool, Err, IfErr, IsTrue, Ok, OnErr, OnOk, Result, ap, arith, inl, inr, refl, subst, sym}
 use Rattle.std.specs.Prelude.{IsErrOf}
 use Rattle.catalogue.specs.View.{Asks, HasFailed, Tells}
 use Rattle.bureau_store.specs.SetCallers.{ChangesTo}
@@ -23,17 +23,17 @@ use Rattle.bureau_sql.specs.Told.{IsTold}
 use Rattle.sql_state.proofs.StopFacts.{was_clean}
 use Rattle.bureau_sql.proofs.ToldFacts.{failed_since, never_failed}
 
+-- a store settles by what its connection rests on
+pub settles : {S : Type 0} (g : Ghosts S) (store : SqlState S) → ((trees : Trees) → IsTrue (shown g store).is_open → (shown g store).may_leave trees → trees ≡ (shown g store).committed.trees)
+    → IsSettled (sql_view g) store
+settles g store rests ours clean standing this stands left may =
+    sym may.2 ∙ ap (λ trees. tables_of (stored_in trees)) (rests may.0 (ours.1 standing).0 may.1) ∙ stands standing
+
 module _ {S : Type 0} (g : Ghosts S) (change : Stored → Stored) (IsDueIn : Tables → Type 0) (next : Tables → Tables)
     (stays_whole : (stored : Stored) → IsWhole stored → IsWhole (change stored))
     (meant : (stored : Stored) → IsDueIn (tables_of stored) → tables_of (change stored) ≡ next (tables_of stored)) where
   tables_made : (stored : Stored) (this : Tables) → tables_of stored ≡ this → IsDueIn this → tables_of (change stored) ≡ next this
   tables_made stored this stands due = meant stored (subst IsDueIn (sym stands) due) ∙ ap next stands
-
-  -- the store settles by what its connection rests on
-  settles : (store : SqlState S) → ((trees : Trees) → IsTrue (shown g store).is_open → (shown g store).may_leave trees → trees ≡ (shown g store).committed.trees)
-      → IsSettled (sql_view g) store
-  settles store rests ours clean standing this stands left may =
-      sym may.2 ∙ ap (λ trees. tables_of (stored_in trees)) (rests may.0 (ours.1 standing).0 may.1) ∙ stands standing
 
   module _ (old mid new : SqlState S) (standing : old.failures ≡ 0) (same : mid.failures ≡ old.failures)
       (rests : (trees : Trees) → IsTrue (shown g new).is_open → (shown g new).may_leave trees → trees ≡ (shown g new).committed.trees) where
@@ -92,7 +92,7 @@ module _ {S : Type 0} (g : Ghosts S) (change : Stored → Stored) (IsDueIn : Tab
           cause = λ is. absurd cc;
           is_open = λ none. same ∙ standing;
           crash = λ ours clean this due stands left may. crashes {Refusal = Refusal} (Ok b) committed clean ours this due stands left may.0 may.1 may.2;
-          settled = settles mid rests_so;
+          settled = settles g mid rests_so;
         }
 
     refused_so : {Done Answer Refusal : Type 0} (e : Refusal) (fault : StoreFault) → IsCommitted {Answer = Answer} (shown g old) (shown g mid) (Err e) change
@@ -158,13 +158,13 @@ module _ {S : Type 0} (g : Ghosts S) (change : Stored → Stored) (IsDueIn : Tab
     changes {Done} {Refusal} (Err e) (Err fault) committed told of_call = refused_so {Answer = Done} e fault committed told of_call
 
   -- the connection's change, and how it is told, of a store that is open
-  pub open_changes : {Done Refusal : Type 0} (conn changed : Held S) (failures : ℕ) (old new : SqlState S) → record { conn = conn; failures = failures } ≡ old → old.failures ≡ 0
+  pub open_changes : {Done Refusal : Type 0} (conn changed : Held S) (failures : ℕ) (unseen : Bool) (old new : SqlState S) → record { conn = conn; failures = failures; unseen = unseen } ≡ old → old.failures ≡ 0
       → ((trees : Trees) → IsTrue (shown g new).is_open → (shown g new).may_leave trees → trees ≡ (shown g new).committed.trees)
       → (made : Result Done Refusal) (answer : Result Done StoreFault) → IsCommitted (state g conn) (state g changed) made change
-      → IsTold g Device (record { conn = changed; failures = failures }) new made answer → IfErr answer IsOfCall → ChangesTo (sql_view g) IsDueIn next old new answer
-  open_changes conn changed failures old new same standing rests made answer committed told of_call =
-      let before : SqlState S = record { conn = conn; failures = failures } in
-      let between : SqlState S = record { conn = changed; failures = failures } in
+      → IsTold g Device (record { conn = changed; failures = failures; unseen = unseen }) new made answer → IfErr answer IsOfCall → ChangesTo (sql_view g) IsDueIn next old new answer
+  open_changes conn changed failures unseen old new same standing rests made answer committed told of_call =
+      let before : SqlState S = record { conn = conn; failures = failures; unseen = unseen } in
+      let between : SqlState S = record { conn = changed; failures = failures; unseen = unseen } in
       subst (λ it. ChangesTo (sql_view g) IsDueIn next it new answer) same
       (changes before between new (ap (λ it. it.failures) same ∙ standing) refl rests made answer committed told of_call)
 

@@ -12,4 +12,5 @@ pub mod FailingFacts
 pub mod FilesFacts
 pub mod FitFacts
 pub mod OpenFacts
+pub mod RoomFacts
 pub mod FoundedFacts

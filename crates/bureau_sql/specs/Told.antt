@@ -1,9 +1,13 @@
 -- How what a connection was found to hold is told.
-use Rattle.std.specs.Prelude.{◌≡◌, ◌≢◌, ◌≤◌, ◌⊎◌, IsTrue, Result, IfErr, IfOk, Ok}
+use Rattle.std.specs.Prelude.{◌≡◌, ◌≢◌, ◌≤◌, ◌⊎◌, IsTrue, Result, IfErr, IfOk, Err, Ok}
 use Rattle.catalogue.specs.View.{HasFailed}
-use Rattle.sqlite.specs.State.{HasCleanDisk}
+use Rattle.bureau_store.specs.declared.fault.StoreFault.{StoreFault}
+use Rattle.bureau_store.specs.declared.fault.StoreFault.TheVariants.{Device}
+use Rattle.sqlite.specs.State.{HasCleanDisk, store_error}
+use Rattle.sqlite.specs.declared.error.Error.{Error}
+use Rattle.sqlite_trees.specs.declared.error.StoreError.TheVariants.{OutOfMemory}
 use Rattle.sqlite_trees.specs.declared.store.Store.{Ghosts}
-use Rattle.sql_state.specs.Reading.{OnlyReads}
+use Rattle.sql_state.specs.Reading.{HasFailed as HasFailedSince, OnlyReads}
 use Rattle.bureau_sql.specs.SqlState.{SqlState}
 use Rattle.bureau_sql.specs.SqlView.{shown, sql_view}
 
@@ -23,3 +27,9 @@ module _ {S : Type 0} (g : Ghosts S) where
     pub told : IfOk answer (λ told. (found ≡ Ok told) × (new ≡ old))
     pub heard : IfOk found (λ told. answer ≡ Ok told)
     pub refused : IfErr answer (IsRefusedAs device old new)
+
+  -- A transaction was refused for something else than want of memory. Or the device has failed since; or the fault of the device
+  -- is told since memory was too short to see whether the connection was open.
+  abbrev pub IsRefusedFor : {Answer : Type 0} → Result Answer Error → SqlState S → SqlState S → StoreFault → Type 0
+  IsRefusedFor made old new fault = (error : Error) × (made ≡ Err error)
+      × ((error ≢ store_error OutOfMemory) ⊎ (HasFailedSince (shown g old) (shown g new) ⊎ ((fault ≡ Device) × IsTrue new.unseen)))

@@ -1,10 +1,13 @@
 //! A change of a connection, in a transaction of its own that keeps the number and the reply too.
-ghost use Rattle.std.specs.Prelude.{◌≡◌, ◌≤◌, false};
+ghost use Rattle.std.specs.Prelude.{◌≡◌, ◌≤◌, ℕ, false};
 ghost use Rattle.sqlite.specs.Held.{state};
 ghost use Rattle.bureau_store.specs.Store.{greatest_number};
-ghost use Rattle.sql_writes.specs.Effects.{stored_by};
+ghost use Rattle.sql_tables.specs.Fit.{IsFit};
+ghost use Rattle.sql_writes.specs.Effects.{effect_as, stored_by};
+ghost use Rattle.sql_writes.specs.Room.{HasRoom, IsRoomy};
 ghost use Rattle.bureau_sql.specs.Committed.{IsCommitted};
 ghost use Rattle.bureau_sql.specs.Effects.{IsFitEffect};
+ghost use Rattle.bureau_sql.specs.Failing.{RefusesExcused};
 
 use crate::commit::{begin, end};
 use sql_writes::Effect;
@@ -26,6 +29,9 @@ pub(crate) fn make<S: Alter>(
     ensures mode { conn.new.in_transaction ≡ false }
     ensures committed { IsCommitted (state S.Store conn.old) (state S.Store conn.new) result
         (stored_by effect.now number reply.now) }
+    ensures excused { (most : ℕ) → IsFit (effect_as effect.now)
+        → HasRoom (effect_as effect.now) (record { number = number; reply = reply.now }) most
+        → RefusesExcused (state S.Store conn.old) (state S.Store conn.new) result (IsRoomy most) }
 {
     let mut tx = begin(conn);
     let written = sql_writes::write(alloc, &mut tx, number, reply, effect);

@@ -1,5 +1,5 @@
 //! Whether a connection is open after it refused a call.
-ghost use Rattle.std.specs.Prelude.{◌≡◌, ◌≢◌, IfErr, IsTrue, OnOk, true, false};
+ghost use Rattle.std.specs.Prelude.{◌≡◌, ◌≢◌, IfErr, IsTrue, OnOk, false};
 ghost use Rattle.sqlite.specs.State.{HasCleanDisk, store_error};
 ghost use Rattle.sqlite.specs.declared.error.Error.TheVariants.{InvalidQuery};
 ghost use Rattle.sqlite_trees.specs.declared.error.StoreError.TheVariants.{OutOfMemory};
@@ -43,15 +43,4 @@ fn heard(error: Error) -> Result<(), StoreFault>
         Error::SqliteFailure(ErrorCode::OutOfMemory) => Err(StoreFault::Memory),
         _ => Err(StoreFault::Device),
     }
-}
-
-/// Whether the connection is open. It may answer `false` of an open one where memory runs out.
-pub(crate) fn is_open<S: Alter>(conn: &mut Connection<S>) -> bool
-    requires { conn.old.in_transaction ≡ false }
-    ensures reads { OnlyReads (state S.Store conn.old) (state S.Store conn.new) }
-    ensures open { result ≡ true → HasCleanDisk (state S.Store conn.new)
-        → IsTrue (state S.Store conn.new).is_open }
-    ensures mode { conn.new.in_transaction ≡ false }
-{
-    look(conn).is_ok()
 }

@@ -1,16 +1,16 @@
 //! The store in a database.
-ghost use Rattle.std.specs.Prelude.{◌≡◌, ◌≢◌, ◌≤◌, ◌<◌, ◌⊎◌, IfErr, IfOk, OnOk, IsTrue, true, false};
+ghost use Rattle.std.specs.Prelude.{◌≡◌, ◌≢◌, ◌≤◌, ◌<◌, ◌⊎◌, IfErr, IfOk, OnErr, OnOk, IsTrue, true, false};
 ghost use Rattle.catalogue.specs.View.{HasFailed};
 ghost use Rattle.catalogue.specs.declared.fault.SourceFault.TheVariants.{Device, Memory};
 ghost use Rattle.bureau_store.specs.Store.{IsOfCall, IsOfRead};
 ghost use Rattle.bureau_store.specs.declared.fault.StoreFault.TheVariants.{Device as StoreDevice, Memory as StoreMemory};
-ghost use Rattle.sqlite.specs.State.{store_error};
+ghost use Rattle.sqlite.specs.State.{HasCleanDisk, store_error};
 ghost use Rattle.sqlite_trees.specs.declared.error.StoreError.TheVariants.{OutOfMemory};
-ghost use Rattle.sql_state.specs.Reading.{OnlyReads};
+ghost use Rattle.sql_state.specs.Reading.{HasFailed as HasFailedSince, OnlyReads};
 ghost use Rattle.bureau_sql.specs.SqlView.{IsAtRest, shown, sql_view};
-ghost use Rattle.bureau_sql.specs.Told.{IsRefusedAs, IsTold};
+ghost use Rattle.bureau_sql.specs.Told.{IsRefusedAs, IsRefusedFor, IsTold};
 
-use crate::probe::is_open;
+use crate::probe::look;
 use crate::recent::Recent;
 use bureau_store::StoreFault;
 use catalogue::SourceFault;
@@ -29,6 +29,7 @@ pub struct SqlStore<S: Alter> {
     pub(crate) alloc: Global,
     pub(crate) conn: Connection<S>,
     pub(crate) failures: u64,
+    pub(crate) unseen: bool,
     pub(crate) recent: Recent,
 }
 
@@ -42,7 +43,7 @@ impl<S: Alter> Model for SqlStore<S> {
 
     ghost coded = { sql_code S.code };
 
-    ghost view = { λ store. record { conn = store.conn; failures = store.failures } };
+    ghost view = { λ store. record { conn = store.conn; failures = store.failures; unseen = store.unseen } };
 
     ghost invariant = { λ store. (store.conn.in_transaction ≡ false) × IsRecent (state S.Store store.conn) store.recent };
 }
@@ -52,12 +53,14 @@ impl<S: Alter> SqlStore<S> {
     pub(crate) fn over(alloc: Global, conn: Connection<S>) -> SqlStore<S>
         requires rest { conn.in_transaction ≡ false }
         ensures same { (result.conn ≡ conn) × (result.failures ≡ 0) }
+        ensures seen { result.unseen ≡ false }
         ensures rests { IsAtRest (shown S.Store result) }
     {
         SqlStore {
             alloc,
             conn,
             failures: 0,
+            unseen: false,
             recent: Recent::nothing(alloc),
         }
     }
@@ -70,6 +73,7 @@ impl<S: Alter> SqlStore<S> {
             alloc: _,
             conn,
             failures: _,
+            unseen: _,
             recent: _,
         } = self;
         conn
@@ -77,12 +81,25 @@ impl<S: Alter> SqlStore<S> {
 
     // Counts a failure of what lies below.
     pub(crate) fn fail(&mut self)
-        ensures same { self.new.conn ≡ self.old.conn }
+        ensures same { (self.new.conn ≡ self.old.conn) × (self.new.unseen ≡ self.old.unseen) }
         ensures failed { HasFailed (sql_view S.Store) self.old self.new }
         ensures rises { self.old.failures ≤ self.new.failures }
         ensures closed { 0 < self.new.failures }
     {
         self.failures = self.failures.saturating_add(1);
+    }
+
+    // Closes a store whose connection was not seen to be open, for this fault of the look.
+    fn close(&mut self, fault: StoreFault)
+        ensures same { self.new.conn ≡ self.old.conn }
+        ensures failed { HasFailed (sql_view S.Store) self.old self.new }
+        ensures rises { self.old.failures ≤ self.new.failures }
+        ensures unseen { fault ≢ StoreDevice → self.new.unseen ≡ true }
+    {
+        if !matches!(fault, StoreFault::Device) {
+            self.unseen = true;
+        }
+        self.fail();
     }
 }
 
@@ -93,6 +110,7 @@ impl<S: Alter> SqlStore<S> {
             × (self.old.failures ≤ self.new.failures)
             × (0 < self.new.failures) × HasFailed (sql_view S.Store) self.old self.new) }
         ensures open { OnOk result ((self.new ≡ self.old) × (self.old.failures ≡ 0)) }
+        ensures was_closed { OnErr result (0 < self.old.failures) }
     {
         if self.failures == 0 {
             return Ok(());
@@ -103,17 +121,41 @@ impl<S: Alter> SqlStore<S> {
 }
 
 impl<S: Alter> SqlStore<S> {
+    // Looks whether the connection is open after it refused a call. A store whose connection is not seen to be open closes.
+    #[tactic(auto, using(crate::proofs::FailingFacts::seen_to_fail))]
+    fn is_seen(&mut self) -> bool
+        ensures reads { OnlyReads (shown S.Store self.old) (shown S.Store self.new) }
+        ensures rises { self.old.failures ≤ self.new.failures }
+        ensures open { result ≡ true → (self.new.failures ≡ self.old.failures)
+            × (HasCleanDisk (shown S.Store self.new) → IsTrue (shown S.Store self.new).is_open) }
+        ensures failed { result ≡ false → HasFailed (sql_view S.Store) self.old self.new }
+        ensures cause { result ≡ false → HasCleanDisk (shown S.Store self.new)
+            → HasFailedSince (shown S.Store self.old) (shown S.Store self.new) ⊎ IsTrue self.new.unseen }
+    {
+        match look(&mut self.conn) {
+            Ok(()) => true,
+            Err(fault) => {
+                self.close(fault);
+                false
+            }
+        }
+    }
+
     // Tells that a read was refused. Where memory ran out, the connection may have been closed, so it is looked at.
     fn refused(&mut self, fault: ReadFault) -> SourceFault
         ensures reads { OnlyReads (shown S.Store self.old) (shown S.Store self.new) }
         ensures rises { self.old.failures ≤ self.new.failures }
         ensures refused { IsRefusedAs S.Store Device self.old self.new result }
     {
-        if matches!(fault, ReadFault::Memory) && is_open(&mut self.conn) {
-            return SourceFault::Memory;
+        if matches!(fault, ReadFault::Device) {
+            self.fail();
+            return SourceFault::Device;
         }
-        self.fail();
-        SourceFault::Device
+        if self.is_seen() {
+            SourceFault::Memory
+        } else {
+            SourceFault::Device
+        }
     }
 
     // Tells what a read of the connection found.
@@ -148,13 +190,18 @@ impl<S: Alter> SqlStore<S> {
         ensures rises { self.old.failures ≤ self.new.failures }
         ensures refused { IsRefusedAs S.Store StoreDevice self.old self.new result }
         ensures call { IsOfCall result }
+        ensures cause { result ≢ StoreMemory → HasCleanDisk (shown S.Store self.new)
+            → (error ≢ store_error OutOfMemory)
+            ⊎ (HasFailedSince (shown S.Store self.old) (shown S.Store self.new)
+            ⊎ ((result ≡ StoreDevice) × IsTrue self.new.unseen)) }
     {
         let fault = refusal_of(error);
-        if !matches!(fault, StoreFault::Device) && is_open(&mut self.conn) {
-            return fault;
+        if matches!(fault, StoreFault::Device) {
+            self.fail();
+            return StoreFault::Device;
         }
-        self.fail();
-        StoreFault::Device
+        let seen = self.is_seen();
+        if seen { fault } else { StoreFault::Device }
     }
 
     // Tells what a change of the connection came to.
@@ -162,6 +209,8 @@ impl<S: Alter> SqlStore<S> {
         ensures told { IsTold S.Store StoreDevice self.old self.new made result }
         ensures refusal { IfErr result IsOfCall }
         ensures rests { IsAtRest (shown S.Store self.new) }
+        ensures cause { IfErr result (λ fault. fault ≢ StoreMemory → HasCleanDisk (shown S.Store self.new)
+            → IsRefusedFor S.Store made self.old self.new fault) }
     {
         match made {
             Ok(()) => Ok(()),

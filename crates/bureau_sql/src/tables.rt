@@ -1,7 +1,15 @@
 //! All tables, as a store in a database keeps them.
-ghost use Rattle.std.specs.Prelude.{◌≡◌, ◌≤◌, nat_lt};
+ghost use Rattle.std.specs.Prelude.{◌≡◌, ◌≤◌, IfErr, nat_lt};
+ghost use Rattle.zone_lists.specs.ZoneList.{RowsAscend};
+ghost use Rattle.catalogue.specs.Ids.{Ascend};
+ghost use Rattle.bureau_store.specs.Caller.{IsProper};
+ghost use Rattle.bureau_store.specs.Tables.{PatternsAscend};
+ghost use Rattle.bureau_store.specs.Effect.{publication, zone_put, zone_dropped, received_put, patterns_put};
+ghost use Rattle.bureau_store.specs.Store as asked;
 ghost use Rattle.bureau_store.specs.Store.{Makes, greatest_number};
+ghost use Rattle.bureau_store.specs.declared.caller.Caller.TheVariants.{Client, Publisher};
 ghost use Rattle.bureau_sql.specs.Effects.{IsFitEffect, update};
+ghost use Rattle.bureau_sql.specs.Failing.{FailsToChange};
 ghost use Rattle.bureau_sql.specs.Outgrown.{HasNoRoom};
 ghost use Rattle.bureau_sql.specs.SqlView.{sql_view};
 
@@ -19,8 +27,10 @@ impl<S: Alter> SqlStore<S> {
     fn make(&mut self, number: u64, reply: &[u8], effect: &Effect<'_>) -> Result<(), StoreFault>
         requires number { number ≤ greatest_number }
         requires fit { IsFitEffect effect.now }
-        ensures { Makes (sql_view S.Store) HasNoRoom (update effect.now number reply.now)
+        ensures makes { Makes (sql_view S.Store) HasNoRoom (update effect.now number reply.now)
             self.old self.new result }
+        ensures cause { IfErr result
+            (FailsToChange S.Store (update effect.now number reply.now) self.old self.new) }
     {
         self.check_open(StoreFault::Device)?;
         self.recent.forget();
@@ -115,7 +125,14 @@ impl<S: Alter> Store for SqlStore<S> {
         self.answered(found)
     }
 
-    fn publish(&mut self, number: u64, reply: &[u8], changes: &[Change]) -> Result<(), StoreFault> {
+    fn publish(&mut self, number: u64, reply: &[u8], changes: &[Change]) -> Result<(), StoreFault>
+        requires number { number ≤ greatest_number }
+        ensures makes { Makes (sql_view S.Store) HasNoRoom
+            (asked.update Publisher (publication changes.now) number reply.now)
+            self.old self.new result }
+        ensures cause { IfErr result (FailsToChange S.Store
+            (asked.update Publisher (publication changes.now) number reply.now) self.old self.new) }
+    {
         self.make(number, reply, &Effect::Publication { changes })
     }
 
@@ -126,7 +143,17 @@ impl<S: Alter> Store for SqlStore<S> {
         reply: &[u8],
         zone: &Id,
         rows: &[ZoneRow],
-    ) -> Result<(), StoreFault> {
+    ) -> Result<(), StoreFault>
+        requires client { IsProper (Client client.now) }
+        requires number { number ≤ greatest_number }
+        requires ascending { RowsAscend rows.now }
+        ensures makes { Makes (sql_view S.Store) HasNoRoom
+            (asked.update (Client client.now) (zone_put zone.now rows.now) number reply.now)
+            self.old self.new result }
+        ensures cause { IfErr result (FailsToChange S.Store
+            (asked.update (Client client.now) (zone_put zone.now rows.now) number reply.now)
+            self.old self.new) }
+    {
         self.make(number, reply, &Effect::ZonePut { client, zone, rows })
     }
 
@@ -136,7 +163,16 @@ impl<S: Alter> Store for SqlStore<S> {
         number: u64,
         reply: &[u8],
         zone: &Id,
-    ) -> Result<(), StoreFault> {
+    ) -> Result<(), StoreFault>
+        requires client { IsProper (Client client.now) }
+        requires number { number ≤ greatest_number }
+        ensures makes { Makes (sql_view S.Store) HasNoRoom
+            (asked.update (Client client.now) (zone_dropped zone.now) number reply.now)
+            self.old self.new result }
+        ensures cause { IfErr result (FailsToChange S.Store
+            (asked.update (Client client.now) (zone_dropped zone.now) number reply.now)
+            self.old self.new) }
+    {
         self.make(number, reply, &Effect::ZoneDropped { client, zone })
     }
 
@@ -146,7 +182,17 @@ impl<S: Alter> Store for SqlStore<S> {
         number: u64,
         reply: &[u8],
         ids: &[Id],
-    ) -> Result<(), StoreFault> {
+    ) -> Result<(), StoreFault>
+        requires client { IsProper (Client client.now) }
+        requires number { number ≤ greatest_number }
+        requires ascending { Ascend ids.now }
+        ensures makes { Makes (sql_view S.Store) HasNoRoom
+            (asked.update (Client client.now) (received_put ids.now) number reply.now)
+            self.old self.new result }
+        ensures cause { IfErr result (FailsToChange S.Store
+            (asked.update (Client client.now) (received_put ids.now) number reply.now)
+            self.old self.new) }
+    {
         self.make(number, reply, &Effect::ReceivedPut { client, ids })
     }
 
@@ -157,7 +203,17 @@ impl<S: Alter> Store for SqlStore<S> {
         reply: &[u8],
         zone: &Id,
         patterns: &[Pattern],
-    ) -> Result<(), StoreFault> {
+    ) -> Result<(), StoreFault>
+        requires client { IsProper (Client client.now) }
+        requires number { number ≤ greatest_number }
+        requires ascending { PatternsAscend patterns.now }
+        ensures makes { Makes (sql_view S.Store) HasNoRoom
+            (asked.update (Client client.now) (patterns_put zone.now patterns.now) number reply.now)
+            self.old self.new result }
+        ensures cause { IfErr result (FailsToChange S.Store
+            (asked.update (Client client.now) (patterns_put zone.now patterns.now) number reply.now)
+            self.old self.new) }
+    {
         let effect = Effect::PatternsPut {
             client,
             zone,

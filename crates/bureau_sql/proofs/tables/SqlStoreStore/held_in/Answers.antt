@@ -12,8 +12,8 @@ pub returns-clause-holds : goal.returns-clause-holds
 returns-clause-holds g c =
     let looked = c.in_ok-check_open.ensures.open in
     let same = c.self.view_is ∙ looked.0 in
-    let old : SqlState _ = record { conn = c.self.inside.conn; failures = c.self.inside.failures } in
-    let mid : SqlState _ = record { conn = c.held_in-found.new.conn; failures = c.self.inside.failures } in
+    let old : SqlState _ = record { conn = c.self.inside.conn; failures = c.self.inside.failures; unseen = c.self.inside.unseen } in
+    let mid : SqlState _ = record { conn = c.held_in-found.new.conn; failures = c.self.inside.failures; unseen = c.self.inside.unseen } in
     subst (λ it. IfOk c.answered.result (λ holds. Tells (sql_view g.S.Store) it c.answered.new.self
     (λ tables. holds.items ≡ held_in tables.content (rows_of (zone_named c.args.zone.now (tables.zones c.args.client.now))) c.args.kind))) same
     (tells g.S.Store Device old mid c.answered.new.self c.held_in-found.result _ (ap (λ it. it.failures) same ∙ looked.1) refl c.held_in-found.ensures.finds
