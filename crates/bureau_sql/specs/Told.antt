@@ -5,11 +5,17 @@ use Rattle.bureau_store.specs.declared.fault.StoreFault.{StoreFault}
 use Rattle.bureau_store.specs.declared.fault.StoreFault.TheVariants.{Device}
 use Rattle.sqlite.specs.State.{HasCleanDisk, store_error}
 use Rattle.sqlite.specs.declared.error.Error.{Error}
+use Rattle.sqlite.specs.declared.error.Error.TheVariants.{SqliteFailure}
+use Rattle.sqlite.specs.declared.error.ErrorCode.TheVariants.{DiskFull, TooBig}
 use Rattle.sqlite_trees.specs.declared.error.StoreError.TheVariants.{OutOfMemory}
 use Rattle.sqlite_trees.specs.declared.store.Store.{Ghosts}
 use Rattle.sql_state.specs.Reading.{HasFailed as HasFailedSince, OnlyReads}
 use Rattle.bureau_sql.specs.SqlState.{SqlState}
 use Rattle.bureau_sql.specs.SqlView.{shown, sql_view}
+
+-- There is no room: what is written is too large for a row, or the disk is full.
+abbrev pub IsOutOfRoom : Error → Type 0
+IsOutOfRoom error = (error ≡ SqliteFailure TooBig) ⊎ (error ≡ SqliteFailure DiskFull)
 
 module _ {S : Type 0} (g : Ghosts S) where
   -- The device has failed, which is counted; or the call is refused for something else, and the connection was seen to be

@@ -3,12 +3,12 @@ ghost use Rattle.std.specs.Prelude.{◌≡◌, ◌≢◌, ◌≤◌, ◌<◌, �
 ghost use Rattle.catalogue.specs.View.{HasFailed};
 ghost use Rattle.catalogue.specs.declared.fault.SourceFault.TheVariants.{Device, Memory};
 ghost use Rattle.bureau_store.specs.Store.{IsOfCall, IsOfRead};
-ghost use Rattle.bureau_store.specs.declared.fault.StoreFault.TheVariants.{Device as StoreDevice, Memory as StoreMemory};
+ghost use Rattle.bureau_store.specs.declared.fault.StoreFault.TheVariants.{Device as StoreDevice, Memory as StoreMemory, Size as StoreSize};
 ghost use Rattle.sqlite.specs.State.{HasCleanDisk, store_error};
 ghost use Rattle.sqlite_trees.specs.declared.error.StoreError.TheVariants.{OutOfMemory};
 ghost use Rattle.sql_state.specs.Reading.{HasFailed as HasFailedSince, OnlyReads};
 ghost use Rattle.bureau_sql.specs.SqlView.{IsAtRest, shown, sql_view};
-ghost use Rattle.bureau_sql.specs.Told.{IsRefusedAs, IsRefusedFor, IsTold};
+ghost use Rattle.bureau_sql.specs.Told.{IsOutOfRoom, IsRefusedAs, IsRefusedFor, IsTold};
 
 use crate::probe::look;
 use crate::recent::Recent;
@@ -223,6 +223,8 @@ impl<S: Alter> SqlStore<S> {
 pub(crate) fn refusal_of(error: Error) -> StoreFault
     ensures call { IsOfCall result }
     ensures memory { error ≡ store_error OutOfMemory → result ≡ StoreMemory }
+    ensures room { IsOutOfRoom error → result ≡ StoreSize }
+    ensures size { result ≡ StoreSize → IsOutOfRoom error }
 {
     match error {
         Error::SqliteFailure(ErrorCode::OutOfMemory) => StoreFault::Memory,
