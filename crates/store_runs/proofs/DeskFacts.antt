@@ -2,7 +2,8 @@
 use Rattle.std.proofs.Common.{◌≡◌, ◌∙◌, ℕ, List, Option, Some, Ok, Err, Result, IfErr, IsTrue, ap, arith, inl, inr, refl, subst, sym, true}
 use Rattle.std.specs.Io.KnownBytes.{Keeps}
 use Rattle.faults.specs.declared.any.AnyFault.{AnyFault}
-use Rattle.bureau_sql.specs.Founded.{AreFounded, IsNotMade}
+use Rattle.bureau_sql.proofs.CallersFacts.{callers_fit}
+use Rattle.bureau_sql.specs.Founded.{AreFounded, FailsToFound, IsNotMade}
 use Rattle.bureau_sql.specs.SqlState.{SqlState}
 use Rattle.bureau_sql.specs.SqlView.{IsAtRest, IsOurStore, shown, sql_view}
 use Rattle.sqlite_disk.specs.declared.Disk as disk
@@ -12,7 +13,7 @@ use Rattle.sqlite_wal.specs.Recovery.{Image}
 use Rattle.sqlite.specs.Files.{file_state}
 use Rattle.sqlite.specs.Held.{Held, state}
 use Rattle.sqlite.specs.State.{HasCleanDisk, KeepsCommit, State, Survives}
-use Rattle.sql_writes.specs.Making.{IsEmpty, IsOpened}
+use Rattle.sql_writes.specs.Making.{AreFit, IsEmpty, IsOpened}
 use Rattle.bureau_store.specs.Callers.{callers_of}
 use Rattle.bureau_store.specs.Tables as tables
 use Rattle.bureau_store.specs.declared.caller.CallerRow.{CallerRow}
@@ -40,13 +41,15 @@ pub tables_left : {T : Type 0} (outcome : Result T AnyFault) (source : List ℕ)
 tables_left (Ok done) source rows slice before after read same made fault = λ clean. (rows, read, subst (λ (these : List CallerRow). IsNewStore these after) same (made clean))
 tables_left (Err why) source rows slice before after read same made fault = inl (fault, λ clean. (rows, read, subst (λ (these : List CallerRow). IsNewStore these after) same (made clean)))
 
-pub none_left : (fault : AnyFault) (source : List ℕ) (before after : State) → IsInitRefused source before fault → (HasCleanDisk after → KeepsCommit before after)
+pub none_left : (fault : AnyFault) (source : List ℕ) (before after : State) → IsInitRefused source before after fault → (HasCleanDisk after → KeepsCommit before after)
     → IsInitLeft (Some fault) source before after
 none_left fault source before after why kept = inr (why, kept)
 
-pub none_made : (source : List ℕ) (before : State) (refused : StoreFault) (fault : AnyFault) → fault ≡ of_store refused → IsNotMade before refused
-    → IsInitRefused source before fault
-none_made source before refused fault is why = inr (refused, is, why)
+-- no store is made, with the callers of a callers file, which are fit
+pub none_made : (source : List ℕ) (rows slice : List CallerRow) (before after : State) (refused : StoreFault) (fault : AnyFault) → callers_of source ≡ Ok rows → slice ≡ rows → fault ≡ of_store refused
+    → IsNotMade before refused → (HasCleanDisk after → FailsToFound before after slice refused) → IsInitRefused source before after fault
+none_made source rows slice before after refused fault read same is why failed =
+    inr (refused, is, why, λ clean. failed clean (subst AreFit (sym same) (callers_fit source rows read)))
 
 -- what a stop may leave where nothing was asked of the database
 pub stays_alive : (source : List ℕ) (at : State) → InitSurvives source at at

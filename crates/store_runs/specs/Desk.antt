@@ -11,7 +11,7 @@ use Rattle.bureau_store.specs.declared.caller.CallerRow.{CallerRow}
 use Rattle.bureau_store.specs.declared.fault.CallerFault.{CallerFault}
 use Rattle.bureau_store.specs.declared.fault.CallerFault.TheVariants as callers
 use Rattle.bureau_store.specs.declared.fault.StoreFault.{StoreFault}
-use Rattle.bureau_sql.specs.Founded.{AreFounded, IsNotMade}
+use Rattle.bureau_sql.specs.Founded.{AreFounded, IsNotFounded, IsNotMade}
 use Rattle.bureau_sql.specs.Opening.{HasConditions, HasTables, IsNoStore}
 use Rattle.bureau_sql.specs.SqlState.{SqlState}
 use Rattle.bureau_sql.specs.SqlView.{IsAtRest, IsOurStore, shown, sql_view}
@@ -58,11 +58,12 @@ IsCallersFault source fault =
 abbrev pub IsInitFault : List ℕ → AnyFault → Type 0
 IsInitFault source fault = IsCallersFault source fault ⊎ ((refused : StoreFault) × (fault ≡ of_store refused))
 
--- why a database is left as it was: the fault of the callers file; or that of a store which isn't made there, among them 44,
--- just where the database isn't empty
-abbrev pub IsInitRefused : List ℕ → State → AnyFault → Type 0
-IsInitRefused source before fault =
-    IsCallersFault source fault ⊎ ((refused : StoreFault) × (fault ≡ of_store refused) × IsNotMade before refused)
+-- Why a database is left as it was: the fault of the callers file; or that of a store which isn't made there. Among them is 44, just
+-- where the database isn't empty; and of an empty one 42 or 43, only where it couldn't be written (`CannotWrite`).
+abbrev pub IsInitRefused : List ℕ → State → State → AnyFault → Type 0
+IsInitRefused source before after fault =
+    IsCallersFault source fault
+    ⊎ ((refused : StoreFault) × (fault ≡ of_store refused) × IsNotMade before refused × (HasCleanDisk after → IsNotFounded before after refused))
 
 -- a write failed: standard output has a front part of the line, and the store is made
 abbrev pub IsInitCutShort : AnyFault → List ℕ → Option (List ℕ) → Option (List ℕ) → Type 0
@@ -91,7 +92,7 @@ abbrev pub IsInitLeft : Option AnyFault → List ℕ → State → State → Typ
 IsInitLeft None source before after = HasCallers source after
 IsInitLeft (Some fault) source before after =
     ((fault ≡ of_program NotWritten) × HasCallers source after)
-    ⊎ (IsInitRefused source before fault × (HasCleanDisk after → KeepsCommit before after))
+    ⊎ (IsInitRefused source before after fault × (HasCleanDisk after → KeepsCommit before after))
 
 -- the trees are those of a store with the file's callers and no other row, where the database was empty
 abbrev pub AreFoundedBy : List ℕ → State → Trees → Type 0

@@ -7,7 +7,7 @@ ghost use Rattle.store_runs.specs.NamedStore.{IsInit, IsNotBegun};
 ghost use Rattle.sqlite.specs.Held.{state};
 ghost use Rattle.sqlite.specs.State.{HasCleanDisk, KeepsCommit, Survives};
 ghost use Rattle.sqlite_wal.specs.Files.{image_at};
-ghost use Rattle.bureau_sql.specs.Founded.{AreFounded, IsNotMade};
+ghost use Rattle.bureau_sql.specs.Founded.{AreFounded, FailsToFound, IsNotMade};
 ghost use Rattle.bureau_sql.specs.SqlView.{IsAtRest};
 
 use crate::ended::{Ended, end};
@@ -47,7 +47,7 @@ pub fn run_init<S: Alter + Drop, W: Write, E: Write>(
 }
 
 // Makes the tables, and prints how many callers they have.
-#[tactic(auto, using(crate::proofs::DeskFacts::nothing_committed, crate::proofs::DeskFacts::tables_left, crate::proofs::DeskFacts::none_left, crate::proofs::DeskFacts::none_made, crate::proofs::DeskFacts::stays_alive, crate::proofs::DeskFacts::founded))]
+#[tactic(auto, using(crate::proofs::DeskFacts::nothing_committed, crate::proofs::DeskFacts::tables_left, crate::proofs::DeskFacts::none_left, crate::proofs::DeskFacts::stays_alive, crate::proofs::DeskFacts::founded))]
 fn make_and_print<S: Alter + Drop, W: Write>(
     alloc: Global,
     conn: Connection<S>,
@@ -86,6 +86,8 @@ fn make<S: Alter + Drop>(
     ensures stopped { IfErr result (λ refused. Survives (state S.Store conn) (state S.Store refused.1)
         (AreFounded (state S.Store conn) rows.now)) }
     ensures cause { IfErr result (λ refused. IsNotMade (state S.Store conn) refused.0) }
+    ensures failed { IfErr result (λ refused. HasCleanDisk (state S.Store refused.1)
+        → FailsToFound (state S.Store conn) (state S.Store refused.1) rows.now refused.0) }
     ensures kept { IfErr result (λ refused. HasCleanDisk (state S.Store refused.1)
         → KeepsCommit (state S.Store conn) (state S.Store refused.1)) }
     ensures rest { IfErr result (λ refused. refused.1.in_transaction ≡ false) }
