@@ -1,17 +1,16 @@
 -- No two rows of a table have one key, by the rules of the database.
-use Rattle.std.proofs.Common.{◌≡◌, ◌≢◌, ◌<◌, ◌&&◌, ◌||◌, ℕ, suc, arith, Bool, true, false, List, [], ◌∷◌, length, drop, take, get_or, refl, sym, ◌∙◌, ap, ap₂, subst, IsTrue, Some, pos}
-use Rattle.std.specs.Prelude.{not}
-use Rattle.std.specs.List.{AllByRecursion, list_all, list_any}
+use Rattle.std.proofs.Common.{◌≡◌, ◌≢◌, ◌<◌, ◌&&◌, ℕ, suc, arith, true, false, List, [], ◌∷◌, drop, take, refl, sym, ◌∙◌, ap, ap₂, subst, IsTrue, Some, pos}
+use Rattle.std.specs.List.{AllByRecursion}
 use Rattle.std.specs.Ordering.{is_eq, is_ne}
 use Rattle.std.specs.declared.cmp.Ordering.TheVariants.{Less}
-use Rattle.std.proofs.lemmas.Bool.{and_parts, or_parts}
+use Rattle.std.proofs.lemmas.Bool.{or_parts}
 use Rattle.std.proofs.lemmas.List.{get_or-take}
 use Rattle.catalogue.proofs.IdFacts.{itself}
 use Rattle.holddata.specs.declared.key.Kind.{Kind}
 use Rattle.holddata.specs.declared.key.Kind.TheVariants.{ErrorHold, SystemHold, UserHold, FixcatHold}
 use Rattle.mcs_reader.specs.Id.{text_of}
 use Rattle.sqlite.specs.Collation.TheVariants.{Binary}
-use Rattle.sqlite.specs.Tree.{IsTable, rowid}
+use Rattle.sqlite.specs.Tree.{rowid}
 use Rattle.sqlite.specs.View.{is_int}
 use Rattle.sqlite_schema.specs.Rules.{agree, clashes, differ, equal}
 use Rattle.sqlite_sql.specs.Ops.{binary, from_truth, is_true}

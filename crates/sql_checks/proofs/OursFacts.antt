@@ -1,5 +1,5 @@
 -- A database with the bureau's tables, whose rows keep to them, is the bureau's own.
-use Rattle.std.proofs.Common.{◌≡◌, ◌&&◌, ℕ, suc, arith, Bool, true, false, List, [], ◌∷◌, length, drop, refl, sym, ◌∙◌, ap, subst, IsTrue, None, Some, pos}
+use Rattle.std.proofs.Common.{◌≡◌, ◌&&◌, ℕ, suc, Bool, true, false, List, [], ◌∷◌, length, drop, refl, ◌∙◌, ap, subst, IsTrue, None, Some, pos}
 use Rattle.std.specs.Prelude.{codes, map, not}
 use Rattle.std.specs.List.{AllByRecursion, list_all}
 use Rattle.std.specs.FinMap.{int_cmp-IsAntisymmetric}
@@ -24,7 +24,7 @@ use Rattle.sqlite_value.specs.Keys.{plain}
 use Rattle.sqlite_value.specs.Order.{Row, column}
 use Rattle.sqlite_value.specs.declared.value.Value.{Value}
 use Rattle.sqlite_value.specs.declared.value.Value.TheVariants.{Null, Int, Real, Text, Blob}
-use Rattle.sql_state.specs.Numbered.{AreNumbered, IsNumbered}
+use Rattle.sql_state.specs.Numbered.{AreNumbered}
 use Rattle.sql_state.specs.Ours.{IsOurs, held_by, version_rows}
 use Rattle.sql_tables.proofs.TreeFacts.{column_after}
 use Rattle.sql_tables.specs.InTrees.{columns_of, stored_in}
@@ -32,7 +32,7 @@ use Rattle.sql_tables.specs.Whole.{HaveOwnKeys, IsWhole}
 use Rattle.sql_texts.specs.Found.{shown}
 use Rattle.sql_texts.specs.Schema as made
 use Rattle.sql_texts.specs.Schema.{bureau, tables}
-use Rattle.sql_checks.specs.Kept.{AreKept, IsHeadRow, IsHoldRow, IsSysmodRow, IsZoneRow, KeepsTo}
+use Rattle.sql_checks.specs.Kept.{AreKept, IsHeadRow, IsHoldRow, IsSysmodRow, IsZoneRow}
 use Rattle.sql_checks.specs.declared.table.StoreTable.TheVariants.{Caller, Sysmod, SysmodSup, SysmodCond, HoldRow, ZoneHead, ZoneRow}
 use Rattle.sql_checks.proofs.KeyFacts.{IsPlain, agree_one, agree_three, agree_two, own_keys, plain_id, plain_kind}
 use Rattle.sql_checks.proofs.RowFacts.{caller_of, condition_of, head_of, hold_of, member_of, record_of, zone_sysmod_of}

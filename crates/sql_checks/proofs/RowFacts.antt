@@ -1,12 +1,8 @@
 -- A row that keeps to its table, and has all columns, is the row of something that the bureau writes.
-use Rattle.std.proofs.Common.{◌≡◌, ◌<◌, ℕ, suc, arith, Bool, true, false, List, [], ◌∷◌, length, refl, sym, ◌∙◌, ap, ap₂, subst}
-use Rattle.std.specs.Prelude.{map, is_some, Option, Some, None, IfSome, IsSome, IsTrue, option_map, option_and_then}
-use Rattle.std.specs.List.{AllByRecursion}
+use Rattle.std.proofs.Common.{◌≡◌, ℕ, arith, true, List, [], ◌∷◌, length, refl, ◌∙◌, ap, ap₂}
+use Rattle.std.specs.Prelude.{is_some, Option, Some, None, option_map, option_and_then}
 use Rattle.mcs_reader.specs.Id.{IsId}
-use Rattle.holddata.specs.Categories.{are_categories}
-use Rattle.holddata.specs.Date.{is_date}
 use Rattle.holddata.specs.declared.hold.Hold.{Hold}
-use Rattle.holddata.specs.declared.key.Kind.{Kind}
 use Rattle.std.specs.List.Sorted.{IsStrictlySortedBy}
 use Rattle.catalogue.specs.Conditional.{CondsAscend}
 use Rattle.catalogue.specs.Ids.{Ascend}
@@ -17,7 +13,7 @@ use Rattle.sqlite_value.specs.Order.{Row, column}
 use Rattle.sqlite_value.specs.declared.value.Value.{Value}
 use Rattle.sqlite_value.specs.declared.value.Value.TheVariants.{Null, Int, Real, Text, Blob}
 use Rattle.sql_tables.specs.Fit.{IsHold, IsRecord}
-use Rattle.sql_tables.specs.Rows.{caller_row, hold_found, hold_row, hold_with, key_found, sysmod_row, with}
+use Rattle.sql_tables.specs.Rows.{caller_row, hold_found, hold_row, hold_with, key_found, sysmod_row}
 use Rattle.sql_tables.specs.Values.{categories_in, date_in, hold_kind_in, id_in, id_value, optional_id_in, state_in, sysmod_kind_in, text_in}
 use Rattle.sql_tables.specs.Whole.{Head, IsCondition, IsHead, IsMember, IsZoneSysmod, Listed, ZoneSysmod, condition_row, member_row, row_of_head, row_of_zone_sysmod}
 use Rattle.sql_checks.specs.Kept.{IsCallerRow, IsHeadRow, IsHoldRow, IsIdColumn, IsSysmodRow, IsZoneRow, is_any_text}

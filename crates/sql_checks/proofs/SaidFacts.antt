@@ -1,7 +1,7 @@
 -- What a value says is what it was written as: each reading of a column, the other way round.
-use Rattle.std.proofs.Common.{◌≡◌, ◌==◌, ◌⊎◌, ℕ, ◌&&◌, Bool, true, false, cond, List, [], ◌∷◌, ◌++◌, drop, length, replicate, refl, sym, ◌∙◌, ap, ap₂, subst, inl, inr, pos, negsuc, IsTrue}
+use Rattle.std.proofs.Common.{◌≡◌, ◌==◌, ◌⊎◌, ℕ, ◌&&◌, Bool, true, false, cond, List, [], ◌∷◌, refl, sym, ◌∙◌, ap, ap₂, subst, inl, inr, pos, negsuc, IsTrue}
 use Rattle.std.specs.Prelude.{map, Option, Some, None, IfSome, option_map, option_and_then}
-use Rattle.std.specs.List.{AllByRecursion, join_with_byte, list_all, slice_split}
+use Rattle.std.specs.List.{join_with_byte, list_all}
 use Rattle.std.proofs.lemmas.Bool.{eqb-true}
 use Rattle.std.proofs.lemmas.List.Splits.{join_with_byte-slice_split}
 use Rattle.holddata.specs.Categories.{are_categories}
@@ -12,13 +12,13 @@ use Rattle.mcs_reader.specs.Id.{IsId, id_of, is_id_text, padded, text_of}
 use Rattle.mcs_reader.proofs.IdFacts.{id_over_blanks, padded_over_blanks, text_over_blanks}
 use Rattle.catalogue.specs.declared.sysmod.SysmodKind.{SysmodKind}
 use Rattle.catalogue.specs.declared.sysmod.SysmodKind.TheVariants.{Func, Ptf, Apar, Usermod}
-use Rattle.zone_lists.specs.Pattern.{is_pattern, pattern_of}
+use Rattle.zone_lists.specs.Pattern.{is_pattern}
 use Rattle.zone_lists.specs.declared.zones.ZoneState.{ZoneState}
 use Rattle.zone_lists.specs.declared.zones.ZoneState.TheVariants.{Applied, Accepted, Superseded}
 use Rattle.sqlite_value.specs.declared.value.Value.{Value}
 use Rattle.sqlite_value.specs.declared.value.Value.TheVariants.{Null, Int, Real, Text, Blob}
 use Rattle.sql_tables.specs.Fit.{AreIds}
-use Rattle.sql_tables.specs.Values.{bytes_in, categories_in, categories_of, date_in, date_value, hold_kind_in, hold_kind_value, id_in, id_value, ids_in, ids_of, ids_value, is_comma, number_in, optional_id_in, optional_id_value, parts_of, patterns_in, patterns_of, state_in, state_value, sysmod_kind_in, sysmod_kind_value, texts_in, texts_value, with_number}
+use Rattle.sql_tables.specs.Values.{bytes_in, categories_in, categories_of, date_in, date_value, hold_kind_in, hold_kind_value, id_in, id_value, ids_in, ids_of, ids_value, number_in, optional_id_in, optional_id_value, parts_of, patterns_in, patterns_of, state_in, state_value, sysmod_kind_in, sysmod_kind_value, texts_in, texts_value, with_number}
 
 -- ---- ids
 

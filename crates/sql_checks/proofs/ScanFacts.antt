@@ -1,5 +1,5 @@
 -- What is told of the rows that a text shows, of those that stand in the table.
-use Rattle.std.proofs.Common.{◌≡◌, ◌⊎◌, ◌↔◌, ℕ, arith, inl, inr, suc, Bool, true, false, List, [], ◌∷◌, drop, refl, sym, ◌∙◌, ap, subst, IsTrue, Ok, Err, Result, None, Some}
+use Rattle.std.proofs.Common.{◌≡◌, ◌↔◌, ℕ, arith, inl, inr, suc, Bool, List, [], ◌∷◌, drop, refl, sym, ◌∙◌, ap, subst, IsTrue, Ok, Err, Result, None, Some}
 use Rattle.std.specs.Prelude.{codes, filter, map, Option, Vec, IfOk, pos}
 use Rattle.std.specs.declared.alloc.Global.{Global}
 use Rattle.std.specs.List.{AllByRecursion, Contains}
@@ -8,7 +8,7 @@ use Rattle.std.proofs.lemmas.List.Elements.{All-from_recursion, recursion_from_A
 use Rattle.std.proofs.lemmas.List.Sorted.{All-permutation, Contains-permutation, IsPermutation-sym, length_permutation}
 use Rattle.sqlite.specs.Effect.{Database, IsDatabase}
 use Rattle.sqlite.specs.Query.{IsAnswer}
-use Rattle.sqlite.specs.State.{HasCleanDisk, State}
+use Rattle.sqlite.specs.State.{State}
 use Rattle.sqlite.specs.Tree.{Trees}
 use Rattle.sqlite_value.specs.Order.{Row, column}
 use Rattle.sqlite_value.specs.declared.value.Value.TheVariants.{Int}

@@ -1,19 +1,17 @@
 -- How much a store has, of what one read after another finds.
-use Rattle.std.proofs.Common.{◌≡◌, ◌+◌, ◌++◌, ◌≤◌, ◌<◌, ℕ, List, [], ◌∷◌, length, take, refl, sym, ◌∙◌, ap, ap₂, subst, arith, IsTrue, Ok, Err, Result}
-use Rattle.std.specs.Prelude.{map, IfOk, Vec}
+use Rattle.std.proofs.Common.{◌≡◌, ◌+◌, ◌++◌, ℕ, List, [], ◌∷◌, length, take, sym, ◌∙◌, ap, ap₂, subst, Ok, Err, Result}
+use Rattle.std.specs.Prelude.{map, Vec}
 use Rattle.std.specs.declared.alloc.Global.{Global}
-use Rattle.std.proofs.lemmas.List.{map-append, take_more}
-use Rattle.bureau_store.specs.Tables.{Tables}
+use Rattle.std.proofs.lemmas.List.{map-append}
 use Rattle.bureau_store.specs.declared.caller.CallerRow.{CallerRow}
 use Rattle.sqlite.specs.Effect.{Database}
-use Rattle.sqlite.specs.State.{HasCleanDisk, State}
+use Rattle.sqlite.specs.State.{State}
 use Rattle.sql_reads.specs.Tally.{tally_of}
 use Rattle.sql_reads.specs.declared.tally.CallerTally.{CallerTally}
-use Rattle.sql_state.proofs.StopFacts.{no_read, read_on, was_clean}
+use Rattle.sql_state.proofs.StopFacts.{no_read, read_on}
 use Rattle.sql_state.specs.Ours.{IsOurs, held_by}
 use Rattle.sql_state.specs.Reading.{Finds, OnlyReads}
 use Rattle.sql_tables.specs.Stored.{Stored, tables_of}
-use Rattle.sql_texts.specs.Schema.{bureau}
 use Rattle.sql_checks.specs.Checked.{Looks}
 use Rattle.sql_checks.specs.Tally.{HasTallied, IsTallyOf, line_of}
 use Rattle.sql_checks.specs.declared.tallies.CallerLine.{CallerLine}

@@ -1,9 +1,8 @@
 -- What a check of a database tells.
-use Rattle.std.specs.Prelude.{◌≡◌, ◌⊎◌, ℕ, List, [], ◌∷◌, IsTrue, None, Some, Option, Result, IfOk, map, pos}
+use Rattle.std.specs.Prelude.{◌≡◌, List, [], ◌∷◌, IsTrue, None, Some, Option, Result, IfOk, map, pos}
 use Rattle.std.specs.List.{AllByRecursion}
 use Rattle.sqlite.specs.Effect.{Database}
 use Rattle.sqlite.specs.State.{HasCleanDisk, State}
-use Rattle.sqlite_value.specs.Order.{Row}
 use Rattle.sqlite_value.specs.declared.value.Value.TheVariants.{Int}
 use Rattle.sql_state.specs.Numbered.{AreNumbered}
 use Rattle.sql_state.specs.Ours.{IsOurs, held_by}

@@ -1,5 +1,5 @@
 -- What each row of a store keeps to, so that it is one that the bureau writes, and that a read takes.
-use Rattle.std.specs.Prelude.{◌≡◌, ℕ, suc, Bool, true, false, List, [], ◌∷◌, codes, map, IsSome, IsTrue, Some}
+use Rattle.std.specs.Prelude.{◌≡◌, ℕ, suc, Bool, true, false, List, [], ◌∷◌, map, IsSome, IsTrue, Some}
 use Rattle.std.specs.List.{AllByRecursion}
 use Rattle.bureau_store.specs.Tables.{PatternsAscend}
 use Rattle.catalogue.specs.Ids.{Ascend}

@@ -1,5 +1,5 @@
 -- No part of what is promised: private contracts cite it. The tables and the indexes that are looked for.
-use Rattle.std.specs.Prelude.{ℕ, List, [], ◌∷◌, map, Option, None, Some, false, pos}
+use Rattle.std.specs.Prelude.{List, [], ◌∷◌, map, Option, None, Some, false, pos}
 use Rattle.sqlite.specs.Collation.TheVariants.{Binary}
 use Rattle.sqlite.specs.Term.{Term, lit, col, op2}
 use Rattle.sqlite.specs.declared.types.Value.TheVariants.{Int}

@@ -1,4 +1,4 @@
-use Rattle.std.proofs.Common.{◌≡◌, ◌↔◌, ◌∙◌, ap, IsTrue, subst, sym}
+use Rattle.std.proofs.Common.{◌≡◌, ◌↔◌, ◌∙◌, ap, IsTrue, subst}
 use Rattle.sqlite_sql.specs.Syntax.{terms_of}
 use Rattle.sql_checks.specs.Shapes.{terms_of_rule}
 use Rattle.sql_checks.proofs.rules.has_rule.Goals as goal
