@@ -12,3 +12,4 @@ mod TextFacts
 mod NextRequestFacts
 mod ReadingFacts
 mod LaterFacts
+mod ProgressFacts

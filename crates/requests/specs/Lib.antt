@@ -10,3 +10,4 @@ pub mod Search
 pub mod Status
 pub mod Text
 pub mod NextRequest
+pub mod Progress

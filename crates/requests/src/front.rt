@@ -10,7 +10,7 @@ use std::io::Read;
 use transfer::{Intake, TransferFault};
 
 // The most bytes of a head, with the empty lines before it.
-const HEAD_LIMIT: usize = 16_384;
+pub(crate) const HEAD_LIMIT: usize = 16_384;
 
 // How many bytes of a body a read asks for at most.
 const CHUNK: usize = 65_536;
@@ -71,7 +71,7 @@ pub fn read_front<R: Read>(
 }
 
 // As many of the bytes as a head may have.
-fn within_limit(bytes: &[u8]) -> &[u8]
+pub(crate) fn within_limit(bytes: &[u8]) -> &[u8]
     ensures value { result.now ≡ take head_limit bytes.now }
     ensures short { length result.now ≤ 16384 }
     ensures part { length result.now ≤ length bytes.now }
@@ -86,7 +86,7 @@ fn within_limit(bytes: &[u8]) -> &[u8]
 }
 
 // Goes on with a search in bytes of which the first were seen.
-fn find_on(bytes: &[u8], seen: usize, ending: Ending) -> Result<usize, Ending>
+pub(crate) fn find_on(bytes: &[u8], seen: usize, ending: Ending) -> Result<usize, Ending>
     requires within { seen ≤ length bytes.now }
     requires seen { search Ending.EmptyLines (take seen bytes.now) ≡ Err ending }
     ensures found { result ≡ search Ending.EmptyLines bytes.now }

@@ -8,6 +8,7 @@
 //! - [`decide`]: a whole [`Head`] and the length of its body, or why it is [`Refused`]
 //! - [`read_next`], [`NextRequest`], [`Request`]: all of this together; [`one_reading`]: it can be read in one way only;
 //!   [`later_bytes`]: bytes that come later change nothing of it
+//! - [`Progress`]: whether bytes that come piece by piece hold a whole request yet, at a look at each byte
 //! - [`Head`]: the token, the number and the [`Action`] that a request asks for, by its [`Routes`]
 //! - [`Resource`]: what a path names
 //! - [`read_whole`]: so many bytes, or all that there are
@@ -36,6 +37,7 @@ mod headers;
 mod law;
 mod next_request;
 mod order;
+mod progress;
 mod refusal;
 mod reply;
 mod request;
@@ -50,6 +52,7 @@ pub use head::Head;
 pub use law::{later_bytes, one_reading};
 pub use next_request::{NextRequest, Request, read_next};
 pub use order::{Refused, decide};
+pub use progress::Progress;
 pub use refusal::Refusal;
 pub use reply::{ReplyHead, head_text};
 pub use resource::Resource;
