@@ -1,3 +1,4 @@
+pub mod CallersFacts
 pub mod DeskFacts
 pub mod EndFacts
 pub mod KeptFacts

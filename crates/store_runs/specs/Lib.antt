@@ -1,3 +1,4 @@
+pub mod Callers
 pub mod Desk
 pub mod Ended
 pub mod Keeping
