@@ -10,3 +10,4 @@ mod ConnectionFacts
 pub mod ReplayFacts
 mod LawfulFacts
 pub mod ServiceFacts
+mod RestFacts

@@ -1,6 +1,6 @@
 //! One connection, from its bytes to the bytes of its replies.
-ghost use Rattle.std.specs.Prelude.{◌≡◌, ◌<◌, ◌||◌, nat_le, IfOk, IfSome};
-ghost use Rattle.std.specs.Io.KnownBytes.{Keeps, prepend_known};
+ghost use Rattle.std.specs.Prelude.{◌≡◌, ◌<◌, ◌||◌, ℕ, List, nat_le, IfOk, IfSome};
+ghost use Rattle.std.specs.Io.KnownBytes.{Consumes, Keeps, prepend_known};
 ghost use Rattle.bureau_http.specs.Asked.{has_token, most_requests, what_of};
 ghost use Rattle.bureau_http.specs.Served.{HasRun, IfEnded, IsExchanged, IsServed, Serves};
 ghost use Rattle.bureau.specs.Kept.{IsKeptRun};
@@ -125,7 +125,8 @@ pub(crate) fn serve_connection<D: Desk, R: Read, W: Write>(
 /// Serves what stands next in a connection: reads its request at this ordinal, counted from 1, answers it, and writes the
 /// reply. Bytes that came further stay in the intake, for the next one.
 ///
-/// It reads no byte where a whole request is at hand. Where the input ends before, the bytes that came stay in the intake.
+/// It reads no byte where a whole request is at hand. Where the input ends before, the bytes that came stay in the intake. In any
+/// case the bytes that are left, in the intake and in the reader, are the last of those that were there.
 ///
 /// # Errors
 ///
@@ -151,6 +152,8 @@ pub fn serve_next<D: Desk, R: Read, W: Write>(
     ensures kept { Tells D.tables_view desk.old desk.new (λ this. IfEnded result
         (Keeps (prepend_known intake.old (R.remaining reader.old))
         (prepend_known intake.new (R.remaining reader.new)))) }
+    ensures rest { (taken : List ℕ) × Consumes (prepend_known intake.old (R.remaining reader.old))
+        (prepend_known intake.new (R.remaining reader.new)) taken }
 {
     match read_next(intake, reader, &mut retries.reads)? {
         NextRequest::CleanEnd => Ok(Step::CleanEnd),

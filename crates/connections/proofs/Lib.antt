@@ -1,6 +1,7 @@
 mod SlotFacts
-mod ReadingFacts
+pub mod ReadingFacts
 mod OwnFacts
-mod SideFacts
+mod MemoryFacts
 mod SettledFacts
+pub mod SideFacts
 mod IntakeFacts

@@ -1,15 +1,14 @@
 -- What one connection had.
-use Rattle.std.proofs.Common.{◌≡◌, ◌≢◌, ◌⊎◌, inl, inr, ℕ, ◌+◌, ◌≤◌, ◌==◌, ◌||◌, Bool, true, false, List, [], ◌∷◌, ◌++◌, length, map, take, drop, Option, Some, None, slice_get, slice_set, if◌then◌else◌, refl, sym, ap, ◌∙◌, subst, arith, append_assoc, append-nil, length-append}
+use Rattle.std.proofs.Common.{◌≡◌, ◌≢◌, ◌⊎◌, inl, inr, ℕ, ◌+◌, ◌||◌, Bool, true, false, List, [], ◌∷◌, ◌++◌, length, map, Some, None, slice_get, refl, sym, ap, ◌∙◌, subst, arith, append_assoc, append-nil, length-append}
 use Rattle.std.proofs.lemmas.Bool.Decides.{eqb_tells}
-use Rattle.std.proofs.lemmas.List.{length-take-le, take-append-drop}
-use Rattle.std.specs.List.{AllByRecursion, flat_map, list_any}
-use Rattle.requests.specs.NextRequest.{IsNext, IsUnfinished, clean_end, end_inside}
+use Rattle.std.specs.List.{AllByRecursion}
+use Rattle.requests.specs.NextRequest.{IsUnfinished}
 use Rattle.bureau_store.specs.declared.caller.CallerRow.{CallerRow}
 use Rattle.bureau_http.specs.Asked.{Asked}
-use Rattle.bureau_http.specs.Connection.{IsConnection, IsLast, IsOwn, IsRequest, ReadsTo, Stop, clean, inside, closed, cut}
+use Rattle.bureau_http.specs.Connection.{IsConnection, IsLast, IsRequest, ReadsTo, clean, inside, closed, cut}
 use Rattle.bureau_http.specs.Exchange.{Exchange, IsAnswered, exchange_text, replies_text}
 use Rattle.connections.specs.Items.{Answers, Asks, Event, Grows, Happens, IsDone, IsEnded, IsReady, Item, Leaves, Loses, Moves, Slots, Puts, Sends, Step, Steps, came, bytes, wrote, ended, failed, late, fresh, happens, went, stray, missed, answered, lost, starved, finished}
-use Rattle.connections.specs.Own.{EachIsServed, IsServedAlone, Stays, StaysBy, asked_in, ended_well, exchanges_at, got, got_by, got_in, is_finish, sent, sent_in}
+use Rattle.connections.specs.Own.{EachIsServed, IsServedAlone, Stays, StaysBy, asked_in, ended_well, exchanges_at, got, got_in, is_finish, sent, sent_in}
 use Rattle.connections.specs.declared.connection.Connection.{Connection}
 use Rattle.connections.specs.declared.connection.Phase.TheVariants.{Open, Ended, Last}
 use Rattle.connections.proofs.SlotFacts.{get_other, get_same, left_here, moved_here, none_left, none_moved, other_left, other_moved}

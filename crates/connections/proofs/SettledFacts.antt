@@ -1,16 +1,20 @@
 -- No whole request waits, but behind a reply that has still to go out.
-use Rattle.std.proofs.Common.{◌≡◌, ◌≢◌, ◌⊎◌, inl, inr, ℕ, zero, suc, ◌+◌, ◌<◌, ◌==◌, List, [], ◌∷◌, ◌++◌, codes, drop, length, Option, Some, None, slice_get, slice_set, refl, sym, ap, ◌∙◌, subst, arith, length-append}
+use Rattle.std.proofs.Common.{◌≡◌, ◌≢◌, inl, inr, ℕ, zero, suc, ◌<◌, true, List, [], ◌++◌, codes, drop, length, Option, Some, None, slice_get, slice_set, refl, sym, ap, ◌∙◌, subst, arith, length-append}
 use Rattle.std.proofs.Math.ListN.{replicate}
 use Rattle.std.proofs.lemmas.Bool.Decides.{eqb_tells}
+use Rattle.requests.specs.NextRequest.{IsUnfinished}
 use Rattle.bureau_store.specs.Tables.{Tables}
 use Rattle.bureau_store.specs.declared.caller.CallerRow.{CallerRow}
 use Rattle.bureau.specs.Joint.{CallBy}
 use Rattle.bureau_http.specs.Exchange.{Exchange, exchange_text}
-use Rattle.connections.specs.Items.{Answers, Event, Leaves, Moves, Slots, Puts, came, bytes, wrote, ended, failed, late, fresh, slot_of}
-use Rattle.connections.specs.Turns.{AreSettled, AreSettledBut, IsSettled, Misses, Occurs, Turns}
+use Rattle.connections.specs.Items.{Event, IsReady, Leaves, Slots, Puts, came, bytes, wrote, ended, failed, late, fresh, slot_of}
+use Rattle.connections.specs.Turns.{AreSettled, AreSettledBut, IsSettled, Misses, Occurs, Turns, rest_of, stays}
 use Rattle.connections.specs.declared.connection.Connection.{Connection}
-use Rattle.connections.specs.declared.connection.Turn.TheVariants.{Waits, Answered}
-use Rattle.connections.proofs.SlotFacts.{back_by, get_other, get_same, none_there, one_there}
+use Rattle.connections.specs.declared.connection.Phase.{Phase}
+use Rattle.connections.specs.declared.connection.Phase.TheVariants.{Open, Ended, Last}
+use Rattle.connections.specs.declared.connection.Turn.{Turn}
+use Rattle.connections.specs.declared.connection.Turn.TheVariants.{Waits, Answered, Lost, Starved, Finished}
+use Rattle.connections.proofs.SlotFacts.{get_other, get_same, none_there, one_there}
 
 protocol_there : (rest : List ℕ) → 0 < length (codes "HTTP/1.1 " ++ rest)
 protocol_there rest =
@@ -103,8 +107,23 @@ module _ (slot : ℕ) (a b : Connection) (t u : Slots) (at : slice_get t slot �
   taken_settled settled =
       none_settled u slot (ap (λ l. slice_get l slot) out ∙ get_same t slot (Some a) None at) (but_settled t u slot None out settled)
 
-pub waits_settled : (Runs : Tables → List CallBy → Tables → Type 0) (this : Tables) (a b : Connection) → Turns Runs this Waits a b → IsSettled b
-waits_settled Runs this a b turn = turn.2
+-- a connection that stays
+pub stays_settled : (Runs : Tables → List CallBy → Tables → Type 0) (this : Tables) (a b : Connection) (turn : Turn) → stays turn ≡ true → Turns Runs this turn a b
+    → IsSettled b
+stays_settled Runs this a b Waits e h = h.2
+stays_settled Runs this a b Answered e h = put_settled this.callers h.0 a b h.2.2
+stays_settled Runs this a b Lost e h = absurd (cc)
+stays_settled Runs this a b Starved e h = absurd (cc)
+stays_settled Runs this a b Finished e h = absurd (cc)
 
-pub answered_settled : (Runs : Tables → List CallBy → Tables → Type 0) (this : Tables) (a b : Connection) → Turns Runs this Answered a b → IsSettled b
-answered_settled Runs this a b turn = put_settled this.callers turn.0 a b turn.2.2
+-- ---- where no request stands whole
+
+rests_by : (Runs : Tables → List CallBy → Tables → Type 0) (this : Tables) (old new : Connection) (phase : Phase) → old.phase ≡ phase → old.phase ≢ Last → old.out ≡ []
+    → new ≡ old → IsUnfinished old.held → Runs this [] this → Turns Runs this (rest_of phase) old new
+rests_by Runs this old new Open at goes none same short run = (run, same, subst IsSettled (sym same) (inr (at, short)))
+rests_by Runs this old new Ended at goes none same short run = (run, (none, inr (at, short)))
+rests_by Runs this old new Last at goes none same short run = absurd (goes at)
+
+pub rests : (Runs : Tables → List CallBy → Tables → Type 0) (this : Tables) (old new : Connection) → IsReady old → new ≡ old
+    → IsUnfinished old.held → Runs this [] this → Turns Runs this (rest_of old.phase) old new
+rests Runs this old new ready same short run = rests_by Runs this old new old.phase refl ready.1 ready.0 same short run

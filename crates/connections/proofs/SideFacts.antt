@@ -1,33 +1,36 @@
 -- One item after another, beside the desk.
-use Rattle.std.proofs.Common.{◌≡◌, ◌≢◌, ◌⊎◌, inl, inr, ℕ, ◌+◌, ◌<◌, ◌==◌, List, [], ◌∷◌, ◌++◌, length, map, take, drop, get_or, take-append-drop, Option, Some, None, slice_get, slice_set, refl, sym, ap, ◌∙◌, subst, arith, append-nil}
-use Rattle.std.proofs.lemmas.Bool.Decides.{eqb_tells}
+use Rattle.std.proofs.Common.{◌≡◌, ℕ, ◌+◌, ◌<◌, List, [], ◌∷◌, ◌++◌, length, map, take, drop, get_or, take-append-drop, true, false, Some, None, slice_get, slice_set, refl, sym, ap, ◌∙◌, subst, arith, append-nil}
 use Rattle.std.proofs.lemmas.Grind.{flat_map-append}
 use Rattle.std.proofs.lemmas.List.{drop_more, map-append, take_more}
 use Rattle.catalogue.specs.View.{Goes, Tells, View}
 use Rattle.catalogue.proofs.SourceFacts.{goes_on, told_both, told_so}
-use Rattle.bureau_store.specs.Tables.{AreInOrder, Tables}
+use Rattle.bureau_store.specs.Tables.{Tables}
 use Rattle.bureau_store.specs.declared.caller.CallerRow.{CallerRow}
 use Rattle.bureau.specs.Joint.{CallBy, IsRun}
 use Rattle.bureau.specs.Kept.{IsKeptRun}
 use Rattle.bureau.specs.Runs.{IsLawfulRun}
-use Rattle.bureau.proofs.KeptFacts.{idle, kept_on, kept_run, stands_after}
+use Rattle.bureau.proofs.KeptFacts.{idle, kept_on, stands_after}
 use Rattle.bureau.proofs.RunFacts.{lawful_run}
 use Rattle.bureau_http.specs.Exchange.{Exchange, call_in, calls_of}
-use Rattle.bureau_http.specs.Served.{HasExchanged, IsOneRun}
+use Rattle.bureau_http.specs.Served.{HasExchanged}
 use Rattle.bureau_http.proofs.IsolatedFacts.{Alike, Alone, isolated}
-use Rattle.bureau_http.proofs.NextFacts.{acts_once, kept_once, kept_plain}
+use Rattle.bureau_http.proofs.NextFacts.{kept_once, kept_plain}
 use Rattle.bureau_http.proofs.ServingFacts.{ActOnce, one_run, same_run}
-use Rattle.connections.specs.Items.{Answers, Event, Happens, IsDone, IsReady, Item, Leaves, Loses, Moves, Slots, Step, Steps, came, bytes, wrote, ended, failed, late, event_in, events_of, exchange_in, exchanges_of, fresh, happens, went, stray, missed, answered, lost, starved, finished, slot_of}
-use Rattle.connections.specs.SideBySide.{AreServedSideBySide, AreSoFar}
-use Rattle.connections.specs.Turns.{AreSettled, AreSettledBut, IsSettled, IsToldOf, Misses, Occurs, Turns}
+use Rattle.connections.specs.Items.{Answers, Event, IsDone, IsReady, Item, Leaves, Loses, Slots, Step, Steps, came, bytes, wrote, ended, failed, late, event_in, events_of, exchange_in, exchanges_of, happens, went, stray, missed, answered, lost, starved, finished, slot_of}
+use Rattle.connections.specs.Memory.{StaysWithin}
+use Rattle.connections.specs.SideBySide.{AreServedSideBySide, AreSoFar, IsOnward}
+use Rattle.connections.specs.Turns.{AreSettled, AreSettledBut, IsToldOf, Misses, Occurs, Turns, stays}
 use Rattle.connections.specs.declared.connection.Connection.{Connection}
+use Rattle.connections.specs.declared.slots.Connections.{Connections}
 use Rattle.connections.specs.declared.connection.Turn.{Turn}
 use Rattle.connections.specs.declared.connection.Turn.TheVariants.{Waits, Answered, Lost, Starved, Finished}
 use Rattle.connections.specs.declared.event.Told.{Told}
 use Rattle.connections.specs.declared.event.Told.TheVariants.{Done, Missed, Stray}
 use Rattle.connections.proofs.OwnFacts.{each_served}
-use Rattle.connections.proofs.SlotFacts.{back_by, get_other, get_same, moves_by, one_there, none_there}
+use Rattle.connections.proofs.SlotFacts.{back_by, moves_by}
 use Rattle.connections.proofs.ReadingFacts.{Later}
+use Rattle.connections.proofs.MemoryFacts.{stays_on, stays_same}
+use Rattle.connections.proofs.SettledFacts.{event_settled, missed_settled, put_in_settled, stays_settled, taken_settled}
 
 steps_on : (rows : List CallerRow) (xs ys : List Item) (t u v : Slots) → Steps rows t xs u → Steps rows u ys v → Steps rows t (xs ++ ys) v
 steps_on rows [] ys t u v h k = subst (λ (l : Slots). Steps rows l ys v) h k
@@ -78,19 +81,19 @@ event_quiet Runs this (ended slot) t u run h = absurd h
 event_quiet Runs this (failed slot) t u run h = absurd h
 event_quiet Runs this (late slot) t u run h = absurd h
 
-event_done : (Runs : Tables → List CallBy → Tables → Type 0) (this : Tables) (event : Event) (t u : Slots) → Runs this [] this → Occurs t event u
+event_occurs : (Runs : Tables → List CallBy → Tables → Type 0) (this : Tables) (event : Event) (t u : Slots) → Runs this [] this → Occurs t event u
     → AreSoFar Runs this (event ∷ []) t u
-event_done Runs this (came slot) t u run h = quiet Runs this (happens (came slot)) t u refl run h
-event_done Runs this (bytes slot text) t u run h = quiet Runs this (happens (bytes slot text)) t u refl run h
-event_done Runs this (wrote slot count) t u run h =
+event_occurs Runs this (came slot) t u run h = quiet Runs this (happens (came slot)) t u refl run h
+event_occurs Runs this (bytes slot text) t u run h = quiet Runs this (happens (bytes slot text)) t u refl run h
+event_occurs Runs this (wrote slot count) t u run h =
     subst (λ n. AreSoFar Runs this (wrote slot n ∷ []) t u) h.1 (quiet Runs this (went slot h.0) t u refl run h.2)
-event_done Runs this (ended slot) t u run h = quiet Runs this (happens (ended slot)) t u refl run h
-event_done Runs this (failed slot) t u run h = quiet Runs this (happens (failed slot)) t u refl run h
-event_done Runs this (late slot) t u run h = quiet Runs this (happens (late slot)) t u refl run h
+event_occurs Runs this (ended slot) t u run h = quiet Runs this (happens (ended slot)) t u refl run h
+event_occurs Runs this (failed slot) t u run h = quiet Runs this (happens (failed slot)) t u refl run h
+event_occurs Runs this (late slot) t u run h = quiet Runs this (happens (late slot)) t u refl run h
 
 pub event_so_far : (Runs : Tables → List CallBy → Tables → Type 0) (this : Tables) (told : Told) (event : Event) (t u : Slots) → Runs this [] this
     → IsToldOf told t event u → AreSoFar Runs this (event ∷ []) t u
-event_so_far Runs this Done event t u run h = event_done Runs this event t u run h
+event_so_far Runs this Done event t u run h = event_occurs Runs this event t u run h
 event_so_far Runs this Missed event t u run h = event_quiet Runs this event t u run h
 event_so_far Runs this Stray event t u run h = quiet Runs this (stray event) t u refl run h
 
@@ -120,18 +123,49 @@ module _ (Runs : Tables → List CallBy → Tables → Type 0) (this : Tables) (
   pub finished_on : Turns Runs this Finished a b → AreSoFar Runs this [] t u
   finished_on turn = quiet Runs this (finished slot) t u refl turn.0 (left_by IsDone turn.1)
 
--- what is told of a turn, by what it was
-pub turn_as : {Desk : Type 0} (view : View Desk Tables) (old new : Desk) (a b : Connection) (turn is : Turn) → turn ≡ is
-    → Tells view old new (λ this. Turns (IsKeptRun view old new) this turn a b) → Tells view old new (λ this. Turns (IsKeptRun view old new) this is a b)
-turn_as view old new a b turn is e told = told_so told (λ this turns. subst (λ t. Turns (IsKeptRun view old new) this t a b) e turns)
+module _ {Desk : Type 0} (view : View Desk Tables) (old new : Desk) (slot : ℕ) (a b : Connection) (t u : Slots) (turn : Turn)
+    (at : slice_get t slot ≡ Some (Some a)) (out : u ≡ slice_set t slot None)
+    (told : Tells view old new (λ this. Turns (IsKeptRun view old new) this turn a b)) where
+  abbrev Runs : Tables → List CallBy → Tables → Type 0
+  Runs = IsKeptRun view old new
+
+  stays_by : (this : Tables) (v : Slots) (is : Turn) → stays is ≡ true → v ≡ slice_set u slot (Some b) → Turns Runs this is a b → AreSoFar Runs this [] t v
+  stays_by this v Waits e into h = waits_on Runs this slot a b t u at out v into h
+  stays_by this v Answered e into h = answered_on Runs this slot a b t u at out v into h
+  stays_by this v Lost e into h = absurd (cc)
+  stays_by this v Starved e into h = absurd (cc)
+  stays_by this v Finished e into h = absurd (cc)
+
+  leaves_by : (this : Tables) (is : Turn) → stays is ≡ false → Turns Runs this is a b → AreSoFar Runs this [] t u
+  leaves_by this Waits e h = absurd (cc)
+  leaves_by this Answered e h = absurd (cc)
+  leaves_by this Lost e h = lost_on Runs this slot a b t u at out h
+  leaves_by this Starved e h = starved_on Runs this slot a b t u at out h
+  leaves_by this Finished e h = finished_on Runs this slot a b t u at out h
+
+  -- it stays in its slot
+  pub stays_so_far : (v : Slots) → stays turn ≡ true → v ≡ slice_set u slot (Some b) → Tells view old new (λ this. AreSoFar Runs this [] t v)
+  stays_so_far v e into = told_so told (λ this h. stays_by this v turn e into h)
+
+  pub stays_all_settled : (v : Slots) → stays turn ≡ true → v ≡ slice_set u slot (Some b)
+      → Tells view old new (λ this. AreSettledBut slot t → AreSettled v)
+  stays_all_settled v e into = told_so told (λ this h settled.
+      put_in_settled slot a b t u at out v into (stays_settled Runs this a b turn e h) settled)
+
+  -- it leaves
+  pub leaves_so_far : stays turn ≡ false → Tells view old new (λ this. AreSoFar Runs this [] t u)
+  leaves_so_far e = told_so told (λ this h. leaves_by this turn e h)
+
+  pub leaves_all_settled : Tells view old new (λ this. AreSettledBut slot t → AreSettled u)
+  leaves_all_settled = record { told = λ ours clean this stand settled. taken_settled slot a b t u at out settled }
 
 -- what is told of an event, by what became of it
 pub told_as : (told is : Told) (event : Event) (t u : Slots) → told ≡ is → IsToldOf told t event u → IsToldOf is t event u
 told_as told is event t u e h = subst (λ r. IsToldOf r t event u) e h
 
 -- a desk that was asked nothing
-pub stays : {Desk : Type 0} (view : View Desk Tables) (desk : Desk) → Goes view desk desk
-stays view desk = record { clean = λ h. h; ours = λ h _. h; failures_rise = omega arith }
+pub unasked : {Desk : Type 0} (view : View Desk Tables) (desk : Desk) → Goes view desk desk
+unasked view desk = record { clean = λ h. h; ours = λ h _. h; failures_rise = omega arith }
 
 -- ---- one after another
 
@@ -172,6 +206,81 @@ module _ {Desk : Type 0} (view : View Desk Tables) (old between new : Desk) (goe
         (so.told ours (next_goes.clean clean) this stand settled);
   }
 
+-- no event yet
+pub onward_none : {Desk : Type 0} (view : View Desk Tables) (desk : Desk) (t : Connections) → IsOnward view desk desk [] t t
+onward_none view desk t = record {
+  goes = unasked view desk;
+  so_far = record { told = λ ours clean this stand. none_so_far (IsKeptRun view desk desk) this t.slots.items t.slots.items (refl, idle view desk this stand) refl };
+  settled = record { told = λ ours clean this stand settled. settled };
+  within = stays_same t t refl refl;
+}
+
+-- an event did what it says, and then the next request of its connection was answered
+pub event_done : {Desk : Type 0} (view : View Desk Tables) (old new : Desk) (event : Event) (t u v : Connections) → IsToldOf Done t.slots.items event u.slots.items
+    → StaysWithin t u → Goes view old new → Tells view old new (λ this. AreSoFar (IsKeptRun view old new) this [] u.slots.items v.slots.items)
+    → {slot : ℕ} → slot ≡ slot_of event → Tells view old new (λ this. AreSettledBut slot u.slots.items → AreSettled v.slots.items) → StaysWithin u v
+    → IsOnward view old new (event ∷ []) t v
+event_done view old new event t u v told first goes so_far at settled next = record {
+  goes = goes;
+  so_far = so_far_on view old old new (unasked view old) goes (event ∷ []) [] t.slots.items u.slots.items v.slots.items
+      (record { told = λ ours clean this stand. event_so_far (IsKeptRun view old old) this Done event t.slots.items u.slots.items (refl, idle view old this stand) told })
+      so_far;
+  settled = told_so settled (λ this so before. so (subst (λ l. AreSettledBut l u.slots.items) (sym at) (event_settled event t.slots.items u.slots.items told before)));
+  within = stays_on t u v first next;
+}
+
+-- there was no memory for it
+pub event_missed : {Desk : Type 0} (view : View Desk Tables) (desk : Desk) (event : Event) (t u : Connections) → IsToldOf Missed t.slots.items event u.slots.items
+    → StaysWithin t u → IsOnward view desk desk (event ∷ []) t u
+event_missed view desk event t u told within = record {
+  goes = unasked view desk;
+  so_far = record { told = λ ours clean this stand. event_so_far (IsKeptRun view desk desk) this Missed event t.slots.items u.slots.items (refl, idle view desk this stand) told };
+  settled = record { told = λ ours clean this stand before. missed_settled event t.slots.items u.slots.items told before };
+  within = within;
+}
+
+-- it can't be, and changed nothing
+pub event_stray : {Desk : Type 0} (view : View Desk Tables) (desk : Desk) (event : Event) (t u : Connections) → IsToldOf Stray t.slots.items event u.slots.items
+    → StaysWithin t u → IsOnward view desk desk (event ∷ []) t u
+event_stray view desk event t u told within = record {
+  goes = unasked view desk;
+  so_far = record { told = λ ours clean this stand. event_so_far (IsKeptRun view desk desk) this Stray event t.slots.items u.slots.items (refl, idle view desk this stand) told };
+  settled = record { told = λ ours clean this stand before. subst AreSettled (sym told.1) before };
+  within = within;
+}
+
+-- the slots stay
+pub onward_same : {Desk : Type 0} (view : View Desk Tables) (old new : Desk) (event : Event) (t u v : Connections) → IsOnward view old new (event ∷ []) t u
+    → v.slots.items ≡ u.slots.items → StaysWithin u v → IsOnward view old new (event ∷ []) t v
+onward_same view old new event t u v onward same within = record {
+  goes = onward.goes;
+  so_far = subst (λ l. Tells view old new (λ this. AreSoFar (IsKeptRun view old new) this (event ∷ []) t.slots.items l)) (sym same) onward.so_far;
+  settled = subst (λ l. Tells view old new (λ this. AreSettled t.slots.items → AreSettled l)) (sym same) onward.settled;
+  within = stays_on t u v onward.within within;
+}
+
+-- no event, and the slots stay
+pub onward_within : {Desk : Type 0} (view : View Desk Tables) (desk : Desk) (t u : Connections) → u.slots.items ≡ t.slots.items → StaysWithin t u
+    → IsOnward view desk desk [] t u
+onward_within view desk t u same within =
+    let none = onward_none view desk t in
+    record {
+      goes = none.goes;
+      so_far = subst (λ l. Tells view desk desk (λ this. AreSoFar (IsKeptRun view desk desk) this [] t.slots.items l)) (sym same) none.so_far;
+      settled = subst (λ l. Tells view desk desk (λ this. AreSettled t.slots.items → AreSettled l)) (sym same) none.settled;
+      within = within;
+    }
+
+-- events after others
+pub onward_on : {Desk : Type 0} (view : View Desk Tables) (old between new : Desk) (xs ys all : List Event) (t u v : Connections) → xs ++ ys ≡ all
+    → IsOnward view old between xs t u → IsOnward view between new ys u v → IsOnward view old new all t v
+onward_on view old between new xs ys all t u v is first next = subst (λ es. IsOnward view old new es t v) is (record {
+  goes = goes_on first.goes next.goes;
+  so_far = so_far_on view old between new first.goes next.goes xs ys t.slots.items u.slots.items v.slots.items first.so_far next.so_far;
+  settled = settled_on view old between new first.goes next.goes xs t.slots.items u.slots.items v.slots.items first.so_far first.settled next.settled;
+  within = stays_on t u v first.within next.within;
+})
+
 -- ---- all of it
 
 module _ {Desk : Type 0} (view : View Desk Tables) (old new : Desk) where
@@ -191,10 +300,10 @@ module _ {Desk : Type 0} (view : View Desk Tables) (old new : Desk) where
     settled = settled;
   }
 
-  pub lawful_side : Later → Alone → Alike → ActOnce IsRun → (events : List Event) (t u : Slots) → Tells view old new (λ this. AreSoFar (IsKeptRun view old new) this events t u)
-      → Tells view old new (λ this. AreSettled t → AreSettled u) → Tells view old new (λ this. AreServedSideBySide (IsLawfulRun view old new) this events t u)
-  lawful_side later alone alike once events t u so settled =
-      told_so (told_both so settled) (λ this both. all_served later alone alike once this events t u both.0 both.1)
+  pub lawful_side : Later → Alone → Alike → ActOnce IsRun → (events : List Event) (t u : Connections) → IsOnward view old new events t u
+      → Tells view old new (λ this. AreServedSideBySide (IsLawfulRun view old new) this events t.slots.items u.slots.items)
+  lawful_side later alone alike once events t u onward =
+      told_so (told_both onward.so_far onward.settled) (λ this both. all_served later alone alike once this events t.slots.items u.slots.items both.0 both.1)
 
 -- ---- events in a list
 

@@ -108,9 +108,9 @@ IsDone old = (old.out ≡ []) × ((old.phase ≡ Last) ⊎ ((old.phase ≡ Ended
 -- ---- items
 
 -- An event does what it says, and where bytes were written, these are known; or it is told of a slot where it can't be, and
--- changes nothing; or there was no memory for the bytes that came, and the connection ends. The next request of a connection is answered, and its reply has to go out; or
--- there was no memory for the reply, and the connection ends; or there was none to look at what came, and it ends. Or a
--- connection ends well.
+-- changes nothing; or there was no memory for the bytes that came, and the connection ends. The next request of a connection
+-- is answered, and its reply has to go out; or there was no memory for the reply, and the connection ends; or there was none
+-- to look at what came, and it ends. Or a connection ends well.
 pub data Item : Type 0 where
   happens : Event → Item
   went : ℕ → List ℕ → Item

@@ -4,3 +4,5 @@ pub mod Own
 pub mod Turns
 pub mod SideBySide
 pub mod Service
+pub mod Shares
+pub mod Memory

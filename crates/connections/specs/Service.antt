@@ -1,5 +1,5 @@
 -- Connections side by side over a store, until its device fails.
-use Rattle.std.specs.Prelude.{◌≡◌, ◌<◌, ◌⊎◌, ℕ, List, [], ◌∷◌, ◌++◌}
+use Rattle.std.specs.Prelude.{◌≡◌, ◌<◌, ◌⊎◌, List, [], ◌∷◌, ◌++◌}
 use Rattle.catalogue.specs.View.{IsOpen, Tells, View}
 use Rattle.bureau_store.specs.Tables.{Tables}
 use Rattle.bureau.specs.Runs.{IsLawfulRun}

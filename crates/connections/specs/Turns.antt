@@ -1,5 +1,5 @@
 -- What becomes of an event, and what is done about the next request of a connection.
-use Rattle.std.specs.Prelude.{◌≡◌, ◌≢◌, ◌⊎◌, ℕ, ◌<◌, List, [], length, Option, Some, None, slice_get}
+use Rattle.std.specs.Prelude.{◌≡◌, ◌≢◌, ◌⊎◌, ℕ, ◌<◌, Bool, true, false, List, [], length, Option, Some, None, slice_get}
 use Rattle.requests.specs.NextRequest.{IsUnfinished}
 use Rattle.bureau_store.specs.Tables.{Tables}
 use Rattle.bureau.specs.Joint.{CallBy}
@@ -60,6 +60,14 @@ abbrev pub rest_of : Phase → Turn
 rest_of Open = Waits
 rest_of Ended = Finished
 rest_of Last = Waits
+
+-- the connection stays in its slot after it
+abbrev pub stays : Turn → Bool
+stays Waits = true
+stays Answered = true
+stays Lost = false
+stays Starved = false
+stays Finished = false
 
 -- one request was answered, over these tables
 abbrev pub Exchanges : (Tables → List CallBy → Tables → Type 0) → Tables → (Exchange → Type 0) → Type 0

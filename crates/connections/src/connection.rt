@@ -3,15 +3,16 @@ ghost use Rattle.std.specs.Prelude.{◌≡◌, ◌+◌, ◌<◌, ◌≤◌, [], 
 ghost use Rattle.bureau.specs.Kept.{IsKeptRun};
 ghost use Rattle.catalogue.specs.View.{Goes, Tells};
 ghost use Rattle.connections.specs.Items.{Grows, IsEnded, IsReady, Sends, fresh};
-ghost use Rattle.connections.specs.Turns.{Turns, rest_of};
+ghost use Rattle.connections.specs.Turns.{Turns, rest_of, stays};
 
+use crate::incoming::Incoming;
 use crate::outgoing::Outgoing;
 use bureau_http::{ConnFault, Desk, Retries, Step, serve_next};
 use faults::NoMemory;
-use requests::{Routes, read_whole};
+use requests::Routes;
 use std::alloc::Global;
 use std::io;
-use transfer::{Intake, RETRIES};
+use transfer::RETRIES;
 
 /// How far a connection has come.
 #[derive(Clone, Copy, Debug, PartialEq, Eq)]
@@ -39,11 +40,26 @@ pub(crate) enum Turn {
     Finished,
 }
 
+impl Turn {
+    // Whether the connection stays in its slot.
+    pub(crate) fn stays(self) -> bool
+        ensures { result ≡ stays self }
+    {
+        match self {
+            Turn::Waits => true,
+            Turn::Answered => true,
+            Turn::Lost => false,
+            Turn::Starved => false,
+            Turn::Finished => false,
+        }
+    }
+}
+
 /// One connection, as a value.
 #[derive(Drop)]
 pub struct Connection {
     /// What came over it, and was not yet taken off as a request.
-    pub held: Intake,
+    pub held: Incoming,
     /// What has to go out, and was not yet written.
     pub out: Outgoing,
     /// The ordinal of its next request, counted from 1.
@@ -58,7 +74,7 @@ impl Connection {
         ensures { result ≡ fresh }
     {
         Connection {
-            held: Intake::new(alloc),
+            held: Incoming::new(alloc),
             out: Outgoing::new(alloc),
             ordinal: 1,
             phase: Phase::Open,
@@ -70,12 +86,7 @@ impl Connection {
         requires { self.old.phase ≡ Phase.Open }
         ensures { OnOk result (Grows text.now self.old self.new) }
     {
-        let mut rest = text;
-        let whole = self.held.len().checked_add(text.len()).ok_or(NoMemory)?;
-        match read_whole(&mut self.held, &mut rest, whole, &mut { RETRIES }) {
-            Ok(true) => Ok(()),
-            Ok(false) | Err(_) => Err(NoMemory),
-        }
+        self.held.take_in(text)
     }
 
     // So many of the bytes that have to go out were written.
@@ -104,12 +115,27 @@ impl Connection {
         ensures goes { Goes D.tables_view desk.old desk.new }
         ensures turn { Tells D.tables_view desk.old desk.new (λ this.
             Turns (IsKeptRun D.tables_view desk.old desk.new) this result self.old self.new) }
+        ensures fewer { length self.new.held ≤ length self.old.held }
     {
         if !self.out.is_empty() {
             return Turn::Waits;
         }
         if self.phase == Phase::Last {
             return Turn::Finished;
+        }
+        self.look_on(alloc, desk, routes)
+    }
+
+    // Answers its next request, unless what came is known to hold none that is whole.
+    fn look_on<D: Desk>(&mut self, alloc: Global, desk: &mut D, routes: &Routes) -> Turn
+        requires { IsReady self.old }
+        ensures goes { Goes D.tables_view desk.old desk.new }
+        ensures turn { Tells D.tables_view desk.old desk.new (λ this.
+            Turns (IsKeptRun D.tables_view desk.old desk.new) this result self.old self.new) }
+        ensures fewer { length self.new.held ≤ length self.old.held }
+    {
+        if self.held.is_short() {
+            return self.rests();
         }
         self.answer_next(alloc, desk, routes)
     }
@@ -120,21 +146,25 @@ impl Connection {
         ensures goes { Goes D.tables_view desk.old desk.new }
         ensures turn { Tells D.tables_view desk.old desk.new (λ this.
             Turns (IsKeptRun D.tables_view desk.old desk.new) this result self.old self.new) }
+        ensures fewer { length self.new.held ≤ length self.old.held }
     {
         let mut text = Vec::new(alloc);
         let mut retries = Retries {
             reads: RETRIES,
             writes: RETRIES,
         };
-        match serve_next(
+        let mut held = self.held.take(alloc);
+        let step = serve_next(
             desk,
             routes,
             self.ordinal,
-            &mut self.held,
+            &mut held,
             &mut io::empty(),
             &mut text,
             &mut retries,
-        ) {
+        );
+        self.held = Incoming::of(held);
+        match step {
             Ok(Step::CleanEnd) => self.rests(),
             Ok(Step::Stays) => {
                 self.put(alloc, text);
@@ -173,7 +203,7 @@ impl Connection {
         } }
     {
         if self.held.len() == 0 {
-            self.held = Intake::new(alloc);
+            self.held = Incoming::new(alloc);
         }
         self.out = Outgoing::of(text);
         self.ordinal += 1;
@@ -188,7 +218,7 @@ impl Connection {
           phase = Phase.Last;
         } }
     {
-        self.held = Intake::new(alloc);
+        self.held = Incoming::new(alloc);
         self.out = Outgoing::of(text);
         self.phase = Phase::Last;
     }

@@ -31,8 +31,8 @@ pub(crate) enum Told {
 }
 
 impl Event {
-    // The slot of which it is told.
-    pub(crate) fn slot(&self) -> usize
+    /// The slot of which it is told.
+    pub fn slot(&self) -> usize
         ensures { result ≡ slot_of (event_of self.now) }
     {
         match self {

@@ -17,7 +17,7 @@
 //! let rows = callers(alloc, b"NAME,TOKEN\nPUBLISH,publisher-token\nALPHA,alpha-token\n")?;
 //! let mut bureau = Bureau::new(alloc, ListStore::new(alloc, &rows)?, Whole::new());
 //! let routes = Routes::new(alloc)?;
-//! let mut connections = Connections::new(alloc, 2)?;
+//! let mut connections = Connections::new(alloc, 2, 1 << 28)?; // 256 MiB beyond the heads
 //! let half = Vec::from_slice(alloc, b"GET /zones HTTP/1.1\r\nbureau-token: ")?;
 //! let rest = Vec::from_slice(alloc, b"alpha-token\r\n\r\n")?;
 //! let mut events = Vec::new(alloc);
@@ -31,14 +31,18 @@
 
 mod connection;
 mod event;
+mod incoming;
 mod outgoing;
 mod service;
 mod serving;
+mod shares;
 mod slots;
 
 pub use connection::{Connection, Phase};
 pub use event::Event;
+pub use incoming::Incoming;
 pub use outgoing::Outgoing;
-pub use service::serve_while_open;
+pub use service::{serve_and_look, serve_while_open};
 pub use serving::{serve_event, serve_events};
+pub use shares::Shares;
 pub use slots::Connections;

@@ -1,12 +1,11 @@
 //! The same over a store, until its device fails.
 ghost use Rattle.std.specs.Prelude.{◌≡◌, ◌∷◌, [], IfErr, OnErr, OnOk, map, nat_lt};
 ghost use Rattle.bureau.specs.Answering.{bureau_view};
-ghost use Rattle.bureau.specs.Kept.{IsKeptRun};
-ghost use Rattle.catalogue.specs.View.{Goes, Tells};
+ghost use Rattle.catalogue.specs.View.{Goes};
 ghost use Rattle.connections.specs.Items.{event_of};
+ghost use Rattle.connections.specs.Memory.{StaysWithin};
 ghost use Rattle.connections.specs.Service.{AreServed, IsEnded, IsSound};
-ghost use Rattle.connections.specs.SideBySide.{AreSoFar};
-ghost use Rattle.connections.specs.Turns.{AreSettled};
+ghost use Rattle.connections.specs.SideBySide.{IsOnward};
 
 use crate::event::Event;
 use crate::serving::serve_event;
@@ -37,6 +36,7 @@ pub fn serve_while_open<S: Store, J: Judge<S>>(
     ensures ended { OnErr result (IsEnded (bureau_view S.tables_view J.is_right) bureau.old bureau.new
         (map event_of events.now) connections.old.slots.items connections.new.slots.items) }
     ensures fault { IfErr result (λ fault. fault ≡ StoreFault.Device) }
+    ensures within { StaysWithin connections.old connections.new }
 {
     isolation();
     repeats();
@@ -49,20 +49,16 @@ pub fn serve_while_open<S: Store, J: Judge<S>>(
     Ok(())
 }
 
-// Serves one event. Whether the device has failed by then.
-fn serve_and_look<S: Store, J: Judge<S>>(
+/// Serves one event. Whether the device of the store has failed by then.
+pub fn serve_and_look<S: Store, J: Judge<S>>(
     alloc: Global,
     bureau: &mut Bureau<S, J>,
     routes: &Routes,
     connections: &mut Connections,
     event: &Event,
 ) -> bool
-    ensures goes { Goes (bureau_view S.tables_view J.is_right) bureau.old bureau.new }
-    ensures so_far { Tells (bureau_view S.tables_view J.is_right) bureau.old bureau.new (λ this.
-        AreSoFar (IsKeptRun (bureau_view S.tables_view J.is_right) bureau.old bureau.new) this
-        (event_of event.now ∷ []) connections.old.slots.items connections.new.slots.items) }
-    ensures settled { Tells (bureau_view S.tables_view J.is_right) bureau.old bureau.new (λ this.
-        AreSettled connections.old.slots.items → AreSettled connections.new.slots.items) }
+    ensures onward { IsOnward (bureau_view S.tables_view J.is_right) bureau.old bureau.new
+        (event_of event.now ∷ []) connections.old connections.new }
     ensures failed { result ≡ nat_lt 0 ((bureau_view S.tables_view J.is_right).failures bureau.new) }
 {
     serve_event(alloc, bureau, routes, connections, event);

@@ -1,13 +1,13 @@
 //! Events in order, and the requests that are answered after each.
-ghost use Rattle.std.specs.Prelude.{◌≡◌, [], ◌∷◌, map};
+ghost use Rattle.std.specs.Prelude.{◌≡◌, ◌+◌, ◌*◌, ◌≤◌, [], ◌∷◌, length, map};
 ghost use Rattle.bureau.specs.Kept.{IsKeptRun};
 ghost use Rattle.bureau.specs.Runs.{IsLawfulRun};
 ghost use Rattle.catalogue.specs.View.{Goes, Tells};
 ghost use Rattle.connections.specs.Items.{event_of, slot_of};
-ghost use Rattle.connections.specs.SideBySide.{AreServedSideBySide, AreSoFar};
+ghost use Rattle.connections.specs.Memory.{IsWithin, StaysWithin, held_by};
+ghost use Rattle.connections.specs.SideBySide.{AreServedSideBySide, AreSoFar, IsOnward};
 ghost use Rattle.connections.specs.Turns.{AreSettled, AreSettledBut};
 
-use crate::connection::Turn;
 use crate::event::{Event, Told};
 use crate::slots::Connections;
 use bureau::{isolation, repeats};
@@ -18,7 +18,8 @@ use std::alloc::Global;
 /// Goes through events in order. After each, the next request of its connection is answered, where that stands whole and the
 /// last reply went out.
 ///
-/// Want of memory ends the connection that it befalls, or is answered 503, and no other.
+/// Want of memory ends the connection that it befalls, or is answered 503, and no other. What all of them hold together is at
+/// most the limit and a head's room of each.
 pub fn serve_events<D: Desk>(
     alloc: Global,
     desk: &mut D,
@@ -30,11 +31,16 @@ pub fn serve_events<D: Desk>(
     ensures served { Tells D.tables_view desk.old desk.new (λ this.
         AreServedSideBySide (IsLawfulRun D.tables_view desk.old desk.new) this (map event_of events.now)
         connections.old.slots.items connections.new.slots.items) }
+    ensures within { StaysWithin connections.old connections.new }
+    ensures memory { IsWithin connections.old →
+        held_by connections.new.slots.items
+        ≤ connections.old.shares.limit + 16384 * length connections.old.slots.items }
 {
     isolation();
     repeats();
     later_bytes();
     go_through(alloc, desk, routes, connections, events);
+    connections.shares.add_up();
 }
 
 // Goes through events in order.
@@ -45,12 +51,8 @@ fn go_through<D: Desk>(
     connections: &mut Connections,
     events: &[Event],
 )
-    ensures goes { Goes D.tables_view desk.old desk.new }
-    ensures so_far { Tells D.tables_view desk.old desk.new (λ this.
-        AreSoFar (IsKeptRun D.tables_view desk.old desk.new) this (map event_of events.now)
-        connections.old.slots.items connections.new.slots.items) }
-    ensures settled { Tells D.tables_view desk.old desk.new (λ this.
-        AreSettled connections.old.slots.items → AreSettled connections.new.slots.items) }
+    ensures onward { IsOnward D.tables_view desk.old desk.new (map event_of events.now)
+        connections.old connections.new }
 {
     for event in events {
         serve_event(alloc, desk, routes, connections, event);
@@ -65,12 +67,23 @@ pub fn serve_event<D: Desk>(
     connections: &mut Connections,
     event: &Event,
 )
-    ensures goes { Goes D.tables_view desk.old desk.new }
-    ensures so_far { Tells D.tables_view desk.old desk.new (λ this.
-        AreSoFar (IsKeptRun D.tables_view desk.old desk.new) this (event_of event.now ∷ [])
-        connections.old.slots.items connections.new.slots.items) }
-    ensures settled { Tells D.tables_view desk.old desk.new (λ this.
-        AreSettled connections.old.slots.items → AreSettled connections.new.slots.items) }
+    ensures onward { IsOnward D.tables_view desk.old desk.new (event_of event.now ∷ [])
+        connections.old connections.new }
+{
+    tell(alloc, desk, routes, connections, event);
+    connections.give_back(event.slot());
+}
+
+// An event happens, and the next request of its connection is answered.
+fn tell<D: Desk>(
+    alloc: Global,
+    desk: &mut D,
+    routes: &Routes,
+    connections: &mut Connections,
+    event: &Event,
+)
+    ensures onward { IsOnward D.tables_view desk.old desk.new (event_of event.now ∷ [])
+        connections.old connections.new }
 {
     match connections.happens(alloc, event) {
         Told::Done => go_on(alloc, desk, routes, connections, event.slot()),
@@ -93,15 +106,13 @@ fn go_on<D: Desk>(
         connections.old.slots.items connections.new.slots.items) }
     ensures settled { Tells D.tables_view desk.old desk.new (λ this.
         AreSettledBut slot connections.old.slots.items → AreSettled connections.new.slots.items) }
+    ensures within { StaysWithin connections.old connections.new }
 {
     let Some(mut connection) = connections.take(slot) else {
         return;
     };
-    match connection.take_turn(alloc, desk, routes) {
-        Turn::Waits => connections.put(slot, connection),
-        Turn::Answered => connections.put(slot, connection),
-        Turn::Lost => {}
-        Turn::Starved => {}
-        Turn::Finished => {}
+    let turn = connection.take_turn(alloc, desk, routes);
+    if turn.stays() {
+        connections.put(slot, connection);
     }
 }

@@ -1,34 +1,48 @@
 //! Connections, each in its slot.
-ghost use Rattle.std.specs.Prelude.{◌≡◌, ◌<◌, ◌↔◌, IsTrue, length, None, Some, IfNone, IfOk, IfSome, replicate, slice_get, slice_set};
+ghost use Rattle.std.specs.Prelude.{◌≡◌, ◌+◌, ◌<◌, ◌≤◌, ◌↔◌, true, IsTrue, get_or, length, None, Some, IfNone, IfOk, IfSome, replicate, slice_get, slice_set};
 ghost use Rattle.connections.specs.Items.{NoneIs, bytes, came, ended, event_of, failed, wrote};
+ghost use Rattle.connections.specs.Memory.{HasRoom, IsWithin, Needs, StaysWithin};
 ghost use Rattle.connections.specs.Turns.{AreSettled, IsToldOf, out_at};
 
 use crate::connection::{Connection, Phase};
 use crate::event::{Event, Told};
+use crate::shares::Shares;
 use std::alloc::{AllocError, Global};
 
+// How many bytes of what came every connection may hold: as many as a head may have.
+const HEAD_ROOM: usize = 16_384;
+
 /// Connections, each in its slot.
+///
+/// Each may hold as many bytes as a head may have. What is to hold more has a share of a limit for all.
 #[derive(Drop)]
 pub struct Connections {
     /// What stands in each slot.
     pub slots: Vec<Option<Connection>>,
+    /// How much more each may hold.
+    pub shares: Shares,
 }
 
 impl Connections {
-    /// So many slots, all free.
+    /// So many slots, all free, and this limit.
     ///
     /// # Errors
     ///
     /// Memory ran out.
-    pub fn new(alloc: Global, count: usize) -> Result<Connections, AllocError>
+    pub fn new(alloc: Global, count: usize, limit: usize) -> Result<Connections, AllocError>
         ensures free { IfOk result (λ connections. connections.slots.items ≡ replicate count None) }
         ensures settled { IfOk result (λ connections. AreSettled connections.slots.items) }
+        ensures limit { IfOk result (λ connections. connections.shares.limit ≡ limit) }
+        ensures within { IfOk result IsWithin }
     {
         let mut slots = Vec::new(alloc);
         for _ in 0..count {
             slots.push(None)?;
         }
-        Ok(Connections { slots })
+        Ok(Connections {
+            slots,
+            shares: Shares::new(alloc, count, limit)?,
+        })
     }
 
     /// Whether a slot is there and free.
@@ -58,6 +72,7 @@ impl Connections {
             self.new.slots.items ≡ slice_set self.old.slots.items slot None) }
         ensures none { IfNone result (NoneIs self.old.slots.items slot (λ before. Unit {0})
             × (self.new.slots.items ≡ self.old.slots.items)) }
+        ensures shares { self.new.shares ≡ self.old.shares }
     {
         if slot < self.slots.len() {
             self.slots[slot].take()
@@ -69,14 +84,26 @@ impl Connections {
     // Puts a connection into a slot.
     pub(crate) fn put(&mut self, slot: usize, connection: Connection)
         requires { slot < length self.old.slots.items }
-        ensures { self.new.slots.items ≡ slice_set self.old.slots.items slot (Some connection) }
+        ensures into { self.new.slots.items ≡ slice_set self.old.slots.items slot (Some connection) }
+        ensures shares { self.new.shares ≡ self.old.shares }
     {
         self.slots[slot] = Some(connection);
     }
 
+    // Whether so many bytes more than these fit a slot.
+    fn fits(&self, slot: usize, held: usize, more: usize) -> bool
+        ensures { result ≡ true → held + more ≤ 16384 + get_or self.now.shares.given slot 0 }
+    {
+        match held.checked_add(more) {
+            Some(all) => all <= HEAD_ROOM.saturating_add(self.shares.of(slot)),
+            None => false,
+        }
+    }
+
     // A connection comes to a slot.
     fn come(&mut self, alloc: Global, slot: usize) -> Told
-        ensures { IsToldOf result self.old.slots.items (came slot) self.new.slots.items }
+        ensures told { IsToldOf result self.old.slots.items (came slot) self.new.slots.items }
+        ensures shares { self.new.shares ≡ self.old.shares }
     {
         if !self.is_free(slot) {
             return Told::Stray;
@@ -85,9 +112,10 @@ impl Connections {
         Told::Done
     }
 
-    // Bytes came to a slot.
+    // Bytes came to a slot. Where they don't fit it, that is want of memory.
     fn take_in(&mut self, slot: usize, text: &[u8]) -> Told
-        ensures { IsToldOf result self.old.slots.items (bytes slot text.now) self.new.slots.items }
+        ensures told { IsToldOf result self.old.slots.items (bytes slot text.now) self.new.slots.items }
+        ensures within { StaysWithin self.old self.new }
     {
         let Some(mut connection) = self.take(slot) else {
             return Told::Stray;
@@ -95,6 +123,9 @@ impl Connections {
         if connection.phase != Phase::Open {
             self.put(slot, connection);
             return Told::Stray;
+        }
+        if !self.fits(slot, connection.held.len(), text.len()) {
+            return Told::Missed;
         }
         if connection.take_in(text).is_err() {
             return Told::Missed;
@@ -105,7 +136,8 @@ impl Connections {
 
     // So many bytes of a slot were written.
     fn sent(&mut self, slot: usize, count: usize) -> Told
-        ensures { IsToldOf result self.old.slots.items (wrote slot count) self.new.slots.items }
+        ensures told { IsToldOf result self.old.slots.items (wrote slot count) self.new.slots.items }
+        ensures shares { self.new.shares ≡ self.old.shares }
     {
         let Some(mut connection) = self.take(slot) else {
             return Told::Stray;
@@ -121,7 +153,8 @@ impl Connections {
 
     // The peer of a slot ended its side.
     fn end(&mut self, slot: usize) -> Told
-        ensures { IsToldOf result self.old.slots.items (ended slot) self.new.slots.items }
+        ensures told { IsToldOf result self.old.slots.items (ended slot) self.new.slots.items }
+        ensures shares { self.new.shares ≡ self.old.shares }
     {
         let Some(mut connection) = self.take(slot) else {
             return Told::Stray;
@@ -137,7 +170,8 @@ impl Connections {
 
     // The connection in a slot is given up.
     fn give_up(&mut self, slot: usize) -> Told
-        ensures { IsToldOf result self.old.slots.items (failed slot) self.new.slots.items }
+        ensures told { IsToldOf result self.old.slots.items (failed slot) self.new.slots.items }
+        ensures shares { self.new.shares ≡ self.old.shares }
     {
         match self.take(slot) {
             Some(_) => Told::Done,
@@ -147,7 +181,8 @@ impl Connections {
 
     // An event, and what became of it.
     pub(crate) fn happens(&mut self, alloc: Global, event: &Event) -> Told
-        ensures { IsToldOf result self.old.slots.items (event_of event.now) self.new.slots.items }
+        ensures told { IsToldOf result self.old.slots.items (event_of event.now) self.new.slots.items }
+        ensures within { StaysWithin self.old self.new }
     {
         match event {
             Event::Came(slot) => self.come(alloc, *slot),
@@ -156,6 +191,67 @@ impl Connections {
             Event::Ended(slot) => self.end(*slot),
             Event::Failed(slot) => self.give_up(*slot),
             Event::Late(slot) => self.give_up(*slot),
+        }
+    }
+
+    /// How many bytes may be read next over the connection in a slot.
+    ///
+    /// None where a reply has to go out first, or its peer ended its side. A request that has more bytes than a head may have is
+    /// read on only where all of it fits what is left of the limit, and gets its share of that then. Until it fits there is no
+    /// room for more of it.
+    pub fn room(&mut self, slot: usize) -> usize
+        ensures slots { self.new.slots.items ≡ self.old.slots.items }
+        ensures within { StaysWithin self.old self.new }
+        ensures fits { HasRoom result self.new.shares.given slot (slice_get self.new.slots.items slot) }
+    {
+        let Some(Some(connection)) = self.slots.get(slot) else {
+            return 0;
+        };
+        if !connection.out.is_empty() || connection.phase != Phase::Open {
+            return 0;
+        }
+        let held = connection.held.len();
+        let wanted = connection.held.wanted();
+        if wanted <= HEAD_ROOM {
+            return HEAD_ROOM.saturating_sub(held);
+        }
+        if !self.admit(slot, wanted - HEAD_ROOM) {
+            return 0;
+        }
+        wanted.saturating_sub(held)
+    }
+
+    // Whether a slot has at least this share. It gets it, if there is so much.
+    fn admit(&mut self, slot: usize, share: usize) -> bool
+        ensures slots { self.new.slots.items ≡ self.old.slots.items }
+        ensures within { StaysWithin self.old self.new }
+        ensures has { result ≡ true → share ≤ get_or self.new.shares.given slot 0 }
+    {
+        if share <= self.shares.of(slot) {
+            return true;
+        }
+        self.shares.give(slot, share)
+    }
+
+    // Gives back what a slot doesn't need of its share any more: all of it where no connection stands there, and what its
+    // connection doesn't hold where that was answered.
+    pub(crate) fn give_back(&mut self, slot: usize)
+        ensures slots { self.new.slots.items ≡ self.old.slots.items }
+        ensures within { StaysWithin self.old self.new }
+    {
+        if let Some(needed) = self.needed(slot) {
+            self.shares.give(slot, needed);
+        }
+    }
+
+    // How much of its share a slot needs, where that is no more than its connection holds.
+    fn needed(&self, slot: usize) -> Option<usize>
+        ensures { IfSome result (λ needed. Needs needed (slice_get self.now.slots.items slot)) }
+    {
+        match self.slots.get(slot) {
+            Some(Some(connection)) if connection.out.is_empty() => None,
+            Some(Some(connection)) => Some(connection.held.len().saturating_sub(HEAD_ROOM)),
+            _ => Some(0),
         }
     }
 }

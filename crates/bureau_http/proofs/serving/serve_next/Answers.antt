@@ -11,6 +11,7 @@ use Rattle.bureau.specs.Kept.{IsKeptRun}
 use Rattle.transfer.specs.Transfer.{AppendsFront}
 use Rattle.bureau_http.specs.Served.{IfEnded, IsExchanged, IsFailedWrite, Serves}
 use Rattle.bureau_http.specs.declared.fault.ConnFault.TheVariants.{Write}
+use Rattle.bureau_http.proofs.RestFacts.{some_taken}
 use Rattle.bureau_http.proofs.ServingFacts.{also_asked, exit_as, head_refused, map_some, no_end, read_failed, unfinished_of, whole_cut}
 use Rattle.bureau_http.proofs.serving.serve_next.Goals as goal
 
@@ -97,3 +98,15 @@ returns-in_err-serve_request-in-Whole-clause-kept g c = record {
       exit_as (λ r. IfEnded r kept) c.from_residual-in_err-serve_request-in-Whole.result c.in_err-serve_request-in-Whole.field-0.0 Write
       (err_from_is_err_and c.from_residual-in_err-serve_request-in-Whole.result c.from_residual-in_err-serve_request-in-Whole.ensures.1) failed tt;
 }
+
+-- ---- what is left
+
+pub returns-then-closes-clause-rest : goal.returns-then-closes-clause-rest
+returns-then-closes-clause-rest g c =
+    some_taken (prepend_known c.args.intake.now (g.R.Read.remaining c.args.reader.now)) (g.R.Read.remaining c.read_next.new.reader) c.read_next.new.intake c.take_off.new.intake (request_len c.in-Whole.request)
+    c.read_next.ensures.kept c.take_off.ensures
+
+pub returns-else-closes-clause-rest : goal.returns-else-closes-clause-rest
+returns-else-closes-clause-rest g c =
+    some_taken (prepend_known c.args.intake.now (g.R.Read.remaining c.args.reader.now)) (g.R.Read.remaining c.read_next.new.reader) c.read_next.new.intake c.take_off.new.intake (request_len c.in-Whole.request)
+    c.read_next.ensures.kept c.take_off.ensures

@@ -1,0 +1,89 @@
+//! What came over a connection.
+ghost use Rattle.std.specs.Prelude.{◌≡◌, ◌++◌, true, [], length, OnOk};
+ghost use Rattle.requests.specs.NextRequest.{IsUnfinished};
+
+use faults::NoMemory;
+use requests::{Progress, read_whole};
+use std::alloc::Global;
+use std::marker::Model;
+use std::mem;
+use transfer::{Intake, RETRIES};
+
+/// What came over a connection, and was not yet taken off as a request.
+///
+/// A contract sees it as the list of these bytes. How far they were looked through is kept beside them.
+#[derive(Drop)]
+pub struct Incoming {
+    bytes: Intake,
+    progress: Progress,
+}
+
+impl Model for Incoming {
+    ghost use Rattle.std.specs.Prelude.{List, ℕ};
+    ghost use Rattle.requests.specs.Progress.{Sees};
+
+    ghost Value = { List ℕ };
+
+    ghost view = { λ incoming. incoming.bytes };
+
+    ghost invariant = { λ incoming. Sees incoming.bytes incoming.progress };
+}
+
+impl Incoming {
+    /// Nothing. It takes no memory.
+    pub fn new(alloc: Global) -> Incoming
+        ensures { result ≡ [] }
+    {
+        Incoming::of(Intake::new(alloc))
+    }
+
+    // These bytes, at which nobody has looked.
+    pub(crate) fn of(bytes: Intake) -> Incoming
+        ensures { result ≡ bytes }
+    {
+        Incoming {
+            bytes,
+            progress: Progress::new(),
+        }
+    }
+
+    // The bytes. None are left.
+    pub(crate) fn take(&mut self, alloc: Global) -> Intake
+        ensures taken { result ≡ self.old }
+        ensures left { self.new ≡ [] }
+    {
+        self.progress = Progress::new();
+        mem::replace(&mut self.bytes, Intake::new(alloc))
+    }
+
+    /// How many bytes there are.
+    pub fn len(&self) -> usize
+        ensures { result ≡ length self.now }
+    {
+        self.bytes.len()
+    }
+
+    // These bytes came.
+    pub(crate) fn take_in(&mut self, text: &[u8]) -> Result<(), NoMemory>
+        ensures { OnOk result (self.new ≡ self.old ++ text.now) }
+    {
+        let mut rest = text;
+        let whole = self.bytes.len().checked_add(text.len()).ok_or(NoMemory)?;
+        match read_whole(&mut self.bytes, &mut rest, whole, &mut { RETRIES }) {
+            Ok(true) => Ok(()),
+            Ok(false) | Err(_) => Err(NoMemory),
+        }
+    }
+
+    // Whether they hold neither a whole request nor a head that is refused. Bytes that were looked at before aren't looked at again.
+    pub(crate) fn is_short(&mut self) -> bool
+        ensures same { self.new ≡ self.old }
+        ensures short { result ≡ true → IsUnfinished self.old }
+    {
+        self.progress.is_short(self.bytes.bytes())
+    }
+    /// How many bytes the request has that stands next, once its head has come and was looked at, and 0 before.
+    pub fn wanted(&self) -> usize {
+        self.progress.wanted()
+    }
+}
