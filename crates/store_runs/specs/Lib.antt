@@ -1,3 +1,4 @@
+pub mod Checking
 pub mod Desk
 pub mod Ended
 pub mod Keeping
