@@ -253,10 +253,10 @@ pub record Reached (viewer : Caller) (opening : Opening) (history : List Asked) 
   pub step : IsStep now call_by next
 
 -- the history that some calls leave
-abbrev history_after : Caller → List CallBy → List Asked → List Asked
+abbrev pub history_after : Caller → List CallBy → List Asked → List Asked
 history_after viewer before history = map asked_in (filter (is_own viewer) (reverse before)) ++ history
 
-history_more : (viewer : Caller) (call_by : CallBy) (calls : List CallBy) (history : List Asked) → history_after viewer calls (with_call viewer call_by history) ≡ history_after viewer (call_by ∷ calls) history
+pub history_more : (viewer : Caller) (call_by : CallBy) (calls : List CallBy) (history : List Asked) → history_after viewer calls (with_call viewer call_by history) ≡ history_after viewer (call_by ∷ calls) history
 history_more viewer call_by calls history =
     by (is_own viewer call_by)
     ∙ ap (λ asked. asked ++ history) (sym (map-append asked_in (filter (is_own viewer) (reverse calls)) (filter (is_own viewer) (call_by ∷ []))))
@@ -316,7 +316,7 @@ after_none : (content : Content) → IsInOrder content → after content [] ≡ 
 after_none content ordered =
     sym (after_only content [] content ordered (record { in_order = ordered; records = λ id. refl; holds = λ key. refl }))
 
-agrees_at_first : (viewer : Caller) (tables : Tables) → AreInOrder tables → Agrees viewer (opening_of viewer tables) [] tables
+pub agrees_at_first : (viewer : Caller) (tables : Tables) → AreInOrder tables → Agrees viewer (opening_of viewer tables) [] tables
 agrees_at_first Publisher tables ordered = record {
   content = after_none tables.content ordered.content;
   publisher = none_added (tables.last Publisher);

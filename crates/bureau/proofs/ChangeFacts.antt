@@ -1,9 +1,9 @@
 -- What comes of a change, from what is read on the way.
-use Rattle.std.proofs.Common.{◌≡◌, inl, inr, ℕ, Bool, true, false, nat_lt, List, length, refl, sym, ◌∙◌, ap, subst}
-use Rattle.std.specs.Prelude.{Option, Some, None, Result, Ok, Err, is_some, if◌then◌else◌}
+use Rattle.std.proofs.Common.{◌≡◌, inl, inr, ℕ, true, false, List, refl, sym, ◌∙◌, ap, subst}
+use Rattle.std.specs.Prelude.{Option, Some, None, Result, Ok, Err, is_some}
 use Rattle.catalogue.proofs.SourceFacts.{told_later, told_so, told_sooner}
 use Rattle.catalogue.specs.View.{IsLawful, Tells, View}
-use Rattle.bureau_store.specs.Tables.{Tables, ZoneTable, Zones, zone_named}
+use Rattle.bureau_store.specs.Tables.{Tables, ZoneTable}
 use Rattle.bureau_store.specs.declared.caller.Caller.{Caller}
 use Rattle.faults.specs.FaultText.{text_of}
 use Rattle.faults.specs.Refusal.{IsRefusal}
@@ -17,7 +17,7 @@ use Rattle.bureau.specs.Bodies.{list_said}
 use Rattle.bureau.specs.Call.{Call}
 use Rattle.bureau.specs.Outcomes.{Suits, IsOutcome, IsInTurn, effect_as, maker_of}
 use Rattle.bureau.specs.Faults.{IsTold}
-use Rattle.bureau.specs.Outcome.{Outcome, answered, accepted, has_room, in_turn, not_found, of_zone, outcome, plain, said}
+use Rattle.bureau.specs.Outcome.{Outcome, answered, accepted, in_turn, not_found, of_zone, outcome, plain, said}
 use Rattle.bureau.specs.Replies.{reply_as}
 use Rattle.bureau.specs.View.{view_of}
 use Rattle.bureau.specs.declared.outcome.Outcome.TheVariants.{Answered, Accepted}

@@ -13,3 +13,4 @@ pub mod AnswerFacts
 pub mod RepeatFacts
 pub mod KeptFacts
 pub mod RunFacts
+pub mod CourseFacts

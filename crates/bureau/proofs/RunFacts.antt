@@ -18,7 +18,7 @@ use Rattle.bureau.proofs.KeptFacts.{kept_run, loses_nothing}
 use Rattle.bureau.proofs.RepeatFacts.{acts_once, stays_stale}
 
 -- a step leaves who may call
-step_callers : (old new : Tables) (call_by : CallBy) → IsStep old call_by new → new.callers ≡ old.callers
+pub step_callers : (old new : Tables) (call_by : CallBy) → IsStep old call_by new → new.callers ≡ old.callers
 step_callers old new call_by (inl none) = ap (λ (t : Tables). t.callers) none.1
 step_callers old new call_by (inr made) = ap (λ (t : Tables). t.callers) made.1 ∙ by (outcome (view_of call_by.caller old) call_by.call)
   where

@@ -1,10 +1,14 @@
 //! What holds of every run.
-ghost use Rattle.std.specs.Prelude.{◌≡◌, List};
+ghost use Rattle.std.specs.Prelude.{◌≡◌, ℕ, true, false, List};
 ghost use Rattle.bureau.specs.Alone.{AreAnsweredAlike, IsAlone, opening_of};
+ghost use Rattle.bureau.specs.Course.{IsAloneWhereItStays, IsCourse, IsInBoth, Stage, opening_of_newcomer};
 ghost use Rattle.bureau.specs.Joint.{CallBy, IsRun};
 ghost use Rattle.bureau.specs.Repeat.{ActsOnce, StaysStale};
+ghost use Rattle.bureau_store.specs.SetCallers.{has_name, with_callers};
 ghost use Rattle.bureau_store.specs.Tables.{AreInOrder, Tables};
 ghost use Rattle.bureau_store.specs.declared.caller.Caller.{Caller};
+ghost use Rattle.bureau_store.specs.declared.caller.Caller.TheVariants.{Client, Publisher};
+ghost use Rattle.bureau_store.specs.declared.caller.CallerRow.{CallerRow};
 
 /// Isolation, a law of every run of the bureau, whatever calls of whatever callers come in whatever order.
 ///
@@ -19,6 +23,19 @@ pub fn isolation()
         AreInOrder opening → AreInOrder opening2 → IsRun opening calls closing →
         IsRun opening2 calls2 closing2 →
         opening_of viewer opening ≡ opening_of viewer opening2 → AreAnsweredAlike viewer calls calls2 }
+{}
+
+/// Isolation over several runs, between which the bureau may get other callers, whatever calls come in them.
+///
+/// `alone`: to each caller who stays it is as if nothing had happened. Its answers, other than 503, are those of a bureau
+/// that received the publisher's calls and that caller's alone. `newcomer`: a client who is new finds what is published, and
+/// nothing of its own, whoever had its name before.
+pub fn other_callers()
+    ensures alone { (opening closing : Tables) (stages : List Stage) →
+        AreInOrder opening → IsCourse opening stages closing → IsAloneWhereItStays opening stages }
+    ensures newcomer { (rows : List CallerRow) (this : Tables) (name : List ℕ) →
+        IsInBoth Publisher this.callers rows → has_name this.callers name ≡ false → has_name rows name ≡ true →
+        opening_of (Client name) (with_callers rows this) ≡ opening_of_newcomer this }
 {}
 
 /// Repeats, a law of every run of the bureau: a change acts once, however often it is sent.

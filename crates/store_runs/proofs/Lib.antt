@@ -1,3 +1,4 @@
+pub mod CallersFacts
 pub mod CheckFacts
 pub mod DeskFacts
 pub mod EndFacts

@@ -1,3 +1,4 @@
+pub mod Callers
 pub mod Checking
 pub mod Desk
 pub mod Ended

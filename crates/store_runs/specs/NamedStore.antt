@@ -1,7 +1,8 @@
--- What `init` and `migrate` do with a store, by the name of its file: what they read, what is left of its files, what both streams
+-- What `init`, `migrate` and `callers` do with a store, by the name of its file: what they read, what is left of its files, what both streams
 -- get, and the exit status.
 use Rattle.std.specs.Prelude.{◌≡◌, ◌⊎◌, ℕ, List, true}
 use Rattle.faults.specs.declared.any.AnyFault.{AnyFault}
+use Rattle.bureau_store.specs.declared.caller.CallerRow.{CallerRow}
 use Rattle.bureau_store.specs.declared.fault.StoreFault.{StoreFault}
 use Rattle.sqlite_disk.specs.declared.Disk as disk
 use Rattle.sqlite_wal.specs.Recovery.{Image}
@@ -9,7 +10,8 @@ use Rattle.run_parts.specs.Files.{KnownFile, IsContent}
 use Rattle.run_parts.specs.Outputs.{Outputs, IsToldAlone}
 use Rattle.run_parts.specs.ProgramFault.{of_program}
 use Rattle.run_parts.specs.declared.fault.ProgramFault.TheVariants.{NotRead, Memory}
-use Rattle.store_runs.specs.Desk.{IsCallersFault, IsInitRun, LeavesMade, of_store}
+use Rattle.store_runs.specs.Callers.{IsCallersRun, KeepsCallers, files_set}
+use Rattle.store_runs.specs.Desk.{AreRowsOf, IsCallersFault, IsInitRun, LeavesMade, of_store}
 use Rattle.store_runs.specs.Ended.{IsNothing, IsRefused}
 use Rattle.store_runs.specs.Keeping.{KeepsFound, KeepsMade, KeepsMigrated}
 use Rattle.store_runs.specs.Migrating.{IsMigrateRun, LeavesMigrated}
@@ -52,3 +54,24 @@ pub record IsMigrate (stores : List ℕ → Image → Type 0) (from : Image) {D 
   pub named : stores name from
   pub migrated : IsMigrateRun (λ outcome. LeavesMigrated from outcome ended) outputs.output outputs.written outputs.errors outputs.told status
   pub kept : KeepsMigrated from migrated.outcome ended
+
+-- the callers file has these callers
+pub record HasRows (callers : KnownFile) (rows : List CallerRow) : Type 0 where
+  pub source : List ℕ
+  pub content : IsContent callers source
+  pub rows_are : AreRowsOf source rows
+
+-- `callers STORE CALLERS`. The callers file is read and checked before the store's files are opened.
+module _ (files : List ℕ → KnownFile) (stores : List ℕ → Image → Type 0) (from : Image) {D : Type 0} {g : disk.Ghosts D} where
+  -- the store in the files gets the callers, or there is none
+  pub record IsSet (name callers : List ℕ) (outputs : Outputs) (status : ℕ) (ended : Ended D g) : Type 0 where
+    pub named : stores name from
+    pub rows : List CallerRow
+    pub rows_are : HasRows (files callers) rows
+    pub set : IsCallersRun (files_set rows from ended) outputs.output outputs.written outputs.errors outputs.told status
+    pub kept : KeepsCallers from rows set.outcome ended
+
+  abbrev pub IsCallers : List ℕ → List ℕ → Outputs → ℕ → Ended D g → Type 0
+  IsCallers name callers outputs status ended =
+      IsSet name callers outputs status ended
+      ⊎ ((fault : AnyFault) × IsNotBegun (files callers) fault × IsToldAlone fault outputs status × IsNothing ended)

@@ -1,0 +1,56 @@
+-- A bureau over several runs, between which it may get other callers.
+use Rattle.std.specs.Prelude.{◌≡◌, true, List, [], ◌∷◌}
+use Rattle.bureau_store.specs.SetCallers.{has_name, name_of, with_callers}
+use Rattle.bureau_store.specs.Tables.{Tables, no_change}
+use Rattle.bureau_store.specs.declared.caller.Caller.{Caller}
+use Rattle.bureau_store.specs.declared.caller.Caller.TheVariants.{Publisher}
+use Rattle.bureau_store.specs.declared.caller.CallerRow.{CallerRow}
+use Rattle.bureau.specs.Alone.{IsAlone, opening_of}
+use Rattle.bureau.specs.Joint.{CallBy, IsStep}
+use Rattle.bureau.specs.Own.{Opening}
+
+-- a call comes; or, between two runs, the bureau gets these callers
+pub data Stage : Type 0 where
+  Called : CallBy → Stage
+  Callers : List CallerRow → Stage
+
+abbrev pub IsStage : Tables → Stage → Tables → Type 0
+IsStage old (Called call_by) new = IsStep old call_by new
+IsStage old (Callers rows) new = new ≡ with_callers rows old
+
+-- one stage after another
+abbrev pub IsCourse : Tables → List Stage → Tables → Type 0
+IsCourse old [] new = new ≡ old
+IsCourse old (stage ∷ stages) new = (mid : Tables) × IsStage old stage mid × IsCourse mid stages new
+
+-- the calls that come in it
+abbrev pub calls_in : List Stage → List CallBy
+calls_in [] = []
+calls_in (Called call_by ∷ stages) = call_by ∷ calls_in stages
+calls_in (Callers rows ∷ stages) = calls_in stages
+
+-- a caller of these is among the others too
+abbrev pub IsInBoth : Caller → List CallerRow → List CallerRow → Type 0
+IsInBoth caller callers others = (has_name callers (name_of caller) ≡ true) × (has_name others (name_of caller) ≡ true)
+
+-- whenever the bureau gets other callers, this one stays
+abbrev pub Stays : Caller → List CallerRow → List Stage → Type 0
+Stays caller callers [] = Unit {0}
+Stays caller callers (Called call_by ∷ stages) = Stays caller callers stages
+Stays caller callers (Callers rows ∷ stages) = IsInBoth caller callers rows × Stays caller rows stages
+
+-- To a caller who stays it is as if nothing had happened to the callers: it is answered as where only its own calls and the
+-- publisher's came, who stays too.
+abbrev pub IsAloneWhereItStays : Tables → List Stage → Type 0
+IsAloneWhereItStays opening stages = (viewer : Caller) → Stays Publisher opening.callers stages → Stays viewer opening.callers stages
+    → IsAlone viewer (opening_of viewer opening) (calls_in stages)
+
+-- what the publisher and a client find that has sent nothing
+abbrev pub opening_of_newcomer : Tables → Opening
+opening_of_newcomer tables = record {
+  content = tables.content;
+  publisher = tables.last Publisher;
+  own = no_change;
+  zones = [];
+  received = [];
+}
