@@ -1,4 +1,5 @@
 pub mod CallersFacts
+pub mod CheckFacts
 pub mod DeskFacts
 pub mod EndFacts
 pub mod KeptFacts

@@ -1,4 +1,5 @@
 pub mod Callers
+pub mod Checking
 pub mod Desk
 pub mod Ended
 pub mod Keeping

@@ -1,0 +1,215 @@
+-- What `check` sees of a database, what it tells, and what a stop leaves.
+use Rattle.std.proofs.Common.{◌≡◌, ◌⊎◌, ◌∙◌, ℕ, Err, List, Ok, Some, ap, inl, inr, map, subst, sym}
+use Rattle.std.proofs.Math.Logic.{∥∥₁_map}
+use Rattle.std.specs.Prelude.{false, IfErr, IfOk, Option, OnErr, OnOk, Result, Vec}
+use Rattle.std.specs.declared.alloc.Global.{Global}
+use Rattle.std.specs.Io.KnownBytes.{Appends, Keeps}
+use Rattle.std.specs.List.Sorted.{IsPermutation}
+use Rattle.bureau_sql.specs.Files.{HoldTrees}
+use Rattle.bureau_sql.specs.Opening.{IsNoStore}
+use Rattle.bureau_sql.specs.SqlView.{IsAtRest}
+use Rattle.bureau_store.specs.Tables.{NamesAscend}
+use Rattle.bureau_store.specs.declared.caller.CallerRow.{CallerRow}
+use Rattle.bureau_store.specs.declared.fault.StoreFault.{StoreFault}
+use Rattle.run_parts.specs.Outputs.{Outputs}
+use Rattle.run_parts.specs.ProgramFault.{of_program}
+use Rattle.run_parts.specs.declared.fault.ProgramFault.TheVariants.{NotWritten}
+use Rattle.sqlite_disk.specs.declared.Disk.{Ghosts}
+use Rattle.sqlite_store.specs.FileStore.{view}
+use Rattle.sqlite_store.specs.declared.store.FileStore.{FileStore}
+use Rattle.sqlite_trees.specs.Tree.{Trees}
+use Rattle.sqlite_trees.specs.View.{IsClean}
+use Rattle.sqlite_wal.specs.Recovery.{Image}
+use Rattle.sqlite.specs.Effect.{Database}
+use Rattle.sqlite.specs.Files.{HoldsDatabase, IsNothing, file_state}
+use Rattle.sqlite.specs.Held.{Held}
+use Rattle.sqlite.specs.State.{HasCleanDisk, State}
+use Rattle.sql_checks.proofs.CauseFacts.{caused_after}
+use Rattle.sql_checks.proofs.ScanFacts.{look_on, look_so}
+use Rattle.sql_checks.proofs.TallyFacts.{read_looks}
+use Rattle.sql_checks.specs.Checked.{Finds, IsFound, IsOursIfNumbered, Looks}
+use Rattle.sql_checks.specs.Kept.{AreKept}
+use Rattle.sql_checks.specs.Refused.{IsCausedBy, IsUnread}
+use Rattle.sql_checks.specs.Tally.{IsTallyOf, tally_text}
+use Rattle.sql_checks.specs.declared.checking.Finding.TheVariants.{Whole}
+use Rattle.sql_checks.specs.declared.tallies.StoreTally.{StoreTally}
+use Rattle.sql_reads.specs.declared.fault.ReadFault.{ReadFault}
+use Rattle.sql_reads.specs.declared.fault.ReadFault.TheVariants as fault
+use Rattle.sql_state.proofs.StopFacts.{read_on, was_clean}
+use Rattle.sql_state.specs.Ours.{IsOurs, held_by}
+use Rattle.sql_state.specs.Reading as read
+use Rattle.sql_state.specs.Reading.{OnlyReads}
+use Rattle.sql_tables.specs.Stored.{tables_of}
+use Rattle.sql_texts.specs.Schema.{bureau}
+use Rattle.store_runs.specs.Checking.{IsCheck, IsCheckOutput, IsCheckRun, IsCheckTold, IsSeenWhole, IsSeenWrong, IsServable, IsTextOf, IsToldOfRead, IsToldWhole, IsWrong, check_fault_in, check_status, in_no_table}
+use Rattle.store_runs.specs.Desk.{of_store}
+use Rattle.store_runs.specs.Ended.{HasEnded, HasFound, IsEndOf, IsRefused}
+use Rattle.store_runs.specs.Keeping.{HasNoTables, Keeps as Always, KeepsFound}
+use Rattle.store_runs.specs.declared.checking.CheckFault.{CheckFault}
+use Rattle.store_runs.specs.declared.ended.Ended.{Ended}
+use Rattle.store_runs.specs.declared.ended.Ended.TheVariants.{Nothing, Left, Closed}
+use Rattle.transfer.specs.Transfer.{AppendsFront}
+use Rattle.store_runs.proofs.EndFacts.{left_of}
+use Rattle.store_runs.proofs.LeftFacts.{found_nothing}
+use Rattle.store_runs.proofs.StayFacts.{earlier_stays, kept_found, store_stays}
+
+-- ---- how much it has
+
+-- the text of what two reads tell
+pub tallied : {Fault : Type 0} (old mid new : State) (callers : Vec CallerRow Global) (slice : List CallerRow) (tally : StoreTally) (result : Result (Vec ℕ Global) Fault)
+    → read.Finds old mid {Fault = Fault} (Ok callers) (λ stored callers. IsPermutation (tables_of stored).callers callers.items) → NamesAscend (map (λ row. row.name) callers.items) → slice ≡ callers.items
+    → Looks {Fault = Fault} mid new (Ok tally) (λ database tally. IsOurs database → IsTallyOf (tables_of (held_by database)) slice tally) → IfOk result (λ text. text.items ≡ tally_text tally)
+    → Looks {Answer = Vec ℕ Global} {Fault = Fault} old new result (λ database text. IsOurs database → IsTextOf (tables_of (held_by database)) text.items)
+tallied old mid new callers slice tally (Ok text) first ascend same second is =
+    look_so old new tally text
+    (λ database tally. IsOurs database → IsPermutation (tables_of (held_by database)).callers callers.items × IsTallyOf (tables_of (held_by database)) slice tally)
+    (λ database text. IsOurs database → IsTextOf (tables_of (held_by database)) text.items)
+    (look_on old mid new callers (Ok tally) (λ database callers. IsOurs database → IsPermutation (tables_of (held_by database)).callers callers.items)
+    (λ database tally. IsOurs database → IsTallyOf (tables_of (held_by database)) slice tally)
+    (λ database tally. IsOurs database → IsPermutation (tables_of (held_by database)).callers callers.items × IsTallyOf (tables_of (held_by database)) slice tally)
+    (read_looks old mid (Ok callers) (λ stored callers. IsPermutation (tables_of stored).callers callers.items) first) second
+    (λ database tally all has our. (all our, has our)))
+    (λ database both our.
+    let it = both our in
+    record { callers = callers.items; all = it.0; ascend = ascend; tally = tally; tallied = subst (λ rows. IsTallyOf (tables_of (held_by database)) rows tally) same it.1; is = is })
+tallied old mid new callers slice tally (Err fault) first ascend same second is = record { reads = read_on old mid new first.reads second.reads; is_open = tt; told = tt }
+
+-- ---- what is seen of an open connection
+
+-- it is whole, and how much it has
+pub seen_whole : (old mid new : State) (text : Vec ℕ Global) → Finds {Fault = ReadFault} old mid (Ok Whole) IsFound
+    → Looks {Fault = ReadFault} mid new (Ok text) (λ database text. IsOurs database → IsTextOf (tables_of (held_by database)) text.items) → IsSeenWhole old new text.items
+seen_whole old mid new text first second clean on =
+    let before = was_clean mid new _ second.reads.survives clean in
+    let between = first.is_open before on in
+    let same : mid.committed ≡ old.committed = (first.reads.keeps before).committed between in (
+      first.told before on,
+      λ ours.
+          subst (λ database. IsTextOf (tables_of (held_by database)) text.items) same
+          (second.told clean between (subst (λ (database : Database). database.schema ≡ bureau) (sym same) ours.schema) (subst IsOurs (sym same) ours)),
+    )
+
+-- the rows can't be read
+pub check_refused : (old new : State) (refused : ReadFault) (told : CheckFault) → IsToldOfRead refused told → (refused ≡ fault.Device → HasCleanDisk new → IsCausedBy IsUnread old new)
+    → IsSeenWrong old new told
+check_refused old new refused told (inl memory) cause = inr (inl memory)
+check_refused old new refused told (inr device) cause = inr (inr (device.0, λ clean on. inl (cause device.1 clean)))
+
+-- or the store is whole, and it can't be read how much it has
+pub tally_refused : (old mid new : State) (refused : ReadFault) (told : CheckFault) → IsToldOfRead refused told → Finds {Fault = ReadFault} old mid (Ok Whole) IsFound → OnlyReads mid new
+    → IsSeenWrong old new told
+tally_refused old mid new refused told (inl memory) first second = inr (inl memory)
+tally_refused old mid new refused told (inr device) first second = inr (inr (device.0, λ clean on. inr (first.told (was_clean mid new _ second.survives clean) on)))
+
+-- ---- what is told of the store of a connection
+
+module _ (before opened after : State) (servable : IsServable before opened) (reads : OnlyReads opened after) where
+  open_before : HasCleanDisk after → HasCleanDisk opened
+  open_before clean = was_clean opened after _ reads.survives clean
+
+  one_database : HasCleanDisk after → opened.committed ≡ before.committed
+  one_database clean = let there = open_before clean in (servable.reads.keeps there).committed (servable.is_open there)
+
+  pub whole_told : (text : List ℕ) → IsSeenWhole opened after text → IsToldWhole before after text
+  whole_told text seen clean =
+      let there = open_before clean in
+      let same = one_database clean in
+      let it = seen clean (servable.is_open there) in (
+        record {
+          version = servable.version there;
+          tables = (servable.found there).0;
+          conditions = (servable.found there).1;
+          ours = subst IsOursIfNumbered same it.0.0;
+          kept = subst (λ database. AreKept (held_by database)) same it.0.1;
+        },
+        λ ours. subst (λ database. IsTextOf (tables_of (held_by database)) text) same (it.1 (subst IsOurs (sym same) ours)),
+      )
+
+  pub wrong_told : (told : CheckFault) → IsSeenWrong opened after told → IsWrong before after told
+  wrong_told told (inl found) =
+      inr (inl (found.0, found.1, λ clean. subst (λ database. IsFound database found.0) (one_database clean) (found.2 clean (servable.is_open (open_before clean)))))
+  wrong_told told (inr (inl memory)) = inr (inr (inl memory))
+  wrong_told told (inr (inr device)) = inr (inr (inr (
+    device.0,
+    λ clean. elim (device.1 clean (servable.is_open (open_before clean))) [
+      | inl cause ↦ inl (caused_after IsUnread before opened after servable.reads (λ there was. servable.is_open there) reads clean cause)
+      | inr whole ↦ inr (subst (λ database. IsFound database Whole) (one_database clean) whole)
+    ],
+  )))
+
+-- a desk wouldn't serve it
+pub not_served : (before after : State) (refused : StoreFault) (told : CheckFault) → told ≡ in_no_table (of_store refused) → (HasCleanDisk after → IsNoStore before after refused) → IsWrong before after told
+not_served before after refused told is why = inl (refused, is, why)
+
+-- the text is printed, or a front part of it
+pub text_printed : {T : Type 0} (outcome : Result T CheckFault) (before after : State) (old new : Option (List ℕ)) (text : List ℕ) → IsToldWhole before after text → OnOk outcome (Appends old new text)
+    → IfErr outcome (λ told. told ≡ in_no_table (of_program NotWritten)) → OnErr outcome (AppendsFront old new text) → IsCheckOutput (check_fault_in outcome) before after old new
+text_printed (Ok done) before after old new text told whole fault front = (text, told, whole)
+text_printed (Err why) before after old new text told whole fault front = inl (fault, text, told, front)
+
+-- ---- over files
+
+-- A stop of a run that only reads leaves what it found.
+module _ {D : Type 0} {g : Ghosts D} (from : Image) (found left : Held (FileStore D g)) (finds : HasFound from found) (rests : IsAtRest (file_state found))
+    (reads : OnlyReads (file_state found) (file_state left)) (last : FileStore D g) (ends : HasEnded left last) where
+  clean : IsClean (view last) → HasCleanDisk (file_state found)
+  clean still = was_clean (file_state found) (file_state left) _ reads.survives (ends.clean still)
+
+  there : IsClean (view last) → (trees : Trees) → (file_state left).may_leave trees → trees ≡ (file_state found).committed.trees
+  there still trees may = elim (reads.survives.crash (ends.clean still) trees may) [
+    | inl was ↦ rests trees (finds.opened (clean still)).0.is_open was
+    | inr none ↦ absurd none
+  ]
+
+  stays : (trees : Trees) → HoldsDatabase from trees → Always from (Closed last) (HoldTrees (λ now. now ≡ trees))
+  stays trees holds still image may = ∥∥₁_map (left_of from left last ends still image may) (λ it.
+      let same : it.0 ≡ trees = there still it.0 it.2 ∙ (finds.found (clean still)).holds trees holds in
+      let r : (now : Trees) × HoldsDatabase image now × (now ≡ trees) = (it.0, it.1, same) in r)
+
+  either : (trees : Trees) → HoldsDatabase from trees → Always from (Closed last) (HoldTrees (λ now. (now ≡ trees) ⊎ (HasNoTables trees × ⊥)))
+  either trees holds still image may = ∥∥₁_map (stays trees holds still image may) (λ it.
+      let r : (now : Trees) × HoldsDatabase image now × ((now ≡ trees) ⊎ (HasNoTables trees × ⊥)) = (it.0, it.1, inl it.2) in r)
+
+  begins : IsNothing from → Always from (Closed last) (λ left. IsNothing left ⊎ HoldTrees HasNoTables left)
+  begins nothing still image may = inr (∥∥₁_map (left_of from left last ends still image may) (λ it.
+      let none : HasNoTables it.0 = subst HasNoTables (sym (there still it.0 it.2)) (found_nothing from _ nothing (finds.found (clean still)).reads) in
+      let r : (trees : Trees) × HoldsDatabase image trees × HasNoTables trees = (it.0, it.1, none) in r))
+
+  kept_closed : KeepsFound from (Closed last)
+  kept_closed = record {
+    stays = stays;
+    begins = begins;
+    store = store_stays from (Closed last) (λ now. ⊥) either;
+    earlier = earlier_stays from (Closed last) (λ now. ⊥) either;
+  }
+
+kept_read : {D : Type 0} {g : Ghosts D} (from : Image) (found left : Held (FileStore D g)) (ended : Ended D g) → HasFound from found → IsAtRest (file_state found)
+    → OnlyReads (file_state found) (file_state left) → IsEndOf left ended → KeepsFound from ended
+kept_read from found left Nothing finds rests reads ends = absurd ends
+kept_read from found left (Left it) finds rests reads ends = absurd ends
+kept_read from found left (Closed last) finds rests reads ends = kept_closed from found left finds rests reads last ends
+
+module _ (stores : List ℕ → Image → Type 0) (from : Image) {D : Type 0} {g : Ghosts D} (ended : Ended D g) (name : List ℕ) (named : stores name from) (outputs : Outputs) (status : ℕ) where
+  -- a connection was made, its store was looked through, and it was ended
+  pub looked_through : (found left : Held (FileStore D g)) → HasFound from found → IsEndOf left ended → IsAtRest (file_state found) → OnlyReads (file_state found) (file_state left)
+      → IsCheckRun (λ outcome. IsCheckOutput outcome (file_state found) (file_state left) outputs.output outputs.written) outputs.errors outputs.told status
+      → IsCheck stores from name outputs status ended
+  looked_through found left finds ends rests reads run = record {
+    named = named;
+    checked = record {
+      outcome = run.outcome;
+      output = inr (record { found = found; finds = finds; left = left; used = (rests, run.output, reads); ends = ends });
+      told = run.told;
+      status_is = run.status_is;
+    };
+    kept = kept_read from found left ended finds rests reads ends;
+  }
+
+  -- no connection could be made
+  pub not_connected : (refused : StoreFault) (told : CheckFault) → told ≡ in_no_table (of_store refused) → IsRefused false from refused ended → Keeps outputs.output outputs.written
+      → IsCheckTold (Some told) outputs.errors outputs.told → status ≡ check_status (Some told) → IsCheck stores from name outputs status ended
+  not_connected refused told is why keeps said status_is = record {
+    named = named;
+    checked = record { outcome = Some told; output = inl (refused, ap Some is, why, keeps); told = said; status_is = status_is };
+    kept = kept_found from ended why.left;
+  }

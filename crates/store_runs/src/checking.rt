@@ -1,0 +1,233 @@
+//! `check`: a store is looked through.
+ghost use Rattle.std.specs.Prelude.{◌≡◌, ◌≢◌, false, IfErr, IfOk, OnErr, OnOk};
+ghost use Rattle.std.specs.Io.KnownBytes.{Appends};
+ghost use Rattle.bureau_sql.specs.Opening.{IsNoStore};
+ghost use Rattle.bureau_sql.specs.SqlView.{IsAtRest};
+ghost use Rattle.sqlite.specs.Held.{state};
+ghost use Rattle.sqlite.specs.State.{HasCleanDisk};
+ghost use Rattle.sqlite_wal.specs.Files.{image_at};
+ghost use Rattle.run_parts.specs.Outputs.{outputs_of};
+ghost use Rattle.run_parts.specs.ProgramFault.{of_program};
+ghost use Rattle.sql_checks.specs.Checked.{Looks};
+ghost use Rattle.sql_checks.specs.Tally.{tally_text};
+ghost use Rattle.sql_checks.specs.declared.checking.Finding.TheVariants as finding;
+ghost use Rattle.sql_state.specs.Ours.{IsOurs, held_by};
+ghost use Rattle.sql_state.specs.Reading.{OnlyReads};
+ghost use Rattle.sql_tables.specs.Stored.{tables_of};
+ghost use Rattle.store_runs.specs.Checking.{IsCheck, IsCheckOutput, IsCheckRun, IsCheckTold, IsSeenWhole, IsSeenWrong, IsServable, IsTextOf, IsToldAs, IsToldOfRead, check_fault_in, check_line, check_status, in_no_table};
+ghost use Rattle.transfer.specs.Transfer.{AppendsFront};
+
+use crate::desk::of_store;
+use crate::ended::{Ended, end};
+use crate::stores::Stores;
+use bureau_sql::SqlStore;
+use bureau_store::StoreFault;
+use faults::AnyFault;
+use run_parts::{ProgramFault, exit_status, printed, report, tell_in};
+use sql_checks::{Finding, StoreTable, StoreTally, check, store_tally, tally_text};
+use sql_reads::{ReadFault, all_callers};
+use sqlite::{Alter, Connection, FileFrom, Start};
+use std::alloc::Global;
+use std::io::{self, Write};
+
+/// Why a check ends with a fault, and the table with a wrong row, where that is why.
+#[derive(Clone, Copy, Debug)]
+pub struct CheckFault {
+    pub fault: AnyFault,
+    pub table: Option<StoreTable>,
+}
+
+/// Looks the store in the database of a connection through, and prints how much it has. Returns the exit status, and the
+/// connection, at rest.
+///
+/// Nothing is written to the database. A fault is told on `errors` alone, with the name of the table that has a wrong row.
+pub fn run_check<S: Alter + Drop, W: Write, E: Write>(
+    alloc: Global,
+    conn: Connection<S>,
+    writer: &mut W,
+    errors: &mut E,
+) -> (u8, Connection<S>)
+    requires rest { conn.in_transaction ≡ false }
+    ensures run { IsCheckRun (λ outcome. IsCheckOutput outcome (state S.Store conn) (state S.Store result.1)
+        (W.contents writer.old) (W.contents writer.new))
+        (E.contents errors.old) (E.contents errors.new) result.0 }
+    ensures reads { OnlyReads (state S.Store conn) (state S.Store result.1) }
+    ensures rested { IsAtRest (state S.Store conn) }
+    ensures rest { result.1.in_transaction ≡ false }
+{
+    let (outcome, conn) = check_and_print(alloc, conn, writer);
+    (told_in(errors, outcome), conn)
+}
+
+/// The same of the store that a file has. A file that isn't there is not made. Returns the exit status, and what is left
+/// of the files.
+pub fn check_file<S: Stores, D: Start, W: Write, E: Write>(
+    surroundings: &S,
+    alloc: Global,
+    store: &str,
+    start: D,
+    writer: &mut W,
+    errors: &mut E,
+) -> (u8, Ended<FileFrom<D>>)
+    ensures { IsCheck (S.known_store surroundings.now) (image_at D.Start) store.now
+        (outputs_of W.contents E.contents writer.old writer.new errors.old errors.new)
+        result.0 result.1 }
+{
+    match surroundings.connect(store, false, start) {
+        Ok(conn) => {
+            let (status, conn) = run_check(alloc, conn, writer, errors);
+            (status, end(conn))
+        }
+        Err((fault, ended)) => (told_in(errors, Err(in_no_table(of_store(fault)))), ended),
+    }
+}
+
+// Looks the store through, and prints how much it has.
+fn check_and_print<S: Alter + Drop, W: Write>(
+    alloc: Global,
+    conn: Connection<S>,
+    writer: &mut W,
+) -> (Result<(), CheckFault>, Connection<S>)
+    requires rest { conn.in_transaction ≡ false }
+    ensures output { IsCheckOutput (check_fault_in result.0) (state S.Store conn) (state S.Store result.1)
+        (W.contents writer.old) (W.contents writer.new) }
+    ensures reads { OnlyReads (state S.Store conn) (state S.Store result.1) }
+    ensures rest { result.1.in_transaction ≡ false }
+{
+    match servable(alloc, conn) {
+        Ok(conn) => {
+            let mut conn = conn;
+            match look(alloc, &mut conn) {
+                Ok(text) => (print(writer, text.as_slice()), conn),
+                Err(told) => (Err(told), conn),
+            }
+        }
+        Err((fault, conn)) => (Err(in_no_table(of_store(fault))), conn),
+    }
+}
+
+// The connection, where a desk would serve its store.
+fn servable<S: Alter + Drop>(
+    alloc: Global,
+    conn: Connection<S>,
+) -> Result<Connection<S>, (StoreFault, Connection<S>)>
+    requires rest { conn.in_transaction ≡ false }
+    ensures opened { IfOk result (λ opened. IsServable (state S.Store conn) (state S.Store opened)) }
+    ensures opened_rest { IfOk result (λ opened. opened.in_transaction ≡ false) }
+    ensures refused { IfErr result (λ refused. OnlyReads (state S.Store conn) (state S.Store refused.1)) }
+    ensures rest { IfErr result (λ refused. refused.1.in_transaction ≡ false) }
+    ensures cause { IfErr result (λ refused. HasCleanDisk (state S.Store refused.1)
+        → IsNoStore (state S.Store conn) (state S.Store refused.1) refused.0) }
+{
+    match SqlStore::open(alloc, conn) {
+        Ok(store) => Ok(store.into_connection()),
+        Err(refused) => Err(refused),
+    }
+}
+
+// The text that tells how much a store has, where it is whole.
+fn look<S: Alter>(alloc: Global, conn: &mut Connection<S>) -> Result<Vec<u8>, CheckFault>
+    requires rest { conn.old.in_transaction ≡ false }
+    ensures mode { conn.new.in_transaction ≡ false }
+    ensures reads { OnlyReads (state S.Store conn.old) (state S.Store conn.new) }
+    ensures whole { IfOk result (λ text.
+        IsSeenWhole (state S.Store conn.old) (state S.Store conn.new) text.items) }
+    ensures wrong { IfErr result (IsSeenWrong (state S.Store conn.old) (state S.Store conn.new)) }
+{
+    match check(alloc, conn) {
+        Ok(Finding::Whole) => match tally(alloc, conn) {
+            Ok(text) => Ok(text),
+            Err(fault) => Err(unread(fault)),
+        },
+        Ok(found) => Err(wrong(found)),
+        Err(fault) => Err(unread(fault)),
+    }
+}
+
+// What is told of a store that isn't whole.
+fn wrong(found: Finding) -> CheckFault
+    requires { found ≢ finding.Whole }
+    ensures { IsToldAs found result }
+{
+    match found {
+        Finding::WrongRow(table) => CheckFault {
+            fault: of_store(StoreFault::Shape),
+            table: Some(table),
+        },
+        Finding::OtherVersion => in_no_table(of_store(StoreFault::Version)),
+        Finding::OtherTables | Finding::Whole => in_no_table(of_store(StoreFault::Shape)),
+    }
+}
+
+// What is told where a read is refused.
+fn unread(fault: ReadFault) -> CheckFault
+    ensures { IsToldOfRead fault result }
+{
+    match fault {
+        ReadFault::Memory => in_no_table(of_store(StoreFault::Memory)),
+        ReadFault::Device => in_no_table(of_store(StoreFault::Device)),
+    }
+}
+
+// The text that tells how much a store has.
+fn tally<S: Alter>(alloc: Global, conn: &mut Connection<S>) -> Result<Vec<u8>, ReadFault>
+    requires rest { conn.old.in_transaction ≡ false }
+    ensures mode { conn.new.in_transaction ≡ false }
+    ensures looks { Looks (state S.Store conn.old) (state S.Store conn.new) result
+        (λ database text. IsOurs database → IsTextOf (tables_of (held_by database)) text.items) }
+{
+    let callers = all_callers(alloc, conn)?;
+    match store_tally(alloc, conn, callers.as_slice()) {
+        Ok(tally) => text_of(alloc, &tally),
+        Err(fault) => Err(fault),
+    }
+}
+
+fn text_of(alloc: Global, tally: &StoreTally) -> Result<Vec<u8>, ReadFault>
+    ensures { IfOk result (λ text. text.items ≡ tally_text tally.now) }
+{
+    Ok(tally_text(alloc, tally)?)
+}
+
+// Prints a whole text.
+fn print<W: Write>(writer: &mut W, text: &[u8]) -> Result<(), CheckFault>
+    ensures ok { OnOk result (Appends (W.contents writer.old) (W.contents writer.new) text.now) }
+    ensures fault { IfErr result (λ told. told ≡ in_no_table (of_program ProgramFault.NotWritten)) }
+    ensures err { OnErr result (AppendsFront (W.contents writer.old) (W.contents writer.new) text.now) }
+{
+    match printed(writer, text) {
+        Ok(()) => Ok(()),
+        Err(fault) => Err(in_no_table(fault)),
+    }
+}
+
+// A fault that is in no table.
+fn in_no_table(fault: AnyFault) -> CheckFault
+    ensures { result ≡ in_no_table fault }
+{
+    CheckFault { fault, table: None }
+}
+
+// Tells how a check ended, where that is with a fault, and gives the exit status.
+fn told_in<E: Write>(errors: &mut E, outcome: Result<(), CheckFault>) -> u8
+    ensures told { IsCheckTold (check_fault_in outcome) (E.contents errors.old) (E.contents errors.new) }
+    ensures status { result ≡ check_status (check_fault_in outcome) }
+{
+    match outcome {
+        Ok(()) => 0,
+        Err(told) => {
+            let _ = tell_check(errors, told);
+            exit_status(told.fault)
+        }
+    }
+}
+
+// Tells a fault, with the name of the table that it is in.
+fn tell_check<E: Write>(errors: &mut E, told: CheckFault) -> io::Result<()>
+    ensures { AppendsFront (E.contents errors.old) (E.contents errors.new) (check_line told told.table) }
+{
+    match told.table {
+        Some(table) => tell_in(errors, told.fault, table.name()),
+        None => report(errors, told.fault),
+    }
+}
