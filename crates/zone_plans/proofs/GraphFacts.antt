@@ -200,6 +200,9 @@ need_asked readings asked k reading need are below at inside =
 
 -- ---- what a loop reads
 
+pub element_inside : {X : Type 0} (xs : List X) (i : ℕ) (x : X) → i < length xs → x ≡ get_or xs i x → Contains xs x
+element_inside xs i x below at = (i, below, sym at)
+
 pub item_inside : (xs : List (List ℕ)) (i : ℕ) (x : List ℕ) → i < length xs → x ≡ get_or xs i x → Contains xs x
 item_inside xs i x below at = (i, below, sym at)
 

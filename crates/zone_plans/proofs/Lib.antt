@@ -1,10 +1,9 @@
-pub mod BlockedFacts
 pub mod ChoiceFacts
+pub mod ChosenFacts
 pub mod GraphFacts
 pub mod MarkFacts
 pub mod OutdoneFacts
 pub mod PlanFacts
 pub mod PlannedFacts
-pub mod ReportFacts
 pub mod StepFacts
 pub mod ValueFacts

@@ -34,7 +34,7 @@ map_filter {A} {B} g f (x ∷ xs) = go (f (g x)) (map_filter g f xs) where
   go true rest = ap (λ l. g x ∷ l) rest
   go false rest = rest
 
-filter_on : {A : Type 0} (p q : A → Bool) (xs : List A) → ((x : A) → Contains xs x → p x ≡ q x) → filter p xs ≡ filter q xs
+pub filter_on : {A : Type 0} (p q : A → Bool) (xs : List A) → ((x : A) → Contains xs x → p x ≡ q x) → filter p xs ≡ filter q xs
 filter_on p q [] same = refl
 filter_on {A} p q (x ∷ xs) same =
     ap (λ b. cond b (x ∷ filter p xs) (filter p xs)) (same x (first_in x xs))

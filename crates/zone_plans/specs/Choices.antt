@@ -1,19 +1,13 @@
 -- Which of the SYSMODs that resolve a hold is chosen (IBM z/OS SMP/E Reference, `++VER`, operand SUP).
-use Rattle.std.specs.Prelude.{ℕ, Bool, true, false, not, List, [], ◌∷◌, Option, filter, length, map, ◌-◌}
-use Rattle.std.specs.List.{flat_map, slice_get}
-use Rattle.catalogue.specs.Content.{Content, record_of}
-use Rattle.catalogue.specs.Ids.{in_order}
-use Rattle.supersede.specs.Giving.{sup_of}
-use Rattle.supersede.specs.Reach.{has, is_other}
+use Rattle.std.specs.Prelude.{ℕ, ◌&&◌, Bool, true, false, not, List, [], ◌∷◌, Option, filter, length, map, ◌-◌}
+use Rattle.std.specs.List.{list_any, slice_get}
+use Rattle.catalogue.specs.Content.{Content}
+use Rattle.catalogue.specs.Ids.{in_order, same_id}
+use Rattle.supersede.specs.Giving.{gives}
 use Rattle.chains.specs.declared.verdict.Status.{Status}
 use Rattle.chains.specs.declared.verdict.Status.TheVariants.{Good, Held, Lack}
-use Rattle.zone_plans.specs.declared.holds.Resolver.{Resolver}
-
--- A hold of a report as contracts see it: the held SYSMOD, the reason, and what resolves it.
-pub record HoldLists : Type 0 where
-  pub sysmod : List ℕ
-  pub reason : List ℕ
-  pub resolvers : List Resolver
+use Rattle.report_holds.specs.Holds.{HoldLists}
+use Rattle.report_holds.specs.declared.holds.Resolver.{Resolver}
 
 -- whether two verdicts are of one kind
 abbrev pub same_status : Status → Status → Bool
@@ -46,16 +40,16 @@ of_status status resolvers = filter (λ resolver. same_status resolver.status st
 abbrev pub received_or_all : List Resolver → List Resolver
 received_or_all resolvers = or_all (filter (λ resolver. resolver.received) resolvers) resolvers
 
--- what some SYSMODs supersede, but for themselves
-abbrev pub superseded_by : Content → List (List ℕ) → List (List ℕ)
-superseded_by content ids = flat_map (λ id. filter (is_other id) (sup_of (record_of content id))) ids
+-- whether another one of some SYSMODs gives one, itself or through others
+abbrev pub is_given : Content → List (List ℕ) → List ℕ → Bool
+is_given content ids id = list_any (λ other. not (same_id other id) && gives content other id) ids
 
--- of some SYSMODs those that no other of them supersedes, or all where each is superseded
+-- of some SYSMODs those that no other of them gives, or all where each is given
 abbrev pub on_top : Content → List (List ℕ) → List (List ℕ)
-on_top content ids = or_all (filter (λ id. not (has (superseded_by content ids) id)) ids) ids
+on_top content ids = or_all (filter (λ id. not (is_given content ids id)) ids) ids
 
--- the resolver of a kind that is chosen for a hold: the received before the others, then one that no other of them
--- supersedes, then the greatest id
+-- the resolver of a kind that is chosen for a hold: the received before the others, then one that no other of them gives,
+-- itself or through others, then the greatest id
 abbrev pub choice : Content → Status → HoldLists → Option (List ℕ)
 choice content status hold =
     greatest_of (on_top content (map (λ resolver. resolver.id) (received_or_all (of_status status hold.resolvers))))

@@ -1,21 +1,26 @@
 -- No part of what is promised: private contracts cite it. Members by their indices in a list that ascends.
-use Rattle.std.specs.Prelude.{◌≡◌, ◌<◌, ◌++◌, ◌⊎◌, ℕ, Bool, List, [], Option, Some, None, length, map, Contains, slice_index_or}
+use Rattle.std.specs.Prelude.{◌≡◌, ◌<◌, ◌++◌, ◌&&◌, ◌⊎◌, ℕ, Bool, true, filter, not, List, [], Option, Some, None, length, map, Contains, slice_index_or}
 use Rattle.std.specs.Global.{Vec}
-use Rattle.std.specs.List.{flat_map}
+use Rattle.std.specs.List.{flat_map, list_any}
 use Rattle.mcs_reader.specs.declared.id.Id.{Id}
 use Rattle.holddata.specs.declared.hold.Hold.{Hold}
 use Rattle.zone_lists.specs.declared.zones.ZoneRow.{ZoneRow}
 use Rattle.catalogue.specs.Content.{Content, holds_on, record_of}
-use Rattle.catalogue.specs.Ids.{in_order}
+use Rattle.catalogue.specs.Ids.{in_order, same_id}
 use Rattle.catalogue.specs.declared.sysmod.Sysmod.{Sysmod}
 use Rattle.supersede.specs.Giving.{conds_of, givers_of, needs_where, requisites_of}
+use Rattle.supersede.specs.Reach.{has}
 use Rattle.requisites.specs.Leads.{Leads}
 use Rattle.requisites.specs.Nodes.{IsMarked, Links}
 use Rattle.requisites.specs.Sources.{HasSource}
 use Rattle.chains.specs.Candidates.{candidates_unless_there}
 use Rattle.chains.specs.Cuts.{id_at}
 use Rattle.chains.specs.Indices.{RowsAre}
+use Rattle.chains.specs.Judge.{status_of}
 use Rattle.chains.specs.Sights.{reasons_in}
+use Rattle.chains.specs.Verdicts.{verdict_of}
+use Rattle.report_holds.specs.Holds.{HoldLists}
+use Rattle.report_holds.specs.declared.holds.Resolver.{Resolver}
 
 -- What is read of a member: what it needs in the zone.
 pub record ReadingLists : Type 0 where
@@ -42,6 +47,22 @@ lists_of lists = map (λ list. list.items) lists
 
 abbrev pub list_at : List (List (List ℕ)) → ℕ → List (List ℕ)
 list_at lists p = slice_index_or lists p []
+
+-- what gives some SYSMODs is known
+abbrev pub AreKnown : Content → List ZoneRow → List (List ℕ) → List (Vec Id) → Type 0
+AreKnown content rows ids lists = lists_of lists ≡ map (known_givers content rows) ids
+
+-- whether one that a list has for an id is another one of some SYSMODs
+abbrev pub is_given_by : List (List ℕ) → List (List ℕ) → List ℕ → Bool
+is_given_by list ids id = list_any (λ giver. not (same_id giver id) && has ids giver) list
+
+abbrev pub not_given : (List ℕ → List (List ℕ)) → List (List ℕ) → List (List ℕ) → List (List ℕ)
+not_given f among ids = filter (λ id. not (is_given_by (f id) among id)) ids
+
+-- it is known what gives each resolver of a hold, and what is said of each is so
+abbrev pub MayPlace : Content → List ZoneRow → List (List ℕ) → HoldLists → Type 0
+MayPlace content rows known hold =
+    (resolver : Resolver) → Contains hold.resolvers resolver → (has known resolver.id ≡ true) × (resolver.status ≡ status_of (verdict_of content rows resolver.id))
 
 -- all that is needed
 abbrev pub all_needs : List ReadingLists → List (List ℕ)

@@ -2,5 +2,3 @@ pub mod Choices
 pub mod Members
 pub mod Graphs
 pub mod Plans
-pub mod BlockedSteps
-pub mod ReportHolds

@@ -1,28 +1,27 @@
 -- One plan for the holds of a report on a zone.
-use Rattle.std.specs.Prelude.{◌≡◌, ◌++◌, ◌⊎◌, ℕ, List, [], ◌∷◌, Option, Some, None, Contains, IfSome, map, if◌then◌else◌}
-use Rattle.std.specs.List.{cons_option, filter_map}
+use Rattle.std.specs.Prelude.{◌≡◌, ℕ, List, Option, Some, None, Contains, IfSome, map}
+use Rattle.std.specs.List.{filter_map, flat_map}
 use Rattle.zone_lists.specs.declared.zones.ZoneRow.{ZoneRow}
 use Rattle.catalogue.specs.Content.{Content}
 use Rattle.catalogue.specs.Ids.{in_order}
-use Rattle.supersede.specs.Reach.{has}
-use Rattle.requisites.specs.World.{IsGoodGiver}
-use Rattle.chains.specs.Candidates.{candidates_unless_there}
 use Rattle.chains.specs.Judge.{status_of}
-use Rattle.chains.specs.Verdicts.{Judged, good, held, lack, verdict_of}
-use Rattle.chains.specs.Worlds.{world_of}
+use Rattle.chains.specs.Verdicts.{verdict_of}
 use Rattle.chains.specs.declared.verdict.Status.TheVariants as status
-use Rattle.zone_plans.specs.Choices.{HoldLists, choice}
-use Rattle.zone_plans.specs.Members.{AreZoneSteps, IsGivenBy, joined}
-use Rattle.zone_plans.specs.declared.holds.HoldOn.{HoldOn}
-use Rattle.zone_plans.specs.declared.holds.Resolver.{Resolver}
+use Rattle.blocked_needs.specs.Blocked.{AreBlockedNeeds, HasRow, blocked_needs_of}
+use Rattle.blocked_needs.specs.declared.blocked.BlockedNeed.{BlockedNeed}
+use Rattle.report_holds.specs.Holds.{HoldLists}
+use Rattle.zone_plans.specs.Choices.{choice}
+use Rattle.zone_plans.specs.Members.{AreZoneSteps, IsGivenBy, joined, zone_steps_of}
+use Rattle.zone_plans.specs.declared.holds.ChosenResolver.{ChosenResolver}
+use Rattle.report_holds.specs.declared.holds.HoldOn.{HoldOn}
 use Rattle.zone_plans.specs.declared.placing.Fate.{Fate}
-use Rattle.zone_plans.specs.declared.placing.Fate.TheVariants.{Resolved, Waiting, Unresolved}
+use Rattle.zone_plans.specs.declared.placing.Fate.TheVariants.{Resolved, Held, Unresolved}
 use Rattle.zone_plans.specs.declared.placing.Placed.{Placed}
 
 -- what becomes of a hold: the resolver that is GOOD and chosen, or else the one that is HELD, or neither
 abbrev pub fate_by : Option (List ℕ) → Option (List ℕ) → Fate
-fate_by (Some id) waiting = Resolved id
-fate_by None (Some id) = Waiting id
+fate_by (Some id) held = Resolved id
+fate_by None (Some id) = Held id
 fate_by None None = Unresolved
 
 abbrev pub placed : Content → HoldLists → Placed
@@ -33,112 +32,93 @@ placed content hold = record {
 
 abbrev pub resolver_by : Fate → Option (List ℕ)
 resolver_by (Resolved id) = Some id
-resolver_by (Waiting id) = None
+resolver_by (Held id) = None
 resolver_by Unresolved = None
 
 -- the resolvers that are chosen, ascending, each once
 abbrev pub chosen_in : List Placed → List (List ℕ)
 chosen_in holds = in_order (filter_map (λ one. resolver_by one.fate) holds)
 
--- the holds that nothing resolves
-abbrev pub unless_resolved : HoldOn → Fate → Option HoldOn
-unless_resolved hold (Resolved id) = None
-unless_resolved hold (Waiting id) = None
-unless_resolved hold Unresolved = Some hold
+-- the holds of which a resolver is GOOD, each with the one that is chosen
+abbrev pub if_resolved : HoldOn → Fate → Option ChosenResolver
+if_resolved hold (Resolved id) = Some (record { hold = hold; resolver = id })
+if_resolved hold (Held id) = None
+if_resolved hold Unresolved = None
+
+abbrev pub resolved_in : List Placed → List ChosenResolver
+resolved_in holds = filter_map (λ one. if_resolved one.hold one.fate) holds
+
+-- the holds of which none is GOOD and one is HELD, each with the one that is chosen
+abbrev pub if_held : HoldOn → Fate → Option ChosenResolver
+if_held hold (Resolved id) = None
+if_held hold (Held id) = Some (record { hold = hold; resolver = id })
+if_held hold Unresolved = None
+
+abbrev pub held_in : List Placed → List ChosenResolver
+held_in holds = filter_map (λ one. if_held one.hold one.fate) holds
+
+-- the holds of which none is GOOD or HELD
+abbrev pub if_unresolved : HoldOn → Fate → Option HoldOn
+if_unresolved hold (Resolved id) = None
+if_unresolved hold (Held id) = None
+if_unresolved hold Unresolved = Some hold
 
 abbrev pub unresolved_in : List Placed → List HoldOn
-unresolved_in holds = filter_map (λ one. unless_resolved one.hold one.fate) holds
+unresolved_in holds = filter_map (λ one. if_unresolved one.hold one.fate) holds
 
--- A hold of which each resolver is HELD, as contracts see it: one of them, and the needs that block it, each for the next.
-pub record HeldLists : Type 0 where
-  pub hold : HoldOn
-  pub resolver : List ℕ
-  pub blocked : List (List ℕ)
-
--- the holds that wait for a resolver which is HELD, each with it
-abbrev pub waiting_by : HoldOn → Fate → Option (HoldOn × List ℕ)
-waiting_by hold (Resolved id) = None
-waiting_by hold (Waiting id) = Some (hold, id)
-waiting_by hold Unresolved = None
-
-abbrev pub waiting_in : List Placed → List (HoldOn × List ℕ)
-waiting_in holds = filter_map (λ one. waiting_by one.hold one.fate) holds
-
--- ---- blocked needs
-
--- the least of the candidates that give a need
-abbrev pub first_giver : Option (List (List ℕ)) → Option (List ℕ)
-first_giver None = None
-first_giver (Some []) = None
-first_giver (Some (giver ∷ more)) = Some giver
-
--- unless it was come to before
-abbrev pub unless_seen : List (List ℕ) → Option (List ℕ) → Option (List ℕ)
-unless_seen seen None = None
-unless_seen seen (Some giver) = if has seen giver then None else Some giver
-
--- what follows in a row: nothing where nothing new gives the need, and else what is so of its giver
-abbrev pub GoesOn : Option (List ℕ) → (List ℕ → Type 0) → List (List ℕ) → Type 0
-GoesOn None IsRow later = later ≡ []
-GoesOn (Some giver) IsRow later = IsRow giver
-
--- The row of needs that block a SYSMOD. The first is its blocked need; the row goes on with the least candidate that gives this
--- need, which is blocked in its turn, down to a need that no candidate gives, or that one gives which was come to before.
-abbrev pub IsBlockedRow : Content → List ZoneRow → List (List ℕ) → List ℕ → List (List ℕ) → Type 0
-IsBlockedRow content rows seen id [] = ⊥
-IsBlockedRow content rows seen id (need ∷ later) =
-    (verdict_of content rows id ≡ held need)
-    × GoesOn (unless_seen seen (first_giver (candidates_unless_there content rows need)))
-    (λ giver. IsBlockedRow content rows (seen ++ giver ∷ []) giver later) later
+-- the resolvers of some holds
+abbrev pub resolvers_of : List ChosenResolver → List (List ℕ)
+resolvers_of holds = map (λ one. one.resolver) holds
 
 -- ---- plans
 
 -- A plan for a zone as contracts see it.
 pub record PlanLists : Type 0 where
   pub steps : List (List (List ℕ))
+  pub resolved : List ChosenResolver
   pub unresolved : List HoldOn
-  pub held : List HeldLists
+  pub held : List ChosenResolver
+  pub blocked : List BlockedNeed
 
--- what is said of the resolvers is so
-abbrev pub AreTold : Content → List ZoneRow → List HoldLists → Type 0
-AreTold content rows holds =
-    (hold : HoldLists) (resolver : Resolver) → Contains holds hold → Contains hold.resolvers resolver
-    → resolver.status ≡ status_of (verdict_of content rows resolver.id)
+-- by what becomes of each hold
+abbrev pub plan_with : Content → List ZoneRow → List Placed → PlanLists
+plan_with content rows holds = record {
+  steps = zone_steps_of content rows (chosen_in holds);
+  resolved = resolved_in holds;
+  unresolved = unresolved_in holds;
+  held = held_in holds;
+  blocked = blocked_needs_of content rows (resolvers_of (held_in holds));
+}
 
--- The plan for the holds of a report. Its steps install what the chosen resolvers want; a member gives each of these. It names
--- the holds without a resolver, and those of which each resolver is HELD, each with the row of needs that block one of them: no
--- SYSMOD that is GOOD gives one of these needs.
+-- The plan for the holds of a report: the steps that install what the resolvers want that are chosen of those that are GOOD;
+-- the holds that are resolved so, those without a resolver that is GOOD or HELD, and those of which none is GOOD; and what
+-- blocks the resolvers that are chosen of these.
+abbrev pub plan_of : Content → List ZoneRow → List HoldLists → PlanLists
+plan_of content rows holds = plan_with content rows (map (placed content) holds)
+
+-- What is so of the plan. Its steps install what the chosen resolvers want, and a member gives each of these: so for each hold
+-- of which a resolver is GOOD there is a member that gives the one that is chosen. The table of blocked needs has a row of each
+-- resolver that is chosen of those that are HELD.
 pub record IsZonePlan (content : Content) (rows : List ZoneRow) (holds : List HoldLists) (plan : PlanLists) : Type 0 where
+  pub are : plan ≡ plan_of content rows holds
   pub steps : AreZoneSteps content rows (chosen_in (map (placed content) holds)) plan.steps
   pub resolved : (hold : HoldLists) → Contains holds hold → IfSome (choice content status.Good hold) (IsGivenBy content (joined plan.steps))
-  pub unresolved : plan.unresolved ≡ unresolved_in (map (placed content) holds)
-  pub held : map (λ held. (held.hold, held.resolver)) plan.held ≡ waiting_in (map (placed content) holds)
-  pub blocked : (held : HeldLists) → Contains plan.held held → IsBlockedRow content rows (held.resolver ∷ []) held.resolver held.blocked
-  pub ungiven : (held : HeldLists) (need : List ℕ) → Contains plan.held held → Contains held.blocked need
-      → (giver : List ℕ) → ¬ IsGoodGiver (world_of content rows) need giver
+  pub blocked : AreBlockedNeeds content rows (resolvers_of plan.held) plan.blocked
+  pub waits : (one : ChosenResolver) → Contains plan.held one → HasRow plan.blocked one.resolver
 
 -- ---- No part of what is promised: private contracts cite it.
 
--- whether it is held
-abbrev pub IsHeld : Judged → Type 0
-IsHeld (good plan) = ⊥
-IsHeld (held need) = Unit {0}
-IsHeld lack = ⊥
+-- the SYSMODs that resolve some holds, ascending, each once
+abbrev pub resolvers_named : List HoldLists → List (List ℕ)
+resolvers_named holds = in_order (flat_map (λ hold. map (λ resolver. resolver.id) hold.resolvers) holds)
 
--- a row of blocked needs that may end at a SYSMOD that isn't held
-abbrev pub IsRowSoFar : Content → List ZoneRow → List (List ℕ) → List ℕ → List (List ℕ) → Type 0
-IsRowSoFar content rows seen id [] = ¬ IsHeld (verdict_of content rows id)
-IsRowSoFar content rows seen id (need ∷ later) =
-    (verdict_of content rows id ≡ held need)
-    × GoesOn (unless_seen seen (first_giver (candidates_unless_there content rows need)))
-    (λ giver. IsRowSoFar content rows (seen ++ giver ∷ []) giver later) later
+-- the chosen resolvers are GOOD
+abbrev pub AreGood : Content → List ZoneRow → List Placed → Type 0
+AreGood content rows holds =
+    (id : List ℕ) → Contains (chosen_in holds) id → status_of (verdict_of content rows id) ≡ status.Good
 
--- the holds that wait, each with its row
-pub record AreBlocked (content : Content) (rows : List ZoneRow) (holds : List Placed) (found : List HeldLists) : Type 0 where
-  pub keys : map (λ held. (held.hold, held.resolver)) found ≡ waiting_in holds
-  pub blocked : (held : HeldLists) → Contains found held → IsRowSoFar content rows (held.resolver ∷ []) held.resolver held.blocked
-
--- one more hold was looked at
-pub record AreBlockedMore (content : Content) (rows : List ZoneRow) (one : Placed) (old new : List HeldLists) : Type 0 where
-  pub keys : map (λ held. (held.hold, held.resolver)) new ≡ map (λ held. (held.hold, held.resolver)) old ++ cons_option (waiting_by one.hold one.fate) []
-  pub blocked : (held : HeldLists) → Contains new held → Contains old held ⊎ IsRowSoFar content rows (held.resolver ∷ []) held.resolver held.blocked
+-- a plan by what becomes of each hold
+pub record IsPlanFor (content : Content) (rows : List ZoneRow) (holds : List Placed) (plan : PlanLists) : Type 0 where
+  pub are : plan ≡ plan_with content rows holds
+  pub steps : AreZoneSteps content rows (chosen_in holds) plan.steps
+  pub blocked : AreBlockedNeeds content rows (resolvers_of plan.held) plan.blocked

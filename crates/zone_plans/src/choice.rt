@@ -1,37 +1,41 @@
 //! Which of the SYSMODs that resolve a hold is chosen.
-ghost use Rattle.std.specs.Prelude.{◌≡◌, filter, map, not, IfOk, OnOk};
-ghost use Rattle.std.specs.List.{cons_option, flat_map};
-ghost use Rattle.catalogue.specs.Content.{record_of};
-ghost use Rattle.catalogue.specs.Ids.{Ascend, in_order, put_among};
-ghost use Rattle.catalogue.specs.View.{MayAsk, Tells};
-ghost use Rattle.catalogue.specs.declared.fault.SourceFault.TheVariants.{Device};
-ghost use Rattle.supersede.specs.Giving.{sup_of};
-ghost use Rattle.supersede.specs.Reach.{has, is_other};
-ghost use Rattle.zone_plans.specs.Choices.{choice, greatest_of, last_of, of_status, on_top, or_all, received_or_all, same_status, superseded_by};
+ghost use Rattle.std.specs.Prelude.{◌≡◌, ◌&&◌, ◌++◌, ◌∷◌, [], List, ℕ, Some, true, filter, map, not, Contains, IfOk, OnOk, if◌then◌else◌};
+ghost use Rattle.std.specs.Global.{Vec};
+ghost use Rattle.std.specs.List.{slice_get};
+ghost use Rattle.mcs_reader.specs.declared.id.Id.{Id};
+ghost use Rattle.zone_lists.specs.declared.zones.ZoneRow.{ZoneRow};
+ghost use Rattle.catalogue.specs.Content.{Content};
+ghost use Rattle.catalogue.specs.Ids.{Ascend, in_order, same_id};
+ghost use Rattle.supersede.specs.Reach.{has};
+ghost use Rattle.chains.specs.declared.verdict.Status.TheVariants.{Lack};
+ghost use Rattle.zone_plans.specs.Choices.{choice, greatest_of, last_of, of_status, or_all, received_or_all, same_status};
+ghost use Rattle.zone_plans.specs.Graphs.{AreKnown, MayPlace, is_given_by, lists_of, not_given};
 
-use crate::holds::{HoldResolvers, Resolver};
 use crate::united::put_all;
-use catalogue::{Published, SourceFault, Sysmod};
 use chains::Status;
 use faults::NoMemory;
 use mcs_reader::Id;
+use report_holds::{HoldResolvers, Resolver};
 use std::alloc::Global;
 use std::collections::BTreeSet;
+use supersede::index_among;
 
-/// The resolver of a kind that is chosen for a hold.
-pub(crate) fn choice<P: Published>(
+/// The resolver of a kind that is chosen for a hold, by what gives each resolver.
+pub(crate) fn choice(
     alloc: Global,
-    source: &mut P,
+    known: &[Id],
+    lists: &[Vec<Id>],
     status: Status,
     hold: &HoldResolvers,
-) -> Result<Option<Id>, SourceFault>
-    ensures asks { MayAsk P.content_view Device source.old source.new result }
-    ensures choice { IfOk result (λ chosen. Tells P.content_view source.old source.new
-        (λ content. chosen ≡ choice content status hold.now)) }
+) -> Result<Option<Id>, NoMemory>
+    requires { Ascend known.now }
+    ensures { IfOk result (λ chosen. (content : Content) (rows : List ZoneRow)
+        → AreKnown content rows known.now lists.now → MayPlace content rows known.now hold.now
+        → (status ≡ Lack → ⊥) → chosen ≡ choice content status hold.now) }
 {
     let among = candidates(alloc, status, hold.resolvers())?;
-    let top = tops(alloc, source, among)?;
-    Ok(greatest(alloc, &top)?)
+    let top = tops(alloc, known, lists, among)?;
+    greatest(alloc, &top)
 }
 
 // The resolvers of a kind, those that were received where there are any.
@@ -95,14 +99,15 @@ fn ids_of(alloc: Global, resolvers: &[Resolver]) -> Result<Vec<Id>, NoMemory>
     Ok(ids)
 }
 
-// Those of some ids that no other of them supersedes, or all where each is superseded.
-fn tops<P: Published>(alloc: Global, source: &mut P, ids: Vec<Id>) -> Result<Vec<Id>, SourceFault>
-    ensures asks { MayAsk P.content_view Device source.old source.new result }
-    ensures tops { IfOk result (λ top. Tells P.content_view source.old source.new
-        (λ content. top.items ≡ on_top content ids.items)) }
+// Those of some ids that no other of them gives, or all where each is given.
+fn tops(alloc: Global, known: &[Id], lists: &[Vec<Id>], ids: Vec<Id>) -> Result<Vec<Id>, NoMemory>
+    requires { Ascend known.now }
+    ensures { IfOk result (λ top. (f : List ℕ → List (List ℕ)) → lists_of lists.now ≡ map f known.now
+        → ((id : List ℕ) → Contains ids.items id → has known.now id ≡ true)
+        → top.items ≡ or_all (not_given f (in_order ids.items) ids.items) ids.items) }
 {
-    let superseded = superseded(alloc, source, &ids)?;
-    let top = without(alloc, &ids, &superseded)?;
+    let among = ordered(alloc, &ids)?;
+    let top = those_not_given(alloc, known, lists, &among, &ids)?;
     Ok(or_all(top, ids))
 }
 
@@ -116,48 +121,97 @@ fn or_all(kept: Vec<Id>, all: Vec<Id>) -> Vec<Id>
     kept
 }
 
-// What some SYSMODs supersede, but for themselves.
-fn superseded<P: Published>(
+// Those of some ids that no other one among some gives.
+fn those_not_given(
     alloc: Global,
-    source: &mut P,
+    known: &[Id],
+    lists: &[Vec<Id>],
+    among: &[Id],
     ids: &[Id],
-) -> Result<Vec<Id>, SourceFault>
-    ensures asks { MayAsk P.content_view Device source.old source.new result }
-    ensures superseded { IfOk result (λ found. Tells P.content_view source.old source.new
-        (λ content. found.items ≡ in_order (superseded_by content ids.now))) }
-    ensures ascend { IfOk result (λ found. Ascend found.items) }
+) -> Result<Vec<Id>, NoMemory>
+    requires known { Ascend known.now }
+    requires among { Ascend among.now }
+    ensures { IfOk result (λ kept. (f : List ℕ → List (List ℕ)) → lists_of lists.now ≡ map f known.now
+        → ((id : List ℕ) → Contains ids.now id → has known.now id ≡ true)
+        → kept.items ≡ not_given f among.now ids.now) }
 {
-    let mut found = BTreeSet::new(alloc);
+    let none = Vec::new(alloc);
+    let mut kept = Vec::new(alloc);
     for id in ids {
-        let sysmod = source.sysmod(id)?;
-        put_superseded(&mut found, id, &sysmod)?;
+        let keep = is_kept(known, lists, &none, among, id);
+        push_if(&mut kept, keep, id)?;
     }
-    Ok(listed(alloc, found)?)
+    Ok(kept)
 }
 
-fn put_superseded(
-    found: &mut BTreeSet<Id>,
-    id: &Id,
-    sysmod: &Option<Sysmod>,
-) -> Result<(), NoMemory>
-    ensures { OnOk result
-        (found.new.keys ≡ put_among found.old.keys (filter (is_other id.now) (sup_of sysmod.now))) }
+fn push_if(ids: &mut Vec<Id>, keep: bool, id: &Id) -> Result<(), NoMemory>
+    ensures { OnOk result (ids.new.items ≡ ids.old.items ++ (if keep then id.now ∷ [] else [])) }
 {
-    match sysmod {
-        Some(sysmod) => put_others(found, id, sysmod.sup.as_slice()),
-        None => Ok(()),
-    }
-}
-
-fn put_others(found: &mut BTreeSet<Id>, id: &Id, others: &[Id]) -> Result<(), NoMemory>
-    ensures { OnOk result (found.new.keys ≡ put_among found.old.keys (filter (is_other id.now) others.now)) }
-{
-    for other in others {
-        if *other != *id {
-            found.insert(*other)?;
-        }
+    if keep {
+        ids.push(*id)?;
     }
     Ok(())
+}
+
+// Whether no other one among some gives an id, by what is known.
+fn is_kept(known: &[Id], lists: &[Vec<Id>], other: &Vec<Id>, among: &[Id], id: &Id) -> bool
+    requires known { Ascend known.now }
+    requires among { Ascend among.now }
+    ensures { (f : List ℕ → List (List ℕ)) → lists_of lists.now ≡ map f known.now
+        → has known.now id.now ≡ true → result ≡ not (is_given_by (f id.now) among.now id.now) }
+{
+    !is_given_by(list_among(known, lists, other, id), among, id)
+}
+
+// Whether one of a list is another one among some.
+fn is_given_by(list: &[Id], among: &[Id], id: &Id) -> bool
+    requires { Ascend among.now }
+    ensures { result ≡ is_given_by list.now among.now id.now }
+{
+    for giver in list {
+        if is_other_among(among, giver, id) {
+            return true;
+        }
+    }
+    false
+}
+
+fn is_other_among(among: &[Id], giver: &Id, id: &Id) -> bool
+    requires { Ascend among.now }
+    ensures { result ≡ (not (same_id giver.now id.now) && has among.now giver.now) }
+{
+    *giver != *id && is_among(among, giver)
+}
+
+// What gives an id, by what is known, or what is handed for another.
+fn list_among<'a>(known: &[Id], lists: &'a [Vec<Id>], other: &'a Vec<Id>, id: &Id) -> &'a Vec<Id>
+    requires { Ascend known.now }
+    ensures { (f : List ℕ → List (List ℕ)) → lists_of lists.now ≡ map f known.now
+        → has known.now id.now ≡ true → result.now.items ≡ f id.now }
+{
+    match index_among(known, id) {
+        Some(at) => list_at(lists, other, at),
+        None => other,
+    }
+}
+
+fn list_at<'a>(lists: &'a [Vec<Id>], other: &'a Vec<Id>, at: usize) -> &'a Vec<Id>
+    ensures { (list : Vec Id) → slice_get lists.now at ≡ Some list → result.now ≡ list }
+{
+    match lists.get(at) {
+        Some(list) => list,
+        None => other,
+    }
+}
+
+// Some ids in order, each once.
+fn ordered(alloc: Global, ids: &[Id]) -> Result<Vec<Id>, NoMemory>
+    ensures ids { IfOk result (λ list. list.items ≡ in_order ids.now) }
+    ensures ascend { IfOk result (λ list. Ascend list.items) }
+{
+    let mut found = BTreeSet::new(alloc);
+    put_all(&mut found, ids)?;
+    listed(alloc, found)
 }
 
 // The ids of a set, in order.
@@ -168,35 +222,19 @@ pub(crate) fn listed(alloc: Global, ids: BTreeSet<Id>) -> Result<Vec<Id>, NoMemo
     ids.into_iter().collect(alloc)
 }
 
-// Those of some ids that don't stand among others.
-fn without(alloc: Global, ids: &[Id], others: &[Id]) -> Result<Vec<Id>, NoMemory>
-    requires { Ascend others.now }
-    ensures { IfOk result (λ kept. kept.items ≡ filter (λ id. not (has others.now id)) ids.now) }
-{
-    let mut kept = Vec::new(alloc);
-    for id in ids {
-        if !is_among(others, id) {
-            kept.push(*id)?;
-        }
-    }
-    Ok(kept)
-}
-
 /// Whether an id stands among others.
 pub(crate) fn is_among(ids: &[Id], id: &Id) -> bool
     requires { Ascend ids.now }
     ensures { result ≡ has ids.now id.now }
 {
-    supersede::index_among(ids, id).is_some()
+    index_among(ids, id).is_some()
 }
 
 // The greatest of some ids, in whatever order they stand.
 fn greatest(alloc: Global, ids: &[Id]) -> Result<Option<Id>, NoMemory>
     ensures { IfOk result (λ greatest. greatest ≡ greatest_of ids.now) }
 {
-    let mut found = BTreeSet::new(alloc);
-    put_all(&mut found, ids)?;
-    let all = listed(alloc, found)?;
+    let all = ordered(alloc, ids)?;
     Ok(last(&all))
 }
 

@@ -3,9 +3,8 @@
 //!
 //! - [`err_plan`], [`missing_plan`]: the plans for the two reports, as a [`ZonePlan`]
 //! - [`zone_plan`]: the plan for some holds, each with what resolves it: [`HoldResolvers`], [`Resolver`]
-//! - [`err_holds`], [`missing_holds`]: the holds of the rows of each report
 //! - [`Steps`]: what is to be installed, step by step
-//! - [`HoldOn`]: a hold by its SYSMOD and its reason; [`HeldHold`]: one of which each resolver is HELD, with what blocks it
+//! - [`HoldOn`]: a hold by its SYSMOD and its reason; [`ChosenResolver`]: a hold with the resolver that is chosen for it
 //!
 //! ```
 //! // what isn't named here is of catalogue, chains, mcs_reader, supersede and zone_lists
@@ -21,7 +20,6 @@
 //! ```
 #![tactic(auto)]
 
-mod blocked;
 mod choice;
 mod giving;
 mod graph;
@@ -30,14 +28,12 @@ mod marks;
 mod placing;
 mod plan;
 mod reading;
-mod report_holds;
 mod report_plans;
 mod steps;
 mod united;
 
-pub use blocked::HeldHold;
-pub use holds::{HoldOn, HoldResolvers, Resolver};
+pub use holds::ChosenResolver;
 pub use plan::{ZonePlan, zone_plan};
-pub use report_holds::{err_holds, missing_holds};
+pub use report_holds::{HoldOn, HoldResolvers, Resolver};
 pub use report_plans::{err_plan, missing_plan};
 pub use steps::Steps;

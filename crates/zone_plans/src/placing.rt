@@ -1,19 +1,26 @@
 //! What becomes of each hold.
-ghost use Rattle.std.specs.Prelude.{◌≡◌, ◌++◌, [], IfOk, OnOk, map};
+ghost use Rattle.std.specs.Prelude.{◌≡◌, ◌++◌, ◌∷◌, [], List, Contains, IfOk, OnOk, map};
 ghost use Rattle.std.specs.List.{cons_option};
+ghost use Rattle.zone_lists.specs.declared.zones.ZoneRow.{ZoneRow};
+ghost use Rattle.catalogue.specs.Content.{Content};
 ghost use Rattle.catalogue.specs.Ids.{Ascend, put_among};
 ghost use Rattle.catalogue.specs.View.{MayAsk, Tells};
 ghost use Rattle.catalogue.specs.declared.fault.SourceFault.TheVariants.{Device};
+ghost use Rattle.report_holds.specs.Holds.{AreTold, HoldLists};
+ghost use Rattle.zone_plans.specs.Graphs.{AreKnown, MayPlace};
 ghost use Rattle.zone_plans.specs.Plans as Plans;
 
 use crate::choice::{choice, listed};
-use crate::holds::{HoldOn, HoldResolvers};
+use crate::giving::givers_of_all;
+use crate::holds::ChosenResolver;
 use catalogue::{Published, SourceFault};
 use chains::Status;
 use faults::NoMemory;
 use mcs_reader::Id;
+use report_holds::{HoldOn, HoldResolvers, Resolver};
 use std::alloc::Global;
 use std::collections::BTreeSet;
+use supersede::Zone;
 
 /// What becomes of a hold.
 #[derive(Clone, Copy, Debug)]
@@ -21,7 +28,7 @@ pub(crate) enum Fate {
     /// This resolver is chosen.
     Resolved(Id),
     /// None is GOOD; this one is HELD.
-    Waiting(Id),
+    Held(Id),
     /// None is GOOD or HELD.
     Unresolved,
 }
@@ -33,41 +40,87 @@ pub(crate) struct Placed {
     pub(crate) fate: Fate,
 }
 
-/// What becomes of each hold, in their order.
+/// What becomes of each hold, in their order. What gives the resolvers is asked for once, of all holds.
 pub(crate) fn place_all<P: Published>(
     alloc: Global,
     source: &mut P,
+    zone: &Zone,
     holds: &[HoldResolvers],
 ) -> Result<Vec<Placed>, SourceFault>
     ensures asks { MayAsk P.content_view Device source.old source.new result }
     ensures placed { IfOk result (λ found. Tells P.content_view source.old source.new
-        (λ content. found.items ≡ map (Plans.placed content) holds.now)) }
+        (λ content. AreTold content zone.now holds.now
+        → found.items ≡ map (Plans.placed content) holds.now)) }
+{
+    let known = resolvers_named(alloc, holds)?;
+    let lists = givers_of_all(alloc, source, zone, &known)?;
+    Ok(placed_by(alloc, &known, &lists, holds)?)
+}
+
+// The SYSMODs that resolve some holds, ascending, each once.
+fn resolvers_named(alloc: Global, holds: &[HoldResolvers]) -> Result<Vec<Id>, NoMemory>
+    ensures ids { IfOk result (λ ids. ids.items ≡ Plans.resolvers_named holds.now) }
+    ensures ascend { IfOk result (λ ids. Ascend ids.items) }
+{
+    let mut ids = BTreeSet::new(alloc);
+    for hold in holds {
+        put_resolvers(&mut ids, hold.resolvers())?;
+    }
+    listed(alloc, ids)
+}
+
+fn put_resolvers(ids: &mut BTreeSet<Id>, resolvers: &[Resolver]) -> Result<(), NoMemory>
+    ensures { OnOk result
+        (ids.new.keys ≡ put_among ids.old.keys (map (λ resolver. resolver.id) resolvers.now)) }
+{
+    for resolver in resolvers {
+        ids.insert(resolver.id)?;
+    }
+    Ok(())
+}
+
+// What becomes of each hold, by what gives the resolvers.
+fn placed_by(
+    alloc: Global,
+    known: &[Id],
+    lists: &[Vec<Id>],
+    holds: &[HoldResolvers],
+) -> Result<Vec<Placed>, NoMemory>
+    requires { Ascend known.now }
+    ensures { IfOk result (λ found. (content : Content) (rows : List ZoneRow)
+        → AreKnown content rows known.now lists.now
+        → ((hold : HoldLists) → Contains holds.now hold → MayPlace content rows known.now hold)
+        → found.items ≡ map (Plans.placed content) holds.now) }
 {
     let mut found = Vec::with_capacity(alloc, holds.len())?;
     for hold in holds {
-        found.push(place(alloc, source, hold)?)?;
+        put_placed(alloc, known, lists, hold, &mut found)?;
     }
     Ok(found)
 }
 
-fn place<P: Published>(
+fn put_placed(
     alloc: Global,
-    source: &mut P,
+    known: &[Id],
+    lists: &[Vec<Id>],
     hold: &HoldResolvers,
-) -> Result<Placed, SourceFault>
-    ensures asks { MayAsk P.content_view Device source.old source.new result }
-    ensures placed { IfOk result (λ one. Tells P.content_view source.old source.new
-        (λ content. one ≡ Plans.placed content hold.now)) }
+    found: &mut Vec<Placed>,
+) -> Result<(), NoMemory>
+    requires { Ascend known.now }
+    ensures { OnOk result ((content : Content) (rows : List ZoneRow)
+        → AreKnown content rows known.now lists.now → MayPlace content rows known.now hold.now
+        → found.new.items ≡ found.old.items ++ Plans.placed content hold.now ∷ []) }
 {
-    let good = choice(alloc, source, Status::Good, hold)?;
-    let held = choice(alloc, source, Status::Held, hold)?;
-    Ok(Placed {
+    let good = choice(alloc, known, lists, Status::Good, hold)?;
+    let held = choice(alloc, known, lists, Status::Held, hold)?;
+    found.push(Placed {
         hold: HoldOn {
             sysmod: hold.sysmod(),
             reason: hold.reason(),
         },
         fate: fate_by(good, held),
-    })
+    })?;
+    Ok(())
 }
 
 fn fate_by(good: Option<Id>, held: Option<Id>) -> Fate
@@ -75,7 +128,7 @@ fn fate_by(good: Option<Id>, held: Option<Id>) -> Fate
 {
     match (good, held) {
         (Some(id), _) => Fate::Resolved(id),
-        (None, Some(id)) => Fate::Waiting(id),
+        (None, Some(id)) => Fate::Held(id),
         (None, None) => Fate::Unresolved,
     }
 }
@@ -101,8 +154,88 @@ fn put_chosen(ids: &mut BTreeSet<Id>, fate: Fate) -> Result<(), NoMemory>
     Ok(())
 }
 
-/// The holds that nothing resolves.
-pub(crate) fn unresolved_in(alloc: Global, holds: &[Placed]) -> Result<Vec<HoldOn>, NoMemory>
+/// The holds of a report by what becomes of them.
+#[derive(Debug, Drop)]
+pub(crate) struct PlacedHolds {
+    pub(crate) resolved: Vec<ChosenResolver>,
+    pub(crate) unresolved: Vec<HoldOn>,
+    pub(crate) held: Vec<ChosenResolver>,
+}
+
+/// The holds by what becomes of them, each list in their order.
+pub(crate) fn placed_holds(alloc: Global, holds: &[Placed]) -> Result<PlacedHolds, NoMemory>
+    ensures resolved { IfOk result (λ lists. lists.resolved.items ≡ Plans.resolved_in holds.now) }
+    ensures unresolved { IfOk result (λ lists. lists.unresolved.items ≡ Plans.unresolved_in holds.now) }
+    ensures held { IfOk result (λ lists. lists.held.items ≡ Plans.held_in holds.now) }
+{
+    Ok(PlacedHolds {
+        resolved: resolved_in(alloc, holds)?,
+        unresolved: unresolved_in(alloc, holds)?,
+        held: held_in(alloc, holds)?,
+    })
+}
+
+// The holds of which a resolver is GOOD, each with the one that is chosen.
+fn resolved_in(alloc: Global, holds: &[Placed]) -> Result<Vec<ChosenResolver>, NoMemory>
+    ensures { IfOk result (λ found. found.items ≡ Plans.resolved_in holds.now) }
+{
+    let mut found = Vec::new(alloc);
+    for one in holds {
+        put_resolved(&mut found, one)?;
+    }
+    Ok(found)
+}
+
+fn put_resolved(found: &mut Vec<ChosenResolver>, one: &Placed) -> Result<(), NoMemory>
+    ensures { OnOk result (found.new.items
+        ≡ found.old.items ++ cons_option (Plans.if_resolved one.now.hold one.now.fate) []) }
+{
+    if let Fate::Resolved(resolver) = one.fate {
+        found.push(ChosenResolver {
+            hold: one.hold,
+            resolver,
+        })?;
+    }
+    Ok(())
+}
+
+// The holds of which no resolver is GOOD and one is HELD, each with the one that is chosen.
+fn held_in(alloc: Global, holds: &[Placed]) -> Result<Vec<ChosenResolver>, NoMemory>
+    ensures { IfOk result (λ found. found.items ≡ Plans.held_in holds.now) }
+{
+    let mut found = Vec::new(alloc);
+    for one in holds {
+        put_held(&mut found, one)?;
+    }
+    Ok(found)
+}
+
+fn put_held(found: &mut Vec<ChosenResolver>, one: &Placed) -> Result<(), NoMemory>
+    ensures { OnOk result (found.new.items
+        ≡ found.old.items ++ cons_option (Plans.if_held one.now.hold one.now.fate) []) }
+{
+    if let Fate::Held(resolver) = one.fate {
+        found.push(ChosenResolver {
+            hold: one.hold,
+            resolver,
+        })?;
+    }
+    Ok(())
+}
+
+/// The resolvers of some holds, in their order.
+pub(crate) fn resolvers_of(alloc: Global, holds: &[ChosenResolver]) -> Result<Vec<Id>, NoMemory>
+    ensures { IfOk result (λ ids. ids.items ≡ map (λ one. one.resolver) holds.now) }
+{
+    let mut ids = Vec::with_capacity(alloc, holds.len())?;
+    for one in holds {
+        ids.push(one.resolver)?;
+    }
+    Ok(ids)
+}
+
+// The holds of which no resolver is GOOD or HELD.
+fn unresolved_in(alloc: Global, holds: &[Placed]) -> Result<Vec<HoldOn>, NoMemory>
     ensures { IfOk result (λ found. found.items ≡ Plans.unresolved_in holds.now) }
 {
     let mut found = Vec::new(alloc);
@@ -114,7 +247,7 @@ pub(crate) fn unresolved_in(alloc: Global, holds: &[Placed]) -> Result<Vec<HoldO
 
 fn put_unresolved(found: &mut Vec<HoldOn>, one: &Placed) -> Result<(), NoMemory>
     ensures { OnOk result (found.new.items
-        ≡ found.old.items ++ cons_option (Plans.unless_resolved one.now.hold one.now.fate) []) }
+        ≡ found.old.items ++ cons_option (Plans.if_unresolved one.now.hold one.now.fate) []) }
 {
     if let Fate::Unresolved = one.fate {
         found.push(one.hold)?;

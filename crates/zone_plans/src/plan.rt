@@ -7,18 +7,20 @@ ghost use Rattle.chains.specs.Judge.{status_of};
 ghost use Rattle.chains.specs.Verdicts.{verdict_of};
 ghost use Rattle.chains.specs.declared.verdict.Status.TheVariants as status;
 ghost use Rattle.zone_plans.specs.Members.{AreZoneSteps};
-ghost use Rattle.zone_plans.specs.Plans.{AreTold, IsZonePlan};
+ghost use Rattle.report_holds.specs.Holds.{AreTold};
+ghost use Rattle.zone_plans.specs.Plans.{AreGood, IsPlanFor, IsZonePlan};
 
-use crate::blocked::{HeldHold, held_in};
 use crate::giving::givers_of_all;
-use crate::holds::{HoldOn, HoldResolvers};
-use crate::placing::{chosen_in, place_all, unresolved_in};
+use crate::holds::ChosenResolver;
+use crate::placing::{Placed, PlacedHolds, chosen_in, place_all, placed_holds, resolvers_of};
 use crate::reading::{needs_of_all, readings};
 use crate::steps::{Steps, zone_steps};
 use crate::united::united;
+use blocked_needs::{BlockedNeed, blocked_needs};
 use catalogue::{Published, SourceFault};
 use chains::{Judge, candidates_for};
 use mcs_reader::Id;
+use report_holds::{HoldOn, HoldResolvers};
 use std::alloc::Global;
 use std::marker::Model;
 use supersede::Zone;
@@ -27,8 +29,8 @@ use supersede::Zone;
 #[derive(Debug, Drop)]
 pub struct ZonePlan {
     steps: Steps,
-    unresolved: Vec<HoldOn>,
-    held: Vec<HeldHold>,
+    holds: PlacedHolds,
+    blocked: Vec<BlockedNeed>,
 }
 
 impl Model for ZonePlan {
@@ -36,7 +38,13 @@ impl Model for ZonePlan {
 
     ghost Value = { PlanLists };
 
-    ghost view = { λ plan. record { steps = plan.steps; unresolved = plan.unresolved.items; held = plan.held.items } };
+    ghost view = { λ plan. record {
+      steps = plan.steps;
+      resolved = plan.holds.resolved.items;
+      unresolved = plan.holds.unresolved.items;
+      held = plan.holds.held.items;
+      blocked = plan.blocked.items;
+    } };
 }
 
 impl ZonePlan {
@@ -47,18 +55,32 @@ impl ZonePlan {
         &self.steps
     }
 
-    /// The holds without a resolver that is GOOD or HELD, in the order of the report.
+    /// The holds of which a resolver is GOOD, each with the one that is chosen.
+    pub fn resolved(&self) -> &[ChosenResolver]
+        ensures { result.now ≡ self.now.resolved }
+    {
+        self.holds.resolved.as_slice()
+    }
+
+    /// The holds without a resolver that is GOOD or HELD.
     pub fn unresolved(&self) -> &[HoldOn]
         ensures { result.now ≡ self.now.unresolved }
     {
-        self.unresolved.as_slice()
+        self.holds.unresolved.as_slice()
     }
 
-    /// The holds of which no resolver is GOOD and one is HELD, in the order of the report.
-    pub fn held(&self) -> &[HeldHold]
+    /// The holds of which no resolver is GOOD and one is HELD, each with the one that is chosen.
+    pub fn held(&self) -> &[ChosenResolver]
         ensures { result.now ≡ self.now.held }
     {
-        self.held.as_slice()
+        self.holds.held.as_slice()
+    }
+
+    /// What blocks the resolvers that are HELD, and those that would give that, ascending by SYSMOD, each once.
+    pub fn blocked(&self) -> &[BlockedNeed]
+        ensures { result.now ≡ self.now.blocked }
+    {
+        self.blocked.as_slice()
     }
 }
 
@@ -66,7 +88,7 @@ impl ZonePlan {
 /// MISSINGFIX).
 ///
 /// For each hold one resolver is chosen: of those that are GOOD the received before the others, then one that no
-/// other of them supersedes, then the greatest id. What their chosen plans have is to be installed, but for what
+/// other of them gives, then the greatest id. What their chosen plans have is to be installed, but for what
 /// another member gives and for what nothing needs then. Holds without such a resolver are named, with what
 /// blocks them.
 ///
@@ -87,15 +109,34 @@ pub fn zone_plan<P: Published, J: Judge<P>>(
     ensures right { Tells P.content_view source.old source.new
         (λ content. J.is_right judge.old content → J.is_right judge.new content) }
 {
-    let placed = place_all(alloc, source, holds)?;
-    let chosen = chosen_in(alloc, &placed)?;
+    let placed = place_all(alloc, source, zone, holds)?;
+    plan_for(alloc, source, judge, zone, &placed)
+}
+
+// The plan, by what becomes of each hold.
+fn plan_for<P: Published, J: Judge<P>>(
+    alloc: Global,
+    source: &mut P,
+    judge: &mut J,
+    zone: &Zone,
+    placed: &[Placed],
+) -> Result<ZonePlan, SourceFault>
+    ensures asks { MayAsk P.content_view Device source.old source.new result }
+    ensures plan { IfOk result (λ plan. Tells P.content_view source.old source.new
+        (λ content. J.is_right judge.old content → AreGood content zone.now placed.now
+        → IsPlanFor content zone.now placed.now plan)) }
+    ensures right { Tells P.content_view source.old source.new
+        (λ content. J.is_right judge.old content → J.is_right judge.new content) }
+{
+    let holds = placed_holds(alloc, placed)?;
+    let chosen = chosen_in(alloc, placed)?;
+    let waiting = resolvers_of(alloc, &holds.held)?;
     let steps = steps_for(alloc, source, judge, zone, &chosen)?;
-    let held = held_in(alloc, source, judge, zone, &placed)?;
-    let unresolved = unresolved_in(alloc, &placed)?;
+    let blocked = blocked_needs(alloc, source, judge, zone, &waiting)?;
     Ok(ZonePlan {
         steps,
-        unresolved,
-        held,
+        holds,
+        blocked,
     })
 }
 

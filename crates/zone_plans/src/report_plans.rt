@@ -6,14 +6,14 @@ ghost use Rattle.catalogue.specs.declared.fault.SourceFault.TheVariants.{Device}
 ghost use Rattle.reports.specs.ErrRows.{err_rows_of};
 ghost use Rattle.reports.specs.MissingRows.{missing_rows_of};
 ghost use Rattle.zone_plans.specs.Plans.{IsZonePlan};
-ghost use Rattle.zone_plans.specs.ReportHolds.{err_holds_of, missing_holds_of};
+ghost use Rattle.report_holds.specs.Rows.{err_holds_of, missing_holds_of};
 
 use crate::plan::{ZonePlan, zone_plan};
-use crate::report_holds::{err_holds, missing_holds};
 use catalogue::{Published, SourceFault};
 use chains::Judge;
 use holddata::Hold;
 use mcs_reader::Id;
+use report_holds::{err_holds, missing_holds};
 use reports::{err_rows, missing_rows};
 use std::alloc::Global;
 use supersede::Zone;

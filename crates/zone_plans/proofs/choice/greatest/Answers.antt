@@ -1,9 +1,6 @@
 use Rattle.std.proofs.Common.{◌∙◌, ap}
-use Rattle.catalogue.specs.Ids.{put_among}
 use Rattle.zone_plans.specs.Choices.{last_of}
 use Rattle.zone_plans.proofs.choice.greatest.Goals as goal
 
 pub returns : goal.returns
-returns c =
-    c.last.ensures
-    ∙ ap last_of (c.deref.ensures.value ∙ c.in_ok-all.ensures.ids ∙ c.in_ok-put_all.ensures ∙ ap (λ keys. put_among keys c.args.ids.now) c.new-found.ensures.empty)
+returns c = c.last.ensures ∙ ap last_of (c.deref.ensures.value ∙ c.in_ok-all.ensures.ids)

@@ -1,11 +1,29 @@
-use Rattle.catalogue.proofs.SourceFacts.{no_fault}
-use Rattle.supersede.proofs.TellingFacts.{tells_on}
-use Rattle.zone_plans.specs.Plans.{placed}
-use Rattle.zone_plans.proofs.ChoiceFacts.{map_more}
+use Rattle.std.proofs.Common.{◌≡◌, ◌∙◌, ℕ, List, true, map, sym, ap, subst}
+use Rattle.std.specs.List.{flat_map}
+use Rattle.catalogue.proofs.IdFacts.{in_order_has}
+use Rattle.catalogue.proofs.SourceFacts.{told_so}
+use Rattle.supersede.specs.Reach.{has}
+use Rattle.chains.proofs.SearchFacts.{map_inside}
+use Rattle.report_holds.specs.Holds.{HoldLists}
+use Rattle.report_holds.specs.declared.holds.Resolver.{Resolver}
+use Rattle.blocked_needs.proofs.ListFacts.{flat_inside}
+use Rattle.zone_plans.specs.Graphs.{known_givers, lists_of}
+use Rattle.zone_plans.specs.Plans.{resolvers_named}
+use Rattle.zone_plans.proofs.GraphFacts.{has_from}
 use Rattle.zone_plans.proofs.placing.place_all.Goals as goal
 
-pub loop-hold-preserved : goal.loop-hold-preserved
-loop-hold-preserved g c =
-    tells_on g.met.P.Published.lawful c.loop-hold.invariant c.in_ok-place.ensures.asks.keeps (λ standing. c.in_ok-place.ensures.asks.stays_open (no_fault _) standing) c.in_ok-place.ensures.placed (λ content so_far is.
-    map_more (placed content) c.args.holds.now c.loop-hold.hold-index c.hold-item.result c.in_ok-place.field-0 c.loop-hold.found.items c.push.new.self.items
-    c.loop-hold-test.true c.hold-item.is so_far is c.in_ok-push.ensures.items)
+pub returns-clause-placed : goal.returns-clause-placed
+returns-clause-placed g c =
+    told_so c.in_ok-lists.ensures.givers (λ content givers told.
+    let rows = c.args.zone.now in
+    let holds = c.args.holds.now in
+    let ids_of : HoldLists → List (List ℕ) = λ (hold : HoldLists). map (λ (r : Resolver). r.id) hold.resolvers in
+    let known : c.deref-2.result.now ≡ resolvers_named holds = c.deref-2.ensures.value ∙ c.in_ok-known.ensures.ids in
+    c.in_ok-placed_by.ensures content rows
+    (ap lists_of c.deref-3.ensures.value ∙ givers ∙ ap (map (known_givers content rows)) (c.deref.ensures.value ∙ sym c.deref-2.ensures.value))
+    (λ hold inside resolver listed. (
+      (let K : List (List ℕ) → Type 0 = λ l. has l resolver.id ≡ true in
+          subst K (sym known) (has_from (resolvers_named holds) resolver.id ((in_order_has (flat_map ids_of holds) resolver.id).1
+          (flat_inside ids_of holds hold resolver.id inside (map_inside (λ (r : Resolver). r.id) hold.resolvers resolver listed))))),
+      told hold resolver inside listed,
+    )))

@@ -3,11 +3,11 @@ use Rattle.catalogue.proofs.SourceFacts.{told_both}
 use Rattle.supersede.proofs.TellingFacts.{told_by_two}
 use Rattle.chains.proofs.IndexFacts.{ok_so}
 use Rattle.reports.specs.ErrRows.{err_rows_of}
-use Rattle.zone_plans.proofs.ReportFacts.{err_told}
+use Rattle.report_holds.proofs.ToldFacts.{err_told}
 use Rattle.zone_plans.proofs.report_plans.err_plan.Goals as goal
-use Rattle.zone_plans.specs.Choices.{HoldLists}
-use Rattle.zone_plans.specs.Plans.{AreTold, IsZonePlan}
-use Rattle.zone_plans.specs.ReportHolds.{err_holds_of}
+use Rattle.report_holds.specs.Holds.{AreTold, HoldLists}
+use Rattle.zone_plans.specs.Plans.{IsZonePlan}
+use Rattle.report_holds.specs.Rows.{err_holds_of}
 
 pub returns-clause-plan : goal.returns-clause-plan
 returns-clause-plan g c =

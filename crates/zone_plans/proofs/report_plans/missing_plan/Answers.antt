@@ -3,11 +3,11 @@ use Rattle.catalogue.proofs.SourceFacts.{told_both}
 use Rattle.supersede.proofs.TellingFacts.{told_by_two}
 use Rattle.chains.proofs.IndexFacts.{ok_so}
 use Rattle.reports.specs.MissingRows.{missing_rows_of}
-use Rattle.zone_plans.proofs.ReportFacts.{missing_told}
+use Rattle.report_holds.proofs.ToldFacts.{missing_told}
 use Rattle.zone_plans.proofs.report_plans.missing_plan.Goals as goal
-use Rattle.zone_plans.specs.Choices.{HoldLists}
-use Rattle.zone_plans.specs.Plans.{AreTold, IsZonePlan}
-use Rattle.zone_plans.specs.ReportHolds.{missing_holds_of}
+use Rattle.report_holds.specs.Holds.{AreTold, HoldLists}
+use Rattle.zone_plans.specs.Plans.{IsZonePlan}
+use Rattle.report_holds.specs.Rows.{missing_holds_of}
 
 pub returns-clause-plan : goal.returns-clause-plan
 returns-clause-plan g c =

@@ -1,0 +1,2 @@
+pub mod BlockedFacts
+pub mod ListFacts

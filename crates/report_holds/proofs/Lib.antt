@@ -1,0 +1,2 @@
+pub mod HoldFacts
+pub mod ToldFacts
