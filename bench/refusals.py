@@ -10,6 +10,7 @@
     open       `serve` is refused before it listens
     init       `init` is refused
     migrate    `migrate` is refused
+    check      `check` is refused
     holds      `holds` is refused
     reports    `errsysmods`, `missingfix` and `chain` are refused, over files with the same lists and publications
 
@@ -277,6 +278,23 @@ def migrating(refusing, place):
     return "refused" if ended else "migrated", met
 
 
+def checking(refusing, place):
+    """A refused `check` prints nothing, and the store is as it was."""
+    store = os.path.join(refusing.room, "looked")
+    shutil.copy(refusing.made, store)
+    ended, output = refusing.refused_run(place, "check", store)
+    met = refusing.met()
+    refusing.refuse(0)
+    told = refusing.run("check", store)
+    see(told[0] == 0 and told[1].startswith(b"STORE VERSION 2 CALLERS 3 ") and not told[2], "without a refusal", told)
+    see(ended or output == told[1], "got", output, "wanted", told[1])
+    desk = Desk(refusing, store)
+    see(desk.exchange(SCRIPT + QUESTIONS) == second(SCRIPT + QUESTIONS)[0], "the store that was looked through")
+    desk.end()
+    remove(store)
+    return "refused" if ended else "looked", met
+
+
 class Desk:
     """A desk over a store."""
 
@@ -377,6 +395,7 @@ WAYS = {
     "reports": [report(path) for path in REPORTS],
     "init": [init],
     "migrate": [migrating],
+    "check": [checking],
     "open": [opening],
     "replay": [replay(("replay", "--cache", capacity), is_cut) for capacity in ("1", "16") for is_cut in (False, True)],
     "large": [replay(("replay", "--cache", "1"), False, least=1 << 14)],

@@ -172,6 +172,33 @@ for table in tables:
 for table, column in columns:
     less = altered("less %s %s" % (table, column), "ALTER TABLE %s RENAME COLUMN %s TO other" % (table, column))
     same("a store without %s of %s" % (column, table), run("serve", less), refused(44, 1))
+
+# `check`: what else wrote into a store is told with the table that it is in, and a store that is whole stays as it was.
+whole = made("looked")
+written = read(whole)
+LOOKED = """STORE VERSION 2 CALLERS 3 SYSMODS 0 HOLDS 0
+CALLER   ZONES  ROWS        LAST
+ALPHA    0      0           0
+BETA     0      0           0
+PUBLISH  0      0           0
+ROWS 3
+"""
+same("a new store is whole", run("check", whole), (0, LOOKED, ""))
+same("and has the same bytes", read(whole), written)
+same("a store of another version, looked through", run("check", altered("later", "UPDATE bureau_version SET version = 3")), refused(45, 1))
+for table in tables:
+    less = altered("looked less " + table, "DROP TABLE " + table)
+    same("a store without %s, looked through" % table, run("check", less), refused(44, 1))
+for table, row in (
+    ("caller", "('no id', 'some-token')"), ("last_change", "('no id', 1, x'00')"), ("sysmod", "('UA10001', 1, 'B,A', '', '')"),
+    ("sysmod_sup", "('UA10001', 'no id')"), ("sysmod_cond", "('UA10001', 'HXX0001', '')"),
+    ("hold_row", "('UA10001', 0, 'AA20001', '', '', 12367, '', '')"), ("zone_head", "('ALPHA', 'TGT1', '*,*')"),
+    ("zone_row", "('ALPHA', 'TGT1', 'no id', 0)"), ("received_list", "('ALPHA', 'B,A')"),
+):
+    wrong = altered("wrong " + table, "INSERT INTO %s VALUES %s" % (table, row))
+    same("a wrong row in %s" % table, run("check", wrong), (1, "", "FAULT 44 %s\n" % table))
+for text in ("DROP INDEX by_member", "CREATE TABLE more (id TEXT)"):
+    same("after " + text, run("check", altered("other tables", text)), refused(44, 1))
 before = there()
 for name in (":memory:", "file:odd", "file:odd?mode=memory", ""):
     for words in (("init", name, callers), ("serve", name)):

@@ -16,6 +16,7 @@ use Rattle.report_runs.specs.declared.reporting.Report.TheVariants.{ErrSysmods, 
 use Rattle.run_parts.specs.Files.{KnownFile, AreContents, IsContent}
 pub use Rattle.run_parts.specs.Outputs.{Outputs, IsEndedBy, IsExplained, outputs_of}
 use Rattle.run_parts.specs.declared.fault.ProgramFault.TheVariants.{NotRead, Memory}
+use Rattle.store_runs.specs.Checking.{IsCheck}
 use Rattle.store_runs.specs.Ended.{IsNothing}
 use Rattle.store_runs.specs.NamedStore.{IsInit, IsMigrate}
 use Rattle.store_runs.specs.declared.ended.Ended.{Ended}
@@ -83,6 +84,8 @@ module _ (found : Found) (from : Image) {D : Type 0} {g : disk.Ghosts D} where
       IsReport found.files MissingFix files input rest outputs status × NobodyCame found × IsNothing ended
   IsAnswered (Ok (line.Chain sysmod files)) input rest outputs status ended =
       IsChain found.files (string_bytes sysmod) files input rest outputs status × NobodyCame found × IsNothing ended
+  IsAnswered (Ok (line.Check store)) input rest outputs status ended =
+      Keeps input rest × NobodyCame found × IsCheck found.stores from (string_bytes store) outputs status ended
   IsAnswered (Err (line_fault.Words text)) input rest outputs status ended =
       Keeps input rest × IsExplained (string_bytes text) outputs status × NobodyCame found × IsNothing ended
   IsAnswered (Err line_fault.Memory) input rest outputs status ended = Keeps input rest × IsEndedBy Memory outputs status × NobodyCame found × IsNothing ended

@@ -15,7 +15,7 @@ use run_parts::{ProgramFault, explain, read_file, refuse};
 use sqlite::{FileFrom, Start};
 use std::alloc::Global;
 use std::io::{Read, Write};
-use store_runs::{Ended, do_init, migrate_file};
+use store_runs::{Ended, check_file, do_init, migrate_file};
 use transfer::RETRIES;
 
 /// Does what the words of the command line ask for, and returns the exit status, and what is left of a store's files.
@@ -118,6 +118,9 @@ fn answer<S: Surroundings, D: Start, I: Read, O: Write, E: Write>(
             let sysmod = sysmod.as_str();
             let status = do_chain(surroundings, alloc, sysmod, &files, input, output, errors);
             (status, Ended::Nothing)
+        }
+        Ok(Line::Check { store }) => {
+            check_file(surroundings, alloc, store.as_str(), start, output, errors)
         }
         Err(LineFault::Words(text)) => (explain(errors, text.as_str()), Ended::Nothing),
         Err(LineFault::Memory) => (refuse(errors, ProgramFault::Memory), Ended::Nothing),

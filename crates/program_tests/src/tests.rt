@@ -1,4 +1,5 @@
 //! The parts of the tests.
+mod check_tests;
 mod desk_tests;
 mod holds_tests;
 mod line_tests;

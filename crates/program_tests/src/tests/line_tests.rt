@@ -21,10 +21,11 @@ fn text_in(line: Result<Line, LineFault>) -> Option<String> {
 }
 
 // Words, and what they ask for.
-static TAKEN: [(&[&str], &str); 12] = [
+static TAKEN: [(&[&str], &str); 13] = [
     (&["holds", "-"], "Holds { file: \"-\" }"),
     (&["init", "s", "c"], "Init { store: \"s\", callers: \"c\" }"),
     (&["migrate", "s"], "Migrate { store: \"s\" }"),
+    (&["check", "s"], "Check { store: \"s\" }"),
     (
         &["errsysmods", "--zone", "z", "f", "-"],
         "ErrSysmods { files: ReportFiles { zone: \"z\", categories: None, received: None, name: None, publications: [\"f\", \"-\"] } }",
@@ -81,10 +82,11 @@ static TAKEN: [(&[&str], &str); 12] = [
 ];
 
 // Words, and what is told of them.
-static REFUSED: [(&[&str], &str); 25] = [
+static REFUSED: [(&[&str], &str); 26] = [
     (&["init", "s"], "Usage: bureau init <STORE> <CALLERS>"),
     (&["serve"], "Usage: bureau serve <STORE>"),
     (&["migrate"], "Usage: bureau migrate <STORE>"),
+    (&["check"], "Usage: bureau check <STORE>"),
     (&["migrate", "s", "t"], "unexpected argument 't'"),
     (
         &["errsysmods", "f"],

@@ -12,7 +12,7 @@ use testing::assert_equal_at;
 type Row = (&'static [&'static str], u32, u8, &'static str);
 
 // 64 retries serve all files of a run.
-static ROWS: [Row; 11] = [
+static ROWS: [Row; 12] = [
     (&["replay", "callers", "empty", "empty"], 21, 0, ""),
     (
         &["replay", "callers", "empty", "empty"],
@@ -44,6 +44,7 @@ static ROWS: [Row; 11] = [
     (&["init", "another store", "callers"], 0, 3, "FAULT 42\n"),
     (&["serve", STORE], 0, 1, "FAULT 44\n"),
     (&["migrate", "another store"], 0, 3, "FAULT 42\n"),
+    (&["check", "another store"], 0, 3, "FAULT 42\n"),
 ];
 
 #[test]

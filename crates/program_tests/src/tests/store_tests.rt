@@ -29,24 +29,29 @@ fn connected(alloc: Global, db: Memory) -> Result<Connection<FileStore<Memory>>,
 }
 
 // A connection to a new file.
-fn fresh(alloc: Global) -> Result<Connection<FileStore<Memory>>, Fail>
+pub(super) fn fresh(alloc: Global) -> Result<Connection<FileStore<Memory>>, Fail>
     ensures { IfOk result (λ conn. conn.in_transaction ≡ false) }
 {
     connected(alloc, Memory::new(alloc))
 }
 
 // What a run tells, and the connection that it gives back.
-type Ran<S> = Result<(String, Connection<S>), Fail>;
+pub(super) type Ran<S> = Result<(String, Connection<S>), Fail>;
 
 // A status, and what was written to standard output and standard error.
-fn told(alloc: Global, status: u8, output: &[u8], errors: &[u8]) -> Result<String, Fail> {
+pub(super) fn told(
+    alloc: Global,
+    status: u8,
+    output: &[u8],
+    errors: &[u8],
+) -> Result<String, Fail> {
     let output = str::from_utf8(output).ok().ok_or("a text")?;
     let errors = str::from_utf8(errors).ok().ok_or("a text")?;
     Ok(format!(in alloc; "{status} {output}{errors}")?)
 }
 
 // What `init` tells, and the connection.
-fn init<S: Alter + Drop>(alloc: Global, conn: Connection<S>, callers: &[u8]) -> Ran<S>
+pub(super) fn init<S: Alter + Drop>(alloc: Global, conn: Connection<S>, callers: &[u8]) -> Ran<S>
     requires { conn.in_transaction ≡ false }
     ensures { IfOk result (λ both. both.1.in_transaction ≡ false) }
 {
@@ -113,7 +118,10 @@ fn migrate<S: Alter + Drop>(alloc: Global, conn: Connection<S>) -> Ran<S>
 }
 
 // A store in a new file that has what version 1 had.
-fn earlier<S: Alter + Drop>(alloc: Global, conn: Connection<S>) -> Result<Connection<S>, Fail>
+pub(super) fn earlier<S: Alter + Drop>(
+    alloc: Global,
+    conn: Connection<S>,
+) -> Result<Connection<S>, Fail>
     requires { conn.in_transaction ≡ false }
     ensures { IfOk result (λ conn. conn.in_transaction ≡ false) }
 {

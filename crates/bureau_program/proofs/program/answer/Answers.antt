@@ -4,6 +4,7 @@ use Rattle.sqlite_wal.specs.Files.{image_at}
 use Rattle.bureau_program.specs.Program.{Found, IsAnswered, IsServe, found_in}
 use Rattle.run_parts.specs.Outputs.{Outputs}
 use Rattle.bureau_program.specs.declared.serving.Service.{Service}
+use Rattle.store_runs.specs.Checking.{IsCheck}
 use Rattle.store_runs.proofs.DeskFacts.{same_init}
 use Rattle.store_runs.proofs.KeptFacts.{kept_migrated}
 use Rattle.bureau_program.proofs.program.answer.Goals as goal
@@ -62,4 +63,21 @@ returns-in-Ok-Migrate g c =
         migrated = c.migrate_file.ensures.run;
         kept = kept_migrated (image_at g.D.Start) c.migrate_file.ensures.run.outcome c.migrate_file.result.1 c.migrate_file.ensures.run.left;
       },
+    )
+
+pub returns-in-Ok-Check : goal.returns-in-Ok-Check
+returns-in-Ok-Check g c =
+    let at = c.args.surroundings.now in
+    let of : Found = found_in (g.S.Files.known_file at) (g.S.Stores.known_store at) (g.S.Surroundings.known_port at) (g.S.Listening.log at) (g.S.Listening.log at) in
+    let input = g.I.Read.remaining c.args.input.now in
+    let outputs : Outputs = record {
+      output = g.O.Write.contents c.args.output.now;
+      written = g.O.Write.contents c.check_file.new.writer;
+      errors = g.E.Write.contents c.args.errors.now;
+      told = g.E.Write.contents c.check_file.new.errors;
+    } in
+    subst (λ line. IsAnswered of (image_at g.D.Start) line input input outputs c.check_file.result.0 c.check_file.result.1) (sym (c.in-Ok-Check.is ∙ ap Ok c.in-Ok-Check.field-0-is)) (
+      Keeps-refl input,
+      refl,
+      subst (λ (name : List ℕ). IsCheck of.stores (image_at g.D.Start) name outputs c.check_file.result.0 c.check_file.result.1) c.as_str-in-Ok-Check.ensures.value c.check_file.ensures,
     )
