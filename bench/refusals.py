@@ -11,6 +11,7 @@
     init       `init` is refused
     migrate    `migrate` is refused
     check      `check` is refused
+    callers    `callers` is refused
     holds      `holds` is refused
     reports    `errsysmods`, `missingfix` and `chain` are refused, over files with the same lists and publications
 
@@ -293,6 +294,26 @@ def checking(refusing, place):
     desk.end()
     remove(store)
     return "refused" if ended else "looked", met
+def setting(refusing, place):
+    """A refused `callers` leaves the callers before, or those of its file, and can be run again. Who stays sees the same."""
+    store = os.path.join(refusing.room, "set")
+    shutil.copy(refusing.made, store)
+    names = [name for name in TOKENS if TOKENS[name] not in (PUBLISHER, ALPHA)]
+    others = {name: token for name, token in TOKENS.items() if name not in names}
+    callers = refusing.write("others", list_of_callers({**others, "NEW": "newcomer-token"}))
+    done, again = (b"CALLERS %d ADDED %d REMOVED %d TOKENS 0\n" % (len(others) + 1, *counts) for counts in ((1, len(names)), (0, 0)))
+    ended, output = refusing.refused_run(place, "callers", store, callers)
+    see(ended or output == done, output)
+    met = refusing.met()
+    refusing.refuse(0)
+    told = refusing.run("callers", store, callers)
+    see(told == (0, again, b"") or ended and told == (0, done, b""), "again", told)
+    desk = Desk(refusing, store)
+    asked = [sent for sent in SCRIPT + QUESTIONS if BETA.encode() not in sent]
+    see(desk.exchange(asked) == second(asked)[0], "the store that got other callers")
+    desk.end()
+    remove(store)
+    return "refused" if ended else "set", met
 
 
 class Desk:
@@ -396,6 +417,7 @@ WAYS = {
     "init": [init],
     "migrate": [migrating],
     "check": [checking],
+    "callers": [setting],
     "open": [opening],
     "replay": [replay(("replay", "--cache", capacity), is_cut) for capacity in ("1", "16") for is_cut in (False, True)],
     "large": [replay(("replay", "--cache", "1"), False, least=1 << 14)],

@@ -8,9 +8,10 @@ use command_line::LineFault;
 use run_parts::Files;
 use sqlite::{Connection, Error, ErrorCode, FileFrom, FileStore, Start};
 use std::alloc::Global;
-use std::fs::File;
+use std::fs::{File, OpenOptions, Permissions};
 use std::hash::RandomState;
 use std::net::{Ipv4Addr, TcpListener};
+use std::os::unix::fs::{OpenOptionsExt, PermissionsExt};
 use std::path::Path;
 use std::{env, io};
 use store_runs::{Ended, Stores};
@@ -78,8 +79,14 @@ impl Stores for System<'_> {
         makes: bool,
         start: D,
     ) -> Result<Connection<FileStore<FileFrom<D>>>, (StoreFault, Ended<FileFrom<D>>)> {
-        if !makes && is_missing(self.rt, name) {
-            return Err((StoreFault::Shape, Ended::Nothing));
+        if is_missing(self.rt, name) {
+            if !makes {
+                return Err((StoreFault::Shape, Ended::Nothing));
+            }
+            if names_a_file(name) {
+                // Where it can't be made, the connection can't be made either, and tells why.
+                let _made = make_private(self.rt, name);
+            }
         }
         match Connection::open_from(self.rt, name, false, start) {
             Ok(conn) => Ok(conn),
@@ -128,6 +135,21 @@ fn is_missing(rt: &HostRuntime, name: &str) -> bool {
         }
         _ => false,
     }
+}
+
+// Whether SQLite takes a name as that of a file, and not as a database in memory or an address.
+fn names_a_file(name: &str) -> bool {
+    name != ":memory:" && !name.starts_with("file:")
+}
+
+// Makes an empty file that its owner alone may read and write, whatever the umask is. The log of a store is made as its file is.
+fn make_private(rt: &HostRuntime, name: &str) -> io::Result<()> {
+    let file = OpenOptions::new()
+        .write(true)
+        .create_new(true)
+        .mode(0o600)
+        .open(rt, name)?;
+    file.set_permissions(Permissions::from_mode(0o600))
 }
 
 // Why the files of a store can't be opened.

@@ -1,12 +1,13 @@
--- The calls of any number of runs are those of one.
-use Rattle.std.proofs.Common.{◌≡◌, ◌∙◌, ℕ, arith, false, List, None, Option, [], ◌∷◌, ◌++◌, ap, append-nil, inl, inr, refl, subst, sym}
+-- The calls of any number of runs, and the callers that were set between them, are one course.
+use Rattle.std.proofs.Common.{◌≡◌, ◌∙◌, ℕ, arith, false, List, None, Option, Some, [], ◌∷◌, ◌++◌, ap, append-nil, inl, inr, refl, subst, sym}
 use Rattle.std.proofs.Math.Logic.{∥∥₁_elim, ∥∥₁_map}
 use Rattle.std.specs.Prelude.{if◌then◌else◌}
 use Rattle.faults.specs.declared.any.AnyFault.{AnyFault}
 use Rattle.bureau_store.specs.Tables.{AreInOrder, Tables, opened}
 use Rattle.bureau_store.specs.declared.caller.Caller.{Caller}
 use Rattle.bureau_store.specs.declared.caller.Caller.TheVariants.{Publisher, Client}
-use Rattle.bureau.specs.Alone.{IsAlone, opening_of}
+use Rattle.bureau_store.specs.declared.caller.CallerRow.{CallerRow}
+use Rattle.bureau.specs.Course.{Callers, IsAloneWhereItStays, IsCourse, Stage}
 use Rattle.bureau.specs.Call.{Call}
 use Rattle.bureau.specs.Joint.{CallBy, IsRun, IsStep, tables_left}
 use Rattle.bureau.specs.Kept.{IsToldOfNoTables, IsWithOneRefused, TellNothing}
@@ -17,13 +18,23 @@ use Rattle.bureau_sql.specs.Files.{HoldTables, HoldsStore}
 use Rattle.sqlite_disk.specs.declared.Disk as disk
 use Rattle.sqlite_wal.specs.Recovery.{Image}
 use Rattle.store_runs.specs.Keeping.{HoldCallers, Leaves}
-use Rattle.bureau_program.specs.Served.{KeepsServed, MayFollow}
-use Rattle.bureau_program.specs.Runs.{AreFoundAs, AreJoined, AreOneRun, AreRuns, AreRunsIn, AreRunsOver, FileRun, GoesOn, HasMade, HoldAfter, HoldSinceInit, IsRunOver, Other, Run, Serves, as_made, left_by}
+use Rattle.bureau_program.specs.Served.{KeepsServed}
+use Rattle.bureau_program.specs.Runs.{AreFoundAs, AreJoined, AreOneCourse, AreRuns, AreRunsIn, AreRunsOver, FileRun, GoesOn, HasMade, HasSet, HoldAfter, HoldSinceInit, IsRunOver, MayStand, Other, Run, Serves, Sets, as_made, left_by, stages_of}
 use Rattle.store_runs.specs.declared.ended.Ended.{Ended}
 use Rattle.bureau_program.proofs.KeepingFacts.{in_order}
 
 abbrev pub Isolation : Type 0
-Isolation = (opening closing : Tables) (calls : List CallBy) (viewer : Caller) → AreInOrder opening → IsRun opening calls closing → IsAlone viewer (opening_of viewer opening) calls
+Isolation = (opening closing : Tables) (stages : List Stage) → AreInOrder opening → IsCourse opening stages closing → IsAloneWhereItStays opening stages
+
+-- a run is a course
+course_of : (calls : List CallBy) (a b : Tables) → IsRun a calls b → IsCourse a (stages_of calls) b
+course_of [] a b run = run
+course_of (call_by ∷ calls) a b run = (run.0, run.1, course_of calls run.0 b run.2)
+
+-- two courses, one after the other
+join_courses : (a b c : Tables) (xs ys : List Stage) → IsCourse a xs b → IsCourse b ys c → IsCourse a (xs ++ ys) c
+join_courses a b c [] ys first second = subst (λ at. IsCourse at ys c) first second
+join_courses a b c (x ∷ xs) ys first second = (first.0, first.1, join_courses first.0 b c xs ys first.2 second)
 
 -- two runs, one after the other
 join : (a b c : Tables) (xs ys : List CallBy) → IsRun a xs b → IsRun b ys c → IsRun a (xs ++ ys) c
@@ -108,15 +119,28 @@ made_run opening closing next calls made run has =
     let second : IsRun closing (as_made has.call_by closing ∷ has.after) next = (next, inr (refl, has.next_is), later.1) in
     subst (λ (l : List CallBy). IsRun opening l next) (sym has.are) (join opening closing next has.before (as_made has.call_by closing ∷ has.after) first second)
 
-as_found : (run : Run) (next : Tables) → IsRun run.before run.calls run.closing → MayFollow run.outcome run.closing run.calls next
-    → (found : List CallBy) × AreFoundAs run next found × IsRun run.before found next
-as_found run next now (inl same) = (run.calls, inl (same, refl), subst (IsRun run.before run.calls) (sym same) now)
-as_found run next now (inr (device, refused)) =
-    let made = found_made run.closing run.calls next refused in
-    (made.0, inr (device, made.1), made_run run.before run.closing next run.calls made.0 now made.1)
+as_found : (run : Run) (next : Tables) → IsRun run.before run.calls run.closing → MayStand run next
+    → (found : List Stage) × AreFoundAs run next found × IsCourse run.before found next
+as_found run next now (inl (inl same)) =
+    (stages_of run.calls, inl (same, refl), subst (IsCourse run.before (stages_of run.calls)) (sym same) (course_of run.calls run.before run.closing now))
+as_found run next now (inl (inr (device, refused))) =
+    let made = found_made run.closing run.calls next refused in (
+      stages_of made.0,
+      inr (inl (device, (made.0, made.1, refl))),
+      course_of made.0 run.before next (made_run run.before run.closing next run.calls made.0 now made.1),
+    )
+as_found run next now (inr set) = by run.callers refl set
+  where
+    by : (callers : Option (List CallerRow)) → run.callers ≡ callers → HasSet callers run.closing next → (found : List Stage) × AreFoundAs run next found × IsCourse run.before found next
+    by None is none = absurd none
+    by (Some rows) is same = (
+      stages_of run.calls ++ Callers rows ∷ [],
+      inr (inr (rows, is, same, refl)),
+      join_courses run.before run.closing next (stages_of run.calls) (Callers rows ∷ []) (course_of run.calls run.before run.closing now) (next, same, refl),
+    )
 
-all_joined : (run : Run) (runs : List Run) (this : Tables) → IsRun run.before run.calls run.closing → AreRuns (MayFollow run.outcome run.closing run.calls) runs this
-    → (all : List CallBy) × AreJoined (run ∷ runs) this all × IsRun run.before all this
+all_joined : (run : Run) (runs : List Run) (this : Tables) → IsRun run.before run.calls run.closing → AreRuns (MayStand run) runs this
+    → (all : List Stage) × AreJoined (run ∷ runs) this all × IsCourse run.before all this
 all_joined run [] this now later =
     let found = as_found run this now later in
     (found.0, (found.0, [], sym (append-nil found.0), found.1, refl), found.2)
@@ -125,17 +149,17 @@ all_joined run (next ∷ runs) this now later =
     let found = as_found run next.before now later.0 in (
       found.0 ++ rest.0,
       (found.0, rest.0, refl, found.1, rest.1),
-      join run.before next.before this found.0 rest.0 found.2 rest.2,
+      join_courses run.before next.before this found.0 rest.0 found.2 rest.2,
     )
 
 -- all of them, from the tables that the first one finds
-one_run : Isolation → (opening : Tables) (runs : List Run) (this : Tables) → AreInOrder opening → AreRuns (λ at. at ≡ opening) runs this → AreOneRun opening runs this
-one_run isolation opening [] this ordered are =
-    record { all = []; joined = refl; run = are; alone = λ viewer. isolation opening this [] viewer ordered are }
-one_run isolation opening (run ∷ runs) this ordered are =
+one_course : Isolation → (opening : Tables) (runs : List Run) (this : Tables) → AreInOrder opening → AreRuns (λ at. at ≡ opening) runs this → AreOneCourse opening runs this
+one_course isolation opening [] this ordered are =
+    record { all = []; joined = refl; course = are; alone = isolation opening this [] ordered are }
+one_course isolation opening (run ∷ runs) this ordered are =
     let it = all_joined run runs this are.1 are.2 in
-    let whole : IsRun opening it.0 this = subst (λ (at : Tables). IsRun at it.0 this) are.0 it.2 in
-    record { all = it.0; joined = it.1; run = whole; alone = λ viewer. isolation opening this it.0 viewer ordered whole }
+    let whole : IsCourse opening it.0 this = subst (λ (at : Tables). IsCourse at it.0 this) are.0 it.2 in
+    record { all = it.0; joined = it.1; course = whole; alone = isolation opening this it.0 ordered whole }
 
 -- ---- over files
 
@@ -147,23 +171,36 @@ all_held [] from last Opens held same = subst (λ (at : Image). HoldTables at (�
     let r : (this : Tables) × HoldsStore from this × ((runs : List Run) × AreRunsIn [] runs × AreRuns Opens runs this) = (it.0, it.1, ([], tt, it.2)) in r))
 all_held (Serves log log_after outcome left ∷ files) from last Opens held are = ∥∥₁_elim held squash₁ (λ it.
     let served = are.0 it.0 it.1 in
-    let run : Run = record { before = it.0; calls = served.calls; closing = served.closing; outcome = outcome } in
-    let rest = all_held files left last (MayFollow outcome served.closing served.calls) (served.left left refl) are.1 in
+    let run : Run = record { before = it.0; calls = served.calls; closing = served.closing; outcome = outcome; callers = None } in
+    let stands = ∥∥₁_map (served.left left refl) (λ now.
+    let r : (this : Tables) × HoldsStore left this × MayStand run this = (now.0, now.1, inl now.2) in r) in
+    let rest = all_held files left last (MayStand run) stands are.1 in
     ∥∥₁_map rest (λ more.
     let r : (this : Tables) × HoldsStore last this × ((runs : List Run) × AreRunsIn (Serves log log_after outcome left ∷ files) runs × AreRuns Opens runs this) = (
       more.0,
       more.1,
-      (run ∷ more.2.0, ((refl, (served.arrivals, served.logged, served.made)), more.2.1), (it.2, served.run, more.2.2)),
+      (run ∷ more.2.0, ((refl, refl, (served.arrivals, served.logged, served.made)), more.2.1), (it.2, served.run, more.2.2)),
+    ) in r))
+all_held (Sets rows left ∷ files) from last Opens held are = ∥∥₁_elim held squash₁ (λ it.
+    let run : Run = record { before = it.0; calls = []; closing = it.0; outcome = None; callers = Some rows } in
+    let stands = ∥∥₁_map (are.0 it.0 it.1) (λ now.
+    let may : MayStand run now.0 = elim now.2 [ inl same ↦ inl (inl same) | inr set ↦ inr set ] in
+    let r : (this : Tables) × HoldsStore left this × MayStand run this = (now.0, now.1, may) in r) in
+    ∥∥₁_map (all_held files left last (MayStand run) stands are.1) (λ more.
+    let r : (this : Tables) × HoldsStore last this × ((runs : List Run) × AreRunsIn (Sets rows left ∷ files) runs × AreRuns Opens runs this) = (
+      more.0,
+      more.1,
+      (run ∷ more.2.0, ((refl, refl), more.2.1), (it.2, refl, more.2.2)),
     ) in r))
 all_held (Other left ∷ files) from last Opens held are = ∥∥₁_elim held squash₁ (λ it.
-    let run : Run = record { before = it.0; calls = []; closing = it.0; outcome = None } in
+    let run : Run = record { before = it.0; calls = []; closing = it.0; outcome = None; callers = None } in
     let stays = ∥∥₁_map (are.0 it.0 it.1) (λ now.
-    let r : (this : Tables) × HoldsStore left this × MayFollow None it.0 [] this = (now.0, now.1, inl now.2) in r) in
-    ∥∥₁_map (all_held files left last (MayFollow None it.0 []) stays are.1) (λ more.
+    let r : (this : Tables) × HoldsStore left this × MayStand run this = (now.0, now.1, inl (inl now.2)) in r) in
+    ∥∥₁_map (all_held files left last (MayStand run) stays are.1) (λ more.
     let r : (this : Tables) × HoldsStore last this × ((runs : List Run) × AreRunsIn (Other left ∷ files) runs × AreRuns Opens runs this) = (
       more.0,
       more.1,
-      (run ∷ more.2.0, (refl, more.2.1), (it.2, refl, more.2.2)),
+      (run ∷ more.2.0, ((refl, refl), more.2.1), (it.2, refl, more.2.2)),
     ) in r))
 
 -- from such tables
@@ -172,10 +209,10 @@ pub held_after : Isolation → (opening : Tables) (image : Image) → HoldTables
 held_after isolation opening image held files last are = ∥∥₁_elim held squash₁ (λ it.
     let ordered : AreInOrder opening = subst AreInOrder it.2 (in_order image it.0 it.1) in
     ∥∥₁_map (all_held files image last (λ this. this ≡ opening) held are) (λ more.
-    let r : (this : Tables) × HoldsStore last this × ((runs : List Run) × AreRunsIn files runs × AreOneRun opening runs this) = (
+    let r : (this : Tables) × HoldsStore last this × ((runs : List Run) × AreRunsIn files runs × AreOneCourse opening runs this) = (
       more.0,
       more.1,
-      (more.2.0, more.2.1, one_run isolation opening more.2.0 more.0 ordered more.2.2),
+      (more.2.0, more.2.1, one_course isolation opening more.2.0 more.0 ordered more.2.2),
     ) in r))
 
 -- from the store that `init` made

@@ -18,7 +18,7 @@ pub use Rattle.run_parts.specs.Outputs.{Outputs, IsEndedBy, IsExplained, outputs
 use Rattle.run_parts.specs.declared.fault.ProgramFault.TheVariants.{NotRead, Memory}
 use Rattle.store_runs.specs.Checking.{IsCheck}
 use Rattle.store_runs.specs.Ended.{IsNothing}
-use Rattle.store_runs.specs.NamedStore.{IsInit, IsMigrate}
+use Rattle.store_runs.specs.NamedStore.{IsCallers, IsInit, IsMigrate}
 use Rattle.store_runs.specs.declared.ended.Ended.{Ended}
 use Rattle.bureau_program.specs.Replay.{IsReplayRun}
 use Rattle.bureau_program.specs.Runs.{GoesOn}
@@ -86,6 +86,8 @@ module _ (found : Found) (from : Image) {D : Type 0} {g : disk.Ghosts D} where
       IsChain found.files (string_bytes sysmod) files input rest outputs status × NobodyCame found × IsNothing ended
   IsAnswered (Ok (line.Check store)) input rest outputs status ended =
       Keeps input rest × NobodyCame found × IsCheck found.stores from (string_bytes store) outputs status ended
+  IsAnswered (Ok (line.Callers store callers)) input rest outputs status ended =
+      Keeps input rest × NobodyCame found × IsCallers found.files found.stores from (string_bytes store) (string_bytes callers) outputs status ended
   IsAnswered (Err (line_fault.Words text)) input rest outputs status ended =
       Keeps input rest × IsExplained (string_bytes text) outputs status × NobodyCame found × IsNothing ended
   IsAnswered (Err line_fault.Memory) input rest outputs status ended = Keeps input rest × IsEndedBy Memory outputs status × NobodyCame found × IsNothing ended

@@ -1,11 +1,11 @@
 -- Any number of runs of the program over the files of a store, one after the other, each of which may stop at any moment.
-use Rattle.std.specs.Prelude.{◌≡◌, ◌⊎◌, ℕ, List, [], ◌∷◌, ◌++◌, Option, Some}
+use Rattle.std.specs.Prelude.{◌≡◌, ◌⊎◌, ℕ, List, [], ◌∷◌, ◌++◌, map, Option, None, Some}
 use Rattle.faults.specs.declared.any.AnyFault.{AnyFault}
+use Rattle.bureau_store.specs.SetCallers.{with_callers}
 use Rattle.bureau_store.specs.Tables.{Tables, opened}
-use Rattle.bureau_store.specs.declared.caller.Caller.{Caller}
 use Rattle.bureau_store.specs.declared.caller.CallerRow.{CallerRow}
 use Rattle.bureau_store.specs.declared.fault.StoreFault.TheVariants.{Device}
-use Rattle.bureau.specs.Alone.{IsAlone, opening_of}
+use Rattle.bureau.specs.Course.{Called, Callers, IsAloneWhereItStays, IsCourse, Stage}
 use Rattle.bureau.specs.Joint.{CallBy, IsRun}
 use Rattle.bureau.specs.Kept.{TellNothing, tables_with}
 use Rattle.bureau.specs.Outcome.{answer_of, no_room, outcome}
@@ -22,20 +22,25 @@ use Rattle.store_runs.specs.declared.ended.Ended.{Ended}
 -- ---- runs over files
 
 -- A run of the program, and what it left of the two files of a store. One of `serve`: what came over its connections before it and
--- by its end, and how it ended. Or any other run, also one that could not open the files.
+-- by its end, and how it ended. One of `callers`, with the callers of its file. Or any other run, also one that could not open the
+-- files.
 pub data FileRun : Type 0 where
   Serves : Option (List Event) → Option (List Event) → Option AnyFault → Image → FileRun
+  Sets : List CallerRow → Image → FileRun
   Other : Image → FileRun
 
 abbrev pub left_by : FileRun → Image
 left_by (Serves log log_after outcome left) = left
+left_by (Sets rows left) = left
 left_by (Other left) = left
 
--- The files held this as it began. A run of `serve` kept what it promises (`KeepsServed`), and any other left a store with the
--- tables that were there (`KeepsTables`).
+-- The files held this as it began. A run of `serve` kept what it promises (`KeepsServed`), and so did one of `callers`
+-- (`KeepsCallers`). Any other left a store with the tables that were there (`KeepsTables`).
 abbrev pub IsRunOver : Image → FileRun → Type 0
 IsRunOver from (Serves log log_after outcome left) =
     (before : Tables) → HoldsStore from before → IsServedFrom before log log_after outcome (λ image. image ≡ left)
+IsRunOver from (Sets rows left) =
+    (before : Tables) → HoldsStore from before → HoldTables left (λ this. (this ≡ before) ⊎ (this ≡ with_callers rows before))
 IsRunOver from (Other left) = (before : Tables) → HoldsStore from before → HoldTables left (λ this. this ≡ before)
 
 -- one after the other: each began over what the one before left
@@ -45,18 +50,21 @@ AreRunsOver from (run ∷ runs) last = IsRunOver from run × AreRunsOver (left_b
 
 -- ---- what was called in them
 
--- the tables that a run found, the calls that were made, the tables after all that was acknowledged, and how it ended
+-- the tables that a run found, the calls that were made, the tables after all that was acknowledged, how it ended, and which callers
+-- it was to set, if any
 pub record Run : Type 0 where
   pub before : Tables
   pub calls : List CallBy
   pub closing : Tables
   pub outcome : Option AnyFault
+  pub callers : Option (List CallerRow)
 
 -- the calls are those that came over the connections of `serve`; in any other run there are none
 abbrev pub AreCallsIn : FileRun → Run → Type 0
-AreCallsIn (Serves log log_after outcome left) run = (run.outcome ≡ outcome)
+AreCallsIn (Serves log log_after outcome left) run = (run.outcome ≡ outcome) × (run.callers ≡ None)
     × ((arrivals : List Arrival) × Logs log log_after (log_of arrivals) × AreMade run.before.callers arrivals run.calls)
-AreCallsIn (Other left) run = run.calls ≡ []
+AreCallsIn (Sets rows left) run = (run.calls ≡ []) × (run.callers ≡ Some rows)
+AreCallsIn (Other left) run = (run.calls ≡ []) × (run.callers ≡ None)
 
 -- so for each run
 abbrev pub AreRunsIn : List FileRun → List Run → Type 0
@@ -65,14 +73,23 @@ AreRunsIn [] (run ∷ runs) = ⊥
 AreRunsIn (file ∷ files) [] = ⊥
 AreRunsIn (file ∷ files) (run ∷ runs) = AreCallsIn file run × AreRunsIn files runs
 
+-- the tables have the callers that were to be set
+abbrev pub HasSet : Option (List CallerRow) → Tables → Tables → Type 0
+HasSet None closing this = ⊥
+HasSet (Some rows) closing this = this ≡ with_callers rows closing
+
+-- what a stop may leave of a run
+abbrev pub MayStand : Run → Tables → Type 0
+MayStand run this = MayFollow run.outcome run.closing run.calls this ⊎ HasSet run.callers run.closing this
+
 -- Each run found such tables as a stop of the one before may have left, and its calls are a run of the bureau. These tables are
 -- such in the end.
 abbrev pub AreRuns : (Tables → Type 0) → List Run → Tables → Type 0
 AreRuns Opens [] this = Opens this
 AreRuns Opens (run ∷ runs) this =
-    Opens run.before × IsRun run.before run.calls run.closing × AreRuns (MayFollow run.outcome run.closing run.calls) runs this
+    Opens run.before × IsRun run.before run.calls run.closing × AreRuns (MayStand run) runs this
 
--- ---- all calls as one run
+-- ---- all stages as one course
 
 -- the call with the answer that it would have had, had there been room
 abbrev pub as_made : CallBy → Tables → CallBy
@@ -89,36 +106,43 @@ pub record HasMade (closing : Tables) (calls : List CallBy) (next : Tables) (mad
   pub next_is : next ≡ tables_with call_by closing
   pub are : made ≡ before ++ as_made call_by closing ∷ after
 
--- the calls of a run as they are found afterwards: as they were answered; or, where the device failed, with one more that was made
-abbrev pub AreFoundAs : Run → Tables → List CallBy → Type 0
-AreFoundAs run next found = ((next ≡ run.closing) × (found ≡ run.calls))
-    ⊎ ((run.outcome ≡ Some (of_store Device)) × HasMade run.closing run.calls next found)
+-- calls as stages of a course
+abbrev pub stages_of : List CallBy → List Stage
+stages_of calls = map Called calls
+
+-- The calls of a run as they are found afterwards: as they were answered; or, where the device failed, with one more that was made;
+-- or with the callers after them that were to be set, and were.
+abbrev pub AreFoundAs : Run → Tables → List Stage → Type 0
+AreFoundAs run next found = ((next ≡ run.closing) × (found ≡ stages_of run.calls))
+    ⊎ ((run.outcome ≡ Some (of_store Device)) × ((made : List CallBy) × HasMade run.closing run.calls next made × (found ≡ stages_of made)))
+    ⊎ ((rows : List CallerRow) × (run.callers ≡ Some rows) × (next ≡ with_callers rows run.closing)
+    × (found ≡ stages_of run.calls ++ Callers rows ∷ []))
 
 -- the tables that the next run finds, or that are there in the end
 abbrev pub found_next : List Run → Tables → Tables
 found_next [] this = this
 found_next (run ∷ runs) this = run.before
 
--- the calls of all runs, in order, as they are found
-abbrev pub AreJoined : List Run → Tables → List CallBy → Type 0
+-- the stages of all runs, in order, as they are found
+abbrev pub AreJoined : List Run → Tables → List Stage → Type 0
 AreJoined [] this all = all ≡ []
 AreJoined (run ∷ runs) this all =
-    (found : List CallBy) × (rest : List CallBy) × (all ≡ found ++ rest) × AreFoundAs run (found_next runs this) found × AreJoined runs this rest
+    (found : List Stage) × (rest : List Stage) × (all ≡ found ++ rest) × AreFoundAs run (found_next runs this) found × AreJoined runs this rest
 
--- The calls of all runs together are one run of the bureau, to these tables. So each reply to a caller, other than 503, is that of
--- a bureau which got the publisher's and that caller's own calls of all runs before, without those told 503, and perhaps the one
--- on its way at each stop.
-pub record AreOneRun (opening : Tables) (runs : List Run) (this : Tables) : Type 0 where
-  pub all : List CallBy
+-- The stages of all runs together are one course of the bureau, to these tables. So each reply to a caller who stays, other than 503,
+-- is that of a bureau which got the publisher's and that caller's own calls of all runs before, without those told 503, and perhaps
+-- the one on its way at each stop. Where no run sets callers, this is so for every caller.
+pub record AreOneCourse (opening : Tables) (runs : List Run) (this : Tables) : Type 0 where
+  pub all : List Stage
   pub joined : AreJoined runs this all
-  pub run : IsRun opening all this
-  pub alone : (viewer : Caller) → IsAlone viewer (opening_of viewer opening) all
+  pub course : IsCourse opening all this
+  pub alone : IsAloneWhereItStays opening all
 
 -- ---- from one run to the next
 
 -- The files hold the bureau's own store, with the tables to which the calls of all these runs lead.
 abbrev pub HoldAfter : Tables → List FileRun → Image → Type 0
-HoldAfter opening files image = HoldTables image (λ this. (runs : List Run) × AreRunsIn files runs × AreOneRun opening runs this)
+HoldAfter opening files image = HoldTables image (λ this. (runs : List Run) × AreRunsIn files runs × AreOneCourse opening runs this)
 
 -- The same, where `init` made the store with the callers of this file before the first of them.
 abbrev pub HoldSinceInit : List ℕ → List FileRun → Image → Type 0

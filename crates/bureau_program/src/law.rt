@@ -8,12 +8,14 @@ ghost use Rattle.bureau_program.specs.Runs.{AreRunsOver, FileRun, HoldAfter, Hol
 
 /// Once `init` has made a store, any number of runs of the program may come one after the other, and each may stop at any
 /// moment. The next one finds the store in the files again, with the tables after all that was acknowledged: the calls of all
-/// runs are together one run of the bureau, and each caller is answered as if alone.
+/// runs, and the callers that were set between them, are together one course of the bureau. Each caller who stays is
+/// answered as if alone.
 ///
-/// What a run keeps is said by its own contract ([`crate::run`]: `KeepsServed` of `serve`, `KeepsTables` of any other). A
-/// stop in `serve` leaves the tables after all that was acknowledged, and where the device failed, perhaps the one change that
-/// was on its way. So, over all runs, each reply to a caller, other than 503, is that of a bureau which got the publisher's
-/// and that caller's own calls before it, and perhaps the one on its way at each stop.
+/// What a run keeps is said by its own contract ([`crate::run`]: `KeepsServed` of `serve`, `KeepsCallers` of `callers`,
+/// `KeepsTables` of any other). A stop in `serve` leaves the tables after all that was acknowledged, and where the device
+/// failed, perhaps the one change that was on its way; one in `callers` leaves the tables before it or after it. So, over all
+/// runs, each reply to a caller who stays, other than 503, is that of a bureau which got the publisher's and that caller's own
+/// calls before it, and perhaps the one on its way at each stop.
 pub fn any_number_of_runs()
     ensures made { (source : List ℕ) (image : Image) → HoldCallers source image
         → (runs : List FileRun) (last : Image) → AreRunsOver image runs last

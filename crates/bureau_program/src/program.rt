@@ -15,7 +15,7 @@ use run_parts::{ProgramFault, explain, read_file, refuse};
 use sqlite::{FileFrom, Start};
 use std::alloc::Global;
 use std::io::{Read, Write};
-use store_runs::{Ended, check_file, do_init, migrate_file};
+use store_runs::{Ended, callers_file, check_file, do_init, migrate_file};
 use transfer::RETRIES;
 
 /// Does what the words of the command line ask for, and returns the exit status, and what is left of a store's files.
@@ -118,6 +118,10 @@ fn answer<S: Surroundings, D: Start, I: Read, O: Write, E: Write>(
             let sysmod = sysmod.as_str();
             let status = do_chain(surroundings, alloc, sysmod, &files, input, output, errors);
             (status, Ended::Nothing)
+        }
+        Ok(Line::Callers { store, callers }) => {
+            let (store, callers) = (store.as_str(), callers.as_str());
+            callers_file(surroundings, alloc, store, callers, start, output, errors)
         }
         Ok(Line::Check { store }) => {
             check_file(surroundings, alloc, store.as_str(), start, output, errors)

@@ -79,10 +79,15 @@ static TAKEN: [(&[&str], &str); 13] = [
         &["replay", "--", "--cache", "7"],
         "Replay { cache: 1024, callers: \"--cache\", files: [\"7\"] }",
     ),
+    (
+        &["callers", "s", "c"],
+        "Callers { store: \"s\", callers: \"c\" }",
+    ),
 ];
 
 // Words, and what is told of them.
 static REFUSED: [(&[&str], &str); 26] = [
+    (&["callers", "s"], "Usage: bureau callers <STORE> <CALLERS>"),
     (&["init", "s"], "Usage: bureau init <STORE> <CALLERS>"),
     (&["serve"], "Usage: bureau serve <STORE>"),
     (&["migrate"], "Usage: bureau migrate <STORE>"),

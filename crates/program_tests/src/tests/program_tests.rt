@@ -45,6 +45,7 @@ static ROWS: [Row; 12] = [
     (&["serve", STORE], 0, 1, "FAULT 44\n"),
     (&["migrate", "another store"], 0, 3, "FAULT 42\n"),
     (&["check", "another store"], 0, 3, "FAULT 42\n"),
+    (&["callers", "another store", "callers"], 0, 3, "FAULT 42\n"),
 ];
 
 #[test]

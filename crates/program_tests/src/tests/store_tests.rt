@@ -13,7 +13,7 @@ use std::io::{Read, Write};
 use std::net::{TcpListener, TcpStream};
 use std::str;
 use std::test::Fail;
-use store_runs::{run_init, run_migrate, run_open};
+use store_runs::{callers_in, run_callers, run_init, run_migrate, run_open};
 use testing::{Ticking, assert_equal, assert_equal_at};
 
 // A connection to the file that is kept in memory, with an empty log.
@@ -160,6 +160,47 @@ fn a_store_of_version_1_is_migrated_once(rt: HostRuntime) -> Result<(), Fail> {
     let alloc = rt.alloc();
     assert_migrated_once(alloc, earlier(alloc, fresh(alloc)?)?)?;
     let (told, _) = migrate(alloc, fresh(alloc)?)?;
+    assert_equal(told.as_str(), "1 FAULT 44\n")
+}
+
+// What `callers` tells of these callers, and the connection.
+fn set<S: Alter + Drop>(alloc: Global, conn: Connection<S>, callers: &[u8]) -> Ran<S>
+    requires { conn.in_transaction ≡ false }
+    ensures { IfOk result (λ both. both.1.in_transaction ≡ false) }
+{
+    let rows = match callers_in(alloc, callers) {
+        Ok(rows) => rows,
+        Err(_) => return Err("callers".into()),
+    };
+    let (mut output, mut errors) = (Vec::new(alloc), Vec::new(alloc));
+    let (status, conn) = run_callers(alloc, conn, &rows, &mut output, &mut errors);
+    if !conn.is_autocommit() {
+        return Err("a connection at rest".into());
+    }
+    Ok((told(alloc, status, &output, &errors)?, conn))
+}
+
+// A store that has three callers gets two of them with other tokens, and a new one that has the token of one of those.
+fn assert_set<S: Alter + Drop>(alloc: Global, conn: Connection<S>) -> Result<(), Fail>
+    requires { conn.in_transaction ≡ false }
+{
+    let first = b"NAME,TOKEN\nPUBLISH,publisher-token\nALPHA,alpha-token\nBRAVO,bravo-token\n";
+    let then = b"NAME,TOKEN\nPUBLISH,another-token\nALPHA,bravo-token\nGAMMA,alpha-token\n";
+    let (told, conn) = init(alloc, conn, first)?;
+    assert_equal(told.as_str(), "0 CALLERS 3\n")?;
+    let (told, conn) = set(alloc, conn, first)?;
+    assert_equal(told.as_str(), "0 CALLERS 3 ADDED 0 REMOVED 0 TOKENS 0\n")?;
+    let (told, conn) = set(alloc, conn, then)?;
+    assert_equal(told.as_str(), "0 CALLERS 3 ADDED 1 REMOVED 1 TOKENS 2\n")?;
+    let (told, _) = set(alloc, conn, then)?;
+    assert_equal(told.as_str(), "0 CALLERS 3 ADDED 0 REMOVED 0 TOKENS 0\n")
+}
+
+#[test]
+fn a_store_gets_other_callers(rt: HostRuntime) -> Result<(), Fail> {
+    let alloc = rt.alloc();
+    assert_set(alloc, fresh(alloc)?)?;
+    let (told, _) = set(alloc, fresh(alloc)?, CALLERS)?;
     assert_equal(told.as_str(), "1 FAULT 44\n")
 }
 

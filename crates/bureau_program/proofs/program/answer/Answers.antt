@@ -5,6 +5,7 @@ use Rattle.bureau_program.specs.Program.{Found, IsAnswered, IsServe, found_in}
 use Rattle.run_parts.specs.Outputs.{Outputs}
 use Rattle.bureau_program.specs.declared.serving.Service.{Service}
 use Rattle.store_runs.specs.Checking.{IsCheck}
+use Rattle.store_runs.proofs.CallersFacts.{same_callers_run}
 use Rattle.store_runs.proofs.DeskFacts.{same_init}
 use Rattle.store_runs.proofs.KeptFacts.{kept_migrated}
 use Rattle.bureau_program.proofs.program.answer.Goals as goal
@@ -80,4 +81,22 @@ returns-in-Ok-Check g c =
       Keeps-refl input,
       refl,
       subst (λ (name : List ℕ). IsCheck of.stores (image_at g.D.Start) name outputs c.check_file.result.0 c.check_file.result.1) c.as_str-in-Ok-Check.ensures.value c.check_file.ensures,
+    )
+
+pub returns-in-Ok-Callers : goal.returns-in-Ok-Callers
+returns-in-Ok-Callers g c =
+    let at = c.args.surroundings.now in
+    let of : Found = found_in (g.S.Files.known_file at) (g.S.Stores.known_store at) (g.S.Surroundings.known_port at) (g.S.Listening.log at) (g.S.Listening.log at) in
+    let input = g.I.Read.remaining c.args.input.now in
+    let outputs : Outputs = record {
+      output = g.O.Write.contents c.args.output.now;
+      written = g.O.Write.contents c.callers_file.new.output;
+      errors = g.E.Write.contents c.args.errors.now;
+      told = g.E.Write.contents c.callers_file.new.errors;
+    } in
+    subst (λ line. IsAnswered of (image_at g.D.Start) line input input outputs c.callers_file.result.0 c.callers_file.result.1) (sym (c.in-Ok-Callers.is ∙ ap Ok c.in-Ok-Callers.field-0-is)) (
+      Keeps-refl input,
+      refl,
+      same_callers_run of.files of.stores (image_at g.D.Start) c.callers_file.result.1 (string_bytes c.in-Ok-Callers.store) c.as_str-store-in-Ok-Callers.result.now (string_bytes c.in-Ok-Callers.callers)
+          c.as_str-callers-in-Ok-Callers.result.now outputs c.callers_file.result.0 c.as_str-store-in-Ok-Callers.ensures.value c.as_str-callers-in-Ok-Callers.ensures.value c.callers_file.ensures,
     )

@@ -1,6 +1,6 @@
 use Rattle.std.proofs.Common.{refl}
 use Rattle.sqlite_wal.specs.Files.{image_at}
-use Rattle.bureau.proofs.AgreesFacts.{alone}
+use Rattle.bureau.proofs.CourseFacts.{alone_in}
 use Rattle.bureau_program.specs.Serving.{session_of}
 use Rattle.bureau_program.proofs.KeepingFacts.{kept_served}
 use Rattle.bureau_program.proofs.RunsFacts.{goes_on}
@@ -15,7 +15,7 @@ returns-in-Ok g c =
     c.args.service.port (g.W.Write.contents c.args.writer.now) (g.W.Write.contents c.open_and_serve-status.new.writer)
     (g.E.Write.contents c.args.errors.now) (g.E.Write.contents c.open_and_serve-status.new.errors) c.open_and_serve-status.result.0 c.open_and_serve-status.ensures in
     let kept = kept_served session (image_at g.D.Start) c.end.result run.outcome c.args.service.port _ _ run.output in
-    record { named = c.in-Ok.ensures.named; served = run; kept = kept; goes_on = goes_on alone (image_at g.D.Start) session.log session.log_after run.outcome c.end.result kept }
+    record { named = c.in-Ok.ensures.named; served = run; kept = kept; goes_on = goes_on alone_in (image_at g.D.Start) session.log session.log_after run.outcome c.end.result kept }
 
 pub returns-in-Err : goal.returns-in-Err
 returns-in-Err g c =
@@ -26,4 +26,4 @@ returns-in-Err g c =
     (g.W.Write.contents c.args.writer.now) (g.E.Write.contents c.args.errors.now) (g.E.Write.contents c.told.new.errors) c.told.result
     refl c.in-Err.ensures.refused c.of_store.ensures c.told.ensures.told c.told.ensures.status in
     let kept = kept_served session (image_at g.D.Start) c.in-Err.ended run.outcome c.args.service.port _ _ run.output in
-    record { named = c.in-Err.ensures.named; served = run; kept = kept; goes_on = goes_on alone (image_at g.D.Start) log log run.outcome c.in-Err.ended kept }
+    record { named = c.in-Err.ensures.named; served = run; kept = kept; goes_on = goes_on alone_in (image_at g.D.Start) log log run.outcome c.in-Err.ended kept }
