@@ -209,10 +209,11 @@ pub held_after : Isolation → (opening : Tables) (image : Image) → HoldTables
 held_after isolation opening image held files last are = ∥∥₁_elim held squash₁ (λ it.
     let ordered : AreInOrder opening = subst AreInOrder it.2 (in_order image it.0 it.1) in
     ∥∥₁_map (all_held files image last (λ this. this ≡ opening) held are) (λ more.
-    let r : (this : Tables) × HoldsStore last this × ((runs : List Run) × AreRunsIn files runs × AreOneCourse opening runs this) = (
+    let r : (this : Tables) × HoldsStore last this
+        × ((runs : List Run) × AreRunsIn files runs × AreRuns (λ at. at ≡ opening) runs this × AreOneCourse opening runs this) = (
       more.0,
       more.1,
-      (more.2.0, more.2.1, one_course isolation opening more.2.0 more.0 ordered more.2.2),
+      (more.2.0, more.2.1, more.2.2, one_course isolation opening more.2.0 more.0 ordered more.2.2),
     ) in r))
 
 -- from the store that `init` made

@@ -140,9 +140,11 @@ pub record AreOneCourse (opening : Tables) (runs : List Run) (this : Tables) : T
 
 -- ---- from one run to the next
 
--- The files hold the bureau's own store, with the tables to which the calls of all these runs lead.
+-- The files hold the bureau's own store, with the tables to which the calls of all these runs lead. Each run found what the one
+-- before it left, and the first one these tables.
 abbrev pub HoldAfter : Tables → List FileRun → Image → Type 0
-HoldAfter opening files image = HoldTables image (λ this. (runs : List Run) × AreRunsIn files runs × AreOneCourse opening runs this)
+HoldAfter opening files image = HoldTables image (λ this. (runs : List Run) × AreRunsIn files runs
+    × AreRuns (λ at. at ≡ opening) runs this × AreOneCourse opening runs this)
 
 -- The same, where `init` made the store with the callers of this file before the first of them.
 abbrev pub HoldSinceInit : List ℕ → List FileRun → Image → Type 0
