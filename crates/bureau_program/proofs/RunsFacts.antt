@@ -210,7 +210,7 @@ held_after isolation opening image held files last are = ∥∥₁_elim held squ
     let ordered : AreInOrder opening = subst AreInOrder it.2 (in_order image it.0 it.1) in
     ∥∥₁_map (all_held files image last (λ this. this ≡ opening) held are) (λ more.
     let r : (this : Tables) × HoldsStore last this
-        × ((runs : List Run) × AreRunsIn files runs × AreRuns (λ at. at ≡ opening) runs this × AreOneCourse opening runs this) = (
+    × ((runs : List Run) × AreRunsIn files runs × AreRuns (λ at. at ≡ opening) runs this × AreOneCourse opening runs this) = (
       more.0,
       more.1,
       (more.2.0, more.2.1, more.2.2, one_course isolation opening more.2.0 more.0 ordered more.2.2),
