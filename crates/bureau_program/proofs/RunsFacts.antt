@@ -3,6 +3,7 @@ use Rattle.std.proofs.Common.{◌≡◌, ◌∙◌, ℕ, arith, false, List, Non
 use Rattle.std.proofs.Math.Logic.{∥∥₁_elim, ∥∥₁_map}
 use Rattle.std.specs.Prelude.{if◌then◌else◌}
 use Rattle.faults.specs.declared.any.AnyFault.{AnyFault}
+use Rattle.bureau_store.specs.SetCallers.{with_callers}
 use Rattle.bureau_store.specs.Tables.{AreInOrder, Tables, opened}
 use Rattle.bureau_store.specs.declared.caller.Caller.{Caller}
 use Rattle.bureau_store.specs.declared.caller.Caller.TheVariants.{Publisher, Client}
@@ -19,7 +20,7 @@ use Rattle.sqlite_disk.specs.declared.Disk as disk
 use Rattle.sqlite_wal.specs.Recovery.{Image}
 use Rattle.store_runs.specs.Keeping.{HoldCallers, Leaves}
 use Rattle.bureau_program.specs.Served.{KeepsServed}
-use Rattle.bureau_program.specs.Runs.{AreFoundAs, AreJoined, AreOneCourse, AreRuns, AreRunsIn, AreRunsOver, FileRun, GoesOn, HasMade, HasSet, HoldAfter, HoldSinceInit, IsRunOver, MayStand, Other, Run, Serves, Sets, as_made, left_by, stages_of}
+use Rattle.bureau_program.specs.Runs.{AreFoundAs, AreFoundBy, AreJoined, AreOneCourse, AreRuns, AreRunsIn, AreRunsOver, FileRun, GoesOn, HasMade, HoldAfter, HoldSinceInit, IsRunOver, LeavesSet, MayStand, Other, Run, Serves, Sets, StandsBy, as_made, left_by, stages_of}
 use Rattle.store_runs.specs.declared.ended.Ended.{Ended}
 use Rattle.bureau_program.proofs.KeepingFacts.{in_order}
 
@@ -119,25 +120,42 @@ made_run opening closing next calls made run has =
     let second : IsRun closing (as_made has.call_by closing ∷ has.after) next = (next, inr (refl, has.next_is), later.1) in
     subst (λ (l : List CallBy). IsRun opening l next) (sym has.are) (join opening closing next has.before (as_made has.call_by closing ∷ has.after) first second)
 
+-- a run that a fault ended is not done
+some_fault : (fault : AnyFault) → ◌≡◌ {A = Option AnyFault} (Some fault) None → ⊥
+some_fault fault same = cc
+
 as_found : (run : Run) (next : Tables) → IsRun run.before run.calls run.closing → MayStand run next
     → (found : List Stage) × AreFoundAs run next found × IsCourse run.before found next
-as_found run next now (inl (inl same)) =
-    (stages_of run.calls, inl (same, refl), subst (IsCourse run.before (stages_of run.calls)) (sym same) (course_of run.calls run.before run.closing now))
-as_found run next now (inl (inr (device, refused))) =
-    let made = found_made run.closing run.calls next refused in (
-      stages_of made.0,
-      inr (inl (device, (made.0, made.1, refl))),
-      course_of made.0 run.before next (made_run run.before run.closing next run.calls made.0 now made.1),
-    )
-as_found run next now (inr set) = by run.callers refl set
+as_found run next now stands = by run.callers stands
   where
-    by : (callers : Option (List CallerRow)) → run.callers ≡ callers → HasSet callers run.closing next → (found : List Stage) × AreFoundAs run next found × IsCourse run.before found next
-    by None is none = absurd none
-    by (Some rows) is same = (
+    -- all calls, and then these callers
+    with_set : (rows : List CallerRow) → next ≡ with_callers rows run.closing → (found : List Stage) × AreFoundBy (Some rows) run next found × IsCourse run.before found next
+    with_set rows set = (
       stages_of run.calls ++ Callers rows ∷ [],
-      inr (inr (rows, is, same, refl)),
-      join_courses run.before run.closing next (stages_of run.calls) (Callers rows ∷ []) (course_of run.calls run.before run.closing now) (next, same, refl),
+      inl (set, refl),
+      join_courses run.before run.closing next (stages_of run.calls) (Callers rows ∷ []) (course_of run.calls run.before run.closing now) (next, set, refl),
     )
+
+    ended : (rows : List CallerRow) (outcome : Option AnyFault) → run.outcome ≡ outcome → LeavesSet rows outcome run.closing next
+        → (found : List Stage) × AreFoundBy (Some rows) run next found × IsCourse run.before found next
+    ended rows None is set = with_set rows set
+    ended rows (Some fault) is (inr set) = with_set rows set
+    ended rows (Some fault) is (inl same) = (
+      stages_of run.calls,
+      inr ((λ none. some_fault fault (sym is ∙ none)), same, refl),
+      subst (IsCourse run.before (stages_of run.calls)) (sym same) (course_of run.calls run.before run.closing now),
+    )
+
+    by : (callers : Option (List CallerRow)) → StandsBy callers run next → (found : List Stage) × AreFoundBy callers run next found × IsCourse run.before found next
+    by None (inl same) =
+        (stages_of run.calls, inl (same, refl), subst (IsCourse run.before (stages_of run.calls)) (sym same) (course_of run.calls run.before run.closing now))
+    by None (inr (device, refused)) =
+        let made = found_made run.closing run.calls next refused in (
+          stages_of made.0,
+          inr (device, (made.0, made.1, refl)),
+          course_of made.0 run.before next (made_run run.before run.closing next run.calls made.0 now made.1),
+        )
+    by (Some rows) set = ended rows run.outcome refl set
 
 all_joined : (run : Run) (runs : List Run) (this : Tables) → IsRun run.before run.calls run.closing → AreRuns (MayStand run) runs this
     → (all : List Stage) × AreJoined (run ∷ runs) this all × IsCourse run.before all this
@@ -172,30 +190,25 @@ all_held [] from last Opens held same = subst (λ (at : Image). HoldTables at (�
 all_held (Serves log log_after outcome left ∷ files) from last Opens held are = ∥∥₁_elim held squash₁ (λ it.
     let served = are.0 it.0 it.1 in
     let run : Run = record { before = it.0; calls = served.calls; closing = served.closing; outcome = outcome; callers = None } in
-    let stands = ∥∥₁_map (served.left left refl) (λ now.
-    let r : (this : Tables) × HoldsStore left this × MayStand run this = (now.0, now.1, inl now.2) in r) in
-    let rest = all_held files left last (MayStand run) stands are.1 in
+    let rest = all_held files left last (MayStand run) (served.left left refl) are.1 in
     ∥∥₁_map rest (λ more.
     let r : (this : Tables) × HoldsStore last this × ((runs : List Run) × AreRunsIn (Serves log log_after outcome left ∷ files) runs × AreRuns Opens runs this) = (
       more.0,
       more.1,
       (run ∷ more.2.0, ((refl, refl, (served.arrivals, served.logged, served.made)), more.2.1), (it.2, served.run, more.2.2)),
     ) in r))
-all_held (Sets rows left ∷ files) from last Opens held are = ∥∥₁_elim held squash₁ (λ it.
-    let run : Run = record { before = it.0; calls = []; closing = it.0; outcome = None; callers = Some rows } in
-    let stands = ∥∥₁_map (are.0 it.0 it.1) (λ now.
-    let may : MayStand run now.0 = elim now.2 [ inl same ↦ inl (inl same) | inr set ↦ inr set ] in
-    let r : (this : Tables) × HoldsStore left this × MayStand run this = (now.0, now.1, may) in r) in
-    ∥∥₁_map (all_held files left last (MayStand run) stands are.1) (λ more.
-    let r : (this : Tables) × HoldsStore last this × ((runs : List Run) × AreRunsIn (Sets rows left ∷ files) runs × AreRuns Opens runs this) = (
+all_held (Sets rows outcome left ∷ files) from last Opens held are = ∥∥₁_elim held squash₁ (λ it.
+    let run : Run = record { before = it.0; calls = []; closing = it.0; outcome = outcome; callers = Some rows } in
+    ∥∥₁_map (all_held files left last (MayStand run) (are.0 it.0 it.1) are.1) (λ more.
+    let r : (this : Tables) × HoldsStore last this × ((runs : List Run) × AreRunsIn (Sets rows outcome left ∷ files) runs × AreRuns Opens runs this) = (
       more.0,
       more.1,
-      (run ∷ more.2.0, ((refl, refl), more.2.1), (it.2, refl, more.2.2)),
+      (run ∷ more.2.0, ((refl, refl, refl), more.2.1), (it.2, refl, more.2.2)),
     ) in r))
 all_held (Other left ∷ files) from last Opens held are = ∥∥₁_elim held squash₁ (λ it.
     let run : Run = record { before = it.0; calls = []; closing = it.0; outcome = None; callers = None } in
     let stays = ∥∥₁_map (are.0 it.0 it.1) (λ now.
-    let r : (this : Tables) × HoldsStore left this × MayStand run this = (now.0, now.1, inl (inl now.2)) in r) in
+    let r : (this : Tables) × HoldsStore left this × MayStand run this = (now.0, now.1, inl now.2) in r) in
     ∥∥₁_map (all_held files left last (MayStand run) stays are.1) (λ more.
     let r : (this : Tables) × HoldsStore last this × ((runs : List Run) × AreRunsIn (Other left ∷ files) runs × AreRuns Opens runs this) = (
       more.0,
@@ -209,8 +222,7 @@ pub held_after : Isolation → (opening : Tables) (image : Image) → HoldTables
 held_after isolation opening image held files last are = ∥∥₁_elim held squash₁ (λ it.
     let ordered : AreInOrder opening = subst AreInOrder it.2 (in_order image it.0 it.1) in
     ∥∥₁_map (all_held files image last (λ this. this ≡ opening) held are) (λ more.
-    let r : (this : Tables) × HoldsStore last this
-    × ((runs : List Run) × AreRunsIn files runs × AreRuns (λ at. at ≡ opening) runs this × AreOneCourse opening runs this) = (
+    let r : (this : Tables) × HoldsStore last this × ((runs : List Run) × AreRunsIn files runs × AreRuns (λ at. at ≡ opening) runs this × AreOneCourse opening runs this) = (
       more.0,
       more.1,
       (more.2.0, more.2.1, more.2.2, one_course isolation opening more.2.0 more.0 ordered more.2.2),

@@ -22,25 +22,29 @@ use Rattle.store_runs.specs.declared.ended.Ended.{Ended}
 -- ---- runs over files
 
 -- A run of the program, and what it left of the two files of a store. One of `serve`: what came over its connections before it and
--- by its end, and how it ended. One of `callers`, with the callers of its file. Or any other run, also one that could not open the
--- files.
+-- by its end, and how it ended. One of `callers`: the callers of its file, and how it ended. Or any other run, also one that could not
+-- open the files.
 pub data FileRun : Type 0 where
   Serves : Option (List Event) → Option (List Event) → Option AnyFault → Image → FileRun
-  Sets : List CallerRow → Image → FileRun
+  Sets : List CallerRow → Option AnyFault → Image → FileRun
   Other : Image → FileRun
 
 abbrev pub left_by : FileRun → Image
 left_by (Serves log log_after outcome left) = left
-left_by (Sets rows left) = left
+left_by (Sets rows outcome left) = left
 left_by (Other left) = left
+
+-- what a run of `callers` leaves of tables: with these callers, once it is done; where a fault ended it, so or as they were
+abbrev pub LeavesSet : List CallerRow → Option AnyFault → Tables → Tables → Type 0
+LeavesSet rows None before this = this ≡ with_callers rows before
+LeavesSet rows (Some fault) before this = (this ≡ before) ⊎ (this ≡ with_callers rows before)
 
 -- The files held this as it began. A run of `serve` kept what it promises (`KeepsServed`), and so did one of `callers`
 -- (`KeepsCallers`). Any other left a store with the tables that were there (`KeepsTables`).
 abbrev pub IsRunOver : Image → FileRun → Type 0
 IsRunOver from (Serves log log_after outcome left) =
     (before : Tables) → HoldsStore from before → IsServedFrom before log log_after outcome (λ image. image ≡ left)
-IsRunOver from (Sets rows left) =
-    (before : Tables) → HoldsStore from before → HoldTables left (λ this. (this ≡ before) ⊎ (this ≡ with_callers rows before))
+IsRunOver from (Sets rows outcome left) = (before : Tables) → HoldsStore from before → HoldTables left (LeavesSet rows outcome before)
 IsRunOver from (Other left) = (before : Tables) → HoldsStore from before → HoldTables left (λ this. this ≡ before)
 
 -- one after the other: each began over what the one before left
@@ -63,7 +67,7 @@ pub record Run : Type 0 where
 abbrev pub AreCallsIn : FileRun → Run → Type 0
 AreCallsIn (Serves log log_after outcome left) run = (run.outcome ≡ outcome) × (run.callers ≡ None)
     × ((arrivals : List Arrival) × Logs log log_after (log_of arrivals) × AreMade run.before.callers arrivals run.calls)
-AreCallsIn (Sets rows left) run = (run.calls ≡ []) × (run.callers ≡ Some rows)
+AreCallsIn (Sets rows outcome left) run = (run.calls ≡ []) × (run.outcome ≡ outcome) × (run.callers ≡ Some rows)
 AreCallsIn (Other left) run = (run.calls ≡ []) × (run.callers ≡ None)
 
 -- so for each run
@@ -73,14 +77,14 @@ AreRunsIn [] (run ∷ runs) = ⊥
 AreRunsIn (file ∷ files) [] = ⊥
 AreRunsIn (file ∷ files) (run ∷ runs) = AreCallsIn file run × AreRunsIn files runs
 
--- the tables have the callers that were to be set
-abbrev pub HasSet : Option (List CallerRow) → Tables → Tables → Type 0
-HasSet None closing this = ⊥
-HasSet (Some rows) closing this = this ≡ with_callers rows closing
+-- what a stop may leave of a run that sets these callers, or none
+abbrev pub StandsBy : Option (List CallerRow) → Run → Tables → Type 0
+StandsBy None run this = MayFollow run.outcome run.closing run.calls this
+StandsBy (Some rows) run this = LeavesSet rows run.outcome run.closing this
 
 -- what a stop may leave of a run
 abbrev pub MayStand : Run → Tables → Type 0
-MayStand run this = MayFollow run.outcome run.closing run.calls this ⊎ HasSet run.callers run.closing this
+MayStand run this = StandsBy run.callers run this
 
 -- Each run found such tables as a stop of the one before may have left, and its calls are a run of the bureau. These tables are
 -- such in the end.
@@ -110,13 +114,16 @@ pub record HasMade (closing : Tables) (calls : List CallBy) (next : Tables) (mad
 abbrev pub stages_of : List CallBy → List Stage
 stages_of calls = map Called calls
 
--- The calls of a run as they are found afterwards: as they were answered; or, where the device failed, with one more that was made;
--- or with the callers after them that were to be set, and were.
-abbrev pub AreFoundAs : Run → Tables → List Stage → Type 0
-AreFoundAs run next found = ((next ≡ run.closing) × (found ≡ stages_of run.calls))
+-- The calls of a run as they are found afterwards. Where it sets no callers: as they were answered; or, where the device failed, with
+-- one more that was made. Where it does: with these callers after them; or, where a fault ended it, perhaps without.
+abbrev pub AreFoundBy : Option (List CallerRow) → Run → Tables → List Stage → Type 0
+AreFoundBy None run next found = ((next ≡ run.closing) × (found ≡ stages_of run.calls))
     ⊎ ((run.outcome ≡ Some (of_store Device)) × ((made : List CallBy) × HasMade run.closing run.calls next made × (found ≡ stages_of made)))
-    ⊎ ((rows : List CallerRow) × (run.callers ≡ Some rows) × (next ≡ with_callers rows run.closing)
-    × (found ≡ stages_of run.calls ++ Callers rows ∷ []))
+AreFoundBy (Some rows) run next found = ((next ≡ with_callers rows run.closing) × (found ≡ stages_of run.calls ++ Callers rows ∷ []))
+    ⊎ ((run.outcome ≡ None → ⊥) × (next ≡ run.closing) × (found ≡ stages_of run.calls))
+
+abbrev pub AreFoundAs : Run → Tables → List Stage → Type 0
+AreFoundAs run next found = AreFoundBy run.callers run next found
 
 -- the tables that the next run finds, or that are there in the end
 abbrev pub found_next : List Run → Tables → Tables
@@ -140,11 +147,11 @@ pub record AreOneCourse (opening : Tables) (runs : List Run) (this : Tables) : T
 
 -- ---- from one run to the next
 
--- The files hold the bureau's own store, with the tables to which the calls of all these runs lead. Each run found what the one
--- before it left, and the first one these tables.
+-- The files hold the bureau's own store, with the tables to which the calls of all these runs lead. Each run found the tables that the
+-- one before left, so it knew the callers of those by their tokens, and no others.
 abbrev pub HoldAfter : Tables → List FileRun → Image → Type 0
-HoldAfter opening files image = HoldTables image (λ this. (runs : List Run) × AreRunsIn files runs
-    × AreRuns (λ at. at ≡ opening) runs this × AreOneCourse opening runs this)
+HoldAfter opening files image = HoldTables image (λ this.
+    (runs : List Run) × AreRunsIn files runs × AreRuns (λ at. at ≡ opening) runs this × AreOneCourse opening runs this)
 
 -- The same, where `init` made the store with the callers of this file before the first of them.
 abbrev pub HoldSinceInit : List ℕ → List FileRun → Image → Type 0
