@@ -21,7 +21,7 @@ fn text_in(line: Result<Line, LineFault>) -> Option<String> {
 }
 
 // Words, and what they ask for.
-static TAKEN: [(&[&str], &str); 13] = [
+static TAKEN: [(&[&str], &str); 14] = [
     (&["holds", "-"], "Holds { file: \"-\" }"),
     (&["init", "s", "c"], "Init { store: \"s\", callers: \"c\" }"),
     (&["migrate", "s"], "Migrate { store: \"s\" }"),
@@ -86,7 +86,7 @@ static TAKEN: [(&[&str], &str); 13] = [
 ];
 
 // Words, and what is told of them.
-static REFUSED: [(&[&str], &str); 26] = [
+static REFUSED: [(&[&str], &str); 27] = [
     (&["callers", "s"], "Usage: bureau callers <STORE> <CALLERS>"),
     (&["init", "s"], "Usage: bureau init <STORE> <CALLERS>"),
     (&["serve"], "Usage: bureau serve <STORE>"),

@@ -12,7 +12,7 @@ use testing::assert_equal_at;
 type Row = (&'static [&'static str], u32, u8, &'static str);
 
 // 64 retries serve all files of a run.
-static ROWS: [Row; 12] = [
+static ROWS: [Row; 13] = [
     (&["replay", "callers", "empty", "empty"], 21, 0, ""),
     (
         &["replay", "callers", "empty", "empty"],
