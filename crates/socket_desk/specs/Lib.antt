@@ -1,0 +1,3 @@
+pub mod Patience
+pub mod Transfers
+pub mod Served

@@ -1,0 +1,131 @@
+//! Connections that are accepted.
+use crate::patience::Stage;
+use crate::side::{Listed, Side};
+use crate::sockets::{MOST, Sockets, stage};
+use crate::stop::LoopFault;
+use connections::{Connections, Event};
+use mio::net::TcpStream;
+use mio::{Interest, Token};
+use std::io::{self, ErrorKind};
+use std::time::{Duration, Instant};
+
+// How long, in seconds, a connection is idle before it may give way to another: a request may be on its way.
+const GRACE: u64 = 1;
+
+impl Sockets {
+    /// Accepts what waits, as long as there is a place.
+    pub(crate) fn accept(
+        &mut self,
+        connections: &Connections,
+        now: Instant,
+        told: &mut Vec<Event>,
+    ) -> Result<(), LoopFault> {
+        for _ in 0..MOST {
+            if !self.accept_one(connections, now, told)? {
+                self.more_wait = false;
+                return Ok(());
+            }
+        }
+        Ok(())
+    }
+
+    // Accepts one, if one waits and there is a place. Where all are taken, the one that has been idle longest gives way. Whether
+    // more may wait.
+    fn accept_one(
+        &mut self,
+        connections: &Connections,
+        now: Instant,
+        told: &mut Vec<Event>,
+    ) -> Result<bool, LoopFault> {
+        if self.left == 0 {
+            return Ok(false);
+        }
+        let idlest = self.idlest_where_full(connections, now);
+        if self.free.is_empty() && idlest.is_none() {
+            return Ok(false);
+        }
+        let stream = match self.listener.accept() {
+            Ok((stream, _)) => stream,
+            Err(error) => return Ok(is_gone(&error)),
+        };
+        self.left = self.left.saturating_sub(1);
+        if let Some(slot) = idlest {
+            self.end(slot, told)?;
+        }
+        self.take_place(stream, now, told)?;
+        Ok(true)
+    }
+
+    // A socket takes a free slot.
+    fn take_place(
+        &mut self,
+        stream: TcpStream,
+        now: Instant,
+        told: &mut Vec<Event>,
+    ) -> Result<(), LoopFault> {
+        let Some(slot) = self.free.pop() else {
+            return Ok(());
+        };
+        if self.register(slot, stream, now).is_err() {
+            self.free.push(slot)?;
+            return Ok(());
+        }
+        told.push(Event::Came(slot))?;
+        Ok(())
+    }
+
+    // The system is to tell of a socket by its slot.
+    fn register(&mut self, slot: usize, mut stream: TcpStream, now: Instant) -> io::Result<()> {
+        stream.set_nodelay(true)?;
+        self.poll.registry().register(
+            &mut stream,
+            Token(slot),
+            Interest::READABLE | Interest::WRITABLE,
+        )?;
+        self.put_back(slot, Side::new(stream, now));
+        Ok(())
+    }
+
+    // Where no slot is free, the one whose connection is to give way.
+    fn idlest_where_full(&self, connections: &Connections, now: Instant) -> Option<usize> {
+        if !self.free.is_empty() {
+            return None;
+        }
+        let mut idlest: Option<(usize, Instant)> = None;
+        for (slot, side) in self.sides.iter().enumerate() {
+            if let Some(side) = side {
+                if may_give_way(connections, slot, side, now) && is_before(side.heard, idlest) {
+                    idlest = Some((slot, side.heard));
+                }
+            }
+        }
+        match idlest {
+            Some((slot, _)) => Some(slot),
+            None => None,
+        }
+    }
+}
+
+// Whether only the connection that was to be accepted is gone, or the call was interrupted: then the next one is tried.
+fn is_gone(error: &io::Error) -> bool {
+    match error.kind() {
+        ErrorKind::ConnectionAborted => true,
+        ErrorKind::Interrupted => true,
+        _ => false,
+    }
+}
+
+// Whether a connection is idle, and not only since its request is on its way.
+fn may_give_way(connections: &Connections, slot: usize, side: &Side, now: Instant) -> bool {
+    side.list == Listed::Nowhere
+        && stage(connections, slot, side) == Stage::Idle
+        && now.saturating_duration_since(side.heard) >= Duration::from_secs(GRACE)
+}
+
+// Whether one was heard of before another, if there is another.
+fn is_before(heard: Instant, other: Option<(usize, Instant)>) -> bool {
+    match other {
+        Some((_, instant)) => heard < instant,
+        None => true,
+    }
+}

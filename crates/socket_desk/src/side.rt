@@ -1,0 +1,100 @@
+//! The socket of a connection, and when it was heard of.
+use crate::patience::{Patience, Stage};
+use mio::net::TcpStream;
+use std::io::{self, ErrorKind, Read};
+use std::net::Shutdown;
+use std::time::Instant;
+
+/// Among which a connection waits for a visit.
+#[derive(Clone, Copy, Debug, PartialEq, Eq)]
+pub(crate) enum Listed {
+    /// None: the system will tell of it.
+    Nowhere,
+    /// Those that may have something to do.
+    Ready,
+    /// Those whose body doesn't fit the limit yet.
+    Short,
+}
+
+/// The socket of a connection, and when it was heard of.
+#[derive(Drop)]
+pub(crate) struct Side {
+    pub(crate) stream: TcpStream,
+    // when its request began, or its end
+    pub(crate) since: Instant,
+    // when bytes came or went last
+    pub(crate) heard: Instant,
+    // when the last of them that was told to the desk came or went
+    pub(crate) told: Instant,
+    // how many bytes may be read next
+    pub(crate) room: usize,
+    // the desk has ended its side
+    pub(crate) is_closing: bool,
+    // among which it waits for a visit
+    pub(crate) list: Listed,
+}
+
+impl Side {
+    pub(crate) fn new(stream: TcpStream, now: Instant) -> Side {
+        Side {
+            stream,
+            since: now,
+            heard: now,
+            told: now,
+            room: 0,
+            is_closing: false,
+            list: Listed::Nowhere,
+        }
+    }
+
+    // The desk has nothing more to write. What the client still sends is read for a while, since a socket that is closed while
+    // bytes lie unread in it may lose its last reply (RFC 9112, section 9.6).
+    pub(crate) fn close(&mut self, now: Instant) {
+        let _ = self.stream.shutdown(Shutdown::Write);
+        self.is_closing = true;
+        self.since = now;
+    }
+
+    // One read whose bytes nobody needs. Whether there may be more.
+    pub(crate) fn read_out(&mut self, room: &mut [u8]) -> io::Result<bool> {
+        Ok(self.stream.read(room)? > 0)
+    }
+
+    // Bytes came or went. A request may begin with them, or after them.
+    pub(crate) fn hear(&mut self, now: Instant, begins: bool) {
+        self.heard = now;
+        if begins {
+            self.since = now;
+        }
+    }
+
+    // What came or went was told to the desk, and so many bytes may be read next.
+    pub(crate) fn note(&mut self, room: usize) {
+        self.told = self.heard;
+        self.room = room;
+    }
+
+    // Whether its time is up at this stage. While it waits for its turn, what it sent may lie unread: then this is whether its time
+    // was up already when it had its last turn. Once the desk has ended its side nothing that it sends counts.
+    pub(crate) fn is_late(&self, patience: &Patience, stage: Stage, now: Instant) -> bool {
+        let seen = if self.list == Listed::Ready && !self.is_closing {
+            self.told
+        } else {
+            now
+        };
+        patience.is_over(
+            stage,
+            seen.saturating_duration_since(self.heard),
+            seen.saturating_duration_since(self.since),
+        )
+    }
+}
+
+// Whether the system would make a read or write wait, or it has failed. `None` where it is to be made again.
+pub(crate) fn waits(error: &io::Error) -> Option<bool> {
+    match error.kind() {
+        ErrorKind::WouldBlock => Some(true),
+        ErrorKind::Interrupted => None,
+        _ => Some(false),
+    }
+}

@@ -1,0 +1,464 @@
+//! Sockets that don't block, each in its slot, and one read or write of each that is ready.
+use crate::patience::{Patience, Stage};
+use crate::side::{Listed, Side, waits};
+use crate::stop::LoopFault;
+use crate::transfers::{read_event, write_event};
+use connections::{Connections, Event};
+use mio::net::TcpListener;
+use mio::{Events, Interest, Poll, Token};
+use std::alloc::Global;
+use std::collections::VecDeque;
+use std::io::{self, ErrorKind, Write};
+use std::net::{Net, Shutdown, SocketAddr};
+use std::time::{Duration, Instant};
+
+// The token of the listener. Those of sockets are their slots.
+const LISTENER: usize = usize::MAX;
+
+// How many are visited in a round at most, of which there is something to tell: so what was read and not yet told stays small. And
+// how many are accepted.
+pub(crate) const MOST: usize = 64;
+
+// The most bytes of a read.
+const ROOM: usize = 65_536;
+
+// How often, in seconds, the loop looks for connections whose time is up, and tries again what the system may refuse for a
+// while: to accept a connection where no descriptor was left.
+const TICK: u64 = 1;
+
+// What became of a visit.
+#[derive(Clone, Copy, Debug, PartialEq, Eq)]
+pub(crate) enum Visit {
+    // There may be more to do.
+    Goes,
+    // The system would make it wait.
+    Waits,
+    // There is no room yet for what comes.
+    Short,
+    // It is over.
+    Over,
+}
+
+/// Sockets, each in its slot.
+#[derive(Drop)]
+pub(crate) struct Sockets {
+    pub(crate) alloc: Global,
+    pub(crate) sides: Vec<Option<Side>>,
+    // The slots without a socket.
+    pub(crate) free: Vec<usize>,
+    // Those that may have something to do, in the order of their turns.
+    pub(crate) ready: VecDeque<usize>,
+    // Those whose body doesn't fit the limit yet, in the order in which they get what is left of it.
+    pub(crate) short: VecDeque<usize>,
+    // Connections may wait to be accepted, of which the system won't tell.
+    pub(crate) more_wait: bool,
+    // How many are to be accepted yet.
+    pub(crate) left: u32,
+    // When it was looked for connections whose time is up.
+    pub(crate) swept: Option<Instant>,
+    // It was begun to serve, and that has not come to its end.
+    pub(crate) is_begun: bool,
+    pub(crate) listener: TcpListener,
+    pub(crate) poll: Poll,
+    pub(crate) room: Vec<u8>,
+    pub(crate) patience: Patience,
+}
+
+impl Sockets {
+    /// Listens on an address, with so many slots.
+    pub(crate) fn new<N: Net>(
+        net: &N,
+        alloc: Global,
+        address: SocketAddr,
+        slots: usize,
+        patience: Patience,
+    ) -> Result<Sockets, LoopFault> {
+        let poll = Poll::new(net)?;
+        let mut listener = TcpListener::bind(net, address)?;
+        poll.registry()
+            .register(&mut listener, Token(LISTENER), Interest::READABLE)?;
+        let mut sides = Vec::with_capacity(alloc, slots)?;
+        let mut free = Vec::with_capacity(alloc, slots)?;
+        for slot in 0..slots {
+            sides.push(None)?;
+            free.push(slot)?;
+        }
+        Ok(Sockets {
+            alloc,
+            sides,
+            free,
+            ready: VecDeque::with_capacity(alloc, slots)?,
+            short: VecDeque::with_capacity(alloc, slots)?,
+            more_wait: false,
+            left: 0,
+            swept: None,
+            is_begun: false,
+            listener,
+            poll,
+            room: Vec::from_elem(alloc, 0u8, ROOM)?,
+            patience,
+        })
+    }
+
+    pub(crate) fn address(&self) -> io::Result<SocketAddr> {
+        self.listener.local_addr()
+    }
+
+    /// So many connections are to be accepted from now on. Not so where the last ones were not served to their ends: what was
+    /// read of them may not have been told.
+    pub(crate) fn begin(&mut self, connections: u32, now: Instant) -> Result<(), LoopFault> {
+        if self.is_begun {
+            return Err(LoopFault::Over);
+        }
+        self.is_begun = true;
+        self.left = connections;
+        self.more_wait = true;
+        self.swept = Some(now);
+        Ok(())
+    }
+
+    /// It has served where all connections were accepted, and are gone. Then it may begin once more.
+    pub(crate) fn end_where_done(&mut self) -> bool {
+        let is_done = self.left == 0 && self.free.len() == self.sides.len();
+        if is_done {
+            self.is_begun = false;
+        }
+        is_done
+    }
+
+    /// The most events of a round: those of visits, and for each that is accepted that it came, and that another one gave way;
+    /// and each connection's time may be up.
+    pub(crate) fn most_told(&self) -> usize {
+        self.sides.len().saturating_add(3 * MOST)
+    }
+
+    /// Waits for the system to tell of sockets, but not where there is more to do.
+    pub(crate) fn wait(&mut self, events: &mut Events) -> io::Result<()> {
+        let wait = if self.ready.is_empty() && !self.more_wait {
+            Duration::from_secs(TICK)
+        } else {
+            Duration::ZERO
+        };
+        match self.poll.poll(events, Some(wait)) {
+            Err(error) if error.kind() != ErrorKind::Interrupted => Err(error),
+            _ => Ok(()),
+        }
+    }
+
+    /// One read or write of each socket that is ready, beside connections as they stand. What came of it is to be told.
+    pub(crate) fn round(
+        &mut self,
+        connections: &Connections,
+        events: &Events,
+        now: Instant,
+        told: &mut Vec<Event>,
+    ) -> Result<(), LoopFault> {
+        self.hear_of(events)?;
+        self.visit_ready(connections, now, told)?;
+        self.sweep_where_due(connections, now, told)?;
+        if self.more_wait {
+            self.accept(connections, now, told)?;
+        }
+        Ok(())
+    }
+
+    // Those of which the system tells get their turns after those that wait for theirs.
+    fn hear_of(&mut self, events: &Events) -> Result<(), LoopFault> {
+        for event in events.iter() {
+            let slot = event.token().0;
+            if slot == LISTENER {
+                self.more_wait = true;
+            } else {
+                self.list(slot, Listed::Ready)?;
+            }
+        }
+        Ok(())
+    }
+
+    // Each that waits for its turn gets it, as long as more may be told. The others keep their places before those that had theirs.
+    fn visit_ready(
+        &mut self,
+        connections: &Connections,
+        now: Instant,
+        told: &mut Vec<Event>,
+    ) -> Result<(), LoopFault> {
+        for _ in 0..self.ready.len() {
+            if told.len() >= MOST {
+                return Ok(());
+            }
+            if let Some(slot) = self.ready.pop_front() {
+                self.visit(connections, slot, now, told)?;
+            }
+        }
+        Ok(())
+    }
+
+    // One read or write of the socket in a slot, which is listed no more.
+    fn visit(
+        &mut self,
+        connections: &Connections,
+        slot: usize,
+        now: Instant,
+        told: &mut Vec<Event>,
+    ) -> Result<(), LoopFault> {
+        let Some(mut side) = self.take_out(slot) else {
+            return Ok(());
+        };
+        side.list = Listed::Nowhere;
+        let visit = self.transfer(connections, slot, &mut side, now, told)?;
+        if visit == Visit::Over {
+            return self.leave(slot, Listed::Nowhere);
+        }
+        self.put_back(slot, side);
+        match visit {
+            Visit::Goes => self.list(slot, Listed::Ready),
+            Visit::Short => self.list(slot, Listed::Short),
+            _ => Ok(()),
+        }
+    }
+
+    // A slot waits for a visit, unless it does already.
+    fn list(&mut self, slot: usize, list: Listed) -> Result<(), LoopFault> {
+        let Some(mut side) = self.take_out(slot) else {
+            return Ok(());
+        };
+        if side.list == Listed::Nowhere {
+            side.list = list;
+            if list == Listed::Ready {
+                self.ready.push_back(slot)?;
+            } else {
+                self.short.push_back(slot)?;
+            }
+        }
+        self.put_back(slot, side);
+        Ok(())
+    }
+
+    // One read or write.
+    fn transfer(
+        &mut self,
+        connections: &Connections,
+        slot: usize,
+        side: &mut Side,
+        now: Instant,
+        told: &mut Vec<Event>,
+    ) -> Result<Visit, LoopFault> {
+        if side.is_closing {
+            return Ok(self.read_out(side));
+        }
+        if connections.is_free(slot) {
+            side.close(now);
+            return Ok(Visit::Goes);
+        }
+        let text = connections.outgoing(slot);
+        if !text.is_empty() {
+            return self.write(text, slot, side, now, told);
+        }
+        let begins = stage(connections, slot, side) == Stage::Idle;
+        self.read(slot, side, begins, now, told)
+    }
+
+    // One read.
+    fn read(
+        &mut self,
+        slot: usize,
+        side: &mut Side,
+        begins: bool,
+        now: Instant,
+        told: &mut Vec<Event>,
+    ) -> Result<Visit, LoopFault> {
+        let most = side.room.min(self.room.len());
+        if most == 0 {
+            return Ok(Visit::Short);
+        }
+        let (room, _) = self.room.split_at_mut(most);
+        match read_event(self.alloc, &mut side.stream, slot, room) {
+            Ok(event) => {
+                side.hear(now, begins);
+                told.push(event)?;
+                Ok(Visit::Goes)
+            }
+            Err(error) => stopped(slot, &error, told),
+        }
+    }
+
+    // One write.
+    fn write(
+        &mut self,
+        text: &[u8],
+        slot: usize,
+        side: &mut Side,
+        now: Instant,
+        told: &mut Vec<Event>,
+    ) -> Result<Visit, LoopFault> {
+        match write_event(&mut side.stream, slot, text) {
+            Ok(event) => {
+                // After a whole reply the next request begins.
+                let begins = matches!(&event, Event::Wrote(_, count) if *count == text.len());
+                side.hear(now, begins);
+                told.push(event)?;
+                Ok(Visit::Goes)
+            }
+            Err(error) => stopped(slot, &error, told),
+        }
+    }
+
+    // One read of a connection that has ended on the desk's side.
+    fn read_out(&mut self, side: &mut Side) -> Visit {
+        match side.read_out(self.room.as_mut_slice()) {
+            Ok(true) => Visit::Goes,
+            Ok(false) => Visit::Over,
+            Err(error) => match waits(&error) {
+                Some(true) => Visit::Waits,
+                Some(false) => Visit::Over,
+                None => Visit::Goes,
+            },
+        }
+    }
+
+    // Looks for connections whose time is up, where that is due.
+    fn sweep_where_due(
+        &mut self,
+        connections: &Connections,
+        now: Instant,
+        told: &mut Vec<Event>,
+    ) -> Result<(), LoopFault> {
+        if let Some(swept) = self.swept {
+            if now.saturating_duration_since(swept) < Duration::from_secs(TICK) {
+                return Ok(());
+            }
+        }
+        self.swept = Some(now);
+        self.more_wait = true;
+        for slot in 0..self.sides.len() {
+            if self.is_late(connections, slot, now) {
+                self.end(slot, told)?;
+            }
+        }
+        Ok(())
+    }
+
+    // Whether the time of the connection in a slot is up.
+    fn is_late(&self, connections: &Connections, slot: usize, now: Instant) -> bool {
+        match self.sides.get(slot) {
+            Some(Some(side)) => side.is_late(&self.patience, stage(connections, slot, side), now),
+            _ => false,
+        }
+    }
+
+    /// Ends the connection in a slot at once.
+    pub(crate) fn end(&mut self, slot: usize, told: &mut Vec<Event>) -> Result<(), LoopFault> {
+        let Some(side) = self.take_out(slot) else {
+            return Ok(());
+        };
+        if !side.is_closing {
+            told.push(Event::Late(slot))?;
+        }
+        self.leave(slot, side.list)
+    }
+
+    /// The device has failed: replies that wait go out as far as the sockets take them at once.
+    pub(crate) fn part(&mut self, connections: &Connections) {
+        for slot in 0..self.sides.len() {
+            if let Some(mut side) = self.take_out(slot) {
+                let _ = side.stream.write(connections.outgoing(slot));
+                let _ = side.stream.shutdown(Shutdown::Write);
+            }
+        }
+    }
+
+    /// An event of a slot was told, and so many bytes may be read next.
+    pub(crate) fn note(&mut self, slot: usize, room: usize) {
+        if let Some(mut side) = self.take_out(slot) {
+            side.note(room);
+            self.put_back(slot, side);
+        }
+    }
+
+    /// How many have a body that doesn't fit the limit yet.
+    pub(crate) fn short_len(&self) -> usize {
+        self.short.len()
+    }
+
+    /// The slot of one of them.
+    pub(crate) fn short_at(&self, i: usize) -> Option<usize> {
+        self.short.get(i).copied()
+    }
+
+    /// Those for which there is room by now are ready.
+    pub(crate) fn retry_short(&mut self) -> Result<(), LoopFault> {
+        for _ in 0..self.short.len() {
+            if let Some(slot) = self.short.pop_front() {
+                self.retry(slot)?;
+            }
+        }
+        Ok(())
+    }
+
+    // One of them; it stays among them where there is still no room.
+    fn retry(&mut self, slot: usize) -> Result<(), LoopFault> {
+        let Some(mut side) = self.take_out(slot) else {
+            return Ok(());
+        };
+        side.list = Listed::Nowhere;
+        let list = if side.room > 0 {
+            Listed::Ready
+        } else {
+            Listed::Short
+        };
+        self.put_back(slot, side);
+        self.list(slot, list)
+    }
+
+    fn take_out(&mut self, slot: usize) -> Option<Side> {
+        if slot < self.sides.len() {
+            self.sides[slot].take()
+        } else {
+            None
+        }
+    }
+
+    pub(crate) fn put_back(&mut self, slot: usize, side: Side) {
+        if slot < self.sides.len() {
+            self.sides[slot] = Some(side);
+        }
+    }
+
+    // A slot gets free. It was listed there.
+    fn leave(&mut self, slot: usize, listed: Listed) -> Result<(), LoopFault> {
+        match listed {
+            Listed::Nowhere => {}
+            Listed::Ready => self.ready.retain(|other| *other != slot),
+            Listed::Short => self.short.retain(|other| *other != slot),
+        }
+        self.free.push(slot)?;
+        self.more_wait = true;
+        Ok(())
+    }
+}
+
+/// At which stage the connection in a slot is.
+pub(crate) fn stage(connections: &Connections, slot: usize, side: &Side) -> Stage {
+    if side.is_closing {
+        return Stage::Closing;
+    }
+    match connections.slots.get(slot) {
+        Some(Some(connection)) if !connection.out.is_empty() => Stage::Reply,
+        Some(Some(connection)) if connection.held.len() == 0 => Stage::Idle,
+        Some(Some(connection)) if connection.held.wanted() == 0 => Stage::Head,
+        Some(Some(_)) => Stage::Body,
+        _ => Stage::Closing,
+    }
+}
+
+// A read or a write didn't do. Where the system wouldn't only make it wait, the connection is given up.
+fn stopped(slot: usize, error: &io::Error, told: &mut Vec<Event>) -> Result<Visit, LoopFault> {
+    match waits(error) {
+        Some(true) => Ok(Visit::Waits),
+        Some(false) => {
+            told.push(Event::Failed(slot))?;
+            Ok(Visit::Over)
+        }
+        None => Ok(Visit::Goes),
+    }
+}
