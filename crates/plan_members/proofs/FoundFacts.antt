@@ -1,0 +1,181 @@
+-- What is found of the members is what is said of them.
+use Rattle.std.proofs.Common.{◌≡◌, ◌∙◌, ◌<◌, ℕ, zero, suc, List, [], ◌∷◌, Bool, true, false, ◌||◌, ◌&&◌, cond, Some, None, length, get_or, map, refl, sym, ap, subst, arith}
+use Rattle.std.specs.Prelude.{not}
+use Rattle.std.specs.List.{Contains, filter, flat_map, list_any}
+use Rattle.std.proofs.lemmas.List.{length-map}
+use Rattle.std.proofs.lemmas.List.Elements.{Contains-append_left, Contains-append_right}
+use Rattle.report_holds.specs.declared.holds.HoldOn.{HoldOn}
+use Rattle.zone_lists.specs.declared.zones.ZoneRow.{ZoneRow}
+use Rattle.catalogue.specs.Content.{Content, ids_of}
+use Rattle.catalogue.specs.Ids.{in_order, same_id}
+use Rattle.catalogue.proofs.IdFacts.{in_order_has, one_id}
+use Rattle.supersede.specs.Giving.{gives, givers_of, is_candidate, is_there, needs_in}
+use Rattle.supersede.specs.Reach.{has}
+use Rattle.supersede.proofs.LeadingFacts.{gives_is}
+use Rattle.requisites.specs.Nodes.{row}
+use Rattle.requisites.specs.World.{IsPlan}
+use Rattle.chains.specs.Candidates.{candidates_unless_there}
+use Rattle.chains.specs.Cuts.{id_at}
+use Rattle.chains.specs.Worlds.{world_of}
+use Rattle.chains.proofs.IndexFacts.{at_inside, get_any}
+use Rattle.chains.proofs.PartFacts.{at_map}
+use Rattle.chains.proofs.SearchFacts.{any_from, kept_from, kept_inside, map_inside}
+use Rattle.zone_plans.specs.Members.{joined, needs_id}
+use Rattle.zone_plans.specs.declared.holds.ChosenResolver.{ChosenResolver}
+use Rattle.zone_plans.proofs.GraphFacts.{has_from}
+use Rattle.zone_plans.proofs.PlannedFacts.{answer_has, answer_says, flat_inside}
+use Rattle.plan_members.specs.Found.{AreFound, FoundLists, IsTold, ReadingLists, absent_givers, all_needs, gives_one, holds_at, is_needed_at, no_resolver, nothing_read, or_none, others_at, picked, places, reading_at, reading_of, resolver_at, resolvers_in}
+use Rattle.plan_members.specs.Members.{MemberLists, holds_for, member_at, needed_by_of}
+use Rattle.plan_members.proofs.PlaceFacts.{filter_twice, places_kept, places_same}
+
+-- ---- tests that agree
+
+any_alike : {X : Type 0} (p q : X → Bool) (xs : List X) → ((x : X) → p x ≡ q x) → list_any p xs ≡ list_any q xs
+any_alike p q [] same = refl
+any_alike p q (x ∷ xs) same = ap (λ b. b || list_any p xs) (same x) ∙ ap (λ b. q x || b) (any_alike p q xs same)
+
+filter_alike : {X : Type 0} (p q : X → Bool) (xs : List X) → ((x : X) → p x ≡ q x) → filter p xs ≡ filter q xs
+filter_alike p q [] same = refl
+filter_alike p q (x ∷ xs) same =
+    ap (λ b. cond b (x ∷ filter p xs) (filter p xs)) (same x) ∙ ap (λ l. cond (q x) (x ∷ l) l) (filter_alike p q xs same)
+
+-- two tests that are true together are one
+both_ways : (a b : Bool) → (a ≡ true → b ≡ true) → (b ≡ true → a ≡ true) → a ≡ b
+both_ways true true on back = refl
+both_ways true false on back = sym (on refl)
+both_ways false true on back = back refl
+both_ways false false on back = refl
+
+listed_in : (ids : List (List ℕ)) (id : List ℕ) → has ids id ≡ true → Contains ids id
+listed_in ids id on =
+    let found = any_from (same_id id) ids on in
+    let P : List ℕ → Type 0 = λ x. Contains ids x in
+    subst P (sym (one_id id found.element found.passes)) found.member
+
+-- ---- what is asked for
+
+need_in : (readings : List ReadingLists) (k : ℕ) (d : ReadingLists) (need : List ℕ) → k < length readings → Contains (get_or readings k d).needs need → Contains (flat_map (λ (r : ReadingLists). r.needs) readings) need
+need_in [] k d need below inside = absurd (omega arith)
+need_in (r ∷ rs) zero d need below inside = Contains-append_left r.needs (flat_map (λ (r : ReadingLists). r.needs) rs) need inside
+need_in (r ∷ rs) (suc k) d need below inside = Contains-append_right r.needs (flat_map (λ (r : ReadingLists). r.needs) rs) need (need_in rs k d need (omega arith) inside)
+
+pub need_asked : (readings : List ReadingLists) (asked : List (List ℕ)) (k : ℕ) (reading : ReadingLists) (need : List ℕ) → asked ≡ all_needs readings → k < length readings → reading ≡ get_or readings k reading → Contains reading.needs need → has asked need ≡ true
+need_asked readings asked k reading need are below at inside =
+    let N : ReadingLists → Type 0 = λ r. Contains r.needs need in
+    let P : List (List ℕ) → Type 0 = λ l. has l need ≡ true in
+    subst P (sym are) (has_from (all_needs readings) need ((in_order_has (flat_map (λ (r : ReadingLists). r.needs) readings) need).1 (need_in readings k reading need below (subst N at inside))))
+
+pub resolver_asked : (resolved : List ChosenResolver) (asked : List (List ℕ)) (k : ℕ) (one : ChosenResolver) → asked ≡ resolvers_in resolved → k < length resolved → one ≡ get_or resolved k one → has asked one.resolver ≡ true
+resolver_asked resolved asked k one are below at =
+    let P : List (List ℕ) → Type 0 = λ l. has l one.resolver ≡ true in
+    let inside : Contains resolved one = (k, below, sym at) in
+    subst P (sym are) (has_from (resolvers_in resolved) one.resolver ((in_order_has (map (λ (c : ChosenResolver). c.resolver) resolved) one.resolver).1 (map_inside (λ (c : ChosenResolver). c.resolver) resolved one inside)))
+
+-- what stands at a place
+pub reading_is : (readings : List ReadingLists) (k : ℕ) (reading : ReadingLists) → k < length readings → reading ≡ get_or readings k reading → reading ≡ reading_at readings k
+reading_is readings k reading below at = at ∙ get_any readings k reading nothing_read below
+
+pub resolver_is : (resolved : List ChosenResolver) (k : ℕ) (one : ChosenResolver) → k < length resolved → one ≡ get_or resolved k one → one.resolver ≡ resolver_at resolved k
+resolver_is resolved k one below at = ap (λ (c : ChosenResolver). c.resolver) (at ∙ get_any resolved k one no_resolver below)
+
+-- ---- what gives
+
+module _ (content : Content) (rows : List ZoneRow) where
+  -- what gives a resolver is all that does
+  pub givers_are : (resolver id : List ℕ) → has (givers_of content resolver) id ≡ gives content id resolver
+  givers_are resolver id =
+      both_ways (has (givers_of content resolver) id) (gives content id resolver)
+      (λ on. (kept_from (λ (giver : List ℕ). gives content giver resolver) (ids_of content) id (listed_in (givers_of content resolver) id on)).passes)
+      (λ on. has_from (givers_of content resolver) id (kept_inside (λ (giver : List ℕ). gives content giver resolver) (ids_of content) id ((gives_is content id resolver).0 on).catalogued on))
+
+  -- for a candidate, what gives a need that isn't there is all that does
+  pub absent_is : (need id : List ℕ) → is_candidate content rows id ≡ true → has (absent_givers content rows need) id ≡ (not (is_there content rows need) && gives content id need)
+  absent_is need id candidate = go (is_there content rows need) refl where
+    all : List (List ℕ)
+    all = filter (λ giver. is_candidate content rows giver) (givers_of content need)
+
+    go : (b : Bool) → is_there content rows need ≡ b → has (or_none (cond b None (Some (filter (λ giver. is_candidate content rows giver) (givers_of content need))))) id ≡ (not b && gives content id need)
+    go true there = refl
+    go false absent =
+        both_ways (has (filter (λ giver. is_candidate content rows giver) (givers_of content need)) id) (gives content id need)
+        (λ on. (gives_is content id need).1 ((answer_says content rows need (filter (λ giver. is_candidate content rows giver) (givers_of content need)) (ap (λ b. cond b None (Some (filter (λ giver. is_candidate content rows giver) (givers_of content need)))) absent)).each id
+        (listed_in (filter (λ giver. is_candidate content rows giver) (givers_of content need)) id on)))
+        (λ on. has_from (filter (λ giver. is_candidate content rows giver) (givers_of content need)) id (answer_has content rows need id candidate ((gives_is content id need).0 on)))
+
+  -- whether it gives one of the needs of another
+  pub needed_is : (other id : List ℕ) → is_candidate content rows id ≡ true → gives_one (absent_givers content rows) (needs_in content rows other) id ≡ needs_id content rows other id
+  needed_is other id candidate =
+      any_alike (λ need. has (absent_givers content rows need) id) (λ need. not (is_there content rows need) && gives content id need) (needs_in content rows other)
+      (λ need. absent_is need id candidate)
+
+  -- ---- what is told
+
+  module _ (received : List (List ℕ)) (resolved : List ChosenResolver) (found : FoundLists) (are : AreFound content rows resolved found) where
+    read_at : (q : ℕ) → q < length found.ids → reading_at found.readings q ≡ reading_of content rows (id_at found.ids q)
+    read_at q within = ap (λ (l : List ReadingLists). reading_at l q) are.readings ∙ at_map (reading_of content rows) found.ids q [] nothing_read within
+
+    holds_are : (q : ℕ) → q < length found.ids → holds_at resolved (row found.resolving q) ≡ holds_for content resolved (id_at found.ids q)
+    holds_are q within =
+        let id = id_at found.ids q in
+        ap (λ (l : List ChosenResolver). map (λ (one : ChosenResolver). one.hold) l)
+        (ap (picked resolved) (are.resolving.each q within)
+        ∙ places_kept resolved no_resolver (λ (one : ChosenResolver). has (givers_of content one.resolver) id)
+        ∙ filter_alike (λ (one : ChosenResolver). has (givers_of content one.resolver) id) (λ (one : ChosenResolver). gives content id one.resolver) resolved (λ one. givers_are one.resolver id))
+
+    as_many : length found.readings ≡ length found.ids
+    as_many = ap length are.readings ∙ length-map found.ids (reading_of content rows)
+
+    needed_at : (q k : ℕ) → is_candidate content rows (id_at found.ids q) ≡ true → k < length found.ids → is_needed_at (absent_givers content rows) found.readings k (id_at found.ids q) ≡ needs_id content rows (id_at found.ids k) (id_at found.ids q)
+    needed_at q k candidate below =
+        ap (λ (r : ReadingLists). gives_one (absent_givers content rows) r.needs (id_at found.ids q)) (read_at k below)
+        ∙ needed_is (id_at found.ids k) (id_at found.ids q) candidate
+
+    needed_are : (q : ℕ) → q < length found.ids → is_candidate content rows (id_at found.ids q) ≡ true → others_at found.ids (id_at found.ids q) (row found.needing q) ≡ needed_by_of content rows found.ids (id_at found.ids q)
+    needed_are q within candidate =
+        let id = id_at found.ids q in
+        let apart = λ (other : List ℕ). not (same_id other id) in
+        let needs = λ (other : List ℕ). needs_id content rows other id in
+        let test = λ (k : ℕ). is_needed_at (absent_givers content rows) found.readings k id in
+        ap (λ (l : List (List ℕ)). filter apart l)
+        (ap (picked found.ids) (are.needing.each q within ∙ ap (places test) as_many ∙ places_same test (λ k. needs (id_at found.ids k)) (length found.ids) (λ k below. needed_at q k candidate below))
+        ∙ places_kept found.ids [] needs)
+        ∙ filter_twice apart needs found.ids
+
+    -- what is told of each member is what is said of it
+    pub is_told : ((q : ℕ) → q < length found.ids → is_candidate content rows (id_at found.ids q) ≡ true) → IsTold received resolved found (member_at content rows received resolved found.ids)
+    is_told candidates = λ step q within.
+        let id = id_at found.ids q in
+        let made : ReadingLists → List HoldOn → List (List ℕ) → MemberLists = λ r holds needed. record {
+          step = step;
+          id = id;
+          fmids = r.fmids;
+          received = has received id;
+          holds = holds;
+          needed_by = needed;
+          system = r.system;
+          user = r.user;
+        } in
+        let read = reading_of content rows id in
+        let candidate = candidates q within in
+        sym (ap (λ (r : ReadingLists). made r (holds_at resolved (row found.resolving q)) (others_at found.ids id (row found.needing q))) (read_at q within)
+        ∙ ap (λ (l : List HoldOn). made read l (others_at found.ids id (row found.needing q))) (holds_are q within)
+        ∙ ap (λ (l : List (List ℕ)). made read (holds_for content resolved id) l) (needed_are q within candidate))
+
+  -- the members of a plan may be installed in the zone
+  pub candidates_in : (steps : List (List (List ℕ))) (ids : List (List ℕ)) → ids ≡ in_order (joined steps) → IsPlan (world_of content rows) (joined steps) → (q : ℕ) → q < length ids → is_candidate content rows (id_at ids q) ≡ true
+  candidates_in steps ids are plan q within =
+      let P : List (List ℕ) → Type 0 = λ l. Contains l (id_at ids q) in
+      plan.candidates (id_at ids q) ((in_order_has (joined steps) (id_at ids q)).0 (subst P are (at_inside ids q within)))
+
+  pub absent_map : (ids : List (List ℕ)) → map or_none (map (candidates_unless_there content rows) ids) ≡ map (absent_givers content rows) ids
+  absent_map [] = refl
+  absent_map (id ∷ ids) = ap (λ l. absent_givers content rows id ∷ l) (absent_map ids)
+
+-- ---- steps
+
+-- what stands in a step is a member
+pub step_listed : (steps : List (List (List ℕ))) (ids : List (List ℕ)) (i : ℕ) (id : List ℕ) → ids ≡ in_order (joined steps) → i < length steps → Contains (get_or steps i []) id → Contains ids id
+step_listed steps ids i id are below inside =
+    let P : List (List ℕ) → Type 0 = λ l. Contains l id in
+    let step : Contains steps (get_or steps i []) = (i, below, get_any steps i (get_or steps i []) [] below) in
+    subst P (sym are) ((in_order_has (joined steps) id).1 (flat_inside (λ (s : List (List ℕ)). s) steps (get_or steps i []) id step inside))

@@ -1,0 +1,3 @@
+pub mod PlaceFacts
+pub mod StepFacts
+pub mod FoundFacts

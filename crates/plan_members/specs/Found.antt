@@ -1,0 +1,176 @@
+-- No part of what is promised: private contracts cite it. How what is said of each member is found.
+use Rattle.std.specs.Prelude.{◌≡◌, ◌<◌, ◌++◌, ◌==◌, ℕ, zero, suc, Bool, false, not, List, [], ◌∷◌, Option, Some, None, filter, length, map, if◌then◌else◌, slice_index_or, ◌-◌}
+use Rattle.std.specs.Global.{Vec}
+use Rattle.std.specs.List.{filter_map, flat_map, list_any, slice_get}
+use Rattle.mcs_reader.specs.declared.id.Id.{Id}
+use Rattle.holddata.specs.declared.hold.Hold.{Hold}
+use Rattle.holddata.specs.declared.key.Kind.TheVariants.{ErrorHold, SystemHold, UserHold}
+use Rattle.zone_lists.specs.declared.zones.ZoneRow.{ZoneRow}
+use Rattle.catalogue.specs.Content.{Content, holds_on, record_of}
+use Rattle.catalogue.specs.Ids.{in_order, same_id}
+use Rattle.catalogue.specs.declared.sysmod.Sysmod.{Sysmod}
+use Rattle.supersede.specs.Giving.{conds_of, fmids_of, givers_of, needs_where, requisites_of}
+use Rattle.supersede.specs.Reach.{has}
+use Rattle.requisites.specs.Nodes.{row}
+use Rattle.chains.specs.Candidates.{candidates_unless_there}
+use Rattle.chains.specs.Cuts.{id_at}
+use Rattle.chains.specs.Indices.{RowsAre}
+use Rattle.reports.specs.ChainText.{reasons_in}
+use Rattle.report_holds.specs.declared.holds.HoldOn.{HoldOn}
+use Rattle.zone_plans.specs.declared.holds.ChosenResolver.{ChosenResolver}
+use Rattle.plan_members.specs.Members.{MemberLists}
+
+-- ---- what is read
+
+-- What is read of a member: its functions, what it needs in the zone, and the reasons of the SYSTEM and USER holds on it.
+pub record ReadingLists : Type 0 where
+  pub fmids : List (List ℕ)
+  pub needs : List (List ℕ)
+  pub system : List (List ℕ)
+  pub user : List (List ℕ)
+
+-- by a record and the holds
+abbrev pub reading_from : List ZoneRow → Option Sysmod → List Hold → ReadingLists
+reading_from rows found holds = record {
+  fmids = fmids_of found;
+  needs = requisites_of found ++ reasons_in ErrorHold holds ++ needs_where rows (conds_of found);
+  system = reasons_in SystemHold holds;
+  user = reasons_in UserHold holds;
+}
+
+abbrev pub reading_of : Content → List ZoneRow → List ℕ → ReadingLists
+reading_of content rows id = reading_from rows (record_of content id) (holds_on content id)
+
+-- all that is needed
+abbrev pub all_needs : List ReadingLists → List (List ℕ)
+all_needs readings = in_order (flat_map (λ reading. reading.needs) readings)
+
+-- what is read of the member at an index
+abbrev pub nothing_read : ReadingLists
+nothing_read = record { fmids = []; needs = []; system = []; user = [] }
+
+abbrev pub reading_at : List ReadingLists → ℕ → ReadingLists
+reading_at readings p = slice_index_or readings p nothing_read
+
+-- ---- what gives an id
+
+-- what is answered, or none
+abbrev pub or_none : Option (List (List ℕ)) → List (List ℕ)
+or_none None = []
+or_none (Some ids) = ids
+
+-- the candidates that give an id, or none where it is there
+abbrev pub absent_givers : Content → List ZoneRow → List ℕ → List (List ℕ)
+absent_givers content rows id = or_none (candidates_unless_there content rows id)
+
+abbrev pub lists_of : List (Vec Id) → List (List (List ℕ))
+lists_of lists = map (λ list. list.items) lists
+
+-- whether something gives one of some needs
+abbrev pub gives_one : (List ℕ → List (List ℕ)) → List (List ℕ) → List ℕ → Bool
+gives_one f needs id = list_any (λ need. has (f need) id) needs
+
+-- ---- places in a list
+
+-- the places below a number at which a test holds
+abbrev pub places : (ℕ → Bool) → ℕ → List ℕ
+places test zero = []
+places test (suc n) = places test n ++ (if test n then n ∷ [] else [])
+
+-- whether a row ends with a place
+abbrev pub is_some_of : Option ℕ → ℕ → Bool
+is_some_of None place = false
+is_some_of (Some last) place = last == place
+
+abbrev pub ends_with : List ℕ → ℕ → Bool
+ends_with places place = is_some_of (slice_get places (length places - 1)) place
+
+-- a place is added unless the row ends with it
+abbrev pub with_once : List ℕ → ℕ → List ℕ
+with_once places place = if ends_with places place then places else places ++ place ∷ []
+
+abbrev pub once : Bool → ℕ → List ℕ → List ℕ
+once add place places = if add then with_once places place else places
+
+abbrev pub places_of : List (Vec ℕ) → List (List ℕ)
+places_of lists = map (λ list. list.items) lists
+
+-- a place is added once to the row of each id that passes a test
+pub record ArePut (test : List ℕ → Bool) (ids : List (List ℕ)) (place : ℕ) (old new : List (List ℕ)) : Type 0 where
+  pub len : length new ≡ length old
+  pub each : (q : ℕ) → q < length ids → row new q ≡ once (test (id_at ids q)) place (row old q)
+
+-- the row of each id has the places below a number at which a test of the id holds
+abbrev pub ArePlaces : (ℕ → List ℕ → Bool) → List (List ℕ) → ℕ → List (List ℕ) → Type 0
+ArePlaces test ids n rows = RowsAre (λ q found. found ≡ places (λ k. test k (id_at ids q)) n) (length ids) rows
+
+-- ---- what needs a member, and for which holds it came
+
+-- whether a member gives what is needed at a place
+abbrev pub is_needed_at : (List ℕ → List (List ℕ)) → List ReadingLists → ℕ → List ℕ → Bool
+is_needed_at f readings k id = gives_one f (reading_at readings k).needs id
+
+abbrev pub AreNeeding : (List ℕ → List (List ℕ)) → List (List ℕ) → List ReadingLists → List (List ℕ) → Type 0
+AreNeeding f ids readings rows = ArePlaces (is_needed_at f readings) ids (length readings) rows
+
+-- the resolver of a hold at a place
+abbrev pub no_resolver : ChosenResolver
+no_resolver = record { hold = record { sysmod = []; reason = [] }; resolver = [] }
+
+abbrev pub resolver_at : List ChosenResolver → ℕ → List ℕ
+resolver_at resolved k = (slice_index_or resolved k no_resolver).resolver
+
+-- whether a member gives it
+abbrev pub resolves_at : (List ℕ → List (List ℕ)) → List ChosenResolver → ℕ → List ℕ → Bool
+resolves_at f resolved k id = has (f (resolver_at resolved k)) id
+
+abbrev pub AreResolving : (List ℕ → List (List ℕ)) → List (List ℕ) → List ChosenResolver → List (List ℕ) → Type 0
+AreResolving f ids resolved rows = ArePlaces (resolves_at f resolved) ids (length resolved) rows
+
+-- the resolvers of some holds, ascending, each once
+abbrev pub resolvers_in : List ChosenResolver → List (List ℕ)
+resolvers_in resolved = in_order (map (λ one. one.resolver) resolved)
+
+-- ---- what is told
+
+-- what is found of the members: their ids, what is read of each, and by place which members need it and for which holds it came
+pub record FoundLists : Type 0 where
+  pub ids : List (List ℕ)
+  pub readings : List ReadingLists
+  pub needing : List (List ℕ)
+  pub resolving : List (List ℕ)
+
+-- it is found of each
+pub record AreFound (content : Content) (rows : List ZoneRow) (resolved : List ChosenResolver) (found : FoundLists) : Type 0 where
+  pub readings : found.readings ≡ map (reading_of content rows) found.ids
+  pub needing : AreNeeding (absent_givers content rows) found.ids found.readings found.needing
+  pub resolving : AreResolving (givers_of content) found.ids resolved found.resolving
+
+-- what stands at some places
+abbrev pub picked : {X : Type 0} → List X → List ℕ → List X
+picked xs places = filter_map (slice_get xs) places
+
+-- the ids at some places but for one
+abbrev pub others_at : List (List ℕ) → List ℕ → List ℕ → List (List ℕ)
+others_at ids id places = filter (λ other. not (same_id other id)) (picked ids places)
+
+abbrev pub holds_at : List ChosenResolver → List ℕ → List HoldOn
+holds_at resolved places = map (λ one. one.hold) (picked resolved places)
+
+-- what is told of the member at an index
+abbrev pub told_at : List (List ℕ) → List ChosenResolver → FoundLists → ℕ → ℕ → MemberLists
+told_at received resolved found step q = record {
+  step = step;
+  id = id_at found.ids q;
+  fmids = (reading_at found.readings q).fmids;
+  received = has received (id_at found.ids q);
+  holds = holds_at resolved (row found.resolving q);
+  needed_by = others_at found.ids (id_at found.ids q) (row found.needing q);
+  system = (reading_at found.readings q).system;
+  user = (reading_at found.readings q).user;
+}
+
+-- something is what is told of each member
+abbrev pub IsTold : List (List ℕ) → List ChosenResolver → FoundLists → (ℕ → List ℕ → MemberLists) → Type 0
+IsTold received resolved found at =
+    (step q : ℕ) → q < length found.ids → at step (id_at found.ids q) ≡ told_at received resolved found step q

@@ -1,0 +1,54 @@
+//! Ids in order.
+ghost use Rattle.std.specs.Prelude.{◌≡◌, IfOk, OnOk};
+ghost use Rattle.catalogue.specs.Ids.{Ascend, in_order, put_among};
+ghost use Rattle.zone_plans.specs.Members.{joined};
+ghost use Rattle.plan_members.specs.Found.{resolvers_in};
+
+use faults::NoMemory;
+use mcs_reader::Id;
+use std::alloc::Global;
+use std::collections::BTreeSet;
+use zone_plans::{ChosenResolver, Steps};
+
+/// The members of some steps, ascending, each once.
+pub(crate) fn members_in(alloc: Global, steps: &Steps) -> Result<Vec<Id>, NoMemory>
+    ensures ids { IfOk result (λ ids. ids.items ≡ in_order (joined steps.now)) }
+    ensures ascend { IfOk result (λ ids. Ascend ids.items) }
+{
+    let mut found = BTreeSet::new(alloc);
+    for index in 0..steps.len() {
+        let step = steps.step(alloc, index)?;
+        put_all(&mut found, &step)?;
+    }
+    listed(alloc, found)
+}
+
+/// The resolvers of some holds, ascending, each once.
+pub(crate) fn resolvers_in(alloc: Global, resolved: &[ChosenResolver]) -> Result<Vec<Id>, NoMemory>
+    ensures ids { IfOk result (λ ids. ids.items ≡ resolvers_in resolved.now) }
+    ensures ascend { IfOk result (λ ids. Ascend ids.items) }
+{
+    let mut found = BTreeSet::new(alloc);
+    for one in resolved {
+        found.insert(one.resolver)?;
+    }
+    listed(alloc, found)
+}
+
+/// The ids of a set, in order.
+pub(crate) fn listed(alloc: Global, ids: BTreeSet<Id>) -> Result<Vec<Id>, NoMemory>
+    ensures ids { IfOk result (λ list. list.items ≡ ids.keys) }
+    ensures ascend { IfOk result (λ list. Ascend list.items) }
+{
+    ids.into_iter().collect(alloc)
+}
+
+/// Puts ids among others, in order.
+pub(crate) fn put_all(found: &mut BTreeSet<Id>, ids: &[Id]) -> Result<(), NoMemory>
+    ensures { OnOk result (found.new.keys ≡ put_among found.old.keys ids.now) }
+{
+    for id in ids {
+        found.insert(*id)?;
+    }
+    Ok(())
+}
