@@ -1,0 +1,2 @@
+pub mod JsonFacts
+pub mod TableFacts

@@ -1,0 +1,14 @@
+use Rattle.std.proofs.Common.{◌∙◌, map, ap}
+use Rattle.std.proofs.lemmas.List.{take_all}
+use Rattle.serde_json.specs.View.{items_of}
+use Rattle.plan_texts.specs.Json.{chosen_data}
+use Rattle.plan_texts.proofs.JsonFacts.{value_more}
+use Rattle.plan_texts.proofs.json.chosen_values.Goals as goal
+
+pub loop-one-preserved : goal.loop-one-preserved
+loop-one-preserved c =
+    value_more chosen_data c.args.holds.now c.loop-one.one-index c.one-item.result c.loop-one.values.items c.push.new.self.items c.in_ok-chosen_value.field-0
+    c.loop-one-test.true c.one-item.is c.loop-one.invariant c.in_ok-chosen_value.ensures c.in_ok-push.ensures.items
+
+pub returns : goal.returns
+returns c = ap items_of (c.loop-one.invariant ∙ ap (map chosen_data) (take_all c.loop-one.one-index c.args.holds.now c.loop-one-test.false))
