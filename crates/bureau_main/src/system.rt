@@ -1,5 +1,5 @@
 //! What the system gives a run: words, files, connections to a port, random keys and clocks.
-ghost use Rattle.std.specs.Prelude.{◌≡◌, ◌⊎◌};
+ghost use Rattle.std.specs.Prelude.{◌≡◌, ◌≢◌, ◌⊎◌};
 
 use bureau_http::{ConnFault, Listening, Patience, Served, Side, Sockets};
 use bureau_program::Surroundings;
@@ -154,7 +154,8 @@ fn make_private(rt: &HostRuntime, name: &str) -> io::Result<()> {
 
 // Why the files of a store can't be opened.
 fn fault_of(error: Error) -> StoreFault
-    ensures { (result ≡ StoreFault.Memory) ⊎ (result ≡ StoreFault.Device) }
+    ensures { ((result ≡ StoreFault.Memory) × (error ≡ Error.SqliteFailure ErrorCode.OutOfMemory))
+        ⊎ ((result ≡ StoreFault.Device) × (error ≢ Error.SqliteFailure ErrorCode.OutOfMemory)) }
 {
     match error {
         Error::SqliteFailure(ErrorCode::OutOfMemory) => StoreFault::Memory,

@@ -18,11 +18,17 @@ use Rattle.bureau_http.specs.Arrivals.{Event}
 use Rattle.bureau_sql.specs.Files.{HoldTables, HoldsStore}
 use Rattle.sqlite_disk.specs.declared.Disk as disk
 use Rattle.sqlite_wal.specs.Recovery.{Image}
-use Rattle.store_runs.specs.Keeping.{HoldCallers, Leaves}
+use Rattle.store_runs.specs.Callers.{KeepsCallers, LeavesSet}
+use Rattle.store_runs.specs.Desk.{AreRowsOf}
+use Rattle.store_runs.specs.Keeping.{EndsWell, HoldCallers, KeepsTables, Leaves}
 use Rattle.bureau_program.specs.Served.{KeepsServed}
-use Rattle.bureau_program.specs.Runs.{AreFoundAs, AreFoundBy, AreJoined, AreOneCourse, AreRuns, AreRunsIn, AreRunsOver, FileRun, GoesOn, HasMade, HoldAfter, HoldSinceInit, IsRunOver, LeavesSet, MayStand, Other, Run, Serves, Sets, StandsBy, as_made, left_by, stages_of}
+use Rattle.bureau_program.specs.Runs.{AreFoundAs, AreFoundBy, AreJoined, AreOneCourse, AreRuns, AreRunsIn, AreRunsOver, FileRun, GoesOn, HasMade, HoldAfter, HoldSinceInit, IsRunOver, MayStand, Other, Run, Serves, Sets, StandsBy, as_made, left_by, stages_of}
+use Rattle.store_runs.specs.Ended.{IsNothing}
 use Rattle.store_runs.specs.declared.ended.Ended.{Ended}
+use Rattle.store_runs.specs.declared.ended.Ended.TheVariants.{Nothing, Left, Closed}
+use Rattle.store_runs.proofs.StayFacts.{kept_tables}
 use Rattle.bureau_program.proofs.KeepingFacts.{in_order}
+use Rattle.bureau_program.proofs.StayingFacts.{all_have, has_the_publisher, publisher_stays}
 
 abbrev pub Isolation : Type 0
 Isolation = (opening closing : Tables) (stages : List Stage) → AreInOrder opening → IsCourse opening stages closing → IsAloneWhereItStays opening stages
@@ -120,10 +126,6 @@ made_run opening closing next calls made run has =
     let second : IsRun closing (as_made has.call_by closing ∷ has.after) next = (next, inr (refl, has.next_is), later.1) in
     subst (λ (l : List CallBy). IsRun opening l next) (sym has.are) (join opening closing next has.before (as_made has.call_by closing ∷ has.after) first second)
 
--- a run that a fault ended is not done
-some_fault : (fault : AnyFault) → ◌≡◌ {A = Option AnyFault} (Some fault) None → ⊥
-some_fault fault same = cc
-
 as_found : (run : Run) (next : Tables) → IsRun run.before run.calls run.closing → MayStand run next
     → (found : List Stage) × AreFoundAs run next found × IsCourse run.before found next
 as_found run next now stands = by run.callers stands
@@ -136,14 +138,13 @@ as_found run next now stands = by run.callers stands
       join_courses run.before run.closing next (stages_of run.calls) (Callers rows ∷ []) (course_of run.calls run.before run.closing now) (next, set, refl),
     )
 
-    ended : (rows : List CallerRow) (outcome : Option AnyFault) → run.outcome ≡ outcome → LeavesSet rows outcome run.closing next
+    ended : (rows : List CallerRow) → LeavesSet rows run.outcome run.closing next
         → (found : List Stage) × AreFoundBy (Some rows) run next found × IsCourse run.before found next
-    ended rows None is set = with_set rows set
-    ended rows (Some fault) is (inr set) = with_set rows set
-    ended rows (Some fault) is (inl same) = (
+    ended rows (inr set) = with_set rows set
+    ended rows (inl kept) = (
       stages_of run.calls,
-      inr ((λ none. some_fault fault (sym is ∙ none)), same, refl),
-      subst (IsCourse run.before (stages_of run.calls)) (sym same) (course_of run.calls run.before run.closing now),
+      inr (kept.0, kept.1, refl),
+      subst (IsCourse run.before (stages_of run.calls)) (sym kept.1) (course_of run.calls run.before run.closing now),
     )
 
     by : (callers : Option (List CallerRow)) → StandsBy callers run next → (found : List Stage) × AreFoundBy callers run next found × IsCourse run.before found next
@@ -155,7 +156,7 @@ as_found run next now stands = by run.callers stands
           inr (device, (made.0, made.1, refl)),
           course_of made.0 run.before next (made_run run.before run.closing next run.calls made.0 now made.1),
         )
-    by (Some rows) set = ended rows run.outcome refl set
+    by (Some rows) set = ended rows set
 
 all_joined : (run : Run) (runs : List Run) (this : Tables) → IsRun run.before run.calls run.closing → AreRuns (MayStand run) runs this
     → (all : List Stage) × AreJoined (run ∷ runs) this all × IsCourse run.before all this
@@ -171,13 +172,26 @@ all_joined run (next ∷ runs) this now later =
     )
 
 -- all of them, from the tables that the first one finds
-one_course : Isolation → (opening : Tables) (runs : List Run) (this : Tables) → AreInOrder opening → AreRuns (λ at. at ≡ opening) runs this → AreOneCourse opening runs this
-one_course isolation opening [] this ordered are =
-    record { all = []; joined = refl; course = are; alone = isolation opening this [] ordered are }
-one_course isolation opening (run ∷ runs) this ordered are =
+one_course : Isolation → (opening : Tables) (files : List FileRun) (runs : List Run) (this : Tables) → AreInOrder opening → AreRunsIn files runs
+    → AreRuns (λ at. at ≡ opening) runs this → AreOneCourse opening runs this
+one_course isolation opening files [] this ordered within are = record {
+  all = [];
+  joined = refl;
+  course = are;
+  alone = isolation opening this [] ordered are;
+  stays = λ has. tt;
+}
+one_course isolation opening files (run ∷ runs) this ordered within are =
     let it = all_joined run runs this are.1 are.2 in
     let whole : IsCourse opening it.0 this = subst (λ (at : Tables). IsCourse at it.0 this) are.0 it.2 in
-    record { all = it.0; joined = it.1; course = whole; alone = isolation opening this it.0 ordered whole }
+    let have = all_have files (run ∷ runs) this it.0 within it.1 in
+    record {
+      all = it.0;
+      joined = it.1;
+      course = whole;
+      alone = isolation opening this it.0 ordered whole;
+      stays = λ has. publisher_stays opening.callers it.0 has have;
+    }
 
 -- ---- over files
 
@@ -199,11 +213,11 @@ all_held (Serves log log_after outcome left ∷ files) from last Opens held are 
     ) in r))
 all_held (Sets rows outcome left ∷ files) from last Opens held are = ∥∥₁_elim held squash₁ (λ it.
     let run : Run = record { before = it.0; calls = []; closing = it.0; outcome = outcome; callers = Some rows } in
-    ∥∥₁_map (all_held files left last (MayStand run) (are.0 it.0 it.1) are.1) (λ more.
+    ∥∥₁_map (all_held files left last (MayStand run) (are.0.1 it.0 it.1) are.1) (λ more.
     let r : (this : Tables) × HoldsStore last this × ((runs : List Run) × AreRunsIn (Sets rows outcome left ∷ files) runs × AreRuns Opens runs this) = (
       more.0,
       more.1,
-      (run ∷ more.2.0, ((refl, refl, refl), more.2.1), (it.2, refl, more.2.2)),
+      (run ∷ more.2.0, ((refl, refl, refl, are.0.0), more.2.1), (it.2, refl, more.2.2)),
     ) in r))
 all_held (Other left ∷ files) from last Opens held are = ∥∥₁_elim held squash₁ (λ it.
     let run : Run = record { before = it.0; calls = []; closing = it.0; outcome = None; callers = None } in
@@ -225,33 +239,54 @@ held_after isolation opening image held files last are = ∥∥₁_elim held squ
     let r : (this : Tables) × HoldsStore last this × ((runs : List Run) × AreRunsIn files runs × AreRuns (λ at. at ≡ opening) runs this × AreOneCourse opening runs this) = (
       more.0,
       more.1,
-      (more.2.0, more.2.1, more.2.2, one_course isolation opening more.2.0 more.0 ordered more.2.2),
+      (more.2.0, more.2.1, more.2.2, one_course isolation opening files more.2.0 more.0 ordered more.2.1 more.2.2),
     ) in r))
 
 -- from the store that `init` made
 pub held_since : Isolation → (source : List ℕ) (image : Image) → HoldCallers source image → (files : List FileRun) (last : Image) → AreRunsOver image files last
     → HoldSinceInit source files last
-held_since isolation source image made files last are = (made.0, made.1, held_after isolation (opened made.0) image made.2 files last are)
+held_since isolation source image made files last are =
+    (made.0, made.1, has_the_publisher source made.0 made.1, held_after isolation (opened made.0) image made.2 files last are)
 
 -- and one more run
 one_more : (from : Image) (files : List FileRun) (last : Image) (run : FileRun) → AreRunsOver from files last → IsRunOver last run → AreRunsOver from (files ++ run ∷ []) (left_by run)
 one_more from [] last run same is = (subst (λ (at : Image). IsRunOver at run) same is, refl)
 one_more from (file ∷ files) last run are is = (are.0, one_more (left_by file) files last run are.1 is)
 
+-- what a run keeps makes it one of the law, whatever a stop leaves
+module _ {D : Type 0} {g : disk.Ghosts D} (from : Image) (ended : Ended D g) (well : EndsWell from ended) (left : Image) (may : Leaves from ended left) where
+  pub serves_over : (log log_after : Option (List Event)) (outcome : Option AnyFault) → KeepsServed from log log_after outcome ended
+      → IsRunOver from (Serves log log_after outcome left)
+  serves_over log log_after outcome kept before holds =
+      let it = kept.served well before holds in
+      record {
+        arrivals = it.arrivals;
+        logged = it.logged;
+        calls = it.calls;
+        closing = it.closing;
+        made = it.made;
+        run = it.run;
+        alone = it.alone;
+        left = λ image same. it.left image (subst (Leaves from ended) (sym same) may);
+      }
+
+  pub sets_over : (source : List ℕ) (rows : List CallerRow) (outcome : Option AnyFault) → AreRowsOf source rows → KeepsCallers from rows outcome ended
+      → IsRunOver from (Sets rows outcome left)
+  sets_over source rows outcome rows_are kept = ((source, rows_are), λ before holds. kept.store before holds well left may)
+
+  pub other_over : KeepsTables from ended → IsRunOver from (Other left)
+  other_over kept before holds = kept before holds well left may
+
+-- a run that opened no files
+module _ {D : Type 0} {g : disk.Ghosts D} (from : Image) where
+  pub nothing_kept : (ended : Ended D g) → IsNothing ended → KeepsTables from ended
+  nothing_kept Nothing none = kept_tables {D = D} {g = g} from Nothing tt
+  nothing_kept (Left it) none = absurd none
+  nothing_kept (Closed last) none = absurd none
+
 pub goes_on : Isolation → {D : Type 0} {g : disk.Ghosts D} (from : Image) (log log_after : Option (List Event)) (outcome : Option AnyFault) (ended : Ended D g)
     → KeepsServed from log log_after outcome ended → GoesOn from log log_after outcome ended
 goes_on isolation from log log_after why ended kept well source image made runs are left may =
     let this : FileRun = Serves log log_after why left in
-    let is : IsRunOver from this = λ before holds.
-    let it = kept.served well before holds in
-    record {
-      arrivals = it.arrivals;
-      logged = it.logged;
-      calls = it.calls;
-      closing = it.closing;
-      made = it.made;
-      run = it.run;
-      alone = it.alone;
-      left = λ image same. it.left image (subst (Leaves from ended) (sym same) may);
-    } in
-    held_since isolation source image made (runs ++ this ∷ []) left (one_more image runs from this are is)
+    held_since isolation source image made (runs ++ this ∷ []) left
+    (one_more image runs from this are (serves_over from ended well left may log log_after why kept))

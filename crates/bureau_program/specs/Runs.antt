@@ -1,11 +1,13 @@
 -- Any number of runs of the program over the files of a store, one after the other, each of which may stop at any moment.
-use Rattle.std.specs.Prelude.{◌≡◌, ◌⊎◌, ℕ, List, [], ◌∷◌, ◌++◌, map, Option, None, Some}
+use Rattle.std.specs.Prelude.{◌≡◌, ◌⊎◌, ℕ, true, List, [], ◌∷◌, ◌++◌, map, Option, None, Some}
 use Rattle.faults.specs.declared.any.AnyFault.{AnyFault}
-use Rattle.bureau_store.specs.SetCallers.{with_callers}
+use Rattle.bureau_store.specs.Caller.{publisher_name}
+use Rattle.bureau_store.specs.SetCallers.{has_name, with_callers}
 use Rattle.bureau_store.specs.Tables.{Tables, opened}
+use Rattle.bureau_store.specs.declared.caller.Caller.TheVariants.{Publisher}
 use Rattle.bureau_store.specs.declared.caller.CallerRow.{CallerRow}
 use Rattle.bureau_store.specs.declared.fault.StoreFault.TheVariants.{Device}
-use Rattle.bureau.specs.Course.{Called, Callers, IsAloneWhereItStays, IsCourse, Stage}
+use Rattle.bureau.specs.Course.{Called, Callers, IsAloneWhereItStays, IsCourse, Stage, Stays}
 use Rattle.bureau.specs.Joint.{CallBy, IsRun}
 use Rattle.bureau.specs.Kept.{TellNothing, tables_with}
 use Rattle.bureau.specs.Outcome.{answer_of, no_room, outcome}
@@ -14,6 +16,7 @@ use Rattle.bureau_http.specs.Arrivals.{AreMade, Arrival, Event, Logs, log_of}
 use Rattle.bureau_sql.specs.Files.{HoldTables, HoldsStore}
 use Rattle.sqlite_disk.specs.declared.Disk as disk
 use Rattle.sqlite_wal.specs.Recovery.{Image}
+use Rattle.store_runs.specs.Callers.{LeavesSet, TellsSet}
 use Rattle.store_runs.specs.Desk.{AreRowsOf, of_store}
 use Rattle.store_runs.specs.Keeping.{EndsWell, HoldCallers, Leaves}
 use Rattle.bureau_program.specs.Served.{IsServedFrom, MayFollow}
@@ -22,29 +25,29 @@ use Rattle.store_runs.specs.declared.ended.Ended.{Ended}
 -- ---- runs over files
 
 -- A run of the program, and what it left of the two files of a store. One of `serve`: what came over its connections before it and
--- by its end, and how it ended. One of `callers`: the callers of its file, and how it ended. Or any other run, also one that could not
--- open the files.
+-- by its end, and how it ended. One of `callers`: the callers of its file, and how it ended. Or any other run, also one that ended
+-- before it opened the files.
 pub data FileRun : Type 0 where
   Serves : Option (List Event) → Option (List Event) → Option AnyFault → Image → FileRun
   Sets : List CallerRow → Option AnyFault → Image → FileRun
   Other : Image → FileRun
+
+-- these are the callers of a callers file
+abbrev pub AreOfAFile : List CallerRow → Type 0
+AreOfAFile rows = (source : List ℕ) × AreRowsOf source rows
 
 abbrev pub left_by : FileRun → Image
 left_by (Serves log log_after outcome left) = left
 left_by (Sets rows outcome left) = left
 left_by (Other left) = left
 
--- what a run of `callers` leaves of tables: with these callers, once it is done; where a fault ended it, so or as they were
-abbrev pub LeavesSet : List CallerRow → Option AnyFault → Tables → Tables → Type 0
-LeavesSet rows None before this = this ≡ with_callers rows before
-LeavesSet rows (Some fault) before this = (this ≡ before) ⊎ (this ≡ with_callers rows before)
-
 -- The files held this as it began. A run of `serve` kept what it promises (`KeepsServed`), and so did one of `callers`
 -- (`KeepsCallers`). Any other left a store with the tables that were there (`KeepsTables`).
 abbrev pub IsRunOver : Image → FileRun → Type 0
 IsRunOver from (Serves log log_after outcome left) =
     (before : Tables) → HoldsStore from before → IsServedFrom before log log_after outcome (λ image. image ≡ left)
-IsRunOver from (Sets rows outcome left) = (before : Tables) → HoldsStore from before → HoldTables left (LeavesSet rows outcome before)
+IsRunOver from (Sets rows outcome left) =
+    AreOfAFile rows × ((before : Tables) → HoldsStore from before → HoldTables left (LeavesSet rows outcome before))
 IsRunOver from (Other left) = (before : Tables) → HoldsStore from before → HoldTables left (λ this. this ≡ before)
 
 -- one after the other: each began over what the one before left
@@ -67,7 +70,7 @@ pub record Run : Type 0 where
 abbrev pub AreCallsIn : FileRun → Run → Type 0
 AreCallsIn (Serves log log_after outcome left) run = (run.outcome ≡ outcome) × (run.callers ≡ None)
     × ((arrivals : List Arrival) × Logs log log_after (log_of arrivals) × AreMade run.before.callers arrivals run.calls)
-AreCallsIn (Sets rows outcome left) run = (run.calls ≡ []) × (run.outcome ≡ outcome) × (run.callers ≡ Some rows)
+AreCallsIn (Sets rows outcome left) run = (run.calls ≡ []) × (run.outcome ≡ outcome) × (run.callers ≡ Some rows) × AreOfAFile rows
 AreCallsIn (Other left) run = (run.calls ≡ []) × (run.callers ≡ None)
 
 -- so for each run
@@ -115,12 +118,12 @@ abbrev pub stages_of : List CallBy → List Stage
 stages_of calls = map Called calls
 
 -- The calls of a run as they are found afterwards. Where it sets no callers: as they were answered; or, where the device failed, with
--- one more that was made. Where it does: with these callers after them; or, where a fault ended it, perhaps without.
+-- one more that was made. Where it does: with these callers after them; or, unless its end tells that it has set them, without.
 abbrev pub AreFoundBy : Option (List CallerRow) → Run → Tables → List Stage → Type 0
 AreFoundBy None run next found = ((next ≡ run.closing) × (found ≡ stages_of run.calls))
     ⊎ ((run.outcome ≡ Some (of_store Device)) × ((made : List CallBy) × HasMade run.closing run.calls next made × (found ≡ stages_of made)))
 AreFoundBy (Some rows) run next found = ((next ≡ with_callers rows run.closing) × (found ≡ stages_of run.calls ++ Callers rows ∷ []))
-    ⊎ ((run.outcome ≡ None → ⊥) × (next ≡ run.closing) × (found ≡ stages_of run.calls))
+    ⊎ ((TellsSet run.outcome → ⊥) × (next ≡ run.closing) × (found ≡ stages_of run.calls))
 
 abbrev pub AreFoundAs : Run → Tables → List Stage → Type 0
 AreFoundAs run next found = AreFoundBy run.callers run next found
@@ -136,6 +139,10 @@ AreJoined [] this all = all ≡ []
 AreJoined (run ∷ runs) this all =
     (found : List Stage) × (rest : List Stage) × (all ≡ found ++ rest) × AreFoundAs run (found_next runs this) found × AreJoined runs this rest
 
+-- the publisher is one of these callers, as it is in each callers file (`has_publisher`)
+abbrev pub HaveThePublisher : List CallerRow → Type 0
+HaveThePublisher rows = has_name rows publisher_name ≡ true
+
 -- The stages of all runs together are one course of the bureau, to these tables. So each reply to a caller who stays, other than 503,
 -- is that of a bureau which got the publisher's and that caller's own calls of all runs before, without those told 503, and perhaps
 -- the one on its way at each stop. Where no run sets callers, this is so for every caller.
@@ -144,6 +151,8 @@ pub record AreOneCourse (opening : Tables) (runs : List Run) (this : Tables) : T
   pub joined : AreJoined runs this all
   pub course : IsCourse opening all this
   pub alone : IsAloneWhereItStays opening all
+  -- The publisher stays, since each callers file has it.
+  pub stays : HaveThePublisher opening.callers → Stays Publisher opening.callers all
 
 -- ---- from one run to the next
 
@@ -153,9 +162,9 @@ abbrev pub HoldAfter : Tables → List FileRun → Image → Type 0
 HoldAfter opening files image = HoldTables image (λ this.
     (runs : List Run) × AreRunsIn files runs × AreRuns (λ at. at ≡ opening) runs this × AreOneCourse opening runs this)
 
--- The same, where `init` made the store with the callers of this file before the first of them.
+-- The same, where `init` made the store with the callers of this file, the publisher among them, before the first of them.
 abbrev pub HoldSinceInit : List ℕ → List FileRun → Image → Type 0
-HoldSinceInit source files image = (rows : List CallerRow) × AreRowsOf source rows × HoldAfter (opened rows) files image
+HoldSinceInit source files image = (rows : List CallerRow) × AreRowsOf source rows × HaveThePublisher rows × HoldAfter (opened rows) files image
 
 module _ {D : Type 0} {g : disk.Ghosts D} where
   -- A run of `serve` goes on: `init` made the store, runs came after it, and this one began over what the last of them left. Then

@@ -1,21 +1,31 @@
 //! What any number of runs of the program keeps, as a law.
-ghost use Rattle.std.specs.Prelude.{◌≡◌, ℕ, List};
+ghost use Rattle.std.specs.Prelude.{◌≡◌, ℕ, List, Option};
+ghost use Rattle.faults.specs.declared.any.AnyFault.{AnyFault};
 ghost use Rattle.bureau_sql.specs.Files.{HoldTables};
 ghost use Rattle.bureau_store.specs.Tables.{Tables};
+ghost use Rattle.bureau_store.specs.declared.caller.CallerRow.{CallerRow};
+ghost use Rattle.bureau_http.specs.Arrivals.{Event};
 ghost use Rattle.sqlite_wal.specs.Recovery.{Image};
-ghost use Rattle.store_runs.specs.Keeping.{HoldCallers};
-ghost use Rattle.bureau_program.specs.Runs.{AreRunsOver, FileRun, HoldAfter, HoldSinceInit};
+ghost use Rattle.store_runs.specs.Callers.{KeepsCallers};
+ghost use Rattle.store_runs.specs.Desk.{AreRowsOf};
+ghost use Rattle.store_runs.specs.Ended.{IsNothing};
+ghost use Rattle.store_runs.specs.Keeping.{EndsWell, HoldCallers, KeepsTables, Leaves};
+ghost use Rattle.bureau_program.specs.Runs.{AreRunsOver, FileRun, HoldAfter, HoldSinceInit, IsRunOver, Other, Serves, Sets};
+ghost use Rattle.bureau_program.specs.Served.{KeepsServed};
+
+use sqlite::{FileFrom, Start};
+use store_runs::Ended;
 
 /// Once `init` has made a store, any number of runs of the program may come one after the other, and each may stop at any
-/// moment. The next one finds the store in the files again, with the tables after all that was acknowledged: the calls of all
-/// runs, and the callers that were set between them, are together one course of the bureau. Each caller who stays is
+/// moment. The next one finds the store in the files again, with the tables after all that was acknowledged, and perhaps after
+/// the change that was on its way: the calls of all runs, and the callers that were set between them, are together one course of the bureau. Each caller who stays is
 /// answered as if alone.
 ///
-/// What a run keeps is said by its own contract ([`crate::run`]: `KeepsServed` of `serve`, `KeepsCallers` of `callers`,
-/// `KeepsTables` of any other). A stop in `serve` leaves the tables after all that was acknowledged, and where the device
-/// failed, perhaps the one change that was on its way; one in `callers` leaves the tables before it or after it. So, over all
+/// A stop in `serve` leaves the tables after all that was acknowledged, and where the device failed, perhaps those with the one
+/// change that was on its way; one in `callers` leaves the tables before it or after it. So, over all
 /// runs, each reply to a caller who stays, other than 503, is that of a bureau which got the publisher's and that caller's own
-/// calls before it, and perhaps the one on its way at each stop.
+/// calls before it, and perhaps the one on its way at each stop. That each run of the program is such a run,
+/// [`what_a_run_keeps`] says.
 pub fn any_number_of_runs()
     ensures made { (source : List ℕ) (image : Image) → HoldCallers source image
         → (runs : List FileRun) (last : Image) → AreRunsOver image runs last
@@ -23,4 +33,21 @@ pub fn any_number_of_runs()
     ensures tables { (opening : Tables) (image : Image) → HoldTables image (λ this. this ≡ opening)
         → (runs : List FileRun) (last : Image) → AreRunsOver image runs last
         → HoldAfter opening runs last }
+{}
+
+/// Each run of the program is one of those runs, by what its own contract says that it keeps ([`crate::run`]: `KeepsServed` of
+/// `serve`; `KeepsCallers` of a `callers` that was given callers; `KeepsTables` of any other that opened the files of the
+/// store). `ended` stands for what is left of the files. One that opened none keeps the tables too.
+pub fn what_a_run_keeps<D: Start>(ended: &Ended<FileFrom<D>>)
+    ensures serves { (from : Image) (log log_after : Option (List Event)) (outcome : Option AnyFault)
+        → KeepsServed from log log_after outcome ended.now → EndsWell from ended.now
+        → (left : Image) → Leaves from ended.now left
+        → IsRunOver from (Serves log log_after outcome left) }
+    ensures sets { (from : Image) (source : List ℕ) (rows : List CallerRow) (outcome : Option AnyFault)
+        → AreRowsOf source rows → KeepsCallers from rows outcome ended.now → EndsWell from ended.now
+        → (left : Image) → Leaves from ended.now left
+        → IsRunOver from (Sets rows outcome left) }
+    ensures others { (from : Image) → KeepsTables from ended.now → EndsWell from ended.now
+        → (left : Image) → Leaves from ended.now left → IsRunOver from (Other left) }
+    ensures nothing { (from : Image) → IsNothing ended.now → KeepsTables from ended.now }
 {}

@@ -2,7 +2,7 @@
 use Rattle.std.proofs.Common.{◌≡◌, ◌≤◌, ◌<◌, ◌+◌, ◌∙◌, ◌⊎◌, ◌||◌, ℕ, zero, suc, Bool, true, false, List, [], ◌∷◌, ◌++◌, length, Option, Some, None, Result, Ok, Err, inl, inr, refl, sym, ap, subst, arith, nat_le, length-append}
 use Rattle.std.specs.Prelude.{slice_get}
 use Rattle.std.specs.BTreeSet.{insert_key}
-use Rattle.std.specs.List.{list_any}
+use Rattle.std.specs.List.{AllByRecursion, list_any}
 use Rattle.std.specs.Ordering.{match_ordering}
 use Rattle.std.specs.Str.{bytes_eq}
 use Rattle.std.specs.declared.cmp.Ordering.{Ordering}
@@ -235,16 +235,26 @@ fit_from all rows come = record {
   few = let size = come.size in let most = come.few in omega (arith, size, most);
 }
 
-pub callers_fit : (text : List ℕ) (rows : List CallerRow) → callers_of text ≡ Ok rows → AreFit rows
-callers_fit text rows is = by (answer caller_list (records_of text)) refl is
+named_from : (rows : List CallerRow) → ((row : CallerRow) → In rows row → IsShort row) → AllByRecursion (λ (caller : CallerRow). IsId caller.name) rows
+named_from [] each = tt
+named_from (row ∷ rows) each = ((each row (inl refl)).named, named_from rows (λ other there. each other (inr there)))
+
+all_of_file : (text : List ℕ) (rows : List CallerRow) → callers_of text ≡ Ok rows → (all : List CallerRow) × Come all rows
+all_of_file text rows is = by (answer caller_list (records_of text)) refl is
   where
-    by : (r : Result (List CallerRow) ListFault) → answer caller_list (records_of text) ≡ r → with_publisher r ≡ Ok rows → AreFit rows
+    by : (r : Result (List CallerRow) ListFault) → answer caller_list (records_of text) ≡ r → with_publisher r ≡ Ok rows → (all : List CallerRow) × Come all rows
     by (Err fault) answers has = absurd (cc has)
     by (Ok found) answers has = elim (cases_Bool (has_publisher found)) [
       | inl there ↦
           let h = rw there at has in
           let same : found ≡ rows = cc h in
-          let it = all_answered (records_of text) found answers in
-          subst AreFit same (fit_from it.0 found it.1)
+          subst (λ (rows : List CallerRow). (all : List CallerRow) × Come all rows) same (all_answered (records_of text) found answers)
       | inr none ↦ absurd (let h = rw none at has in cc h)
     ]
+
+pub callers_fit : (text : List ℕ) (rows : List CallerRow) → callers_of text ≡ Ok rows → AreFit rows
+callers_fit text rows is = let it = all_of_file text rows is in fit_from it.0 rows it.1
+
+-- each name is an id
+pub callers_named : (text : List ℕ) (rows : List CallerRow) → callers_of text ≡ Ok rows → AllByRecursion (λ (caller : CallerRow). IsId caller.name) rows
+callers_named text rows is = named_from rows (all_of_file text rows is).1.each

@@ -11,7 +11,7 @@ use Rattle.std.specs.List.{AllByRecursion}
 use Rattle.mcs_reader.specs.Id.{IsId}
 use Rattle.bureau_store.specs.Tables as tables
 use Rattle.bureau_store.specs.declared.caller.CallerRow.{CallerRow}
-use Rattle.sql_state.specs.Ours.{AreOurs, IsOurs}
+use Rattle.sql_state.specs.Ours.{AreOurs, IsOurs, held_by}
 use Rattle.sql_tables.proofs.ChangeFacts.{opened_tables}
 use Rattle.sql_tables.proofs.WholeFacts.{whole_opened}
 use Rattle.sql_tables.specs.Stored.{tables_of}
@@ -93,7 +93,7 @@ founded old new callers empty survives = record {
 
 -- ---- a store with callers alone is ours
 
-ours_new : (callers : List CallerRow) (database : Database) → AllByRecursion (λ (caller : CallerRow). IsId caller.name) callers → IsOpened callers database → IsOurs database
+pub ours_new : (callers : List CallerRow) (database : Database) → AllByRecursion (λ (caller : CallerRow). IsId caller.name) callers → IsOpened callers database → IsOurs database
 ours_new callers database named is = record {
   schema = is.known.schema;
   rows = record {
@@ -104,6 +104,10 @@ ours_new callers database named is = record {
   };
 }
 
+pub tables_new : (callers : List CallerRow) (database : Database) → AllByRecursion (λ (caller : CallerRow). IsId caller.name) callers → IsOpened callers database
+    → tables_of (held_by database) ≡ tables.opened callers
+tables_new callers database named is = ap tables_of is.held ∙ opened_tables callers named
+
 module _ {S : Type 0} (g : Ghosts S) (store : SqlState S) (callers : List CallerRow) (named : AllByRecursion (λ (caller : CallerRow). IsId caller.name) callers)
     (made : HasCleanDisk (shown g store) → IsTrue (shown g store).is_open × IsOpened callers (shown g store).committed) where
   pub ours_made : IsAtRest (shown g store) → HasCleanDisk (shown g store) → IsOurStore g store
@@ -113,4 +117,4 @@ module _ {S : Type 0} (g : Ghosts S) (store : SqlState S) (callers : List Caller
       (λ trees may. subst AreOurs (sym (rests trees is.0 may)) ours.rows, λ standing. (is.0, ours))
 
   pub tables_made : HasCleanDisk (shown g store) → (sql_view g).stands store (tables.opened callers)
-  tables_made clean standing = ap tables_of (made clean).1.held ∙ opened_tables callers named
+  tables_made clean standing = tables_new callers (shown g store).committed named (made clean).1

@@ -1,6 +1,5 @@
 //! What a change is handed is fit to be written, by its types.
 ghost use Rattle.std.specs.Prelude.{IfSome, IsTrue};
-ghost use Rattle.std.specs.Cmp.Lexicographic.{slice_cmp};
 ghost use Rattle.std.specs.List.{AllByRecursion};
 ghost use Rattle.mcs_reader.specs.Id.{IsId};
 ghost use Rattle.zone_lists.specs.Pattern.{is_pattern};

@@ -1,8 +1,8 @@
 //! A store gets the callers of a callers file.
-ghost use Rattle.std.specs.Prelude.{◌≡◌, IfErr, IfOk, OnOk, false, map};
+ghost use Rattle.std.specs.Prelude.{◌≡◌, IfOk, false, map};
 ghost use Rattle.std.specs.List.Sorted.{IsPermutation};
 ghost use Rattle.bureau_store.specs.SetCallers.{ChangesTo, SetsCallers, names_that_change, with_callers as tables_with};
-ghost use Rattle.bureau_store.specs.Store.{IsOfCall, Reads};
+ghost use Rattle.bureau_store.specs.Store.{Reads};
 ghost use Rattle.bureau_store.specs.Tables.{NamesAscend};
 ghost use Rattle.catalogue.specs.View.{Tells};
 ghost use Rattle.sqlite.specs.Held.{state};

@@ -1,5 +1,5 @@
 //! The store in a database.
-ghost use Rattle.std.specs.Prelude.{◌≡◌, ◌≢◌, ◌≤◌, ◌<◌, ◌⊎◌, IfErr, IfOk, OnErr, OnOk, IsTrue, true, false};
+ghost use Rattle.std.specs.Prelude.{◌≡◌, ◌≢◌, ◌≤◌, ◌<◌, ◌⊎◌, IfErr, OnErr, OnOk, IsTrue, true, false};
 ghost use Rattle.catalogue.specs.View.{HasFailed};
 ghost use Rattle.catalogue.specs.declared.fault.SourceFault.TheVariants.{Device, Memory};
 ghost use Rattle.bureau_store.specs.Store.{IsOfCall, IsOfRead};

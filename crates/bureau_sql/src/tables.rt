@@ -1,5 +1,5 @@
 //! All tables, as a store in a database keeps them.
-ghost use Rattle.std.specs.Prelude.{◌≡◌, ◌≤◌, IfErr, nat_lt};
+ghost use Rattle.std.specs.Prelude.{◌≤◌, IfErr};
 ghost use Rattle.zone_lists.specs.ZoneList.{RowsAscend};
 ghost use Rattle.catalogue.specs.Ids.{Ascend};
 ghost use Rattle.bureau_store.specs.Caller.{IsProper};

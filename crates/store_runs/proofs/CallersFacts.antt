@@ -32,13 +32,14 @@ use Rattle.run_parts.specs.Files.{KnownFile}
 use Rattle.run_parts.specs.Outputs.{IsTold, Outputs, fault_in, run_status}
 use Rattle.run_parts.specs.ProgramFault.{of_program}
 use Rattle.run_parts.specs.declared.fault.ProgramFault.TheVariants.{NotWritten}
-use Rattle.store_runs.specs.Callers.{CallersEnds, IsCallersOutput, IsCallersRun, IsLineLost, IsSetOver, IsUnopened, KeepsCallers, callers_text, connection_set, files_set, store_set}
+use Rattle.store_runs.specs.Callers.{CallersEnds, IsCallersOutput, IsCallersRun, IsLineLost, IsSetOver, IsUnopened, KeepsCallers, LeavesSet, TellsSet, callers_text, connection_set, files_set, store_set}
 use Rattle.store_runs.specs.Desk.{HasOpened, of_store}
 use Rattle.store_runs.specs.Ended.{HasEnded, HasFound, IsEndOf, IsRefused, IsUsed}
 use Rattle.store_runs.specs.NamedStore.{HasRows, IsCallers}
 use Rattle.store_runs.specs.Keeping.{HasNoTables, Leaves}
 use Rattle.store_runs.specs.declared.ended.Ended.{Ended}
 use Rattle.store_runs.specs.declared.ended.Ended.TheVariants.{Nothing, Left, Closed}
+use Rattle.store_runs.proofs.DoneFacts.{never_done, never_short, some_same}
 use Rattle.store_runs.proofs.EndFacts.{left_of}
 use Rattle.store_runs.proofs.StayFacts.{earlier_stays, kept_earlier, kept_tables}
 
@@ -198,43 +199,62 @@ module _ {D : Type 0} {g : disk.Ghosts D} (from : Image) (rows : List CallerRow)
 
 -- ---- wherever a run ends
 
--- the tables that were there are some of those that may be
-only_there : (rows : List CallerRow) (before : Tables) (image : Image) → HoldTables image (λ this. this ≡ before)
-    → HoldTables image (λ this. (this ≡ before) ⊎ (this ≡ with_callers rows before))
-only_there rows before image there = ∥∥₁_map there (λ it.
-    let r : (this : Tables) × HoldsStore image this × ((this ≡ before) ⊎ (this ≡ with_callers rows before)) = (it.0, it.1, inl it.2) in r)
+-- the tables that were there, where the end of the run doesn't tell that the callers are set
+only_there : (rows : List CallerRow) (outcome : Option AnyFault) (before : Tables) (image : Image) → (TellsSet outcome → ⊥) → HoldTables image (λ this. this ≡ before)
+    → HoldTables image (LeavesSet rows outcome before)
+only_there rows outcome before image other there = ∥∥₁_map there (λ it.
+    let r : (this : Tables) × HoldsStore image this × LeavesSet rows outcome before this = (it.0, it.1, inl (other, it.2)) in r)
 
-never_none : (fault : AnyFault) → ◌≡◌ {A = Option AnyFault} (Some fault) None → ⊥
-never_none fault same = cc
+-- or they may have been set
+perhaps : (rows : List CallerRow) (outcome : Option AnyFault) (before : Tables) (image : Image) → (TellsSet outcome → ⊥)
+    → HoldTables image (λ this. (this ≡ before) ⊎ (this ≡ with_callers rows before)) → HoldTables image (LeavesSet rows outcome before)
+perhaps rows outcome before image other either = ∥∥₁_map either (λ it.
+    let which : LeavesSet rows outcome before it.0 = elim it.2 [ inl same ↦ inl (other, same) | inr set ↦ inr set ] in
+    let r : (this : Tables) × HoldsStore image this × LeavesSet rows outcome before this = (it.0, it.1, which) in r)
+
+-- they are set
+set_now : (rows : List CallerRow) (outcome : Option AnyFault) (before : Tables) (image : Image) → HoldTables image (λ this. this ≡ with_callers rows before)
+    → HoldTables image (LeavesSet rows outcome before)
+set_now rows outcome before image set = ∥∥₁_map set (λ it.
+    let r : (this : Tables) × HoldsStore image this × LeavesSet rows outcome before this = (it.0, it.1, inr it.2) in r)
+
+-- where the store refused, the end doesn't tell so
+never_set : (fault : AnyFault) (refused : StoreFault) → fault ≡ of_store refused → TellsSet (Some fault) → ⊥
+never_set fault refused is (inl done) = never_done refused (Some fault) (ap Some is) done
+never_set fault refused is (inr short) = never_short refused (sym (some_same fault _ short) ∙ is)
 
 module _ {D : Type 0} {g : disk.Ghosts D} (from : Image) (rows : List CallerRow) where
   -- where no connection could be made
-  unconnected : (ended : Ended D g) (outcome : Option AnyFault) (fault : StoreFault) → (outcome ≡ None → ⊥) → IsRefused false from fault ended → KeepsCallers from rows outcome ended
+  unconnected : (ended : Ended D g) (outcome : Option AnyFault) (fault : StoreFault) → (TellsSet outcome → ⊥) → IsRefused false from fault ended → KeepsCallers from rows outcome ended
   unconnected ended outcome fault other refused = record {
-    store = λ before holds well left may. only_there rows before left (kept_tables from ended refused.left before holds well left may);
-    set = λ none. absurd (other none);
+    store = λ before holds well left may. only_there rows outcome before left other (kept_tables from ended refused.left before holds well left may);
     earlier = kept_earlier from ended refused.left;
   }
 
-  -- where the store was opened
-  set_so : (last : FileStore D g) (outcome : Option AnyFault) (answer : Result CallerCounts StoreFault) → (outcome ≡ None → (counts : CallerCounts) × (answer ≡ Ok counts))
-      → IsUsed from (λ found left. IsSetOver over_files rows found left answer) (Closed last) → KeepsCallers from rows outcome (Closed last)
-  set_so last outcome answer done used = record {
-    store = λ before holds still. either_left from rows used.found used.left used.finds last used.ends answer used.used still before holds;
-    set = λ none.
-        let counts = done none in
-        λ before holds still.
-        set_left from rows used.found used.left used.finds last used.ends counts.0 (subst (IsSetOver over_files rows used.found used.left) counts.1 used.used) still before holds;
-    earlier = λ before holds still. absurd (not_earlier from rows used.found used.left used.finds last used.ends answer used.used still before holds);
+  -- where a store was opened, and has the callers
+  set_so : (last : FileStore D g) (outcome : Option AnyFault) (counts : CallerCounts)
+      → IsUsed from (λ found left. IsSetOver over_files rows found left (Ok counts)) (Closed last) → KeepsCallers from rows outcome (Closed last)
+  set_so last outcome counts used = record {
+    store = λ before holds still image may. set_now rows outcome before image
+        (set_left from rows used.found used.left used.finds last used.ends counts used.used still before holds image may);
+    earlier = λ before holds still. absurd (not_earlier from rows used.found used.left used.finds last used.ends (Ok counts) used.used still before holds);
   }
 
-  -- where it was not
-  unopened_so : (last : FileStore D g) (outcome : Option AnyFault) (fault : StoreFault) → (outcome ≡ None → ⊥)
+  -- where it refused them
+  refused_so : (last : FileStore D g) (outcome : Option AnyFault) (fault : StoreFault) → (TellsSet outcome → ⊥)
+      → IsUsed from (λ found left. IsSetOver over_files rows found left (Err fault)) (Closed last) → KeepsCallers from rows outcome (Closed last)
+  refused_so last outcome fault other used = record {
+    store = λ before holds still image may. perhaps rows outcome before image other
+        (either_left from rows used.found used.left used.finds last used.ends (Err fault) used.used still before holds image may);
+    earlier = λ before holds still. absurd (not_earlier from rows used.found used.left used.finds last used.ends (Err fault) used.used still before holds);
+  }
+
+  -- where none was opened
+  unopened_so : (last : FileStore D g) (outcome : Option AnyFault) (fault : StoreFault) → (TellsSet outcome → ⊥)
       → IsUsed from (λ found left. IsUnopened over_files found left fault) (Closed last) → KeepsCallers from rows outcome (Closed last)
   unopened_so last outcome fault other used = record {
-    store = λ before holds still image may.
-        only_there rows before image (read_left from rows used.found used.left used.finds last used.ends fault used.used still before holds image may);
-    set = λ none. absurd (other none);
+    store = λ before holds still image may. only_there rows outcome before image other
+        (read_left from rows used.found used.left used.finds last used.ends fault used.used still before holds image may);
     earlier = earlier_stays from (Closed last) (λ now. ⊥) (λ trees holds still.
         database_left from rows used.found used.left used.finds last used.ends fault used.used still trees holds);
   }
@@ -244,18 +264,18 @@ module _ {D : Type 0} {g : disk.Ghosts D} (from : Image) (rows : List CallerRow)
   kept_callers Nothing None old new output = absurd output.1.ends
   kept_callers Nothing (Some fault) old new (inl lost) = absurd lost.1.ends
   kept_callers Nothing (Some fault) old new (inr ((refused, is, inl used), keeps)) = absurd used.ends
-  kept_callers Nothing (Some fault) old new (inr ((refused, is, inr (inl not)), keeps)) = unconnected Nothing (Some fault) refused (never_none fault) not
+  kept_callers Nothing (Some fault) old new (inr ((refused, is, inr (inl not)), keeps)) = unconnected Nothing (Some fault) refused (never_set fault refused is) not
   kept_callers Nothing (Some fault) old new (inr ((refused, is, inr (inr used)), keeps)) = absurd used.ends
   kept_callers (Left it) None old new output = absurd output.1.ends
   kept_callers (Left it) (Some fault) old new (inl lost) = absurd lost.1.ends
   kept_callers (Left it) (Some fault) old new (inr ((refused, is, inl used), keeps)) = absurd used.ends
-  kept_callers (Left it) (Some fault) old new (inr ((refused, is, inr (inl not)), keeps)) = unconnected (Left it) (Some fault) refused (never_none fault) not
+  kept_callers (Left it) (Some fault) old new (inr ((refused, is, inr (inl not)), keeps)) = unconnected (Left it) (Some fault) refused (never_set fault refused is) not
   kept_callers (Left it) (Some fault) old new (inr ((refused, is, inr (inr used)), keeps)) = absurd used.ends
-  kept_callers (Closed last) None old new output = set_so last None (Ok output.0) (λ same. (output.0, refl)) output.1
-  kept_callers (Closed last) (Some fault) old new (inl lost) = set_so last (Some fault) (Ok lost.0) (λ same. (lost.0, refl)) lost.1
-  kept_callers (Closed last) (Some fault) old new (inr ((refused, is, inl used), keeps)) = set_so last (Some fault) (Err refused) (λ same. absurd (never_none fault same)) used
+  kept_callers (Closed last) None old new output = set_so last None output.0 output.1
+  kept_callers (Closed last) (Some fault) old new (inl lost) = set_so last (Some fault) lost.0 lost.1
+  kept_callers (Closed last) (Some fault) old new (inr ((refused, is, inl used), keeps)) = refused_so last (Some fault) refused (never_set fault refused is) used
   kept_callers (Closed last) (Some fault) old new (inr ((refused, is, inr (inl not)), keeps)) = absurd not.left
-  kept_callers (Closed last) (Some fault) old new (inr ((refused, is, inr (inr used)), keeps)) = unopened_so last (Some fault) refused (never_none fault) used
+  kept_callers (Closed last) (Some fault) old new (inr ((refused, is, inr (inr used)), keeps)) = unopened_so last (Some fault) refused (never_set fault refused is) used
 
 -- ---- by the names of the files
 

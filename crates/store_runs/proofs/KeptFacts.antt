@@ -3,9 +3,12 @@ use Rattle.std.proofs.Common.{◌≡◌, ◌⊎◌, ◌∙◌, List, ℕ, Option
 use Rattle.std.proofs.Math.Logic.{∥∥₁_map}
 use Rattle.faults.specs.declared.any.AnyFault.{AnyFault}
 use Rattle.bureau_store.specs.Tables.{Tables, opened}
+use Rattle.bureau_store.specs.declared.caller.CallerRow.{CallerRow}
 use Rattle.bureau_sql.specs.Files.{HoldTrees, HoldsEarlier, HoldsStore}
 use Rattle.bureau_sql.specs.SqlView.{IsAtRest}
+use Rattle.bureau_sql.proofs.CallersFacts.{callers_named}
 use Rattle.bureau_sql.proofs.FilesFacts.{earlier_found, store_found}
+use Rattle.bureau_sql.proofs.FoundedFacts.{ours_new, tables_new}
 use Rattle.bureau_sql.specs.Migrated.{AreMigrated}
 use Rattle.sql_state.specs.Earlier.{AreOfVersion1, IsOfVersion1, held_by_version_1}
 use Rattle.sql_state.specs.Ours.{AreOurs, IsOurs, version_rows}
@@ -13,6 +16,7 @@ use Rattle.sql_state.proofs.StopFacts.{was_clean}
 use Rattle.sql_tables.specs.InTrees.{stored_in}
 use Rattle.sql_tables.specs.Stored.{Stored, tables_of}
 use Rattle.sql_tables.specs.Whole.{IsWhole}
+use Rattle.sql_writes.specs.Making.{IsOpened}
 use Rattle.sql_writes.specs.Migrating.{HoldsAll}
 use Rattle.sqlite_catalog.specs.Listing.{IsSound}
 use Rattle.sqlite_disk.specs.declared.Disk as disk
@@ -25,17 +29,31 @@ use Rattle.sqlite.specs.Effect.{Database}
 use Rattle.sqlite.specs.Files.{AreFoundIn, HoldsDatabase, IsNothing, file_state}
 use Rattle.sqlite.specs.Held.{Held}
 use Rattle.sqlite.specs.State.{HasCleanDisk, Survives}
-use Rattle.store_runs.specs.Desk.{AreFoundedBy, InitSurvives, IsInitLeft, LeavesMade}
+use Rattle.store_runs.specs.Desk.{AreFoundedBy, AreRowsOf, HasCallers, InitSurvives, IsInitLeft, LeavesMade}
 use Rattle.store_runs.specs.Ended.{HasEnded, HasFound, IsLeftOver, IsUsed}
-use Rattle.store_runs.specs.Keeping.{AreMadeFor, HasNoTables, HoldCallers, Keeps, KeepsMade, KeepsMigrated, KeepsTables, Leaves}
-use Rattle.store_runs.specs.Migrating.{IsMigrateLeft, LeavesMigrated}
+use Rattle.store_runs.specs.Keeping.{AreMadeFor, HasNoTables, HoldCallers, IsDone, Keeps, KeepsMade, KeepsMigrated, KeepsTables, Leaves}
+use Rattle.store_runs.specs.Migrating.{HasMigrated, IsMigrateLeft, LeavesMigrated}
 use Rattle.store_runs.specs.declared.ended.Ended.{Ended}
 use Rattle.store_runs.specs.declared.ended.Ended.TheVariants.{Nothing, Left, Closed}
+use Rattle.store_runs.proofs.DoneFacts.{never_done, never_refused, no_store_fault, some_same}
 use Rattle.store_runs.proofs.EndFacts.{left_of}
 use Rattle.store_runs.proofs.LeftFacts.{found_nothing}
 use Rattle.store_runs.proofs.StayFacts.{earlier_stays, kept_earlier, kept_tables, store_stays}
 
 -- ---- init
+
+-- the trees of a store that was made are the bureau's own
+made_for : (source : List ℕ) (trees : Trees) (rows : List CallerRow) → AreRowsOf source rows → (database : Database) × IsOpened rows database × (database.trees ≡ trees)
+    → AreMadeFor source trees
+made_for source trees rows rows_are made =
+    let named = callers_named source rows rows_are in
+    record {
+      rows = rows;
+      rows_are = rows_are;
+      made = made;
+      ours = subst AreOurs made.2 (ours_new rows made.0 named made.1).rows;
+      tables = subst (λ (trees : Trees). tables_of (stored_in trees) ≡ opened rows) made.2 (tables_new rows made.0 named made.1);
+    }
 
 module _ {D : Type 0} {g : disk.Ghosts D} (from : Image) (source : List ℕ) (found left : Held (FileStore D g)) (finds : HasFound from found) (rests : IsAtRest (file_state found))
     (stopped : InitSurvives source (file_state found) (file_state left)) (last : FileStore D g) (ends : HasEnded left last) where
@@ -51,7 +69,7 @@ module _ {D : Type 0} {g : disk.Ghosts D} (from : Image) (source : List ℕ) (fo
         | inl was ↦ inl (rests trees opened.0.is_open was)
         | inr made ↦
             let sound = (opened.1 opened.0.is_open).1 in
-            inr (subst (λ schema. IsSound schema (file_state found).committed.trees) made.2.1 sound, (made.0, made.1, made.2.2))
+            inr (subst (λ schema. IsSound schema (file_state found).committed.trees) made.2.1 sound, made_for source trees made.0 made.1 made.2.2)
       ]
 
   held : IsClean (view last) → (image : Image) → Leaves from (Closed last) image → HoldTrees (file_state left).may_leave image
@@ -83,10 +101,16 @@ module _ {D : Type 0} {g : disk.Ghosts D} (from : Image) (source : List ℕ) (fo
       ] in
       let r : (trees : Trees) × HoldsDatabase image trees × (HasNoTables trees ⊎ AreMadeFor source trees) = (it.0, it.1, either) in r))
 
-  callers : (outcome : Option AnyFault) → IsInitLeft outcome source (file_state found) (file_state left) → outcome ≡ None → Keeps from (Closed last) (HoldCallers source)
-  callers (Some fault) is other still image may = absurd cc
-  callers None is same still image may =
-      let made = is (ends.clean still) in (
+  -- the tables were made
+  has_callers : (outcome : Option AnyFault) → IsInitLeft outcome source (file_state found) (file_state left) → IsDone outcome → HasCallers source (file_state left)
+  has_callers None is done = is
+  has_callers (Some fault) is (inl other) = absurd cc
+  has_callers (Some fault) (inl lost) (inr same) = lost.1
+  has_callers (Some fault) (inr refused) (inr same) = absurd (never_refused source (file_state found) (file_state left) fault (some_same fault _ same) refused.0)
+
+  callers : (outcome : Option AnyFault) → IsInitLeft outcome source (file_state found) (file_state left) → IsDone outcome → Keeps from (Closed last) (HoldCallers source)
+  callers outcome is done still image may =
+      let made = has_callers outcome is done (ends.clean still) in (
         made.0,
         made.1,
         ∥∥₁_map (held still image may) (λ it.
@@ -167,11 +191,16 @@ module _ {D : Type 0} {g : disk.Ghosts D} (from : Image) (before : Tables) (hold
         } in inr r)
   ]
 
-  brought : (outcome : Option AnyFault) → IsMigrateLeft outcome (file_state found) (file_state left) → outcome ≡ None
+  has_migrated : (outcome : Option AnyFault) → IsMigrateLeft outcome (file_state found) (file_state left) → IsDone outcome → HasMigrated (file_state found) (file_state left)
+  has_migrated None is done = is
+  has_migrated (Some fault) is (inl other) = absurd cc
+  has_migrated (Some fault) (inl lost) (inr same) = lost.1
+  has_migrated (Some fault) (inr refused) (inr same) = absurd (no_store_fault refused.0 (sym (some_same fault _ same) ∙ refused.1))
+
+  brought : (outcome : Option AnyFault) → IsMigrateLeft outcome (file_state found) (file_state left) → IsDone outcome
       → (image : Image) → Leaves from (Closed last) image → ∥ HoldsStore image before ∥₁
-  brought (Some fault) is other image may = absurd cc
-  brought None is same image may =
-      let to = (is (ends.clean still)).3 there.0 in
+  brought outcome is done image may =
+      let to = (has_migrated outcome is done (ends.clean still)).3 there.0 in
       ∥∥₁_map (left_of from left last ends still image may) (λ it.
       let same = to.rests it.0 to.is_open it.2 in
       let r : HoldsStore image before = record {
@@ -185,10 +214,10 @@ module _ {D : Type 0} {g : disk.Ghosts D} (from : Image) (before : Tables) (hold
   either_left image may = ∥∥₁_map (left_of from left last ends still image may) (λ it. either image it.0 it.1 it.2)
 
 -- no connection to the files could be made
-earlier_left : {D : Type 0} {g : disk.Ghosts D} (from : Image) (outcome : Option AnyFault) (ended : Ended D g) → (outcome ≡ None → ⊥) → IsLeftOver from ended → KeepsMigrated from outcome ended
+earlier_left : {D : Type 0} {g : disk.Ghosts D} (from : Image) (outcome : Option AnyFault) (ended : Ended D g) → (IsDone outcome → ⊥) → IsLeftOver from ended → KeepsMigrated from outcome ended
 earlier_left from outcome ended other of = record {
   earlier = λ before holds well left may. ∥∥₁_map (kept_earlier from ended of before holds well left may) inl;
-  brought = λ none. absurd (other none);
+  brought = λ done. absurd (other done);
   store = kept_tables from ended of;
 }
 
@@ -223,7 +252,7 @@ closed_left from outcome last used = record {
 }
 
 pub kept_migrated : {D : Type 0} {g : disk.Ghosts D} (from : Image) (outcome : Option AnyFault) (ended : Ended D g) → LeavesMigrated from outcome ended → KeepsMigrated from outcome ended
-kept_migrated from outcome ended (inl refused) = earlier_left from outcome ended (λ none. absurd cc) refused.2.left
+kept_migrated from outcome ended (inl refused) = earlier_left from outcome ended (λ done. never_done refused.0 outcome refused.1 done) refused.2.left
 kept_migrated from outcome Nothing (inr used) = absurd used.ends
 kept_migrated from outcome (Left it) (inr used) = absurd used.ends
 kept_migrated from outcome (Closed last) (inr used) = closed_left from outcome last used

@@ -1,7 +1,9 @@
 pub mod CallersFacts
 pub mod CheckFacts
 pub mod DeskFacts
+pub mod DoneFacts
 pub mod EndFacts
+pub mod InitFacts
 pub mod KeptFacts
 pub mod LeftFacts
 pub mod MigratingFacts

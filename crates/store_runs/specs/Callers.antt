@@ -25,7 +25,7 @@ use Rattle.run_parts.specs.declared.fault.ProgramFault.TheVariants.{NotWritten, 
 use Rattle.store_runs.specs.Desk.{HasOpened, of_store}
 use Rattle.store_runs.specs.Ended.{IsRefused, IsUsed}
 use Rattle.store_runs.specs.Keeping as keeping
-use Rattle.store_runs.specs.Keeping.{KeepsEarlier}
+use Rattle.store_runs.specs.Keeping.{IsDone, KeepsEarlier}
 use Rattle.store_runs.specs.declared.ended.Ended.{Ended}
 
 -- how many callers there are, how many of them are new, how many others are gone, and how many have another token
@@ -93,10 +93,17 @@ pub record IsCallersRun (ends : CallersEnds) (old new old_errors new_errors : Op
 
 -- ---- what a stop leaves
 
--- A run of `callers`, wherever it ends. A store stays, with the tables that were there, or with them and these callers; and once
--- the run has ended without a fault, it is that. A store of version 1 stays, with its tables.
+-- A run that was given callers tells by its end that the store has them: it ended without a fault, or only its line could not be
+-- written, or memory ran out for the line.
+abbrev pub TellsSet : Option AnyFault → Type 0
+TellsSet outcome = IsDone outcome ⊎ (outcome ≡ Some (of_program Memory))
+
+-- what such a run leaves of tables: with these callers; or, unless its end tells that it has set them, as they were
+abbrev pub LeavesSet : List CallerRow → Option AnyFault → Tables → Tables → Type 0
+LeavesSet rows outcome before this = ((TellsSet outcome → ⊥) × (this ≡ before)) ⊎ (this ≡ with_callers rows before)
+
+-- A run of `callers`, wherever it ends. A store stays, with the tables that were there, or with them and these callers
+-- (`LeavesSet`). A store of version 1 stays, with its tables.
 pub record KeepsCallers {D : Type 0} {g : disk.Ghosts D} (from : Image) (rows : List CallerRow) (outcome : Option AnyFault) (ended : Ended D g) : Type 0 where
-  pub store : (before : Tables) → HoldsStore from before
-      → keeping.Keeps from ended (λ left. HoldTables left (λ this. (this ≡ before) ⊎ (this ≡ with_callers rows before)))
-  pub set : outcome ≡ None → (before : Tables) → HoldsStore from before → keeping.Keeps from ended (λ left. HoldTables left (λ this. this ≡ with_callers rows before))
+  pub store : (before : Tables) → HoldsStore from before → keeping.Keeps from ended (λ left. HoldTables left (LeavesSet rows outcome before))
   pub earlier : KeepsEarlier from ended

@@ -1,8 +1,9 @@
 -- What a connection finds in the files of a store, and what is left of them, wherever a run ends.
-use Rattle.std.specs.Prelude.{◌≡◌, ◌⊎◌, false, Bool, IsTrue}
+use Rattle.std.specs.Prelude.{◌≡◌, ◌⊎◌, false, Bool, IsTrue, None}
 use Rattle.bureau_sql.specs.Files.{HoldTrees}
 use Rattle.bureau_store.specs.declared.fault.StoreFault.{StoreFault}
 use Rattle.bureau_store.specs.declared.fault.StoreFault.TheVariants.{Device, Memory, Shape, Size, Version}
+use Rattle.sqlite_disk.specs.Disk.{MoreFaults}
 use Rattle.sqlite_disk.specs.declared.Disk.{Ghosts}
 use Rattle.sqlite_disk.specs.declared.Files.{Files}
 use Rattle.sqlite_wal.specs.Files.{outcomes}
@@ -12,7 +13,8 @@ use Rattle.sqlite_trees.specs.View.{IsClean}
 use Rattle.sqlite_store.specs.FileStore as files
 use Rattle.sqlite_store.specs.FileStore.{recovers, view}
 use Rattle.sqlite_store.specs.declared.store.FileStore.{FileStore}
-use Rattle.sqlite.specs.Files.{IsCleanLeft, IsOpened, LeavesFiles, file_state, image_of}
+use Rattle.sqlite.specs.Files as sqlite
+use Rattle.sqlite.specs.Files.{HoldsDatabase, IsCleanLeft, IsFullLeft, IsOpened, LeavesFiles, faults_left, faults_of, file_state, image_of}
 use Rattle.sqlite.specs.Held.{AreDatabases, Held}
 use Rattle.sqlite.specs.Start.{FindsIn}
 use Rattle.sqlite.specs.State.{HasCleanDisk}
@@ -29,10 +31,11 @@ IsNotConnected makes Size = ⊥
 IsNotConnected makes Version = ⊥
 
 module _ {D : Type 0} {g : Ghosts D} where
-  -- a new connection, which found what the two files held
+  -- a new connection, which found what the two files held, and in which a statement may take as many steps as it needs
   pub record HasFound (from : Image) (conn : Held (FileStore D g)) : Type 0 where
     pub opened : HasCleanDisk (file_state conn) → IsOpened conn
     pub found : HasCleanDisk (file_state conn) → FindsIn from (file_state conn)
+    pub unlimited : conn.step_limit ≡ None
 
   -- it is left of two files that held this, and nothing else could be left of them
   pub record IsLeftOf (from : Image) (it : Leftover D g) : Type 0 where
@@ -46,6 +49,22 @@ module _ {D : Type 0} {g : Ghosts D} where
   IsLeftOver from Nothing = Unit {0}
   IsLeftOver from (Left it) = IsLeftOf from it
   IsLeftOver from (Closed last) = ⊥
+
+  -- Files that were opened can't be used: a call on them failed, the database is as long as it may be, or they hold no database and
+  -- aren't empty either.
+  abbrev pub CannotUse : Files D → Leftover D g → Type 0
+  CannotUse files it = MoreFaults (faults_of g files) (faults_left it) ⊎ IsFullLeft it
+      ⊎ ((((trees : Trees) × HoldsDatabase (image_of g files) trees) ⊎ sqlite.IsNothing (image_of g files)) → ⊥)
+
+  -- Why an open failed that got these files, where the disk returned what was written: memory ran out, or they can't be used.
+  abbrev pub FailsToOpen : StoreFault → Files D → Leftover D g → Type 0
+  FailsToOpen fault files it = IsCleanLeft it → (fault ≡ Memory) ⊎ ((fault ≡ Device) × CannotUse files it)
+
+  -- That is so where the files were opened. Of files that can't be opened no reason is known.
+  abbrev pub HasCause : (from : Image) → StoreFault → (ended : Ended D g) → IsLeftOver from ended → Type 0
+  HasCause from fault Nothing left = Unit {0}
+  HasCause from fault (Left it) left = FailsToOpen fault left.files it
+  HasCause from fault (Closed last) left = ⊥
 
   -- A connection that was ended. Whenever the run stops from then on, its files hold a database that a stop of the connection
   -- might have left: the next opening finds it.
@@ -82,10 +101,11 @@ module _ {D : Type 0} {g : Ghosts D} where
   IsCopiedEnd (Closed last) (Left it) = ⊥
   IsCopiedEnd (Closed last) (Closed now) = IsCopied last now
 
-  -- No connection to the files could be made. Where there are none, none were opened.
+  -- No connection to the files could be made. 44 is told only where no files were opened.
   pub record IsRefused (makes : Bool) (from : Image) (fault : StoreFault) (ended : Ended D g) : Type 0 where
     pub why : IsNotConnected makes fault
     pub left : IsLeftOver from ended
+    pub cause : HasCause from fault ended left
     pub missing : fault ≡ Shape → IsNothing ended
 
   -- A connection to the files was made, used so, from what it found to what it left, and ended.

@@ -1,9 +1,12 @@
 -- What the files of a store hold from one run to the next, whenever a run stops.
-use Rattle.std.specs.Prelude.{◌≡◌, ◌⊎◌, ℕ, IsTrue, List, Option, None}
+use Rattle.std.specs.Prelude.{◌≡◌, ◌⊎◌, ℕ, IsTrue, List, Option, None, Some}
 use Rattle.faults.specs.declared.any.AnyFault.{AnyFault}
 use Rattle.bureau_store.specs.Tables.{Tables, opened}
 use Rattle.bureau_store.specs.declared.caller.CallerRow.{CallerRow}
 use Rattle.bureau_sql.specs.Files.{HoldTables, HoldTrees, HoldsEarlier, HoldsStore}
+use Rattle.sql_state.specs.Ours.{AreOurs}
+use Rattle.sql_tables.specs.InTrees.{stored_in}
+use Rattle.sql_tables.specs.Stored.{tables_of}
 use Rattle.sql_texts.specs.Schema.{made}
 use Rattle.sql_writes.specs.Making.{IsOpened}
 use Rattle.sqlite_catalog.specs.Listing.{IsSound}
@@ -20,6 +23,8 @@ use Rattle.sqlite.specs.Effect.{Database}
 use Rattle.sqlite.specs.Files.{AreFoundIn, HoldsDatabase, IsCleanLeft, IsNothing}
 use Rattle.sqlite.specs.declared.file.Leftover.{Leftover}
 use Rattle.sqlite.specs.declared.file.Leftover.TheVariants as left
+use Rattle.run_parts.specs.ProgramFault.{of_program}
+use Rattle.run_parts.specs.declared.fault.ProgramFault.TheVariants.{NotWritten}
 use Rattle.store_runs.specs.Desk.{AreRowsOf}
 use Rattle.store_runs.specs.declared.ended.Ended.{Ended}
 use Rattle.store_runs.specs.declared.ended.Ended.TheVariants.{Nothing, Left, Closed}
@@ -30,15 +35,24 @@ use Rattle.store_runs.specs.declared.ended.Ended.TheVariants.{Nothing, Left, Clo
 abbrev pub HasNoTables : Trees → Type 0
 HasNoTables trees = IsSound (made 0 0) trees
 
--- the trees are those of a store with the callers of the callers file, and of nothing else
-abbrev pub AreMadeFor : List ℕ → Trees → Type 0
-AreMadeFor source trees = (rows : List CallerRow) × AreRowsOf source rows × ((database : Database) × IsOpened rows database × (database.trees ≡ trees))
+-- The trees are those of a store with the callers of the callers file, and of nothing else. So files that hold them hold the bureau's
+-- own store with these callers.
+pub record AreMadeFor (source : List ℕ) (trees : Trees) : Type 0 where
+  pub rows : List CallerRow
+  pub rows_are : AreRowsOf source rows
+  pub made : (database : Database) × IsOpened rows database × (database.trees ≡ trees)
+  pub ours : AreOurs trees
+  pub tables : tables_of (stored_in trees) ≡ opened rows
 
 -- the files hold the bureau's own store, with the callers of the callers file and nothing else
 abbrev pub HoldCallers : List ℕ → Image → Type 0
 HoldCallers source image = (rows : List CallerRow) × AreRowsOf source rows × HoldTables image (λ this. this ≡ opened rows)
 
 -- ---- wherever a run ends
+
+-- A run of `init` or `migrate` has done what it was for: it ended without a fault, or only its line could not be written.
+abbrev pub IsDone : Option AnyFault → Type 0
+IsDone outcome = (outcome ≡ None) ⊎ (outcome ≡ Some (of_program NotWritten))
 
 module _ {D : Type 0} {g : disk.Ghosts D} where
   -- a stop may leave these of the two files
@@ -80,7 +94,7 @@ module _ {D : Type 0} {g : disk.Ghosts D} where
   abbrev pub KeepsEarlier : Image → Ended D g → Type 0
   KeepsEarlier from ended = (before : Tables) → HoldsEarlier from before → Keeps from ended (λ left. ∥ HoldsEarlier left before ∥₁)
 
-  -- A run of `init` that could not open the files. A database stays as it is, tree by tree, and so a store of either version does.
+  -- A run of `init` that could not open the files, or one of `check`. A database stays as it is, tree by tree, and so a store of either version does.
   -- Where there is none yet, there is none afterwards, or one that has no tables.
   pub record KeepsFound (from : Image) (ended : Ended D g) : Type 0 where
     pub stays : (trees : Trees) → HoldsDatabase from trees → Keeps from ended (HoldTrees (λ now. now ≡ trees))
@@ -90,7 +104,7 @@ module _ {D : Type 0} {g : disk.Ghosts D} where
 
   -- A run of `init` over a database, wherever it ends. It stays as it is, tree by tree, or, where it has no tables, it is a store
   -- with the callers of the callers file and nothing else. So a store of either version stays. Where no database was there yet, there
-  -- is none, or one that has no tables, or that store. Once the run has ended without a fault, it is that store.
+  -- is none, or one that has no tables, or that store. Once the run has done what it was for, it is that store.
   pub record KeepsMade (from : Image) (source : List ℕ) (outcome : Option AnyFault) (ended : Ended D g) : Type 0 where
     pub found : Keeps from ended (HoldTrees (λ now. AreFoundIn from now ⊎ AreMadeFor source now))
     pub stays : (trees : Trees) → HoldsDatabase from trees
@@ -98,11 +112,11 @@ module _ {D : Type 0} {g : disk.Ghosts D} where
     pub begins : IsNothing from → Keeps from ended (λ left. IsNothing left ⊎ HoldTrees (λ now. HasNoTables now ⊎ AreMadeFor source now) left)
     pub store : KeepsTables from ended
     pub earlier : KeepsEarlier from ended
-    pub made : outcome ≡ None → Keeps from ended (HoldCallers source)
+    pub made : IsDone outcome → Keeps from ended (HoldCallers source)
 
   -- A run of `migrate`, wherever it ends. A store of version 1 stays, with its tables, or is one of version 2 with the same tables;
-  -- and once the run has ended without a fault, it is that. A store of version 2 stays, with its tables.
+  -- and once the run has done what it was for, it is that. A store of version 2 stays, with its tables.
   pub record KeepsMigrated (from : Image) (outcome : Option AnyFault) (ended : Ended D g) : Type 0 where
     pub earlier : (before : Tables) → HoldsEarlier from before → Keeps from ended (λ left. ∥ HoldsEarlier left before ⊎ HoldsStore left before ∥₁)
-    pub brought : outcome ≡ None → (before : Tables) → HoldsEarlier from before → Keeps from ended (λ left. ∥ HoldsStore left before ∥₁)
+    pub brought : IsDone outcome → (before : Tables) → HoldsEarlier from before → Keeps from ended (λ left. ∥ HoldsStore left before ∥₁)
     pub store : KeepsTables from ended
