@@ -1,0 +1,3 @@
+//! Tests of plans for a zone and of their texts.
+
+mod worked;
