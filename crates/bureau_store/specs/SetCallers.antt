@@ -86,8 +86,8 @@ module _ {Store : Type 0} (view : View Store Tables) where
     -- what a stop may leave: what it might have left before, or, of a store that was open, the next tables
     pub crash : view.is_ours old → view.is_clean new → (this : Tables) → IsDueIn this → view.stands old this
         → (left : Tables) → view.may_leave new left → view.may_leave old left ⊎ (IsOpen view old × (left ≡ next this))
-    -- done, it leaves those and no others
-    pub settled : OnOk answer (IsSettled view new)
+    -- a stop after it leaves just the tables that the store holds
+    pub settled : IsSettled view new
 
   -- A store has these callers, and no others. It is told how many came and went, of the callers before.
   pub record SetsCallers (rows : List CallerRow) (old new : Store) (answer : Result CallerCounts StoreFault) : Type 0 where
