@@ -1,6 +1,7 @@
 -- From what a connection finds in the files of a store to what a stop leaves of them.
 use Rattle.std.proofs.Common.{◌≡◌, ◌⊎◌, ◌∙◌, ◌+◌, ◌++◌, ◌∷◌, ℕ, List, Option, None, Some, [], ap, append-nil, arith, inl, inr, length, refl, subst, sym}
 use Rattle.std.proofs.Math.Logic.{∥∥₁_map}
+use Rattle.bureau_store.specs.Store.{IsOfRead}
 use Rattle.bureau_store.specs.Tables.{AreInOrder, Tables}
 use Rattle.bureau_store.specs.declared.caller.CallerRow.{CallerRow}
 use Rattle.bureau_store.specs.declared.fault.StoreFault.{StoreFault}
@@ -34,12 +35,13 @@ use Rattle.sqlite.specs.Held.{Held}
 use Rattle.sqlite.specs.State.{HasCleanDisk}
 use Rattle.store_runs.specs.Desk.{HasOpened, of_store}
 use Rattle.store_runs.specs.Ended.{HasEnded, HasFound, IsEndOf, IsLeftOver}
-use Rattle.store_runs.specs.Keeping.{EndsWell, HasNoTables, KeepsEarlier, Leaves}
+use Rattle.store_runs.specs.Keeping.{EndsWell, HasNoTables, KeepsEarlier, Leaves, TellsOnly}
 use Rattle.bureau_program.specs.Served.{IsServedFrom, KeepsServed, MayFollow}
 use Rattle.bureau_program.specs.Replay.{IsAlwaysRight}
 use Rattle.bureau_program.specs.Serving.{IsServeOutput, IsServedOver, Session, desk_ends, desk_over, file_ends, store_ends}
 use Rattle.store_runs.specs.declared.ended.Ended.{Ended}
 use Rattle.store_runs.specs.declared.ended.Ended.TheVariants.{Nothing, Left, Closed}
+use Rattle.bureau_program.proofs.OpensFacts.{serve_faults}
 use Rattle.store_runs.proofs.EndFacts.{left_of}
 use Rattle.store_runs.proofs.StayFacts.{earlier_stays, kept_earlier, kept_tables}
 
@@ -296,18 +298,25 @@ module _ {D : Type 0} {g : disk.Ghosts D} (session : Session) (from : Image) whe
   not_made ended never (Some fault) port old new (inr (inr ((refused, is, inl not), keeps))) = (not.0.left, not.1)
   not_made ended never (Some fault) port old new (inr (inr ((refused, is, inr used), keeps))) = absurd (never used.left used.ends)
 
-  unopened_so : (ended : Ended D g) (outcome : Option AnyFault) → NotMade ended → KeepsServed from session.log session.log_after outcome ended
+  unopened_so : (ended : Ended D g) (outcome : Option AnyFault) → NotMade ended → TellsOnly IsOfRead (λ fault. outcome ≡ Some (of_store fault)) from ended
+      → KeepsServed from session.log session.log_after outcome ended
   unfolding NotMade
-  unopened_so ended outcome not = record {
+  unopened_so ended outcome not faults = record {
     served = λ well before holds.
         nothing_served before session.log session.log_after outcome (Leaves from ended) not.1 (kept_tables from ended not.0 before holds well);
+    faults = faults;
     earlier = kept_earlier from ended not.0;
   }
 
   -- A run of `serve`, however it ended.
   pub kept_served : (ended : Ended D g) (outcome : Option AnyFault) (port : ℕ) (old new : Option (List ℕ)) → IsServeOutput (file_ends session from ended) outcome port old new
       → KeepsServed from session.log session.log_after outcome ended
-  kept_served Nothing outcome port old new output = unopened_so Nothing outcome (not_made Nothing (λ conn none. none) outcome port old new output)
-  kept_served (Left it) outcome port old new output = unopened_so (Left it) outcome (not_made (Left it) (λ conn none. none) outcome port old new output)
-  kept_served (Closed last) outcome port old new output =
-      record { served = closed_so last outcome port old new output; earlier = closed_earlier last outcome port old new output }
+  kept_served Nothing outcome port old new output =
+      unopened_so Nothing outcome (not_made Nothing (λ conn none. none) outcome port old new output) (serve_faults session from Nothing outcome port old new output)
+  kept_served (Left it) outcome port old new output =
+      unopened_so (Left it) outcome (not_made (Left it) (λ conn none. none) outcome port old new output) (serve_faults session from (Left it) outcome port old new output)
+  kept_served (Closed last) outcome port old new output = record {
+    served = closed_so last outcome port old new output;
+    faults = serve_faults session from (Closed last) outcome port old new output;
+    earlier = closed_earlier last outcome port old new output;
+  }

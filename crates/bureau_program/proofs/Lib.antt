@@ -1,4 +1,5 @@
 pub mod KeepingFacts
+pub mod OpensFacts
 mod ReadFacts
 pub mod RunsFacts
 pub mod ServingFacts

@@ -18,7 +18,7 @@ use Rattle.bureau_http.specs.Arrivals.{Event}
 use Rattle.bureau_sql.specs.Files.{HoldTables, HoldsStore}
 use Rattle.sqlite_disk.specs.declared.Disk as disk
 use Rattle.sqlite_wal.specs.Recovery.{Image}
-use Rattle.store_runs.specs.Callers.{KeepsCallers, LeavesSet}
+use Rattle.store_runs.specs.Callers.{KeepsCallers, LeavesSet, MayHaveSet}
 use Rattle.store_runs.specs.Desk.{AreRowsOf}
 use Rattle.store_runs.specs.Keeping.{EndsWell, HoldCallers, KeepsTables, Leaves}
 use Rattle.bureau_program.specs.Served.{KeepsServed}
@@ -131,16 +131,16 @@ as_found : (run : Run) (next : Tables) → IsRun run.before run.calls run.closin
 as_found run next now stands = by run.callers stands
   where
     -- all calls, and then these callers
-    with_set : (rows : List CallerRow) → next ≡ with_callers rows run.closing → (found : List Stage) × AreFoundBy (Some rows) run next found × IsCourse run.before found next
-    with_set rows set = (
+    with_set : (rows : List CallerRow) → MayHaveSet run.outcome → next ≡ with_callers rows run.closing → (found : List Stage) × AreFoundBy (Some rows) run next found × IsCourse run.before found next
+    with_set rows may set = (
       stages_of run.calls ++ Callers rows ∷ [],
-      inl (set, refl),
+      inl (may, set, refl),
       join_courses run.before run.closing next (stages_of run.calls) (Callers rows ∷ []) (course_of run.calls run.before run.closing now) (next, set, refl),
     )
 
     ended : (rows : List CallerRow) → LeavesSet rows run.outcome run.closing next
         → (found : List Stage) × AreFoundBy (Some rows) run next found × IsCourse run.before found next
-    ended rows (inr set) = with_set rows set
+    ended rows (inr set) = with_set rows set.0 set.1
     ended rows (inl kept) = (
       stages_of run.calls,
       inr (kept.0, kept.1, refl),
@@ -196,35 +196,35 @@ one_course isolation opening files (run ∷ runs) this ordered within are =
 -- ---- over files
 
 -- what is left after all runs, by what the first one found
-all_held : (files : List FileRun) (from last : Image) (Opens : Tables → Type 0) → HoldTables from Opens → AreRunsOver from files last
-    → HoldTables last (λ this. (runs : List Run) × AreRunsIn files runs × AreRuns Opens runs this)
-all_held [] from last Opens held same = subst (λ (at : Image). HoldTables at (λ this. (runs : List Run) × AreRunsIn [] runs × AreRuns Opens runs this)) (sym same)
+all_held : (files : List FileRun) (from last : Image) (Begins : Tables → Type 0) → HoldTables from Begins → AreRunsOver from files last
+    → HoldTables last (λ this. (runs : List Run) × AreRunsIn files runs × AreRuns Begins runs this)
+all_held [] from last Begins held same = subst (λ (at : Image). HoldTables at (λ this. (runs : List Run) × AreRunsIn [] runs × AreRuns Begins runs this)) (sym same)
     (∥∥₁_map held (λ it.
-    let r : (this : Tables) × HoldsStore from this × ((runs : List Run) × AreRunsIn [] runs × AreRuns Opens runs this) = (it.0, it.1, ([], tt, it.2)) in r))
-all_held (Serves log log_after outcome left ∷ files) from last Opens held are = ∥∥₁_elim held squash₁ (λ it.
+    let r : (this : Tables) × HoldsStore from this × ((runs : List Run) × AreRunsIn [] runs × AreRuns Begins runs this) = (it.0, it.1, ([], tt, it.2)) in r))
+all_held (Serves log log_after outcome left ∷ files) from last Begins held are = ∥∥₁_elim held squash₁ (λ it.
     let served = are.0 it.0 it.1 in
     let run : Run = record { before = it.0; calls = served.calls; closing = served.closing; outcome = outcome; callers = None } in
     let rest = all_held files left last (MayStand run) (served.left left refl) are.1 in
     ∥∥₁_map rest (λ more.
-    let r : (this : Tables) × HoldsStore last this × ((runs : List Run) × AreRunsIn (Serves log log_after outcome left ∷ files) runs × AreRuns Opens runs this) = (
+    let r : (this : Tables) × HoldsStore last this × ((runs : List Run) × AreRunsIn (Serves log log_after outcome left ∷ files) runs × AreRuns Begins runs this) = (
       more.0,
       more.1,
       (run ∷ more.2.0, ((refl, refl, (served.arrivals, served.logged, served.made)), more.2.1), (it.2, served.run, more.2.2)),
     ) in r))
-all_held (Sets rows outcome left ∷ files) from last Opens held are = ∥∥₁_elim held squash₁ (λ it.
+all_held (Sets rows outcome left ∷ files) from last Begins held are = ∥∥₁_elim held squash₁ (λ it.
     let run : Run = record { before = it.0; calls = []; closing = it.0; outcome = outcome; callers = Some rows } in
     ∥∥₁_map (all_held files left last (MayStand run) (are.0.1 it.0 it.1) are.1) (λ more.
-    let r : (this : Tables) × HoldsStore last this × ((runs : List Run) × AreRunsIn (Sets rows outcome left ∷ files) runs × AreRuns Opens runs this) = (
+    let r : (this : Tables) × HoldsStore last this × ((runs : List Run) × AreRunsIn (Sets rows outcome left ∷ files) runs × AreRuns Begins runs this) = (
       more.0,
       more.1,
       (run ∷ more.2.0, ((refl, refl, refl, are.0.0), more.2.1), (it.2, refl, more.2.2)),
     ) in r))
-all_held (Other left ∷ files) from last Opens held are = ∥∥₁_elim held squash₁ (λ it.
+all_held (Other left ∷ files) from last Begins held are = ∥∥₁_elim held squash₁ (λ it.
     let run : Run = record { before = it.0; calls = []; closing = it.0; outcome = None; callers = None } in
     let stays = ∥∥₁_map (are.0 it.0 it.1) (λ now.
     let r : (this : Tables) × HoldsStore left this × MayStand run this = (now.0, now.1, inl now.2) in r) in
     ∥∥₁_map (all_held files left last (MayStand run) stays are.1) (λ more.
-    let r : (this : Tables) × HoldsStore last this × ((runs : List Run) × AreRunsIn (Other left ∷ files) runs × AreRuns Opens runs this) = (
+    let r : (this : Tables) × HoldsStore last this × ((runs : List Run) × AreRunsIn (Other left ∷ files) runs × AreRuns Begins runs this) = (
       more.0,
       more.1,
       (run ∷ more.2.0, ((refl, refl), more.2.1), (it.2, refl, more.2.2)),

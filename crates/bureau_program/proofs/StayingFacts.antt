@@ -74,7 +74,7 @@ found_have : (callers : Option (List CallerRow)) (run : Run) (next : Tables) (fo
 found_have None run next found all (inl same) = subst AllHave (sym same.1) (calls_have run.calls)
 found_have None run next found all (inr (device, made)) = subst AllHave (sym made.2) (calls_have made.0)
 found_have (Some rows) run next found all (inl set) =
-    subst AllHave (sym set.1) (both_have (stages_of run.calls) (Callers rows ∷ []) (calls_have run.calls) (all rows refl, tt))
+    subst AllHave (sym set.2) (both_have (stages_of run.calls) (Callers rows ∷ []) (calls_have run.calls) (all rows refl, tt))
 found_have (Some rows) run next found all (inr kept) = subst AllHave (sym kept.2) (calls_have run.calls)
 
 -- the callers that a run sets are those of a callers file

@@ -16,7 +16,7 @@ use Rattle.bureau_http.specs.Arrivals.{AreMade, Arrival, Event, Logs, log_of}
 use Rattle.bureau_sql.specs.Files.{HoldTables, HoldsStore}
 use Rattle.sqlite_disk.specs.declared.Disk as disk
 use Rattle.sqlite_wal.specs.Recovery.{Image}
-use Rattle.store_runs.specs.Callers.{LeavesSet, TellsSet}
+use Rattle.store_runs.specs.Callers.{LeavesSet, MayHaveSet, TellsSet}
 use Rattle.store_runs.specs.Desk.{AreRowsOf, of_store}
 use Rattle.store_runs.specs.Keeping.{EndsWell, HoldCallers, Leaves}
 use Rattle.bureau_program.specs.Served.{IsServedFrom, MayFollow}
@@ -92,9 +92,9 @@ MayStand run this = StandsBy run.callers run this
 -- Each run found such tables as a stop of the one before may have left, and its calls are a run of the bureau. These tables are
 -- such in the end.
 abbrev pub AreRuns : (Tables → Type 0) → List Run → Tables → Type 0
-AreRuns Opens [] this = Opens this
-AreRuns Opens (run ∷ runs) this =
-    Opens run.before × IsRun run.before run.calls run.closing × AreRuns (MayStand run) runs this
+AreRuns Begins [] this = Begins this
+AreRuns Begins (run ∷ runs) this =
+    Begins run.before × IsRun run.before run.calls run.closing × AreRuns (MayStand run) runs this
 
 -- ---- all stages as one course
 
@@ -118,11 +118,12 @@ abbrev pub stages_of : List CallBy → List Stage
 stages_of calls = map Called calls
 
 -- The calls of a run as they are found afterwards. Where it sets no callers: as they were answered; or, where the device failed, with
--- one more that was made. Where it does: with these callers after them; or, unless its end tells that it has set them, without.
+-- one more that was made. Where it does: with these callers after them, where it may have set them; or, unless its end tells that it
+-- has, without.
 abbrev pub AreFoundBy : Option (List CallerRow) → Run → Tables → List Stage → Type 0
 AreFoundBy None run next found = ((next ≡ run.closing) × (found ≡ stages_of run.calls))
     ⊎ ((run.outcome ≡ Some (of_store Device)) × ((made : List CallBy) × HasMade run.closing run.calls next made × (found ≡ stages_of made)))
-AreFoundBy (Some rows) run next found = ((next ≡ with_callers rows run.closing) × (found ≡ stages_of run.calls ++ Callers rows ∷ []))
+AreFoundBy (Some rows) run next found = (MayHaveSet run.outcome × (next ≡ with_callers rows run.closing) × (found ≡ stages_of run.calls ++ Callers rows ∷ []))
     ⊎ ((TellsSet run.outcome → ⊥) × (next ≡ run.closing) × (found ≡ stages_of run.calls))
 
 abbrev pub AreFoundAs : Run → Tables → List Stage → Type 0
@@ -151,7 +152,7 @@ pub record AreOneCourse (opening : Tables) (runs : List Run) (this : Tables) : T
   pub joined : AreJoined runs this all
   pub course : IsCourse opening all this
   pub alone : IsAloneWhereItStays opening all
-  -- The publisher stays, since each callers file has it.
+  -- The publisher stays, where it was there in the beginning, since each callers file has it.
   pub stays : HaveThePublisher opening.callers → Stays Publisher opening.callers all
 
 -- ---- from one run to the next

@@ -1,6 +1,7 @@
 -- What a run that serves leaves of the files of a store, whenever it stops.
 use Rattle.std.specs.Prelude.{◌≡◌, ◌⊎◌, List, Option, Some}
 use Rattle.faults.specs.declared.any.AnyFault.{AnyFault}
+use Rattle.bureau_store.specs.Store.{IsOfRead}
 use Rattle.bureau_store.specs.Tables.{Tables}
 use Rattle.bureau_store.specs.declared.caller.Caller.{Caller}
 use Rattle.bureau_store.specs.declared.fault.StoreFault.TheVariants.{Device}
@@ -12,7 +13,7 @@ use Rattle.bureau_sql.specs.Files.{HoldTables, HoldsStore}
 use Rattle.sqlite_disk.specs.declared.Disk as disk
 use Rattle.sqlite_wal.specs.Recovery.{Image}
 use Rattle.store_runs.specs.Desk.{of_store}
-use Rattle.store_runs.specs.Keeping.{EndsWell, KeepsEarlier, Leaves}
+use Rattle.store_runs.specs.Keeping.{EndsWell, KeepsEarlier, Leaves, TellsOnly}
 use Rattle.store_runs.specs.declared.ended.Ended.{Ended}
 
 -- The tables after these calls. Or, where the device failed and the run told 42, those with the change of one more, which was told
@@ -35,7 +36,10 @@ pub record IsServedFrom (before : Tables) (log log_after : Option (List Event)) 
   pub left : (left : Image) → MayStay left → HoldTables left (MayFollow outcome closing calls)
 
 -- A run of `serve`, wherever it ends. Over files that hold the bureau's own store it served connections from its tables. Where no
--- files were opened, or an open failed, or the store was refused, it served none. A store of version 1 stays, with its tables.
+-- files were opened, or an open failed, or the store was refused, it served none. Over files that held the bureau's own store, it
+-- tells no fault of a store but 41 or 42 (`IsOfRead`): never that its tables are others, or of another version. A store of version 1
+-- stays, with its tables.
 pub record KeepsServed {D : Type 0} {g : disk.Ghosts D} (from : Image) (log log_after : Option (List Event)) (outcome : Option AnyFault) (ended : Ended D g) : Type 0 where
   pub served : EndsWell from ended → (before : Tables) → HoldsStore from before → IsServedFrom before log log_after outcome (Leaves from ended)
+  pub faults : TellsOnly IsOfRead (λ fault. outcome ≡ Some (of_store fault)) from ended
   pub earlier : KeepsEarlier from ended

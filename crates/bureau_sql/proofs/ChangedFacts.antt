@@ -18,7 +18,7 @@ use Rattle.sql_state.specs.Ours.{AreOurs, IsOurs, held_by}
 use Rattle.bureau_sql.specs.Committed.{AreChanged, HaveChange, IsCommitted}
 use Rattle.bureau_sql.specs.Laws.{sql_lawful}
 use Rattle.bureau_sql.specs.SqlState.{SqlState}
-use Rattle.bureau_sql.specs.SqlView.{IsOurStore, shown, sql_view}
+use Rattle.bureau_sql.specs.SqlView.{IsAtRest, IsOurStore, shown, sql_view}
 use Rattle.bureau_sql.specs.Told.{IsTold}
 use Rattle.sql_state.proofs.StopFacts.{was_clean}
 use Rattle.bureau_sql.proofs.ToldFacts.{failed_since, never_failed}
@@ -128,7 +128,7 @@ module _ {S : Type 0} (g : Ghosts S) (change : Stored → Stored) (IsDueIn : Tab
             | inl was ↦ crashes (Err e) committed (between clean) ours this due stands left may.0 was may.2
             | inr none ↦ absurd none
           ];
-          settled = tt;
+          settled = settles g new rests;
         }
       where
         between : HasCleanDisk (shown g new) → HasCleanDisk (shown g mid)
@@ -185,7 +185,7 @@ module _ {S : Type 0} (g : Ghosts S) (change : Stored → Stored) (IsDueIn : Tab
         cause = λ is. failed;
         is_open = λ none. absurd (none refl);
         crash = λ ours clean this due stands left may. inl (may.0, subst (λ conn. (state g conn).may_leave may.0) same may.1, may.2);
-        settled = tt;
+        settled = λ ours clean standing. absurd (omega (arith, closed, standing));
       }
 
 -- ---- a read, and a change of what was read
@@ -239,8 +239,8 @@ module _ {S : Type 0} (g : Ghosts S) (IsDueIn : Tables → Type 0) (next : Table
 
   -- a read is refused, or what comes after it before anything is changed
   pub read_only : {Answer Done : Type 0} (old new : SqlState S) (read : Result Answer StoreFault) (fault : StoreFault) → Asks (sql_view g) Device old new read
-      → IsOfCall fault → (fault ≡ Device → IsErrOf read Device) → ((fault ≡ Device → ⊥) → IsErrOf read Device → ⊥) → ChangesTo (sql_view g) {Done = Done} (λ this. Unit {0}) next old new (Err fault)
-  read_only old new read fault asks of_call device other =
+      → IsAtRest (shown g new) → IsOfCall fault → (fault ≡ Device → IsErrOf read Device) → ((fault ≡ Device → ⊥) → IsErrOf read Device → ⊥) → ChangesTo (sql_view g) {Done = Done} (λ this. Unit {0}) next old new (Err fault)
+  read_only old new read fault asks rests of_call device other =
       let kept = (sql_lawful g).keeps old new asks.keeps in
       record {
         goes = kept.goes;
@@ -250,7 +250,7 @@ module _ {S : Type 0} (g : Ghosts S) (IsDueIn : Tables → Type 0) (next : Table
         cause = λ is. asks.cause (device cc);
         is_open = λ none. asks.is_open (other (λ is. none (ap Err is)));
         crash = λ ours clean this due stands left may. inl (kept.leaves ours clean left may);
-        settled = tt;
+        settled = settles g new rests;
       }
 
 -- ---- a change, whatever is told beside
@@ -277,7 +277,7 @@ module _ {S : Type 0} (g : Ghosts S) (IsDueIn : Tables → Type 0) (next : Table
     cause = λ is. refused.cause (let one : fault ≡ Device = cc in ap Err one);
     is_open = λ none. refused.is_open (λ is. none (let one : fault ≡ Device = cc in ap Err one));
     crash = refused.crash;
-    settled = tt;
+    settled = refused.settled;
   }
 
 -- what a read is refused for, a call may be

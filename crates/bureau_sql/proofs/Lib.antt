@@ -12,5 +12,6 @@ pub mod FailingFacts
 pub mod FilesFacts
 pub mod FitFacts
 pub mod OpenFacts
+pub mod OpensFacts
 pub mod RoomFacts
 pub mod FoundedFacts

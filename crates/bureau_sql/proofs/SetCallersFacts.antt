@@ -13,28 +13,28 @@ use Rattle.bureau_store.specs.declared.set_callers.CallerCounts.{CallerCounts}
 use Rattle.sqlite_trees.specs.declared.store.Store.{Ghosts}
 use Rattle.sql_tables.proofs.SetCallersFacts.{same_counts}
 use Rattle.bureau_sql.specs.SqlState.{SqlState}
-use Rattle.bureau_sql.specs.SqlView.{sql_view}
+use Rattle.bureau_sql.specs.SqlView.{IsAtRest, shown, sql_view}
 use Rattle.bureau_sql.proofs.ChangedFacts.{done_with, of_call, read_only, read_then, refused_with}
 
 module _ {S : Type 0} (g : Ghosts S) (rows : List CallerRow) where
   -- the callers before can't be read
-  unread : {Answer : Type 0} (old new : SqlState S) (fault : StoreFault) → Reads (sql_view g) {Answer = Answer} old new (Err fault)
+  unread : {Answer : Type 0} (old new : SqlState S) (fault : StoreFault) → Reads (sql_view g) {Answer = Answer} old new (Err fault) → IsAtRest (shown g new)
       → SetsCallers (sql_view g) rows old new (Err fault)
-  unread {Answer} old new fault reads = record {
-    changes = read_only g (λ this. Unit {0}) (with_callers rows) {Answer = Answer} old new (Err fault) fault reads.asks (of_call fault reads.refusal)
+  unread {Answer} old new fault reads rests = record {
+    changes = read_only g (λ this. Unit {0}) (with_callers rows) {Answer = Answer} old new (Err fault) fault reads.asks rests (of_call fault reads.refusal)
         (λ is. ap Err is) (λ other is. other (let one : fault ≡ Device = cc in one));
     counts = tt;
   }
 
-  pub not_read : {Answer : Type 0} (old new : SqlState S) (fault : StoreFault) → Reads (sql_view g) {Answer = Answer} old new (Err fault)
+  pub not_read : {Answer : Type 0} (old new : SqlState S) (fault : StoreFault) → Reads (sql_view g) {Answer = Answer} old new (Err fault) → IsAtRest (shown g new)
       → (answer : Result CallerCounts StoreFault) → answer ≡ Err fault → SetsCallers (sql_view g) rows old new answer
-  not_read {Answer} old new fault reads answer is = subst (SetsCallers (sql_view g) rows old new) (sym is) (unread {Answer = Answer} old new fault reads)
+  not_read {Answer} old new fault reads rests answer is = subst (SetsCallers (sql_view g) rows old new) (sym is) (unread {Answer = Answer} old new fault reads rests)
 
   -- memory ran out as they were counted
-  pub not_counted : {Answer : Type 0} (old new : SqlState S) (a : Answer) → Reads (sql_view g) old new (Ok a)
+  pub not_counted : {Answer : Type 0} (old new : SqlState S) (a : Answer) → Reads (sql_view g) old new (Ok a) → IsAtRest (shown g new)
       → (answer : Result CallerCounts StoreFault) → answer ≡ Err Memory → SetsCallers (sql_view g) rows old new answer
-  not_counted old new a reads answer is = subst (SetsCallers (sql_view g) rows old new) (sym is) (record {
-    changes = read_only g (λ this. Unit {0}) (with_callers rows) old new (Ok a) Memory reads.asks tt (λ is. absurd cc) (λ other is. absurd cc);
+  not_counted old new a reads rests answer is = subst (SetsCallers (sql_view g) rows old new) (sym is) (record {
+    changes = read_only g (λ this. Unit {0}) (with_callers rows) old new (Ok a) Memory reads.asks rests tt (λ is. absurd cc) (λ other is. absurd cc);
     counts = tt;
   })
 

@@ -129,6 +129,10 @@ module _ (wanted : ℕ) (Lacks : Schema → Type 0) (IsIt IsOtherOurs : Database
 abbrev pub IsNoStore : State → State → StoreFault → Type 0
 IsNoStore = IsNotOf 2 LacksConditions IsOurs IsOfVersion1 (λ old new. ⊥)
 
+-- Why a database of the bureau's own is refused: memory ran out, or the device failed or was shut.
+abbrev pub IsOutOfReach : State → State → StoreFault → Type 0
+IsOutOfReach old new fault = (fault ≡ Memory) ⊎ ((fault ≡ Device) × HasFailed old new)
+
 -- A change was begun of a database that was taken for one of version 1, and is refused. Where it is ours, the device failed.
 abbrev pub IsNotMigrated : State → State → Type 0
 IsNotMigrated old new = IsTaken old.committed × (IsOfVersion1 old.committed → CannotWrite old new)

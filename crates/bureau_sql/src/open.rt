@@ -1,5 +1,5 @@
 //! What is looked at before a connection is taken for a store.
-ghost use Rattle.std.specs.Prelude.{◌≡◌, ◌≢◌, ◌∷◌, [], codes, IfErr, IfOk, IsTrue, OnOk, Some, false};
+ghost use Rattle.std.specs.Prelude.{◌≡◌, ◌≢◌, ◌∷◌, [], codes, IfErr, IfOk, IsTrue, None, OnOk, Some, false};
 ghost use Rattle.std.specs.List.{AllByRecursion};
 ghost use Rattle.bureau_store.specs.declared.fault.StoreFault.TheVariants.{Version};
 ghost use Rattle.sqlite.specs.Held.{state};
@@ -9,7 +9,7 @@ ghost use Rattle.sql_state.specs.Ours.{IsOurs, held_by};
 ghost use Rattle.sql_state.specs.Reading.{OnlyReads};
 ghost use Rattle.sql_reads.specs.Version.{HasVersion};
 ghost use Rattle.sql_tables.specs.Stored.{tables_of};
-ghost use Rattle.bureau_sql.specs.Opening.{HasConditions, HasTables, IsNoStore, IsAskedBy, IsOneStatement, IsOther, IsSeen, IsToldOf, IsUnderstood, LacksMore, LacksTables, LacksText, LacksVersion, TellsVersion, of_version};
+ghost use Rattle.bureau_sql.specs.Opening.{HasConditions, HasTables, IsNoStore, IsAskedBy, IsOneStatement, IsOther, IsOutOfReach, IsSeen, IsToldOf, IsUnderstood, LacksMore, LacksTables, LacksText, LacksVersion, TellsVersion, of_version};
 ghost use Rattle.sql_texts.specs.Meaning.{Reads};
 ghost use Rattle.sql_texts.specs.Reads as read;
 ghost use Rattle.sql_texts.specs.Schema.{bureau_1};
@@ -185,8 +185,8 @@ impl<S: Alter> SqlStore<S> {
     ///
     /// [`StoreFault::Shape`] where a table of a store or one of its columns is missing, [`StoreFault::Version`] where
     /// the tables are of another version than 2; `Memory` where memory ran out, and `Device` where the device failed.
-    /// Each hands the connection back, with its tables as they were. The store of a database that the bureau made is
-    /// refused for want of memory or the device alone.
+    /// Each hands the connection back, with its tables as they were. A database that the bureau made is refused only
+    /// where memory ran out, the device failed or the connection was shut, if no limit of steps is set.
     #[tactic(auto, using(crate::proofs::OpenFacts::tables_opened))]
     pub fn open(
         alloc: Global,
@@ -213,6 +213,9 @@ impl<S: Alter> SqlStore<S> {
         ensures rest { IfErr result (λ refused. refused.1.in_transaction ≡ false) }
         ensures cause { IfErr result (λ refused. HasCleanDisk (state S.Store refused.1)
             → IsNoStore (state S.Store conn) (state S.Store refused.1) refused.0) }
+        ensures unopened { IfErr result (λ refused. HasCleanDisk (state S.Store refused.1)
+            → conn.step_limit ≡ None → IsOurs (state S.Store conn).committed
+            → IsOutOfReach (state S.Store conn) (state S.Store refused.1) refused.0) }
     {
         match holds(&mut conn, 2, read::conditional()) {
             Ok(()) => Ok(SqlStore::over(alloc, conn)),

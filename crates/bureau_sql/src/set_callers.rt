@@ -8,7 +8,7 @@ ghost use Rattle.catalogue.specs.View.{Tells};
 ghost use Rattle.sqlite.specs.Held.{state};
 ghost use Rattle.sql_tables.specs.Changes.{with_callers};
 ghost use Rattle.bureau_sql.specs.Committed.{IsCommitted};
-ghost use Rattle.bureau_sql.specs.SqlView.{sql_view};
+ghost use Rattle.bureau_sql.specs.SqlView.{IsAtRest, shown, sql_view};
 
 use crate::commit::{begin, end};
 use crate::{SqlStore, fit};
@@ -44,6 +44,7 @@ impl<S: Alter> SqlStore<S> {
         ensures callers { IfOk result (λ callers. Tells (sql_view S.Store) self.old self.new
             (λ tables. IsPermutation tables.callers callers.items)) }
         ensures ascend { IfOk result (λ callers. NamesAscend (map (λ row. row.name) callers.items)) }
+        ensures rests { IsAtRest (shown S.Store self.new) }
     {
         self.check_open(StoreFault::Device)?;
         let found = sql_reads::all_callers(self.alloc, &mut self.conn);

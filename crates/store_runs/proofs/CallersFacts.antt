@@ -1,17 +1,20 @@
 -- What `callers` leaves of a store, and what it tells.
-use Rattle.std.proofs.Common.{◌≡◌, ◌⊎◌, ◌∙◌, ℕ, Err, IfErr, List, None, Ok, OnErr, OnOk, Option, Result, Some, ap, false, inl, inr, refl, subst, sym}
+use Rattle.std.proofs.Common.{◌≡◌, ◌≢◌, ◌⊎◌, ◌∙◌, ℕ, Err, IfErr, List, None, Ok, OnErr, OnOk, Option, Result, Some, ap, false, inl, inr, refl, subst, sym}
 use Rattle.std.specs.Io.KnownBytes.{Appends}
 use Rattle.std.proofs.KnownBytes.{Keeps-refl}
 use Rattle.std.proofs.Math.Logic.{∥∥₁_map}
 use Rattle.faults.specs.declared.any.AnyFault.{AnyFault}
 use Rattle.bureau_store.specs.SetCallers.{with_callers}
+use Rattle.bureau_store.specs.Store.{IsOfCall}
 use Rattle.bureau_store.specs.Tables.{Tables}
 use Rattle.bureau_store.specs.declared.caller.CallerRow.{CallerRow}
 use Rattle.bureau_store.specs.declared.fault.StoreFault.{StoreFault}
+use Rattle.bureau_store.specs.declared.fault.StoreFault.TheVariants.{Device}
 use Rattle.bureau_store.specs.declared.set_callers.CallerCounts.{CallerCounts}
 use Rattle.bureau_sql.specs.Files.{HoldTables, HoldTrees, HoldsEarlier, HoldsStore}
 use Rattle.bureau_sql.specs.SqlState.{SqlState}
 use Rattle.bureau_sql.specs.SqlView.{IsOurStore, shown, sql_view}
+use Rattle.bureau_sql.proofs.ChangedFacts.{of_call}
 use Rattle.bureau_sql.proofs.FilesFacts.{earlier_found, store_found}
 use Rattle.sql_state.specs.Ours.{AreOurs, IsOurs, held_by}
 use Rattle.sql_state.proofs.StopFacts.{was_clean}
@@ -36,11 +39,12 @@ use Rattle.store_runs.specs.Callers.{CallersEnds, IsCallersOutput, IsCallersRun,
 use Rattle.store_runs.specs.Desk.{HasOpened, of_store}
 use Rattle.store_runs.specs.Ended.{HasEnded, HasFound, IsEndOf, IsRefused, IsUsed}
 use Rattle.store_runs.specs.NamedStore.{HasRows, IsCallers}
-use Rattle.store_runs.specs.Keeping.{HasNoTables, Leaves}
+use Rattle.store_runs.specs.Keeping.{HasNoTables, Leaves, TellsOnly}
 use Rattle.store_runs.specs.declared.ended.Ended.{Ended}
 use Rattle.store_runs.specs.declared.ended.Ended.TheVariants.{Nothing, Left, Closed}
-use Rattle.store_runs.proofs.DoneFacts.{never_done, never_short, some_same}
+use Rattle.store_runs.proofs.DoneFacts.{is_device, never_done, never_short, some_same, told_once}
 use Rattle.store_runs.proofs.EndFacts.{left_of}
+use Rattle.store_runs.proofs.OpensFacts.{known_of_found, known_of_left}
 use Rattle.store_runs.proofs.StayFacts.{earlier_stays, kept_earlier, kept_tables}
 
 -- ---- what is told of one is told of another
@@ -169,6 +173,21 @@ module _ {D : Type 0} {g : disk.Ghosts D} (from : Image) (rows : List CallerRow)
       let same : this ≡ with_callers rows before = over.did.changes.settled now after is_open (with_callers rows before) done this (it.0, it.2, refl) in
       let r : (this : Tables) × HoldsStore image this × (this ≡ with_callers rows before) = (this, store, same) in r)
 
+  -- told another fault than one of the device, it has those of before
+  pub unset_left : (fault : StoreFault) → fault ≢ Device → (over : IsSetOver over_files rows found left (Err fault)) (still : IsClean (view last)) (before : Tables) → HoldsStore from before
+      → (image : Image) → Leaves from (Closed last) image → HoldTables image (λ this. this ≡ before)
+  unset_left fault other over still before holds image may =
+      let after = closed (Err fault) over still in
+      let mine = ours (Err fault) over still before holds in
+      let now = ours_then (Err fault) over still before holds in
+      let is_open = over.did.changes.is_open (λ is. other (let one : fault ≡ Device = cc in one)) in
+      let kept = over.did.changes.refused mine after before (stands (Err fault) over still before holds) in
+      ∥∥₁_map (held (Err fault) over still image may) (λ it.
+      let this = tables_of (stored_in it.0) in
+      let store : HoldsStore image this = record { trees = it.0; held = it.1; ours = now.0 it.0 it.2; tables = refl } in
+      let same : this ≡ before = over.did.changes.settled now after is_open before kept this (it.0, it.2, refl) in
+      let r : (this : Tables) × HoldsStore image this × (this ≡ before) = (this, store, same) in r)
+
   -- a store that was not opened was only read
   module _ (refused : StoreFault) (not : IsUnopened over_files found left refused) (still : IsClean (view last)) where
     found_clean : HasCleanDisk (file_state found)
@@ -206,55 +225,79 @@ only_there rows outcome before image other there = ∥∥₁_map there (λ it.
     let r : (this : Tables) × HoldsStore image this × LeavesSet rows outcome before this = (it.0, it.1, inl (other, it.2)) in r)
 
 -- or they may have been set
-perhaps : (rows : List CallerRow) (outcome : Option AnyFault) (before : Tables) (image : Image) → (TellsSet outcome → ⊥)
+perhaps : (rows : List CallerRow) (outcome : Option AnyFault) (before : Tables) (image : Image) → (TellsSet outcome → ⊥) → outcome ≡ Some (of_store Device)
     → HoldTables image (λ this. (this ≡ before) ⊎ (this ≡ with_callers rows before)) → HoldTables image (LeavesSet rows outcome before)
-perhaps rows outcome before image other either = ∥∥₁_map either (λ it.
-    let which : LeavesSet rows outcome before it.0 = elim it.2 [ inl same ↦ inl (other, same) | inr set ↦ inr set ] in
+perhaps rows outcome before image other device either = ∥∥₁_map either (λ it.
+    let which : LeavesSet rows outcome before it.0 = elim it.2 [ inl same ↦ inl (other, same) | inr set ↦ inr (inr device, set) ] in
     let r : (this : Tables) × HoldsStore image this × LeavesSet rows outcome before this = (it.0, it.1, which) in r)
 
 -- they are set
-set_now : (rows : List CallerRow) (outcome : Option AnyFault) (before : Tables) (image : Image) → HoldTables image (λ this. this ≡ with_callers rows before)
+set_now : (rows : List CallerRow) (outcome : Option AnyFault) (before : Tables) (image : Image) → TellsSet outcome → HoldTables image (λ this. this ≡ with_callers rows before)
     → HoldTables image (LeavesSet rows outcome before)
-set_now rows outcome before image set = ∥∥₁_map set (λ it.
-    let r : (this : Tables) × HoldsStore image this × LeavesSet rows outcome before this = (it.0, it.1, inr it.2) in r)
+set_now rows outcome before image tells set = ∥∥₁_map set (λ it.
+    let r : (this : Tables) × HoldsStore image this × LeavesSet rows outcome before this = (it.0, it.1, inr (inl tells, it.2)) in r)
 
 -- where the store refused, the end doesn't tell so
-never_set : (fault : AnyFault) (refused : StoreFault) → fault ≡ of_store refused → TellsSet (Some fault) → ⊥
-never_set fault refused is (inl done) = never_done refused (Some fault) (ap Some is) done
-never_set fault refused is (inr short) = never_short refused (sym (some_same fault _ short) ∙ is)
+never_set : (outcome : Option AnyFault) (refused : StoreFault) → outcome ≡ Some (of_store refused) → TellsSet outcome → ⊥
+never_set outcome refused is (inl done) = never_done refused outcome is done
+never_set outcome refused is (inr short) = never_short refused (some_same _ _ (sym short ∙ is))
+
+-- where the line is lost, it does
+lost_tells : (fault : AnyFault) (counts : CallerCounts) (old new : Option (List ℕ)) → IsLineLost fault counts old new → TellsSet (Some fault)
+lost_tells fault counts old new (inl cut) = inl (inr (ap Some cut.0))
+lost_tells fault counts old new (inr short) = inr (ap Some short.0)
+
+-- a fault of the store that is told is the one for which it was refused
+same_told : (outcome : Option AnyFault) (fault told : StoreFault) → outcome ≡ Some (of_store fault) → outcome ≡ Some (of_store told) → fault ≡ told
+same_told outcome fault told is also = told_once fault told (some_same _ _ (sym is ∙ also))
 
 module _ {D : Type 0} {g : disk.Ghosts D} (from : Image) (rows : List CallerRow) where
   -- where no connection could be made
-  unconnected : (ended : Ended D g) (outcome : Option AnyFault) (fault : StoreFault) → (TellsSet outcome → ⊥) → IsRefused false from fault ended → KeepsCallers from rows outcome ended
-  unconnected ended outcome fault other refused = record {
-    store = λ before holds well left may. only_there rows outcome before left other (kept_tables from ended refused.left before holds well left may);
+  unconnected : (ended : Ended D g) (outcome : Option AnyFault) (fault : StoreFault) → outcome ≡ Some (of_store fault) → IsRefused false from fault ended → KeepsCallers from rows outcome ended
+  unconnected ended outcome fault is refused = record {
+    store = λ before holds well left may. only_there rows outcome before left (never_set outcome fault is) (kept_tables from ended refused.left before holds well left may);
+    faults = known ended refused;
     earlier = kept_earlier from ended refused.left;
   }
+    where
+      known : (ended : Ended D g) → IsRefused false from fault ended → TellsOnly IsOfCall (λ told. outcome ≡ Some (of_store told)) from ended
+      known Nothing refused well some before holds told also = absurd (some tt)
+      known (Left it) refused well _ before holds told also =
+          subst IsOfCall (same_told outcome fault told is also) (of_call fault (known_of_left from it fault refused well))
+      known (Closed last) refused well _ before holds told also = absurd refused.left
 
   -- where a store was opened, and has the callers
-  set_so : (last : FileStore D g) (outcome : Option AnyFault) (counts : CallerCounts)
+  set_so : (last : FileStore D g) (outcome : Option AnyFault) (counts : CallerCounts) → TellsSet outcome
       → IsUsed from (λ found left. IsSetOver over_files rows found left (Ok counts)) (Closed last) → KeepsCallers from rows outcome (Closed last)
-  set_so last outcome counts used = record {
-    store = λ before holds still image may. set_now rows outcome before image
+  set_so last outcome counts tells used = record {
+    store = λ before holds still image may. set_now rows outcome before image tells
         (set_left from rows used.found used.left used.finds last used.ends counts used.used still before holds image may);
+    faults = λ well _ before holds told also. absurd (never_set outcome told also tells);
     earlier = λ before holds still. absurd (not_earlier from rows used.found used.left used.finds last used.ends (Ok counts) used.used still before holds);
   }
 
   -- where it refused them
-  refused_so : (last : FileStore D g) (outcome : Option AnyFault) (fault : StoreFault) → (TellsSet outcome → ⊥)
+  refused_so : (last : FileStore D g) (outcome : Option AnyFault) (fault : StoreFault) → outcome ≡ Some (of_store fault)
       → IsUsed from (λ found left. IsSetOver over_files rows found left (Err fault)) (Closed last) → KeepsCallers from rows outcome (Closed last)
-  refused_so last outcome fault other used = record {
-    store = λ before holds still image may. perhaps rows outcome before image other
-        (either_left from rows used.found used.left used.finds last used.ends (Err fault) used.used still before holds image may);
+  refused_so last outcome fault is used = record {
+    store = λ before holds still image may. elim (is_device fault) [
+      | inl device ↦ perhaps rows outcome before image (never_set outcome fault is) (is ∙ ap (λ (it : StoreFault). Some (of_store it)) device)
+          (either_left from rows used.found used.left used.finds last used.ends (Err fault) used.used still before holds image may)
+      | inr other ↦ only_there rows outcome before image (never_set outcome fault is)
+          (unset_left from rows used.found used.left used.finds last used.ends fault other used.used still before holds image may)
+    ];
+    faults = λ well _ before holds told also. subst IsOfCall (same_told outcome fault told is also) used.used.did.changes.refusal;
     earlier = λ before holds still. absurd (not_earlier from rows used.found used.left used.finds last used.ends (Err fault) used.used still before holds);
   }
 
   -- where none was opened
-  unopened_so : (last : FileStore D g) (outcome : Option AnyFault) (fault : StoreFault) → (TellsSet outcome → ⊥)
+  unopened_so : (last : FileStore D g) (outcome : Option AnyFault) (fault : StoreFault) → outcome ≡ Some (of_store fault)
       → IsUsed from (λ found left. IsUnopened over_files found left fault) (Closed last) → KeepsCallers from rows outcome (Closed last)
-  unopened_so last outcome fault other used = record {
-    store = λ before holds still image may. only_there rows outcome before image other
+  unopened_so last outcome fault is used = record {
+    store = λ before holds still image may. only_there rows outcome before image (never_set outcome fault is)
         (read_left from rows used.found used.left used.finds last used.ends fault used.used still before holds image may);
+    faults = λ still _ before holds told also. subst IsOfCall (same_told outcome fault told is also)
+        (of_call fault (known_of_found from used.found used.left used.finds used.used.1 last used.ends still before holds fault used.used.2));
     earlier = earlier_stays from (Closed last) (λ now. ⊥) (λ trees holds still.
         database_left from rows used.found used.left used.finds last used.ends fault used.used still trees holds);
   }
@@ -264,18 +307,18 @@ module _ {D : Type 0} {g : disk.Ghosts D} (from : Image) (rows : List CallerRow)
   kept_callers Nothing None old new output = absurd output.1.ends
   kept_callers Nothing (Some fault) old new (inl lost) = absurd lost.1.ends
   kept_callers Nothing (Some fault) old new (inr ((refused, is, inl used), keeps)) = absurd used.ends
-  kept_callers Nothing (Some fault) old new (inr ((refused, is, inr (inl not)), keeps)) = unconnected Nothing (Some fault) refused (never_set fault refused is) not
+  kept_callers Nothing (Some fault) old new (inr ((refused, is, inr (inl not)), keeps)) = unconnected Nothing (Some fault) refused (ap Some is) not
   kept_callers Nothing (Some fault) old new (inr ((refused, is, inr (inr used)), keeps)) = absurd used.ends
   kept_callers (Left it) None old new output = absurd output.1.ends
   kept_callers (Left it) (Some fault) old new (inl lost) = absurd lost.1.ends
   kept_callers (Left it) (Some fault) old new (inr ((refused, is, inl used), keeps)) = absurd used.ends
-  kept_callers (Left it) (Some fault) old new (inr ((refused, is, inr (inl not)), keeps)) = unconnected (Left it) (Some fault) refused (never_set fault refused is) not
+  kept_callers (Left it) (Some fault) old new (inr ((refused, is, inr (inl not)), keeps)) = unconnected (Left it) (Some fault) refused (ap Some is) not
   kept_callers (Left it) (Some fault) old new (inr ((refused, is, inr (inr used)), keeps)) = absurd used.ends
-  kept_callers (Closed last) None old new output = set_so last None output.0 output.1
-  kept_callers (Closed last) (Some fault) old new (inl lost) = set_so last (Some fault) lost.0 lost.1
-  kept_callers (Closed last) (Some fault) old new (inr ((refused, is, inl used), keeps)) = refused_so last (Some fault) refused (never_set fault refused is) used
+  kept_callers (Closed last) None old new output = set_so last None output.0 (inl (inl refl)) output.1
+  kept_callers (Closed last) (Some fault) old new (inl lost) = set_so last (Some fault) lost.0 (lost_tells fault lost.0 old new lost.2) lost.1
+  kept_callers (Closed last) (Some fault) old new (inr ((refused, is, inl used), keeps)) = refused_so last (Some fault) refused (ap Some is) used
   kept_callers (Closed last) (Some fault) old new (inr ((refused, is, inr (inl not)), keeps)) = absurd not.left
-  kept_callers (Closed last) (Some fault) old new (inr ((refused, is, inr (inr used)), keeps)) = unopened_so last (Some fault) refused (never_set fault refused is) used
+  kept_callers (Closed last) (Some fault) old new (inr ((refused, is, inr (inr used)), keeps)) = unopened_so last (Some fault) refused (ap Some is) used
 
 -- ---- by the names of the files
 

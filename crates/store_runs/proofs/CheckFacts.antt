@@ -1,16 +1,18 @@
 -- What `check` sees of a database, what it tells, and what a stop leaves.
-use Rattle.std.proofs.Common.{◌≡◌, ◌⊎◌, ◌∙◌, ℕ, Err, List, Ok, Some, ap, inl, inr, map, subst, sym}
+use Rattle.std.proofs.Common.{◌≡◌, ◌⊎◌, ◌∙◌, ◌∷◌, [], ℕ, Err, List, None, Ok, Some, ap, inl, inr, map, refl, subst, sym}
 use Rattle.std.proofs.Math.Logic.{∥∥₁_map}
 use Rattle.std.specs.Prelude.{false, IfErr, IfOk, Option, OnErr, OnOk, Result, Vec}
 use Rattle.std.specs.declared.alloc.Global.{Global}
 use Rattle.std.specs.Io.KnownBytes.{Appends, Keeps}
 use Rattle.std.specs.List.Sorted.{IsPermutation}
-use Rattle.bureau_sql.specs.Files.{HoldTrees}
+use Rattle.bureau_sql.specs.Files.{HoldTrees, HoldsStore}
 use Rattle.bureau_sql.specs.Opening.{IsNoStore}
 use Rattle.bureau_sql.specs.SqlView.{IsAtRest}
-use Rattle.bureau_store.specs.Tables.{NamesAscend}
+use Rattle.bureau_store.specs.Store.{IsOfRead}
+use Rattle.bureau_store.specs.Tables.{NamesAscend, Tables}
 use Rattle.bureau_store.specs.declared.caller.CallerRow.{CallerRow}
 use Rattle.bureau_store.specs.declared.fault.StoreFault.{StoreFault}
+use Rattle.bureau_store.specs.declared.fault.StoreFault.TheVariants.{Device, Memory}
 use Rattle.run_parts.specs.Outputs.{Outputs}
 use Rattle.run_parts.specs.ProgramFault.{of_program}
 use Rattle.run_parts.specs.declared.fault.ProgramFault.TheVariants.{NotWritten}
@@ -31,7 +33,9 @@ use Rattle.sql_checks.specs.Checked.{Finds, IsFound, IsOursIfNumbered, Looks}
 use Rattle.sql_checks.specs.Kept.{AreKept}
 use Rattle.sql_checks.specs.Refused.{IsCausedBy, IsUnread}
 use Rattle.sql_checks.specs.Tally.{IsTallyOf, tally_text}
-use Rattle.sql_checks.specs.declared.checking.Finding.TheVariants.{Whole}
+use Rattle.sql_checks.specs.declared.checking.Finding.{Finding}
+use Rattle.sql_checks.specs.declared.checking.Finding.TheVariants.{OtherTables, OtherVersion, Whole, WrongRow}
+use Rattle.sql_checks.specs.declared.table.StoreTable.{StoreTable}
 use Rattle.sql_checks.specs.declared.tallies.StoreTally.{StoreTally}
 use Rattle.sql_reads.specs.declared.fault.ReadFault.{ReadFault}
 use Rattle.sql_reads.specs.declared.fault.ReadFault.TheVariants as fault
@@ -40,17 +44,20 @@ use Rattle.sql_state.specs.Ours.{IsOurs, held_by}
 use Rattle.sql_state.specs.Reading as read
 use Rattle.sql_state.specs.Reading.{OnlyReads}
 use Rattle.sql_tables.specs.Stored.{tables_of}
+use Rattle.sql_texts.specs.Found.{shown}
 use Rattle.sql_texts.specs.Schema.{bureau}
-use Rattle.store_runs.specs.Checking.{IsCheck, IsCheckOutput, IsCheckRun, IsCheckTold, IsSeenWhole, IsSeenWrong, IsServable, IsTextOf, IsToldOfRead, IsToldWhole, IsWrong, check_fault_in, check_status, in_no_table}
+use Rattle.store_runs.specs.Checking.{IsCheck, IsCheckOutput, IsCheckRun, IsCheckTold, IsSeenWhole, IsSeenWrong, IsServable, IsTextOf, IsToldAs, IsToldOfRead, IsToldWhole, IsWrong, check_fault_in, check_status, in_no_table}
 use Rattle.store_runs.specs.Desk.{of_store}
 use Rattle.store_runs.specs.Ended.{HasEnded, HasFound, IsEndOf, IsRefused}
-use Rattle.store_runs.specs.Keeping.{HasNoTables, Keeps as Always, KeepsFound}
+use Rattle.store_runs.specs.Keeping.{HasNoTables, Keeps as Always, KeepsFound, TellsOnly}
 use Rattle.store_runs.specs.declared.checking.CheckFault.{CheckFault}
 use Rattle.store_runs.specs.declared.ended.Ended.{Ended}
 use Rattle.store_runs.specs.declared.ended.Ended.TheVariants.{Nothing, Left, Closed}
 use Rattle.transfer.specs.Transfer.{AppendsFront}
+use Rattle.store_runs.proofs.DoneFacts.{no_store_fault, told_once}
 use Rattle.store_runs.proofs.EndFacts.{left_of}
 use Rattle.store_runs.proofs.LeftFacts.{found_nothing}
+use Rattle.store_runs.proofs.OpensFacts.{known_of_found, known_of_left, ours_found}
 use Rattle.store_runs.proofs.StayFacts.{earlier_stays, kept_found, store_stays}
 
 -- ---- how much it has
@@ -189,6 +196,59 @@ kept_read from found left Nothing finds rests reads ends = absurd ends
 kept_read from found left (Left it) finds rests reads ends = absurd ends
 kept_read from found left (Closed last) finds rests reads ends = kept_closed from found left finds rests reads last ends
 
+-- ---- what is told of the bureau's own store
+
+some_told : (one other : CheckFault) → ◌≡◌ {A = Option CheckFault} (Some one) (Some other) → one ≡ other
+some_told one other same = cc
+
+untabled : {P : Type 0} (one other : CheckFault) (table : StoreTable) → one ≡ other → one.table ≡ None → other.table ≡ Some table → P
+untabled one other table same none some =
+    absurd (let both : ◌≡◌ {A = Option StoreTable} None (Some table) = sym none ∙ ap (λ (told : CheckFault). told.table) same ∙ some in cc)
+
+same_fault : (one other : StoreFault) → in_no_table (of_store one) ≡ in_no_table (of_store other) → one ≡ other
+same_fault one other same = told_once one other (ap (λ (told : CheckFault). told.fault) same)
+
+-- its tables and their version are found
+ours_seen : (database : Database) → IsOurs database → (finding : Finding) (told : CheckFault) (fault : StoreFault) → told ≡ in_no_table (of_store fault)
+    → IsToldAs finding told → IsFound database finding → IsOfRead fault
+ours_seen database ours Whole told fault is said found = absurd said
+ours_seen database ours OtherTables told fault is said found = absurd (found ours.schema)
+ours_seen database ours OtherVersion told fault is said found = absurd (found.1 (ap (map (shown (2 ∷ []))) ours.rows.version))
+ours_seen database ours (WrongRow table) told fault is said found = untabled (in_no_table (of_store fault)) _ table (sym is ∙ said) refl refl
+
+module _ {D : Type 0} {g : Ghosts D} (from : Image) (found left : Held (FileStore D g)) (finds : HasFound from found) (reads : OnlyReads (file_state found) (file_state left))
+    (last : FileStore D g) (ends : HasEnded left last) where
+  wrong_known : (told : CheckFault) → IsWrong (file_state found) (file_state left) told → IsClean (view last) → (before : Tables) → HoldsStore from before
+      → (fault : StoreFault) → told ≡ in_no_table (of_store fault) → IsOfRead fault
+  wrong_known told (inl (refused, is, why)) still before holds fault also =
+      subst IsOfRead (same_fault refused fault (sym is ∙ also)) (known_of_found from found left finds reads last ends still before holds refused why)
+  wrong_known told (inr (inl (finding, said, seen))) still before holds fault also =
+      ours_seen (file_state found).committed (ours_found from found left finds reads last ends still before holds) finding told fault also said (seen (ends.clean still))
+  wrong_known told (inr (inr (inl memory))) still before holds fault also = subst IsOfRead (same_fault Memory fault (sym memory ∙ also)) tt
+  wrong_known told (inr (inr (inr device))) still before holds fault also = subst IsOfRead (same_fault Device fault (sym device.0 ∙ also)) tt
+
+  faults_closed : (outcome : Option CheckFault) (old new : Option (List ℕ)) → IsCheckOutput outcome (file_state found) (file_state left) old new
+      → TellsOnly IsOfRead (λ fault. outcome ≡ Some (in_no_table (of_store fault))) from (Closed last)
+  faults_closed None old new output still _ before holds fault is = absurd cc
+  faults_closed (Some told) old new (inl cut) still _ before holds fault is =
+      absurd (no_store_fault fault (ap (λ (it : CheckFault). it.fault) (sym cut.0 ∙ some_told told _ is)))
+  faults_closed (Some told) old new (inr wrong) still _ before holds fault is = wrong_known told wrong.0 still before holds fault (some_told told _ is)
+
+faults_read : {D : Type 0} {g : Ghosts D} (from : Image) (found left : Held (FileStore D g)) (ended : Ended D g) → HasFound from found
+    → OnlyReads (file_state found) (file_state left) → IsEndOf left ended → (outcome : Option CheckFault) (old new : Option (List ℕ))
+    → IsCheckOutput outcome (file_state found) (file_state left) old new → TellsOnly IsOfRead (λ fault. outcome ≡ Some (in_no_table (of_store fault))) from ended
+faults_read from found left Nothing finds reads ends outcome old new output = absurd ends
+faults_read from found left (Left it) finds reads ends outcome old new output = absurd ends
+faults_read from found left (Closed last) finds reads ends outcome old new output = faults_closed from found left finds reads last ends outcome old new output
+
+-- no connection could be made
+faults_refused : {D : Type 0} {g : Ghosts D} (from : Image) (ended : Ended D g) (refused : StoreFault) (told : CheckFault) → told ≡ in_no_table (of_store refused)
+    → IsRefused false from refused ended → TellsOnly IsOfRead (λ fault. Some told ≡ Some (in_no_table (of_store fault))) from ended
+faults_refused from Nothing refused told is why well some before holds fault also = absurd (some tt)
+faults_refused from (Left it) refused told is why well _ before holds fault also =
+    subst IsOfRead (same_fault refused fault (sym is ∙ some_told told _ also)) (known_of_left from it refused why well)
+faults_refused from (Closed last) refused told is why well _ before holds fault also = absurd why.left
+
 module _ (stores : List ℕ → Image → Type 0) (from : Image) {D : Type 0} {g : Ghosts D} (ended : Ended D g) (name : List ℕ) (named : stores name from) (outputs : Outputs) (status : ℕ) where
   -- a connection was made, its store was looked through, and it was ended
   pub looked_through : (found left : Held (FileStore D g)) → HasFound from found → IsEndOf left ended → IsAtRest (file_state found) → OnlyReads (file_state found) (file_state left)
@@ -202,6 +262,7 @@ module _ (stores : List ℕ → Image → Type 0) (from : Image) {D : Type 0} {g
       told = run.told;
       status_is = run.status_is;
     };
+    faults = faults_read from found left ended finds reads ends run.outcome outputs.output outputs.written run.output;
     kept = kept_read from found left ended finds rests reads ends;
   }
 
@@ -211,5 +272,6 @@ module _ (stores : List ℕ → Image → Type 0) (from : Image) {D : Type 0} {g
   not_connected refused told is why keeps said status_is = record {
     named = named;
     checked = record { outcome = Some told; output = inl (refused, ap Some is, why, keeps); told = said; status_is = status_is };
+    faults = faults_refused from ended refused told is why;
     kept = kept_found from ended why.left;
   }

@@ -1,5 +1,5 @@
 -- A fault of the store, or of the callers file, is never that a line could not be written.
-use Rattle.std.proofs.Common.{◌≡◌, ◌<◌, ◌∙◌, ℕ, List, None, Option, Some, ap, arith, inl, inr, sym}
+use Rattle.std.proofs.Common.{◌≡◌, ◌≢◌, ◌⊎◌, ◌<◌, ◌==◌, ◌∙◌, ℕ, List, None, Option, Some, ap, arith, cond, inl, inr, refl, sym}
 use Rattle.faults.specs.declared.any.AnyFault.{AnyFault}
 use Rattle.bureau_store.specs.CallerFault as callers_fault
 use Rattle.bureau_store.specs.declared.fault.CallerFault.{CallerFault}
@@ -21,6 +21,29 @@ some_same one other same = cc
 one_number : (one other : AnyFault) → one ≡ other → one.number ≡ other.number
 one_number one other same = ap (λ (fault : AnyFault). fault.number) same
 
+-- the fault of the store that has a number
+abbrev fault_numbered : ℕ → StoreFault
+fault_numbered number = cond (number == 41) Memory (cond (number == 42) Device (cond (number == 43) Size (cond (number == 44) Shape Version)))
+
+numbered : (refused : StoreFault) → fault_numbered (of_store refused).number ≡ refused
+numbered Memory = refl
+numbered Device = refl
+numbered Size = refl
+numbered Shape = refl
+numbered Version = refl
+
+-- no two of them are told as one
+pub told_once : (one other : StoreFault) → of_store one ≡ of_store other → one ≡ other
+told_once one other same = sym (numbered one) ∙ ap fault_numbered (one_number (of_store one) (of_store other) same) ∙ numbered other
+
+-- a fault is that of the device, or another
+pub is_device : (refused : StoreFault) → (refused ≡ Device) ⊎ (refused ≢ Device)
+is_device Device = inl refl
+is_device Memory = inr (λ same. cc)
+is_device Size = inr (λ same. cc)
+is_device Shape = inr (λ same. cc)
+is_device Version = inr (λ same. cc)
+
 differ : (fault : AnyFault) (refused : StoreFault) → 50 < fault.number → fault ≡ of_store refused → ⊥
 differ fault Memory high same = let one = one_number fault (of_store Memory) same in omega (arith, high, one)
 differ fault Device high same = let one = one_number fault (of_store Device) same in omega (arith, high, one)
@@ -34,6 +57,10 @@ no_store_fault refused same = differ (of_program NotWritten) refused (omega arit
 -- nor that memory ran out for the line
 pub never_short : (refused : StoreFault) → of_program program.Memory ≡ of_store refused → ⊥
 never_short refused same = differ (of_program program.Memory) refused (omega arith) same
+
+-- nor that nobody can be listened to
+pub never_unheard : (refused : StoreFault) → of_program program.NotListening ≡ of_store refused → ⊥
+never_unheard refused same = differ (of_program program.NotListening) refused (omega arith) same
 
 pub never_done : (refused : StoreFault) (outcome : Option AnyFault) → outcome ≡ Some (of_store refused) → IsDone outcome → ⊥
 never_done refused outcome is (inl none) = absurd (let other : ◌≡◌ {A = Option AnyFault} None (Some (of_store refused)) = sym none ∙ is in cc)

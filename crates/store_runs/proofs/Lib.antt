@@ -7,4 +7,5 @@ pub mod InitFacts
 pub mod KeptFacts
 pub mod LeftFacts
 pub mod MigratingFacts
+pub mod OpensFacts
 pub mod StayFacts

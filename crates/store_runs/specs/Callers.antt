@@ -4,9 +4,11 @@ use Rattle.std.specs.Io.KnownBytes.{Appends, Keeps}
 use Rattle.faults.specs.declared.any.AnyFault.{AnyFault}
 use Rattle.transfer.specs.Transfer.{AppendsFront}
 use Rattle.bureau_store.specs.SetCallers.{SetsCallers, with_callers}
+use Rattle.bureau_store.specs.Store.{IsOfCall}
 use Rattle.bureau_store.specs.Tables.{Tables}
 use Rattle.bureau_store.specs.declared.caller.CallerRow.{CallerRow}
 use Rattle.bureau_store.specs.declared.fault.StoreFault.{StoreFault}
+use Rattle.bureau_store.specs.declared.fault.StoreFault.TheVariants.{Device}
 use Rattle.bureau_store.specs.declared.set_callers.CallerCounts.{CallerCounts}
 use Rattle.bureau_sql.specs.Files.{HoldTables, HoldsStore}
 use Rattle.bureau_sql.specs.Opening.{IsNoStore}
@@ -25,7 +27,7 @@ use Rattle.run_parts.specs.declared.fault.ProgramFault.TheVariants.{NotWritten, 
 use Rattle.store_runs.specs.Desk.{HasOpened, of_store}
 use Rattle.store_runs.specs.Ended.{IsRefused, IsUsed}
 use Rattle.store_runs.specs.Keeping as keeping
-use Rattle.store_runs.specs.Keeping.{IsDone, KeepsEarlier}
+use Rattle.store_runs.specs.Keeping.{IsDone, KeepsEarlier, TellsOnly}
 use Rattle.store_runs.specs.declared.ended.Ended.{Ended}
 
 -- how many callers there are, how many of them are new, how many others are gone, and how many have another token
@@ -98,12 +100,20 @@ pub record IsCallersRun (ends : CallersEnds) (old new old_errors new_errors : Op
 abbrev pub TellsSet : Option AnyFault → Type 0
 TellsSet outcome = IsDone outcome ⊎ (outcome ≡ Some (of_program Memory))
 
--- what such a run leaves of tables: with these callers; or, unless its end tells that it has set them, as they were
+-- The store may have them: its end tells so, or that the device failed.
+abbrev pub MayHaveSet : Option AnyFault → Type 0
+MayHaveSet outcome = TellsSet outcome ⊎ (outcome ≡ Some (of_store Device))
+
+-- What such a run leaves of tables: as they were, unless its end tells that it has set these callers; or with these callers, where
+-- it may have set them.
 abbrev pub LeavesSet : List CallerRow → Option AnyFault → Tables → Tables → Type 0
-LeavesSet rows outcome before this = ((TellsSet outcome → ⊥) × (this ≡ before)) ⊎ (this ≡ with_callers rows before)
+LeavesSet rows outcome before this =
+    ((TellsSet outcome → ⊥) × (this ≡ before)) ⊎ (MayHaveSet outcome × (this ≡ with_callers rows before))
 
 -- A run of `callers`, wherever it ends. A store stays, with the tables that were there, or with them and these callers
--- (`LeavesSet`). A store of version 1 stays, with its tables.
+-- (`LeavesSet`). Over files that held the bureau's own store, it tells no fault of a store but 41, 42 and 43 (`IsOfCall`). A store of
+-- version 1 stays, with its tables.
 pub record KeepsCallers {D : Type 0} {g : disk.Ghosts D} (from : Image) (rows : List CallerRow) (outcome : Option AnyFault) (ended : Ended D g) : Type 0 where
   pub store : (before : Tables) → HoldsStore from before → keeping.Keeps from ended (λ left. HoldTables left (LeavesSet rows outcome before))
+  pub faults : TellsOnly IsOfCall (λ fault. outcome ≡ Some (of_store fault)) from ended
   pub earlier : KeepsEarlier from ended

@@ -5,6 +5,7 @@ use Rattle.std.specs.List.Sorted.{IsPermutation}
 use Rattle.faults.specs.FaultText.{text_of}
 use Rattle.faults.specs.declared.any.AnyFault.{AnyFault}
 use Rattle.transfer.specs.Transfer.{AppendsFront}
+use Rattle.bureau_store.specs.Store.{IsOfRead}
 use Rattle.bureau_store.specs.Tables.{NamesAscend, Tables}
 use Rattle.bureau_store.specs.declared.caller.CallerRow.{CallerRow}
 use Rattle.bureau_store.specs.declared.fault.StoreFault.{StoreFault}
@@ -35,7 +36,7 @@ use Rattle.run_parts.specs.ProgramFault.{of_program, status_of}
 use Rattle.run_parts.specs.declared.fault.ProgramFault.TheVariants.{NotWritten}
 use Rattle.store_runs.specs.Desk.{of_store}
 use Rattle.store_runs.specs.Ended.{IsRefused, IsUsed}
-use Rattle.store_runs.specs.Keeping.{KeepsFound}
+use Rattle.store_runs.specs.Keeping.{KeepsFound, TellsOnly}
 use Rattle.store_runs.specs.declared.checking.CheckFault.{CheckFault}
 use Rattle.store_runs.specs.declared.ended.Ended.{Ended}
 
@@ -136,10 +137,13 @@ IsFilesChecked from old new ended outcome =
     ⊎ IsUsed from (λ found left. IsAtRest (file_state found) × IsCheckOutput outcome (file_state found) (file_state left) old new
     × OnlyReads (file_state found) (file_state left)) ended
 
--- `check STORE`, by the name of its file. A stop leaves what was there: a database tree by tree, and so a store of either version.
+-- `check STORE`, by the name of its file. Over files that held the bureau's own store, it tells no fault of a store but 41 or 42
+-- (`IsOfRead`), and 44 only with the name of a table. A stop leaves what was there: a database tree by tree, and so a store of
+-- either version.
 pub record IsCheck (stores : List ℕ → Image → Type 0) (from : Image) {D : Type 0} {g : disk.Ghosts D} (name : List ℕ) (outputs : Outputs) (status : ℕ) (ended : Ended D g) : Type 0 where
   pub named : stores name from
   pub checked : IsCheckRun (IsFilesChecked from outputs.output outputs.written ended) outputs.errors outputs.told status
+  pub faults : TellsOnly IsOfRead (λ fault. checked.outcome ≡ Some (in_no_table (of_store fault))) from ended
   pub kept : KeepsFound from ended
 
 -- ---- No part of what is promised: private contracts cite it.

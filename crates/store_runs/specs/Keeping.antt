@@ -3,6 +3,7 @@ use Rattle.std.specs.Prelude.{◌≡◌, ◌⊎◌, ℕ, IsTrue, List, Option, N
 use Rattle.faults.specs.declared.any.AnyFault.{AnyFault}
 use Rattle.bureau_store.specs.Tables.{Tables, opened}
 use Rattle.bureau_store.specs.declared.caller.CallerRow.{CallerRow}
+use Rattle.bureau_store.specs.declared.fault.StoreFault.{StoreFault}
 use Rattle.bureau_sql.specs.Files.{HoldTables, HoldTrees, HoldsEarlier, HoldsStore}
 use Rattle.sql_state.specs.Ours.{AreOurs}
 use Rattle.sql_tables.specs.InTrees.{stored_in}
@@ -20,12 +21,14 @@ use Rattle.sqlite_store.specs.FileStore as files
 use Rattle.sqlite_store.specs.FileStore.{recovers, view}
 use Rattle.sqlite_store.specs.Unopened.{state_of}
 use Rattle.sqlite.specs.Effect.{Database}
-use Rattle.sqlite.specs.Files.{AreFoundIn, HoldsDatabase, IsCleanLeft, IsNothing}
+use Rattle.sqlite.specs.Files as sqlite
+use Rattle.sqlite.specs.Files.{AreFoundIn, HoldsDatabase, IsCleanLeft}
 use Rattle.sqlite.specs.declared.file.Leftover.{Leftover}
 use Rattle.sqlite.specs.declared.file.Leftover.TheVariants as left
 use Rattle.run_parts.specs.ProgramFault.{of_program}
 use Rattle.run_parts.specs.declared.fault.ProgramFault.TheVariants.{NotWritten}
 use Rattle.store_runs.specs.Desk.{AreRowsOf}
+use Rattle.store_runs.specs.Ended.{IsNothing}
 use Rattle.store_runs.specs.declared.ended.Ended.{Ended}
 use Rattle.store_runs.specs.declared.ended.Ended.TheVariants.{Nothing, Left, Closed}
 
@@ -69,7 +72,13 @@ module _ {D : Type 0} {g : disk.Ghosts D} where
       (trees : Trees) (it : HoldsDatabase from trees) → IsTrue (is_summed it.0) → IsTrue (is_summed (state_of now).page_size)
   IsUsual from (left.Store now) = IsTrue (view now).is_numbered
 
-  -- the disk returned what was written, and what is taken on trust is so
+  -- the disk returned what was written
+  abbrev pub HadCleanDisk : Ended D g → Type 0
+  HadCleanDisk Nothing = Unit {0}
+  HadCleanDisk (Left it) = IsCleanLeft it
+  HadCleanDisk (Closed last) = IsClean (view last)
+
+  -- it did, and what is taken on trust is so
   abbrev pub EndsWell : Image → Ended D g → Type 0
   EndsWell from Nothing = Unit {0}
   EndsWell from (Left it) = IsCleanLeft it × IsUsual from it
@@ -86,6 +95,12 @@ module _ {D : Type 0} {g : disk.Ghosts D} where
   abbrev pub Keeps : Image → Ended D g → (Image → Type 0) → Type 0
   Keeps from ended Is = EndsWell from ended → (left : Image) → Leaves from ended left → Is left
 
+  -- Where the disk returned what was written, and the files that a run opened held the bureau's own store, each fault of a store
+  -- that it tells (`Told`) is one that it may tell (`May`).
+  abbrev pub TellsOnly : (May Told : StoreFault → Type 0) → Image → Ended D g → Type 0
+  TellsOnly May Told from ended = HadCleanDisk ended → (IsNothing ended → ⊥) → (before : Tables) → HoldsStore from before
+      → (fault : StoreFault) → Told fault → May fault
+
   -- a store stays, with its tables
   abbrev pub KeepsTables : Image → Ended D g → Type 0
   KeepsTables from ended = (before : Tables) → HoldsStore from before → Keeps from ended (λ left. HoldTables left (λ this. this ≡ before))
@@ -98,7 +113,7 @@ module _ {D : Type 0} {g : disk.Ghosts D} where
   -- Where there is none yet, there is none afterwards, or one that has no tables.
   pub record KeepsFound (from : Image) (ended : Ended D g) : Type 0 where
     pub stays : (trees : Trees) → HoldsDatabase from trees → Keeps from ended (HoldTrees (λ now. now ≡ trees))
-    pub begins : IsNothing from → Keeps from ended (λ left. IsNothing left ⊎ HoldTrees HasNoTables left)
+    pub begins : sqlite.IsNothing from → Keeps from ended (λ left. sqlite.IsNothing left ⊎ HoldTrees HasNoTables left)
     pub store : KeepsTables from ended
     pub earlier : KeepsEarlier from ended
 
@@ -109,7 +124,7 @@ module _ {D : Type 0} {g : disk.Ghosts D} where
     pub found : Keeps from ended (HoldTrees (λ now. AreFoundIn from now ⊎ AreMadeFor source now))
     pub stays : (trees : Trees) → HoldsDatabase from trees
         → Keeps from ended (HoldTrees (λ now. (now ≡ trees) ⊎ (HasNoTables trees × AreMadeFor source now)))
-    pub begins : IsNothing from → Keeps from ended (λ left. IsNothing left ⊎ HoldTrees (λ now. HasNoTables now ⊎ AreMadeFor source now) left)
+    pub begins : sqlite.IsNothing from → Keeps from ended (λ left. sqlite.IsNothing left ⊎ HoldTrees (λ now. HasNoTables now ⊎ AreMadeFor source now) left)
     pub store : KeepsTables from ended
     pub earlier : KeepsEarlier from ended
     pub made : IsDone outcome → Keeps from ended (HoldCallers source)

@@ -3,6 +3,7 @@ use Rattle.sqlite.specs.Held.{state}
 use Rattle.sqlite.specs.State.{HasCleanDisk}
 use Rattle.sql_state.specs.Reading.{OnlyReads}
 use Rattle.bureau_sql.proofs.OpenFacts.{conditions_found, no_earlier_store, no_store, ours_opened}
+use Rattle.bureau_sql.proofs.OpensFacts.{opens_unless}
 use Rattle.bureau_sql.proofs.store.SqlStore.open.Goals as goal
 
 pub returns-in-Ok-clause-version : goal.returns-in-Ok-clause-version
@@ -26,3 +27,8 @@ returns-in-Ok-clause-ours g c =
 pub returns-in-Err-clause-cause : goal.returns-in-Err-clause-cause
 returns-in-Err-clause-cause g c clean =
     no_store c.conditional.result.now (state g.S.Store c.args.conn) (state g.S.Store c.holds.new.conn) c.in-Err.fault c.conditional.ensures (c.in-Err.ensures.cause clean)
+
+pub returns-in-Err-clause-unopened : goal.returns-in-Err-clause-unopened
+returns-in-Err-clause-unopened g c clean unlimited ours =
+    opens_unless (state g.S.Store c.args.conn) (state g.S.Store c.holds.new.conn) c.in-Err.fault unlimited ours
+    (no_store c.conditional.result.now (state g.S.Store c.args.conn) (state g.S.Store c.holds.new.conn) c.in-Err.fault c.conditional.ensures (c.in-Err.ensures.cause clean))

@@ -6,12 +6,12 @@ use Rattle.bureau_sql.proofs.store.SqlStore.set_callers.Goals as goal
 pub returns-in_err-before : goal.returns-in_err-before
 returns-in_err-before g c =
     let is : c.from_residual.result ≡ Err c.in_err-before.field-0.0 = search (rules, c.from_residual.ensures) in
-    not_read g.S.Store c.args.callers.now _ _ c.in_err-before.field-0.0 c.in_err-before.ensures.reads c.from_residual.result is
+    not_read g.S.Store c.args.callers.now _ _ c.in_err-before.field-0.0 c.in_err-before.ensures.reads c.in_err-before.ensures.rests c.from_residual.result is
 
 pub returns-in_err-names : goal.returns-in_err-names
 returns-in_err-names g c =
     let is : c.from_residual-in_err-names.result ≡ Err Memory = search (rules, c.from_residual-in_err-names.ensures) in
-    not_counted g.S.Store c.args.callers.now _ _ _ c.in_ok-before.ensures.reads c.from_residual-in_err-names.result is
+    not_counted g.S.Store c.args.callers.now _ _ _ c.in_ok-before.ensures.reads c.in_ok-before.ensures.rests c.from_residual-in_err-names.result is
 
 pub returns-in_err-put_callers : goal.returns-in_err-put_callers
 returns-in_err-put_callers g c =
