@@ -45,28 +45,34 @@ class Zone:
             first, heading, rows = "MISSING FIX REPORT FOR ZONE ", FIXES, self.fixes
         return "%s%s\n%s%sROWS %d\n" % (first, self.name, heading, "".join(row + "\n" for row in rows), len(rows))
 
-    def plan(self):
+    def plan(self, report):
         """Each hold's first GOOD resolver, and one more that the first one needs."""
-        members, held, unresolved, step = [], [], [], 0
+        members, held, resolved, unresolved, blocked = [], [], [], [], {}
         for (sysmod, reason, _), found in self.holds:
             good = [one for one in found if one[1] == "GOOD"]
             hold = {"reason": reason, "sysmod": sysmod}
             if not found:
                 unresolved.append(hold)
             elif not good:
-                held.append({**hold, "blocked": ["AJ99998", "AJ99999"], "resolver": found[0][0]})
+                held.append({**hold, "resolver": found[0][0]})
+                blocked[found[0][0]] = {"giver": "UJ99998", "need": "AJ99998", "published": True, "sysmod": found[0][0]}
+                blocked["UJ99998"] = {"giver": None, "need": "AJ99999", "published": False, "sysmod": "UJ99998"}
             else:
-                members.append([member(good[0][0], [hold], [], good[0][2] == "YES", ["IPL"] if step % 9 == 0 else [])])
-                step += 1
+                step = len(members) + 2
+                members.append(member(step, good[0][0], [hold], [], good[0][2] == "YES", ["IPL"] if step % 9 == 2 else []))
+                resolved.append({**hold, "resolver": good[0][0]})
         if members:
-            members.insert(0, [member("UJ90000", [], [members[0][0]["id"]], False, ["ACTION"])])
-        return {"held": held, "steps": members, "unresolved": unresolved, "zone": self.name}
+            members.insert(0, member(1, "UJ90000", [], [members[0]["id"]], False, ["ACTION"]))
+        return {
+            "blocked": [blocked[name] for name in sorted(blocked)], "held": held, "members": members, "report": report,
+            "resolved": resolved, "unresolved": unresolved, "zone": self.name,
+        }
 
 
-def member(name, holds, needed_by, is_received, system):
+def member(step, name, holds, needed_by, is_received, system):
     return {
         "fmids": ["HBB77E0"], "holds": holds, "id": name, "needed_by": needed_by, "received": is_received,
-        "system": system, "user": ["OURS"] if name.endswith("7") else [],
+        "step": step, "system": system, "user": ["OURS"] if name.endswith("7") else [],
     }
 
 
@@ -94,7 +100,7 @@ class DrawnDesk:
         if zone and parts[2:] in (["errsysmods"], ["missingfix"]):
             return zone.report(parts[2]).encode()
         if zone and len(parts) == 4 and parts[3] == "plan.json" and self.with_plans:
-            return json.dumps(zone.plan(), separators=(",", ":")).encode()
+            return json.dumps(zone.plan(parts[2]), separators=(",", ":")).encode()
         if zone and len(parts) == 4 and parts[2] == "chains":
             return json.dumps(self.chain(zone, parts[3]), separators=(",", ":")).encode()
         return 404, b"NOT FOUND\n"

@@ -222,8 +222,8 @@ def plan(browser, front):
     go(browser, "#MIDDLE/plan")
     browser.until("document.querySelector('.plan tbody tr.first')")
     picture(browser, "plan")
-    wanted = ZONES[3].plan()
-    members = [member for step in wanted["steps"] for member in step]
+    wanted = ZONES[3].plan("errsysmods")
+    members = wanted["members"]
     same("the members in order", [row[:2] for row in lines(browser)][:9], [[str(at + 1), one["id"]] for at, one in enumerate(members[:9])])
     same("why", lines(browser)[1][5], "resolves %(sysmod)s (%(reason)s)" % members[1]["holds"][0])
     same("what to heed", lines(browser)[0][4], "SYSTEM ACTION")

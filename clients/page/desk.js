@@ -146,7 +146,7 @@ export class Snapshot {
   plan(zone, name) {
     return this.kept('plan ' + name + ' ' + zone, async () => {
       try {
-        return planOf(await this.ask(this.pathOf(zone, name, 'plan.json')), zone);
+        return planOf(await this.ask(this.pathOf(zone, name, 'plan.json')), zone, name);
       } catch (fault) {
         if (fault instanceof Refusal && fault.status === 404) return null;
         throw fault;

@@ -5,24 +5,37 @@ const isHold = (hold) => typeof hold?.sysmod === 'string' && typeof hold.reason 
 const areTexts = (list) => Array.isArray(list) && list.every((text) => typeof text === 'string');
 
 function isMember(member) {
-  return typeof member?.id === 'string' && typeof member.received === 'boolean' &&
+  return typeof member?.id === 'string' && Number.isInteger(member.step) && typeof member.received === 'boolean' &&
     ['fmids', 'needed_by', 'system', 'user'].every((name) => areTexts(member[name])) &&
     Array.isArray(member.holds) && member.holds.every(isHold);
 }
 
-const isHeld = (held) => isHold(held) && typeof held.resolver === 'string' && areTexts(held.blocked);
+const isHeld = (held) => isHold(held) && typeof held.resolver === 'string';
+const isBlocked = (blocked) => typeof blocked?.sysmod === 'string' && typeof blocked.need === 'string' &&
+  (blocked.giver === null || typeof blocked.giver === 'string');
+const areAll = (list, is) => Array.isArray(list) && list.every(is);
 
-// The plan: steps in the order of installation, each a list of members; the holds that nothing resolves; and
-// those whose resolvers are all held, with the row of needs that are in the way.
-export function planOf(text, zone) {
+// The needs that are in a SYSMOD's way: its own, that of what would give it, and so on, each once.
+function needsOf(sysmod, blocked) {
+  const needs = [];
+  const seen = new Set();
+  for (let row = blocked.get(sysmod); row && !seen.has(row.sysmod); row = blocked.get(row.giver)) {
+    seen.add(row.sysmod);
+    needs.push(row.need);
+  }
+  return needs;
+}
+
+// The plan of a report: members in the order of installation; the holds that nothing resolves; and those whose
+// resolvers are all held, with the needs that are in the way.
+export function planOf(text, zone, name) {
   const plan = json(text);
-  const isPlan = plan?.zone === zone && Array.isArray(plan.steps) &&
-    plan.steps.every((step) => Array.isArray(step) && step.every(isMember)) &&
-    Array.isArray(plan.unresolved) && plan.unresolved.every(isHold) &&
-    Array.isArray(plan.held) && plan.held.every(isHeld);
+  const isPlan = plan?.zone === zone && plan.report === name && areAll(plan.members, isMember) &&
+    areAll(plan.unresolved, isHold) && areAll(plan.held, isHeld) && areAll(plan.blocked, isBlocked);
   if (!isPlan) throw new NoReport();
-  const members = plan.steps.flatMap((step, at) => step.map((member) => ({ ...member, step: at + 1 })));
-  return { zone, members, unresolved: plan.unresolved, held: plan.held, json: text };
+  const blocked = new Map(plan.blocked.map((row) => [row.sysmod, row]));
+  const held = plan.held.map((hold) => ({ ...hold, blocked: needsOf(hold.resolver, blocked) }));
+  return { zone, members: plan.members, unresolved: plan.unresolved, held, json: text };
 }
 
 const named = (holds) => holds.map((hold) => hold.sysmod + ' ' + hold.reason).join(' ');

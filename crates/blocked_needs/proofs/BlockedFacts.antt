@@ -1,5 +1,5 @@
 -- The table of blocked needs.
-use Rattle.std.proofs.Common.{◌≡◌, ◌∙◌, ◌⊎◌, ◌≤◌, ℕ, zero, suc, List, [], ◌∷◌, ◌++◌, Bool, true, false, Option, Some, None, is_some, length, map, refl, sym, ap, subst, inl, inr, arith}
+use Rattle.std.proofs.Common.{◌≡◌, ◌∙◌, ◌⊎◌, ◌≤◌, ℕ, zero, suc, List, [], ◌∷◌, ◌++◌, true, Option, Some, None, is_some, length, map, refl, sym, ap, subst, inl, inr, arith}
 use Rattle.std.specs.BTreeMap.{insert_entry, is_at}
 use Rattle.std.specs.BTreeSet.{insert_key}
 use Rattle.std.specs.List.{Contains, cons_option, filter_map, find, flat_map}
@@ -19,7 +19,7 @@ use Rattle.supersede.proofs.LeadingFacts.{gives_is}
 use Rattle.supersede.proofs.PathFacts.{AllSources, shorten}
 use Rattle.requisites.specs.Leads.{IsPath, Leads}
 use Rattle.requisites.specs.World.{IsGoodGiver}
-use Rattle.requisites.proofs.LeadsFacts.{leads_closed, leads_itself, leads_more}
+use Rattle.requisites.proofs.LeadsFacts.{leads_itself, leads_more}
 use Rattle.chains.specs.Judge.{status_of}
 use Rattle.chains.specs.Verdicts.{Judged, good, held, lack, verdict_of}
 use Rattle.chains.specs.Worlds.{IsVerdict, world_of}
@@ -29,8 +29,8 @@ use Rattle.chains.proofs.OrderFacts.{ascending_same, find_inside}
 use Rattle.chains.proofs.SearchFacts.{first_inside, inside_cases, kept_from, none_inside, rest_inside}
 use Rattle.chains.proofs.StatusFacts.{find_some}
 use Rattle.chains.proofs.VerdictFacts.{found_verdict}
-use Rattle.blocked_needs.specs.Blocked.{AreBlockedNeeds, HasRow, IsRightRow, blocked_at, blocked_by, blocked_needs_of, giver_of, is_published, next_by, next_of, waits_within}
-use Rattle.blocked_needs.specs.Seen.{AreSeen, HasFollowed, IsComeTo, IsNext, entry_of}
+use Rattle.blocked_needs.specs.Blocked.{AreBlockedNeeds, HasRow, IsRightRow, blocked_at, blocked_by, giver_of, is_published, next_by, next_of, waits_within}
+use Rattle.blocked_needs.specs.Seen.{AreSeen, IsComeTo, IsNext, entry_of}
 use Rattle.blocked_needs.specs.declared.blocked.BlockedNeed.{BlockedNeed}
 use Rattle.blocked_needs.proofs.ListFacts.{entry_inside, filter_map_map, flat_from, flat_inside, made_from, map_found, put_entry, put_first, put_from, put_rest}
 

@@ -1,10 +1,10 @@
 -- What blocks the SYSMODs that are HELD, and what would give that (IBM z/OS SMP/E Reference, `++VER`, operands FMID, PRE, REQ
 -- and SUP, and `++HOLD`, operand ERROR).
-use Rattle.std.specs.Prelude.{◌≡◌, ℕ, Bool, true, false, List, [], ◌∷◌, Option, Some, None, Contains, length, map, zero, suc, find}
+use Rattle.std.specs.Prelude.{◌≡◌, ℕ, Bool, true, false, List, [], ◌∷◌, Option, Some, None, Contains, length, zero, suc, find}
 use Rattle.std.specs.List.{cons_option, filter_map, flat_map}
 use Rattle.zone_lists.specs.declared.zones.ZoneRow.{ZoneRow}
 use Rattle.catalogue.specs.Content.{Content}
-use Rattle.catalogue.specs.Ids.{Ascend, in_order}
+use Rattle.catalogue.specs.Ids.{in_order}
 use Rattle.supersede.specs.Giving.{givers_of, is_candidate}
 use Rattle.requisites.specs.World.{IsGoodGiver}
 use Rattle.chains.specs.Judge.{status_of}

@@ -7,7 +7,7 @@ use Rattle.catalogue.specs.Content.{nothing}
 use Rattle.bureau_store.specs.Effect.{zone_dropped}
 use Rattle.bureau_store.specs.Tables.{ZoneTable, Zones}
 use Rattle.bureau_store.specs.declared.caller.Caller.TheVariants.{Publisher, Client}
-use Rattle.bureau.specs.Call.{Call, publish, drop_zone, list_zones, err_sysmods, counts}
+use Rattle.bureau.specs.Call.{Call, publish, drop_zone, list_zones, err_sysmods, err_plan_json, missing_plan, counts}
 use Rattle.bureau.specs.Outcome.{Answer, Outcome, accepted, answered, has_room, in_turn, outcome, plain}
 use Rattle.bureau.specs.Own.{Asked, Opening, own_answer}
 use Rattle.bureau.specs.Texts.{counts_text}
@@ -37,6 +37,9 @@ client_publishes = refl
 
 pub publisher_lists_zones : outcome publisher list_zones ≡ answered (plain 403 (codes "NOT ALLOWED\n"))
 publisher_lists_zones = refl
+
+pub publisher_asks_for_a_plan : outcome publisher (missing_plan (codes "TGT1   ")) ≡ answered (plain 403 (codes "NOT ALLOWED\n"))
+publisher_asks_for_a_plan = refl
 
 pub who_may_not_ask_needs_no_number : outcome alpha (publish None []) ≡ answered (plain 403 (codes "NOT ALLOWED\n"))
 who_may_not_ask_needs_no_number = refl
@@ -76,6 +79,9 @@ zone_dropped_now = refl
 
 pub report_on_no_zone : outcome alpha (err_sysmods (codes "TGT9   ")) ≡ answered (plain 404 (codes "NOT FOUND\n"))
 report_on_no_zone = refl
+
+pub plan_on_no_zone : outcome alpha (err_plan_json (codes "TGT9   ")) ≡ answered (plain 404 (codes "NOT FOUND\n"))
+plan_on_no_zone = refl
 
 pub zones_listed : outcome alpha list_zones ≡ answered (plain 200 (codes "ZONE     SYSMODS\nTGT1     1\nROWS 1\n"))
 unfolding digits

@@ -5,12 +5,12 @@ use Rattle.bureau_store.specs.Effect.{Effect, publication, zone_put, zone_droppe
 use Rattle.bureau_store.specs.Tables.{LastChange, ZoneTable, Zones, zone_named}
 use Rattle.bureau_store.specs.declared.caller.Caller.{Caller}
 use Rattle.bureau_store.specs.declared.caller.Caller.TheVariants.{Publisher, Client}
-use Rattle.bureau.specs.Call.{Call, publish, put_zone, drop_zone, put_received, put_patterns, list_zones, err_sysmods, missing_fix, chain, counts}
+use Rattle.bureau.specs.Call.{Call, publish, put_zone, drop_zone, put_received, put_patterns, list_zones, err_sysmods, missing_fix, err_plan, err_plan_json, missing_plan, missing_plan_json, chain, counts}
 use Rattle.bureau_store.specs.Store.{greatest_number}
-use Rattle.bureau.specs.Outcome.{Outcome, answered, accepted, bad_number, by_number, forbidden, gap, has_room, in_turn, may_ask, of_zone, outcome, outcome_allowed, put_of_zone, refused, said, stale, told}
+use Rattle.bureau.specs.Outcome.{Outcome, answered, accepted, as_json, bad_number, by_number, forbidden, gap, has_room, in_turn, may_ask, of_zone, outcome, outcome_allowed, put_of_zone, refused, said, stale, told}
 use Rattle.bureau.specs.View.{View}
 use Rattle.bureau.specs.Bodies.{changes_in, ids_in, patterns_in, rows_in}
-use Rattle.bureau.specs.Texts.{chain_text, err_report, missing_report, patterns_text, publication_text, received_text, zone_dropped_text, zone_put_text}
+use Rattle.bureau.specs.Texts.{chain_text, err_plan_json_text, err_plan_text, err_report, missing_plan_json_text, missing_plan_text, missing_report, patterns_text, publication_text, received_text, zone_dropped_text, zone_put_text}
 
 -- who may make a change, and that patterns are those of a zone that is there
 abbrev pub IsPossible : Zones → Caller → Effect → Type 0
@@ -58,6 +58,10 @@ asked view Publisher (put_patterns number zone body) = refl
 asked view Publisher list_zones = refl
 asked view Publisher (err_sysmods zone) = refl
 asked view Publisher (missing_fix zone) = refl
+asked view Publisher (err_plan zone) = refl
+asked view Publisher (err_plan_json zone) = refl
+asked view Publisher (missing_plan zone) = refl
+asked view Publisher (missing_plan_json zone) = refl
 asked view Publisher (chain zone sysmod) = refl
 asked view Publisher counts = refl
 asked view (Client name) (publish number body) = refl
@@ -81,6 +85,12 @@ asked view (Client name) (put_patterns number zone body) =
 asked view (Client name) list_zones = refl
 asked view (Client name) (err_sysmods zone) = finds view.zones (Client name) (zone_named zone view.zones) (λ table. told (err_report view.content zone table view.received)) (λ table found. refl)
 asked view (Client name) (missing_fix zone) = finds view.zones (Client name) (zone_named zone view.zones) (λ table. told (missing_report view.content zone table view.received)) (λ table found. refl)
+asked view (Client name) (err_plan zone) = finds view.zones (Client name) (zone_named zone view.zones) (λ table. told (err_plan_text view.content zone table view.received)) (λ table found. refl)
+asked view (Client name) (err_plan_json zone) =
+    finds view.zones (Client name) (zone_named zone view.zones) (λ table. answered (as_json (err_plan_json_text view.content zone table view.received))) (λ table found. refl)
+asked view (Client name) (missing_plan zone) = finds view.zones (Client name) (zone_named zone view.zones) (λ table. told (missing_plan_text view.content zone table view.received)) (λ table found. refl)
+asked view (Client name) (missing_plan_json zone) =
+    finds view.zones (Client name) (zone_named zone view.zones) (λ table. answered (as_json (missing_plan_json_text view.content zone table view.received))) (λ table found. refl)
 asked view (Client name) (chain zone sysmod) =
     finds view.zones (Client name) (zone_named zone view.zones) (λ table. answered (record { status = 200; json = true; body = chain_text view.content zone table sysmod })) (λ table found. refl)
 asked view (Client name) counts = refl

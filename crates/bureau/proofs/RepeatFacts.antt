@@ -9,7 +9,7 @@ use Rattle.bureau_store.specs.Tables.{LastChange, Tables, ZoneTable, zone_named}
 use Rattle.bureau_store.specs.declared.caller.Caller.{Caller}
 use Rattle.bureau_store.specs.declared.caller.Caller.TheVariants.{Publisher, Client}
 use Rattle.bureau.specs.Bodies.{changes_in, rows_in, ids_in, patterns_in}
-use Rattle.bureau.specs.Call.{Call, publish, put_zone, drop_zone, put_received, put_patterns, list_zones, err_sysmods, missing_fix, chain, counts}
+use Rattle.bureau.specs.Call.{Call, publish, put_zone, drop_zone, put_received, put_patterns, list_zones, err_sysmods, missing_fix, err_plan, err_plan_json, missing_plan, missing_plan_json, chain, counts}
 use Rattle.bureau.specs.Joint.{CallBy, IsRun, IsStep, tables_left}
 use Rattle.bureau_store.specs.Store.{greatest_number}
 use Rattle.bureau.specs.Outcome.{Answer, Outcome, answered, accepted, answer_of, bad_number, by_number, forbidden, gap, has_room, in_turn, may_ask, no_room, of_zone, outcome, outcome_allowed, plain, refused, said, stale, told}
@@ -59,6 +59,10 @@ allowed_in_turn view (put_patterns number zone body) n e =
 allowed_in_turn view list_zones n e = absurd (cc)
 allowed_in_turn view (err_sysmods zone) n e = absurd (cc)
 allowed_in_turn view (missing_fix zone) n e = absurd (cc)
+allowed_in_turn view (err_plan zone) n e = absurd (cc)
+allowed_in_turn view (err_plan_json zone) n e = absurd (cc)
+allowed_in_turn view (missing_plan zone) n e = absurd (cc)
+allowed_in_turn view (missing_plan_json zone) n e = absurd (cc)
 allowed_in_turn view (chain zone sysmod) n e = absurd (cc)
 allowed_in_turn view counts n e = absurd (cc)
 
@@ -165,6 +169,10 @@ allowed_accepted view (put_patterns number zone body) effect text e = in_turn_ac
 allowed_accepted view list_zones effect text e = absurd (cc)
 allowed_accepted view (err_sysmods zone) effect text e = none_of_zone (zone_named zone view.zones) _ effect text e
 allowed_accepted view (missing_fix zone) effect text e = none_of_zone (zone_named zone view.zones) _ effect text e
+allowed_accepted view (err_plan zone) effect text e = none_of_zone (zone_named zone view.zones) _ effect text e
+allowed_accepted view (err_plan_json zone) effect text e = none_of_zone (zone_named zone view.zones) _ effect text e
+allowed_accepted view (missing_plan zone) effect text e = none_of_zone (zone_named zone view.zones) _ effect text e
+allowed_accepted view (missing_plan_json zone) effect text e = none_of_zone (zone_named zone view.zones) _ effect text e
 allowed_accepted view (chain zone sysmod) effect text e = none_of_zone (zone_named zone view.zones) _ effect text e
 allowed_accepted view counts effect text e = absurd (cc)
 

@@ -11,5 +11,9 @@ pub data Call : Type 0 where
   list_zones : Call
   err_sysmods : List ℕ → Call
   missing_fix : List ℕ → Call
+  err_plan : List ℕ → Call
+  err_plan_json : List ℕ → Call
+  missing_plan : List ℕ → Call
+  missing_plan_json : List ℕ → Call
   chain : List ℕ → List ℕ → Call
   counts : Call

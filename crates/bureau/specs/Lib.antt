@@ -18,3 +18,4 @@ pub mod Replies
 pub mod Runs
 pub mod Texts
 pub mod View
+pub mod Wanted

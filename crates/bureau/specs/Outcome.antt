@@ -5,10 +5,10 @@ use Rattle.bureau_store.specs.Store.{greatest_number}
 use Rattle.bureau_store.specs.Tables.{LastChange, ZoneTable, Zones, zone_named}
 use Rattle.bureau_store.specs.declared.caller.Caller.{Caller}
 use Rattle.bureau_store.specs.declared.caller.Caller.TheVariants.{Publisher, Client}
-use Rattle.bureau.specs.Call.{Call, publish, put_zone, drop_zone, put_received, put_patterns, list_zones, err_sysmods, missing_fix, chain, counts}
+use Rattle.bureau.specs.Call.{Call, publish, put_zone, drop_zone, put_received, put_patterns, list_zones, err_sysmods, missing_fix, err_plan, err_plan_json, missing_plan, missing_plan_json, chain, counts}
 use Rattle.bureau.specs.View.{View}
 use Rattle.bureau.specs.Bodies.{changes_in, rows_in, ids_in, patterns_in}
-use Rattle.bureau.specs.Texts.{publication_text, zone_put_text, zone_dropped_text, received_text, patterns_text, zones_text, counts_text, err_report, missing_report, chain_text}
+use Rattle.bureau.specs.Texts.{publication_text, zone_put_text, zone_dropped_text, received_text, patterns_text, zones_text, counts_text, err_report, missing_report, err_plan_text, err_plan_json_text, missing_plan_text, missing_plan_json_text, chain_text}
 
 -- an answer: its status, whether its body is JSON, and the body
 pub record Answer : Type 0 where
@@ -116,6 +116,16 @@ outcome_allowed view (err_sysmods zone) =
     of_zone (zone_named zone view.zones) (λ table. told (err_report view.content zone table view.received))
 outcome_allowed view (missing_fix zone) =
     of_zone (zone_named zone view.zones) (λ table. told (missing_report view.content zone table view.received))
+outcome_allowed view (err_plan zone) =
+    of_zone (zone_named zone view.zones) (λ table. told (err_plan_text view.content zone table view.received))
+outcome_allowed view (err_plan_json zone) =
+    of_zone (zone_named zone view.zones) (λ table.
+    answered (as_json (err_plan_json_text view.content zone table view.received)))
+outcome_allowed view (missing_plan zone) =
+    of_zone (zone_named zone view.zones) (λ table. told (missing_plan_text view.content zone table view.received))
+outcome_allowed view (missing_plan_json zone) =
+    of_zone (zone_named zone view.zones) (λ table.
+    answered (as_json (missing_plan_json_text view.content zone table view.received)))
 outcome_allowed view (chain zone sysmod) =
     of_zone (zone_named zone view.zones) (λ table.
     answered (as_json (chain_text view.content zone table sysmod)))

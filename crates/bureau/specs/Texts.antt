@@ -14,6 +14,7 @@ use Rattle.reports.specs.ChainText.{chain_text_of}
 use Rattle.reports.specs.ErrRows.{err_rows_of}
 use Rattle.reports.specs.MissingRows.{missing_rows_of}
 use Rattle.reports.specs.ReportText.{err_text_of, missing_text_of}
+use Rattle.plan_reports.specs.Replies.{err_plan_json_of, err_plan_text_of, missing_plan_json_of, missing_plan_text_of}
 use Rattle.bureau_store.specs.Held.{held_in}
 use Rattle.bureau_store.specs.Tables.{ZoneTable, Zones}
 
@@ -85,6 +86,22 @@ missing_report_from content zone rows received patterns holds =
 abbrev pub missing_report : Content → List ℕ → ZoneTable → List (List ℕ) → List ℕ
 missing_report content zone table received =
     missing_report_from content zone table.rows received table.patterns (held_in content table.rows FixcatHold)
+
+-- the plan for the exception SYSMOD report on a zone, in print and as JSON
+abbrev pub err_plan_text : Content → List ℕ → ZoneTable → List (List ℕ) → List ℕ
+err_plan_text content zone table received = err_plan_text_of content table.rows received (held_in content table.rows ErrorHold) zone
+
+abbrev pub err_plan_json_text : Content → List ℕ → ZoneTable → List (List ℕ) → List ℕ
+err_plan_json_text content zone table received = err_plan_json_of content table.rows received (held_in content table.rows ErrorHold) zone
+
+-- the plan for the missing fix report on a zone, in print and as JSON
+abbrev pub missing_plan_text : Content → List ℕ → ZoneTable → List (List ℕ) → List ℕ
+missing_plan_text content zone table received =
+    missing_plan_text_of content table.rows received table.patterns (held_in content table.rows FixcatHold) zone
+
+abbrev pub missing_plan_json_text : Content → List ℕ → ZoneTable → List (List ℕ) → List ℕ
+missing_plan_json_text content zone table received =
+    missing_plan_json_of content table.rows received table.patterns (held_in content table.rows FixcatHold) zone
 
 -- the verdict on a SYSMOD in a zone, from its rows
 abbrev pub chain_text_from : Content → List ℕ → List ZoneRow → List ℕ → List ℕ

@@ -58,6 +58,26 @@ pub enum Call<'a> {
         /// The zone's name.
         zone: Id,
     },
+    /// A client asks for the plan for the exception SYSMOD report on a zone, in print.
+    ErrPlan {
+        /// The zone's name.
+        zone: Id,
+    },
+    /// A client asks for the plan for the exception SYSMOD report on a zone, as JSON.
+    ErrPlanJson {
+        /// The zone's name.
+        zone: Id,
+    },
+    /// A client asks for the plan for the missing fix report on a zone, in print.
+    MissingPlan {
+        /// The zone's name.
+        zone: Id,
+    },
+    /// A client asks for the plan for the missing fix report on a zone, as JSON.
+    MissingPlanJson {
+        /// The zone's name.
+        zone: Id,
+    },
     /// A client asks for the verdict on a SYSMOD in a zone.
     Chain {
         /// The zone's name.

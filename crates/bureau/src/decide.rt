@@ -9,7 +9,8 @@ ghost use Rattle.bureau.specs.Outcome.{may_ask};
 
 use crate::changes::{drop_zone, publish, put_patterns, put_received, put_zone};
 use crate::outcome::{NoRoom, Outcome};
-use crate::questions::{chain, counts, err_sysmods, list_zones, missing_fix};
+use crate::questions::{chain, counts, err_answer, list_zones, missing_answer};
+use crate::wanted::Wanted;
 use crate::{Call, Reply};
 use bureau_store::{Caller, Store};
 use chains::Judge;
@@ -91,8 +92,24 @@ fn decide_for_client<S: Store, J: Judge<S>>(
             put_patterns(alloc, store, client, number, &zone, body)
         }
         Call::ListZones => Ok(Outcome::Answered(list_zones(alloc, store, client)?)),
-        Call::ErrSysmods { zone } => reply_alone(err_sysmods(alloc, store, judge, client, &zone)),
-        Call::MissingFix { zone } => reply_alone(missing_fix(alloc, store, judge, client, &zone)),
+        Call::ErrSysmods { zone } => {
+            reply_alone(err_answer(alloc, store, judge, client, &zone, Wanted::Report))
+        }
+        Call::ErrPlan { zone } => {
+            reply_alone(err_answer(alloc, store, judge, client, &zone, Wanted::Plan))
+        }
+        Call::ErrPlanJson { zone } => {
+            reply_alone(err_answer(alloc, store, judge, client, &zone, Wanted::PlanJson))
+        }
+        Call::MissingFix { zone } => {
+            reply_alone(missing_answer(alloc, store, judge, client, &zone, Wanted::Report))
+        }
+        Call::MissingPlan { zone } => {
+            reply_alone(missing_answer(alloc, store, judge, client, &zone, Wanted::Plan))
+        }
+        Call::MissingPlanJson { zone } => {
+            reply_alone(missing_answer(alloc, store, judge, client, &zone, Wanted::PlanJson))
+        }
         Call::Chain { zone, sysmod } => {
             reply_alone(chain(alloc, store, judge, client, &zone, &sysmod))
         }

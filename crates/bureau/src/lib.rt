@@ -38,6 +38,7 @@ mod publication;
 mod questions;
 mod reply;
 mod texts;
+mod wanted;
 
 pub use bureau::Bureau;
 pub use call::Call;

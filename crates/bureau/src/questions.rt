@@ -10,15 +10,18 @@ ghost use Rattle.bureau.specs.Outcomes.{IsReplyTo};
 ghost use Rattle.bureau.specs.Reading.{HasRead, MayRead};
 ghost use Rattle.bureau.specs.Replies.{reply_as};
 ghost use Rattle.bureau.specs.Texts.{chain_text_from, counts_text, err_report_from, missing_report_from};
+ghost use Rattle.bureau.specs.Wanted.{err_answer_from, err_call, missing_answer_from, missing_call};
 
 use crate::Reply;
 use crate::outcome::NoRoom;
 use crate::texts::{counts_line, zones_table};
+use crate::wanted::Wanted;
 use bureau_store::Store;
 use catalogue::Published;
 use chains::Judge;
 use holddata::{Hold, Kind};
 use mcs_reader::Id;
+use plan_reports::{err_plan_json, err_plan_text, missing_plan_json, missing_plan_text};
 use reports::{err_rows, err_text, missing_rows, missing_text, plan_json};
 use std::alloc::Global;
 use supersede::Zone;
@@ -49,19 +52,20 @@ pub(crate) fn list_zones<S: Store>(
     Ok(Reply::text(zones_table(alloc, &zones)?))
 }
 
-/// The exception SYSMOD report on a zone.
-pub(crate) fn err_sysmods<S: Store, J: Judge<S>>(
+/// The exception SYSMOD report on a zone, or the plan for it.
+pub(crate) fn err_answer<S: Store, J: Judge<S>>(
     alloc: Global,
     store: &mut S,
     judge: &mut J,
     client: &Id,
     zone: &Id,
+    wanted: Wanted,
 ) -> Result<Reply, NoRoom>
     requires { IsProper (Client client.now) }
     ensures reads { HasRead S.tables_view store.old store.new result }
     ensures reply { IfOk result (λ reply. Tells S.tables_view store.old store.new
         (λ this. J.is_right judge.old this.content →
-        IsReplyTo (Client client.now) (call.err_sysmods zone.now) this reply)) }
+        IsReplyTo (Client client.now) (err_call wanted zone.now) this reply)) }
     ensures right { Tells S.tables_view store.old store.new
         (λ this. J.is_right judge.old this.content → J.is_right judge.new this.content) }
 {
@@ -71,22 +75,25 @@ pub(crate) fn err_sysmods<S: Store, J: Judge<S>>(
     let received = store.received(client)?;
     let holds = store.held_in(client, zone, Kind::ErrorHold)?;
     let installed = Zone::from_rows(rows);
-    err_reply(alloc, store, judge, zone, &installed, &received, &holds)
+    err_reply(
+        alloc, store, judge, zone, &installed, &received, &holds, wanted,
+    )
 }
 
-/// The missing fix report on a zone.
-pub(crate) fn missing_fix<S: Store, J: Judge<S>>(
+/// The missing fix report on a zone, or the plan for it.
+pub(crate) fn missing_answer<S: Store, J: Judge<S>>(
     alloc: Global,
     store: &mut S,
     judge: &mut J,
     client: &Id,
     zone: &Id,
+    wanted: Wanted,
 ) -> Result<Reply, NoRoom>
     requires { IsProper (Client client.now) }
     ensures reads { HasRead S.tables_view store.old store.new result }
     ensures reply { IfOk result (λ reply. Tells S.tables_view store.old store.new
         (λ this. J.is_right judge.old this.content →
-        IsReplyTo (Client client.now) (call.missing_fix zone.now) this reply)) }
+        IsReplyTo (Client client.now) (missing_call wanted zone.now) this reply)) }
     ensures right { Tells S.tables_view store.old store.new
         (λ this. J.is_right judge.old this.content → J.is_right judge.new this.content) }
 {
@@ -98,7 +105,7 @@ pub(crate) fn missing_fix<S: Store, J: Judge<S>>(
     let holds = store.held_in(client, zone, Kind::FixcatHold)?;
     let installed = Zone::from_rows(rows);
     missing_reply(
-        alloc, store, judge, zone, &installed, &received, &patterns, &holds,
+        alloc, store, judge, zone, &installed, &received, &patterns, &holds, wanted,
     )
 }
 
@@ -126,8 +133,40 @@ pub(crate) fn chain<S: Store, J: Judge<S>>(
     chain_reply(alloc, store, judge, zone, &installed, sysmod)
 }
 
-// The report on what has since been held in error.
+// What has since been held in error: the report, or the plan for it.
 fn err_reply<P: Published, J: Judge<P>>(
+    alloc: Global,
+    source: &mut P,
+    judge: &mut J,
+    zone: &Id,
+    installed: &Zone,
+    received: &[Id],
+    holds: &[Hold],
+    wanted: Wanted,
+) -> Result<Reply, NoRoom>
+    requires { Ascend received.now }
+    ensures reads { MayRead P.content_view source.old source.new result }
+    ensures reply { IfOk result (λ reply. Tells P.content_view source.old source.new
+        (λ content. J.is_right judge.old content → reply_as reply
+        ≡ err_answer_from wanted content zone.now installed.now received.now holds.now)) }
+    ensures right { Tells P.content_view source.old source.new
+        (λ content. J.is_right judge.old content → J.is_right judge.new content) }
+{
+    match wanted {
+        Wanted::Report => err_report(alloc, source, judge, zone, installed, received, holds),
+        Wanted::Plan => {
+            let text = err_plan_text(alloc, source, judge, installed, received, holds, zone)?;
+            Ok(Reply::text(text))
+        }
+        Wanted::PlanJson => {
+            let text = err_plan_json(alloc, source, judge, installed, received, holds, zone)?;
+            Ok(Reply::json(text))
+        }
+    }
+}
+
+// The report on what has since been held in error.
+fn err_report<P: Published, J: Judge<P>>(
     alloc: Global,
     source: &mut P,
     judge: &mut J,
@@ -148,8 +187,47 @@ fn err_reply<P: Published, J: Judge<P>>(
     Ok(Reply::text(err_text(alloc, zone, &rows)?))
 }
 
-// The report on what is missing.
+// What is missing: the report, or the plan for it.
 fn missing_reply<P: Published, J: Judge<P>>(
+    alloc: Global,
+    source: &mut P,
+    judge: &mut J,
+    zone: &Id,
+    installed: &Zone,
+    received: &[Id],
+    patterns: &[Pattern],
+    holds: &[Hold],
+    wanted: Wanted,
+) -> Result<Reply, NoRoom>
+    requires { Ascend received.now }
+    ensures reads { MayRead P.content_view source.old source.new result }
+    ensures reply { IfOk result (λ reply. Tells P.content_view source.old source.new
+        (λ content. J.is_right judge.old content → reply_as reply
+        ≡ missing_answer_from wanted content zone.now installed.now received.now patterns.now holds.now)) }
+    ensures right { Tells P.content_view source.old source.new
+        (λ content. J.is_right judge.old content → J.is_right judge.new content) }
+{
+    match wanted {
+        Wanted::Report => missing_report(
+            alloc, source, judge, zone, installed, received, patterns, holds,
+        ),
+        Wanted::Plan => {
+            let text = missing_plan_text(
+                alloc, source, judge, installed, received, patterns, holds, zone,
+            )?;
+            Ok(Reply::text(text))
+        }
+        Wanted::PlanJson => {
+            let text = missing_plan_json(
+                alloc, source, judge, installed, received, patterns, holds, zone,
+            )?;
+            Ok(Reply::json(text))
+        }
+    }
+}
+
+// The report on what is missing.
+fn missing_report<P: Published, J: Judge<P>>(
     alloc: Global,
     source: &mut P,
     judge: &mut J,

@@ -10,7 +10,7 @@ use Rattle.requests.specs.declared.refusal.Refusal.TheVariants.{UnknownToken}
 use Rattle.bureau_store.specs.Caller.{caller_with}
 use Rattle.bureau_store.specs.declared.caller.Caller.{Caller}
 use Rattle.bureau_store.specs.declared.caller.CallerRow.{CallerRow}
-use Rattle.bureau.specs.Call.{Call, publish, put_zone, drop_zone, put_received, put_patterns, list_zones, err_sysmods, missing_fix, chain, counts}
+use Rattle.bureau.specs.Call.{Call, publish, put_zone, drop_zone, put_received, put_patterns, list_zones, err_sysmods, missing_fix, err_plan, err_plan_json, missing_plan, missing_plan_json, chain, counts}
 
 -- the call of an action, with its number and its body
 abbrev pub call_of : Action → Option ℕ → List ℕ → Call
@@ -23,6 +23,10 @@ call_of (Action.PutPatterns zone) number body = put_patterns number zone body
 call_of Action.PutReceived number body = put_received number body
 call_of (Action.ErrSysmods zone) number body = err_sysmods zone
 call_of (Action.MissingFix zone) number body = missing_fix zone
+call_of (Action.ErrPlan zone) number body = err_plan zone
+call_of (Action.ErrPlanJson zone) number body = err_plan_json zone
+call_of (Action.MissingPlan zone) number body = missing_plan zone
+call_of (Action.MissingPlanJson zone) number body = missing_plan_json zone
 call_of (Action.Chain zone sysmod) number body = chain zone sysmod
 
 -- a caller's call, or why there is none

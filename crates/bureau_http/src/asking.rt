@@ -89,6 +89,10 @@ fn call_of<'a>(action: Action, request: &Request, bytes: &'a [u8]) -> Call<'a>
         },
         Action::ErrSysmods(zone) => Call::ErrSysmods { zone },
         Action::MissingFix(zone) => Call::MissingFix { zone },
+        Action::ErrPlan(zone) => Call::ErrPlan { zone },
+        Action::ErrPlanJson(zone) => Call::ErrPlanJson { zone },
+        Action::MissingPlan(zone) => Call::MissingPlan { zone },
+        Action::MissingPlanJson(zone) => Call::MissingPlanJson { zone },
         Action::Chain(zone, sysmod) => Call::Chain { zone, sysmod },
     }
 }

@@ -17,8 +17,8 @@ use Rattle.plan_texts.specs.declared.report.Report.TheVariants.{ErrSysmods, Miss
 abbrev pub text_of_plan : Content → List ZoneRow → List (List ℕ) → Report → List ℕ → PlanLists → List ℕ
 text_of_plan content rows received report name plan = plan_text_of report name (plan_members_of content rows received plan) plan
 
-abbrev pub json_of_plan : Content → List ZoneRow → List (List ℕ) → List ℕ → PlanLists → List ℕ
-json_of_plan content rows received name plan = plan_json_of name (plan_members_of content rows received plan) plan
+abbrev pub json_of_plan : Content → List ZoneRow → List (List ℕ) → Report → List ℕ → PlanLists → List ℕ
+json_of_plan content rows received report name plan = plan_json_of report name (plan_members_of content rows received plan) plan
 
 -- the plan for the exception SYSMOD report, from the ERROR holds on what is installed
 abbrev pub err_plan_of : Content → List ZoneRow → List (List ℕ) → List Hold → PlanLists
@@ -28,7 +28,7 @@ abbrev pub err_plan_text_of : Content → List ZoneRow → List (List ℕ) → L
 err_plan_text_of content rows received holds name = text_of_plan content rows received ErrSysmods name (err_plan_of content rows received holds)
 
 abbrev pub err_plan_json_of : Content → List ZoneRow → List (List ℕ) → List Hold → List ℕ → List ℕ
-err_plan_json_of content rows received holds name = json_of_plan content rows received name (err_plan_of content rows received holds)
+err_plan_json_of content rows received holds name = json_of_plan content rows received ErrSysmods name (err_plan_of content rows received holds)
 
 -- the plan for the missing fix report, from the FIXCAT holds on what is installed, of the categories that a pattern matches
 abbrev pub missing_plan_of : Content → List ZoneRow → List (List ℕ) → List (List ℕ) → List Hold → PlanLists
@@ -41,4 +41,4 @@ missing_plan_text_of content rows received patterns holds name =
 
 abbrev pub missing_plan_json_of : Content → List ZoneRow → List (List ℕ) → List (List ℕ) → List Hold → List ℕ → List ℕ
 missing_plan_json_of content rows received patterns holds name =
-    json_of_plan content rows received name (missing_plan_of content rows received patterns holds)
+    json_of_plan content rows received MissingFix name (missing_plan_of content rows received patterns holds)

@@ -74,5 +74,13 @@ pub fn err_plan_json<P: Published, J: Judge<P>>(
         (λ content. J.is_right judge.old content → J.is_right judge.new content) }
 {
     let plan = err_plan(alloc, source, judge, zone, received, holds)?;
-    told_json(alloc, source, zone, received, name, &plan)
+    told_json(
+        alloc,
+        source,
+        zone,
+        received,
+        Report::ErrSysmods,
+        name,
+        &plan,
+    )
 }

@@ -77,5 +77,13 @@ pub fn missing_plan_json<P: Published, J: Judge<P>>(
         (λ content. J.is_right judge.old content → J.is_right judge.new content) }
 {
     let plan = missing_plan(alloc, source, judge, zone, received, patterns, holds)?;
-    told_json(alloc, source, zone, received, name, &plan)
+    told_json(
+        alloc,
+        source,
+        zone,
+        received,
+        Report::MissingFix,
+        name,
+        &plan,
+    )
 }

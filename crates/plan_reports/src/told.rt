@@ -42,6 +42,7 @@ pub(crate) fn told_json<P: Published>(
     source: &mut P,
     zone: &Zone,
     received: &[Id],
+    report: Report,
     name: &Id,
     plan: &ZonePlan,
 ) -> Result<Vec<u8>, SourceFault>
@@ -49,8 +50,8 @@ pub(crate) fn told_json<P: Published>(
     ensures asks { MayAsk P.content_view Device source.old source.new result }
     ensures text { IfOk result (λ text. Tells P.content_view source.old source.new
         (λ content. IsPlan (world_of content zone.now) (joined plan.now.steps)
-        → text.items ≡ json_of_plan content zone.now received.now name.now plan.now)) }
+        → text.items ≡ json_of_plan content zone.now received.now report name.now plan.now)) }
 {
     let members = plan_members(alloc, source, zone, received, plan)?;
-    Ok(plan_json(alloc, name, &members, plan)?)
+    Ok(plan_json(alloc, report, name, &members, plan)?)
 }

@@ -12,6 +12,7 @@ use Rattle.reports.specs.ChainText.{texts}
 use Rattle.zone_plans.specs.Plans.{PlanLists}
 use Rattle.zone_plans.specs.declared.holds.ChosenResolver.{ChosenResolver}
 use Rattle.plan_members.specs.Members.{MemberLists}
+use Rattle.plan_texts.specs.declared.report.Report.{Report}
 use Rattle.plan_texts.specs.Json.{blocked_data, chosen_data, hold_data, id_data, member_data, plan_data}
 
 -- ---- one more value
@@ -59,8 +60,8 @@ blocked_plain one = rw (id_plain one.giver) refl
 member_plain : (one : MemberLists) → has_float (member_data one) ≡ false
 member_plain one = rw (texts_plain one.fmids, items_plain hold_data hold_plain one.holds, texts_plain one.needed_by, texts_plain one.system, texts_plain one.user) refl
 
-pub plan_plain : (zone : List ℕ) (members : List MemberLists) (plan : PlanLists) → has_float (plan_data zone members plan) ≡ false
-plan_plain zone members plan =
+pub plan_plain : (report : Report) (zone : List ℕ) (members : List MemberLists) (plan : PlanLists) → has_float (plan_data report zone members plan) ≡ false
+plan_plain report zone members plan =
     rw (
       items_plain blocked_data blocked_plain plan.blocked,
       items_plain chosen_data chosen_plain plan.held,

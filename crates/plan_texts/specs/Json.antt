@@ -10,6 +10,8 @@ use Rattle.blocked_needs.specs.declared.blocked.BlockedNeed.{BlockedNeed}
 use Rattle.zone_plans.specs.Plans.{PlanLists}
 use Rattle.zone_plans.specs.declared.holds.ChosenResolver.{ChosenResolver}
 use Rattle.plan_members.specs.Members.{MemberLists}
+use Rattle.plan_texts.specs.declared.report.Report.{Report}
+use Rattle.plan_texts.specs.declared.report.Report.TheVariants.{ErrSysmods, MissingFix}
 
 -- a hold by its SYSMOD and its reason
 abbrev pub hold_data : HoldOn → Data
@@ -47,15 +49,21 @@ member_data one =
     (member (codes "system") (array (texts one.system))
     (member (codes "user") (array (texts one.user)) no_members))))))))
 
-abbrev pub plan_data : List ℕ → List MemberLists → PlanLists → Data
-plan_data zone members plan =
+-- of which report a plan is, as paths name it
+abbrev pub report_name : Report → List ℕ
+report_name ErrSysmods = codes "errsysmods"
+report_name MissingFix = codes "missingfix"
+
+abbrev pub plan_data : Report → List ℕ → List MemberLists → PlanLists → Data
+plan_data report zone members plan =
     object (member (codes "blocked") (array (items_of (map blocked_data plan.blocked)))
     (member (codes "held") (array (items_of (map chosen_data plan.held)))
     (member (codes "members") (array (items_of (map member_data members)))
+    (member (codes "report") (string (report_name report))
     (member (codes "resolved") (array (items_of (map chosen_data plan.resolved)))
     (member (codes "unresolved") (array (items_of (map hold_data plan.unresolved)))
-    (member (codes "zone") (string (text_of zone)) no_members))))))
+    (member (codes "zone") (string (text_of zone)) no_members)))))))
 
 -- the text of a plan on a zone
-abbrev pub plan_json_of : List ℕ → List MemberLists → PlanLists → List ℕ
-plan_json_of zone members plan = compact_text (plan_data zone members plan)
+abbrev pub plan_json_of : Report → List ℕ → List MemberLists → PlanLists → List ℕ
+plan_json_of report zone members plan = compact_text (plan_data report zone members plan)

@@ -5,6 +5,7 @@ ghost use Rattle.serde_json.specs.Written.{compact_text, has_float};
 ghost use Rattle.reports.specs.ChainText.{texts};
 ghost use Rattle.plan_texts.specs.Json as Spec;
 
+use crate::report::{Report, name_of};
 use blocked_needs::BlockedNeed;
 use faults::NoMemory;
 use mcs_reader::Id;
@@ -13,22 +14,24 @@ use serde_json::{Value, json};
 use std::alloc::Global;
 use zone_plans::{ChosenResolver, HoldOn, ZonePlan};
 
-/// A plan for a zone as compact JSON with its keys in ascending order: `blocked`, `held`, `members`, `resolved`,
-/// `unresolved` and `zone`. All values are texts, lists and objects, but for `received` and `published`, which are true
-/// or false, `step`, which is a number, and `giver`, which is null where nothing that applies gives a need.
+/// A plan for a report on a zone as compact JSON with its keys in ascending order: `blocked`, `held`, `members`,
+/// `report`, `resolved`, `unresolved` and `zone`. `report` is `errsysmods` or `missingfix`. All values are texts, lists
+/// and objects, but for `received` and `published`, which are true or false, `step`, which is a number, and `giver`,
+/// which is null where nothing that applies gives a need.
 ///
 /// # Errors
 ///
 /// Memory ran out.
 pub fn plan_json(
     alloc: Global,
+    report: Report,
     zone: &Id,
     members: &[Member],
     plan: &ZonePlan,
 ) -> Result<Vec<u8>, NoMemory>
-    ensures { IfOk result (λ text. text.items ≡ Spec.plan_json_of zone.now members.now plan.now) }
+    ensures { IfOk result (λ text. text.items ≡ Spec.plan_json_of report zone.now members.now plan.now) }
 {
-    let value = plan_value(alloc, zone, members, plan)?;
+    let value = plan_value(alloc, report, zone, members, plan)?;
     compact(alloc, &value)
 }
 
@@ -42,16 +45,18 @@ fn compact(alloc: Global, value: &Value) -> Result<Vec<u8>, NoMemory>
 
 fn plan_value(
     alloc: Global,
+    report: Report,
     zone: &Id,
     members: &[Member],
     plan: &ZonePlan,
 ) -> Result<Value, NoMemory>
-    ensures { IfOk result (λ value. view value ≡ Spec.plan_data zone.now members.now plan.now) }
+    ensures { IfOk result (λ value. view value ≡ Spec.plan_data report zone.now members.now plan.now) }
 {
     json!(in alloc; {
         "blocked": blocked_values(alloc, plan.blocked())?,
         "held": chosen_values(alloc, plan.held())?,
         "members": member_values(alloc, members)?,
+        "report": name_of(report),
         "resolved": chosen_values(alloc, plan.resolved())?,
         "unresolved": hold_values(alloc, plan.unresolved())?,
         "zone": zone.text()

@@ -1,5 +1,6 @@
 //! Of which report a plan is.
 ghost use Rattle.std.specs.Prelude.{◌≡◌};
+ghost use Rattle.plan_texts.specs.Json.{report_name};
 ghost use Rattle.plan_texts.specs.Tables.{title_of};
 
 /// Of which report a plan is.
@@ -18,5 +19,15 @@ pub(crate) fn title_of(report: Report) -> &'static [u8]
     match report {
         Report::ErrSysmods => b"EXCEPTION SYSMOD PLAN FOR ZONE ",
         Report::MissingFix => b"MISSING FIX PLAN FOR ZONE ",
+    }
+}
+
+/// The report's name, as paths have it.
+pub(crate) fn name_of(report: Report) -> &'static str
+    ensures { result.now ≡ report_name report }
+{
+    match report {
+        Report::ErrSysmods => "errsysmods",
+        Report::MissingFix => "missingfix",
     }
 }

@@ -16,7 +16,6 @@ use Rattle.reports.specs.declared.rows.ErrRow.{ErrRow}
 use Rattle.reports.specs.declared.rows.MissingRow.{MissingRow}
 use Rattle.report_holds.specs.Holds.{AreTold, HoldLists, hold_in, holds_in, holds_of, same_hold}
 use Rattle.report_holds.specs.Rows.{err_hold_row, err_holds_of, missing_hold_row, missing_holds_of, resolver_by}
-use Rattle.report_holds.specs.declared.holds.HoldOn.{HoldOn}
 use Rattle.report_holds.specs.declared.holds.HoldRow.{HoldRow}
 use Rattle.report_holds.specs.declared.holds.Resolver.{Resolver}
 

@@ -16,8 +16,8 @@ use std::collections::BTreeMap;
 // The holds that were seen so far.
 type Holds = BTreeMap<HoldOn, HoldResolvers>;
 
-/// The holds of the exception SYSMOD report, each once, by SYSMOD and then by reason, with what resolves it in the order
-/// of the rows.
+/// The holds of the exception SYSMOD report, each once, by SYSMOD and then by reason, with what resolves it in the
+/// order of the rows.
 ///
 /// # Errors
 ///

@@ -45,7 +45,11 @@ impl Model for HoldResolvers {
 
     ghost Value = { HoldLists };
 
-    ghost view = { λ one. record { sysmod = one.hold.sysmod; reason = one.hold.reason; resolvers = one.resolvers.items } };
+    ghost view = { λ one. record {
+      sysmod = one.hold.sysmod;
+      reason = one.hold.reason;
+      resolvers = one.resolvers.items;
+    } };
 }
 
 impl HoldResolvers {

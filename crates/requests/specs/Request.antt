@@ -89,6 +89,10 @@ action_at Operation.DropZone path = option_map Action.DropZone (zone_in path)
 action_at Operation.PutPatterns path = option_map Action.PutPatterns (zone_in path)
 action_at Operation.ErrSysmods path = option_map Action.ErrSysmods (zone_in path)
 action_at Operation.MissingFix path = option_map Action.MissingFix (zone_in path)
+action_at Operation.ErrPlan path = option_map Action.ErrPlan (zone_in path)
+action_at Operation.ErrPlanJson path = option_map Action.ErrPlanJson (zone_in path)
+action_at Operation.MissingPlan path = option_map Action.MissingPlan (zone_in path)
+action_at Operation.MissingPlanJson path = option_map Action.MissingPlanJson (zone_in path)
 action_at Operation.Chain path = option_map (λ ids. Action.Chain ids.0 ids.1) (option_zip (zone_in path) (sysmod_in path))
 
 abbrev pub action_or : Option Action → Result Action Refusal

@@ -23,6 +23,10 @@ table =
     ∷ (codes "/received", Resource.Received)
     ∷ (codes "/zones/{zone}/errsysmods", Resource.ErrSysmods)
     ∷ (codes "/zones/{zone}/missingfix", Resource.MissingFix)
+    ∷ (codes "/zones/{zone}/errsysmods/plan", Resource.ErrPlan)
+    ∷ (codes "/zones/{zone}/errsysmods/plan.json", Resource.ErrPlanJson)
+    ∷ (codes "/zones/{zone}/missingfix/plan", Resource.MissingPlan)
+    ∷ (codes "/zones/{zone}/missingfix/plan.json", Resource.MissingPlanJson)
     ∷ (codes "/zones/{zone}/chains/{sysmod}", Resource.Chain)
     ∷ []
 
@@ -56,6 +60,10 @@ methods_of Resource.Patterns = (codes "PUT", Operation.PutPatterns) ∷ []
 methods_of Resource.Received = (codes "PUT", Operation.PutReceived) ∷ []
 methods_of Resource.ErrSysmods = (codes "GET", Operation.ErrSysmods) ∷ []
 methods_of Resource.MissingFix = (codes "GET", Operation.MissingFix) ∷ []
+methods_of Resource.ErrPlan = (codes "GET", Operation.ErrPlan) ∷ []
+methods_of Resource.ErrPlanJson = (codes "GET", Operation.ErrPlanJson) ∷ []
+methods_of Resource.MissingPlan = (codes "GET", Operation.MissingPlan) ∷ []
+methods_of Resource.MissingPlanJson = (codes "GET", Operation.MissingPlanJson) ∷ []
 methods_of Resource.Chain = (codes "GET", Operation.Chain) ∷ []
 
 -- what a method does, if it is there

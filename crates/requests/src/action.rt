@@ -30,6 +30,14 @@ pub enum Action {
     ErrSysmods(Id),
     /// Reports the missing fixes of this zone.
     MissingFix(Id),
+    /// Plans what resolves the exception SYSMODs of this zone, in print.
+    ErrPlan(Id),
+    /// Plans what resolves the exception SYSMODs of this zone, as JSON.
+    ErrPlanJson(Id),
+    /// Plans the missing fixes of this zone, in print.
+    MissingPlan(Id),
+    /// Plans the missing fixes of this zone, as JSON.
+    MissingPlanJson(Id),
     /// Tells what to install in this zone with this SYSMOD.
     Chain(Id, Id),
 }
@@ -48,6 +56,10 @@ pub(crate) fn action_at(operation: Operation, path: &[u8]) -> Option<Action>
         Operation::PutPatterns => Some(Action::PutPatterns(zone_in(path)?)),
         Operation::ErrSysmods => Some(Action::ErrSysmods(zone_in(path)?)),
         Operation::MissingFix => Some(Action::MissingFix(zone_in(path)?)),
+        Operation::ErrPlan => Some(Action::ErrPlan(zone_in(path)?)),
+        Operation::ErrPlanJson => Some(Action::ErrPlanJson(zone_in(path)?)),
+        Operation::MissingPlan => Some(Action::MissingPlan(zone_in(path)?)),
+        Operation::MissingPlanJson => Some(Action::MissingPlanJson(zone_in(path)?)),
         Operation::Chain => Some(Action::Chain(zone_in(path)?, sysmod_in(path)?)),
     }
 }

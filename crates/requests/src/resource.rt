@@ -21,6 +21,14 @@ pub enum Resource {
     ErrSysmods,
     /// `/zones/{zone}/missingfix`
     MissingFix,
+    /// `/zones/{zone}/errsysmods/plan`
+    ErrPlan,
+    /// `/zones/{zone}/errsysmods/plan.json`
+    ErrPlanJson,
+    /// `/zones/{zone}/missingfix/plan`
+    MissingPlan,
+    /// `/zones/{zone}/missingfix/plan.json`
+    MissingPlanJson,
     /// `/zones/{zone}/chains/{sysmod}`
     Chain,
 }
@@ -37,6 +45,10 @@ pub(crate) enum Operation {
     PutReceived,
     ErrSysmods,
     MissingFix,
+    ErrPlan,
+    ErrPlanJson,
+    MissingPlan,
+    MissingPlanJson,
     Chain,
 }
 
@@ -56,6 +68,10 @@ impl Resource {
             Resource::Received => only(method, b"PUT", Operation::PutReceived),
             Resource::ErrSysmods => only(method, b"GET", Operation::ErrSysmods),
             Resource::MissingFix => only(method, b"GET", Operation::MissingFix),
+            Resource::ErrPlan => only(method, b"GET", Operation::ErrPlan),
+            Resource::ErrPlanJson => only(method, b"GET", Operation::ErrPlanJson),
+            Resource::MissingPlan => only(method, b"GET", Operation::MissingPlan),
+            Resource::MissingPlanJson => only(method, b"GET", Operation::MissingPlanJson),
             Resource::Chain => only(method, b"GET", Operation::Chain),
         }
     }
@@ -73,6 +89,10 @@ impl Resource {
             | Resource::Zones
             | Resource::ErrSysmods
             | Resource::MissingFix
+            | Resource::ErrPlan
+            | Resource::ErrPlanJson
+            | Resource::MissingPlan
+            | Resource::MissingPlanJson
             | Resource::Chain => b"GET",
         }
     }

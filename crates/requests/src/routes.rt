@@ -36,6 +36,26 @@ impl Routes {
         )?;
         put(
             &mut router,
+            "/zones/{zone}/errsysmods/plan",
+            Resource::ErrPlan,
+        )?;
+        put(
+            &mut router,
+            "/zones/{zone}/errsysmods/plan.json",
+            Resource::ErrPlanJson,
+        )?;
+        put(
+            &mut router,
+            "/zones/{zone}/missingfix/plan",
+            Resource::MissingPlan,
+        )?;
+        put(
+            &mut router,
+            "/zones/{zone}/missingfix/plan.json",
+            Resource::MissingPlanJson,
+        )?;
+        put(
+            &mut router,
             "/zones/{zone}/chains/{sysmod}",
             Resource::Chain,
         )?;

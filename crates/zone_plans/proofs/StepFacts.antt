@@ -35,7 +35,7 @@ use Rattle.zone_plans.specs.Graphs.{AreGiven, AreReachedFrom, AreStartsOf, Readi
 use Rattle.zone_plans.specs.Members.{AreStepsAfter, AreZoneSteps, HasCause, IsGivenBy, IsPlanned, NeedsMember, joined, needs_id, outdoes, united}
 use Rattle.zone_plans.proofs.OutdoneFacts.{outdone_is}
 use Rattle.zone_plans.proofs.ValueFacts.{ByIndex, steps_are}
-use Rattle.zone_plans.proofs.PlannedFacts.{answer_for, answer_has, answer_says, catalogued, chosen_in_united, flat_from, flat_inside, gives_itself, gives_joined, known_has, known_says, member_candidate, need_given, planned}
+use Rattle.zone_plans.proofs.PlannedFacts.{answer_for, answer_has, answer_says, chosen_in_united, flat_from, flat_inside, gives_itself, gives_joined, known_has, known_says, member_candidate, need_given, planned}
 
 -- ---- steps by id
 

@@ -1,6 +1,6 @@
 -- The members and their steps are those of the definitions that compute.
-use Rattle.std.proofs.Common.{◌≡◌, ◌∙◌, ◌⊎◌, ◌&&◌, ◌||◌, ℕ, zero, suc, ◌<◌, ◌≤◌, List, [], ◌∷◌, Bool, true, false, cond, length, get_or, map, refl, sym, ap, subst, inl, inr, arith}
-use Rattle.std.specs.Prelude.{◌↔◌, not}
+use Rattle.std.proofs.Common.{◌≡◌, ◌∙◌, ◌&&◌, ◌||◌, ℕ, zero, suc, ◌<◌, ◌≤◌, List, [], ◌∷◌, Bool, true, false, cond, length, map, refl, sym, ap, subst, inl, inr, arith}
+use Rattle.std.specs.Prelude.{not}
 use Rattle.std.specs.List.{Contains, filter, list_all, list_any, range_with_len}
 use Rattle.std.proofs.lemmas.List.FromFn.{fill_by_all}
 use Rattle.zone_lists.specs.declared.zones.ZoneRow.{ZoneRow}
@@ -21,7 +21,7 @@ use Rattle.chains.specs.Cuts.{id_at}
 use Rattle.chains.proofs.IndexFacts.{one_index}
 use Rattle.chains.proofs.SearchFacts.{any_at, any_from, both_true, either_true, first_true, inside_cases, left_true, none_inside, right_true, second_true}
 use Rattle.zone_plans.specs.Graphs.{ids_of_steps}
-use Rattle.zone_plans.specs.Members.{caused_in, is_needed, left_of, members_of, needed_within, needs_id, outdoes, united, zone_steps_of}
+use Rattle.zone_plans.specs.Members.{caused_in, is_needed, left_of, needed_within, needs_id, outdoes, united, zone_steps_of}
 use Rattle.zone_plans.proofs.OutdoneFacts.{bool_same}
 
 -- ---- lists

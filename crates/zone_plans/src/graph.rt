@@ -5,7 +5,6 @@ ghost use Rattle.std.specs.List.{slice_get};
 ghost use Rattle.mcs_reader.specs.declared.id.Id.{Id};
 ghost use Rattle.catalogue.specs.Ids.{Ascend};
 ghost use Rattle.supersede.specs.Reach.{has};
-ghost use Rattle.requisites.specs.Nodes.{IsMarked};
 ghost use Rattle.chains.specs.Indices.{AreIndicesOf, IsAt, RowsAre};
 ghost use Rattle.zone_plans.specs.Graphs.{AreGiven, AreGivenIndices, AreAnswered, ArePushed, all_needs, list_at, lists_of};
 

@@ -4,7 +4,8 @@
 //! - [`err_plan`], [`missing_plan`]: the plans for the two reports, as a [`ZonePlan`]
 //! - [`zone_plan`]: the plan for some holds, each with what resolves it: [`HoldResolvers`], [`Resolver`]
 //! - [`Steps`]: what is to be installed, step by step
-//! - [`HoldOn`]: a hold by its SYSMOD and its reason; [`ChosenResolver`]: a hold with the resolver that is chosen for it
+//! - [`HoldOn`]: a hold by its SYSMOD and its reason; [`ChosenResolver`]: a hold with the resolver that is chosen for
+//!   it
 //!
 //! ```
 //! // what isn't named here is of catalogue, chains, mcs_reader, supersede and zone_lists

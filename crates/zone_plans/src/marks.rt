@@ -1,5 +1,5 @@
 //! Marks of members.
-ghost use Rattle.std.specs.Prelude.{◌≡◌, ℕ, IfOk, map};
+ghost use Rattle.std.specs.Prelude.{◌≡◌, IfOk, map};
 ghost use Rattle.std.specs.Bool.{OnFalse, OnTrue};
 ghost use Rattle.catalogue.specs.Ids.{Ascend};
 ghost use Rattle.supersede.specs.Reach.{has};

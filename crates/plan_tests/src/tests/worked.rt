@@ -120,7 +120,7 @@ ROWS 2
         "{\"blocked\":[{\"giver\":\"UA10007\",\"need\":\"AA30003\",\"published\":true,\"sysmod\":\"UA10002\"},\
 {\"giver\":null,\"need\":\"AA40004\",\"published\":false,\"sysmod\":\"UA10007\"}],\
 \"held\":[{\"reason\":\"AA20002\",\"resolver\":\"UA10002\",\"sysmod\":\"UA10001\"}],\
-\"members\":[],\"resolved\":[],\"unresolved\":[],\"zone\":\"TGT1\"}";
+\"members\":[],\"report\":\"errsysmods\",\"resolved\":[],\"unresolved\":[],\"zone\":\"TGT1\"}";
     assert_equal(texts.json.as_str(), wanted)
 }
 
@@ -216,7 +216,7 @@ ROWS 0
 {\"fmids\":[\"HBB7790\"],\"holds\":[{\"reason\":\"AA20002\",\"sysmod\":\"UA10001\"}],\
 \"id\":\"UA10005\",\"needed_by\":[],\
 \"received\":true,\"step\":2,\"system\":[\"ACTION\",\"DOC\"],\"user\":[]}],\
-\"resolved\":[{\"reason\":\"AA20002\",\"resolver\":\"UA10005\",\"sysmod\":\"UA10001\"}],\
+\"report\":\"errsysmods\",\"resolved\":[{\"reason\":\"AA20002\",\"resolver\":\"UA10005\",\"sysmod\":\"UA10001\"}],\
 \"unresolved\":[],\"zone\":\"TGT1\"}";
     assert_equal(texts.json.as_str(), wanted)
 }
@@ -260,7 +260,7 @@ ROWS 0
     let wanted = "{\"blocked\":[],\"held\":[],\"members\":[\
 {\"fmids\":[\"HBB7790\"],\"holds\":[{\"reason\":\"AA40001\",\"sysmod\":\"HBB7790\"}],\
 \"id\":\"UA10009\",\"needed_by\":[],\"received\":true,\"step\":1,\"system\":[],\"user\":[]}],\
-\"resolved\":[{\"reason\":\"AA40001\",\"resolver\":\"UA10009\",\"sysmod\":\"HBB7790\"}],\
+\"report\":\"missingfix\",\"resolved\":[{\"reason\":\"AA40001\",\"resolver\":\"UA10009\",\"sysmod\":\"HBB7790\"}],\
 \"unresolved\":[],\"zone\":\"TGT1\"}";
     assert_equal(texts.json.as_str(), wanted)
 }

@@ -2,6 +2,7 @@ use Rattle.std.proofs.Common.{◌∙◌, ap}
 use Rattle.catalogue.proofs.SourceFacts.{told_sooner}
 use Rattle.supersede.proofs.TellingFacts.{told_by_two}
 use Rattle.chains.proofs.IndexFacts.{ok_so}
+use Rattle.plan_texts.specs.declared.report.Report.TheVariants.{MissingFix}
 use Rattle.plan_reports.specs.Replies.{json_of_plan}
 use Rattle.plan_reports.proofs.missing.missing_plan_json.Goals as goal
 
@@ -13,7 +14,7 @@ returns-clause-text g c =
     ok_so c.told_json.result c.told_json.ensures.text (λ text tells.
     told_by_two (law.keeps _ _ c.in_ok-plan.ensures.asks.keeps) (law.keeps _ _ c.told_json.ensures.asks.keeps) c.in_ok-plan.ensures.plan tells (λ content planned told. λ right.
     let is = planned right in
-    told is.steps.plan ∙ ap (json_of_plan content rows received c.args.name.now) is.are))
+    told is.steps.plan ∙ ap (json_of_plan content rows received MissingFix c.args.name.now) is.are))
 
 pub returns-clause-right : goal.returns-clause-right
 returns-clause-right g c =

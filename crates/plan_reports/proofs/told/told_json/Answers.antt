@@ -7,4 +7,4 @@ use Rattle.plan_reports.proofs.told.told_json.Goals as goal
 pub returns-clause-text : goal.returns-clause-text
 returns-clause-text g c =
     told_so c.in_ok-members.ensures.members (λ content are. λ plan.
-    c.in_ok-plan_json.ensures ∙ ap (λ (l : List MemberLists). plan_json_of c.args.name.now l c.args.plan.now) (c.deref.ensures.value ∙ are plan))
+    c.in_ok-plan_json.ensures ∙ ap (λ (l : List MemberLists). plan_json_of c.args.report c.args.name.now l c.args.plan.now) (c.deref.ensures.value ∙ are plan))

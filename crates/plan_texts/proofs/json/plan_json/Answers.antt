@@ -7,4 +7,4 @@ use Rattle.plan_texts.proofs.json.plan_json.Goals as goal
 pub returns : goal.returns
 returns c =
     ok_so c.compact.result c.compact.ensures (λ text is.
-    is (ap has_float c.in_ok-value.ensures ∙ plan_plain c.args.zone.now c.args.members.now c.args.plan.now) ∙ ap compact_text c.in_ok-value.ensures)
+    is (ap has_float c.in_ok-value.ensures ∙ plan_plain c.args.report c.args.zone.now c.args.members.now c.args.plan.now) ∙ ap compact_text c.in_ok-value.ensures)

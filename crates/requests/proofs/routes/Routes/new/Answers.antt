@@ -10,7 +10,11 @@ then_put path resource old new before put same = put ∙ ap (λ rows. with_route
 pub invariant_of-result : goal.invariant_of-result
 unfolding routes table
 invariant_of-result c = record {
-  whole = then_put _ _ _ _ _ c.in_ok-put-9.ensures
+  whole = then_put _ _ _ _ _ c.in_ok-put-13.ensures
+      (then_put _ _ _ _ _ c.in_ok-put-12.ensures
+      (then_put _ _ _ _ _ c.in_ok-put-11.ensures
+      (then_put _ _ _ _ _ c.in_ok-put-10.ensures
+      (then_put _ _ _ _ _ c.in_ok-put-9.ensures
       (then_put _ _ _ _ _ c.in_ok-put-8.ensures
       (then_put _ _ _ _ _ c.in_ok-put-7.ensures
       (then_put _ _ _ _ _ c.in_ok-put-6.ensures
@@ -18,5 +22,5 @@ invariant_of-result c = record {
       (then_put _ _ _ _ _ c.in_ok-put-4.ensures
       (then_put _ _ _ _ _ c.in_ok-put-3.ensures
       (then_put _ _ _ _ _ c.in_ok-put-2.ensures
-      (then_put _ _ _ _ _ c.in_ok-put.ensures c.new-router.ensures))))))));
+      (then_put _ _ _ _ _ c.in_ok-put.ensures c.new-router.ensures))))))))))));
 }

@@ -1,0 +1,12 @@
+//! What a client wants of a report.
+
+/// What a client wants of a report on a zone.
+#[derive(Clone, Copy, Debug, PartialEq, Eq)]
+pub(crate) enum Wanted {
+    /// The report.
+    Report,
+    /// The plan for it, in print.
+    Plan,
+    /// The plan for it, as JSON.
+    PlanJson,
+}
