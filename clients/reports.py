@@ -261,12 +261,18 @@ def about(member):
 
 
 def bypass(members):
-    """What a SYSTEM or USER hold needs, commented out: whoever has done what it asks takes the comment marks away."""
-    return [
-        " /* BYPASS(HOLD%s(%s)) */" % (kind.upper(), reason)
-        for kind in ("system", "user")
-        for reason in sorted({reason for member in members for reason in member[kind]})
-    ]
+    """What SYSTEM and USER holds need, commented out: whoever has done what they ask takes the comment marks away. It is one
+    operand with all reasons, as SMP/E's manuals write it."""
+    reasons = {kind: sorted({reason for member in members for reason in member[kind]}) for kind in ("system", "user")}
+    lists = [("HOLD" + kind.upper(), found) for kind, found in reasons.items() if found]
+    if not lists:
+        return []
+    whole = "BYPASS(%s)" % ",".join("%s(%s)" % (name, ",".join(found)) for name, found in lists)
+    if len(whole) <= COLUMNS - 7:
+        return [" /* %s */" % whole]
+    parts = [[name + "(", *(line.strip() for line in list_of(found)), ")"] for name, found in lists]
+    parts[:-1] = [part[:-1] + ["),"] for part in parts[:-1]]
+    return [" /* %s */" % line for line in ["BYPASS(", *(line for part in parts for line in part), ")"]]
 
 
 def job_of(zone, members, left_over, title):

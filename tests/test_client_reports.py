@@ -307,7 +307,22 @@ def jobs():
     same("one that is named twice stands once", without_time(twice), without_time(once))
     check("nothing is left", "NOTHING CAN BE INSTALLED" in north.run("job", "MVSPROD", "UJ92002")[1])
     same("no such zone", north.run("job", "NONE", "UJ92005")[:2], (1, ""))
+    bypasses(bench)
     bench.desk.end()
+
+
+def bypasses(bench):
+    """Where the comment marks are taken away, one BYPASS is left, with the reasons of all holds."""
+    for count, user, lines in ((1, ["OURS"], 1), (6, [], 1), (7, [], 5), (24, ["OURS"], 10)):
+        holds = [("SYSTEM", "IPL"), *(("SYSTEM", "R%06d" % at) for at in range(count - 1)), *(("USER", each) for each in user)]
+        bench.publish("".join("++HOLD(UJ92005) %s REASON(%s).\n" % hold for hold in holds))
+        out = bench.north.run("job", "MVSPROD", "UJ92005")[1].split("    )\n")[-1].splitlines()
+        system = ",".join(reason for kind, reason in holds if kind == "SYSTEM")
+        wanted = "BYPASS(HOLDSYSTEM(%s)%s)." % (system, ",HOLDUSER(OURS)" if user else "")
+        same("one operand", re.sub(r" /\* | \*/| ", "", "".join(out)), wanted)
+        same("in so many lines", len(out) - 1, lines)
+        check("within column 71", max(map(len, out)) <= 71, out)
+        bench.publish("".join("++RELEASE(UJ92005) %s REASON(%s).\n" % hold for hold in holds))
 
 
 def jobs_of_many(bench):
