@@ -24,6 +24,7 @@ CALLERS = os.path.join(SAMPLE, "callers.csv")
 SITE = os.path.join(TOP, "examples", "site")
 OVERVIEW = "ZONE     SYSMODS IN-ERROR HOLDS  HIPER  PE     OTHER  NONE   HELD   GOOD   FIXES\n"
 NO_ZONE = OVERVIEW + "ROWS 0\n"
+WITHOUT = "bureau-client: no fix categories were sent from here, so that FIXES may be 0 for that:"
 
 
 def client(url, token):
@@ -201,6 +202,12 @@ def overviews():
     same("as CSV", bench.north.run("overview", "--csv"), (0, heading + "MVSPROD,3,1,1,0,1,0,0,0,1,1\n", ""))
     same("in another code", bench.north.run("overview", BUREAU_CODE="ISO-8859-1")[1].splitlines()[1] + "\n", line)
     same("the publisher's", bench.publisher.run("overview"), (0, "PUBLISHED SYSMODS 8 HOLDS 5\nLAST PUBLICATION 1\n", ""))
+    for name in ("NONE", "EMPTY", "SOME"):
+        bench.zone(name, "HBB77E0")
+    bench.send("categories", "EMPTY", text="CATEGORY\n")
+    bench.send("categories", "SOME", text="CATEGORY\nIBM.No*\n")
+    same("zones without categories are named", bench.north.run("overview")[2], WITHOUT + " EMPTY NONE\n")
+    same("also from another code", bench.north.run("overview", BUREAU_CODE="ISO-8859-1")[2], WITHOUT + " EMPTY NONE\n")
     same("an unknown token", client(bench.desk.url, "nobodys-token").run("overview")[0], 1)
     bench.desk.end()
     same("no desk", bench.north.run("overview")[:2], (3, ""))
@@ -208,7 +215,7 @@ def overviews():
 
 def overview_of_many(bench):
     status, out, err = bench.north.run("overview", "--csv")
-    same("an overview of many", (status, err), (0, ""))
+    same("an overview of many", (status, err), (0, WITHOUT + " SMALL\n"))
     for zone, sysmods, *got in list(csv.reader(io.StringIO(out)))[1:]:
         same("of " + zone, [each.removeprefix("'") for each in got], counts(bench.north, zone.removeprefix("'")))
         check("which has some", int(got[1]) > 0, got)
