@@ -228,6 +228,7 @@ def symptoms(report_path, symptoms_path):
 # would end the data of a DD * statement. clients/page/job.js makes the same bytes.
 
 COLUMNS = 71
+ID = re.compile(r"[A-Z0-9@#$]{1,7}")
 
 
 def comment(text):
@@ -292,15 +293,37 @@ def job_of(zone, members, left_over, title):
     return "".join(line + "\n" for line in lines)
 
 
+# What reading JSON of another form raises.
+NONE_OF_ITS_FORM = (ValueError, KeyError, TypeError, RecursionError)
+
+
+def items_of(value):
+    if not isinstance(value, list):
+        raise NoAnswer()
+    return value
+
+
+def ids_of(value):
+    """A list of ids, and of nothing else: what stands in a job goes to SMP/E as statements."""
+    if not all(isinstance(item, str) and ID.fullmatch(item) for item in items_of(value)):
+        raise NoAnswer()
+    return value
+
+
+def members_in(chain):
+    """The ids of the members of a chain that is GOOD."""
+    return [ids_of([member["id"], *ids_of(member["system"]), *ids_of(member["user"])])[0] for member in items_of(chain["plan"])]
+
+
 def chain_in(path, zone, sysmod):
     try:
         chain = json.loads(text_of(path))
         is_one = chain["zone"] == zone and chain["sysmod"] == sysmod
-        if is_one and (chain["status"] == "LACK" or chain["status"] == "HELD" and chain["blocked"]):
+        if is_one and (chain["status"] == "LACK" or chain["status"] == "HELD" and ids_of([chain["blocked"]])):
             return chain
-        if is_one and chain["status"] == "GOOD" and any(member["id"] == sysmod for member in chain["plan"]):
+        if is_one and chain["status"] == "GOOD" and sysmod in members_in(chain):
             return chain
-    except (ValueError, KeyError, TypeError):
+    except NONE_OF_ITS_FORM:
         pass
     raise NoAnswer()
 
@@ -339,6 +362,7 @@ def job(time, folder, named):
     received, resolved = ids_in(os.path.join(folder, "received")), {}
     for report in reports:
         for hold, rows in report.holds().items():
+            ids_of(list(hold))
             for row in rows:
                 if hold not in resolved.setdefault(row["RESOLVER"], []):
                     resolved[row["RESOLVER"]].append(hold)

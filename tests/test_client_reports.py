@@ -17,6 +17,7 @@ import subprocess
 import sys
 
 from service import CLIENT, PROGRAM, SAMPLE, TOP, Client, Desk, check, finish, folder, same, without_time, write
+from stand_in import StandIn
 
 SHELL = sys.argv[2] if len(sys.argv) > 2 else None
 NORTH, PUBLISHER = "north-token", "publisher-token"
@@ -332,6 +333,45 @@ def bypasses(bench):
         bench.publish("".join("++RELEASE(UJ92005) %s REASON(%s).\n" % hold for hold in holds))
 
 
+def jobs_that_are_none():
+    """What is no chain makes no job."""
+    desk = StandIn()
+    north = client("http://127.0.0.1:%d" % desk.port, NORTH)
+    reports = {
+        "errsysmods": "EXCEPTION SYSMOD REPORT FOR ZONE A\nFMID     SYSMOD   REASON   RESOLVER STATUS RECEIVED CLASS\nROWS 0\n",
+        "missingfix": "MISSING FIX REPORT FOR ZONE A\nCATEGORY\nROWS 0\n",
+        "published": "PUBLISHED SYSMODS 1 HOLDS 1\n",
+    }
+    member = {"id": "UJ1", "system": [], "user": []}
+    good = {"plan": [member], "status": "GOOD", "sysmod": "UJ1", "zone": "A"}
+    held = {"blocked": "AJ1", "status": "HELD", "sysmod": "UJ1", "zone": "A"}
+    for name, chain, status in (
+        ("GOOD", good, 0),
+        ("HELD", held, 1),
+        ("of another zone", {**good, "zone": "B"}, 3),
+        ("of another SYSMOD", {**good, "sysmod": "UJ2"}, 3),
+        ("without the SYSMOD itself", {**good, "plan": [{**member, "id": "UJ2"}]}, 3),
+        ("a member that is no SYSMOD", {**good, "plan": [member, {**member, "id": "UJ2) BYPASS(HOLDERROR"}]}, 3),
+        ("a hold that ends a comment", {**good, "plan": [{**member, "system": ["IPL */"]}]}, 3),
+        ("a hold that is none", {**good, "plan": [{**member, "user": [7]}]}, 3),
+        ("holds that are no list", {**good, "plan": [{**member, "user": "OURS"}]}, 3),
+        ("members that are no list", {**good, "plan": {"UJ1": member}}, 3),
+        ("a need that is none", {**held, "blocked": "nothing"}, 3),
+        ("of another status", {**held, "status": "FINE"}, 3),
+        ("a list", [good], 3),
+        ("lists in lists", "[" * 100000, 3),
+        ("half of one", json.dumps(good)[:-9], 3),
+    ):
+        chain = chain if isinstance(chain, str) else json.dumps(chain)
+        desk.reply = lambda first: reports.get(first.split()[1].rsplit("/")[-1], chain).encode()
+        got, out, err = north.run("job", "A", "UJ1")
+        check("a chain: " + name, got == status and (got < 3) == (" SET BOUNDARY(A)." in out or "CAN'T BE INSTALLED" in out), (got, out, err))
+        same("which is none prints nothing", (bool(out), "no answer of a desk" in err), (got < 3, got == 3))
+    desk.reply = lambda first: reports.get(first.split()[1].rsplit("/")[-1], json.dumps(good)).encode()
+    reports["errsysmods"] = reports["errsysmods"].replace("ROWS 0", "-        UJ2      AJ2 */   UJ1      GOOD   NO       PE\nROWS 1")
+    same("a report with a reason that is none", north.run("job", "A", "UJ1")[:2], (3, ""))
+
+
 def jobs_of_many(bench):
     """The job of a chain is that of the page's own code, where node is there to run it; each line is one of SMP/E."""
     rows = [row for row in rows_of(bench.north, "errsysmods", "LARGE") if row["STATUS"] == "GOOD"]
@@ -434,7 +474,7 @@ def many(count):
     bench.desk.end()
 
 
-for part in (words_that_are_wrong, alerts, why_empty, overviews, news, symptoms, jobs, alone):
+for part in (words_that_are_wrong, alerts, why_empty, overviews, news, symptoms, jobs, jobs_that_are_none, alone):
     part()
 many(int(sys.argv[1]) if len(sys.argv) > 1 else 1000)
 finish("client's reports" + (", " + SHELL if SHELL else ""))
