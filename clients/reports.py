@@ -8,6 +8,7 @@ here. It needs Python 3.9 or later, and nothing else. All files are UTF-8, and s
     reports.py news OLD NEW                       the rows that came, went or changed from OLD to NEW
     reports.py symptoms REPORT FILE               the exception SYSMODs as CSV, with the symptoms of FILE
     reports.py job TIME FOLDER SYSMOD..           a job for SMP/E, of the answers in FOLDER
+    reports.py plan TIME FOLDER REPORT ZONE       a job for SMP/E of the plan for a report, of the answers in FOLDER
 
 docs/CLIENT.md shows each. Exit status: 0 done; 1 OLD or FILE is none, or a SYSMOD of a job can't be installed; 2 it has
 no words; 3 what came is no answer of a desk, or a file can't be read or written.
@@ -228,6 +229,7 @@ def symptoms(report_path, symptoms_path):
 # would end the data of a DD * statement. clients/page/job.js makes the same bytes.
 
 COLUMNS = 71
+ID = re.compile(r"[A-Z0-9@#$]{1,7}")
 
 
 def comment(text):
@@ -261,12 +263,18 @@ def about(member):
 
 
 def bypass(members):
-    """What a SYSTEM or USER hold needs, commented out: whoever has done what it asks takes the comment marks away."""
-    return [
-        " /* BYPASS(HOLD%s(%s)) */" % (kind.upper(), reason)
-        for kind in ("system", "user")
-        for reason in sorted({reason for member in members for reason in member[kind]})
-    ]
+    """What SYSTEM and USER holds need, commented out: whoever has done what they ask takes the comment marks away. It is one
+    operand with all reasons, as SMP/E's manuals write it."""
+    reasons = {kind: sorted({reason for member in members for reason in member[kind]}) for kind in ("system", "user")}
+    lists = [("HOLD" + kind.upper(), found) for kind, found in reasons.items() if found]
+    if not lists:
+        return []
+    whole = "BYPASS(%s)" % ",".join("%s(%s)" % (name, ",".join(found)) for name, found in lists)
+    if len(whole) <= COLUMNS - 7:
+        return [" /* %s */" % whole]
+    parts = [[name + "(", *(line.strip() for line in list_of(found)), ")"] for name, found in lists]
+    parts[:-1] = [part[:-1] + ["),"] for part in parts[:-1]]
+    return [" /* %s */" % line for line in ["BYPASS(", *(line for part in parts for line in part), ")"]]
 
 
 def job_of(zone, members, left_over, title):
@@ -286,15 +294,37 @@ def job_of(zone, members, left_over, title):
     return "".join(line + "\n" for line in lines)
 
 
+# What reading JSON of another form raises.
+NONE_OF_ITS_FORM = (ValueError, KeyError, TypeError, RecursionError)
+
+
+def items_of(value):
+    if not isinstance(value, list):
+        raise NoAnswer()
+    return value
+
+
+def ids_of(value):
+    """A list of ids, and of nothing else: what stands in a job goes to SMP/E as statements."""
+    if not all(isinstance(item, str) and ID.fullmatch(item) for item in items_of(value)):
+        raise NoAnswer()
+    return value
+
+
+def members_in(chain):
+    """The ids of the members of a chain that is GOOD."""
+    return [ids_of([member["id"], *ids_of(member["system"]), *ids_of(member["user"])])[0] for member in items_of(chain["plan"])]
+
+
 def chain_in(path, zone, sysmod):
     try:
         chain = json.loads(text_of(path))
         is_one = chain["zone"] == zone and chain["sysmod"] == sysmod
-        if is_one and (chain["status"] == "LACK" or chain["status"] == "HELD" and chain["blocked"]):
+        if is_one and (chain["status"] == "LACK" or chain["status"] == "HELD" and ids_of([chain["blocked"]])):
             return chain
-        if is_one and chain["status"] == "GOOD" and any(member["id"] == sysmod for member in chain["plan"]):
+        if is_one and chain["status"] == "GOOD" and sysmod in members_in(chain):
             return chain
-    except (ValueError, KeyError, TypeError):
+    except NONE_OF_ITS_FORM:
         pass
     raise NoAnswer()
 
@@ -325,6 +355,14 @@ def ids_in(path):
     return {record[0].strip(" \t") for record in records if record}
 
 
+def age_of(folder, time):
+    """How old a job is, as its title says it."""
+    level = re.fullmatch(r"PUBLISHED SYSMODS (\d+) HOLDS (\d+)\n", text_of(folder, "published"))
+    if not level:
+        raise NoAnswer()
+    return "published %s SYSMODs and %s holds, asked %s" % (*level.groups(), time)
+
+
 def job(time, folder, named):
     sysmods = list(dict.fromkeys(named))
     reports = [reports_in(text_of(folder, kind))[kind] for kind in KINDS]
@@ -333,22 +371,69 @@ def job(time, folder, named):
     received, resolved = ids_in(os.path.join(folder, "received")), {}
     for report in reports:
         for hold, rows in report.holds().items():
+            ids_of(list(hold))
             for row in rows:
                 if hold not in resolved.setdefault(row["RESOLVER"], []):
                     resolved[row["RESOLVER"]].append(hold)
                 received |= {row["RESOLVER"]} if row["RECEIVED"] == "YES" else set()
     good = [chain for chain in chains if chain["status"] == "GOOD"]
     left_over = [why_not(chain) for chain in chains if chain["status"] != "GOOD"]
-    level = re.fullmatch(r"PUBLISHED SYSMODS (\d+) HOLDS (\d+)\n", text_of(folder, "published"))
-    if not level:
-        raise NoAnswer()
-    title = "Chain%s of %s in zone %s, published %s SYSMODs and %s holds, asked %s" % (
-        "s" if len(sysmods) > 1 else "", ", ".join(sysmods), zone, *level.groups(), time,
-    )
+    named = "Chain%s of %s" % ("s" if len(sysmods) > 1 else "", ", ".join(sysmods))
+    title = "%s in zone %s, %s" % (named, zone, age_of(folder, time))
     print(job_of(zone, members_of(good, resolved, received), left_over, title), end="")
     for sentence in left_over:
         say(sentence)
     return 1 if left_over else 0
+
+
+# --- The job of a plan --------------------------------------------------------------------------------------------------
+
+SUBJECTS = {"errsysmods": "exception SYSMODs", "missingfix": "missing fixes"}
+
+
+def holds_in(value):
+    return [tuple(ids_of([hold["sysmod"], hold["reason"]])) for hold in items_of(value)]
+
+
+def member_in(item):
+    """A member of a plan, as a job takes it."""
+    if not isinstance(item["received"], bool):
+        raise NoAnswer()
+    ids_of([item["id"], *ids_of(item["needed_by"]), *ids_of(item["system"]), *ids_of(item["user"])])
+    return {**item, "holds": holds_in(item["holds"])}
+
+
+def plan_in(path, report, zone):
+    """The members of a plan in their order, the holds that nothing resolves, and those of which all resolvers are held."""
+    try:
+        plan = json.loads(text_of(path))
+        if (plan["report"], plan["zone"]) == (report, zone):
+            return [member_in(item) for item in items_of(plan["members"])], holds_in(plan["unresolved"]), holds_in(plan["held"])
+    except NONE_OF_ITS_FORM:
+        pass
+    raise NoAnswer()
+
+
+def several(number, word):
+    return "%d %s%s" % (number, word, "" if number == 1 else "s")
+
+
+def plan(time, folder, report, zone):
+    members, unresolved, held = plan_in(os.path.join(folder, "plan"), report, zone)
+    left_over = [
+        words + ", ".join("%s (%s)" % hold for hold in holds)
+        for words, holds in (("nothing resolves ", unresolved), ("all resolvers are held of ", held))
+        if holds
+    ]
+    title = "Plan for the %s of zone %s, %s" % (SUBJECTS[report], zone, age_of(folder, time))
+    print(job_of(zone, members, left_over, title), end="")
+    if left_over:
+        option = "--fixes " if report == "missingfix" else ""
+        told = several(len(unresolved), "hold") + " that nothing resolves, and " + several(len(held), "hold")
+        say("left over: %s of which all resolvers are held. 'bureau-client plan %s%s' tells more" % (told, option, zone))
+    elif not members:
+        say("nothing is to be installed: the plan has no member")
+    return 0
 
 
 # --- The command line ---------------------------------------------------------------------------------------------------
@@ -363,6 +448,8 @@ def run(words):
         return news(*rest)
     if name == "symptoms":
         return symptoms(*rest)
+    if name == "plan":
+        return plan(*rest)
     return job(rest[0], rest[1], rest[2:])
 
 

@@ -276,6 +276,22 @@ def before_any_desk():
     check("a settings file with CR LF is read", status == 3 and "http://127.0.0.1:9 " in err, (status, err))
 
 
+def pages():
+    """The help, the page and the man page have the same commands and options."""
+    read = lambda path: open(os.path.join(TOP, path)).read()
+    text = Client("http://127.0.0.1:9", NORTH, SHELL).run("help")[1]
+    table = read("docs/CLIENT.md").split("## Commands")[1].split("Options may stand")[0]
+    man = read("package/man/bureau-client.1").replace("\\-", "-")
+    named = set(re.findall(r"^  bureau-client ([a-z-]+)", text, re.M)) | {"help"}
+    cells = "".join(line.split("|")[1] for line in table.splitlines() if line.startswith("| `"))
+    same("the page's commands", set(re.findall("`([a-z][a-z-]*)", cells)), named)
+    same("the man page's", set(re.findall(r"(?:bureau-client |\| \\fB)([a-z-]+)", man.split(".SH DESCRIPTION")[0].split(".SH SYNOPSIS")[1])), named)
+    options = set(re.findall("--[a-z]+", text))
+    same("the page's options", set(re.findall("--[a-z]+", cells)), options)
+    same("the man page's options", set(re.findall("--[a-z]+", man)), options)
+    check("there are some", len(named) > 15 and len(options) > 5, (named, options))
+
+
 def hidden_token():
     """No command line has the token: a `curl` in front of the real one looks at its words."""
     desk, tools = Desk(CALLERS), folder()
@@ -456,7 +472,7 @@ def no_desk():
     server.shutdown()
 
 
-PARTS = (sample, rows_without_resolver, refusals, before_any_desk, hidden_token, waiting, lost_replies, together, onlooker, no_desk)
+PARTS = (sample, rows_without_resolver, refusals, before_any_desk, pages, hidden_token, waiting, lost_replies, together, onlooker, no_desk)
 for part in PARTS:
     part()
 finish("client" + (", " + SHELL if SHELL else ""))

@@ -17,6 +17,7 @@ import subprocess
 import sys
 
 from service import CLIENT, PROGRAM, SAMPLE, TOP, Client, Desk, check, finish, folder, same, without_time, write
+from stand_in import StandIn
 
 SHELL = sys.argv[2] if len(sys.argv) > 2 else None
 NORTH, PUBLISHER = "north-token", "publisher-token"
@@ -24,6 +25,7 @@ CALLERS = os.path.join(SAMPLE, "callers.csv")
 SITE = os.path.join(TOP, "examples", "site")
 OVERVIEW = "ZONE     SYSMODS IN-ERROR HOLDS  HIPER  PE     OTHER  NONE   HELD   GOOD   FIXES\n"
 NO_ZONE = OVERVIEW + "ROWS 0\n"
+WITHOUT = "bureau-client: no fix categories were sent from here, so that FIXES may be 0 for that:"
 
 
 def client(url, token):
@@ -72,7 +74,7 @@ def words_that_are_wrong():
         ("errsysmods", "A", "--symptoms", kept),
         ("missingfix", "A", "--csv", "--symptoms", kept),
         ("errsysmods", "A", "--csv", "--symptoms", kept + "-none"),
-        ("job", "A"),
+        ("job",),
         ("job", "A", "uj1"),
         ("job", "A", "UJ1", "UJ1234567"),
         ("zones", "--all"),
@@ -201,6 +203,12 @@ def overviews():
     same("as CSV", bench.north.run("overview", "--csv"), (0, heading + "MVSPROD,3,1,1,0,1,0,0,0,1,1\n", ""))
     same("in another code", bench.north.run("overview", BUREAU_CODE="ISO-8859-1")[1].splitlines()[1] + "\n", line)
     same("the publisher's", bench.publisher.run("overview"), (0, "PUBLISHED SYSMODS 8 HOLDS 5\nLAST PUBLICATION 1\n", ""))
+    for name in ("NONE", "EMPTY", "SOME"):
+        bench.zone(name, "HBB77E0")
+    bench.send("categories", "EMPTY", text="CATEGORY\n")
+    bench.send("categories", "SOME", text="CATEGORY\nIBM.No*\n")
+    same("zones without categories are named", bench.north.run("overview")[2], WITHOUT + " EMPTY NONE\n")
+    same("also from another code", bench.north.run("overview", BUREAU_CODE="ISO-8859-1")[2], WITHOUT + " EMPTY NONE\n")
     same("an unknown token", client(bench.desk.url, "nobodys-token").run("overview")[0], 1)
     bench.desk.end()
     same("no desk", bench.north.run("overview")[:2], (3, ""))
@@ -208,7 +216,7 @@ def overviews():
 
 def overview_of_many(bench):
     status, out, err = bench.north.run("overview", "--csv")
-    same("an overview of many", (status, err), (0, ""))
+    same("an overview of many", (status, err), (0, WITHOUT + " SMALL\n"))
     for zone, sysmods, *got in list(csv.reader(io.StringIO(out)))[1:]:
         same("of " + zone, [each.removeprefix("'") for each in got], counts(bench.north, zone.removeprefix("'")))
         check("which has some", int(got[1]) > 0, got)
@@ -307,7 +315,62 @@ def jobs():
     same("one that is named twice stands once", without_time(twice), without_time(once))
     check("nothing is left", "NOTHING CAN BE INSTALLED" in north.run("job", "MVSPROD", "UJ92002")[1])
     same("no such zone", north.run("job", "NONE", "UJ92005")[:2], (1, ""))
+    bypasses(bench)
+    plans(bench, "MVSPROD")
     bench.desk.end()
+
+
+def bypasses(bench):
+    """Where the comment marks are taken away, one BYPASS is left, with the reasons of all holds."""
+    for count, user, lines in ((1, ["OURS"], 1), (6, [], 1), (7, [], 5), (24, ["OURS"], 10)):
+        holds = [("SYSTEM", "IPL"), *(("SYSTEM", "R%06d" % at) for at in range(count - 1)), *(("USER", each) for each in user)]
+        bench.publish("".join("++HOLD(UJ92005) %s REASON(%s).\n" % hold for hold in holds))
+        out = bench.north.run("job", "MVSPROD", "UJ92005")[1].split("    )\n")[-1].splitlines()
+        system = ",".join(reason for kind, reason in holds if kind == "SYSTEM")
+        wanted = "BYPASS(HOLDSYSTEM(%s)%s)." % (system, ",HOLDUSER(OURS)" if user else "")
+        same("one operand", re.sub(r" /\* | \*/| ", "", "".join(out)), wanted)
+        same("in so many lines", len(out) - 1, lines)
+        check("within column 71", max(map(len, out)) <= 71, out)
+        bench.publish("".join("++RELEASE(UJ92005) %s REASON(%s).\n" % hold for hold in holds))
+
+
+def jobs_that_are_none():
+    """What is no chain makes no job."""
+    desk = StandIn()
+    north = client("http://127.0.0.1:%d" % desk.port, NORTH)
+    reports = {
+        "errsysmods": "EXCEPTION SYSMOD REPORT FOR ZONE A\nFMID     SYSMOD   REASON   RESOLVER STATUS RECEIVED CLASS\nROWS 0\n",
+        "missingfix": "MISSING FIX REPORT FOR ZONE A\nCATEGORY\nROWS 0\n",
+        "published": "PUBLISHED SYSMODS 1 HOLDS 1\n",
+    }
+    member = {"id": "UJ1", "system": [], "user": []}
+    good = {"plan": [member], "status": "GOOD", "sysmod": "UJ1", "zone": "A"}
+    held = {"blocked": "AJ1", "status": "HELD", "sysmod": "UJ1", "zone": "A"}
+    for name, chain, status in (
+        ("GOOD", good, 0),
+        ("HELD", held, 1),
+        ("of another zone", {**good, "zone": "B"}, 3),
+        ("of another SYSMOD", {**good, "sysmod": "UJ2"}, 3),
+        ("without the SYSMOD itself", {**good, "plan": [{**member, "id": "UJ2"}]}, 3),
+        ("a member that is no SYSMOD", {**good, "plan": [member, {**member, "id": "UJ2) BYPASS(HOLDERROR"}]}, 3),
+        ("a hold that ends a comment", {**good, "plan": [{**member, "system": ["IPL */"]}]}, 3),
+        ("a hold that is none", {**good, "plan": [{**member, "user": [7]}]}, 3),
+        ("holds that are no list", {**good, "plan": [{**member, "user": "OURS"}]}, 3),
+        ("members that are no list", {**good, "plan": {"UJ1": member}}, 3),
+        ("a need that is none", {**held, "blocked": "nothing"}, 3),
+        ("of another status", {**held, "status": "FINE"}, 3),
+        ("a list", [good], 3),
+        ("lists in lists", "[" * 100000, 3),
+        ("half of one", json.dumps(good)[:-9], 3),
+    ):
+        chain = chain if isinstance(chain, str) else json.dumps(chain)
+        desk.reply = lambda first: reports.get(first.split()[1].rsplit("/")[-1], chain).encode()
+        got, out, err = north.run("job", "A", "UJ1")
+        check("a chain: " + name, got == status and (got < 3) == (" SET BOUNDARY(A)." in out or "CAN'T BE INSTALLED" in out), (got, out, err))
+        same("which is none prints nothing", (bool(out), "no answer of a desk" in err), (got < 3, got == 3))
+    desk.reply = lambda first: reports.get(first.split()[1].rsplit("/")[-1], json.dumps(good)).encode()
+    reports["errsysmods"] = reports["errsysmods"].replace("ROWS 0", "-        UJ2      AJ2 */   UJ1      GOOD   NO       PE\nROWS 1")
+    same("a report with a reason that is none", north.run("job", "A", "UJ1")[:2], (3, ""))
 
 
 def jobs_of_many(bench):
@@ -348,6 +411,26 @@ def page_job(bench, chain, out):
     plan = {"zone": "LARGE", "members": members, "unresolved": [], "held": []}
     write(place + "/run.mjs", "import { jobOf } from './job.mjs';\nprocess.stdout.write(jobOf(%s, %s));\n" % (json.dumps(plan), json.dumps(title)))
     return subprocess.run(["node", place + "/run.mjs"], capture_output=True, text=True).stdout
+
+
+def plans(bench, zone):
+    """The plan as the desk gives it, and its job: all members in order, and RECEIVE of those that were not received."""
+    north, ask = bench.north, bench.desk.ask
+    for report, words in (("errsysmods", ()), ("missingfix", ("--fixes",))):
+        path = "/zones/%s/%s/plan" % (zone, report)
+        same("the plan for %s of %s" % (report, zone), north.run("plan", *words, zone), (0, ask("GET", path, NORTH)[1].decode(), ""))
+        plan = json.loads(ask("GET", path + ".json", NORTH)[1])
+        check("which has members", plan["members"], plan)
+        status, out, _ = north.run("job", zone, *words)
+        left = re.sub(r"/\*.*?\*/", "", out)
+        select = dict(re.findall(r"(RECEIVE|APPLY)[A-Z ]*\((.*?)\)", left, re.S))
+        ids = {name: re.findall("[A-Z0-9@#$]+", part) for name, part in select.items()}
+        same("its job", (status, ids.get("APPLY")), (0, [one["id"] for one in plan["members"]]))
+        same("what is received", ids.get("RECEIVE", []), [one["id"] for one in plan["members"] if not one["received"]])
+        said = " ".join(re.findall(r"/\* (.*?) \*/", out))
+        for begin, holds in (("NOTHING RESOLVES ", plan["unresolved"]), ("ALL RESOLVERS ARE HELD OF ", plan["held"])):
+            named = begin + ", ".join("%(sysmod)s (%(reason)s)" % hold for hold in holds)
+            check("what is left over", named in said if holds else begin not in said, said[:300])
 
 
 def symptoms():
@@ -408,11 +491,12 @@ def many(count):
     bench.received = set(drawn(random.Random(count), count)[2])
     overview_of_many(bench)
     jobs_of_many(bench)
+    plans(bench, "LARGE")
     news_of_many(bench)
     bench.desk.end()
 
 
-for part in (words_that_are_wrong, alerts, why_empty, overviews, news, symptoms, jobs, alone):
+for part in (words_that_are_wrong, alerts, why_empty, overviews, news, symptoms, jobs, jobs_that_are_none, alone):
     part()
 many(int(sys.argv[1]) if len(sys.argv) > 1 else 1000)
 finish("client's reports" + (", " + SHELL if SHELL else ""))

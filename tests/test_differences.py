@@ -8,7 +8,7 @@ from service import PROGRAM, TOP, finish, same
 
 with open(os.path.join(TOP, "docs", "DIFFERENCES.md")) as page:
     blocks = re.findall(r"^```\n(.*?)^```$", page.read(), re.M | re.S)
-same("the cases", len(blocks), 6)
+same("the cases", len(blocks), 12)
 for command, printed in zip(blocks[::2], blocks[1::2]):
     words = [PROGRAM if word == "./bureau" else word for word in command.split()]
     run = subprocess.run(words, cwd=TOP, capture_output=True, text=True)

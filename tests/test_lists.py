@@ -215,7 +215,7 @@ def differences():
     """SYSMODs of which a desk knows less than SMP/E are named and counted."""
     status, out, err = run(PUBLICATION, "../differences/publication.txt")
     same("the sample has no fault", (status, err.count("publication: ")), (0, 5))
-    check("VERs that differ", "1 SYSMOD with ++VERs that differ in PRE, REQ or ++IF." in err and "\npublication:     UJ94001\n" in err, err)
+    check("VERs that differ", "2 SYSMODs with ++VERs that differ in PRE, REQ or ++IF." in err and "\npublication:     UJ94001 UJ94009\n" in err, err)
     check("NPRE", "1 SYSMOD with NPRE." in err and "\npublication:     JBB77E1\n" in err, err)
     two = "++PTF(UJ%d).\n++VER(Z038) FMID(HBB77E0) %s.\n%s++VER(Z038) FMID(HDZ33E0) %s.\n%s"
     for name, text, is_named in (

@@ -268,7 +268,7 @@ def job(text, members):
     same("received is what was not", ids[1], [one["id"] for one in members if not one["received"]])
     same("all are applied, in order", ids[3], [one["id"] for one in members])
     same("nothing is bypassed", "BYPASS" in left, False)
-    check("but told how", "/* BYPASS(HOLDSYSTEM(IPL)) */" in text and "HAS A SYSTEM HOLD: ACTION" in text)
+    check("but told how", "/* BYPASS(HOLDSYSTEM(ACTION,IPL),HOLDUSER(OURS)) */" in text and "HAS A SYSTEM HOLD: ACTION" in text)
     check("not tried", "NOT TRIED ON A REAL Z/OS" in text)
 
 

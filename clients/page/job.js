@@ -35,11 +35,17 @@ function about(member) {
   return lines;
 }
 
-// What a SYSTEM or USER hold needs, commented out: whoever has done what it asks takes the comment marks away.
+// What SYSTEM and USER holds need, commented out: whoever has done what they ask takes the comment marks away. It is one
+// operand with all reasons, as SMP/E's manuals write it.
 function bypass(members) {
   const reasons = (kind) => [...new Set(members.flatMap((member) => member[kind]))].sort();
-  return [['HOLDSYSTEM', reasons('system')], ['HOLDUSER', reasons('user')]]
-    .flatMap(([name, ids]) => ids.map((id) => ' /* BYPASS(' + name + '(' + id + ')) */'));
+  const lists = [['HOLDSYSTEM', reasons('system')], ['HOLDUSER', reasons('user')]].filter(([, ids]) => ids.length > 0);
+  if (lists.length === 0) return [];
+  const whole = 'BYPASS(' + lists.map(([name, ids]) => name + '(' + ids.join(',') + ')').join(',') + ')';
+  const part = ([name, ids], at) =>
+    [name + '(', ...list(ids).map((line) => line.trim()), at + 1 < lists.length ? '),' : ')'];
+  const lines = whole.length <= COLUMNS - 7 ? [whole] : ['BYPASS(', ...lists.flatMap(part), ')'];
+  return lines.map((line) => ' /* ' + line + ' */');
 }
 
 function leftOver(plan) {
