@@ -104,6 +104,7 @@ class Drawing:
         zone = "/zones/" + escaped(self.dice.choice(known if known and self.dice.random() < 0.9 else ZONES))
         return self.dice.choice(
             ["/published", "/zones", zone + "/errsysmods", zone + "/missingfix"]
+            + [zone + report + plan for report in ("/errsysmods", "/missingfix") for plan in ("/plan", "/plan.json")]
             + [zone + "/chains/" + escaped(self.dice.choice(IDS)) for _ in range(4)]
         )
 

@@ -18,9 +18,14 @@ ROUTES = [
     (("received",), {b"PUT": "put_received"}),
     (("zones", None, "errsysmods"), {b"GET": "err_report"}),
     (("zones", None, "missingfix"), {b"GET": "missing_report"}),
+    (("zones", None, "errsysmods", "plan"), {b"GET": "err_plan"}),
+    (("zones", None, "errsysmods", "plan.json"), {b"GET": "err_plan_json"}),
+    (("zones", None, "missingfix", "plan"), {b"GET": "missing_plan"}),
+    (("zones", None, "missingfix", "plan.json"), {b"GET": "missing_plan_json"}),
     (("zones", None, "chains", None), {b"GET": "chain"}),
 ]
 CHANGES = {"publish", "put_zone", "drop_zone", "put_patterns", "put_received"}
+JSON = {"chain", "err_plan_json", "missing_plan_json"}
 REASONS = {200: "OK", 400: "Bad Request", 401: "Unauthorized", 403: "Forbidden", 404: "Not Found", 405: "Method Not Allowed",
            409: "Conflict", 411: "Length Required", 413: "Payload Too Large", 422: "Unprocessable Entity",
            431: "Request Header Fields Too Large"}
@@ -85,7 +90,7 @@ class PlainDesk:
             return self.change(caller, call, captured, headers, body), "text/plain"
         if call not in ("counts", "list_zones") and captured[0] not in self.zones[caller]:
             raise Refused(404, "NOT FOUND\n")
-        return getattr(self, call)(caller, *captured), "application/json" if call == "chain" else "text/plain"
+        return getattr(self, call)(caller, *captured), "application/json" if call in JSON else "text/plain"
 
     # ---- changes
 
@@ -156,19 +161,32 @@ class PlainDesk:
         return "%-9sSYSMODS\n" % "ZONE" + "".join(rows) + "ROWS %d\n" % len(rows)
 
     def err_report(self, caller, name):
-        zone, rows = self.zones[caller][name], []
-        good = self.good(zone)
-        for (sysmod, kind, reason), hold in self.book.items():
-            if kind == ERROR and zone.installed(sysmod) and not self.there(zone, reason):
-                resolvers = {y: status(y in good) for y in self.givers(reason) if self.candidate(zone, y)}
-                for resolver, shown in self.shown(caller, resolvers):
-                    fmid, css = hold.get(b"FMID", b""), hold.get(b"CLASS", b"-")
-                    rows.append(((ordered(fmid), ordered(sysmod), ordered(reason)), (fmid or b"-", sysmod, reason, *resolver, *shown, css)))
+        rows = []
+        for (sysmod, reason), hold, resolvers in self.err_holds(self.zones[caller][name]):
+            for resolver, shown in self.shown(caller, resolvers):
+                fmid, css = hold.get(b"FMID", b""), hold.get(b"CLASS", b"-")
+                rows.append(((ordered(fmid), ordered(sysmod), ordered(reason)), (fmid or b"-", sysmod, reason, *resolver, *shown, css)))
         return report("EXCEPTION SYSMOD REPORT FOR ZONE ", name, "%-9s%-9s%-9s%-9s%-7s%-9s%s\n",
                       ("FMID", "SYSMOD", "REASON", "RESOLVER", "STATUS", "RECEIVED", "CLASS"), rows)
 
     def missing_report(self, caller, name):
-        zone, rows = self.zones[caller][name], []
+        rows = []
+        for (sysmod, reason), categories, resolvers in self.missing_holds(self.zones[caller][name]):
+            for category in categories:
+                for resolver, shown in self.shown(caller, resolvers):
+                    rows.append(((category, ordered(sysmod), ordered(reason)), (category, sysmod, reason, *resolver, *shown)))
+        return report("MISSING FIX REPORT FOR ZONE ", name, "%-66s%-9s%-9s%-9s%-7s%s\n",
+                      ("CATEGORY", "FMID", "REASON", "RESOLVER", "STATUS", "RECEIVED"), rows)
+
+    def err_holds(self, zone):
+        """The ERROR holds on what is installed, each with what resolves it and its status."""
+        good = self.good(zone)
+        for (sysmod, kind, reason), hold in self.book.items():
+            if kind == ERROR and zone.installed(sysmod) and not self.there(zone, reason):
+                yield (sysmod, reason), hold, {y: status(y in good) for y in self.givers(reason) if self.candidate(zone, y)}
+
+    def missing_holds(self, zone):
+        """The FIXCAT holds on what is installed, each with the categories that are asked for, and what resolves it."""
         good = self.good(zone)
         for (sysmod, kind, reason), hold in self.book.items():
             named = hold.get(b"RESOLVER")
@@ -178,12 +196,9 @@ class PlainDesk:
             resolvers = {y: status(y in good) for y in givers if self.candidate(zone, y)}
             if named:
                 resolvers.setdefault(named, b"LACK")
-            for category in hold[b"CATEGORY"]:
-                if any(matches(pattern, category) for pattern in zone.patterns):
-                    for resolver, shown in self.shown(caller, resolvers):
-                        rows.append(((category, ordered(sysmod), ordered(reason)), (category, sysmod, reason, *resolver, *shown)))
-        return report("MISSING FIX REPORT FOR ZONE ", name, "%-66s%-9s%-9s%-9s%-7s%s\n",
-                      ("CATEGORY", "FMID", "REASON", "RESOLVER", "STATUS", "RECEIVED"), rows)
+            categories = [each for each in hold[b"CATEGORY"] if any(matches(pattern, each) for pattern in zone.patterns)]
+            if categories:
+                yield (sysmod, reason), categories, resolvers
 
     def shown(self, caller, resolvers):
         if not resolvers:
@@ -199,9 +214,91 @@ class PlainDesk:
         elif sysmod in good:
             told["status"], told["plan"] = "GOOD", [self.member(y) for y in self.plan(zone, good, sysmod)]
         else:
-            blocked = [r for r in self.needs(zone, sysmod) if not self.there(zone, r) and not self.givers(r) & good]
-            told["status"], told["blocked"] = "HELD", min(blocked, key=ordered).decode()
-        return json.dumps(told, separators=(",", ":"), sort_keys=True)
+            told["status"], told["blocked"] = "HELD", self.blocking(zone, good, sysmod).decode()
+        return compact(told)
+
+    # ---- plans of a zone
+
+    def err_plan(self, caller, name):
+        zone = self.zones[caller][name]
+        return plan_text("EXCEPTION SYSMOD PLAN FOR ZONE ", self.zone_plan(caller, name, zone, "errsysmods", self.err_holds(zone)))
+
+    def err_plan_json(self, caller, name):
+        zone = self.zones[caller][name]
+        return compact(self.zone_plan(caller, name, zone, "errsysmods", self.err_holds(zone)))
+
+    def missing_plan(self, caller, name):
+        zone = self.zones[caller][name]
+        return plan_text("MISSING FIX PLAN FOR ZONE ", self.zone_plan(caller, name, zone, "missingfix", self.missing_holds(zone)))
+
+    def missing_plan_json(self, caller, name):
+        zone = self.zones[caller][name]
+        return compact(self.zone_plan(caller, name, zone, "missingfix", self.missing_holds(zone)))
+
+    def zone_plan(self, caller, name, zone, report, holds):
+        """What is to be installed so that each hold with a GOOD resolver is resolved, and what becomes of the others."""
+        good, resolved, held, unresolved = self.good(zone), [], [], []
+        for (sysmod, reason), _, resolvers in sorted(holds, key=lambda one: [ordered(each) for each in one[0]]):
+            hold = {"reason": reason.decode(), "sysmod": sysmod.decode()}
+            if best := self.chosen(caller, b"GOOD", resolvers):
+                resolved.append(dict(hold, resolver=best.decode()))
+            elif best := self.chosen(caller, b"HELD", resolvers):
+                held.append(dict(hold, resolver=best.decode()))
+            else:
+                unresolved.append(hold)
+        steps = self.steps(zone, good, {one["resolver"].encode() for one in resolved})
+        return {
+            "blocked": self.blocked(zone, good, [one["resolver"].encode() for one in held]), "held": held,
+            "members": [self.planned(caller, zone, steps, resolved, at, y) for at, step in enumerate(steps) for y in sorted(step, key=ordered)],
+            "report": report, "resolved": resolved, "unresolved": unresolved, "zone": name.decode(),
+        }
+
+    def chosen(self, caller, kind, resolvers):
+        """Of a kind those that were received, or else all; of these those that no other one gives; of these the greatest."""
+        left = {y for y in resolvers if resolvers[y] == kind}
+        left = left & self.received[caller] or left
+        left = {y for y in left if not self.givers(y) & left - {y}} or left
+        return max(left, key=ordered, default=None)
+
+    def steps(self, zone, good, chosen):
+        """What the chosen plans have, without what another one outdoes and what nothing needs any more, in steps."""
+        united = {y for x in chosen for y in self.plan(zone, good, x)}
+        givers = {y: self.givers(y) for y in united}
+        left = {y for y in united if not any(y != z and z in givers[y] and (y not in givers[z] or ordered(y) < ordered(z)) for z in united)}
+        needs = {y: self.needed(zone, y, left) for y in left}
+        members = closed({y for y in left if any(y in self.givers(x) for x in chosen)}, needs)
+        steps, rest = [], members
+        while rest:
+            steps.append({y for y in rest if all(y in closed({z}, needs) for z in closed({y}, needs) & rest)})
+            rest = rest - steps[-1]
+        return steps
+
+    def needed(self, zone, y, members):
+        """The members that give what one needs and isn't there."""
+        return {z for need in self.needs(zone, y) if not self.there(zone, need) for z in self.givers(need) & members}
+
+    def planned(self, caller, zone, steps, resolved, at, y):
+        members = {z for step in steps for z in step}
+        needed_by = [z.decode() for z in sorted(members, key=ordered) if z != y and y in self.needed(zone, z, members)]
+        holds = [{"reason": one["reason"], "sysmod": one["sysmod"]} for one in resolved if y in self.givers(one["resolver"].encode())]
+        fmids = [each.decode() for each in sorted(self.catalogue[y][b"FMID"], key=ordered)]
+        return dict(self.member(y), fmids=fmids, holds=holds, needed_by=needed_by, received=y in self.received[caller], step=at + 1)
+
+    def blocked(self, zone, good, resolvers):
+        """What blocks each of these, and each that would give what blocks another, if it applies."""
+        rows = {}
+        while resolvers:
+            y = resolvers.pop()
+            if y not in rows and y not in good and self.candidate(zone, y):
+                need = self.blocking(zone, good, y)
+                givers = sorted(self.givers(need), key=ordered)
+                giver = next((z for z in givers if self.candidate(zone, z)), None)
+                rows[y] = {"giver": giver and giver.decode(), "need": need.decode(), "published": bool(givers), "sysmod": y.decode()}
+                resolvers += [giver] if giver else []
+        return [rows[y] for y in sorted(rows, key=ordered)]
+
+    def blocking(self, zone, good, y):
+        return min((r for r in self.needs(zone, y) if not self.there(zone, r) and not self.givers(r) & good), key=ordered)
 
     def member(self, y):
         reasons = lambda kind: [r.decode() for r in sorted((k[2] for k in self.book if k[:2] == (y, kind)), key=ordered)]
@@ -256,6 +353,45 @@ def route(parts):
 
 def ordered(name):
     return name.ljust(7)
+
+
+def closed(found, needs):
+    """These, what they need, what that needs, and so on."""
+    new = found
+    while new:
+        new = {z for y in new for z in needs[y]} - found
+        found = found | new
+    return found
+
+
+def compact(told):
+    return json.dumps(told, separators=(",", ":"), sort_keys=True)
+
+
+def plan_text(title, plan):
+    """The six tables of a plan."""
+    members = plan["members"]
+    tables = [
+        (title + plan["zone"], (9, 9, 9), ("STEP", "SYSMOD", "RECEIVED", "FMID"),
+         [(str(one["step"]), one["id"], "YES" if one["received"] else "NO", ",".join(one["fmids"]) or "-") for one in members]),
+        ("CAUSES", (9, 9, 9), ("SYSMOD", "FOR", "REASON", "NEEDED BY"),
+         [row for one in members for row in
+          [(one["id"], hold["sysmod"], hold["reason"], "-") for hold in one["holds"]] + [(one["id"], "-", "-", by) for by in one["needed_by"]]]),
+        ("HOLDS TO HEED", (9, 9), ("SYSMOD", "KIND", "REASON"),
+         [(one["id"], kind.upper(), reason) for one in members for kind in ("system", "user") for reason in one[kind]]),
+        ("HOLDS WITHOUT GOOD OR HELD RESOLVER", (9,), ("SYSMOD", "REASON"), [(one["sysmod"], one["reason"]) for one in plan["unresolved"]]),
+        ("HOLDS WITH HELD RESOLVERS", (9, 9), ("SYSMOD", "REASON", "RESOLVER"),
+         [(one["sysmod"], one["reason"], one["resolver"]) for one in plan["held"]]),
+        ("BLOCKED NEEDS", (9, 9), ("SYSMOD", "NEED", "GIVER"),
+         [(one["sysmod"], one["need"], one["giver"] or ("- NOT APPLICABLE -" if one["published"] else "- NOT PUBLISHED -"))
+          for one in plan["blocked"]]),
+    ]
+    return "".join(table(*each) for each in tables)
+
+
+def table(title, widths, heading, rows):
+    lines = ["".join(field.ljust(width) for field, width in zip(row, widths)) + row[-1] + "\n" for row in [heading] + rows]
+    return "%s\n%sROWS %d\n" % (title, "".join(lines), len(rows))
 
 
 def status(is_good):

@@ -79,7 +79,7 @@ class Served:
 
 QUESTIONS = [
     ("GET", "/published"), ("GET", "/zones"), ("GET", "/zones/TGT1/errsysmods"), ("GET", "/zones/TGT1/missingfix"),
-    ("GET", "/zones/TGT1/chains/UJ90201"), ("GET", "/zones/TGT2/errsysmods"), ("DELETE", "/zones/TGT9", 9),
+    ("GET", "/zones/TGT1/chains/UJ90201"), ("GET", "/zones/TGT2/errsysmods"), ("GET", "/zones/TGT1/errsysmods/plan.json"), ("DELETE", "/zones/TGT9", 9),
 ]
 
 

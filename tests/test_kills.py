@@ -124,7 +124,8 @@ def everything():
         token = TOKENS[name]
         asked.append(("GET", "/zones", token, None, None))
         for zone in ZONES:
-            for part in ("errsysmods", "missingfix", "chains/" + dice.choice(IDS), "chains/" + dice.choice(IDS)):
+            plans = ("errsysmods/plan", "missingfix/plan.json")
+            for part in ("errsysmods", "missingfix", *plans, "chains/" + dice.choice(IDS), "chains/" + dice.choice(IDS)):
                 asked.append(("GET", "/zones/%s/%s" % (zone, part), token, None, None))
     for name, token in TOKENS.items():
         asked.append(("POST", "/publish", token, FAR, b"") if name == "PUBLISH" else ("PUT", "/received", token, FAR, b"SYSMOD\n"))

@@ -105,7 +105,7 @@ def sample(browser, front, north):
 
 
 def chain_job(browser, north):
-    """The chain as an SMP/E job, also where the desk has no plans. bureau-client makes the same."""
+    """The chain as an SMP/E job. bureau-client makes the same."""
     place = folder()
     browser.call("Browser.setDownloadBehavior", behavior="allow", downloadPath=place)
     click(browser, ".beside [aria-label='Save as SMP/E job']")

@@ -101,9 +101,11 @@ fn length_of(alloc: Global, first: &[u8], lines: &[u8]) -> Result<Result<u64, Re
 
 // A request, and why its path is refused.
 #[rattlefmt::skip]
-static REFUSED_PATHS: [(&[u8], Refusal); 7] = [
+static REFUSED_PATHS: [(&[u8], Refusal); 9] = [
     (b"GET /zones/tgt1/errsysmods", Refusal::NotFound),
     (b"GET /zones/TGT1%2Ferrsysmods", Refusal::MethodNotAllowed(Resource::Zone)),
+    (b"GET /zones/TGT1/errsysmods/plan.jso", Refusal::NotFound),
+    (b"PUT /zones/TGT1/errsysmods/plan", Refusal::MethodNotAllowed(Resource::ErrPlan)),
     (b"GET /zones/", Refusal::NotFound),
     (b"GET /", Refusal::NotFound),
     (b"DELETE /published", Refusal::MethodNotAllowed(Resource::Catalogue)),
@@ -154,6 +156,7 @@ fn assert_asks_of(alloc: Global, routes: &Routes, zone: Id, sysmod: Id) -> Resul
     )?;
     let missing = Action::MissingFix(zone);
     assert_asks(alloc, routes, b"GET /zones/TGT1/missingfix", Ok(missing))?;
+    assert_asks_for_plans(alloc, routes, zone)?;
     let chain = Action::Chain(zone, sysmod);
     assert_asks(
         alloc,
@@ -161,6 +164,29 @@ fn assert_asks_of(alloc: Global, routes: &Routes, zone: Id, sysmod: Id) -> Resul
         b"GET /zones/TGT1/chains/UA%3100%302",
         Ok(chain),
     )
+}
+
+// The plans that are asked of a zone.
+fn assert_asks_for_plans(alloc: Global, routes: &Routes, zone: Id) -> Result<(), Fail> {
+    let rows: [(&[u8], Action); 4] = [
+        (b"GET /zones/TGT1/errsysmods/plan", Action::ErrPlan(zone)),
+        (
+            b"GET /zones/TGT1/errsysmods/plan.json?x=1",
+            Action::ErrPlanJson(zone),
+        ),
+        (
+            b"GET /zones/TGT%31/missingfix/plan",
+            Action::MissingPlan(zone),
+        ),
+        (
+            b"GET /zones/TGT1/missingfix/plan.json",
+            Action::MissingPlanJson(zone),
+        ),
+    ];
+    for (first, action) in rows {
+        assert_asks(alloc, routes, first, Ok(action))?;
+    }
+    Ok(())
 }
 
 // A request without a body asks for this, or is refused so.
