@@ -8,6 +8,7 @@ here. It needs Python 3.9 or later, and nothing else. All files are UTF-8, and s
     reports.py news OLD NEW                       the rows that came, went or changed from OLD to NEW
     reports.py symptoms REPORT FILE               the exception SYSMODs as CSV, with the symptoms of FILE
     reports.py job TIME FOLDER SYSMOD..           a job for SMP/E, of the answers in FOLDER
+    reports.py plan TIME FOLDER REPORT ZONE       a job for SMP/E of the plan for a report, of the answers in FOLDER
 
 docs/CLIENT.md shows each. Exit status: 0 done; 1 OLD or FILE is none, or a SYSMOD of a job can't be installed; 2 it has
 no words; 3 what came is no answer of a desk, or a file can't be read or written.
@@ -354,6 +355,14 @@ def ids_in(path):
     return {record[0].strip(" \t") for record in records if record}
 
 
+def age_of(folder, time):
+    """How old a job is, as its title says it."""
+    level = re.fullmatch(r"PUBLISHED SYSMODS (\d+) HOLDS (\d+)\n", text_of(folder, "published"))
+    if not level:
+        raise NoAnswer()
+    return "published %s SYSMODs and %s holds, asked %s" % (*level.groups(), time)
+
+
 def job(time, folder, named):
     sysmods = list(dict.fromkeys(named))
     reports = [reports_in(text_of(folder, kind))[kind] for kind in KINDS]
@@ -369,16 +378,62 @@ def job(time, folder, named):
                 received |= {row["RESOLVER"]} if row["RECEIVED"] == "YES" else set()
     good = [chain for chain in chains if chain["status"] == "GOOD"]
     left_over = [why_not(chain) for chain in chains if chain["status"] != "GOOD"]
-    level = re.fullmatch(r"PUBLISHED SYSMODS (\d+) HOLDS (\d+)\n", text_of(folder, "published"))
-    if not level:
-        raise NoAnswer()
-    title = "Chain%s of %s in zone %s, published %s SYSMODs and %s holds, asked %s" % (
-        "s" if len(sysmods) > 1 else "", ", ".join(sysmods), zone, *level.groups(), time,
-    )
+    named = "Chain%s of %s" % ("s" if len(sysmods) > 1 else "", ", ".join(sysmods))
+    title = "%s in zone %s, %s" % (named, zone, age_of(folder, time))
     print(job_of(zone, members_of(good, resolved, received), left_over, title), end="")
     for sentence in left_over:
         say(sentence)
     return 1 if left_over else 0
+
+
+# --- The job of a plan --------------------------------------------------------------------------------------------------
+
+SUBJECTS = {"errsysmods": "exception SYSMODs", "missingfix": "missing fixes"}
+
+
+def holds_in(value):
+    return [tuple(ids_of([hold["sysmod"], hold["reason"]])) for hold in items_of(value)]
+
+
+def member_in(item):
+    """A member of a plan, as a job takes it."""
+    if not isinstance(item["received"], bool):
+        raise NoAnswer()
+    ids_of([item["id"], *ids_of(item["needed_by"]), *ids_of(item["system"]), *ids_of(item["user"])])
+    return {**item, "holds": holds_in(item["holds"])}
+
+
+def plan_in(path, report, zone):
+    """The members of a plan in their order, the holds that nothing resolves, and those of which all resolvers are held."""
+    try:
+        plan = json.loads(text_of(path))
+        if (plan["report"], plan["zone"]) == (report, zone):
+            return [member_in(item) for item in items_of(plan["members"])], holds_in(plan["unresolved"]), holds_in(plan["held"])
+    except NONE_OF_ITS_FORM:
+        pass
+    raise NoAnswer()
+
+
+def several(number, word):
+    return "%d %s%s" % (number, word, "" if number == 1 else "s")
+
+
+def plan(time, folder, report, zone):
+    members, unresolved, held = plan_in(os.path.join(folder, "plan"), report, zone)
+    left_over = [
+        words + ", ".join("%s (%s)" % hold for hold in holds)
+        for words, holds in (("nothing resolves ", unresolved), ("all resolvers are held of ", held))
+        if holds
+    ]
+    title = "Plan for the %s of zone %s, %s" % (SUBJECTS[report], zone, age_of(folder, time))
+    print(job_of(zone, members, left_over, title), end="")
+    if left_over:
+        option = "--fixes " if report == "missingfix" else ""
+        told = several(len(unresolved), "hold") + " that nothing resolves, and " + several(len(held), "hold")
+        say("left over: %s of which all resolvers are held. 'bureau-client plan %s%s' tells more" % (told, option, zone))
+    elif not members:
+        say("nothing is to be installed: the plan has no member")
+    return 0
 
 
 # --- The command line ---------------------------------------------------------------------------------------------------
@@ -393,6 +448,8 @@ def run(words):
         return news(*rest)
     if name == "symptoms":
         return symptoms(*rest)
+    if name == "plan":
+        return plan(*rest)
     return job(rest[0], rest[1], rest[2:])
 
 

@@ -74,7 +74,7 @@ def words_that_are_wrong():
         ("errsysmods", "A", "--symptoms", kept),
         ("missingfix", "A", "--csv", "--symptoms", kept),
         ("errsysmods", "A", "--csv", "--symptoms", kept + "-none"),
-        ("job", "A"),
+        ("job",),
         ("job", "A", "uj1"),
         ("job", "A", "UJ1", "UJ1234567"),
         ("zones", "--all"),

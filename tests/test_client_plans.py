@@ -1,0 +1,289 @@
+#!/usr/bin/env python3
+"""`plan` and `job` of bureau-client for a whole report, against a stand-in that answers as a desk with plans does.
+
+    test_client_plans.py [SHELL]
+
+SHELL runs the client, such as `ksh93` or `bash --posix`.
+"""
+import json
+import os
+import random
+import re
+import shutil
+import subprocess
+import sys
+
+from service import TOP, Client, check, finish, folder, same, without_time, write
+from stand_in import StandIn
+
+SHELL = sys.argv[1] if len(sys.argv) > 1 else None
+NORTH = "north-token"
+LEVEL = "PUBLISHED SYSMODS 9 HOLDS 7\n"
+
+# The worked plans of crates/plan_tests: a received resolver that needs two others, a resolver that is held, and a fix.
+TEXT = """\
+EXCEPTION SYSMOD PLAN FOR ZONE TGT1
+STEP     SYSMOD   RECEIVED FMID
+1        UA10008  NO       HBB7790,HXX0001
+1        UA10009  NO       HBB7790
+2        UA10005  YES      HBB7790
+ROWS 3
+CAUSES
+SYSMOD   FOR      REASON   NEEDED BY
+UA10008  -        -        UA10005
+UA10009  -        -        UA10005
+UA10005  UA10001  AA20002  -
+ROWS 3
+HOLDS TO HEED
+SYSMOD   KIND     REASON
+UA10008  USER     OURS
+UA10005  SYSTEM   ACTION
+UA10005  SYSTEM   DOC
+ROWS 3
+HOLDS WITHOUT GOOD OR HELD RESOLVER
+SYSMOD   REASON
+ROWS 0
+HOLDS WITH HELD RESOLVERS
+SYSMOD   REASON   RESOLVER
+ROWS 0
+BLOCKED NEEDS
+SYSMOD   NEED     GIVER
+ROWS 0
+"""
+NEEDS_TWO = (
+    '{"blocked":[],"held":[],"members":['
+    '{"fmids":["HBB7790","HXX0001"],"holds":[],"id":"UA10008","needed_by":["UA10005"],"received":false,"step":1,"system":[],"user":["OURS"]},'
+    '{"fmids":["HBB7790"],"holds":[],"id":"UA10009","needed_by":["UA10005"],"received":false,"step":1,"system":[],"user":[]},'
+    '{"fmids":["HBB7790"],"holds":[{"reason":"AA20002","sysmod":"UA10001"}],"id":"UA10005","needed_by":[],"received":true,"step":2,'
+    '"system":["ACTION","DOC"],"user":[]}],"report":"errsysmods",'
+    '"resolved":[{"reason":"AA20002","resolver":"UA10005","sysmod":"UA10001"}],"unresolved":[],"zone":"TGT1"}'
+)
+IS_HELD = (
+    '{"blocked":[{"giver":"UA10007","need":"AA30003","published":true,"sysmod":"UA10002"},'
+    '{"giver":null,"need":"AA40004","published":false,"sysmod":"UA10007"}],'
+    '"held":[{"reason":"AA20002","resolver":"UA10002","sysmod":"UA10001"}],'
+    '"members":[],"report":"errsysmods","resolved":[],"unresolved":[],"zone":"TGT1"}'
+)
+FIX = (
+    '{"blocked":[],"held":[],"members":[{"fmids":["HBB7790"],"holds":[{"reason":"AA40001","sysmod":"HBB7790"}],"id":"UA10009",'
+    '"needed_by":[],"received":true,"step":1,"system":[],"user":[]}],"report":"missingfix",'
+    '"resolved":[{"reason":"AA40001","resolver":"UA10009","sysmod":"HBB7790"}],"unresolved":[],"zone":"TGT1"}'
+)
+NOTHING = {"blocked": [], "held": [], "members": [], "report": "errsysmods", "resolved": [], "unresolved": [], "zone": "TGT1"}
+EMPTY = re.sub(r"(?m)^(\d|UA).*\n", "", TEXT).replace("ROWS 3", "ROWS 0")
+
+
+class Stand:
+    """A stand-in with these answers, by their paths, and the client NORTH."""
+
+    def __init__(self, zone="TGT1", **answers):
+        self.desk = StandIn()
+        zones = "ZONE     SYSMODS\n%-9s4\nROWS 1\n" % zone
+        self.answers = {"/published": LEVEL, "/zones": zones, **answers}
+        self.desk.reply = lambda first: self.answers.get(first.split()[1], "").encode() or (404, b"NOT FOUND\n")
+        self.north = Client("http://127.0.0.1:%d" % self.desk.port, NORTH, SHELL)
+
+    def asked(self):
+        return [first.split()[1] for first, _, _ in self.desk.requests]
+
+
+def of(report, form, text, zone="TGT1"):
+    return Stand(**{"/zones/%s/%s/%s" % (zone, report, form): text})
+
+
+def words_that_are_wrong():
+    north = Client("http://127.0.0.1:9", NORTH, SHELL)
+    for words in (
+        ("plan",),
+        ("plan", "tgt1"),
+        ("plan", "A", "UJ1"),
+        ("plan", "--csv", "A"),
+        ("job", "--fixes", "A", "UJ1"),
+        ("errsysmods", "--fixes", "A"),
+        ("job", "--fixes"),
+    ):
+        same("no such words: %s" % (words,), north.run(*words)[0], 2)
+
+
+def plans():
+    stand = of("errsysmods", "plan", TEXT)
+    same("as the desk gives it", stand.north.run("plan", "TGT1"), (0, TEXT, ""))
+    same("by one question", stand.asked(), ["/zones/TGT1/errsysmods/plan"])
+    same("in another code", stand.north.run("plan", "TGT1", BUREAU_CODE="ISO-8859-1"), (0, TEXT, ""))
+    fixes = TEXT.replace("EXCEPTION SYSMOD PLAN", "MISSING FIX PLAN")
+    same("of the fixes", of("missingfix", "plan", fixes).north.run("plan", "TGT1", "--fixes"), (0, fixes, ""))
+    stand = of("errsysmods", "plan", TEXT.replace("TGT1", "A#1"), "A%231")
+    same("of a zone with a sign", stand.north.run("plan", "A#1")[0], 0)
+    for name, text in (
+        ("a page of something between", "<html>Please log in</html>\n"),
+        ("nothing of a plan", "\n"),
+        ("another zone's", TEXT.replace("TGT1", "TGT11")),
+        ("the other report's", fixes),
+        ("one that ends inside a table", TEXT[:-7]),
+        ("one that lost a row", TEXT.replace("UA10009  -        -        UA10005\n", "")),
+        ("one that lost a number", TEXT.replace("ROWS 3\nCAUSES", "CAUSES")),
+    ):
+        status, out, err = of("errsysmods", "plan", text).north.run("plan", "TGT1")
+        check(name, (status, out) == (3, "") and "is no answer of a desk" in err, (status, out, err))
+
+
+def no_plans():
+    """A desk without plans is told from one without the zone."""
+    stand = Stand()
+    for words in (("plan",), ("plan", "--fixes"), ("job",), ("job", "--fixes")):
+        status, out, err = stand.north.run(*words, "TGT1")
+        check("no plans: %s" % (words,), (status, out) == (1, "") and "has no plans" in err, (status, out, err))
+        status, out, err = stand.north.run(*words, "TGT")
+        check("no zone: %s" % (words,), (status, out) == (1, "") and "has no zone TGT of yours" in err, (status, out, err))
+    stand.desk.reply = (401, b"UNKNOWN TOKEN\n")
+    status, _, err = stand.north.run("plan", "TGT1")
+    check("an unknown token", status == 1 and "does not know the token" in err, err)
+
+
+def why_empty():
+    """A plan without any row says why, as a report does."""
+    stand = of("errsysmods", "plan", EMPTY)
+    status, out, err = stand.north.run("plan", "TGT1")
+    check("nothing is wrong", (status, out) == (0, EMPTY) and "nothing is wrong" in err, (status, out, err))
+    stand.answers["/published"] = "PUBLISHED SYSMODS 0 HOLDS 0\n"
+    check("nothing is published", "nothing is published yet" in stand.north.run("plan", "TGT1")[2])
+    stand = of("missingfix", "plan", EMPTY.replace("EXCEPTION SYSMOD PLAN", "MISSING FIX PLAN"))
+    check("no categories", "no fix categories of the zone TGT1 were sent" in stand.north.run("plan", "--fixes", "TGT1")[2])
+    held = EMPTY.replace("RESOLVER\nROWS 0", "RESOLVER\nUA10001  AA20002  UA10002\nROWS 1")
+    same("one that has a row in a later table says nothing", of("errsysmods", "plan", held).north.run("plan", "TGT1"), (0, held, ""))
+
+
+def jobs():
+    stand = of("errsysmods", "plan.json", NEEDS_TWO)
+    status, out, err = stand.north.run("job", "TGT1")
+    wanted = (
+        " /* PLAN FOR THE EXCEPTION SYSMODS OF ZONE TGT1, PUBLISHED 9 SYSMODS */\n"
+        " /* AND 7 HOLDS, ASKED */\n"
+        " /* MADE BY BUREAU, AND NOT TRIED ON A REAL Z/OS. READ IT BEFORE YOU */\n /* RUN IT. */\n\n"
+        " SET BOUNDARY(GLOBAL).\n RECEIVE SYSMODS SELECT(\n    UA10008,UA10009\n    ).\n\n"
+        " /* UA10008 IS NEEDED BY UA10005 */\n /* UA10008 HAS A USER HOLD: OURS */\n /* UA10009 IS NEEDED BY UA10005 */\n"
+        " /* UA10005 FOR UA10001 (AA20002) */\n /* UA10005 HAS A SYSTEM HOLD: ACTION */\n /* UA10005 HAS A SYSTEM HOLD: DOC */\n\n"
+        " SET BOUNDARY(TGT1).\n APPLY CHECK SELECT(\n    UA10008,UA10009,UA10005\n    )\n"
+        " /* BYPASS(HOLDSYSTEM(ACTION,DOC),HOLDUSER(OURS)) */\n .\n"
+    )
+    same("a job of the whole plan", (status, without_time(out), err), (0, wanted, ""))
+    same("by two questions", stand.asked(), ["/zones/TGT1/errsysmods/plan.json", "/published"])
+    same("in another code", without_time(stand.north.run("job", "TGT1", BUREAU_CODE="ISO-8859-1")[1]), wanted)
+    status, out, err = of("missingfix", "plan.json", FIX).north.run("job", "--fixes", "TGT1")
+    statements = [line for line in out.splitlines() if line and not line.startswith(" /*")]
+    same(
+        "of the fixes, where all was received",
+        (status, statements, err),
+        (0, [" SET BOUNDARY(TGT1).", " APPLY CHECK SELECT(", "    UA10009", "    )", " ."], ""),
+    )
+    check("for its report", " /* PLAN FOR THE MISSING FIXES OF ZONE TGT1," in out and " /* UA10009 FOR HBB7790 (AA40001) */" in out, out)
+    status, out, err = of("errsysmods", "plan.json", IS_HELD).north.run("job", "TGT1")
+    check(
+        "nothing can be installed",
+        status == 0 and " /* ALL RESOLVERS ARE HELD OF UA10001 (AA20002) */\n /* NOTHING CAN BE INSTALLED */\n" in out and "SET BOUNDARY" not in out,
+        (status, out),
+    )
+    same("and what is left over is said", err, "bureau-client: left over: 0 holds that nothing resolves, and 1 hold of which all resolvers are held. 'bureau-client plan TGT1' tells more\n")
+    status, _, err = of("errsysmods", "plan.json", json.dumps(NOTHING)).north.run("job", "TGT1")
+    same("nothing is to be done", (status, err), (0, "bureau-client: nothing is to be installed: the plan has no member\n"))
+
+
+def jobs_that_are_none():
+    """What is no plan makes no job."""
+    whole = json.loads(NEEDS_TWO)
+    member = whole["members"][0]
+    for name, text in (
+        ("a page of something between", "<html>Please log in</html>\n"),
+        ("half a plan", NEEDS_TWO[:-20]),
+        ("another zone's", NEEDS_TWO.replace("TGT1", "TGT2")),
+        ("the other report's", FIX),
+        ("a list", "[]"),
+        ("a number", "7"),
+        ("lists in lists", "[" * 100000),
+        ("without members", json.dumps({**whole, "members": None})),
+        ("members that are no list", json.dumps({**whole, "members": {}})),
+        ("holds that are no list", json.dumps({**whole, "members": [{**member, "system": "IPL"}]})),
+        ("a member that is no object", json.dumps({**whole, "members": [7]})),
+        ("a member without a hold's reason", json.dumps({**whole, "members": [{**member, "holds": [{"sysmod": "UJ1"}]}]})),
+        ("a member that is no SYSMOD", json.dumps({**whole, "members": [{**member, "id": "UA1).\n DELETE("}]})),
+        ("a hold that ends a comment", json.dumps({**whole, "members": [{**member, "user": ["A*/"]}]})),
+        ("a member of which nobody knows whether it came", json.dumps({**whole, "members": [{**member, "received": "NO"}]})),
+        ("a hold that is none", json.dumps({**whole, "unresolved": [{"sysmod": None, "reason": "AJ1"}]})),
+    ):
+        status, out, err = of("errsysmods", "plan.json", text).north.run("job", "TGT1")
+        check(name, (status, out) == (3, "") and "no answer of a desk" in err, (status, out, err))
+    stand = of("errsysmods", "plan.json", NEEDS_TWO)
+    stand.answers["/published"] = "NOTHING\n"
+    same("no level", stand.north.run("job", "TGT1")[:2], (3, ""))
+
+
+def without_python():
+    """A plan is printed without Python. A job needs it, and says so."""
+    tools = folder()
+    words = "awk cat cksum cp curl cut dirname ls mkdir printf rm sed tail tr wc".split()
+    for name in {"sh", *words, *(SHELL or "sh").split()[:1]}:
+        os.symlink(shutil.which(name), tools + "/" + name)
+    north = of("errsysmods", "plan", TEXT).north
+    same("a plan", north.run("plan", "TGT1", PATH=tools), (0, TEXT, ""))
+    status, out, err = north.run("job", "TGT1", PATH=tools)
+    check("a job", (status, out) == (2, "") and "python3 is not there" in err, (status, out, err))
+
+
+def drawn(dice, count):
+    """A plan of so many members in steps, with what is left over."""
+    ids = dice.sample(["U%s%05d" % (letter, at) for letter in "A@#$" for at in range(count)], count)
+    reasons = ["R%06d" % at for at in range(40)]
+    hold = lambda at: {"reason": "AJ%05d" % at, "sysmod": "UZ%05d" % at}
+    members = [
+        {
+            "fmids": ["HBB77E0"], "holds": [hold(at * 9 + n) for n in range(dice.choice((0, 1, 1, 2, 7)))], "id": name,
+            "needed_by": dice.sample(ids, min(count, dice.choice((0, 0, 1, 9)))), "received": dice.random() < 0.5, "step": at // 4 + 1,
+            "system": dice.sample(reasons, dice.choice((0, 0, 1, 9))), "user": dice.sample(reasons, dice.choice((0, 0, 0, 1, 9))),
+        }
+        for at, name in enumerate(ids)
+    ]
+    held = [{**hold(at), "resolver": "UH%05d" % at} for at in range(dice.choice((0, 1, count)))]
+    left = [hold(at) for at in range(dice.choice((0, 1, count)))]
+    return {**NOTHING, "members": members, "held": held, "unresolved": left}
+
+
+def page_job(plan, title):
+    """What clients/page/job.js makes of it."""
+    place = folder()
+    shutil.copy(os.path.join(TOP, "clients", "page", "job.js"), place + "/job.mjs")
+    write(place + "/plan.json", json.dumps(plan))
+    write(
+        place + "/run.mjs",
+        "import { readFileSync } from 'node:fs';\nimport { jobOf } from './job.mjs';\n"
+        "process.stdout.write(jobOf(JSON.parse(readFileSync(process.argv[2])), process.argv[3]));\n",
+    )
+    return subprocess.run(["node", place + "/run.mjs", place + "/plan.json", title], capture_output=True, text=True).stdout
+
+
+def jobs_of_many():
+    """A drawn plan as a job: columns 1 to 71, each member once and in order; and the page's own code makes the same."""
+    dice = random.Random(51)
+    for count in (1, 2, 3, 4, 8, 9, 17, 1000):
+        plan = drawn(dice, count)
+        status, out, _ = of("errsysmods", "plan.json", json.dumps(plan)).north.run("job", "TGT1")
+        same("a job of %d" % count, status, 0)
+        bad = [line for line in out.splitlines() if len(line) > 71 or line != line.upper() or line[:1] not in ("", " ")]
+        same("in columns 2 to 71", bad, [])
+        left = re.sub(r"/\*.*?\*/", "", out)
+        same("each comment ends on its line", ("/*" in left, "*/" in left, "BYPASS" in left), (False, False, False))
+        select = {name: re.findall(r"[A-Z0-9@#$]+", part) for name, part in re.findall(r"(RECEIVE|APPLY)[A-Z ]*\((.*?)\)", left, re.S)}
+        ids = [member["id"] for member in plan["members"]]
+        same("all are applied, in order", select["APPLY"], ids)
+        same("what was not received is", select.get("RECEIVE", []), [one["id"] for one in plan["members"] if not one["received"]])
+        said = " ".join(re.findall(r"/\* (.*?) \*/", out))
+        for words, holds in (("NOTHING RESOLVES ", plan["unresolved"]), ("ALL RESOLVERS ARE HELD OF ", plan["held"])):
+            named = words + ", ".join("%(sysmod)s (%(reason)s)" % hold for hold in holds)
+            check("what is left over is named", named in said if holds else words not in said, said[:300])
+        if shutil.which("node"):
+            title = " ".join(re.findall(r"^ /\* (.*) \*/$", out.split(" /* MADE BY")[0], re.M))
+            same("as the page makes it", page_job(plan, title), out)
+
+
+for part in (words_that_are_wrong, plans, no_plans, why_empty, jobs, jobs_that_are_none, without_python, jobs_of_many):
+    part()
+finish("client's plans" + (", " + SHELL if SHELL else ""))
