@@ -316,6 +316,7 @@ def jobs():
     check("nothing is left", "NOTHING CAN BE INSTALLED" in north.run("job", "MVSPROD", "UJ92002")[1])
     same("no such zone", north.run("job", "NONE", "UJ92005")[:2], (1, ""))
     bypasses(bench)
+    plans(bench, "MVSPROD")
     bench.desk.end()
 
 
@@ -412,6 +413,26 @@ def page_job(bench, chain, out):
     return subprocess.run(["node", place + "/run.mjs"], capture_output=True, text=True).stdout
 
 
+def plans(bench, zone):
+    """The plan as the desk gives it, and its job: all members in order, and RECEIVE of those that were not received."""
+    north, ask = bench.north, bench.desk.ask
+    for report, words in (("errsysmods", ()), ("missingfix", ("--fixes",))):
+        path = "/zones/%s/%s/plan" % (zone, report)
+        same("the plan for %s of %s" % (report, zone), north.run("plan", *words, zone), (0, ask("GET", path, NORTH)[1].decode(), ""))
+        plan = json.loads(ask("GET", path + ".json", NORTH)[1])
+        check("which has members", plan["members"], plan)
+        status, out, _ = north.run("job", zone, *words)
+        left = re.sub(r"/\*.*?\*/", "", out)
+        select = dict(re.findall(r"(RECEIVE|APPLY)[A-Z ]*\((.*?)\)", left, re.S))
+        ids = {name: re.findall("[A-Z0-9@#$]+", part) for name, part in select.items()}
+        same("its job", (status, ids.get("APPLY")), (0, [one["id"] for one in plan["members"]]))
+        same("what is received", ids.get("RECEIVE", []), [one["id"] for one in plan["members"] if not one["received"]])
+        said = " ".join(re.findall(r"/\* (.*?) \*/", out))
+        for begin, holds in (("NOTHING RESOLVES ", plan["unresolved"]), ("ALL RESOLVERS ARE HELD OF ", plan["held"])):
+            named = begin + ", ".join("%(sysmod)s (%(reason)s)" % hold for hold in holds)
+            check("what is left over", named in said if holds else begin not in said, said[:300])
+
+
 def symptoms():
     """The rows with the symptoms that `publication` wrote of their holds."""
     bench = Bench()
@@ -470,6 +491,7 @@ def many(count):
     bench.received = set(drawn(random.Random(count), count)[2])
     overview_of_many(bench)
     jobs_of_many(bench)
+    plans(bench, "LARGE")
     news_of_many(bench)
     bench.desk.end()
 
