@@ -220,7 +220,7 @@ def jobs_that_are_none():
 def without_python():
     """A plan is printed without Python. A job needs it, and says so."""
     tools = folder()
-    words = "awk cat cksum cp curl cut dirname ls mkdir rm sed tail tr wc".split()
+    words = "awk cat cksum cp curl cut dirname ls mkdir printf rm sed tail tr wc".split()
     for name in {"sh", *words, *(SHELL or "sh").split()[:1]}:
         os.symlink(shutil.which(name), tools + "/" + name)
     north = of("errsysmods", "plan", TEXT).north

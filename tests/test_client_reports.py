@@ -272,7 +272,7 @@ def news_of_many(bench):
     bench.north.run("news", "LARGE")
     rows = bench.desk.ask("GET", "/zones/LARGE/errsysmods", NORTH)[1].decode().splitlines()[2:-1]
     releases = ["++RELEASE(%s) ERROR REASON(%s)." % (row[9:16].strip(), row[18:25].strip()) for row in rows[::9]]
-    bench.publish("\n".join(releases) + "\n++HOLD(HBB77E1) ERROR REASON(AJ00001).\n")
+    bench.publish("\n".join(releases) + "\n++HOLD(HBB77E1) ERROR REASON(AJ99999).\n")
     bench.send("received", text="SYSMOD\n" + "".join(sorted({row[27:34].strip() + "\n" for row in rows[1::7] if row[27] != "-"})))
     status, out, err = bench.north.run("news", "LARGE")
     same("news of many", (status, err), (0, ""))
