@@ -18,7 +18,7 @@ for crate in $below; do
     grep "^$crate:" "$top/crates.txt" >> "$work/crates.txt"
 done
 echo 'connection_tests: testing connections socket_desk requests bureau bureau_store failing_store chains faults' >> "$work/crates.txt"
-for file in lib tests tests/clients tests/side_by_side; do
+for file in lib tests tests/clients tests/listed tests/side_by_side; do
     cp "$top/bench/connection_tests/$file.rt.txt" "$work/crates/connection_tests/src/$file.rt"
 done
 cp "$top/HANDLES" "$work/"
