@@ -1,8 +1,8 @@
 #!/usr/bin/env bash
 # Runs the tests of `connections` and of `socket_desk`: bench/connection_tests.sh
 #
-# They stand in bench/connection_tests, and not in a crate: to prove them takes the gate a quarter of an hour of one core, and no
-# command uses the two crates yet. Here they are built over copies of the crates, under bench/out, and run; nothing is proved of them.
+# They stand in bench/connection_tests, and not in a crate: to prove them takes the gate a quarter of an hour of one core.
+# Here they are built over copies of the crates, under bench/out, and run; nothing is proved of them.
 # What was proved of the crates before is copied too, so that a second run is short.
 set -euo pipefail
 top=$(cd "$(dirname "$0")/.." && pwd)
@@ -18,7 +18,7 @@ for crate in $below; do
     grep "^$crate:" "$top/crates.txt" >> "$work/crates.txt"
 done
 echo 'connection_tests: testing connections socket_desk requests bureau bureau_store failing_store chains faults' >> "$work/crates.txt"
-for file in lib tests tests/clients tests/side_by_side; do
+for file in lib tests tests/clients tests/listed tests/side_by_side; do
     cp "$top/bench/connection_tests/$file.rt.txt" "$work/crates/connection_tests/src/$file.rt"
 done
 cp "$top/HANDLES" "$work/"

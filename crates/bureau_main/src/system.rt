@@ -1,16 +1,17 @@
 //! What the system gives a run: words, files, connections to a port, random keys and clocks.
 ghost use Rattle.std.specs.Prelude.{◌≡◌, ◌≢◌, ◌⊎◌};
 
-use bureau_http::{ConnFault, Listening, Patience, Served, Side, Sockets};
 use bureau_program::Surroundings;
 use bureau_store::StoreFault;
 use command_line::LineFault;
+use connections::{Connections, Event, Round, RoundFault, Rounds};
 use run_parts::Files;
+use socket_desk::{LoopFault, Patience, SocketRounds};
 use sqlite::{Connection, Error, ErrorCode, FileFrom, FileStore, Start};
 use std::alloc::Global;
 use std::fs::{File, OpenOptions, Permissions};
 use std::hash::RandomState;
-use std::net::{Ipv4Addr, TcpListener};
+use std::net::{Ipv4Addr, SocketAddr};
 use std::os::unix::fs::{OpenOptionsExt, PermissionsExt};
 use std::path::Path;
 use std::{env, io};
@@ -20,40 +21,51 @@ use store_runs::{Ended, Stores};
 #[derive(Drop)]
 pub(crate) struct System<'a> {
     rt: &'a HostRuntime,
-    // That of the port that is listened on.
-    listener: Option<TcpListener>,
+    // Those of the port that is listened on.
+    sockets: Option<SocketRounds<'a, HostRuntime>>,
 }
 
 impl<'a> System<'a> {
     pub(crate) fn new(rt: &'a HostRuntime) -> System<'a> {
-        System { rt, listener: None }
+        System { rt, sockets: None }
     }
 }
 
-impl<'a> Listening for System<'a> {
+impl Rounds for System<'_> {
     ghost use Rattle.std.specs.Prelude.{None};
-
-    type Reader = Side<'a, HostRuntime>;
-
-    type Writer = Side<'a, HostRuntime>;
 
     ghost log = { λ _. None };
 
-    fn accept(&mut self) -> io::Result<(Side<'a, HostRuntime>, Side<'a, HostRuntime>)> {
-        match &self.listener {
-            Some(listener) => Sockets::new(listener, self.rt, Patience::usual()).accept(),
-            None => Err(io::Error::from(io::ErrorKind::NotConnected)),
+    ghost is_over = { λ _ _. Unit {0} };
+
+    fn round(
+        &mut self,
+        connections: &Connections,
+        left: u32,
+        told: &mut Vec<Event>,
+    ) -> Result<Round, RoundFault> {
+        match &mut self.sockets {
+            Some(sockets) => sockets.round(connections, left, told),
+            None => Err(RoundFault::System),
         }
     }
 
-    fn close(
-        &mut self,
-        reader: Side<'a, HostRuntime>,
-        writer: Side<'a, HostRuntime>,
-        ended: Result<Served, ConnFault>,
-    ) {
-        if let Some(listener) = &self.listener {
-            Sockets::new(listener, self.rt, Patience::usual()).close(reader, writer, ended);
+    fn note(&mut self, slot: usize, room: usize) {
+        if let Some(sockets) = &mut self.sockets {
+            sockets.note(slot, room);
+        }
+    }
+
+    fn short_at(&self, index: usize) -> Option<usize> {
+        match &self.sockets {
+            Some(sockets) => sockets.short_at(index),
+            None => None,
+        }
+    }
+
+    fn part(&mut self, connections: &Connections) {
+        if let Some(sockets) = &mut self.sockets {
+            sockets.part(connections);
         }
     }
 }
@@ -101,7 +113,7 @@ impl Surroundings for System<'_> {
 
     ghost known_words = { λ _. None };
 
-    ghost known_port = { λ _ _. Unit {0} };
+    ghost known_port = { λ _ _ _. Unit {0} };
 
     fn words(&self, alloc: Global) -> Result<Vec<String>, LineFault> {
         match env::args(self.rt) {
@@ -114,9 +126,17 @@ impl Surroundings for System<'_> {
         }
     }
 
-    fn listen(&mut self, port: u16) -> io::Result<()> {
-        self.listener = Some(TcpListener::bind(self.rt, (Ipv4Addr::LOCALHOST, port))?);
-        Ok(())
+    fn listen(&mut self, alloc: Global, port: u16, most_open: u32) -> io::Result<()> {
+        let address = SocketAddr::from((Ipv4Addr::LOCALHOST, port));
+        let (rt, slots) = (self.rt, most_open as usize);
+        match SocketRounds::new(rt, alloc, rt, address, slots, Patience::usual()) {
+            Ok(sockets) => {
+                self.sockets = Some(sockets);
+                Ok(())
+            }
+            Err(LoopFault::System(error)) => Err(error),
+            Err(LoopFault::Memory) => Err(io::Error::from(io::ErrorKind::OutOfMemory)),
+        }
     }
 
     fn random_keys(&self) -> io::Result<RandomState> {

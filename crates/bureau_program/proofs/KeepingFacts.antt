@@ -1,17 +1,20 @@
 -- From what a connection finds in the files of a store to what a stop leaves of them.
-use Rattle.std.proofs.Common.{◌≡◌, ◌⊎◌, ◌∙◌, ◌+◌, ◌++◌, ◌∷◌, ℕ, List, Option, None, Some, [], ap, append-nil, arith, inl, inr, length, refl, subst, sym}
+use Rattle.std.proofs.Common.{◌≡◌, ◌⊎◌, ◌∙◌, ◌++◌, ◌∷◌, ℕ, List, Option, None, Some, [], ap, append_assoc, inl, inr, refl, subst, sym}
 use Rattle.std.proofs.Math.Logic.{∥∥₁_map}
 use Rattle.bureau_store.specs.Store.{IsOfRead}
 use Rattle.bureau_store.specs.Tables.{AreInOrder, Tables}
-use Rattle.bureau_store.specs.declared.caller.CallerRow.{CallerRow}
 use Rattle.bureau_store.specs.declared.fault.StoreFault.{StoreFault}
 use Rattle.bureau_store.specs.declared.fault.StoreFault.TheVariants.{Device}
 use Rattle.bureau.specs.Answering.{bureau_view}
 use Rattle.bureau.specs.Joint.{CallBy}
 use Rattle.bureau.specs.Kept.{IsWithOneRefused, MayBeLeft, Rests}
 use Rattle.bureau.specs.Runs.{IsLawfulRun}
-use Rattle.bureau_http.specs.Arrivals.{AreHeard, AreMade, Arrival, Event, Logs}
-use Rattle.bureau_http.specs.Service.{AreServed, IsSound}
+use Rattle.bureau_http.specs.Exchange.{calls_of}
+use Rattle.connections.specs.Items.{AreFree, Event, Slots, exchanges_of}
+use Rattle.connections.specs.Rounds.{AreLogged, AreRounds, AreServedInRounds, Entry, Log, Logs, entry, told_in}
+use Rattle.connections.specs.Service.{IsSound}
+use Rattle.connections.specs.declared.rounds.RoundFault.{RoundFault}
+use Rattle.connections.proofs.CallFacts.{asked_in, free_slots, nothing_answered, nothing_called}
 use Rattle.bureau_sql.specs.Files.{HoldTables, HoldTrees, HoldsEarlier, HoldsStore}
 use Rattle.bureau_sql.specs.SqlState.{SqlState}
 use Rattle.bureau_sql.specs.SqlView.{IsAtRest, IsOurStore, shown, sql_view}
@@ -36,9 +39,9 @@ use Rattle.sqlite.specs.State.{HasCleanDisk}
 use Rattle.store_runs.specs.Desk.{HasOpened, of_store}
 use Rattle.store_runs.specs.Ended.{HasEnded, HasFound, IsEndOf, IsLeftOver}
 use Rattle.store_runs.specs.Keeping.{EndsWell, HasNoTables, KeepsEarlier, Leaves, TellsOnly}
-use Rattle.bureau_program.specs.Served.{IsServedFrom, KeepsServed, MayFollow}
+use Rattle.bureau_program.specs.Served.{HasFailed, IsServedFrom, KeepsServed, MayFollow}
 use Rattle.bureau_program.specs.Replay.{IsAlwaysRight}
-use Rattle.bureau_program.specs.Serving.{IsServeOutput, IsServedOver, Session, desk_ends, desk_over, file_ends, store_ends}
+use Rattle.bureau_program.specs.Serving.{IsServeOutput, IsServedOver, Session, desk_ends, desk_over, file_ends, free_in, store_ends}
 use Rattle.store_runs.specs.declared.ended.Ended.{Ended}
 use Rattle.store_runs.specs.declared.ended.Ended.TheVariants.{Nothing, Left, Closed}
 use Rattle.bureau_program.proofs.OpensFacts.{serve_faults}
@@ -52,30 +55,18 @@ nothing_before : {V : Type 0} (earlier later : List V) (v : V) → [] ≡ earlie
 nothing_before [] later v split = cc
 nothing_before (x ∷ earlier) later v split = cc
 
--- a log to which nothing came
-nothing_logged : (log : Option (List Event)) → Logs log log []
-nothing_logged None = tt
-nothing_logged (Some events) = ap Some (append-nil events)
-
 -- no connection was served, and a stop leaves the tables as they were
-nothing_served : (before : Tables) (log log_after : Option (List Event)) (outcome : Option AnyFault) (MayStay : Image → Type 0) → log_after ≡ log
+nothing_served : (before : Tables) (log log_after : Log) (outcome : Option AnyFault) (MayStay : Image → Type 0) → log_after ≡ log
     → ((left : Image) → MayStay left → HoldTables left (λ this. this ≡ before)) → IsServedFrom before log log_after outcome MayStay
 nothing_served before log log_after outcome MayStay same left = record {
-  arrivals = [];
-  logged = subst (λ after. Logs log after []) (sym same) (nothing_logged log);
   calls = [];
   closing = before;
-  made = refl;
+  made = nothing_called before.callers log log_after (HasFailed outcome) same;
   run = refl;
   alone = λ viewer earlier call later split. absurd (nothing_before earlier later call split);
   left = λ image may. ∥∥₁_map (left image may) (λ it.
       let r : (this : Tables) × HoldsStore image this × MayFollow outcome before [] this = (it.0, it.1, inl it.2) in r);
 }
-
--- where nobody came, nothing was asked
-nobody_asked : (rows : List CallerRow) (arrivals : List Arrival) (calls : List CallBy) → length arrivals ≡ 0 → AreMade rows arrivals calls → calls ≡ []
-nobody_asked rows [] calls none made = made
-nobody_asked rows (arrival ∷ arrivals) calls none made = absurd (omega (arith, none))
 
 none_refused : (closing this : Tables) (calls : List CallBy) → calls ≡ [] → IsWithOneRefused closing calls this → ⊥
 none_refused closing this [] none refused = refused
@@ -83,21 +74,21 @@ none_refused closing this (call ∷ calls) none refused = cc
 
 -- what a stop may leave of a desk, by how serving it ended
 module _ {D : Type 0} {g : disk.Ghosts D} (closing : SqlState (FileStore D g)) (cache : CacheLists) where
-  -- what a stop may leave of it after these calls is what may follow, where they are those of its arrivals
-  abbrev pub Follows : Option AnyFault → List CallerRow → List Arrival → Type 0
-  Follows outcome rows arrivals = (calls : List CallBy) (next this : Tables) → AreMade rows arrivals calls
+  -- what a stop may leave of it after these calls is what may follow, where nothing was called unless something was told
+  abbrev pub Follows : Option AnyFault → List Event → Type 0
+  Follows outcome events = (calls : List CallBy) (next this : Tables) → (events ≡ [] → calls ≡ [])
       → MayBeLeft (bureau_view (sql_view over_files) IsRightFor) (desk_over closing cache) calls next this → MayFollow outcome next calls this
 
-  pub follows_all : (count : ℕ) (rows : List CallerRow) (arrivals : List Arrival) → length arrivals ≡ count
-      → IsSound (bureau_view (sql_view over_files) IsRightFor) (desk_over closing cache) count → Follows None rows arrivals
-  follows_all count rows arrivals counted sound calls next this made (inl same) = inl same
-  follows_all count rows arrivals counted (inr is_open) calls next this made (inr refused) = absurd (refused.0 is_open)
-  follows_all count rows arrivals counted (inl none) calls next this made (inr refused) =
-      absurd (none_refused next this calls (nobody_asked rows arrivals calls (counted ∙ none) made) refused.1)
+  pub follows_sound : (outcome : Option AnyFault) (events : List Event) → IsSound (bureau_view (sql_view over_files) IsRightFor) (desk_over closing cache) events
+      → Follows outcome events
+  follows_sound outcome events sound calls next this none (inl same) = inl same
+  follows_sound outcome events (inr is_open) calls next this none (inr refused) = absurd (refused.0 is_open)
+  follows_sound outcome events (inl nothing) calls next this none (inr refused) =
+      absurd (none_refused next this calls (none nothing) refused.1)
 
-  pub follows_failed : (fault : AnyFault) (rows : List CallerRow) (arrivals : List Arrival) → fault ≡ of_store Device → Follows (Some fault) rows arrivals
-  follows_failed fault rows arrivals is calls next this made (inl same) = inl same
-  follows_failed fault rows arrivals is calls next this made (inr refused) = inr (ap Some is, refused.1)
+  pub follows_failed : (fault : AnyFault) (events : List Event) → fault ≡ of_store Device → Follows (Some fault) events
+  follows_failed fault events is calls next this none (inl same) = inl same
+  follows_failed fault events is calls next this none (inr refused) = inr (ap Some is, refused.1)
 
 module _ {D : Type 0} {g : disk.Ghosts D} (from : Image) (before : Tables) (holds : HoldsStore from before) where
   -- a connection finds the store that the files hold, with its tables
@@ -123,31 +114,36 @@ module _ {D : Type 0} {g : disk.Ghosts D} (from : Image) (before : Tables) (hold
         sym may.2 ∙ ap (λ trees. tables_of (stored_in trees)) (has.rests may.0 (ours.1 standing).0 may.1) ∙ stands standing
 
     module _ (cache cache_after : CacheLists) (right : IsAlwaysRight cache) (closing : SqlState (FileStore D g)) (closed : HasCleanDisk (shown over_files closing))
-        (log log_after : Option (List Event)) (count : ℕ)
-        (served : AreServed (bureau_view (sql_view over_files) IsRightFor) (desk_over opened cache) (desk_over closing cache_after) log log_after count)
-        (keeps_ours : IsOurStore over_files closing) (outcome : Option AnyFault) (follows : Follows closing cache_after outcome before.callers served.arrivals) where
-      heard : AreHeard (IsLawfulRun (bureau_view (sql_view over_files) IsRightFor) (desk_over opened cache) (desk_over closing cache_after)) before served.arrivals
-      heard = served.heard.told ours closed before (stands, right before.content)
+        (log log_after : Log) (rounds : List Entry) (slots after : Slots) (free : AreFree slots)
+        (served : AreRounds (bureau_view (sql_view over_files) IsRightFor) (desk_over opened cache) (desk_over closing cache_after) rounds slots after)
+        (keeps_ours : IsOurStore over_files closing) (outcome : Option AnyFault) (logged : AreLogged log log_after (HasFailed outcome) rounds)
+        (follows : Follows closing cache_after outcome (told_in rounds)) where
+      abbrev Runs : Tables → List CallBy → Tables → Type 0
+      Runs = IsLawfulRun (bureau_view (sql_view over_files) IsRightFor) (desk_over opened cache) (desk_over closing cache_after)
+
+      heard : AreServedInRounds Runs before rounds slots after
+      heard = served.told ours closed before (stands, right before.content)
+
+      abbrev called : List CallBy
+      called = calls_of (exchanges_of heard.side.items)
 
       -- each image that is left holds the tables that may follow
-      left_by : (last : FileStore D g) → (left : Image) → HoldTrees (shown over_files closing).may_leave left → HoldTables left (MayFollow outcome heard.closing heard.calls)
+      left_by : (last : FileStore D g) → (left : Image) → HoldTrees (shown over_files closing).may_leave left → HoldTables left (MayFollow outcome heard.side.ran.closing called)
       left_by last left held = ∥∥₁_map held (λ it.
           let this = tables_of (stored_in it.0) in
           let store : HoldsStore left this = record { trees = it.0; held = it.1; ours = keeps_ours.0 it.0 it.2; tables = refl } in
-          let may = follows heard.calls heard.closing this heard.made (heard.run.stops has.opened rests this (it.0, it.2, refl)) in
-          let r : (this : Tables) × HoldsStore left this × MayFollow outcome heard.closing heard.calls this = (this, store, may) in r)
+          let may = follows called heard.side.ran.closing this (nothing_answered Runs before rounds slots after free heard) (heard.side.ran.run.stops has.opened rests this (it.0, it.2, refl)) in
+          let r : (this : Tables) × HoldsStore left this × MayFollow outcome heard.side.ran.closing called this = (this, store, may) in r)
 
       -- so it was served from those tables
       pub served_from : (conn : Held (FileStore D g)) → conn ≡ closing.conn → (last : FileStore D g) → HasEnded conn last → IsClean (view last)
           → IsServedFrom before log log_after outcome (Leaves from (Closed last))
       served_from conn is last ends still = record {
-        arrivals = served.arrivals;
-        logged = served.logged;
-        calls = heard.calls;
-        closing = heard.closing;
-        made = heard.made;
-        run = heard.run.run;
-        alone = λ viewer. heard.run.alone (in_order from before holds) viewer;
+        calls = called;
+        closing = heard.side.ran.closing;
+        made = record { rounds = rounds; logged = logged; asked = asked_in Runs before rounds slots after free heard };
+        run = heard.side.ran.run.run;
+        alone = λ viewer. heard.side.ran.run.alone (in_order from before holds) viewer;
         left = λ left may. left_by last left (subst (λ (conn : Held (FileStore D g)). HoldTrees (file_state conn).may_leave left) is (left_of from conn last ends still left may));
       }
 
@@ -195,23 +191,45 @@ module _ {D : Type 0} {g : disk.Ghosts D} (session : Session) (from : Image) (fo
   unfolding kept_over
   kept_all over =
       let by = over.did.1 in
-      let did = by.did in
+      let does = by.did in
+      let did = does.did in
       let closed = closed_clean over.closing over.after_is in
-      let opened = did.goes.clean closed in
-      served_from from before holds found finds over.opened over.has_opened opened by.cache did.cache_after by.is_new.right over.closing closed session.log session.log_after session.connections
-      did.served (did.goes.ours (ours from before holds found finds over.opened over.has_opened opened) closed) None
-      (follows_all over.closing did.cache_after session.connections before.callers did.served.arrivals did.served.counted did.sound) left over.after_is last ends still
+      let opened = does.goes.clean closed in
+      served_from from before holds found finds over.opened over.has_opened opened by.cache does.cache_after by.is_new.right over.closing closed session.log session.log_after
+      did.rounds (free_in session) does.after (free_slots session.most_open) did.served
+      (does.goes.ours (ours from before holds found finds over.opened over.has_opened opened) closed) None (inl did.logged)
+      (follows_sound over.closing does.cache_after None (told_in did.rounds) did.sound) left over.after_is last ends still
+
+  kept_some : (fault : AnyFault) (why : RoundFault) → kept_over (Some fault) (λ old new. (desk_ends over_files session old new).halted why)
+  unfolding kept_over
+  kept_some fault why over =
+      let by = over.did.1 in
+      let does = by.did in
+      let did = does.did in
+      let closed = closed_clean over.closing over.after_is in
+      let opened = does.goes.clean closed in
+      served_from from before holds found finds over.opened over.has_opened opened by.cache does.cache_after by.is_new.right over.closing closed session.log session.log_after
+      did.rounds (free_in session) does.after (free_slots session.most_open) did.served
+      (does.goes.ours (ours from before holds found finds over.opened over.has_opened opened) closed) (Some fault) (inl did.logged)
+      (follows_sound over.closing does.cache_after (Some fault) (told_in did.rounds) did.sound) left over.after_is last ends still
 
   kept_until : (fault : AnyFault) → fault ≡ of_store Device → kept_over (Some fault) (λ old new. (desk_ends over_files session old new).failed)
   unfolding kept_over
   kept_until fault device over =
       let by = over.did.1 in
-      let did = by.did in
+      let does = by.did in
+      let did = does.did in
+      let told = did.first ++ did.last ∷ [] in
+      let rounds = did.earlier ++ entry did.shown told ∷ entry does.after [] ∷ [] in
       let closed = closed_clean over.closing over.after_is in
-      let opened = did.goes.clean closed in
-      served_from from before holds found finds over.opened over.has_opened opened by.cache did.cache_after by.is_new.right over.closing closed session.log session.log_after (did.ended.count + 1)
-      did.ended.whole (did.goes.ours (ours from before holds found finds over.opened over.has_opened opened) closed) (Some fault)
-      (follows_failed over.closing did.cache_after fault before.callers did.ended.whole.arrivals device) left over.after_is last ends still
+      let opened = does.goes.clean closed in
+      let logged = subst (λ (told : List Event). Logs session.log session.log_after (did.earlier ++ entry did.shown told ∷ entry does.after [] ∷ []))
+      (sym (append_assoc did.first (did.last ∷ []) did.rest)) did.logged in
+      served_from from before holds found finds over.opened over.has_opened opened by.cache does.cache_after by.is_new.right over.closing closed session.log session.log_after
+      rounds (free_in session) does.after (free_slots session.most_open) did.whole
+      (does.goes.ours (ours from before holds found finds over.opened over.has_opened opened) closed) (Some fault)
+      (inr (ap Some device, (did.earlier, did.shown, told, did.rest, does.after, refl, logged)))
+      (follows_failed over.closing does.cache_after fault (told_in rounds) device) left over.after_is last ends still
 
   kept_unserved : (fault : AnyFault) → kept_over (Some fault) (λ old new. (desk_ends over_files session old new).unserved)
   unfolding kept_over
@@ -239,12 +257,15 @@ module _ {D : Type 0} {g : disk.Ghosts D} (session : Session) (from : Image) (fo
   closing_clean still closing is = subst (λ (conn : Held (FileStore D g)). HasCleanDisk (file_state conn)) is (ends.clean still)
 
   earlier_never : (before : Tables) → HoldsEarlier from before → IsClean (view last)
-      → (store_ends over_files session found left).served ⊎ ((store_ends over_files session found left).failed ⊎ (store_ends over_files session found left).unserved) → ⊥
+      → (store_ends over_files session found left).served ⊎ (((why : RoundFault) × (store_ends over_files session found left).halted why)
+      ⊎ ((store_ends over_files session found left).failed ⊎ (store_ends over_files session found left).unserved)) → ⊥
   earlier_never before holds still (inl over) =
       not_earlier before holds over.opened over.has_opened (over.did.1.did.goes.clean (closing_clean still over.closing over.after_is))
-  earlier_never before holds still (inr (inl over)) =
+  earlier_never before holds still (inr (inl (why, over))) =
       not_earlier before holds over.opened over.has_opened (over.did.1.did.goes.clean (closing_clean still over.closing over.after_is))
-  earlier_never before holds still (inr (inr over)) =
+  earlier_never before holds still (inr (inr (inl over))) =
+      not_earlier before holds over.opened over.has_opened (over.did.1.did.goes.clean (closing_clean still over.closing over.after_is))
+  earlier_never before holds still (inr (inr (inr over))) =
       let is = over.after_is ∙ ap (λ (store : SqlState (FileStore D g)). store.conn) over.did.0 in
       not_earlier before holds over.opened over.has_opened (closing_clean still over.opened is)
 
@@ -267,10 +288,12 @@ module _ {D : Type 0} {g : disk.Ghosts D} (session : Session) (from : Image) whe
       let used = output.0 in kept_all session from used.found used.left used.finds last used.ends well before holds used.used
   closed_so last (Some fault) port old new (inl device) well before holds =
       let used = device.1 in kept_until session from used.found used.left used.finds last used.ends well before holds fault device.0 used.used
-  closed_so last (Some fault) port old new (inr (inl unheard)) well before holds =
+  closed_so last (Some fault) port old new (inr (inl halted)) well before holds =
+      let used = halted.0.2 in kept_some session from used.found used.left used.finds last used.ends well before holds fault halted.0.0 used.used
+  closed_so last (Some fault) port old new (inr (inr (inl unheard))) well before holds =
       let used = unheard.0 in kept_unserved session from used.found used.left used.finds last used.ends well before holds fault used.used
-  closed_so last (Some fault) port old new (inr (inr ((refused, is, inl not), keeps))) well before holds = absurd not.0.left
-  closed_so last (Some fault) port old new (inr (inr ((refused, is, inr used), keeps))) well before holds =
+  closed_so last (Some fault) port old new (inr (inr (inr ((refused, is, inl not), keeps)))) well before holds = absurd not.0.left
+  closed_so last (Some fault) port old new (inr (inr (inr ((refused, is, inr used), keeps)))) well before holds =
       kept_refused session from used.found used.left used.finds last used.ends well before holds fault refused used.used
 
   closed_earlier : (last : FileStore D g) (outcome : Option AnyFault) (port : ℕ) (old new : Option (List ℕ)) → IsServeOutput (file_ends session from (Closed last)) outcome port old new
@@ -278,11 +301,13 @@ module _ {D : Type 0} {g : disk.Ghosts D} (session : Session) (from : Image) whe
   closed_earlier last None port old new output before holds well =
       let used = output.0 in absurd (earlier_never session from used.found used.left used.finds last used.ends before holds well (inl used.used))
   closed_earlier last (Some fault) port old new (inl device) before holds well =
-      let used = device.1 in absurd (earlier_never session from used.found used.left used.finds last used.ends before holds well (inr (inl used.used)))
-  closed_earlier last (Some fault) port old new (inr (inl unheard)) before holds well =
-      let used = unheard.0 in absurd (earlier_never session from used.found used.left used.finds last used.ends before holds well (inr (inr used.used)))
-  closed_earlier last (Some fault) port old new (inr (inr ((refused, is, inl not), keeps))) before holds well = absurd not.0.left
-  closed_earlier last (Some fault) port old new (inr (inr ((refused, is, inr used), keeps))) before holds well =
+      let used = device.1 in absurd (earlier_never session from used.found used.left used.finds last used.ends before holds well (inr (inr (inl used.used))))
+  closed_earlier last (Some fault) port old new (inr (inl halted)) before holds well =
+      let used = halted.0.2 in absurd (earlier_never session from used.found used.left used.finds last used.ends before holds well (inr (inl (halted.0.0, used.used))))
+  closed_earlier last (Some fault) port old new (inr (inr (inl unheard))) before holds well =
+      let used = unheard.0 in absurd (earlier_never session from used.found used.left used.finds last used.ends before holds well (inr (inr (inr used.used))))
+  closed_earlier last (Some fault) port old new (inr (inr (inr ((refused, is, inl not), keeps)))) before holds well = absurd not.0.left
+  closed_earlier last (Some fault) port old new (inr (inr (inr ((refused, is, inr used), keeps)))) before holds well =
       earlier_read session from used.found used.left used.finds last used.ends refused used.used before holds well
 
   -- where no connection could be made
@@ -294,9 +319,10 @@ module _ {D : Type 0} {g : disk.Ghosts D} (session : Session) (from : Image) whe
   unfolding NotMade
   not_made ended never None port old new output = absurd (never output.0.left output.0.ends)
   not_made ended never (Some fault) port old new (inl device) = absurd (never device.1.left device.1.ends)
-  not_made ended never (Some fault) port old new (inr (inl unheard)) = absurd (never unheard.0.left unheard.0.ends)
-  not_made ended never (Some fault) port old new (inr (inr ((refused, is, inl not), keeps))) = (not.0.left, not.1)
-  not_made ended never (Some fault) port old new (inr (inr ((refused, is, inr used), keeps))) = absurd (never used.left used.ends)
+  not_made ended never (Some fault) port old new (inr (inl halted)) = absurd (never halted.0.2.left halted.0.2.ends)
+  not_made ended never (Some fault) port old new (inr (inr (inl unheard))) = absurd (never unheard.0.left unheard.0.ends)
+  not_made ended never (Some fault) port old new (inr (inr (inr ((refused, is, inl not), keeps)))) = (not.0.left, not.1)
+  not_made ended never (Some fault) port old new (inr (inr (inr ((refused, is, inr used), keeps)))) = absurd (never used.left used.ends)
 
   unopened_so : (ended : Ended D g) (outcome : Option AnyFault) → NotMade ended → TellsOnly IsOfRead (λ fault. outcome ≡ Some (of_store fault)) from ended
       → KeepsServed from session.log session.log_after outcome ended

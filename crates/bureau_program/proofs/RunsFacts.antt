@@ -14,7 +14,7 @@ use Rattle.bureau.specs.Joint.{CallBy, IsRun, IsStep, tables_left}
 use Rattle.bureau.specs.Kept.{IsToldOfNoTables, IsWithOneRefused, TellNothing}
 use Rattle.bureau.specs.Outcome.{Answer, Outcome, accepted, answer_of, answered, forbidden, may_ask, no_room, outcome, outcome_allowed}
 use Rattle.bureau.specs.View.{view_of}
-use Rattle.bureau_http.specs.Arrivals.{Event}
+use Rattle.connections.specs.Rounds.{Log}
 use Rattle.bureau_sql.specs.Files.{HoldTables, HoldsStore}
 use Rattle.sqlite_disk.specs.declared.Disk as disk
 use Rattle.sqlite_wal.specs.Recovery.{Image}
@@ -209,7 +209,7 @@ all_held (Serves log log_after outcome left ∷ files) from last Begins held are
     let r : (this : Tables) × HoldsStore last this × ((runs : List Run) × AreRunsIn (Serves log log_after outcome left ∷ files) runs × AreRuns Begins runs this) = (
       more.0,
       more.1,
-      (run ∷ more.2.0, ((refl, refl, (served.arrivals, served.logged, served.made)), more.2.1), (it.2, served.run, more.2.2)),
+      (run ∷ more.2.0, ((refl, refl, served.made), more.2.1), (it.2, served.run, more.2.2)),
     ) in r))
 all_held (Sets rows outcome left ∷ files) from last Begins held are = ∥∥₁_elim held squash₁ (λ it.
     let run : Run = record { before = it.0; calls = []; closing = it.0; outcome = outcome; callers = Some rows } in
@@ -255,13 +255,11 @@ one_more from (file ∷ files) last run are is = (are.0, one_more (left_by file)
 
 -- what a run keeps makes it one of the law, whatever a stop leaves
 module _ {D : Type 0} {g : disk.Ghosts D} (from : Image) (ended : Ended D g) (well : EndsWell from ended) (left : Image) (may : Leaves from ended left) where
-  pub serves_over : (log log_after : Option (List Event)) (outcome : Option AnyFault) → KeepsServed from log log_after outcome ended
+  pub serves_over : (log log_after : Log) (outcome : Option AnyFault) → KeepsServed from log log_after outcome ended
       → IsRunOver from (Serves log log_after outcome left)
   serves_over log log_after outcome kept before holds =
       let it = kept.served well before holds in
       record {
-        arrivals = it.arrivals;
-        logged = it.logged;
         calls = it.calls;
         closing = it.closing;
         made = it.made;
@@ -284,7 +282,7 @@ module _ {D : Type 0} {g : disk.Ghosts D} (from : Image) where
   nothing_kept (Left it) none = absurd none
   nothing_kept (Closed last) none = absurd none
 
-pub goes_on : Isolation → {D : Type 0} {g : disk.Ghosts D} (from : Image) (log log_after : Option (List Event)) (outcome : Option AnyFault) (ended : Ended D g)
+pub goes_on : Isolation → {D : Type 0} {g : disk.Ghosts D} (from : Image) (log log_after : Log) (outcome : Option AnyFault) (ended : Ended D g)
     → KeepsServed from log log_after outcome ended → GoesOn from log log_after outcome ended
 goes_on isolation from log log_after why ended kept well source image made runs are left may =
     let this : FileRun = Serves log log_after why left in

@@ -1,10 +1,11 @@
 -- What a run does: from the words of a command line to what it reads, what both streams get, and the exit status.
 use Rattle.std.specs.Prelude.{◌≡◌, ◌≢◌, ◌⊎◌, ℕ, [], List, map, Option, Result, Ok, Err, IfSome, string_bytes}
 use Rattle.std.specs.Io.KnownBytes.{Keeps}
-use Rattle.bureau_http.specs.Arrivals.{Event}
 use Rattle.clap.specs.Words.{fault_of}
 use Rattle.sqlite_disk.specs.declared.Disk as disk
 use Rattle.sqlite_wal.specs.Recovery.{Image}
+use Rattle.connections.specs.Rounds.{Log}
+use Rattle.connections.specs.declared.rounds.RoundFault.{RoundFault}
 use Rattle.command_line.specs.Line.{bureau_app, IsLineOf}
 use Rattle.command_line.specs.declared.line.Line.{Line}
 use Rattle.command_line.specs.declared.line.Line.TheVariants as line
@@ -39,28 +40,30 @@ abbrev pub IsReplay : (List ℕ → KnownFile) → List ℕ → List (List ℕ) 
 IsReplay files callers names outputs status =
     IsServed files callers names outputs status ⊎ IsEndedBy NotRead outputs status ⊎ IsEndedBy Memory outputs status
 
--- What a run may find: files by their names, what the two files of a store of a name may hold, the ports that it asks for, and
--- what came over its connections before it and by its end.
+-- What a run may find: files by their names, what the two files of a store of a name may hold, the ports that it asks for, each with
+-- how many connections may be open at once, what ended its rounds, and the rounds before it and by its end.
 pub record Found : Type 1 where
   pub files : List ℕ → KnownFile
   pub stores : List ℕ → Image → Type 0
-  pub ports : ℕ → Type 0
-  pub log : Option (List Event)
-  pub log_after : Option (List Event)
+  pub ports : ℕ → ℕ → Type 0
+  pub over : RoundFault → Type 0
+  pub log : Log
+  pub log_after : Log
 
 -- the same, by what is known of the surroundings
-abbrev pub found_in : (List ℕ → KnownFile) → (List ℕ → Image → Type 0) → (ℕ → Type 0) → Option (List Event) → Option (List Event) → Found
-found_in files stores ports log log_after = record { files = files; stores = stores; ports = ports; log = log; log_after = log_after }
+abbrev pub found_in : (List ℕ → KnownFile) → (List ℕ → Image → Type 0) → (ℕ → ℕ → Type 0) → (RoundFault → Type 0) → Log → Log → Found
+found_in files stores ports over log log_after =
+    record { files = files; stores = stores; ports = ports; over = over; log = log; log_after = log_after }
 
--- no connection came
+-- there was no round
 abbrev pub NobodyCame : Found → Type 0
 NobodyCame found = found.log_after ≡ found.log
 
 module _ (found : Found) (from : Image) {D : Type 0} {g : disk.Ghosts D} where
-  -- `serve --port P --cache N --connections K STORE`
+  -- `serve --port P --cache N --connections K --open M STORE`
   pub record IsServe (service : Service) (name : List ℕ) (outputs : Outputs) (status : ℕ) (ended : Ended D g) : Type 0 where
     pub named : found.stores name from
-    pub served : IsServeRun (file_ends (session_of service found.ports found.log found.log_after) from ended) service.port
+    pub served : IsServeRun (file_ends (session_of service found.ports found.over found.log found.log_after) from ended) service.port
         outputs.output outputs.written outputs.errors outputs.told status
     pub kept : KeepsServed from found.log found.log_after served.outcome ended
     pub goes_on : GoesOn from found.log found.log_after served.outcome ended
@@ -74,8 +77,8 @@ module _ (found : Found) (from : Image) {D : Type 0} {g : disk.Ghosts D} where
       Keeps input rest × IsReplay found.files (string_bytes callers) (map string_bytes names.items) outputs status × NobodyCame found × IsNothing ended
   IsAnswered (Ok (line.Init store callers)) input rest outputs status ended =
       Keeps input rest × NobodyCame found × IsInit found.files found.stores from (string_bytes store) (string_bytes callers) outputs status ended
-  IsAnswered (Ok (line.Serve port cache connections store)) input rest outputs status ended =
-      Keeps input rest × IsServe (record { port = port; cache = cache; connections = connections }) (string_bytes store) outputs status ended
+  IsAnswered (Ok (line.Serve port cache connections most_open store)) input rest outputs status ended =
+      Keeps input rest × IsServe (record { port = port; cache = cache; connections = connections; most_open = most_open }) (string_bytes store) outputs status ended
   IsAnswered (Ok (line.Migrate store)) input rest outputs status ended =
       Keeps input rest × NobodyCame found × IsMigrate found.stores from (string_bytes store) outputs status ended
   IsAnswered (Ok (line.ErrSysmods files)) input rest outputs status ended =

@@ -12,23 +12,23 @@ use Rattle.bureau.specs.Joint.{CallBy, IsRun}
 use Rattle.bureau.specs.Kept.{TellNothing, tables_with}
 use Rattle.bureau.specs.Outcome.{answer_of, no_room, outcome}
 use Rattle.bureau.specs.View.{view_of}
-use Rattle.bureau_http.specs.Arrivals.{AreMade, Arrival, Event, Logs, log_of}
+use Rattle.connections.specs.Rounds.{AreCallsOf, Log}
 use Rattle.bureau_sql.specs.Files.{HoldTables, HoldsStore}
 use Rattle.sqlite_disk.specs.declared.Disk as disk
 use Rattle.sqlite_wal.specs.Recovery.{Image}
 use Rattle.store_runs.specs.Callers.{LeavesSet, MayHaveSet, TellsSet}
 use Rattle.store_runs.specs.Desk.{AreRowsOf, of_store}
 use Rattle.store_runs.specs.Keeping.{EndsWell, HoldCallers, Leaves}
-use Rattle.bureau_program.specs.Served.{IsServedFrom, MayFollow}
+use Rattle.bureau_program.specs.Served.{HasFailed, IsServedFrom, MayFollow}
 use Rattle.store_runs.specs.declared.ended.Ended.{Ended}
 
 -- ---- runs over files
 
--- A run of the program, and what it left of the two files of a store. One of `serve`: what came over its connections before it and
--- by its end, and how it ended. One of `callers`: the callers of its file, and how it ended. Or any other run, also one that ended
+-- A run of the program, and what it left of the two files of a store. One of `serve`: the rounds before it and by its end, as far as
+-- they are known, and how it ended. One of `callers`: the callers of its file, and how it ended. Or any other run, also one that ended
 -- before it opened the files.
 pub data FileRun : Type 0 where
-  Serves : Option (List Event) → Option (List Event) → Option AnyFault → Image → FileRun
+  Serves : Log → Log → Option AnyFault → Image → FileRun
   Sets : List CallerRow → Option AnyFault → Image → FileRun
   Other : Image → FileRun
 
@@ -66,10 +66,10 @@ pub record Run : Type 0 where
   pub outcome : Option AnyFault
   pub callers : Option (List CallerRow)
 
--- the calls are those that came over the connections of `serve`; in any other run there are none
+-- the calls are those that the connections of `serve` made, by its log; in any other run there are none
 abbrev pub AreCallsIn : FileRun → Run → Type 0
 AreCallsIn (Serves log log_after outcome left) run = (run.outcome ≡ outcome) × (run.callers ≡ None)
-    × ((arrivals : List Arrival) × Logs log log_after (log_of arrivals) × AreMade run.before.callers arrivals run.calls)
+    × AreCallsOf run.before.callers log log_after (HasFailed outcome) run.calls
 AreCallsIn (Sets rows outcome left) run = (run.calls ≡ []) × (run.outcome ≡ outcome) × (run.callers ≡ Some rows) × AreOfAFile rows
 AreCallsIn (Other left) run = (run.calls ≡ []) × (run.callers ≡ None)
 
@@ -170,7 +170,7 @@ HoldSinceInit source files image = (rows : List CallerRow) × AreRowsOf source r
 module _ {D : Type 0} {g : disk.Ghosts D} where
   -- A run of `serve` goes on: `init` made the store, runs came after it, and this one began over what the last of them left. Then
   -- whatever a stop leaves of the files, they hold the store, with the tables to which the calls of all runs lead, and of this one.
-  abbrev pub GoesOn : Image → Option (List Event) → Option (List Event) → Option AnyFault → Ended D g → Type 0
+  abbrev pub GoesOn : Image → Log → Log → Option AnyFault → Ended D g → Type 0
   GoesOn from log log_after outcome ended = EndsWell from ended
       → (source : List ℕ) (image : Image) → HoldCallers source image → (runs : List FileRun) → AreRunsOver image runs from
       → (left : Image) → Leaves from ended left → HoldSinceInit source (runs ++ Serves log log_after outcome left ∷ []) left

@@ -1,5 +1,5 @@
 -- What `serve` does with a store, what it prints, and why it ends.
-use Rattle.std.specs.Prelude.{◌≡◌, ◌≤◌, ◌⊎◌, ◌++◌, ℕ, List, codes, decimal, false, Option, Some, None}
+use Rattle.std.specs.Prelude.{◌≡◌, ◌≤◌, ◌⊎◌, ◌++◌, ℕ, List, codes, decimal, false, replicate, Option, Some, None}
 use Rattle.std.specs.Io.KnownBytes.{Appends, Keeps}
 use Rattle.faults.specs.declared.any.AnyFault.{AnyFault}
 use Rattle.transfer.specs.Transfer.{AppendsFront}
@@ -10,8 +10,12 @@ use Rattle.bureau_store.specs.declared.fault.StoreFault.{StoreFault}
 use Rattle.bureau_store.specs.declared.fault.StoreFault.TheVariants as store
 use Rattle.bureau.specs.Answering.{bureau_view}
 use Rattle.bureau.specs.Parts.{Parts}
-use Rattle.bureau_http.specs.Arrivals.{Event}
-use Rattle.bureau_http.specs.Service.{AreServed, IsEnded, IsSound}
+use Rattle.connections.specs.Items.{Slots}
+use Rattle.connections.specs.Rounds.{AreAllServed, AreServedSoFar, EndsInFailure, Log}
+use Rattle.connections.specs.declared.rounds.Halt.{Halt}
+use Rattle.connections.specs.declared.rounds.Halt.TheVariants as halt
+use Rattle.connections.specs.declared.rounds.RoundFault.{RoundFault}
+use Rattle.connections.specs.declared.rounds.RoundFault.TheVariants as round
 use Rattle.bureau_sql.specs.Opening.{IsNoStore}
 use Rattle.bureau_sql.specs.SqlState.{SqlState}
 use Rattle.bureau_sql.specs.SqlView.{IsAtRest, sql_view}
@@ -41,19 +45,33 @@ listening_text port = codes "LISTENING 127.0.0.1:" ++ decimal port ++ codes "\n"
 abbrev pub desk_over : {Store : Type 0} → Store → CacheLists → Parts Store CacheLists
 desk_over store cache = record { store = store; judge = cache }
 
-module _ {Store : Type 0} (view : View Store Tables) (log log_after : Option (List Event)) (connections : ℕ) where
-  -- all connections were served, in order, and the device has not failed by then
-  pub record ServesAll (cache : CacheLists) (old new : Store) : Type 0 where
-    pub cache_after : CacheLists
-    pub goes : Goes (bureau_view view IsRightFor) (desk_over old cache) (desk_over new cache_after)
-    pub served : AreServed (bureau_view view IsRightFor) (desk_over old cache) (desk_over new cache_after) log log_after connections
-    pub sound : IsSound (bureau_view view IsRightFor) (desk_over new cache_after) connections
+-- that was done by a desk over a store, with a cache, to connections that stood so
+pub record DoesOver {Store : Type 0} (view : View Store Tables) (before : Slots) (Does : Parts Store CacheLists → Parts Store CacheLists → Slots → Slots → Type 0) (cache : CacheLists) (old new : Store) : Type 0 where
+  pub cache_after : CacheLists
+  pub after : Slots
+  pub goes : Goes (bureau_view view IsRightFor) (desk_over old cache) (desk_over new cache_after)
+  pub did : Does (desk_over old cache) (desk_over new cache_after) before after
 
-  -- the device failed in one of them, which was the last
-  pub record ServesUntil (cache : CacheLists) (old new : Store) : Type 0 where
-    pub cache_after : CacheLists
-    pub goes : Goes (bureau_view view IsRightFor) (desk_over old cache) (desk_over new cache_after)
-    pub ended : IsEnded (bureau_view view IsRightFor) (desk_over old cache) (desk_over new cache_after) log log_after connections
+module _ {Store : Type 0} (view : View Store Tables) (log log_after : Log) (slots : Slots) (connections : ℕ) where
+  -- all connections were served, side by side: so many came and are gone, and the device has not failed by then
+  abbrev pub ServesAll : CacheLists → Store → Store → Type 0
+  ServesAll =
+      DoesOver view slots (λ old new before after. AreAllServed (bureau_view view IsRightFor) old new log log_after before after connections)
+
+  -- there were no more rounds, by this fault; what was told before was served, and the device has not failed by then
+  abbrev pub ServesSome : (RoundFault → Type 0) → RoundFault → CacheLists → Store → Store → Type 0
+  ServesSome Over fault =
+      DoesOver view slots (λ old new before after. AreServedSoFar (bureau_view view IsRightFor) old new log log_after before after Over fault connections)
+
+  -- the device failed at one event, which was the last that was looked at
+  abbrev pub ServesUntil : CacheLists → Store → Store → Type 0
+  ServesUntil =
+      DoesOver view slots (λ old new before after. EndsInFailure (bureau_view view IsRightFor) old new log log_after before after connections)
+
+  -- why it ended before all connections were served
+  abbrev pub HaltsBy : (RoundFault → Type 0) → Halt → CacheLists → Store → Store → Type 0
+  HaltsBy Over halt.Device = ServesUntil
+  HaltsBy Over (halt.Rounds fault) = ServesSome Over fault
 
 -- a new cache, which is right for whatever is published, with room for so many frames
 pub record IsNewCache (room : ℕ) (cache : CacheLists) : Type 0 where
@@ -68,31 +86,41 @@ pub record ByDesk {Store : Type 0} (room : ℕ) (Does : CacheLists → Store →
 
 -- ---- how a run may end
 
--- A session of a desk: it has room for so many frames and serves so many connections to a port, that the port was asked for, and
--- what came over its connections and was closed before the session and by its end, as far as that is known.
+-- A session of a desk: it has room for so many frames, and serves so many connections to a port, of which so many are open at once at
+-- most; that the port was asked for so; which fault ended the rounds; and the rounds before the session and by its end, as far as they
+-- are known.
 pub record Session : Type 1 where
   pub room : ℕ
+  pub most_open : ℕ
   pub connections : ℕ
   pub Listens : Type 0
-  pub log : Option (List Event)
-  pub log_after : Option (List Event)
+  pub Over : RoundFault → Type 0
+  pub log : Log
+  pub log_after : Log
 
--- that of a service, of the ports that were asked for and the logs of its connections
-abbrev pub session_of : Service → (ℕ → Type 0) → Option (List Event) → Option (List Event) → Session
-session_of service Listens log log_after = record {
+-- its slots, before anybody came
+abbrev pub free_in : Session → Slots
+free_in session = replicate session.most_open None
+
+-- that of a service, of the ports that were asked for, of what ended the rounds, and of their logs
+abbrev pub session_of : Service → (ℕ → ℕ → Type 0) → (RoundFault → Type 0) → Log → Log → Session
+session_of service Listens Over log log_after = record {
   room = service.cache;
+  most_open = service.most_open;
   connections = service.connections;
-  Listens = Listens service.port;
+  Listens = Listens service.port service.most_open;
+  Over = Over;
   log = log;
   log_after = log_after;
 }
 
 -- What is so where a run ends: because its store is refused, by the fault; before a desk listens, or where it can't print that
--- it does; after all connections; and in the connection in which the device failed.
+-- it does; after all connections; where there are no more rounds, by the fault; and at the event at which the device failed.
 pub record Ends : Type 1 where
   pub refused : StoreFault → Type 0
   pub unserved : Type 0
   pub served : Type 0
+  pub halted : RoundFault → Type 0
   pub failed : Type 0
 
 -- of a store that is open
@@ -100,8 +128,10 @@ abbrev pub desk_ends : {S : Type 0} → Ghosts S → Session → SqlState S → 
 desk_ends g session old new = record {
   refused = λ fault. ⊥;
   unserved = (new ≡ old) × (session.log_after ≡ session.log);
-  served = session.Listens × ByDesk session.room (ServesAll (sql_view g) session.log session.log_after session.connections) old new;
-  failed = session.Listens × ByDesk session.room (ServesUntil (sql_view g) session.log session.log_after session.connections) old new;
+  served = session.Listens × ByDesk session.room (ServesAll (sql_view g) session.log session.log_after (free_in session) session.connections) old new;
+  halted = λ fault. session.Listens
+      × ByDesk session.room (ServesSome (sql_view g) session.log session.log_after (free_in session) session.connections session.Over fault) old new;
+  failed = session.Listens × ByDesk session.room (ServesUntil (sql_view g) session.log session.log_after (free_in session) session.connections) old new;
 }
 
 -- A store was opened over a connection, and that was done with it. The connection is as it left it.
@@ -119,6 +149,7 @@ store_ends g session before after = record {
       × (HasCleanDisk (state g after) → IsNoStore (state g before) (state g after) fault) × (session.log_after ≡ session.log);
   unserved = IsServedOver g (λ old new. (desk_ends g session old new).unserved) before after;
   served = IsServedOver g (λ old new. (desk_ends g session old new).served) before after;
+  halted = λ fault. IsServedOver g (λ old new. (desk_ends g session old new).halted fault) before after;
   failed = IsServedOver g (λ old new. (desk_ends g session old new).failed) before after;
 }
 
@@ -129,6 +160,7 @@ file_ends session from ended = record {
       ⊎ IsUsed from (λ found left. (store_ends over_files session found left).refused fault) ended;
   unserved = IsUsed from (λ found left. (store_ends over_files session found left).unserved) ended;
   served = IsUsed from (λ found left. (store_ends over_files session found left).served) ended;
+  halted = λ fault. IsUsed from (λ found left. (store_ends over_files session found left).halted fault) ended;
   failed = IsUsed from (λ found left. (store_ends over_files session found left).failed) ended;
 }
 
@@ -143,12 +175,23 @@ abbrev pub IsUnheard : AnyFault → ℕ → Option (List ℕ) → Option (List �
 IsUnheard fault port old new =
     ((fault ≡ of_program NotWritten) × AppendsFront old new (listening_text port)) ⊎ (IsNotListening fault × Keeps old new)
 
--- What standard output gets, and how the run ended: the line once the desk listens, behind which only a device that failed ends
--- the run with a fault; a front part of the line where that can't be written; or nothing, where no desk listens.
+-- what is told of a desk that listened, and serves no more
+abbrev pub fault_of_round : RoundFault → AnyFault
+fault_of_round round.System = of_program NotListening
+fault_of_round round.Memory = of_program Memory
+
+abbrev pub fault_of_halt : Halt → AnyFault
+fault_of_halt halt.Device = of_store store.Device
+fault_of_halt (halt.Rounds fault) = fault_of_round fault
+
+-- What standard output gets, and how the run ended: the line once the desk listens, behind which a run ends with a fault only where
+-- the device failed or there were no more rounds; a front part of the line where that can't be written; or nothing, where no desk
+-- listens.
 abbrev pub IsServeOutput : Ends → Option AnyFault → ℕ → Option (List ℕ) → Option (List ℕ) → Type 0
 IsServeOutput ends None port old new = ends.served × Appends old new (listening_text port)
 IsServeOutput ends (Some fault) port old new =
     ((fault ≡ of_store store.Device) × ends.failed × Appends old new (listening_text port))
+    ⊎ (((why : RoundFault) × (fault ≡ fault_of_round why) × ends.halted why) × Appends old new (listening_text port))
     ⊎ (ends.unserved × IsUnheard fault port old new)
     ⊎ (((refused : StoreFault) × (fault ≡ of_store refused) × ends.refused refused) × Keeps old new)
 

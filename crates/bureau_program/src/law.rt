@@ -4,7 +4,7 @@ ghost use Rattle.faults.specs.declared.any.AnyFault.{AnyFault};
 ghost use Rattle.bureau_sql.specs.Files.{HoldTables};
 ghost use Rattle.bureau_store.specs.Tables.{Tables};
 ghost use Rattle.bureau_store.specs.declared.caller.CallerRow.{CallerRow};
-ghost use Rattle.bureau_http.specs.Arrivals.{Event};
+ghost use Rattle.connections.specs.Rounds.{Log};
 ghost use Rattle.sqlite_wal.specs.Recovery.{Image};
 ghost use Rattle.store_runs.specs.Callers.{KeepsCallers};
 ghost use Rattle.store_runs.specs.Desk.{AreRowsOf};
@@ -38,7 +38,7 @@ pub fn any_number_of_runs()
 /// `serve`; `KeepsCallers` of a `callers` that was given callers; `KeepsTables` of any other that opened the files of the
 /// store). `ended` stands for what is left of the files. One that opened none keeps the tables too.
 pub fn what_a_run_keeps<D: Start>(ended: &Ended<FileFrom<D>>)
-    ensures serves { (from : Image) (log log_after : Option (List Event)) (outcome : Option AnyFault)
+    ensures serves { (from : Image) (log log_after : Log) (outcome : Option AnyFault)
         → KeepsServed from log log_after outcome ended.now → EndsWell from ended.now
         → (left : Image) → Leaves from ended.now left
         → IsRunOver from (Serves log log_after outcome left) }

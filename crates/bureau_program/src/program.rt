@@ -34,7 +34,8 @@ pub fn run<S: Surroundings, D: Start, I: Read, O: Write, E: Write>(
 ) -> (u8, Ended<FileFrom<D>>)
     ensures { IsRun (S.known_words surroundings.old)
         (found_in (S.known_file surroundings.old) (S.known_store surroundings.old)
-        (S.known_port surroundings.old) (S.log surroundings.old) (S.log surroundings.new))
+        (S.known_port surroundings.old) (S.is_over surroundings.new)
+        (S.log surroundings.old) (S.log surroundings.new))
         (image_at D.Start)
         (I.remaining input.old) (I.remaining input.new)
         (outputs_of O.contents E.contents output.old output.new errors.old errors.new)
@@ -59,7 +60,8 @@ fn answer<S: Surroundings, D: Start, I: Read, O: Write, E: Write>(
 ) -> (u8, Ended<FileFrom<D>>)
     ensures { IsAnswered
         (found_in (S.known_file surroundings.old) (S.known_store surroundings.old)
-        (S.known_port surroundings.old) (S.log surroundings.old) (S.log surroundings.new))
+        (S.known_port surroundings.old) (S.is_over surroundings.new)
+        (S.log surroundings.old) (S.log surroundings.new))
         (image_at D.Start) line
         (I.remaining input.old) (I.remaining input.new)
         (outputs_of O.contents E.contents output.old output.new errors.old errors.new)
@@ -90,6 +92,7 @@ fn answer<S: Surroundings, D: Start, I: Read, O: Write, E: Write>(
                 port,
                 cache,
                 connections,
+                most_open,
                 store,
             },
         ) => {
@@ -97,6 +100,7 @@ fn answer<S: Surroundings, D: Start, I: Read, O: Write, E: Write>(
                 port,
                 cache,
                 connections,
+                most_open,
             };
             let store = store.as_str();
             run_serve(surroundings, alloc, service, store, start, output, errors)

@@ -1,40 +1,60 @@
 //! `serve`: a desk whose store is kept in a file.
-ghost use Rattle.std.specs.Prelude.{◌≡◌, IfErr, IfOk, OnErr, OnOk, false};
+ghost use Rattle.std.specs.Prelude.{◌≡◌, IfErr, IfOk, OnOk, None, false, replicate};
 ghost use Rattle.std.specs.Io.KnownBytes.{Appends};
 ghost use Rattle.run_parts.specs.Outputs.{fault_in, outputs_of};
 ghost use Rattle.bureau_program.specs.Program.{IsServe, found_in};
-ghost use Rattle.bureau_program.specs.Serving.{IsNewCache, IsNotListening, IsServeOutput, IsServeRun, IsUnheard, ServesAll, ServesUntil, desk_ends, listening_text, session_of, store_ends};
+ghost use Rattle.connections.specs.Memory.{IsWithin};
+ghost use Rattle.bureau_program.specs.Serving.{IsNewCache, IsNotListening, IsServeOutput, IsServeRun, IsUnheard, HaltsBy, ServesAll, desk_ends, fault_of_halt, listening_text, session_of, store_ends};
 ghost use Rattle.sqlite_wal.specs.Files.{image_at};
 
 use crate::cache::cache_of;
 use crate::surroundings::Surroundings;
 use bureau::Bureau;
-use bureau_http::{Listening, serve_while_open};
 use bureau_sql::SqlStore;
 use bureau_store::{Store, StoreFault};
 use chain_cache::ChainCache;
+use connections::{Connections, Halt, RoundFault, Rounds, serve_rounds};
 use faults::AnyFault;
+use requests::Routes;
 use run_parts::{ProgramFault, numbered_line, printed, told};
 use sqlite::{Alter, Connection, FileFrom, Start};
 use std::alloc::Global;
-use std::io::Write;
+use std::io::{ErrorKind, Write};
 use store_runs::{Ended, end, of_store, run_open};
 
-/// How a desk is served: the port of 127.0.0.1 where it listens, how many frames it keeps, and how many connections it
-/// takes.
+// How many bytes all connections together may hold, beyond a head of each: four bodies of the largest size.
+const HELD_MOST: usize = 1 << 28;
+
+/// How a desk is served.
 #[derive(Clone, Copy, Debug)]
 pub struct Service {
+    /// The port of 127.0.0.1 where it listens.
     pub port: u16,
+    /// How many frames it keeps.
     pub cache: u32,
+    /// How many connections it takes.
     pub connections: u32,
+    /// How many of them are open at once at most.
+    pub most_open: u32,
 }
 
-/// Serves the desk whose store a file has, to so many connections to a port of 127.0.0.1. Prints where it listens, once
-/// it does. Returns the exit status, and what is left of the files.
+/// What a desk has beside its store, before anybody comes.
+#[derive(Drop)]
+pub struct Prepared {
+    /// The cache that all callers share.
+    pub cache: ChainCache,
+    /// A slot for each connection that may be open at once.
+    pub connections: Connections,
+    /// The paths that there are.
+    pub routes: Routes,
+}
+
+/// Serves the desk whose store a file has, side by side to so many connections to a port of 127.0.0.1. Prints where it
+/// listens, once it does. Returns the exit status, and what is left of the files.
 ///
-/// A fault is told on `errors` alone. Behind the line only a device that failed is told: then no further connection is
-/// served. Whatever a stop leaves of the files from then on, the next opening finds the store in it, with the tables after
-/// the calls of the connections that came.
+/// A fault is told on `errors` alone. Behind the line there are three: a device that failed, after which nothing more is
+/// served; a system that tells no more of connections; and want of memory for the desk itself. Whatever a stop leaves of the files
+/// from then on, the next opening finds the store in it, with the tables after the calls of the connections that came.
 pub fn run_serve<S: Surroundings, D: Start, W: Write, E: Write>(
     surroundings: &mut S,
     alloc: Global,
@@ -46,7 +66,8 @@ pub fn run_serve<S: Surroundings, D: Start, W: Write, E: Write>(
 ) -> (u8, Ended<FileFrom<D>>)
     ensures { IsServe
         (found_in (S.known_file surroundings.old) (S.known_store surroundings.old)
-        (S.known_port surroundings.old) (S.log surroundings.old) (S.log surroundings.new))
+        (S.known_port surroundings.old) (S.is_over surroundings.new)
+        (S.log surroundings.old) (S.log surroundings.new))
         (image_at D.Start) service store.now
         (outputs_of W.contents E.contents writer.old writer.new errors.old errors.new)
         result.0 result.1 }
@@ -71,7 +92,7 @@ pub fn open_and_serve<S: Surroundings, D: Alter + Drop, W: Write, E: Write>(
 ) -> (u8, Connection<D>)
     requires rest { conn.in_transaction ≡ false }
     ensures { IsServeRun (store_ends D.Store
-        (session_of service (S.known_port surroundings.old)
+        (session_of service (S.known_port surroundings.old) (S.is_over surroundings.new)
         (S.log surroundings.old) (S.log surroundings.new)) conn result.1)
         service.port (W.contents writer.old) (W.contents writer.new)
         (E.contents errors.old) (E.contents errors.new) result.0 }
@@ -94,39 +115,126 @@ fn serve_store<S: Surroundings, D: Alter + Drop, W: Write>(
     writer: &mut W,
 ) -> (Result<(), AnyFault>, SqlStore<D>)
     ensures { IsServeOutput (desk_ends D.Store
-        (session_of service (S.known_port surroundings.old)
+        (session_of service (S.known_port surroundings.old) (S.is_over surroundings.new)
         (S.log surroundings.old) (S.log surroundings.new)) store result.1)
         (fault_in result.0) service.port (W.contents writer.old) (W.contents writer.new) }
 {
     match announce(surroundings, alloc, service, writer) {
-        Ok(cache) => match serve_arrivals(alloc, store, cache, surroundings, service.connections) {
+        Ok(prepared) => match serve_in_rounds(
+            alloc,
+            store,
+            prepared,
+            surroundings,
+            service.connections,
+        ) {
             (Ok(()), store) => (Ok(()), store),
-            (Err(fault), store) => (Err(of_store(fault)), store),
+            (Err(halt), store) => (Err(fault_of(halt)), store),
         },
         Err(fault) => (Err(fault), store),
     }
 }
 
-// Makes the cache, listens, and prints where.
+// What is told of a desk that listened, and serves no more.
+fn fault_of(halt: Halt) -> AnyFault
+    ensures { result ≡ fault_of_halt halt }
+{
+    match halt {
+        Halt::Device => of_store(StoreFault::Device),
+        Halt::Rounds(RoundFault::System) => AnyFault::from(ProgramFault::NotListening),
+        Halt::Rounds(RoundFault::Memory) => AnyFault::from(ProgramFault::Memory),
+    }
+}
+
+// Makes what a desk has before anybody comes, listens, and prints where.
 fn announce<S: Surroundings, W: Write>(
     surroundings: &mut S,
     alloc: Global,
     service: Service,
     writer: &mut W,
-) -> Result<ChainCache, AnyFault>
-    ensures cache { IfOk result (IsNewCache service.cache) }
+) -> Result<Prepared, AnyFault>
+    ensures cache { IfOk result (λ prepared. IsNewCache service.cache prepared.cache) }
+    ensures free { IfOk result (λ prepared.
+        prepared.connections.slots.items ≡ replicate service.most_open None) }
+    ensures limit { IfOk result (λ prepared. prepared.connections.shares.limit ≡ 268435456) }
+    ensures within { IfOk result (λ prepared. IsWithin prepared.connections) }
     ensures line { OnOk result (Appends (W.contents writer.old) (W.contents writer.new)
         (listening_text service.port)) }
-    ensures port { OnOk result (S.known_port surroundings.old service.port) }
+    ensures port { OnOk result (S.known_port surroundings.old service.port service.most_open) }
     ensures none { S.log surroundings.new ≡ S.log surroundings.old }
     ensures fault { IfErr result (λ fault. IsUnheard fault service.port
         (W.contents writer.old) (W.contents writer.new)) }
 {
-    let cache = new_cache(surroundings, alloc, service.cache)?;
+    let prepared = prepare(surroundings, alloc, service)?;
+    match listen_and_tell(surroundings, alloc, service, writer) {
+        Ok(()) => Ok(prepared),
+        Err(fault) => Err(fault),
+    }
+}
+
+// Listens, and prints where.
+fn listen_and_tell<S: Surroundings, W: Write>(
+    surroundings: &mut S,
+    alloc: Global,
+    service: Service,
+    writer: &mut W,
+) -> Result<(), AnyFault>
+    ensures line { OnOk result (Appends (W.contents writer.old) (W.contents writer.new)
+        (listening_text service.port)) }
+    ensures port { OnOk result (S.known_port surroundings.old service.port service.most_open) }
+    ensures none { S.log surroundings.new ≡ S.log surroundings.old }
+    ensures fault { IfErr result (λ fault. IsUnheard fault service.port
+        (W.contents writer.old) (W.contents writer.new)) }
+{
     let line = listening_line(alloc, service.port)?;
-    listen(surroundings, service.port)?;
+    listen(surroundings, alloc, service)?;
     printed(writer, line.as_slice())?;
-    Ok(cache)
+    Ok(())
+}
+
+// What a desk has before anybody comes.
+fn prepare<S: Surroundings>(
+    surroundings: &S,
+    alloc: Global,
+    service: Service,
+) -> Result<Prepared, AnyFault>
+    ensures cache { IfOk result (λ prepared. IsNewCache service.cache prepared.cache) }
+    ensures free { IfOk result (λ prepared.
+        prepared.connections.slots.items ≡ replicate service.most_open None) }
+    ensures limit { IfOk result (λ prepared. prepared.connections.shares.limit ≡ 268435456) }
+    ensures within { IfOk result (λ prepared. IsWithin prepared.connections) }
+    ensures fault { IfErr result IsNotListening }
+{
+    let cache = new_cache(surroundings, alloc, service.cache)?;
+    let connections = free_slots(alloc, service.most_open)?;
+    let routes = routes(alloc)?;
+    Ok(Prepared {
+        cache,
+        connections,
+        routes,
+    })
+}
+
+// So many free slots.
+fn free_slots(alloc: Global, most_open: u32) -> Result<Connections, AnyFault>
+    ensures free { IfOk result (λ connections. connections.slots.items ≡ replicate most_open None) }
+    ensures limit { IfOk result (λ connections. connections.shares.limit ≡ 268435456) }
+    ensures within { IfOk result IsWithin }
+    ensures fault { IfErr result IsNotListening }
+{
+    match Connections::new(alloc, most_open as usize, HELD_MOST) {
+        Ok(connections) => Ok(connections),
+        Err(_) => Err(AnyFault::from(ProgramFault::Memory)),
+    }
+}
+
+// The paths that there are.
+fn routes(alloc: Global) -> Result<Routes, AnyFault>
+    ensures fault { IfErr result IsNotListening }
+{
+    match Routes::new(alloc) {
+        Ok(routes) => Ok(routes),
+        Err(_) => Err(AnyFault::from(ProgramFault::Memory)),
+    }
 }
 
 // An empty cache with room for so many frames, which are looked up by keys that nobody knows.
@@ -152,38 +260,50 @@ fn listening_line(alloc: Global, port: u16) -> Result<Vec<u8>, AnyFault>
     Ok(numbered_line(alloc, b"LISTENING 127.0.0.1:", u64::from(port))?)
 }
 
-fn listen<S: Surroundings>(surroundings: &mut S, port: u16) -> Result<(), AnyFault>
-    ensures port { S.known_port surroundings.old port }
+fn listen<S: Surroundings>(
+    surroundings: &mut S,
+    alloc: Global,
+    service: Service,
+) -> Result<(), AnyFault>
+    ensures port { S.known_port surroundings.old service.port service.most_open }
     ensures none { S.log surroundings.new ≡ S.log surroundings.old }
     ensures fault { IfErr result IsNotListening }
 {
-    match surroundings.listen(port) {
+    match surroundings.listen(alloc, service.port, service.most_open) {
         Ok(()) => Ok(()),
+        Err(error) if error.kind() == ErrorKind::OutOfMemory => {
+            Err(AnyFault::from(ProgramFault::Memory))
+        }
         Err(_) => Err(AnyFault::from(ProgramFault::NotListening)),
     }
 }
 
-/// Serves so many connections to a desk over a store, one after the other, with a cache that all callers share. Gives
-/// the store back.
+/// Serves so many connections to a desk over a store, side by side, with a cache that all callers share. Gives the store
+/// back.
 ///
 /// # Errors
 ///
-/// `Device` once the store's device has failed. Then no further connection is waited for.
-pub fn serve_arrivals<S: Store, L: Listening>(
+/// [`Halt::Device`] once the store's device has failed: then nothing more is looked at. [`Halt::Rounds`] where there are no more
+/// rounds.
+pub fn serve_in_rounds<S: Store, R: Rounds>(
     alloc: Global,
     store: S,
-    cache: ChainCache,
-    listening: &mut L,
-    connections: u32,
-) -> (Result<(), StoreFault>, S)
-    ensures served { OnOk result.0 (ServesAll S.tables_view
-        (L.log listening.old) (L.log listening.new) connections cache store result.1) }
-    ensures ended { OnErr result.0 (ServesUntil S.tables_view
-        (L.log listening.old) (L.log listening.new) connections cache store result.1) }
-    ensures fault { IfErr result.0 (λ fault. fault ≡ StoreFault.Device) }
+    prepared: Prepared,
+    rounds: &mut R,
+    count: u32,
+) -> (Result<(), Halt>, S)
+    ensures served { OnOk result.0 (ServesAll S.tables_view (R.log rounds.old) (R.log rounds.new)
+        prepared.connections.slots.items count prepared.cache store result.1) }
+    ensures halted { IfErr result.0 (λ halt. HaltsBy S.tables_view (R.log rounds.old) (R.log rounds.new)
+        prepared.connections.slots.items count (R.is_over rounds.new) halt prepared.cache store result.1) }
 {
+    let Prepared {
+        cache,
+        mut connections,
+        routes,
+    } = prepared;
     let mut bureau = Bureau::new(alloc, store, cache);
-    let served = serve_while_open(alloc, &mut bureau, listening, connections);
+    let served = serve_rounds(alloc, &mut bureau, &routes, &mut connections, rounds, count);
     let (store, _) = bureau.into_parts();
     (served, store)
 }

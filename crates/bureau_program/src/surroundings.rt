@@ -3,8 +3,8 @@
 ghost use Rattle.std.specs.Prelude.{◌≡◌, ℕ, List, Option, None, map, string_bytes, IfOk, IfErr, IfSome};
 ghost use Rattle.faults.specs.Refusal.{IsRefusal};
 
-use bureau_http::Listening;
 use command_line::LineFault;
+use connections::Rounds;
 use std::alloc::Global;
 use std::hash::RandomState;
 use std::io;
@@ -12,15 +12,15 @@ use store_runs::Stores;
 
 /// The words of a command line, the files that they may name, and the connections that come to a port.
 ///
-/// Those of a system tell nothing of what they have. Others, as lists of words, of files and of connections, can tell all
-/// of it. So what is proved of every `Surroundings` says which words and which files a run reads, and which connections
+/// Those of a system tell nothing of what they have. Others, as lists of words, of files and of events of connections, can tell
+/// all of it. So what is proved of every `Surroundings` says which words and which files a run reads, and which connections
 /// it serves. No connection comes before a port is listened on.
-pub trait Surroundings: Stores + Listening {
+pub trait Surroundings: Stores + Rounds {
     /// The words after the program's name, where they are known.
     ghost known_words: { Self → Option (List (List ℕ)) };
 
-    /// That this port was asked for. A body gives it from `listen` alone.
-    ghost known_port: { Self → ℕ → Type 0 };
+    /// That this port was asked for, for so many connections at once. A body gives it from `listen` alone.
+    ghost known_port: { Self → ℕ → ℕ → Type 0 };
 
     /// The words after the program's name.
     ///
@@ -32,13 +32,14 @@ pub trait Surroundings: Stores + Listening {
             (λ known. map string_bytes words.items ≡ known)) }
         ensures fault { IfErr result (IsRefusal LineFault.Memory (λ _. known_words self.now ≡ None)) };
 
-    /// Listens on a port of 127.0.0.1. From then on the connections are those that come to it.
+    /// Listens on a port of 127.0.0.1. From then on the connections are those that come to it, so many of them at once at
+    /// most.
     ///
     /// # Errors
     ///
-    /// The port is in use, or may not be listened on.
-    fn listen(&mut self, port: u16) -> io::Result<()>
-        ensures named { known_port self.old port }
+    /// The port is in use, or may not be listened on; or memory ran out.
+    fn listen(&mut self, alloc: Global, port: u16, most_open: u32) -> io::Result<()>
+        ensures named { known_port self.old port most_open }
         ensures none { Self.log self.new ≡ Self.log self.old };
 
     /// Random keys for a hasher, which no client can know.

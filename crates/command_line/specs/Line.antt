@@ -47,14 +47,18 @@ port_rule = number_rule (codes "port") 1 65535 (codes "8080")
 abbrev pub connections_rule : Rule
 connections_rule = number_rule (codes "connections") 1 1000000 (codes "1000000")
 
+-- `--open M`: how many connections are open at once at most
+abbrev pub open_rule : Rule
+open_rule = number_rule (codes "open") 1 8192 (codes "1024")
+
 -- `init STORE CALLERS`
 abbrev pub init_app : App
 init_app = with_rule (with_rule (new_app (codes "init")) (required_rule (codes "store"))) (required_rule (codes "callers"))
 
--- `serve --port P --cache N --connections K STORE`
+-- `serve --port P --cache N --connections K --open M STORE`
 abbrev pub serve_app : App
 serve_app =
-    with_rule (with_rule (with_rule (with_rule (new_app (codes "serve")) port_rule) cache_rule) connections_rule)
+    with_rule (with_rule (with_rule (with_rule (with_rule (new_app (codes "serve")) port_rule) cache_rule) connections_rule) open_rule)
     (required_rule (codes "store"))
 
 -- `replay --cache N CALLERS FILE..`
@@ -131,7 +135,7 @@ abbrev pub IsNumberIn : ℕ → ℕ → Option Text → ℕ → Type 0
 IsNumberIn least most None number = ⊥
 IsNumberIn least most (Some text) number = ParsesUnsigned {E = ⊥} 32 10 text (Ok number) × (least ≤ number) × (number ≤ most)
 
--- a cache may have this capacity, the port this number, and so many connections may be served
+-- a cache may have this capacity, the port this number, so many connections may be served, and so many may be open at once
 abbrev pub IsCapacity : Option Text → ℕ → Type 0
 IsCapacity = IsNumberIn 1 65536
 
@@ -141,11 +145,14 @@ IsPort = IsNumberIn 1 65535
 abbrev pub IsManyConnections : Option Text → ℕ → Type 0
 IsManyConnections = IsNumberIn 1 1000000
 
+abbrev pub IsManyOpen : Option Text → ℕ → Type 0
+IsManyOpen = IsNumberIn 1 8192
+
 -- the command that a line has
 abbrev pub command_of : Line → Text
 command_of (Holds file) = codes "holds"
 command_of (Init store callers) = codes "init"
-command_of (Serve port cache connections store) = codes "serve"
+command_of (Serve port cache connections most_open store) = codes "serve"
 command_of (Replay cache callers files) = codes "replay"
 command_of (Migrate store) = codes "migrate"
 command_of (ErrSysmods files) = codes "errsysmods"
@@ -168,10 +175,11 @@ abbrev pub HasValues : List Row → Line → Type 0
 HasValues rows (Holds file) = first_of (codes "file") rows ≡ Some (string_bytes file)
 HasValues rows (Init store callers) =
     (first_of (codes "store") rows ≡ Some (string_bytes store)) × (first_of (codes "callers") rows ≡ Some (string_bytes callers))
-HasValues rows (Serve port cache connections store) =
+HasValues rows (Serve port cache connections most_open store) =
     IsPort (one_of (codes "port") rows) port
     × IsCapacity (one_of (codes "cache") rows) cache
     × IsManyConnections (one_of (codes "connections") rows) connections
+    × IsManyOpen (one_of (codes "open") rows) most_open
     × (first_of (codes "store") rows ≡ Some (string_bytes store))
 HasValues rows (Replay cache callers files) =
     IsCapacity (one_of (codes "cache") rows) cache
@@ -210,8 +218,8 @@ options_said files =
 abbrev pub said : Line → Text × List ℕ × List Text × List (Option Text)
 said (Holds file) = (codes "holds", [], string_bytes file ∷ [], [])
 said (Init store callers) = (codes "init", [], string_bytes store ∷ string_bytes callers ∷ [], [])
-said (Serve port cache connections store) =
-    (codes "serve", port ∷ cache ∷ connections ∷ [], string_bytes store ∷ [], [])
+said (Serve port cache connections most_open store) =
+    (codes "serve", port ∷ cache ∷ connections ∷ most_open ∷ [], string_bytes store ∷ [], [])
 said (Replay cache callers files) = (codes "replay", cache ∷ [], string_bytes callers ∷ map string_bytes files.items, [])
 said (Migrate store) = (codes "migrate", [], string_bytes store ∷ [], [])
 said (ErrSysmods files) = (codes "errsysmods", [], texts_said files, options_said files)

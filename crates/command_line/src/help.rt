@@ -41,5 +41,5 @@ missingfix and chain tell the file after it.
 48 no caller is named PUBLISH
 71 a file cannot be read
 72 the output cannot be written
-73 the port cannot be listened on
+73 the port cannot be listened on, or no longer
 6, 17, 24, 25, 38, 41, 49, 54, 74 memory ran out";

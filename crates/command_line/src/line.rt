@@ -25,12 +25,14 @@ pub enum Line {
         store: String,
         callers: String,
     },
-    /// `serve --port P --cache N --connections K STORE`: K connections to a port of 127.0.0.1, 1 to 65,535, are served
-    /// over the store in a file. N frames at most are kept, 1 to 65,536, and K is 1 to 1,000,000.
+    /// `serve --port P --cache N --connections K --open M STORE`: K connections to a port of 127.0.0.1, 1 to 65,535, are
+    /// served side by side over the store in a file. N frames at most are kept, 1 to 65,536, K is 1 to 1,000,000, and M of
+    /// them at most are open at once, 1 to 8,192.
     Serve {
         port: u16,
         cache: u32,
         connections: u32,
+        most_open: u32,
         store: String,
     },
     /// `replay --cache N CALLERS FILE..`: what is written to connections whose bytes stand in files, over a store in
@@ -171,6 +173,9 @@ fn serve_with(alloc: Global, matches: &ArgMatches) -> Result<Option<Line>, NoMem
     let Some(connections) = number_with(matches, "connections", 1, 1_000_000) else {
         return Ok(None);
     };
+    let Some(most_open) = number_with(matches, "open", 1, 8192) else {
+        return Ok(None);
+    };
     let Some(store) = matches.get_str("store") else {
         return Ok(None);
     };
@@ -179,6 +184,7 @@ fn serve_with(alloc: Global, matches: &ArgMatches) -> Result<Option<Line>, NoMem
         port,
         cache,
         connections,
+        most_open,
         store,
     }))
 }

@@ -4,4 +4,6 @@ mod OwnFacts
 mod MemoryFacts
 mod SettledFacts
 pub mod SideFacts
+pub mod RoundFacts
+pub mod CallFacts
 mod IntakeFacts

@@ -7,7 +7,7 @@ use Rattle.bureau_store.specs.declared.caller.CallerRow.{CallerRow}
 use Rattle.bureau_http.specs.Asked.{Asked}
 use Rattle.bureau_http.specs.Connection.{IsConnection, IsLast, IsRequest, ReadsTo, clean, inside, closed, cut}
 use Rattle.bureau_http.specs.Exchange.{Exchange, IsAnswered, exchange_text, replies_text}
-use Rattle.connections.specs.Items.{Answers, Asks, Event, Grows, Happens, IsDone, IsEnded, IsReady, Item, Leaves, Loses, Moves, Slots, Puts, Sends, Step, Steps, came, bytes, wrote, ended, failed, late, fresh, happens, went, stray, missed, answered, lost, starved, finished}
+use Rattle.connections.specs.Items.{Answers, Asks, Event, Grows, Happens, IsDone, IsEnded, IsStarved, Item, Leaves, Loses, Moves, Slots, Puts, Sends, Step, Steps, came, bytes, wrote, ended, failed, late, fresh, happens, went, stray, missed, answered, lost, starved, finished}
 use Rattle.connections.specs.Own.{EachIsServed, IsServedAlone, Stays, StaysBy, asked_in, ended_well, exchanges_at, got, got_in, is_finish, sent, sent_in}
 use Rattle.connections.specs.declared.connection.Connection.{Connection}
 use Rattle.connections.specs.declared.connection.Phase.TheVariants.{Open, Ended, Last}
@@ -379,7 +379,7 @@ off_item rows slot (lost other exchange) items t v at stays h off =
     let not = none_left t v other slot (Loses rows exchange) h at in
     nothing_more slot (lost other exchange) items refl (rw not.0 refl) refl refl (off not.1)
 off_item rows slot (starved other) items t v at stays h off =
-    nothing_more slot (starved other) items refl refl refl refl (off (none_left t v other slot IsReady h at).1)
+    nothing_more slot (starved other) items refl refl refl refl (off (none_left t v other slot IsStarved h at).1)
 off_item rows slot (finished other) items t v at stays h off =
     let not = none_left t v other slot IsDone h at in
     nothing_more slot (finished other) items refl refl refl not.0 (off not.1)
@@ -483,7 +483,7 @@ module _ (later : Later) (rows : List CallerRow) (slot : ℕ) (items : List Item
   item_on (missed other more) stays h = cut_on (missed other more) other (λ before. before.phase ≡ Open) h refl refl refl refl
   item_on (answered other exchange) stays h = answered_on other exchange h
   item_on (lost other exchange) stays h = lost_on other exchange h
-  item_on (starved other) stays h = cut_on (starved other) other IsReady h refl refl refl refl
+  item_on (starved other) stays h = cut_on (starved other) other IsStarved h refl refl refl refl
   item_on (finished other) stays h = finished_on other h
 
 there_on : Later → (rows : List CallerRow) (slot : ℕ) (items : List Item) (t u : Slots) (now : Connection) (text : List ℕ) (exchanges : List Exchange) (written : List ℕ)

@@ -65,7 +65,7 @@ left_settled t u slot Why left settled =
 abbrev nobody : Option Connection
 nobody = None
 
-all_none : (n slot : ℕ) (connection : Connection) → slice_get (replicate n nobody) slot ≡ Some (Some connection) → ⊥
+pub all_none : (n slot : ℕ) (connection : Connection) → slice_get (replicate n nobody) slot ≡ Some (Some connection) → ⊥
 all_none zero slot connection e = absurd (cc)
 all_none (suc n) zero connection e = absurd (cc)
 all_none (suc n) (suc slot) connection e = all_none n slot connection e

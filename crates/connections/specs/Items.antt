@@ -1,5 +1,5 @@
 -- What happens to connections that stand beside one desk, each in its slot: one item after the other.
-use Rattle.std.specs.Prelude.{◌≡◌, ◌≢◌, ◌⊎◌, ℕ, ◌+◌, ◌≤◌, List, [], ◌∷◌, ◌++◌, length, Option, Some, None, slice_get, slice_set}
+use Rattle.std.specs.Prelude.{◌≡◌, ◌≢◌, ◌⊎◌, ℕ, ◌+◌, ◌≤◌, List, [], ◌∷◌, ◌++◌, length, sum_by, Option, Some, None, slice_get, slice_set}
 use Rattle.std.specs.List.{flat_map}
 use Rattle.requests.specs.NextRequest.{IsUnfinished}
 use Rattle.bureau_store.specs.declared.caller.CallerRow.{CallerRow}
@@ -47,6 +47,22 @@ slot_of (wrote slot count) = slot
 slot_of (ended slot) = slot
 slot_of (failed slot) = slot
 slot_of (late slot) = slot
+
+-- how many connections an event tells to have come, and all of these
+abbrev pub comers_in : Event → ℕ
+comers_in (came slot) = 1
+comers_in (bytes slot text) = 0
+comers_in (wrote slot count) = 0
+comers_in (ended slot) = 0
+comers_in (failed slot) = 0
+comers_in (late slot) = 0
+
+abbrev pub comers : List Event → ℕ
+comers events = sum_by comers_in events
+
+-- no connection stands in any slot
+abbrev pub AreFree : Slots → Type 0
+AreFree slots = (slot : ℕ) (connection : Connection) → slice_get slots slot ≢ Some (Some connection)
 
 -- ---- what an item does to the connection in a slot
 
@@ -105,6 +121,10 @@ Loses rows exchange old = IsReady old × IsAnswered exchange × Asks rows old ex
 abbrev pub IsDone : Connection → Type 0
 IsDone old = (old.out ≡ []) × ((old.phase ≡ Last) ⊎ ((old.phase ≡ Ended) × IsUnfinished old.held))
 
+-- There was no memory to look at what came. All that had come whole was answered.
+abbrev pub IsStarved : Connection → Type 0
+IsStarved old = IsReady old × IsUnfinished old.held
+
 -- ---- items
 
 -- An event does what it says, and where bytes were written, these are known; or it is told of a slot where it can't be, and
@@ -149,7 +169,7 @@ Step rows old (stray event) new = IsStray old event × (new ≡ old)
 Step rows old (missed slot text) new = Leaves old slot new (λ before. before.phase ≡ Open)
 Step rows old (answered slot exchange) new = Moves old slot new (Answers rows exchange)
 Step rows old (lost slot exchange) new = Leaves old slot new (Loses rows exchange)
-Step rows old (starved slot) new = Leaves old slot new IsReady
+Step rows old (starved slot) new = Leaves old slot new IsStarved
 Step rows old (finished slot) new = Leaves old slot new IsDone
 
 -- one item after the other
@@ -158,6 +178,17 @@ Steps rows old [] new = new ≡ old
 Steps rows old (item ∷ items) new = (mid : Slots) × Step rows old item mid × Steps rows mid items new
 
 -- ---- what items have
+
+-- the slot of which an item is
+abbrev pub slot_in : Item → ℕ
+slot_in (happens event) = slot_of event
+slot_in (went slot text) = slot
+slot_in (stray event) = slot_of event
+slot_in (missed slot text) = slot
+slot_in (answered slot exchange) = slot
+slot_in (lost slot exchange) = slot
+slot_in (starved slot) = slot
+slot_in (finished slot) = slot
 
 -- the requests that were answered, each with its answer
 abbrev pub exchange_in : Item → List Exchange

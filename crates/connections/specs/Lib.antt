@@ -4,5 +4,6 @@ pub mod Own
 pub mod Turns
 pub mod SideBySide
 pub mod Service
+pub mod Rounds
 pub mod Shares
 pub mod Memory

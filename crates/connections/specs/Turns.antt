@@ -5,7 +5,7 @@ use Rattle.bureau_store.specs.Tables.{Tables}
 use Rattle.bureau.specs.Joint.{CallBy}
 use Rattle.bureau_http.specs.Exchange.{Exchange}
 use Rattle.bureau_http.specs.Served.{HasExchanged}
-use Rattle.connections.specs.Items.{Answers, Event, Happens, IsDone, IsReady, IsStray, Leaves, Loses, Moves, Sends, Slots, came, bytes, wrote, ended, failed, late}
+use Rattle.connections.specs.Items.{Answers, Event, Happens, IsDone, IsStarved, IsStray, Leaves, Loses, Moves, Sends, Slots, came, bytes, wrote, ended, failed, late}
 use Rattle.connections.specs.declared.connection.Connection.{Connection}
 use Rattle.connections.specs.declared.connection.Phase.{Phase}
 use Rattle.connections.specs.declared.connection.Phase.TheVariants.{Open, Ended, Last}
@@ -78,5 +78,5 @@ abbrev pub Turns : (Tables → List CallBy → Tables → Type 0) → Tables →
 Turns Runs this Waits old new = Runs this [] this × (new ≡ old) × IsSettled new
 Turns Runs this Answered old new = Exchanges Runs this (λ exchange. Answers this.callers exchange old new)
 Turns Runs this Lost old new = Exchanges Runs this (λ exchange. Loses this.callers exchange old)
-Turns Runs this Starved old new = Runs this [] this × IsReady old
+Turns Runs this Starved old new = Runs this [] this × IsStarved old
 Turns Runs this Finished old new = Runs this [] this × IsDone old

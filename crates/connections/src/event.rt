@@ -1,6 +1,6 @@
 //! What is told of connections.
 ghost use Rattle.std.specs.Prelude.{◌≡◌};
-ghost use Rattle.connections.specs.Items.{event_of, slot_of};
+ghost use Rattle.connections.specs.Items.{comers_in, event_of, slot_of};
 
 /// What is told of the connection in a slot.
 #[derive(Drop)]
@@ -42,6 +42,20 @@ impl Event {
             Event::Ended(slot) => *slot,
             Event::Failed(slot) => *slot,
             Event::Late(slot) => *slot,
+        }
+    }
+
+    // How many connections come with it.
+    pub(crate) fn comers(&self) -> u32
+        ensures { result ≡ comers_in (event_of self.now) }
+    {
+        match self {
+            Event::Came(_) => 1,
+            Event::Bytes(_, _) => 0,
+            Event::Wrote(_, _) => 0,
+            Event::Ended(_) => 0,
+            Event::Failed(_) => 0,
+            Event::Late(_) => 0,
         }
     }
 }

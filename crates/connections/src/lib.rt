@@ -7,6 +7,7 @@
 //! - [`Event`]: what is told of one of them
 //! - [`serve_events`]: goes through events in order; [`serve_event`]: one of them
 //! - [`serve_while_open`]: the same over a store, as long as its device has not failed
+//! - [`serve_rounds`]: what [`Rounds`] tell, until all connections were served; [`Halt`]
 //!
 //! ```
 //! use bureau::Bureau;
@@ -33,6 +34,7 @@ mod connection;
 mod event;
 mod incoming;
 mod outgoing;
+mod rounds;
 mod service;
 mod serving;
 mod shares;
@@ -42,7 +44,8 @@ pub use connection::{Connection, Phase};
 pub use event::Event;
 pub use incoming::Incoming;
 pub use outgoing::Outgoing;
-pub use service::{serve_and_look, serve_while_open};
+pub use rounds::{Halt, Round, RoundFault, Rounds, serve_rounds};
+pub use service::serve_while_open;
 pub use serving::{serve_event, serve_events};
 pub use shares::Shares;
 pub use slots::Connections;

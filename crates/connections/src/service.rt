@@ -1,9 +1,10 @@
 //! The same over a store, until its device fails.
-ghost use Rattle.std.specs.Prelude.{◌≡◌, ◌∷◌, [], IfErr, OnErr, OnOk, map, nat_lt};
+ghost use Rattle.std.specs.Prelude.{◌≡◌, ◌∷◌, [], true, false, IfErr, OnErr, OnOk, map, nat_lt};
 ghost use Rattle.bureau.specs.Answering.{bureau_view};
 ghost use Rattle.catalogue.specs.View.{Goes};
 ghost use Rattle.connections.specs.Items.{event_of};
 ghost use Rattle.connections.specs.Memory.{StaysWithin};
+ghost use Rattle.connections.specs.Rounds.{Fails, IsStill};
 ghost use Rattle.connections.specs.Service.{AreServed, IsEnded, IsSound};
 ghost use Rattle.connections.specs.SideBySide.{IsOnward};
 
@@ -41,16 +42,38 @@ pub fn serve_while_open<S: Store, J: Judge<S>>(
     isolation();
     repeats();
     later_bytes();
-    for event in events {
-        if serve_and_look(alloc, bureau, routes, connections, event) {
-            return Err(StoreFault::Device);
-        }
+    if go_while_open(alloc, bureau, routes, connections, events) {
+        Err(StoreFault::Device)
+    } else {
+        Ok(())
     }
-    Ok(())
 }
 
-/// Serves one event. Whether the device of the store has failed by then.
-pub fn serve_and_look<S: Store, J: Judge<S>>(
+// Goes through events in order, until the device of the store has failed. Whether it has.
+pub(crate) fn go_while_open<S: Store, J: Judge<S>>(
+    alloc: Global,
+    bureau: &mut Bureau<S, J>,
+    routes: &Routes,
+    connections: &mut Connections,
+    events: &[Event],
+) -> bool
+    ensures onward { result ≡ false → IsOnward (bureau_view S.tables_view J.is_right) bureau.old bureau.new
+        (map event_of events.now) connections.old connections.new }
+    ensures still { result ≡ false → IsStill (bureau_view S.tables_view J.is_right) bureau.old bureau.new
+        (map event_of events.now) }
+    ensures fails { result ≡ true → Fails (bureau_view S.tables_view J.is_right) bureau.old bureau.new
+        (map event_of events.now) connections.old connections.new }
+{
+    for event in events {
+        if serve_and_look(alloc, bureau, routes, connections, event) {
+            return true;
+        }
+    }
+    false
+}
+
+// Serves one event. Whether the device of the store has failed by then.
+fn serve_and_look<S: Store, J: Judge<S>>(
     alloc: Global,
     bureau: &mut Bureau<S, J>,
     routes: &Routes,

@@ -5,7 +5,7 @@ ghost use Rattle.bureau.specs.Runs.{IsLawfulRun};
 ghost use Rattle.catalogue.specs.View.{Goes, Tells};
 ghost use Rattle.connections.specs.Items.{event_of, slot_of};
 ghost use Rattle.connections.specs.Memory.{IsWithin, StaysWithin, held_by};
-ghost use Rattle.connections.specs.SideBySide.{AreServedSideBySide, AreSoFar, IsOnward};
+ghost use Rattle.connections.specs.SideBySide.{AreDone, AreServedSideBySide, IsOnward};
 ghost use Rattle.connections.specs.Turns.{AreSettled, AreSettledBut};
 
 use crate::event::{Event, Told};
@@ -102,7 +102,7 @@ fn go_on<D: Desk>(
 )
     ensures goes { Goes D.tables_view desk.old desk.new }
     ensures so_far { Tells D.tables_view desk.old desk.new (λ this.
-        AreSoFar (IsKeptRun D.tables_view desk.old desk.new) this []
+        AreDone (IsKeptRun D.tables_view desk.old desk.new) this slot []
         connections.old.slots.items connections.new.slots.items) }
     ensures settled { Tells D.tables_view desk.old desk.new (λ this.
         AreSettledBut slot connections.old.slots.items → AreSettled connections.new.slots.items) }

@@ -1,6 +1,6 @@
 //! Connections, each in its slot.
 ghost use Rattle.std.specs.Prelude.{◌≡◌, ◌+◌, ◌<◌, ◌≤◌, ◌↔◌, true, IsTrue, get_or, length, None, Some, IfNone, IfOk, IfSome, replicate, slice_get, slice_set};
-ghost use Rattle.connections.specs.Items.{NoneIs, bytes, came, ended, event_of, failed, wrote};
+ghost use Rattle.connections.specs.Items.{AreFree, NoneIs, bytes, came, ended, event_of, failed, wrote};
 ghost use Rattle.connections.specs.Memory.{HasRoom, IsWithin, Needs, StaysWithin};
 ghost use Rattle.connections.specs.Turns.{AreSettled, IsToldOf, out_at};
 
@@ -53,6 +53,18 @@ impl Connections {
             Some(connection) => connection.is_none(),
             None => false,
         }
+    }
+
+    /// Whether no connection stands in any slot.
+    pub fn are_free(&self) -> bool
+        ensures { IsTrue result ↔ AreFree self.now.slots.items }
+    {
+        for slot in &self.slots {
+            if slot.is_some() {
+                return false;
+            }
+        }
+        true
     }
 
     /// What has to go out over the connection in a slot, and was not yet written.

@@ -1,3 +1,2 @@
 pub mod Patience
 pub mod Transfers
-pub mod Served

@@ -1,8 +1,8 @@
 //! Connections that are accepted.
+use crate::fault::LoopFault;
 use crate::patience::Stage;
 use crate::side::{Listed, Side};
 use crate::sockets::{MOST, Sockets, stage};
-use crate::stop::LoopFault;
 use connections::{Connections, Event};
 use mio::net::TcpStream;
 use mio::{Interest, Token};
@@ -48,7 +48,6 @@ impl Sockets {
             Ok((stream, _)) => stream,
             Err(error) => return Ok(is_gone(&error)),
         };
-        self.left = self.left.saturating_sub(1);
         if let Some(slot) = idlest {
             self.end(slot, told)?;
         }
@@ -70,6 +69,7 @@ impl Sockets {
             self.free.push(slot)?;
             return Ok(());
         }
+        self.left = self.left.saturating_sub(1);
         told.push(Event::Came(slot))?;
         Ok(())
     }

@@ -1,22 +1,22 @@
-//! A desk over sockets that don't block, in one thread: up to so many connections are open at once, and none keeps another
-//! one waiting.
+//! Connections over sockets that don't block, in one thread: up to so many are open at once, and none keeps another one
+//! waiting.
 //!
-//! What came over a socket is told to [`connections`], and what is shown there is written. So all that is promised of events in
-//! any order holds of whatever this loop does. How long it waits for each client is [`Patience`].
+//! What came over a socket is told as an event of [`connections`], and what is shown there is written. So all that is promised of
+//! events in any order holds of whatever is read and written here. How long a client is waited for is [`Patience`].
 //!
-//! - [`SocketDesk`]: the sockets, each beside its connection; [`SocketDesk::run`] is the loop
+//! - [`SocketRounds`]: the sockets, each beside its connection, as the `Rounds` of a desk
 //! - [`Patience`], [`Stage`]: how long a connection may take at each stage
-//! - [`Stop`], [`LoopFault`]: what ends the loop
+//! - [`LoopFault`]: why there are no sockets
 #![tactic(auto)]
 
 mod accepting;
+mod fault;
 mod patience;
+mod rounds;
 mod side;
-mod socket_desk;
 mod sockets;
-mod stop;
 mod transfers;
 
+pub use fault::LoopFault;
 pub use patience::{Patience, Stage};
-pub use socket_desk::SocketDesk;
-pub use stop::{LoopFault, Stop};
+pub use rounds::SocketRounds;

@@ -1,7 +1,7 @@
 //! Sockets that don't block, each in its slot, and one read or write of each that is ready.
+use crate::fault::LoopFault;
 use crate::patience::{Patience, Stage};
 use crate::side::{Listed, Side, waits};
-use crate::stop::LoopFault;
 use crate::transfers::{read_event, write_event};
 use connections::{Connections, Event};
 use mio::net::TcpListener;
@@ -56,8 +56,6 @@ pub(crate) struct Sockets {
     pub(crate) left: u32,
     // When it was looked for connections whose time is up.
     pub(crate) swept: Option<Instant>,
-    // It was begun to serve, and that has not come to its end.
-    pub(crate) is_begun: bool,
     pub(crate) listener: TcpListener,
     pub(crate) poll: Poll,
     pub(crate) room: Vec<u8>,
@@ -89,10 +87,9 @@ impl Sockets {
             free,
             ready: VecDeque::with_capacity(alloc, slots)?,
             short: VecDeque::with_capacity(alloc, slots)?,
-            more_wait: false,
+            more_wait: true,
             left: 0,
             swept: None,
-            is_begun: false,
             listener,
             poll,
             room: Vec::from_elem(alloc, 0u8, ROOM)?,
@@ -104,26 +101,16 @@ impl Sockets {
         self.listener.local_addr()
     }
 
-    /// So many connections are to be accepted from now on. Not so where the last ones were not served to their ends: what was
-    /// read of them may not have been told.
-    pub(crate) fn begin(&mut self, connections: u32, now: Instant) -> Result<(), LoopFault> {
-        if self.is_begun {
-            return Err(LoopFault::Over);
-        }
-        self.is_begun = true;
-        self.left = connections;
-        self.more_wait = true;
-        self.swept = Some(now);
-        Ok(())
+    /// A round begins, and so many connections are to be accepted yet. Bodies for which there is room by now are read on.
+    pub(crate) fn begin(&mut self, left: u32) -> Result<(), LoopFault> {
+        self.more_wait |= left > self.left;
+        self.left = left;
+        self.retry_short()
     }
 
-    /// It has served where all connections were accepted, and are gone. Then it may begin once more.
-    pub(crate) fn end_where_done(&mut self) -> bool {
-        let is_done = self.left == 0 && self.free.len() == self.sides.len();
-        if is_done {
-            self.is_begun = false;
-        }
-        is_done
+    /// Whether no socket is open, but that of the port.
+    pub(crate) fn are_closed(&self) -> bool {
+        self.free.len() == self.sides.len()
     }
 
     /// The most events of a round: those of visits, and for each that is accepted that it came, and that another one gave way;
@@ -375,18 +362,13 @@ impl Sockets {
         }
     }
 
-    /// How many have a body that doesn't fit the limit yet.
-    pub(crate) fn short_len(&self) -> usize {
-        self.short.len()
+    /// The slot of one of those that have a body that doesn't fit the limit yet.
+    pub(crate) fn short_at(&self, index: usize) -> Option<usize> {
+        self.short.get(index).copied()
     }
 
-    /// The slot of one of them.
-    pub(crate) fn short_at(&self, i: usize) -> Option<usize> {
-        self.short.get(i).copied()
-    }
-
-    /// Those for which there is room by now are ready.
-    pub(crate) fn retry_short(&mut self) -> Result<(), LoopFault> {
+    // Those of them for which there is room by now are ready.
+    fn retry_short(&mut self) -> Result<(), LoopFault> {
         for _ in 0..self.short.len() {
             if let Some(slot) = self.short.pop_front() {
                 self.retry(slot)?;

@@ -49,7 +49,7 @@ static TAKEN: [(&[&str], &str); 14] = [
     ),
     (
         &["serve", "s"],
-        "Serve { port: 8080, cache: 1024, connections: 1000000, store: \"s\" }",
+        "Serve { port: 8080, cache: 1024, connections: 1000000, most_open: 1024, store: \"s\" }",
     ),
     (
         &[
@@ -59,9 +59,10 @@ static TAKEN: [(&[&str], &str); 14] = [
             "--port=65535",
             "--cache",
             "2",
+            "--open=8192",
             "s",
         ],
-        "Serve { port: 65535, cache: 2, connections: 1, store: \"s\" }",
+        "Serve { port: 65535, cache: 2, connections: 1, most_open: 8192, store: \"s\" }",
     ),
     (
         &["replay", "c", "a"],
@@ -86,7 +87,7 @@ static TAKEN: [(&[&str], &str); 14] = [
 ];
 
 // Words, and what is told of them.
-static REFUSED: [(&[&str], &str); 27] = [
+static REFUSED: [(&[&str], &str); 29] = [
     (&["callers", "s"], "Usage: bureau callers <STORE> <CALLERS>"),
     (&["init", "s"], "Usage: bureau init <STORE> <CALLERS>"),
     (&["serve"], "Usage: bureau serve <STORE>"),
@@ -126,6 +127,8 @@ static REFUSED: [(&[&str], &str); 27] = [
         &["serve", "--connections", "1000001", "s"],
         "1000001 is not in 1..=1000000",
     ),
+    (&["serve", "--open", "0", "s"], "0 is not in 1..=8192"),
+    (&["serve", "--open", "8193", "s"], "8193 is not in 1..=8192"),
     (&["hold", "-"], "unrecognized subcommand 'hold'"),
     (&[], "requires a subcommand"),
     (&["holds"], "Usage: bureau holds <FILE>"),

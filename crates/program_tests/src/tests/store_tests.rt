@@ -3,14 +3,16 @@ ghost use Rattle.std.specs.Prelude.{◌≡◌, IfOk, IsTrue, false};
 ghost use Rattle.sqlite_disk.specs.Memory.{memory_is_usable};
 
 use super::desk_tests::CALLERS;
-use super::surroundings::Around;
+use super::surroundings::{Around, PortHas};
 use bureau_program::{Service, open_and_serve};
+use connections::RoundFault;
+use socket_desk::{Patience, SocketRounds};
 use sqlite::{Alter, Connection, FileStore, Files, Options};
 use sqlite_disk::Memory;
 use std::alloc::Global;
 use std::hash::RandomState;
 use std::io::{Read, Write};
-use std::net::{TcpListener, TcpStream};
+use std::net::{Ipv4Addr, SocketAddr, TcpStream};
 use std::str;
 use std::test::Fail;
 use store_runs::{callers_in, run_callers, run_init, run_migrate, run_open};
@@ -204,13 +206,13 @@ fn a_store_gets_other_callers(rt: HostRuntime) -> Result<(), Fail> {
     assert_equal(told.as_str(), "1 FAULT 44\n")
 }
 
-// What `serve` tells on standard output alone, over a new store in this file, where so many connections are served.
+// What `serve` tells over a new store in this file, where so many connections are served, and what it tells of a fault.
 fn served<S: Alter + Drop>(
     around: &mut Around<'_>,
     alloc: Global,
     conn: Connection<S>,
     connections: u32,
-) -> Result<String, Fail>
+) -> Result<(String, Vec<u8>), Fail>
     requires { conn.in_transaction ≡ false }
 {
     let (_, conn) = init(alloc, conn, CALLERS)?;
@@ -218,39 +220,48 @@ fn served<S: Alter + Drop>(
         port: 4_711,
         cache: 1,
         connections,
+        most_open: 2,
     };
     let (mut output, mut errors) = (Vec::new(alloc), Vec::new(alloc));
     let (status, _) = open_and_serve(around, alloc, service, conn, &mut output, &mut errors);
-    assert_equal(errors.as_slice(), b"".as_slice())?;
-    told(alloc, status, &output, &errors)
+    let none = Vec::new(alloc);
+    Ok((told(alloc, status, &output, &none)?, errors))
 }
 
 const LISTENING: &str = "0 LISTENING 127.0.0.1:4711\n";
 
-// A desk at which nobody connects serves so many connections, and pauses as often.
-fn assert_deserted(
-    listener: &TcpListener,
-    alloc: Global,
-    keys: RandomState,
-    connections: u32,
-) -> Result<(), Fail> {
-    let clock = Ticking::new(0);
-    let mut deserted = Around::listening(listener, &clock, keys);
-    let told = served(&mut deserted, alloc, fresh(alloc)?, connections)?;
-    assert_equal_at(connections, told.as_str(), LISTENING)?;
-    assert_equal_at(connections, deserted.port, 4_711)?;
-    assert_equal(clock.paused(), 20 * u128::from(connections))
+#[test]
+fn a_desk_serves_as_many_as_it_is_asked_to(rt: HostRuntime) -> Result<(), Fail> {
+    let alloc = rt.alloc();
+    let keys = RandomState::new(&rt)?;
+    // most, and more than fit in 16 bits
+    for connections in [0, 1, 65_537, 1_000_000] {
+        let mut around = Around::listening(PortHas::Passers(0), keys);
+        let (told, errors) = served(&mut around, alloc, fresh(alloc)?, connections)?;
+        assert_equal_at(connections, told.as_str(), LISTENING)?;
+        assert_equal_at(connections, errors.len(), 0)?;
+        assert_equal_at(connections, around.asked, (4_711, 2))?;
+        let passed = match &around.port_has {
+            PortHas::Passers(passed) => *passed,
+            _ => 0,
+        };
+        assert_equal_at(connections, passed, u64::from(connections))?;
+    }
+    Ok(())
 }
 
 #[test]
-fn a_desk_waits_as_often_as_it_is_asked_to(rt: HostRuntime) -> Result<(), Fail> {
+fn a_desk_stops_where_nothing_more_is_told(rt: HostRuntime) -> Result<(), Fail> {
+    let alloc = rt.alloc();
     let keys = RandomState::new(&rt)?;
-    // nobody connects, so that each wait for a connection ends at once
-    let listener = TcpListener::bind(&rt, "127.0.0.1:0")?;
-    listener.set_nonblocking(true)?;
-    // most, and more than fit in 16 bits
-    for connections in [0, 1, 65_537, 1_000_000] {
-        assert_deserted(&listener, rt.alloc(), keys, connections)?;
+    for (fault, wanted) in [
+        (RoundFault::System, b"FAULT 73\n"),
+        (RoundFault::Memory, b"FAULT 74\n"),
+    ] {
+        let mut around = Around::listening(PortHas::Fault(fault), keys);
+        let (told, errors) = served(&mut around, alloc, fresh(alloc)?, 1)?;
+        assert_equal(told.as_str(), "3 LISTENING 127.0.0.1:4711\n")?;
+        assert_equal(errors.as_slice(), wanted.as_slice())?;
     }
     Ok(())
 }
@@ -267,13 +278,6 @@ fn repeated(alloc: Global, text: &[u8], times: u32) -> Result<Vec<u8>, Fail> {
     Ok(all)
 }
 
-// A client that has sent this. It does not close its side.
-fn sender(rt: &HostRuntime, listener: &TcpListener, text: &[u8]) -> Result<TcpStream, Fail> {
-    let mut client = TcpStream::connect(rt, listener.local_addr()?)?;
-    client.write_all(text)?;
-    Ok(client)
-}
-
 // A client gets this, and then its end.
 fn assert_received(alloc: Global, client: &mut TcpStream, wanted: &[u8]) -> Result<(), Fail> {
     let mut got = Vec::new(alloc);
@@ -281,19 +285,26 @@ fn assert_received(alloc: Global, client: &mut TcpStream, wanted: &[u8]) -> Resu
     assert_equal(str::from_utf8(got.as_slice()), str::from_utf8(wanted))
 }
 
+// Two clients, of which one sends half of a head and no more. None closes its side.
 #[test]
-fn a_desk_waits_ten_minutes_for_a_connection(rt: HostRuntime) -> Result<(), Fail> {
+fn a_desk_answers_beside_a_silent_client_and_lets_both_go(rt: HostRuntime) -> Result<(), Fail> {
     let alloc = rt.alloc();
     let keys = RandomState::new(&rt)?;
-    let listener = TcpListener::bind(&rt, "127.0.0.1:0")?;
+    let clock = Ticking::new(1);
+    let address = SocketAddr::from((Ipv4Addr::LOCALHOST, 0u16));
+    let Ok(sockets) = SocketRounds::new(&rt, alloc, &clock, address, 2, Patience::usual()) else {
+        return Err("no sockets".into());
+    };
+    let mut silent = TcpStream::connect(&rt, sockets.address()?)?;
+    silent.write_all(b"GET /zones HT")?;
+    let mut client = TcpStream::connect(&rt, sockets.address()?)?;
     let sent = repeated(alloc, b"GET /zones HTTP/1.1\r\n\r\n", 8)?;
-    let mut client = sender(&rt, &listener, sent.as_slice())?;
-    let clock = Ticking::new(100);
-    let mut hurried = Around::listening(&listener, &clock, keys);
-    let told = served(&mut hurried, alloc, fresh(alloc)?, 1)?;
+    client.write_all(sent.as_slice())?;
+    let mut around = Around::listening(PortHas::Sockets(sockets), keys);
+    let (told, errors) = served(&mut around, alloc, fresh(alloc)?, 2)?;
     assert_equal(told.as_str(), LISTENING)?;
-    // 100 seconds pass before each look at the clock: it comes at 100, one read brings all requests at 200, and a reply
-    // goes out at 300, 400, 500 and 600
-    let wanted = repeated(alloc, UNKNOWN, 4)?;
-    assert_received(alloc, &mut client, wanted.as_slice())
+    assert_equal(errors.len(), 0)?;
+    let wanted = repeated(alloc, UNKNOWN, 8)?;
+    assert_received(alloc, &mut client, wanted.as_slice())?;
+    assert_received(alloc, &mut silent, b"")
 }

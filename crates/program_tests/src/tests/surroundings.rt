@@ -1,30 +1,44 @@
 //! What surrounds a run of a test.
 use super::desk_tests::CALLERS;
-use bureau_http::{ConnFault, Listening, Patience, Served, Side, Sockets};
 use bureau_program::Surroundings;
 use bureau_store::StoreFault;
 use command_line::LineFault;
+use connections::{Connections, Event, Round, RoundFault, Rounds};
 use run_parts::Files;
+use socket_desk::SocketRounds;
 use sqlite::{Connection, FileFrom, FileStore, Start};
 use std::alloc::Global;
 use std::hash::RandomState;
 use std::io::{self, ErrorKind};
-use std::net::TcpListener;
 use store_runs::{Ended, Stores};
 use testing::{Failures, Pieces, Ticking};
 
 /// The name of a store, whose blanks count.
 pub(crate) const STORE: &str = " a store ";
 
-/// Words, files that are interrupted so often, and one listener, by a clock that a test sets, or none. Memory runs out
-/// where a store may be made, and there is none where it may not. A store of another name can't be opened.
+/// What a port has.
+#[derive(Drop)]
+pub(crate) enum PortHas<'a> {
+    /// It can't be listened on.
+    Nothing,
+    /// Nothing is told of connections, for this cause.
+    Fault(RoundFault),
+    /// Sockets, by a clock that a test sets.
+    Sockets(SocketRounds<'a, Ticking>),
+    /// Connections that come and end at once. So many did.
+    Passers(u64),
+}
+
+/// Words, files that are interrupted so often, and what each port has. Memory runs out where a store may be made, and there
+/// is none where it may not. A store of another name can't be opened.
 #[derive(Drop)]
 pub(crate) struct Around<'a> {
     words: &'static [&'static str],
     interruptions: u32,
-    sockets: Option<Sockets<'a, 'a, Ticking>>,
-    /// The port that was asked for.
-    pub(crate) port: u16,
+    /// What each port has.
+    pub(crate) port_has: PortHas<'a>,
+    /// The port that was asked for, and how many were to be open at once.
+    pub(crate) asked: (u16, u32),
     keys: RandomState,
 }
 
@@ -38,54 +52,76 @@ impl<'a> Around<'a> {
         Around {
             words,
             interruptions,
-            sockets: None,
-            port: 0,
+            port_has: PortHas::Nothing,
+            asked: (0, 0),
             keys,
         }
     }
 
-    /// No words. Each port is this listener's, and time goes by this clock.
-    pub(crate) fn listening(
-        listener: &'a TcpListener,
-        clock: &'a Ticking,
-        keys: RandomState,
-    ) -> Around<'a> {
+    /// No words. Each port has this.
+    pub(crate) fn listening(port_has: PortHas<'a>, keys: RandomState) -> Around<'a> {
         Around {
             words: &[],
             interruptions: 0,
-            sockets: Some(Sockets::new(listener, clock, Patience::usual())),
-            port: 0,
+            port_has,
+            asked: (0, 0),
             keys,
         }
     }
 }
 
-impl<'a> Listening for Around<'a> {
+impl Rounds for Around<'_> {
     ghost use Rattle.std.specs.Prelude.{None};
-
-    type Reader = Side<'a, Ticking>;
-
-    type Writer = Side<'a, Ticking>;
 
     ghost log = { λ _. None };
 
-    fn accept(&mut self) -> io::Result<(Side<'a, Ticking>, Side<'a, Ticking>)> {
-        match &mut self.sockets {
-            Some(sockets) => sockets.accept(),
-            None => Err(io::Error::from(ErrorKind::NotConnected)),
+    ghost is_over = { λ _ _. Unit {0} };
+
+    fn round(
+        &mut self,
+        connections: &Connections,
+        left: u32,
+        told: &mut Vec<Event>,
+    ) -> Result<Round, RoundFault> {
+        match &mut self.port_has {
+            PortHas::Nothing => Err(RoundFault::System),
+            PortHas::Fault(fault) => Err(*fault),
+            PortHas::Sockets(sockets) => sockets.round(connections, left, told),
+            PortHas::Passers(passed) => {
+                *passed += u64::from(pass(left, told)?);
+                Ok(Round::Idle)
+            }
         }
     }
 
-    fn close(
-        &mut self,
-        reader: Side<'a, Ticking>,
-        writer: Side<'a, Ticking>,
-        ended: Result<Served, ConnFault>,
-    ) {
-        if let Some(sockets) = &mut self.sockets {
-            sockets.close(reader, writer, ended);
+    fn note(&mut self, slot: usize, room: usize) {
+        if let PortHas::Sockets(sockets) = &mut self.port_has {
+            sockets.note(slot, room);
         }
     }
+
+    fn short_at(&self, index: usize) -> Option<usize> {
+        match &self.port_has {
+            PortHas::Sockets(sockets) => sockets.short_at(index),
+            _ => None,
+        }
+    }
+
+    fn part(&mut self, connections: &Connections) {
+        if let PortHas::Sockets(sockets) = &mut self.port_has {
+            sockets.part(connections);
+        }
+    }
+}
+
+// Connections that come and end, as many as are to come, but not more than so many at a time. How many did.
+fn pass(left: u32, told: &mut Vec<Event>) -> Result<u32, RoundFault> {
+    let count = left.min(1000);
+    for _ in 0..count {
+        told.push(Event::Came(0)).or(Err(RoundFault::Memory))?;
+        told.push(Event::Ended(0)).or(Err(RoundFault::Memory))?;
+    }
+    Ok(count)
 }
 
 impl Files for Around<'_> {
@@ -129,7 +165,7 @@ impl Surroundings for Around<'_> {
 
     ghost known_words = { λ _. None };
 
-    ghost known_port = { λ _ _. Unit {0} };
+    ghost known_port = { λ _ _ _. Unit {0} };
 
     fn words(&self, alloc: Global) -> Result<Vec<String>, LineFault> {
         let mut words = Vec::new(alloc);
@@ -140,11 +176,11 @@ impl Surroundings for Around<'_> {
         Ok(words)
     }
 
-    fn listen(&mut self, port: u16) -> io::Result<()> {
-        self.port = port;
-        match self.sockets {
-            Some(_) => Ok(()),
-            None => Err(io::Error::from(ErrorKind::AddrInUse)),
+    fn listen(&mut self, _alloc: Global, port: u16, most_open: u32) -> io::Result<()> {
+        self.asked = (port, most_open);
+        match self.port_has {
+            PortHas::Nothing => Err(io::Error::from(ErrorKind::AddrInUse)),
+            _ => Ok(()),
         }
     }
 

@@ -13,7 +13,7 @@ use Rattle.bureau_program.proofs.program.answer.Goals as goal
 pub returns-in-Ok-Init : goal.returns-in-Ok-Init
 returns-in-Ok-Init g c =
     let at = c.args.surroundings.now in
-    let of : Found = found_in (g.S.Files.known_file at) (g.S.Stores.known_store at) (g.S.Surroundings.known_port at) (g.S.Listening.log at) (g.S.Listening.log at) in
+    let of : Found = found_in (g.S.Files.known_file at) (g.S.Stores.known_store at) (g.S.Surroundings.known_port at) (g.S.Rounds.is_over at) (g.S.Rounds.log at) (g.S.Rounds.log at) in
     let input = g.I.Read.remaining c.args.input.now in
     let outputs : Outputs = record {
       output = g.O.Write.contents c.args.output.now;
@@ -31,9 +31,9 @@ returns-in-Ok-Init g c =
 pub returns-in-Ok-Serve : goal.returns-in-Ok-Serve
 returns-in-Ok-Serve g c =
     let at = c.args.surroundings.now in
-    let of : Found = found_in (g.S.Files.known_file at) (g.S.Stores.known_store at) (g.S.Surroundings.known_port at) (g.S.Listening.log at) (g.S.Listening.log c.run_serve.new.surroundings) in
+    let of : Found = found_in (g.S.Files.known_file at) (g.S.Stores.known_store at) (g.S.Surroundings.known_port at) (g.S.Rounds.is_over c.run_serve.new.surroundings) (g.S.Rounds.log at) (g.S.Rounds.log c.run_serve.new.surroundings) in
     let input = g.I.Read.remaining c.args.input.now in
-    let service : Service = record { port = c.in-Ok-Serve.port; cache = c.in-Ok-Serve.cache; connections = c.in-Ok-Serve.connections } in
+    let service : Service = record { port = c.in-Ok-Serve.port; cache = c.in-Ok-Serve.cache; connections = c.in-Ok-Serve.connections; most_open = c.in-Ok-Serve.most_open } in
     let outputs : Outputs = record {
       output = g.O.Write.contents c.args.output.now;
       written = g.O.Write.contents c.run_serve.new.writer;
@@ -48,7 +48,7 @@ returns-in-Ok-Serve g c =
 pub returns-in-Ok-Migrate : goal.returns-in-Ok-Migrate
 returns-in-Ok-Migrate g c =
     let at = c.args.surroundings.now in
-    let of : Found = found_in (g.S.Files.known_file at) (g.S.Stores.known_store at) (g.S.Surroundings.known_port at) (g.S.Listening.log at) (g.S.Listening.log at) in
+    let of : Found = found_in (g.S.Files.known_file at) (g.S.Stores.known_store at) (g.S.Surroundings.known_port at) (g.S.Rounds.is_over at) (g.S.Rounds.log at) (g.S.Rounds.log at) in
     let input = g.I.Read.remaining c.args.input.now in
     let outputs : Outputs = record {
       output = g.O.Write.contents c.args.output.now;
@@ -69,7 +69,7 @@ returns-in-Ok-Migrate g c =
 pub returns-in-Ok-Check : goal.returns-in-Ok-Check
 returns-in-Ok-Check g c =
     let at = c.args.surroundings.now in
-    let of : Found = found_in (g.S.Files.known_file at) (g.S.Stores.known_store at) (g.S.Surroundings.known_port at) (g.S.Listening.log at) (g.S.Listening.log at) in
+    let of : Found = found_in (g.S.Files.known_file at) (g.S.Stores.known_store at) (g.S.Surroundings.known_port at) (g.S.Rounds.is_over at) (g.S.Rounds.log at) (g.S.Rounds.log at) in
     let input = g.I.Read.remaining c.args.input.now in
     let outputs : Outputs = record {
       output = g.O.Write.contents c.args.output.now;
@@ -86,7 +86,7 @@ returns-in-Ok-Check g c =
 pub returns-in-Ok-Callers : goal.returns-in-Ok-Callers
 returns-in-Ok-Callers g c =
     let at = c.args.surroundings.now in
-    let of : Found = found_in (g.S.Files.known_file at) (g.S.Stores.known_store at) (g.S.Surroundings.known_port at) (g.S.Listening.log at) (g.S.Listening.log at) in
+    let of : Found = found_in (g.S.Files.known_file at) (g.S.Stores.known_store at) (g.S.Surroundings.known_port at) (g.S.Rounds.is_over at) (g.S.Rounds.log at) (g.S.Rounds.log at) in
     let input = g.I.Read.remaining c.args.input.now in
     let outputs : Outputs = record {
       output = g.O.Write.contents c.args.output.now;

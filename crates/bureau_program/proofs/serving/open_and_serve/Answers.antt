@@ -6,7 +6,7 @@ use Rattle.bureau_program.proofs.serving.open_and_serve.Goals as goal
 
 pub returns-in-Ok : goal.returns-in-Ok
 returns-in-Ok g c =
-    let session = session_of c.args.service (g.S.Surroundings.known_port c.args.surroundings.now) (g.S.Listening.log c.args.surroundings.now) (g.S.Listening.log c.serve_store-served.new.surroundings) in
+    let session = session_of c.args.service (g.S.Surroundings.known_port c.args.surroundings.now) (g.S.Rounds.is_over c.serve_store-served.new.surroundings) (g.S.Rounds.log c.args.surroundings.now) (g.S.Rounds.log c.serve_store-served.new.surroundings) in
     record {
       outcome = fault_in c.serve_store-served.result.0;
       output =
@@ -18,6 +18,6 @@ returns-in-Ok g c =
 
 pub returns-in-Err : goal.returns-in-Err
 returns-in-Err g c =
-    let log = g.S.Listening.log c.args.surroundings.now in
-    not_opened g.D.Store (session_of c.args.service (g.S.Surroundings.known_port c.args.surroundings.now) log log) c.args.conn c.in-Err.refused.1 c.args.service.port
+    let log = g.S.Rounds.log c.args.surroundings.now in
+    not_opened g.D.Store (session_of c.args.service (g.S.Surroundings.known_port c.args.surroundings.now) (g.S.Rounds.is_over c.args.surroundings.now) log log) c.args.conn c.in-Err.refused.1 c.args.service.port
     (g.W.Write.contents c.args.writer.now) (g.E.Write.contents c.args.errors.now) (g.E.Write.contents c.run_open.new.errors) c.in-Err.refused.0 refl c.in-Err.ensures.rested c.in-Err.ensures.refused

@@ -9,7 +9,7 @@ use Rattle.bureau_program.proofs.serving.run_serve.Goals as goal
 
 pub returns-in-Ok : goal.returns-in-Ok
 returns-in-Ok g c =
-    let session = session_of c.args.service (g.S.Surroundings.known_port c.args.surroundings.now) (g.S.Listening.log c.args.surroundings.now) (g.S.Listening.log c.open_and_serve-status.new.surroundings) in
+    let session = session_of c.args.service (g.S.Surroundings.known_port c.args.surroundings.now) (g.S.Rounds.is_over c.open_and_serve-status.new.surroundings) (g.S.Rounds.log c.args.surroundings.now) (g.S.Rounds.log c.open_and_serve-status.new.surroundings) in
     let run =
     run_over_files session (image_at g.D.Start) c.end.result c.in-Ok.conn c.open_and_serve-status.result.1 c.in-Ok.ensures.found c.end.ensures
     c.args.service.port (g.W.Write.contents c.args.writer.now) (g.W.Write.contents c.open_and_serve-status.new.writer)
@@ -19,8 +19,8 @@ returns-in-Ok g c =
 
 pub returns-in-Err : goal.returns-in-Err
 returns-in-Err g c =
-    let log = g.S.Listening.log c.args.surroundings.now in
-    let session = session_of c.args.service (g.S.Surroundings.known_port c.args.surroundings.now) log log in
+    let log = g.S.Rounds.log c.args.surroundings.now in
+    let session = session_of c.args.service (g.S.Surroundings.known_port c.args.surroundings.now) (g.S.Rounds.is_over c.args.surroundings.now) log log in
     let run =
     not_connected session (image_at g.D.Start) c.in-Err.ended c.in-Err.fault c.of_store.result c.args.service.port
     (g.W.Write.contents c.args.writer.now) (g.E.Write.contents c.args.errors.now) (g.E.Write.contents c.told.new.errors) c.told.result

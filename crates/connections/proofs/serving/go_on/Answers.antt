@@ -1,6 +1,9 @@
-use Rattle.std.proofs.Common.{◌∙◌, sym}
+use Rattle.std.proofs.Common.{◌∙◌, refl, sym}
+use Rattle.bureau.proofs.KeptFacts.{idle}
+use Rattle.bureau.specs.Kept.{IsKeptRun}
 use Rattle.connections.proofs.MemoryFacts.{stays_fewer, stays_left}
-use Rattle.connections.proofs.SideFacts.{leaves_all_settled, leaves_so_far, stays_all_settled, stays_so_far}
+use Rattle.connections.proofs.SideFacts.{leaves_all_settled, leaves_so_far, none_so_far, stays_all_settled, stays_so_far}
+use Rattle.connections.proofs.SlotFacts.{within}
 use Rattle.connections.proofs.serving.go_on.Goals as goal
 
 pub returns-then-stays-clause-so_far : goal.returns-then-stays-clause-so_far
@@ -30,3 +33,13 @@ returns-else-stays-clause-settled g c =
 
 pub returns-else-stays-clause-within : goal.returns-else-stays-clause-within
 returns-else-stays-clause-within g c = stays_left c.args.connections.now c.take.new.self c.args.slot c.in-Some.ensures.new c.take.ensures.shares
+
+pub returns-in_default-clause-so_far : goal.returns-in_default-clause-so_far
+returns-in_default-clause-so_far g c = record {
+  told = λ ours clean this stand. none_so_far (IsKeptRun g.D.Desk.tables_view c.args.desk.now c.args.desk.now) this c.args.slot c.args.connections.now.slots.items
+      c.take.new.self.slots.items (refl, idle g.D.Desk.tables_view c.args.desk.now this stand) c.in_default.ensures.none.1;
+}
+
+pub put-requires : goal.put-requires
+put-requires g c =
+    within c.args.connections.now.slots.items c.take.new.self.slots.items c.args.slot c.in-Some.connection c.in-Some.ensures.some c.in-Some.ensures.new
