@@ -30,6 +30,8 @@ pub(crate) struct Side {
     pub(crate) room: usize,
     // the desk has ended its side
     pub(crate) is_closing: bool,
+    // it came, or bytes were written to it, and the desk has not noted that yet
+    pub(crate) is_ahead: bool,
     // among which it waits for a visit
     pub(crate) list: Listed,
 }
@@ -43,6 +45,7 @@ impl Side {
             told: now,
             room: 0,
             is_closing: false,
+            is_ahead: true,
             list: Listed::Nowhere,
         }
     }
@@ -70,6 +73,7 @@ impl Side {
 
     // What came or went was told to the desk, and so many bytes may be read next.
     pub(crate) fn note(&mut self, room: usize) {
+        self.is_ahead = false;
         self.told = self.heard;
         self.room = room;
     }

@@ -283,6 +283,7 @@ impl Sockets {
                 // After a whole reply the next request begins.
                 let begins = matches!(&event, Event::Wrote(_, count) if *count == text.len());
                 side.hear(now, begins);
+                side.is_ahead = true;
                 told.push(event)?;
                 Ok(Visit::Goes)
             }
@@ -344,11 +345,15 @@ impl Sockets {
         self.leave(slot, side.list)
     }
 
-    /// The device has failed: replies that wait go out as far as the sockets take them at once.
+    /// The device has failed: replies that wait go out as far as the sockets take them at once. What the last round told may not
+    /// have been looked at. So nothing goes to a socket that came or was written to in it: what is shown of its slot may
+    /// have gone out already, or be the reply of the connection that was there before.
     pub(crate) fn part(&mut self, connections: &Connections) {
         for slot in 0..self.sides.len() {
             if let Some(mut side) = self.take_out(slot) {
-                let _ = side.stream.write(connections.outgoing(slot));
+                if !side.is_ahead {
+                    let _ = side.stream.write(connections.outgoing(slot));
+                }
                 let _ = side.stream.shutdown(Shutdown::Write);
             }
         }
