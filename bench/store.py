@@ -10,13 +10,13 @@ in turns, in seconds or as it says.
 import http.client
 import os
 import shutil
-import socket
 import sqlite3
 import subprocess
 import sys
 import tempfile
 import time
 
+from nginx import Nginx, free_port, is_there, rate
 from texts import apars, statements, zone
 
 HERE = os.path.dirname(os.path.abspath(__file__))
@@ -28,12 +28,6 @@ room = tempfile.mkdtemp(prefix="bureau-bench-")
 callers = os.path.join(room, "callers.csv")
 with open(callers, "w") as out:
     out.write("NAME,TOKEN\nPUBLISH,%s\nALPHA,%s\n" % (PUBLISHER, ALPHA))
-
-
-def free_port():
-    with socket.socket() as probe:
-        probe.bind(("127.0.0.1", 0))
-        return probe.getsockname()[1]
 
 
 class Desk:
@@ -228,49 +222,23 @@ def timed_look(desk):
     return time.monotonic() - began
 
 
-def rate(port, kept):
-    """Answers in a second to GET /zones, on one connection or on a new one each, asked for by wrk."""
-    words = ["wrk", "-t1", "-c1", "-d3", "-H", "bureau-token: " + ALPHA] + ([] if kept else ["-H", "connection: close"])
-    told = subprocess.run(words + ["http://127.0.0.1:%d/zones" % port], check=True, capture_output=True, text=True).stdout
-    if "Non-2xx" in told:
-        sys.exit(told)
-    return float(told.split("Requests/sec:")[1].split()[0])
-
-
 def zones():
-    nginx = shutil.which("nginx") or "/usr/sbin/nginx"
-    if not os.path.exists(nginx) or not shutil.which("wrk"):
+    if not is_there():
         print("GET /zones: nginx or wrk is not there")
         return
     desk = Desk("zones")
     for number in range(1, 9):
         desk.ask("PUT", "/zones/TGT%d" % number, ALPHA, number, zone(20))
-    text = desk.ask("GET", "/zones", ALPHA)
-    place = os.path.join(room, "nginx")
-    os.makedirs(place + "/tmp")
-    with open(place + "/zones", "wb") as out:
-        out.write(text)
-    port = free_port()
-    with open(place + "/nginx.conf", "w") as out:
-        out.write(
-            "worker_processes 1; daemon off; pid tmp/pid; error_log tmp/error.log; user root;\n"
-            "events { worker_connections 64; }\n"
-            "http { access_log off; keepalive_requests 1000000; client_body_temp_path tmp; proxy_temp_path tmp;\n"
-            "fastcgi_temp_path tmp; uwsgi_temp_path tmp; scgi_temp_path tmp;\n"
-            "server { listen 127.0.0.1:%d; root %s; } }\n" % (port, place)
-        )
-    process = subprocess.Popen([nginx, "-p", place, "-c", place + "/nginx.conf"])
-    time.sleep(0.5)
+    other = Nginx(os.path.join(room, "nginx"), desk.ask("GET", "/zones", ALPHA))
     desk.connection.close()
     try:
         for kept in (True, False):
-            rates = [(rate(desk.port, kept), rate(port, kept)) for _ in range(RUNS)]
+            rates = [(rate(desk.port, ALPHA, is_kept=kept), rate(other.port, ALPHA, is_kept=kept)) for _ in range(RUNS)]
             mine, theirs = max(rate for rate, _ in rates), max(rate for _, rate in rates)
             print("GET /zones, %s: %.0f a second; nginx %.0f; %.2f of it" % (
                 "one connection" if kept else "a connection each", mine, theirs, mine / theirs))
     finally:
-        process.terminate()
-        process.wait()
+        other.end()
         desk.end()
 
 

@@ -1,0 +1,246 @@
+#!/usr/bin/env python3
+"""Many connections side by side at one desk: none keeps another waiting, and each gets the replies to its own requests.
+
+    test_side_by_side.py [SEED]
+"""
+import os
+import random
+import resource
+import socket
+import struct
+import subprocess
+import sys
+import threading
+import time
+
+from service import PROGRAM, Desk, check, finish, folder, free_port, same, write
+
+SEED = int(sys.argv[1]) if len(sys.argv) > 1 else 20261128
+SLOW = 1000
+RESET = struct.pack("ii", 1, 0)
+NORTH, PUBLISHER = "north-token", "publisher-token"
+CALLERS = write(os.path.join(folder(), "callers.csv"), "NAME,TOKEN\nPUBLISH,%s\nNORTH,%s\nSOUTH,south-token\n" % (PUBLISHER, NORTH))
+
+soft, hard = resource.getrlimit(resource.RLIMIT_NOFILE)
+resource.setrlimit(resource.RLIMIT_NOFILE, (min(hard, 16384), hard))
+
+
+def request(method, path, token, number=None, body=b"", is_last=False):
+    lines = ["%s %s HTTP/1.1" % (method, path), "host: desk", "bureau-token: " + token]
+    if number is not None:
+        lines += ["bureau-number: %d" % number, "content-length: %d" % len(body)]
+    if is_last:
+        lines.append("connection: close")
+    return ("\r\n".join(lines) + "\r\n\r\n").encode() + body
+
+
+ASKED = request("GET", "/zones", NORTH)
+
+
+def connect(port):
+    connection = socket.create_connection(("127.0.0.1", port), timeout=30)
+    connection.setsockopt(socket.IPPROTO_TCP, socket.TCP_NODELAY, 1)
+    return connection
+
+
+class Reader:
+    """The replies that come over a connection, one after the other."""
+
+    def __init__(self, connection):
+        self.connection, self.text = connection, b""
+
+    def reply(self):
+        """The next reply as its bytes, or what was left of them where the connection ended."""
+        while b"\r\n\r\n" not in self.text:
+            if not self.more():
+                return self.rest()
+        head = self.text[: self.text.index(b"\r\n\r\n") + 4]
+        length = next(int(line.split(b":")[1]) for line in head.split(b"\r\n") if line.lower().startswith(b"content-length"))
+        while len(self.text) < len(head) + length:
+            if not self.more():
+                return self.rest()
+        reply, self.text = self.text[: len(head) + length], self.text[len(head) + length :]
+        return reply
+
+    def more(self):
+        read = self.connection.recv(65536)
+        self.text += read
+        return bool(read)
+
+    def rest(self):
+        left, self.text = self.text, b""
+        return left
+
+
+def answered(port, asked=ASKED):
+    """The reply to one request on a connection of its own."""
+    with connect(port) as connection:
+        connection.sendall(asked)
+        return Reader(connection).reply()
+
+
+def longest(port, count=200):
+    """The longest that a client waited for one of so many replies on one connection, in seconds."""
+    waited = 0.0
+    with connect(port) as connection:
+        reader = Reader(connection)
+        for _ in range(count):
+            began = time.monotonic()
+            connection.sendall(ASKED)
+            if not reader.reply().startswith(b"HTTP/1.1 200 "):
+                return 3600.0
+            waited = max(waited, time.monotonic() - began)
+    return waited
+
+
+def open_desk(*words):
+    """A desk with these words more: its process and its port."""
+    store, port = os.path.join(folder(), "store"), free_port()
+    subprocess.run([PROGRAM, "init", store, CALLERS], check=True, stdout=subprocess.DEVNULL)
+    process = subprocess.Popen([PROGRAM, "serve", "--port", str(port), *words, store], stdout=subprocess.PIPE, text=True)
+    check("a desk with %s listens" % " ".join(words), process.stdout.readline() == "LISTENING 127.0.0.1:%d\n" % port)
+    return process, port
+
+
+def nobody_waits(desk):
+    """Whoever keeps a connection open and says nothing, or half of what it has to say, keeps nobody waiting."""
+    silent, half, stopped, kept = (connect(desk.port) for _ in range(4))
+    half.sendall(ASKED[:20])
+    stopped.sendall(request("POST", "/publish", PUBLISHER, 1, b"x" * 3000000)[:1000])
+    kept.sendall(ASKED)
+    Reader(kept).reply()
+    waited = longest(desk.port)
+    check("nobody waits for silence, half a head, a body that stops or a kept connection", waited < 1, "%.3f s" % waited)
+    half.sendall(ASKED[20:])
+    same("half a head is answered once it is whole", Reader(half).reply(), desk.zones)
+    for connection in (silent, half, stopped, kept):
+        connection.close()
+
+
+def a_thousand_slow_ones(desk):
+    """A thousand clients send a byte a second. One asks without pause, and each of them is answered in the end."""
+    slow = [connect(desk.port) for _ in range(SLOW)]
+    for place in range(3):
+        for connection in slow:
+            connection.sendall(ASKED[place : place + 1])
+        waited = longest(desk.port, 100)
+        check("one quick client waits for no slow one", waited < 1, "%.3f s" % waited)
+        time.sleep(1)
+    for connection in slow:
+        connection.sendall(ASKED[3:])
+    replies = [Reader(connection).reply() for connection in slow]
+    same("each slow client is answered", replies.count(desk.zones), SLOW)
+    for connection in slow:
+        connection.close()
+
+
+def who_never_reads(desk):
+    """A client that asks ten thousand times and doesn't read: it keeps nobody waiting, and gets all replies once it reads."""
+    count = 10000
+    with connect(desk.port) as greedy:
+        sender = threading.Thread(target=greedy.sendall, args=(ASKED * count,), daemon=True)
+        sender.start()
+        time.sleep(0.5)
+        waited = longest(desk.port)
+        check("nobody waits for a client that doesn't read", waited < 1, "%.3f s" % waited)
+        reader = Reader(greedy)
+        same("it gets all replies once it reads", all(reader.reply() == desk.zones for _ in range(count)), True)
+        sender.join()
+
+
+def ends(desk):
+    """Connections that are half-closed, that ask to be closed, that are reset in any state."""
+    with connect(desk.port) as connection:
+        connection.sendall(ASKED * 3)
+        connection.shutdown(socket.SHUT_WR)
+        reader = Reader(connection)
+        same("a half-closed connection gets its replies", [reader.reply() for _ in range(3)], [desk.zones] * 3)
+        same("and then its end", reader.reply(), b"")
+    with connect(desk.port) as connection:
+        connection.sendall(request("GET", "/zones", NORTH, is_last=True) + ASKED)
+        reader = Reader(connection)
+        check("the last request is answered", reader.reply().startswith(b"HTTP/1.1 200 "))
+        same("and none behind it", reader.reply(), b"")
+    body = request("POST", "/publish", PUBLISHER, 1, b"x" * 3000000)
+    for sent in (b"", ASKED[:9], ASKED, ASKED + ASKED[:9], body[:5000], ASKED * 5000):
+        connection = connect(desk.port)
+        connection.settimeout(1)
+        try:
+            connection.sendall(sent)
+        except OSError:
+            pass  # it reads nothing, so the desk stopped to read, too
+        connection.setsockopt(socket.SOL_SOCKET, socket.SO_LINGER, RESET)
+        connection.close()
+    same("after resets in each state the desk goes on", answered(desk.port), desk.zones)
+
+
+def in_pieces(desk, dice):
+    """Twenty connections send twenty requests each, cut at random and mixed. Each gets the replies to its own, in order."""
+    paths = ["/zones", "/published", "/zones/NORTH/errsysmods", "/zones/NORTH/missingfix", "/nothing"]
+    asked = [request("GET", path, token) for path in paths for token in (NORTH, "south-token", "nobody")]
+    told = {text: answered(desk.port, text) for text in asked}
+    plans = [[dice.choice(asked) for _ in range(20)] for _ in range(20)]
+    lines = [connect(desk.port) for _ in plans]
+    left = [b"".join(plan) for plan in plans]
+    while any(left):
+        place = dice.choice([place for place, text in enumerate(left) if text])
+        cut = dice.randint(1, 200)
+        lines[place].sendall(left[place][:cut])
+        left[place] = left[place][cut:]
+    for place, (connection, plan) in enumerate(zip(lines, plans)):
+        reader = Reader(connection)
+        same("connection %d gets its own replies" % place, [reader.reply() for _ in plan], [told[text] for text in plan])
+        connection.close()
+
+
+def changes_between(desk):
+    """A change on one connection stands between the halves of a question on another."""
+    rows = write(os.path.join(folder(), "rows"), "SYSMOD,STATE\n")
+    with open(rows, "rb") as file:
+        body = file.read()
+    with connect(desk.port) as asks:
+        asks.sendall(request("GET", "/zones", "south-token")[:30])
+        changed = answered(desk.port, request("PUT", "/zones/LATER", "south-token", 1, body))
+        asks.sendall(request("GET", "/zones", "south-token")[30:])
+        reply = Reader(asks).reply()
+    check("the change is made", changed.startswith(b"HTTP/1.1 200 "), changed)
+    check("and the question that came whole after it sees it", b"LATER" in reply, reply)
+
+
+def places():
+    """With four places the connection that has been idle longest gives way; --connections counts who was accepted."""
+    process, port = open_desk("--open", "4", "--connections", "7")
+    idle = [connect(port) for _ in range(4)]
+    for connection in idle:
+        connection.sendall(ASKED)
+        Reader(connection).reply()
+        time.sleep(0.05)
+    check("a fifth is answered", answered(port).startswith(b"HTTP/1.1 200 "))
+    same("the one that was idle longest gave way", Reader(idle[0]).reply(), b"")
+    for connection in idle[2:]:
+        connection.sendall(ASKED)
+        check("the others go on", Reader(connection).reply().startswith(b"HTTP/1.1 200 "))
+    for connection in idle[1:]:
+        connection.close()
+    for _ in range(2):
+        check("the last ones are answered", answered(port).startswith(b"HTTP/1.1 200 "))
+    same("after seven connections the desk ends", process.wait(timeout=30), 0)
+
+
+desk = Desk(CALLERS)
+
+with connect(desk.port) as connection:
+    connection.sendall(request("PUT", "/zones/NORTH", NORTH, 1, b"SYSMOD,STATE\nUJ90001,APPLIED\n"))
+    Reader(connection).reply()
+desk.zones = answered(desk.port)
+check("the desk answers", desk.zones.startswith(b"HTTP/1.1 200 "), desk.zones)
+dice = random.Random(SEED)
+nobody_waits(desk)
+a_thousand_slow_ones(desk)
+who_never_reads(desk)
+ends(desk)
+in_pieces(desk, dice)
+changes_between(desk)
+desk.end()
+places()
+finish("side_by_side")
