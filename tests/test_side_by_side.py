@@ -135,8 +135,8 @@ def a_thousand_slow_ones(desk):
 
 
 def who_never_reads(desk):
-    """A client that asks ten thousand times and doesn't read: it keeps nobody waiting, and gets all replies once it reads."""
-    count = 10000
+    """A client that asks nine thousand times and doesn't read: it keeps nobody waiting, and gets all replies once it reads."""
+    count = 9000  # a connection carries 10,000 at most
     with connect(desk.port) as greedy:
         sender = threading.Thread(target=greedy.sendall, args=(ASKED * count,), daemon=True)
         sender.start()
