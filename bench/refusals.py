@@ -330,13 +330,25 @@ class Desk:
 
     def exchange(self, requests):
         """The replies to these requests in one connection."""
-        with socket.create_connection(("127.0.0.1", self.port), timeout=60) as connection:
-            connection.sendall(b"".join(requests))
-            connection.shutdown(socket.SHUT_WR)
-            written = []
-            while part := connection.recv(1 << 16):
-                written.append(part)
+        written = []
+        try:
+            with socket.create_connection(("127.0.0.1", self.port), timeout=60) as connection:
+                connection.sendall(b"".join(requests))
+                connection.shutdown(socket.SHUT_WR)
+                while part := connection.recv(1 << 16):
+                    written.append(part)
+        except (BrokenPipeError, ConnectionRefusedError, ConnectionResetError):
+            pass  # it ended while something of it lay unread
         return replies_of(b"".join(written))
+
+    def has_ended(self):
+        """Whether the desk itself had no memory, and told so."""
+        try:
+            status = self.process.wait(timeout=1)
+        except subprocess.TimeoutExpired:
+            return False
+        see((status, self.process.stderr.read()) == (3, b"FAULT 74\n"), "the desk ended", status)
+        return True
 
     def end(self):
         see(self.process.poll() is None, "the desk ended", self.process.poll())
@@ -359,6 +371,9 @@ def serve(capacity):
         replies = desk.exchange(SCRIPT)
         met = refusing.met()
         refusing.refuse(0)
+        ended = not replies and desk.has_ended()  # only a desk that has answered nobody ends for want of memory
+        if ended:
+            desk = Desk(refusing, store, 0, capacity)
         refused = see_replies(replies, SCRIPT[: len(replies)])
         see(met or (len(replies) == len(SCRIPT) and not refused), "without a refusal", replies)
         given = [sent for i, sent in enumerate(SCRIPT[: len(replies)]) if i not in refused]
@@ -374,7 +389,7 @@ def serve(capacity):
         see(got == told[-len(QUESTIONS) :], "started again: got", got, "wanted", told[-len(QUESTIONS) :])
         desk.end()
         remove(store)
-        return "a 503" if refused else "a connection's end" if len(replies) < len(SCRIPT) else "all replies", met
+        return "the desk's end" if ended else "a 503" if refused else "a connection's end" if len(replies) < len(SCRIPT) else "all replies", met
 
     return way
 
