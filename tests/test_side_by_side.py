@@ -17,6 +17,7 @@ from service import PROGRAM, Desk, check, finish, folder, free_port, same, write
 
 SEED = int(sys.argv[1]) if len(sys.argv) > 1 else 20261128
 SLOW = 1000
+SOON = 10  # seconds: half of what a desk waits for a head, on however busy a machine
 RESET = struct.pack("ii", 1, 0)
 NORTH, PUBLISHER = "north-token", "publisher-token"
 CALLERS = write(os.path.join(folder(), "callers.csv"), "NAME,TOKEN\nPUBLISH,%s\nNORTH,%s\nSOUTH,south-token\n" % (PUBLISHER, NORTH))
@@ -110,7 +111,7 @@ def nobody_waits(desk):
     kept.sendall(ASKED)
     Reader(kept).reply()
     waited = longest(desk.port)
-    check("nobody waits for silence, half a head, a body that stops or a kept connection", waited < 1, "%.3f s" % waited)
+    check("nobody waits for silence, half a head, a body that stops or a kept connection", waited < SOON, "%.3f s" % waited)
     half.sendall(ASKED[20:])
     same("half a head is answered once it is whole", Reader(half).reply(), desk.zones)
     for connection in (silent, half, stopped, kept):
@@ -124,7 +125,7 @@ def a_thousand_slow_ones(desk):
         for connection in slow:
             connection.sendall(ASKED[place : place + 1])
         waited = longest(desk.port, 100)
-        check("one quick client waits for no slow one", waited < 1, "%.3f s" % waited)
+        check("one quick client waits for no slow one", waited < SOON, "%.3f s" % waited)
         time.sleep(1)
     for connection in slow:
         connection.sendall(ASKED[3:])
@@ -142,7 +143,7 @@ def who_never_reads(desk):
         sender.start()
         time.sleep(0.5)
         waited = longest(desk.port)
-        check("nobody waits for a client that doesn't read", waited < 1, "%.3f s" % waited)
+        check("nobody waits for a client that doesn't read", waited < SOON, "%.3f s" % waited)
         reader = Reader(greedy)
         same("it gets all replies once it reads", all(reader.reply() == desk.zones for _ in range(count)), True)
         sender.join()

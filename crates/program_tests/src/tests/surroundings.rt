@@ -88,7 +88,7 @@ impl Rounds for Around<'_> {
             PortHas::Fault(fault) => Err(*fault),
             PortHas::Sockets(sockets) => sockets.round(connections, left, told),
             PortHas::Passers(passed) => {
-                *passed += u64::from(pass(left, told)?);
+                *passed = passed.saturating_add(u64::from(pass(left, told)?));
                 Ok(Round::Idle)
             }
         }
