@@ -285,12 +285,13 @@ fn assert_received(alloc: Global, client: &mut TcpStream, wanted: &[u8]) -> Resu
     assert_equal(str::from_utf8(got.as_slice()), str::from_utf8(wanted))
 }
 
-// Two clients, of which one sends half of a head and no more. None closes its side.
+// Two clients, of which one sends half of a head and no more. None closes its side. By the desk's clock ten seconds pass in each
+// round, so that it needs no minute to let them go.
 #[test]
 fn a_desk_answers_beside_a_silent_client_and_lets_both_go(rt: HostRuntime) -> Result<(), Fail> {
     let alloc = rt.alloc();
     let keys = RandomState::new(&rt)?;
-    let clock = Ticking::new(1);
+    let clock = Ticking::new(10);
     let address = SocketAddr::from((Ipv4Addr::LOCALHOST, 0u16));
     let Ok(sockets) = SocketRounds::new(&rt, alloc, &clock, address, 2, Patience::usual()) else {
         return Err("no sockets".into());
