@@ -50,9 +50,9 @@ impl Rounds for System<'_> {
         }
     }
 
-    fn note(&mut self, slot: usize, room: usize) {
+    fn let_read(&mut self, slot: usize, room: usize) {
         if let Some(sockets) = &mut self.sockets {
-            sockets.note(slot, room);
+            sockets.let_read(slot, room);
         }
     }
 
@@ -63,9 +63,9 @@ impl Rounds for System<'_> {
         }
     }
 
-    fn part(&mut self, connections: &Connections) {
+    fn show_last(&mut self, connections: &Connections) {
         if let Some(sockets) = &mut self.sockets {
-            sockets.part(connections);
+            sockets.show_last(connections);
         }
     }
 }

@@ -11,7 +11,7 @@ use Rattle.bureau.specs.Kept.{IsWithOneRefused, MayBeLeft, Rests}
 use Rattle.bureau.specs.Runs.{IsLawfulRun}
 use Rattle.bureau_http.specs.Exchange.{calls_of}
 use Rattle.connections.specs.Items.{AreFree, Event, Slots, exchanges_of}
-use Rattle.connections.specs.Rounds.{AreLogged, AreRounds, AreServedInRounds, Entry, Log, Logs, entry, told_in}
+use Rattle.connections.specs.Rounds.{AreLogged, AreRounds, AreServedInRounds, Entry, Log, Logs, last_showing, round_of, told_in}
 use Rattle.connections.specs.Service.{IsSound}
 use Rattle.connections.specs.declared.rounds.RoundFault.{RoundFault}
 use Rattle.connections.proofs.CallFacts.{asked_in, free_slots, nothing_answered, nothing_called}
@@ -220,15 +220,15 @@ module _ {D : Type 0} {g : disk.Ghosts D} (session : Session) (from : Image) (fo
       let does = by.did in
       let did = does.did in
       let told = did.first ++ did.last ∷ [] in
-      let rounds = did.earlier ++ entry did.shown told ∷ entry does.after [] ∷ [] in
+      let rounds = did.earlier ++ round_of did.shown did.left told ∷ last_showing does.after ∷ [] in
       let closed = closed_clean over.closing over.after_is in
       let opened = does.goes.clean closed in
-      let logged = subst (λ (told : List Event). Logs session.log session.log_after (did.earlier ++ entry did.shown told ∷ entry does.after [] ∷ []))
+      let logged = subst (λ (told : List Event). Logs session.log session.log_after (did.earlier ++ round_of did.shown did.left told ∷ last_showing does.after ∷ []))
       (sym (append_assoc did.first (did.last ∷ []) did.rest)) did.logged in
       served_from from before holds found finds over.opened over.has_opened opened by.cache does.cache_after by.is_new.right over.closing closed session.log session.log_after
       rounds (free_in session) does.after (free_slots session.most_open) did.whole
       (does.goes.ours (ours from before holds found finds over.opened over.has_opened opened) closed) (Some fault)
-      (inr (ap Some device, (did.earlier, did.shown, told, did.rest, does.after, refl, logged)))
+      (inr (ap Some device, (did.earlier, did.shown, did.left, told, did.rest, does.after, refl, logged)))
       (follows_failed over.closing does.cache_after fault (told_in rounds) device) left over.after_is last ends still
 
   kept_unserved : (fault : AnyFault) → kept_over (Some fault) (λ old new. (desk_ends over_files session old new).unserved)

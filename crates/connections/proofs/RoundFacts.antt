@@ -1,5 +1,5 @@
 -- One round after another, and the log of them.
-use Rattle.std.proofs.Common.{◌≡◌, ◌⊎◌, inl, inr, ℕ, ◌+◌, ◌<◌, ◌≤◌, List, [], ◌∷◌, ◌++◌, length, map, take, drop, get_or, Some, None, Result, Ok, Err, IfErr, OnOk, refl, sym, ap, ◌∙◌, subst, arith, append_assoc, append-nil, length-append}
+use Rattle.std.proofs.Common.{◌≡◌, ◌⊎◌, inl, inr, ℕ, ◌+◌, ◌-◌, ◌<◌, ◌≤◌, List, [], ◌∷◌, ◌++◌, length, map, take, drop, get_or, Some, None, Result, Ok, Err, IfErr, OnOk, refl, sym, ap, ◌∙◌, subst, arith, append_assoc, append-nil, length-append}
 use Rattle.std.proofs.lemmas.Grind.{flat_map-append}
 use Rattle.std.proofs.lemmas.List.Sums.{sum_by-append, sum_by-cons, sum_by_push}
 use Rattle.catalogue.specs.View.{Goes, IsOpen, Tells, View}
@@ -14,7 +14,7 @@ use Rattle.bureau_http.proofs.IsolatedFacts.{Alike, Alone}
 use Rattle.bureau_http.proofs.ServingFacts.{ActOnce}
 use Rattle.connections.specs.Items.{AreFree, Event, Item, Slots, comers, comers_in, exchanges_of}
 use Rattle.connections.specs.Memory.{StaysWithin}
-use Rattle.connections.specs.Rounds.{AreAllServed, AreInRounds, AreRounds, AreShown, EndsBy, EndsInFailure, Entry, Fails, GoesInRounds, HasHaltedBy, HasServed, HasServedAll, HasServedBut, HasServedUntil, IsHaltedBy, IsStill, Log, Logs, entry, told_in}
+use Rattle.connections.specs.Rounds.{AreAllServed, AreCounted, AreInRounds, AreRounds, AreShown, EndsBy, EndsInFailure, Entry, Fails, GoesInRounds, HasHaltedBy, HasServed, HasServedAll, HasServedBut, HasServedUntil, IsHaltedBy, IsStill, Log, Logs, last_showing, round_of, told_in}
 use Rattle.connections.specs.Service.{IsEnded, IsSound}
 use Rattle.connections.specs.SideBySide.{IsOnward, NoneWaits}
 use Rattle.connections.specs.Turns.{AreSettled}
@@ -52,11 +52,31 @@ comers_on xs ys = ap comers (told_on xs ys) ∙ sum_by-append comers_in (told_in
 left_on : (rest left count x y all : ℕ) → all ≡ x + y → rest + y ≡ left → left + x ≡ count → rest + all ≡ count
 left_on rest left count x y all is next first = omega (arith, is, next, first)
 
-few_on : (left count x y all : ℕ) → all ≡ x + y → y ≤ left → left + x ≡ count → all ≤ count
-few_on left count x y all is few first = omega (arith, is, few, first)
-
 many_on : (left count x y all : ℕ) → all ≡ x + y → left < y → left + x ≡ count → count < all
 many_on left count x y all is many first = omega (arith, is, many, first)
+
+less_none : (count : ℕ) → count ≡ count - 0
+less_none count = omega (arith)
+
+less_twice : (count x y all : ℕ) → all ≡ x + y → count - all ≡ (count - x) - y
+less_twice count x y all is = omega (arith, is)
+
+less_come : (left count come : ℕ) → left + come ≡ count → left ≡ count - come
+less_come left count come is = omega (arith, is)
+
+counted_on : (count : ℕ) (xs ys : List Entry) → AreCounted count xs → AreCounted (count - comers (told_in xs)) ys → AreCounted count (xs ++ ys)
+counted_on count [] ys each next = subst (λ n. AreCounted n ys) (sym (less_none count)) next
+counted_on count (x ∷ xs) ys each next = (
+  each.0,
+  counted_on (count - comers x.told) xs ys each.1
+      (subst (λ n. AreCounted n ys)
+      (less_twice count (comers x.told) (comers (told_in xs)) (comers (told_in (x ∷ xs))) (sum_by-append comers_in x.told (told_in xs))) next),
+)
+
+-- where so many are left
+counted_then : (left count : ℕ) (xs ys : List Entry) → left + comers (told_in xs) ≡ count → AreCounted count xs → AreCounted left ys → AreCounted count (xs ++ ys)
+counted_then left count xs ys come each next =
+    counted_on count xs ys each (subst (λ n. AreCounted n ys) (less_come left count (comers (told_in xs)) come) next)
 
 -- those of the first events, of one more, and of the others
 pub comers_next : {V : Type 0} (f : V → Event) (events : List V) (i : ℕ) (item : V) → i < length events → item ≡ get_or events i item
@@ -90,8 +110,9 @@ shown_waits rows (x ∷ xs) items t u before h =
     subst (λ (l : List Item). NoneWaits rows t (x.told ++ told_in xs) l u) (sym h.4)
     (none_waits_on rows x.told (told_in xs) h.0 h.1 t h.2 u h.5 (shown_waits rows xs h.1 h.2 u (waits_settled rows x.told h.0 t h.2 h.5) h.6))
 
-one_shown : (rows : List CallerRow) (told : List Event) (items : List Item) (t u : Slots) → NoneWaits rows t told items u → AreShown rows t (entry t told ∷ []) items u
-one_shown rows told items t u h = (items, [], u, refl, sym (append-nil items), h, (refl, refl))
+one_shown : (rows : List CallerRow) (one : Entry) (items : List Item) (t u : Slots) → one.shown ≡ t → NoneWaits rows t one.told items u
+    → AreShown rows t (one ∷ []) items u
+one_shown rows one items t u shown h = (items, [], u, shown, sym (append-nil items), h, (refl, refl))
 
 -- ---- one after another
 
@@ -141,20 +162,20 @@ module _ {Desk : Type 0} (view : View Desk Tables) where
     within = stays_same t t refl refl;
   }
 
-  pub one_round : (old new : Desk) (events : List Event) (t u : Connections) → IsOnward view old new events t u
-      → GoesInRounds view old new (entry t.slots.items events ∷ []) t u
-  one_round old new events t u onward = record {
+  pub one_round : (old new : Desk) (one : Entry) (t u : Connections) → one.shown ≡ t.slots.items → IsOnward view old new one.told t u
+      → GoesInRounds view old new (one ∷ []) t u
+  one_round old new one t u shown onward = record {
     goes = onward.goes;
     in_rounds = told_so onward.in_turn (λ this it. record {
       so_far = record {
         items = it.so_far.items;
-        told = it.so_far.told ∙ sym (append-nil events);
+        told = it.so_far.told ∙ sym (append-nil one.told);
         steps = it.so_far.steps;
         now = it.so_far.now;
         run = it.so_far.run;
         callers = it.so_far.callers;
       };
-      shown = λ settled. one_shown this.callers events it.so_far.items t.slots.items u.slots.items (it.waits settled);
+      shown = λ settled. one_shown this.callers one it.so_far.items t.slots.items u.slots.items shown (it.waits settled);
     });
     within = onward.within;
   }
@@ -183,10 +204,12 @@ module _ {Desk : Type 0} (view : View Desk Tables) where
   still_sound old new events (inr is) = inr is
 
   module _ (old between new : Desk) (log mid log_after : Log) (t u v : Connections) where
-    abbrev both : HasServed view old between log mid t u → HasServed view between new mid log_after u v → HasServed view old new log log_after t v
-    both first next = record {
+    abbrev both : (left count : ℕ) (first : HasServed view old between log mid t u count) → left + comers (told_in first.rounds) ≡ count
+        → HasServed view between new mid log_after u v left → HasServed view old new log log_after t v count
+    both left count first come next = record {
       rounds = first.rounds ++ next.rounds;
       logged = logs_on log mid log_after first.rounds next.rounds first.logged next.logged;
+      counted = counted_then left count first.rounds next.rounds come first.counted next.counted;
       onward = goes_in_on old between new first.rounds next.rounds t u v first.onward next.onward;
       still = still_rounds old between new first.rounds next.rounds first.still next.still;
     }
@@ -196,13 +219,13 @@ module _ {Desk : Type 0} (view : View Desk Tables) where
     served_on rest left count turns first next =
         let xs = first.so_far.rounds in
         let ys = next.so_far.rounds in
-        let one = first.counted in
-        let more = next.counted in
+        let one = first.turned in
+        let more = next.turned in
         let all = length-append xs ys in
         record {
-          so_far = both first.so_far next.so_far;
+          so_far = both left count first.so_far first.come next.so_far;
           come = left_on rest left count (comers (told_in xs)) (comers (told_in ys)) (comers (told_in (xs ++ ys))) (comers_on xs ys) next.come first.come;
-          counted = omega (arith, one, more, all);
+          turned = omega (arith, one, more, all);
         }
 
     until_on : (left count turns : ℕ) → HasServedBut view old between log mid t u left count turns → HasServedUntil view between new mid log_after u v left
@@ -217,10 +240,12 @@ module _ {Desk : Type 0} (view : View Desk Tables) where
           so_far = record {
             rounds = xs ++ ys;
             logged = logs_on log mid until.mid xs ys first.so_far.logged until.so_far.logged;
+            counted = counted_then left count xs ys first.come first.so_far.counted until.so_far.counted;
             onward = goes_in_on old between until.between xs ys t u until.there first.so_far.onward until.so_far.onward;
             still = still_rounds old between until.between xs ys first.so_far.still until.so_far.still;
           };
-          few = few_on left count (comers (told_in xs)) (comers (told_in ys)) (comers (told_in (xs ++ ys))) (comers_on xs ys) until.few first.come;
+          left = until.left;
+          come = left_on until.left left count (comers (told_in xs)) (comers (told_in ys)) (comers (told_in (xs ++ ys))) (comers_on xs ys) until.come first.come;
           events = until.events;
           parted = until.parted;
           told = until.told;
@@ -229,13 +254,13 @@ module _ {Desk : Type 0} (view : View Desk Tables) where
         }
 
     why_on : (Over : RoundFault → Type 0) (fault : RoundFault) (left count turns : ℕ) (first : HasServedBut view old between log mid t u left count turns)
-        (next : HasServed view between new mid log_after u v) → Over fault ⊎ ((fault ≡ System) × (left < comers (told_in next.rounds)))
+        (next : HasServed view between new mid log_after u v left) → Over fault ⊎ ((fault ≡ System) × (left < comers (told_in next.rounds)))
         → HasHaltedBy view Over (halt.Rounds fault) old new log log_after t v count
-    why_on Over fault left count turns first next (inl over) = (both first.so_far next, inl over)
+    why_on Over fault left count turns first next (inl over) = (both left count first.so_far first.come next, inl over)
     why_on Over fault left count turns first next (inr many) =
         let xs = first.so_far.rounds in
         let ys = next.rounds in (
-          both first.so_far next,
+          both left count first.so_far first.come next,
           inr (many.0, inl (many_on left count (comers (told_in xs)) (comers (told_in ys)) (comers (told_in (xs ++ ys))) (comers_on xs ys) many.1 first.come)),
         )
 
@@ -245,61 +270,77 @@ module _ {Desk : Type 0} (view : View Desk Tables) where
     ended_on Over (halt.Rounds fault) left count turns first so = why_on Over fault left count turns first so.0 so.1
 
   -- nothing was told yet
-  abbrev pub served_none : (desk : Desk) (log : Log) (t : Connections) → HasServed view desk desk log log t t
-  served_none desk log t = record { rounds = []; logged = logs_none log; onward = goes_in_none desk t; still = inl (refl, refl) }
+  abbrev pub served_none : (desk : Desk) (log : Log) (t : Connections) (count : ℕ) → HasServed view desk desk log log t t count
+  served_none desk log t count = record {
+    rounds = [];
+    logged = logs_none log;
+    counted = tt;
+    onward = goes_in_none desk t;
+    still = inl (refl, refl);
+  }
+
+  none_come : (count : ℕ) → count + comers (told_in []) ≡ count
+  none_come count = (let none : comers (told_in []) ≡ 0 = refl in omega (arith, none))
 
   pub served_none_but : (desk : Desk) (log : Log) (t : Connections) (count : ℕ) → HasServedBut view desk desk log log t t count count 0
   served_none_but desk log t count = record {
-    so_far = served_none desk log t;
-    come = (let none : comers (told_in []) ≡ 0 = refl in omega (arith, none));
-    counted = refl;
+    so_far = served_none desk log t count;
+    come = none_come count;
+    turned = refl;
   }
 
   -- no more rounds are counted
   pub counted_out : (Over : RoundFault → Type 0) (old new : Desk) (log log_after : Log) (t u : Connections) (left count turns : ℕ)
       → HasServedBut view old new log log_after t u left count turns → turns ≡ 18446744073709551615 → HasHaltedBy view Over (halt.Rounds System) old new log log_after t u count
-  counted_out Over old new log log_after t u left count turns so all = (so.so_far, inr (refl, inr (so.counted ∙ all)))
+  counted_out Over old new log log_after t u left count turns so all = (so.so_far, inr (refl, inr (so.turned ∙ all)))
 
   -- ---- one round
 
-  module _ (old new : Desk) (log log_after : Log) (events : List Event) (t u : Connections) (logged : Logs log log_after (entry t.slots.items events ∷ [])) where
+  module _ (old new : Desk) (log log_after : Log) (left : ℕ) (events : List Event) (t u : Connections)
+      (logged : Logs log log_after (round_of t.slots.items left events ∷ [])) where
+    abbrev one : Entry
+    one = round_of t.slots.items left events
+
     -- its events were served
-    abbrev pub round_served : IsOnward view old new events t u → IsStill view old new events → HasServed view old new log log_after t u
+    abbrev pub round_served : IsOnward view old new events t u → IsStill view old new events → HasServed view old new log log_after t u left
     round_served onward still = record {
-      rounds = entry t.slots.items events ∷ [];
+      rounds = one ∷ [];
       logged = logged;
-      onward = one_round old new events t u onward;
+      counted = (refl, tt);
+      onward = one_round old new one t u refl onward;
       still = subst (IsStill view old new) (sym (append-nil events)) still;
     }
 
-    comers_one : comers (told_in (entry t.slots.items events ∷ [])) ≡ comers events
+    comers_one : comers (told_in (one ∷ [])) ≡ comers events
     comers_one = ap comers (append-nil events)
 
     -- and then room was shared out
     pub round_served_but : IsOnward view old new events t u → IsStill view old new events → (v : Connections) → v.slots.items ≡ u.slots.items → StaysWithin u v
-        → (rest left : ℕ) → rest + comers events ≡ left → HasServedBut view old new log log_after t v rest left 1
-    round_served_but onward still v same within rest left is = record {
+        → (rest : ℕ) → rest + comers events ≡ left → HasServedBut view old new log log_after t v rest left 1
+    round_served_but onward still v same within rest is = record {
       so_far = record {
-        rounds = entry t.slots.items events ∷ [];
+        rounds = one ∷ [];
         logged = logged;
-        onward = goes_in_same old new (entry t.slots.items events ∷ []) t u v (one_round old new events t u onward) same within;
+        counted = (refl, tt);
+        onward = goes_in_same old new (one ∷ []) t u v (one_round old new one t u refl onward) same within;
         still = subst (IsStill view old new) (sym (append-nil events)) still;
       };
       come = ap (λ k. rest + k) comers_one ∙ is;
-      counted = refl;
+      turned = refl;
     }
 
-    pub round_many : (left : ℕ) → left < comers events → left < comers (told_in (entry t.slots.items events ∷ []))
-    round_many left many = subst (λ k. left < k) (sym comers_one) many
+    pub round_many : left < comers events → left < comers (told_in (one ∷ []))
+    round_many many = subst (λ k. left < k) (sym comers_one) many
 
-    pub round_failed : (last : Log) (left : ℕ) → Fails view old new events t u → Logs log_after last (entry u.slots.items [] ∷ [])
+    pub round_failed : (last : Log) → Fails view old new events t u → Logs log_after last (last_showing u.slots.items ∷ [])
         → HasServedUntil view old new log last t u left
-    round_failed last left fails parted = record {
+    round_failed last fails parted = record {
       between = old;
       mid = log;
       there = t;
-      so_far = served_none old log t;
-      few = (let none : comers (told_in []) ≡ 0 = refl in omega (arith, none));
+      so_far = served_none old log t left;
+      left = left;
+      come = none_come left;
       events = events;
       parted = log_after;
       told = logged;
@@ -344,6 +385,7 @@ module _ {Desk : Type 0} (view : View Desk Tables) where
           record {
             rounds = it.rounds;
             logged = it.logged;
+            counted = it.counted;
             served = lawful_rounds new it.rounds u it.onward;
             sound = still_sound old new (told_in it.rounds) it.still;
             came = omega (arith, is);
@@ -356,29 +398,34 @@ module _ {Desk : Type 0} (view : View Desk Tables) where
           let fails = until.fails in
           let so = until.so_far in
           let shown = until.there.slots.items in
-          let parts = so.rounds ++ entry shown until.events ∷ entry u.slots.items [] ∷ [] in
+          let come = until.come in
+          let round = round_of shown until.left in
+          let parts = so.rounds ++ round until.events ∷ last_showing u.slots.items ∷ [] in
           record {
             earlier = so.rounds;
             shown = shown;
+            left = until.left;
             first = fails.first;
             last = fails.last;
             rest = fails.rest;
-            logged = subst (λ (events : List Event). Logs log log_after (so.rounds ++ entry shown events ∷ entry u.slots.items [] ∷ [])) fails.are
-                (logs_on log until.mid log_after so.rounds (entry shown until.events ∷ entry u.slots.items [] ∷ []) so.logged
-                (logs_on until.mid until.parted log_after (entry shown until.events ∷ []) (entry u.slots.items [] ∷ []) until.told until.last));
-            fewer = until.few;
+            logged = subst (λ (events : List Event). Logs log log_after (so.rounds ++ round events ∷ last_showing u.slots.items ∷ [])) fails.are
+                (logs_on log until.mid log_after so.rounds (round until.events ∷ last_showing u.slots.items ∷ []) so.logged
+                (logs_on until.mid until.parted log_after (round until.events ∷ []) (last_showing u.slots.items ∷ []) until.told until.last));
+            counted = counted_then until.left count so.rounds (round (fails.first ++ fails.last ∷ fails.rest) ∷ []) come so.counted (refl, tt);
+            fewer = omega (arith, come);
             between = fails.between;
             between_slots = fails.mid.slots.items;
-            served = lawful_rounds fails.between (so.rounds ++ entry shown fails.first ∷ []) fails.mid
-                (goes_in_on old until.between fails.between so.rounds (entry shown fails.first ∷ []) t until.there fails.mid so.onward
-                (one_round until.between fails.between fails.first until.there fails.mid fails.onward));
+            served = lawful_rounds fails.between (so.rounds ++ round fails.first ∷ []) fails.mid
+                (goes_in_on old until.between fails.between so.rounds (round fails.first ∷ []) t until.there fails.mid so.onward
+                (one_round until.between fails.between (round fails.first) until.there fails.mid refl fails.onward));
             sound = still_sound old fails.between (told_in so.rounds ++ fails.first)
                 (still_on old until.between fails.between (told_in so.rounds) fails.first so.still fails.still);
             failed = fails.failed;
-            whole = lawful_rounds new (so.rounds ++ entry shown (fails.first ++ fails.last ∷ []) ∷ entry u.slots.items [] ∷ []) u
-                (goes_in_on old until.between new so.rounds (entry shown (fails.first ++ fails.last ∷ []) ∷ entry u.slots.items [] ∷ []) t until.there u so.onward
-                (goes_in_on until.between new new (entry shown (fails.first ++ fails.last ∷ []) ∷ []) (entry u.slots.items [] ∷ []) until.there u u
-                (one_round until.between new (fails.first ++ fails.last ∷ []) until.there u fails.whole) (one_round new new [] u u (onward_none view new u))));
+            whole = lawful_rounds new (so.rounds ++ round (fails.first ++ fails.last ∷ []) ∷ last_showing u.slots.items ∷ []) u
+                (goes_in_on old until.between new so.rounds (round (fails.first ++ fails.last ∷ []) ∷ last_showing u.slots.items ∷ []) t until.there u so.onward
+                (goes_in_on until.between new new (round (fails.first ++ fails.last ∷ []) ∷ []) (last_showing u.slots.items ∷ []) until.there u u
+                (one_round until.between new (round (fails.first ++ fails.last ∷ [])) until.there u refl fails.whole)
+                (one_round new new (last_showing u.slots.items) u u refl (onward_none view new u))));
           }
 
       halted_by : (Over : RoundFault → Type 0) (why : Halt) (count : ℕ) → HasHaltedBy view Over why old new log log_after t u count
@@ -387,6 +434,7 @@ module _ {Desk : Type 0} (view : View Desk Tables) where
       halted_by Over (halt.Rounds fault) count so = record {
         rounds = so.0.rounds;
         logged = so.0.logged;
+        counted = so.0.counted;
         served = lawful_rounds new so.0.rounds u so.0.onward;
         sound = still_sound old new (told_in so.0.rounds) so.0.still;
         why = so.1;

@@ -1,5 +1,5 @@
 -- What a desk does in rounds, by the log of these, as far as that is known.
-use Rattle.std.specs.Prelude.{◌≡◌, ◌<◌, ◌≤◌, ◌⊎◌, ℕ, ◌+◌, List, [], ◌∷◌, ◌++◌, length, option_map, Option, Some, IfSome}
+use Rattle.std.specs.Prelude.{◌≡◌, ◌<◌, ◌≤◌, ◌⊎◌, ℕ, ◌+◌, ◌-◌, List, [], ◌∷◌, ◌++◌, length, option_map, Option, Some, None, IfSome}
 use Rattle.std.specs.List.{flat_map}
 use Rattle.catalogue.specs.View.{Goes, IsOpen, Tells, View}
 use Rattle.bureau_store.specs.Tables.{Tables}
@@ -22,13 +22,18 @@ use Rattle.connections.specs.declared.slots.Connections.{Connections}
 
 -- ---- the log
 
--- A round: how the connections stood that it was shown, with what had to go out, and what it told.
+-- A round: how the connections stood that it was shown, with what had to go out; how many more might come; and what it told.
+-- Or a last showing, which has no such number and tells nothing.
 pub record Entry : Type 0 where
   pub shown : Slots
+  pub left : Option ℕ
   pub told : List Event
 
-abbrev pub entry : Slots → List Event → Entry
-entry shown told = record { shown = shown; told = told }
+abbrev pub round_of : Slots → ℕ → List Event → Entry
+round_of shown left told = record { shown = shown; left = Some left; told = told }
+
+abbrev pub last_showing : Slots → Entry
+last_showing shown = record { shown = shown; left = None; told = [] }
 
 -- the rounds so far, the oldest first, as far as they are known
 abbrev pub Log : Type 0
@@ -41,6 +46,11 @@ Logs old new entries = IfSome new (λ log. option_map (λ before. before ++ entr
 -- all that was told, in order
 abbrev pub told_in : List Entry → List Event
 told_in entries = flat_map (λ (entry : Entry). entry.told) entries
+
+-- Each was a round, and heard how many more might come: of so many connections those that had not come yet.
+abbrev pub AreCounted : ℕ → List Entry → Type 0
+AreCounted count [] = Unit {0}
+AreCounted count (round ∷ rounds) = (round.left ≡ Some count) × AreCounted (count - comers round.told) rounds
 
 -- ---- what was served in rounds
 
@@ -67,6 +77,7 @@ module _ {Desk : Type 0} (view : View Desk Tables) (old new : Desk) (log log_aft
   pub record AreAllServed (count : ℕ) : Type 0 where
     pub rounds : List Entry
     pub logged : Logs log log_after rounds
+    pub counted : AreCounted count rounds
     pub served : AreRounds view old new rounds before after
     pub sound : IsSound view new (told_in rounds)
     pub came : comers (told_in rounds) ≡ count
@@ -77,26 +88,30 @@ module _ {Desk : Type 0} (view : View Desk Tables) (old new : Desk) (log log_aft
   pub record AreServedSoFar (Over : RoundFault → Type 0) (fault : RoundFault) (count : ℕ) : Type 0 where
     pub rounds : List Entry
     pub logged : Logs log log_after rounds
+    pub counted : AreCounted count rounds
     pub served : AreRounds view old new rounds before after
     pub sound : IsSound view new (told_in rounds)
     pub why : Over fault ⊎ ((fault ≡ System) × ((count < comers (told_in rounds)) ⊎ (length rounds ≡ 18446744073709551615)))
 
   -- The device failed at one event, which is the last that was looked at, and after each before it it had not. What the same round told
-  -- after that event was not looked at. Then the connections were shown once more, as they stood, and nothing more was told.
+  -- after that event was not looked at. Then the connections were shown once more, as they stood after that event, and nothing more was
+  -- told.
   pub record EndsInFailure (count : ℕ) : Type 0 where
     pub earlier : List Entry
     pub shown : Slots
+    pub left : ℕ
     pub first : List Event
     pub last : Event
     pub rest : List Event
-    pub logged : Logs log log_after (earlier ++ entry shown (first ++ last ∷ rest) ∷ entry after [] ∷ [])
+    pub logged : Logs log log_after (earlier ++ round_of shown left (first ++ last ∷ rest) ∷ last_showing after ∷ [])
+    pub counted : AreCounted count (earlier ++ round_of shown left (first ++ last ∷ rest) ∷ [])
     pub fewer : comers (told_in earlier) ≤ count
     pub between : Desk
     pub between_slots : Slots
-    pub served : AreRounds view old between (earlier ++ entry shown first ∷ []) before between_slots
+    pub served : AreRounds view old between (earlier ++ round_of shown left first ∷ []) before between_slots
     pub sound : IsSound view between (told_in earlier ++ first)
     pub failed : 0 < view.failures new
-    pub whole : AreRounds view old new (earlier ++ entry shown (first ++ last ∷ []) ∷ entry after [] ∷ []) before after
+    pub whole : AreRounds view old new (earlier ++ round_of shown left (first ++ last ∷ []) ∷ last_showing after ∷ []) before after
 
   -- why it ended before all connections were served
   abbrev pub IsHaltedBy : (RoundFault → Type 0) → ℕ → Halt → Type 0
@@ -116,11 +131,13 @@ pub record AreAskedIn (rows : List CallerRow) (rounds : List Entry) (calls : Lis
   pub own : EachIsServed rows items
   pub calls_are : calls ≡ calls_of (exchanges_of items)
 
--- The log grew by these rounds. Or, where the device failed, the last of them that told anything told more, which was not looked at.
+-- The log grew by these rounds. Or, where the device failed, the last round told more, which was not looked at; then came the last
+-- showing.
 abbrev pub AreLogged : Log → Log → Type 0 → List Entry → Type 0
 AreLogged log log_after Failed rounds = Logs log log_after rounds
-    ⊎ (Failed × ((earlier : List Entry) × (shown : Slots) × (told : List Event) × (rest : List Event) × (last : Slots)
-    × (rounds ≡ earlier ++ entry shown told ∷ entry last [] ∷ []) × Logs log log_after (earlier ++ entry shown (told ++ rest) ∷ entry last [] ∷ [])))
+    ⊎ (Failed × ((earlier : List Entry) × (shown : Slots) × (left : ℕ) × (told : List Event) × (rest : List Event) × (last : Slots)
+    × (rounds ≡ earlier ++ round_of shown left told ∷ last_showing last ∷ [])
+    × Logs log log_after (earlier ++ round_of shown left (told ++ rest) ∷ last_showing last ∷ [])))
 
 -- The log grew by rounds that ask for these calls.
 pub record AreCallsOf (rows : List CallerRow) (log log_after : Log) (Failed : Type 0) (calls : List CallBy) : Type 0 where
@@ -158,17 +175,19 @@ module _ {Desk : Type 0} (view : View Desk Tables) where
     pub failed : 0 < view.failures new
     pub whole : IsOnward view old new (first ++ last ∷ []) before after
 
-  pub record HasServed (old new : Desk) (log log_after : Log) (before after : Connections) : Type 0 where
+  -- of so many connections that were to come
+  pub record HasServed (old new : Desk) (log log_after : Log) (before after : Connections) (count : ℕ) : Type 0 where
     pub rounds : List Entry
     pub logged : Logs log log_after rounds
+    pub counted : AreCounted count rounds
     pub onward : GoesInRounds old new rounds before after
     pub still : IsStill old new (told_in rounds)
 
   -- after so many rounds, where so many are to come
   pub record HasServedBut (old new : Desk) (log log_after : Log) (before after : Connections) (left count turns : ℕ) : Type 0 where
-    pub so_far : HasServed old new log log_after before after
+    pub so_far : HasServed old new log log_after before after count
     pub come : left + comers (told_in so_far.rounds) ≡ count
-    pub counted : length so_far.rounds ≡ turns
+    pub turned : length so_far.rounds ≡ turns
 
   abbrev pub HasServedAll : Desk → Desk → Log → Log → Connections → Connections → ℕ → Type 0
   HasServedAll old new log log_after before after count = (turns : ℕ) × HasServedBut old new log log_after before after 0 count turns
@@ -177,22 +196,23 @@ module _ {Desk : Type 0} (view : View Desk Tables) where
     pub between : Desk
     pub mid : Log
     pub there : Connections
-    pub so_far : HasServed old between log mid before there
-    pub few : comers (told_in so_far.rounds) ≤ count
+    pub so_far : HasServed old between log mid before there count
+    pub left : ℕ
+    pub come : left + comers (told_in so_far.rounds) ≡ count
     pub events : List Event
     pub parted : Log
-    pub told : Logs mid parted (entry there.slots.items events ∷ [])
+    pub told : Logs mid parted (round_of there.slots.items left events ∷ [])
     pub fails : Fails between new events there after
-    pub last : Logs parted log_after (entry after.slots.items [] ∷ [])
+    pub last : Logs parted log_after (last_showing after.slots.items ∷ [])
 
   -- one round that is the last, of so many connections that are to come
   abbrev pub EndsBy : (RoundFault → Type 0) → Halt → Desk → Desk → Log → Log → Connections → Connections → ℕ → Type 0
   EndsBy Over halt.Device old new log log_after before after left = HasServedUntil old new log log_after before after left
-  EndsBy Over (halt.Rounds fault) old new log log_after before after left = (so : HasServed old new log log_after before after)
+  EndsBy Over (halt.Rounds fault) old new log log_after before after left = (so : HasServed old new log log_after before after left)
       × (Over fault ⊎ ((fault ≡ System) × (left < comers (told_in so.rounds))))
 
   -- all of them
   abbrev pub HasHaltedBy : (RoundFault → Type 0) → Halt → Desk → Desk → Log → Log → Connections → Connections → ℕ → Type 0
   HasHaltedBy Over halt.Device old new log log_after before after count = HasServedUntil old new log log_after before after count
-  HasHaltedBy Over (halt.Rounds fault) old new log log_after before after count = (so : HasServed old new log log_after before after)
+  HasHaltedBy Over (halt.Rounds fault) old new log log_after before after count = (so : HasServed old new log log_after before after count)
       × (Over fault ⊎ ((fault ≡ System) × ((count < comers (told_in so.rounds)) ⊎ (length so.rounds ≡ 18446744073709551615))))

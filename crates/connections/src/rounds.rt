@@ -1,10 +1,10 @@
 //! Rounds of events, until all connections were served.
-ghost use Rattle.std.specs.Prelude.{◌≡◌, ◌+◌, ◌<◌, ℕ, [], ◌∷◌, map, IfErr, IfNone, IfOk, IfSome, OnOk};
+ghost use Rattle.std.specs.Prelude.{◌≡◌, ◌+◌, ◌<◌, [], ◌∷◌, map, IfErr, IfNone, IfOk, IfSome, OnOk};
 ghost use Rattle.bureau.specs.Answering.{bureau_view};
 ghost use Rattle.catalogue.specs.View.{Goes};
 ghost use Rattle.connections.specs.Items.{AreFree, comers, event_of};
 ghost use Rattle.connections.specs.Memory.{StaysWithin};
-ghost use Rattle.connections.specs.Rounds.{AreAllServed, EndsBy, HasHaltedBy, HasServedAll, HasServedBut, IsHaltedBy, Log, Logs, entry};
+ghost use Rattle.connections.specs.Rounds.{AreAllServed, EndsBy, HasHaltedBy, HasServedAll, HasServedBut, IsHaltedBy, Log, Logs, last_showing, round_of};
 ghost use Rattle.connections.specs.declared.rounds.RoundFault.{RoundFault};
 
 use crate::event::Event;
@@ -73,20 +73,21 @@ pub trait Rounds {
     ) -> Result<Round, RoundFault>
         requires { told.old.items ≡ [] }
         ensures log { Logs (log self.old) (log self.new)
-            (entry connections.now.slots.items (map event_of told.new.items) ∷ []) }
+            (round_of connections.now.slots.items left (map event_of told.new.items) ∷ []) }
         ensures over { IfErr result (is_over self.new) };
 
     /// What was told of a slot was served, and so many bytes may be read next.
-    fn note(&mut self, slot: usize, room: usize)
+    fn let_read(&mut self, slot: usize, room: usize)
         ensures { log self.new ≡ log self.old };
 
     /// Of the connections whose body waits for room, the slot of the one with this index, counted from 0.
     fn short_at(&self, index: usize) -> Option<usize>;
 
-    /// The device has failed, and connections stand like this in the end. What has to go out may be written, as far as that takes no
-    /// wait.
-    fn part(&mut self, connections: &Connections)
-        ensures { Logs (log self.old) (log self.new) (entry connections.now.slots.items [] ∷ []) };
+    /// The device has failed, and connections stood like this after the event at which it did. What the last round told behind that event
+    /// was not looked at: what it wrote still stands here, and where it tells that a connection left or came, here stands the one
+    /// before. Of all others what has to go out may be written, as far as that takes no wait.
+    fn show_last(&mut self, connections: &Connections)
+        ensures { Logs (log self.old) (log self.new) (last_showing connections.now.slots.items ∷ []) };
 }
 
 /// Serves so many connections side by side to their ends, beside a bureau: what each round tells, one event after the other. After
@@ -171,7 +172,7 @@ fn go_round<S: Store, J: Judge<S>, R: Rounds>(
 {
     let round = rounds.round(connections, left, told);
     if go_while_open(alloc, bureau, routes, connections, told.as_slice()) {
-        rounds.part(connections);
+        rounds.show_last(connections);
         return Err(Halt::Device);
     }
     let round = match round {
@@ -234,5 +235,5 @@ fn note_room<R: Rounds>(connections: &mut Connections, rounds: &mut R, slot: usi
     ensures none { R.log rounds.new ≡ R.log rounds.old }
 {
     let room = connections.room(slot);
-    rounds.note(slot, room);
+    rounds.let_read(slot, room);
 }

@@ -1,9 +1,9 @@
 //! Events in order, and the requests that are answered after each.
-ghost use Rattle.std.specs.Prelude.{◌≡◌, ◌+◌, ◌*◌, ◌≤◌, [], ◌∷◌, length, map};
+ghost use Rattle.std.specs.Prelude.{◌+◌, ◌*◌, ◌≤◌, [], ◌∷◌, length, map};
 ghost use Rattle.bureau.specs.Kept.{IsKeptRun};
 ghost use Rattle.bureau.specs.Runs.{IsLawfulRun};
 ghost use Rattle.catalogue.specs.View.{Goes, Tells};
-ghost use Rattle.connections.specs.Items.{event_of, slot_of};
+ghost use Rattle.connections.specs.Items.{event_of};
 ghost use Rattle.connections.specs.Memory.{IsWithin, StaysWithin, held_by};
 ghost use Rattle.connections.specs.SideBySide.{AreDone, AreServedSideBySide, IsOnward};
 ghost use Rattle.connections.specs.Turns.{AreSettled, AreSettledBut};

@@ -22,7 +22,7 @@ pub struct SocketRounds<'c, C> {
     events: Events,
     clock: &'c C,
     // Some of what was read may not have been told, or not served: then nothing more is read.
-    is_over: bool,
+    has_stopped: bool,
 }
 
 impl<'c, C: Clock> SocketRounds<'c, C> {
@@ -43,7 +43,7 @@ impl<'c, C: Clock> SocketRounds<'c, C> {
             sockets: Sockets::new(net, alloc, address, slots, patience)?,
             events: Events::with_capacity(alloc, EVENTS)?,
             clock,
-            is_over: false,
+            has_stopped: false,
         })
     }
 
@@ -89,28 +89,28 @@ impl<C: Clock> Rounds for SocketRounds<'_, C> {
         left: u32,
         told: &mut Vec<Event>,
     ) -> Result<Round, RoundFault> {
-        if self.is_over {
+        if self.has_stopped {
             return Err(RoundFault::System);
         }
         match self.go_round(connections, left, told) {
             Ok(round) => Ok(round),
             Err(fault) => {
-                self.is_over = true;
+                self.has_stopped = true;
                 Err(fault.in_round())
             }
         }
     }
 
-    fn note(&mut self, slot: usize, room: usize) {
-        self.sockets.note(slot, room);
+    fn let_read(&mut self, slot: usize, room: usize) {
+        self.sockets.let_read(slot, room);
     }
 
     fn short_at(&self, index: usize) -> Option<usize> {
         self.sockets.short_at(index)
     }
 
-    fn part(&mut self, connections: &Connections) {
-        self.is_over = true;
-        self.sockets.part(connections);
+    fn show_last(&mut self, connections: &Connections) {
+        self.has_stopped = true;
+        self.sockets.show_last(connections);
     }
 }

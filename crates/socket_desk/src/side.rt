@@ -72,7 +72,7 @@ impl Side {
     }
 
     // What came or went was told to the desk, and so many bytes may be read next.
-    pub(crate) fn note(&mut self, room: usize) {
+    pub(crate) fn let_read(&mut self, room: usize) {
         self.is_ahead = false;
         self.told = self.heard;
         self.room = room;

@@ -348,7 +348,7 @@ impl Sockets {
     /// The device has failed: replies that wait go out as far as the sockets take them at once. What the last round told may not
     /// have been looked at. So nothing goes to a socket that came or was written to in it: what is shown of its slot may
     /// have gone out already, or be the reply of the connection that was there before.
-    pub(crate) fn part(&mut self, connections: &Connections) {
+    pub(crate) fn show_last(&mut self, connections: &Connections) {
         for slot in 0..self.sides.len() {
             if let Some(mut side) = self.take_out(slot) {
                 if !side.is_ahead {
@@ -360,9 +360,9 @@ impl Sockets {
     }
 
     /// An event of a slot was told, and so many bytes may be read next.
-    pub(crate) fn note(&mut self, slot: usize, room: usize) {
+    pub(crate) fn let_read(&mut self, slot: usize, room: usize) {
         if let Some(mut side) = self.take_out(slot) {
-            side.note(room);
+            side.let_read(room);
             self.put_back(slot, side);
         }
     }

@@ -94,9 +94,9 @@ impl Rounds for Around<'_> {
         }
     }
 
-    fn note(&mut self, slot: usize, room: usize) {
+    fn let_read(&mut self, slot: usize, room: usize) {
         if let PortHas::Sockets(sockets) = &mut self.port_has {
-            sockets.note(slot, room);
+            sockets.let_read(slot, room);
         }
     }
 
@@ -107,9 +107,9 @@ impl Rounds for Around<'_> {
         }
     }
 
-    fn part(&mut self, connections: &Connections) {
+    fn show_last(&mut self, connections: &Connections) {
         if let PortHas::Sockets(sockets) = &mut self.port_has {
-            sockets.part(connections);
+            sockets.show_last(connections);
         }
     }
 }
