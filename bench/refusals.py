@@ -341,15 +341,6 @@ class Desk:
             pass  # it ended while something of it lay unread
         return replies_of(b"".join(written))
 
-    def has_ended(self):
-        """Whether the desk itself had no memory, and told so."""
-        try:
-            status = self.process.wait(timeout=1)
-        except subprocess.TimeoutExpired:
-            return False
-        see((status, self.process.stderr.read()) == (3, b"FAULT 74\n"), "the desk ended", status)
-        return True
-
     def end(self):
         see(self.process.poll() is None, "the desk ended", self.process.poll())
         self.process.kill()
@@ -371,9 +362,6 @@ def serve(capacity):
         replies = desk.exchange(SCRIPT)
         met = refusing.met()
         refusing.refuse(0)
-        ended = not replies and desk.has_ended()  # only a desk that has answered nobody ends for want of memory
-        if ended:
-            desk = Desk(refusing, store, 0, capacity)
         refused = see_replies(replies, SCRIPT[: len(replies)])
         see(met or (len(replies) == len(SCRIPT) and not refused), "without a refusal", replies)
         given = [sent for i, sent in enumerate(SCRIPT[: len(replies)]) if i not in refused]
@@ -389,7 +377,7 @@ def serve(capacity):
         see(got == told[-len(QUESTIONS) :], "started again: got", got, "wanted", told[-len(QUESTIONS) :])
         desk.end()
         remove(store)
-        return "the desk's end" if ended else "a 503" if refused else "a connection's end" if len(replies) < len(SCRIPT) else "all replies", met
+        return "a 503" if refused else "a connection's end" if len(replies) < len(SCRIPT) else "all replies", met
 
     return way
 

@@ -29,8 +29,7 @@ impl Sockets {
         Ok(())
     }
 
-    // Accepts one, if one waits and there is a place. Where all are taken, the one that has been idle longest gives way. Whether
-    // more may wait.
+    // Accepts one, if one waits and there is a place. Whether more may wait.
     fn accept_one(
         &mut self,
         connections: &Connections,
@@ -40,57 +39,51 @@ impl Sockets {
         if self.left == 0 {
             return Ok(false);
         }
-        let idlest = self.idlest_where_full(connections, now);
-        if self.free.is_empty() && idlest.is_none() {
+        let Some(slot) = self.place(connections, now) else {
             return Ok(false);
-        }
-        let stream = match self.listener.accept() {
+        };
+        let mut stream = match self.listener.accept() {
             Ok((stream, _)) => stream,
             Err(error) => return Ok(is_gone(&error)),
         };
-        if let Some(slot) = idlest {
-            self.end(slot, told)?;
+        if self.register(slot, &mut stream).is_ok() {
+            self.take_place(slot, stream, now, told)?;
         }
-        self.take_place(stream, now, told)?;
         Ok(true)
     }
 
-    // A socket takes a free slot.
+    // The slot of the next connection: a free one, or that of the connection that is to give way.
+    fn place(&self, connections: &Connections, now: Instant) -> Option<usize> {
+        match self.free.last() {
+            Some(slot) => Some(*slot),
+            None => self.idlest(connections, now),
+        }
+    }
+
+    // The system is to tell of a socket by its slot.
+    fn register(&mut self, slot: usize, stream: &mut TcpStream) -> io::Result<()> {
+        stream.set_nodelay(true)?;
+        self.poll.registry().register(stream, Token(slot), Interest::READABLE | Interest::WRITABLE)
+    }
+
+    // A socket takes a slot. A connection that stands there gives way, so the slot is the last of the free ones.
     fn take_place(
         &mut self,
+        slot: usize,
         stream: TcpStream,
         now: Instant,
         told: &mut Vec<Event>,
     ) -> Result<(), LoopFault> {
-        let Some(slot) = self.free.pop() else {
-            return Ok(());
-        };
-        if self.register(slot, stream, now).is_err() {
-            self.free.push(slot)?;
-            return Ok(());
-        }
+        self.end(slot, told)?;
+        self.free.pop();
+        self.put_back(slot, Side::new(stream, now));
         self.left = self.left.saturating_sub(1);
         told.push(Event::Came(slot))?;
         Ok(())
     }
 
-    // The system is to tell of a socket by its slot.
-    fn register(&mut self, slot: usize, mut stream: TcpStream, now: Instant) -> io::Result<()> {
-        stream.set_nodelay(true)?;
-        self.poll.registry().register(
-            &mut stream,
-            Token(slot),
-            Interest::READABLE | Interest::WRITABLE,
-        )?;
-        self.put_back(slot, Side::new(stream, now));
-        Ok(())
-    }
-
-    // Where no slot is free, the one whose connection is to give way.
-    fn idlest_where_full(&self, connections: &Connections, now: Instant) -> Option<usize> {
-        if !self.free.is_empty() {
-            return None;
-        }
+    // The slot of the connection that has been idle longest, if one may give way.
+    fn idlest(&self, connections: &Connections, now: Instant) -> Option<usize> {
         let mut idlest: Option<(usize, Instant)> = None;
         for (slot, side) in self.sides.iter().enumerate() {
             if let Some(side) = side {

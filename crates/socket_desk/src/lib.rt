@@ -16,6 +16,7 @@ mod rounds;
 mod side;
 mod sockets;
 mod transfers;
+mod visits;
 
 pub use fault::LoopFault;
 pub use patience::{Patience, Stage};

@@ -63,7 +63,10 @@ impl<'c, C: Clock> SocketRounds<'c, C> {
         left: u32,
         told: &mut Vec<Event>,
     ) -> Result<Round, LoopFault> {
-        told.reserve(self.sockets.most_told())?;
+        if told.reserve(self.sockets.most_told()).is_err() {
+            self.sockets.rest(&mut self.events)?;
+            return Ok(Round::Busy);
+        }
         self.sockets.begin(left)?;
         self.sockets.wait(&mut self.events)?;
         let now = Instant::now(self.clock)?;

@@ -1,8 +1,8 @@
-//! Sockets that don't block, each in its slot, and one read or write of each that is ready.
+//! Sockets that don't block, each in its slot, and whose turn it is.
 use crate::fault::LoopFault;
 use crate::patience::{Patience, Stage};
-use crate::side::{Listed, Side, waits};
-use crate::transfers::{read_event, write_event};
+use crate::side::{Listed, Side};
+use crate::visits::{ROOM, Visit};
 use connections::{Connections, Event};
 use mio::net::TcpListener;
 use mio::{Events, Interest, Poll, Token};
@@ -19,25 +19,9 @@ const LISTENER: usize = usize::MAX;
 // how many are accepted.
 pub(crate) const MOST: usize = 64;
 
-// The most bytes of a read.
-const ROOM: usize = 65_536;
-
 // How often, in seconds, the loop looks for connections whose time is up, and tries again what the system may refuse for a
 // while: to accept a connection where no descriptor was left.
 const TICK: u64 = 1;
-
-// What became of a visit.
-#[derive(Clone, Copy, Debug, PartialEq, Eq)]
-pub(crate) enum Visit {
-    // There may be more to do.
-    Goes,
-    // The system would make it wait.
-    Waits,
-    // There is no room yet for what comes.
-    Short,
-    // It is over.
-    Over,
-}
 
 /// Sockets, each in its slot.
 #[derive(Drop)]
@@ -126,10 +110,20 @@ impl Sockets {
         } else {
             Duration::ZERO
         };
+        self.poll_for(events, wait)
+    }
+
+    fn poll_for(&mut self, events: &mut Events, wait: Duration) -> io::Result<()> {
         match self.poll.poll(events, Some(wait)) {
             Err(error) if error.kind() != ErrorKind::Interrupted => Err(error),
             _ => Ok(()),
         }
+    }
+
+    /// There is no memory to tell of anything, so nothing is read or written. Waits for a while; what the system tells of sockets counts.
+    pub(crate) fn rest(&mut self, events: &mut Events) -> Result<(), LoopFault> {
+        self.poll_for(events, Duration::from_secs(TICK))?;
+        self.hear_of(events)
     }
 
     /// One read or write of each socket that is ready, beside connections as they stand. What came of it is to be told.
@@ -219,89 +213,6 @@ impl Sockets {
         }
         self.put_back(slot, side);
         Ok(())
-    }
-
-    // One read or write.
-    fn transfer(
-        &mut self,
-        connections: &Connections,
-        slot: usize,
-        side: &mut Side,
-        now: Instant,
-        told: &mut Vec<Event>,
-    ) -> Result<Visit, LoopFault> {
-        if side.is_closing {
-            return Ok(self.read_out(side));
-        }
-        if connections.is_free(slot) {
-            side.close(now);
-            return Ok(Visit::Goes);
-        }
-        let text = connections.outgoing(slot);
-        if !text.is_empty() {
-            return self.write(text, slot, side, now, told);
-        }
-        let begins = stage(connections, slot, side) == Stage::Idle;
-        self.read(slot, side, begins, now, told)
-    }
-
-    // One read.
-    fn read(
-        &mut self,
-        slot: usize,
-        side: &mut Side,
-        begins: bool,
-        now: Instant,
-        told: &mut Vec<Event>,
-    ) -> Result<Visit, LoopFault> {
-        let most = side.room.min(self.room.len());
-        if most == 0 {
-            return Ok(Visit::Short);
-        }
-        let (room, _) = self.room.split_at_mut(most);
-        match read_event(self.alloc, &mut side.stream, slot, room) {
-            Ok(event) => {
-                side.hear(now, begins);
-                told.push(event)?;
-                Ok(Visit::Goes)
-            }
-            Err(error) => stopped(slot, &error, told),
-        }
-    }
-
-    // One write.
-    fn write(
-        &mut self,
-        text: &[u8],
-        slot: usize,
-        side: &mut Side,
-        now: Instant,
-        told: &mut Vec<Event>,
-    ) -> Result<Visit, LoopFault> {
-        match write_event(&mut side.stream, slot, text) {
-            Ok(event) => {
-                // After a whole reply the next request begins.
-                let begins = matches!(&event, Event::Wrote(_, count) if *count == text.len());
-                side.hear(now, begins);
-                side.is_ahead = true;
-                told.push(event)?;
-                Ok(Visit::Goes)
-            }
-            Err(error) => stopped(slot, &error, told),
-        }
-    }
-
-    // One read of a connection that has ended on the desk's side.
-    fn read_out(&mut self, side: &mut Side) -> Visit {
-        match side.read_out(self.room.as_mut_slice()) {
-            Ok(true) => Visit::Goes,
-            Ok(false) => Visit::Over,
-            Err(error) => match waits(&error) {
-                Some(true) => Visit::Waits,
-                Some(false) => Visit::Over,
-                None => Visit::Goes,
-            },
-        }
     }
 
     // Looks for connections whose time is up, where that is due.
@@ -435,17 +346,5 @@ pub(crate) fn stage(connections: &Connections, slot: usize, side: &Side) -> Stag
         Some(Some(connection)) if connection.held.wanted() == 0 => Stage::Head,
         Some(Some(_)) => Stage::Body,
         _ => Stage::Closing,
-    }
-}
-
-// A read or a write didn't do. Where the system wouldn't only make it wait, the connection is given up.
-fn stopped(slot: usize, error: &io::Error, told: &mut Vec<Event>) -> Result<Visit, LoopFault> {
-    match waits(error) {
-        Some(true) => Ok(Visit::Waits),
-        Some(false) => {
-            told.push(Event::Failed(slot))?;
-            Ok(Visit::Over)
-        }
-        None => Ok(Visit::Goes),
     }
 }

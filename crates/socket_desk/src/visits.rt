@@ -1,0 +1,122 @@
+//! The turn of a socket: one read or write, and what became of it.
+use crate::fault::LoopFault;
+use crate::patience::Stage;
+use crate::side::{Side, waits};
+use crate::sockets::{Sockets, stage};
+use crate::transfers::{read_event, write_event};
+use connections::{Connections, Event};
+use std::io;
+use std::time::Instant;
+
+// The most bytes of a read.
+pub(crate) const ROOM: usize = 65_536;
+
+// What became of a visit.
+#[derive(Clone, Copy, Debug, PartialEq, Eq)]
+pub(crate) enum Visit {
+    // There may be more to do.
+    Goes,
+    // The system would make it wait.
+    Waits,
+    // There is no room yet for what comes.
+    Short,
+    // It is over.
+    Over,
+}
+
+impl Sockets {
+    /// One read or write of the socket in a slot, which was taken out of it.
+    pub(crate) fn transfer(
+        &mut self,
+        connections: &Connections,
+        slot: usize,
+        side: &mut Side,
+        now: Instant,
+        told: &mut Vec<Event>,
+    ) -> Result<Visit, LoopFault> {
+        if side.is_closing {
+            return Ok(self.read_out(side));
+        }
+        if connections.is_free(slot) {
+            side.close(now);
+            return Ok(Visit::Goes);
+        }
+        let text = connections.outgoing(slot);
+        if !text.is_empty() {
+            return self.write(text, slot, side, now, told);
+        }
+        let begins = stage(connections, slot, side) == Stage::Idle;
+        self.read(slot, side, begins, now, told)
+    }
+
+    // One read.
+    fn read(
+        &mut self,
+        slot: usize,
+        side: &mut Side,
+        begins: bool,
+        now: Instant,
+        told: &mut Vec<Event>,
+    ) -> Result<Visit, LoopFault> {
+        let most = side.room.min(self.room.len());
+        if most == 0 {
+            return Ok(Visit::Short);
+        }
+        let (room, _) = self.room.split_at_mut(most);
+        match read_event(self.alloc, &mut side.stream, slot, room) {
+            Ok(event) => {
+                side.hear(now, begins);
+                told.push(event)?;
+                Ok(Visit::Goes)
+            }
+            Err(error) => stopped(slot, &error, told),
+        }
+    }
+
+    // One write.
+    fn write(
+        &mut self,
+        text: &[u8],
+        slot: usize,
+        side: &mut Side,
+        now: Instant,
+        told: &mut Vec<Event>,
+    ) -> Result<Visit, LoopFault> {
+        match write_event(&mut side.stream, slot, text) {
+            Ok(event) => {
+                // After a whole reply the next request begins.
+                let begins = matches!(&event, Event::Wrote(_, count) if *count == text.len());
+                side.hear(now, begins);
+                side.is_ahead = true;
+                told.push(event)?;
+                Ok(Visit::Goes)
+            }
+            Err(error) => stopped(slot, &error, told),
+        }
+    }
+
+    // One read of a connection that has ended on the desk's side.
+    fn read_out(&mut self, side: &mut Side) -> Visit {
+        match side.read_out(self.room.as_mut_slice()) {
+            Ok(true) => Visit::Goes,
+            Ok(false) => Visit::Over,
+            Err(error) => match waits(&error) {
+                Some(true) => Visit::Waits,
+                Some(false) => Visit::Over,
+                None => Visit::Goes,
+            },
+        }
+    }
+}
+
+// A read or a write didn't do. Where the system wouldn't only make it wait, the connection is given up.
+fn stopped(slot: usize, error: &io::Error, told: &mut Vec<Event>) -> Result<Visit, LoopFault> {
+    match waits(error) {
+        Some(true) => Ok(Visit::Waits),
+        Some(false) => {
+            told.push(Event::Failed(slot))?;
+            Ok(Visit::Over)
+        }
+        None => Ok(Visit::Goes),
+    }
+}
