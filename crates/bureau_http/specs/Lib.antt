@@ -4,8 +4,6 @@ pub mod Connection
 pub mod Exchange
 pub mod Told
 pub mod Served
-pub mod Arrivals
 pub mod Isolated
 pub mod List
 pub mod Replay
-pub mod Service

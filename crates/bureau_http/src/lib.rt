@@ -5,9 +5,6 @@
 //! - [`serve_next`]: the next request of a connection; [`Step`], [`Retries`]
 //! - [`serve_list`]: connections in memory, one after the other; [`RunFault`]
 //! - [`replay`]: the same over a store in memory that begins with the callers of a file
-//! - [`serve_listener`]: connections as they come, from a [`Listening`]
-//! - [`serve_while_open`]: the same over a store, as long as its device has not failed
-//! - [`Sockets`]: those of a socket's listener, with the [`Patience`] of the desk
 //! - [`one_connection`]: a law: a connection's bytes are requests and a stop in one way only
 //!
 //! ```
@@ -32,19 +29,13 @@ mod desk;
 mod fault;
 mod law;
 mod list;
-mod listening;
 mod replaying;
 mod reply;
-mod service;
 mod serving;
-mod sockets;
 
 pub use desk::Desk;
 pub use fault::{ConnFault, RunFault};
 pub use law::one_connection;
 pub use list::serve_list;
-pub use listening::{Listening, serve_listener};
 pub use replaying::replay;
-pub use service::serve_while_open;
 pub use serving::{Retries, Served, Step, serve_next, serve_one};
-pub use sockets::{Patience, Side, Sockets};

@@ -1,5 +1,6 @@
 mod SlotFacts
 pub mod ReadingFacts
+mod DeviceFacts
 mod OwnFacts
 mod MemoryFacts
 mod SettledFacts

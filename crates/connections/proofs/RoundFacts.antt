@@ -15,7 +15,7 @@ use Rattle.bureau_http.proofs.ServingFacts.{ActOnce}
 use Rattle.connections.specs.Items.{AreFree, Event, Item, Slots, comers, comers_in, exchanges_of}
 use Rattle.connections.specs.Memory.{StaysWithin}
 use Rattle.connections.specs.Rounds.{AreAllServed, AreCounted, AreInRounds, AreRounds, AreShown, EndsBy, EndsInFailure, Entry, Fails, GoesInRounds, HasHaltedBy, HasServed, HasServedAll, HasServedBut, HasServedUntil, IsHaltedBy, IsStill, Log, Logs, last_showing, round_of, told_in}
-use Rattle.connections.specs.Service.{IsEnded, IsSound}
+use Rattle.connections.specs.Service.{IsSound}
 use Rattle.connections.specs.SideBySide.{IsOnward, NoneWaits}
 use Rattle.connections.specs.Turns.{AreSettled}
 use Rattle.connections.specs.declared.rounds.Halt.{Halt}
@@ -25,7 +25,7 @@ use Rattle.connections.specs.declared.rounds.RoundFault.TheVariants.{System}
 use Rattle.connections.specs.declared.slots.Connections.{Connections}
 use Rattle.connections.proofs.MemoryFacts.{stays_on, stays_same}
 use Rattle.connections.proofs.ReadingFacts.{Later}
-use Rattle.connections.proofs.SideFacts.{all_events, all_served, joined, lawful_side, more_events, none_waits_on, onward_none, unasked, waits_settled}
+use Rattle.connections.proofs.SideFacts.{all_events, all_served, joined, more_events, none_waits_on, onward_none, unasked, waits_settled}
 
 -- ---- the log
 
@@ -360,21 +360,6 @@ module _ {Desk : Type 0} (view : View Desk Tables) where
       });
       shown = it.shown;
     })
-
-    -- until the device failed
-    pub ended_so : (new : Desk) (events : List Event) (u : Connections) → Fails view old new events t u → IsEnded view old new events t.slots.items u.slots.items
-    ended_so new events u fails = record {
-      first = fails.first;
-      last = fails.last;
-      rest = fails.rest;
-      are = fails.are;
-      between = fails.between;
-      between_slots = fails.mid.slots.items;
-      served = lawful_side view old fails.between later alone alike once fails.first t fails.mid fails.onward;
-      sound = still_sound old fails.between fails.first fails.still;
-      failed = fails.failed;
-      whole = lawful_side view old new later alone alike once (fails.first ++ fails.last ∷ []) t u fails.whole;
-    }
 
     module _ (new : Desk) (log log_after : Log) (u : Connections) where
       pub all_so : {A : Type 0} (answer : Result A Halt) (count : ℕ) → OnOk answer (HasServedAll view old new log log_after t u count)

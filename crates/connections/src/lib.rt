@@ -6,7 +6,6 @@
 //! - [`Connections`]: the connections, each in its slot
 //! - [`Event`]: what is told of one of them
 //! - [`serve_events`]: goes through events in order; [`serve_event`]: one of them
-//! - [`serve_while_open`]: the same over a store, as long as its device has not failed
 //! - [`serve_rounds`]: what [`Rounds`] tell, until all connections were served; [`Halt`]
 //!
 //! ```
@@ -45,7 +44,6 @@ pub use event::Event;
 pub use incoming::Incoming;
 pub use outgoing::Outgoing;
 pub use rounds::{Halt, Round, RoundFault, Rounds, serve_rounds};
-pub use service::serve_while_open;
 pub use serving::{serve_event, serve_events};
 pub use shares::Shares;
 pub use slots::Connections;

@@ -1,55 +1,21 @@
-//! The same over a store, until its device fails.
-ghost use Rattle.std.specs.Prelude.{◌≡◌, ◌∷◌, [], true, false, IfErr, OnErr, OnOk, map, nat_lt};
+//! Events in order, until the device of the store fails.
+ghost use Rattle.std.specs.Prelude.{◌≡◌, ◌∷◌, [], true, false, map, nat_lt};
 ghost use Rattle.bureau.specs.Answering.{bureau_view};
-ghost use Rattle.catalogue.specs.View.{Goes};
 ghost use Rattle.connections.specs.Items.{event_of};
-ghost use Rattle.connections.specs.Memory.{StaysWithin};
 ghost use Rattle.connections.specs.Rounds.{Fails, IsStill};
-ghost use Rattle.connections.specs.Service.{AreServed, IsEnded, IsSound};
 ghost use Rattle.connections.specs.SideBySide.{IsOnward};
 
 use crate::event::Event;
 use crate::serving::serve_event;
 use crate::slots::Connections;
-use bureau::{Bureau, isolation, repeats};
-use bureau_store::{Store, StoreFault};
+use bureau::Bureau;
+use bureau_store::Store;
 use chains::Judge;
-use requests::{Routes, later_bytes};
+use requests::Routes;
 use std::alloc::Global;
 
-/// Goes through events in order, beside a bureau. After each it looks whether the device of its store has failed.
-///
-/// # Errors
-///
-/// `Device` once the device has failed. Then nothing more is looked at, whatever connection it is of.
-pub fn serve_while_open<S: Store, J: Judge<S>>(
-    alloc: Global,
-    bureau: &mut Bureau<S, J>,
-    routes: &Routes,
-    connections: &mut Connections,
-    events: &[Event],
-) -> Result<(), StoreFault>
-    ensures goes { Goes (bureau_view S.tables_view J.is_right) bureau.old bureau.new }
-    ensures served { OnOk result (AreServed (bureau_view S.tables_view J.is_right) bureau.old bureau.new
-        (map event_of events.now) connections.old.slots.items connections.new.slots.items) }
-    ensures sound { OnOk result (IsSound (bureau_view S.tables_view J.is_right) bureau.new
-        (map event_of events.now)) }
-    ensures ended { OnErr result (IsEnded (bureau_view S.tables_view J.is_right) bureau.old bureau.new
-        (map event_of events.now) connections.old.slots.items connections.new.slots.items) }
-    ensures fault { IfErr result (λ fault. fault ≡ StoreFault.Device) }
-    ensures within { StaysWithin connections.old connections.new }
-{
-    isolation();
-    repeats();
-    later_bytes();
-    if go_while_open(alloc, bureau, routes, connections, events) {
-        Err(StoreFault::Device)
-    } else {
-        Ok(())
-    }
-}
-
-// Goes through events in order, until the device of the store has failed. Whether it has.
+/// Goes through events in order, beside a bureau. After each it looks whether the device of the bureau's store has failed, and then
+/// looks at nothing more, whatever connection it is of. Whether it has failed.
 pub(crate) fn go_while_open<S: Store, J: Judge<S>>(
     alloc: Global,
     bureau: &mut Bureau<S, J>,

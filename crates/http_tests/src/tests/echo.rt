@@ -1,7 +1,7 @@
 //! Connections to a desk that knows the publisher alone and answers each call with its own name, and to the bureau.
 use super::tableless::{Answering, Tableless};
 use bureau::{Body, Bureau, Call, Reply};
-use bureau_http::{ConnFault, Desk, Listening, serve_listener, serve_one};
+use bureau_http::{ConnFault, Desk, serve_one};
 use bureau_store::{Caller, ListStore, StoreFault, callers};
 use chains::Whole;
 use faults::NoMemory;
@@ -94,16 +94,6 @@ pub(crate) fn echoed<R: Read, W: Write>(
     served_by(alloc, &mut Echo::desk(alloc), reader, writer)
 }
 
-/// Serves so many connections as they come, and promises nothing, so that no test carries along what is promised of that.
-pub(crate) fn serve<D: Desk, L: Listening>(
-    alloc: Global,
-    desk: &mut D,
-    listening: &mut L,
-    connections: u32,
-) {
-    serve_listener(alloc, desk, listening, connections);
-}
-
 /// The bureau over a store in memory that begins with the callers of a file and nothing else.
 pub(crate) fn bureau_of(alloc: Global, text: &[u8]) -> Result<Bureau<ListStore, Whole>, Fail> {
     let Ok(rows) = callers(alloc, text) else {
@@ -149,9 +139,4 @@ pub(crate) fn repeated_counts(alloc: Global, times: u32) -> Result<Vec<u8>, NoMe
         text.extend_from_slice(one.as_slice())?;
     }
     Ok(text)
-}
-
-/// The same once, and its connection is closed after it.
-pub(crate) fn last_counts(alloc: Global) -> Result<Vec<u8>, NoMemory> {
-    request(alloc, b"GET /published", LAST, b"")
 }

@@ -1,10 +1,10 @@
 use Rattle.std.proofs.Common.{◌+◌, ◌∙◌, ◌∷◌, ◌++◌, [], sym, subst, map, take, drop, refl, inl, inr}
 use Rattle.std.proofs.lemmas.List.{take_all}
 use Rattle.bureau.specs.Answering.{bureau_view}
-use Rattle.bureau_http.proofs.ServiceFacts.{has_failed, has_not_failed}
 use Rattle.connections.specs.Items.{event_of}
 use Rattle.connections.specs.Rounds.{IsStill}
 use Rattle.connections.specs.SideBySide.{IsOnward}
+use Rattle.connections.proofs.DeviceFacts.{has_failed, has_not_failed}
 use Rattle.connections.proofs.SideFacts.{all_events, more_events, onward_none, onward_on}
 use Rattle.connections.proofs.service.go_while_open.Goals as goal
 
