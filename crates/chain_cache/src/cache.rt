@@ -1,8 +1,9 @@
 //! `ChainCache`.
-ghost use Rattle.std.specs.Prelude.{◌≡◌, ◌≤◌, [], ℕ, true, false, IfOk, IfSome, IsSome, OnOk, OnErr, Some, map, slice_get, take};
+ghost use Rattle.std.specs.Prelude.{◌≡◌, ◌≤◌, [], ℕ, true, false, IfOk, IsSome, OnOk, OnErr, Some, map, slice_get, take};
 ghost use Rattle.std.specs.Borrow.{sem};
 ghost use Rattle.std.specs.Map.Iter.{ShowsInOrder, deref_pair};
 ghost use Rattle.catalogue.specs.Content.{Content, IsInOrder};
+ghost use Rattle.catalogue.specs.Ids.{Ascend};
 ghost use Rattle.catalogue.specs.Touched.{AgreeOutside};
 ghost use Rattle.catalogue.specs.View.{MayAsk, Tells};
 ghost use Rattle.catalogue.specs.declared.fault.SourceFault.TheVariants.{Device};
@@ -10,6 +11,7 @@ ghost use Rattle.chain_cache.specs.Cache.{AreFew, AreFilled, CacheLists, IsAsked
 ghost use Rattle.chain_cache.specs.Lent.{ends_filled};
 ghost use Rattle.chains.specs.Frames.{FrameLists, IsFrame};
 ghost use Rattle.chains.specs.Judge as judge;
+ghost use Rattle.chains.specs.United.{united};
 ghost use Rattle.chains.specs.Verdicts.{verdict_of};
 
 use crate::dropping::drop_among;
@@ -27,13 +29,11 @@ use supersede::Zone;
 /// Frames by their ids, the one that was used last first.
 pub(crate) type Frames = LruCache<Id, Frame, RandomState>;
 
-// How many nodes a frame has at most that is kept for a chain.
-const NODES_MOST: usize = 256;
+/// How many nodes a frame has at most that is kept for a chain.
+pub(crate) const NODES_MOST: usize = 256;
 
-// How many SYSMODs a report may have that is judged from frames, and how many nodes more for each of them.
+// How many SYSMODs may be asked for at once that are judged from frames.
 const FEW: usize = 256;
-
-const NODES_EACH: usize = 8;
 
 /// Judges from frames, of which it keeps those that were used last. All callers share them: a frame names no
 /// zone and no client.
@@ -45,7 +45,7 @@ const NODES_EACH: usize = 8;
 pub struct ChainCache {
     frames: Frames,
     built: u64,
-    surveys: Surveys,
+    pub(crate) surveys: Surveys,
 }
 
 impl Model for ChainCache {
@@ -149,9 +149,9 @@ impl ChainCache {
         Ok(self.put(id, built)?)
     }
 
-    // The same, where the frame is kept or has at most so many nodes. Whether it stands first then; else all is as
-    // it was.
-    fn fill_small<P: Published>(
+    /// The same, where the frame is kept or has at most so many nodes. Whether it stands first then; else all is as
+    /// it was.
+    pub(crate) fn fill_small<P: Published>(
         &mut self,
         alloc: Global,
         source: &mut P,
@@ -204,16 +204,16 @@ impl ChainCache {
         Ok(())
     }
 
-    // How many nodes the frame has that stands first.
-    fn first_len(&self) -> usize {
+    /// How many nodes the frame has that stands first.
+    pub(crate) fn first_len(&self) -> usize {
         match self.frames.peek_mru() {
             Some((_, frame)) => frame.nodes().len(),
             None => 0,
         }
     }
 
-    // The verdict from the frame that stands first.
-    fn first_verdict(&self, alloc: Global, zone: &Zone, id: &Id) -> Result<Verdict, NoMemory>
+    /// The verdict from the frame that stands first.
+    pub(crate) fn first_verdict(&self, alloc: Global, zone: &Zone, id: &Id) -> Result<Verdict, NoMemory>
         requires { IsSome (slice_get self.now.entries 0) }
         ensures { IfOk result (λ verdict. (frame : FrameLists) (content : Content)
             → slice_get self.now.entries 0 ≡ Some (id.now, frame) → IsFrame content id.now frame
@@ -249,62 +249,6 @@ impl ChainCache {
         let verdict = survey.verdict(alloc, id)?;
         self.surveys.keep(zone, survey)?;
         Ok(verdict)
-    }
-
-    // For each SYSMOD which verdict it is, by a survey of the zone, which is kept.
-    fn statuses_by_survey<P: Published>(
-        &mut self,
-        alloc: Global,
-        source: &mut P,
-        zone: &Zone,
-        ids: &[Id],
-    ) -> Result<Vec<Status>, SourceFault>
-        ensures asks { MayAsk P.content_view Device source.old source.new result }
-        ensures statuses { IfOk result (λ statuses. Tells P.content_view source.old source.new
-            (λ content. IsRightFor self.old content
-            → statuses.items ≡ map (λ id. judge.status_of (verdict_of content zone.now id)) ids.now)) }
-        ensures right { Tells P.content_view source.old source.new
-            (λ content. IsRightFor self.old content → IsRightFor self.new content) }
-        ensures frames { KeepsFrames self.old self.new }
-        ensures few { AreFew self.new.surveys }
-    {
-        self.surveys.read_listing(alloc, source)?;
-        let survey = self.surveys.survey(alloc, zone)?;
-        let statuses = survey.statuses(alloc, ids)?;
-        self.surveys.keep(zone, survey)?;
-        Ok(statuses)
-    }
-
-    // The same from frames, where all of them together are small.
-    fn statuses_by_frames<P: Published>(
-        &mut self,
-        alloc: Global,
-        source: &mut P,
-        zone: &Zone,
-        ids: &[Id],
-    ) -> Result<Option<Vec<Status>>, SourceFault>
-        ensures asks { MayAsk P.content_view Device source.old source.new result }
-        ensures statuses { IfOk result (λ found. IfSome found
-            (λ statuses. Tells P.content_view source.old source.new
-            (λ content. IsRightFor self.old content
-            → statuses.items ≡ map (λ id. judge.status_of (verdict_of content zone.now id)) ids.now))) }
-        ensures right { Tells P.content_view source.old source.new
-            (λ content. IsRightFor self.old content → IsRightFor self.new content) }
-        ensures filled { (n : ℕ) × AreFilled (take n ids.now) self.old self.new }
-    {
-        let mut statuses = Vec::with_capacity(alloc, ids.len())?;
-        let mut room = NODES_MOST;
-        for id in ids {
-            let is_first = self.fill_small(alloc, source, id, room)?;
-            if !is_first {
-                return Ok(None);
-            }
-            room = room
-                .saturating_sub(self.first_len())
-                .saturating_add(NODES_EACH);
-            statuses.push(self.first_verdict(alloc, zone, id)?.status())?;
-        }
-        Ok(Some(statuses))
     }
 }
 
@@ -385,5 +329,34 @@ impl<P: Published> Judge<P> for ChainCache {
     {
         drop_among(&mut self.frames, ids);
         self.surveys.clear();
+    }
+
+    fn united(
+        &mut self,
+        alloc: Global,
+        source: &mut P,
+        zone: &Zone,
+        ids: &[Id],
+    ) -> Result<Vec<Id>, SourceFault>
+        ensures asks { MayAsk P.content_view Device source.old source.new result }
+        ensures united { IfOk result (λ found. Tells P.content_view source.old source.new
+            (λ content. IsRightFor self.old content → found.items ≡ united content zone.now ids.now)) }
+        ensures ascend { IfOk result (λ found. Ascend found.items) }
+        ensures right { Tells P.content_view source.old source.new
+            (λ content. IsRightFor self.old content → IsRightFor self.new content) }
+        ensures filled { (n : ℕ) × (between : CacheLists) × AreFilled (take n ids.now) self.old between
+            × KeepsFrames between self.new }
+        ensures few { AreFew self.new.surveys }
+    {
+        if let Some(survey) = self.surveys.of(zone) {
+            return Ok(survey.united(alloc, ids)?);
+        }
+        if ids.len() > FEW {
+            return self.united_by_survey(alloc, source, zone, ids);
+        }
+        match self.united_by_frames(alloc, source, zone, ids)? {
+            Some(found) => Ok(found),
+            None => self.united_by_survey(alloc, source, zone, ids),
+        }
     }
 }

@@ -21,6 +21,7 @@
 
 mod cache;
 mod dropping;
+mod many;
 mod surveys;
 
 pub use cache::ChainCache;

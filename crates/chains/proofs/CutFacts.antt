@@ -230,10 +230,10 @@ module _ (W : World (List ℕ)) (members : List (List ℕ)) (V : World ℕ) (cut
   path_up p candidate (z ∷ zs) y path = (step_up p z candidate path.0, path_up z (picked_candidate p z path.0) zs y path.1)
 
   -- the index to which picks lead
-  record ChosenIndex (p : ℕ) (id : List ℕ) : Type 0 where
-    index : ℕ
-    is : id_at members index ≡ id
-    leads : IsChosen V p index
+  pub record ChosenIndex (p : ℕ) (id : List ℕ) : Type 0 where
+    pub index : ℕ
+    pub is : id_at members index ≡ id
+    pub leads : IsChosen V p index
 
   path_down : (p : ℕ) → V.Candidate p → (list : List (List ℕ)) (y : List ℕ) → IsPath (PicksFor W) (id_at members p) list y → ChosenIndex p y
   path_down p candidate [] y same = record { index = p; is = same; leads = record { list = []; path = refl } }
@@ -258,6 +258,12 @@ module _ (W : World (List ℕ)) (members : List (List ℕ)) (V : World ℕ) (cut
   } where
     candidate : V.Candidate p
     candidate = chosen.good.plan.candidates p chosen.good.member
+
+  pub leads_up : (p q : ℕ) → V.Candidate p → IsChosen V p q → IsChosen W (id_at members p) (id_at members q)
+  leads_up p q candidate leads = record { list = map (id_at members) leads.list; path = path_up p candidate leads.list q leads.path }
+
+  pub leads_down : (p : ℕ) (id : List ℕ) → V.Candidate p → IsChosen W (id_at members p) id → ChosenIndex p id
+  leads_down p id candidate leads = path_down p candidate leads.list id leads.path
 
   -- ---- what is held
 

@@ -10,6 +10,7 @@ pub mod IndexFacts
 pub mod WayFacts
 pub mod MadeCutFacts
 pub mod NodeVerdictFacts
+pub mod UnitedFacts
 pub mod FrameFacts
 pub mod PartFacts
 pub mod PlanFacts

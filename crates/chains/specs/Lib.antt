@@ -1,5 +1,6 @@
 pub mod Verdicts
 pub mod Judge
+pub mod United
 pub mod Worlds
 pub mod Cuts
 pub mod Sights

@@ -1,16 +1,20 @@
 //! Who gives verdicts.
 ghost use Rattle.std.specs.Prelude.{◌≡◌, IfOk, map};
 ghost use Rattle.catalogue.specs.Content.{Content, IsInOrder};
+ghost use Rattle.catalogue.specs.Ids.{Ascend};
 ghost use Rattle.catalogue.specs.View.{MayAsk, Tells};
 ghost use Rattle.catalogue.specs.declared.fault.SourceFault.TheVariants.{Device};
 ghost use Rattle.catalogue.specs.Touched.{AgreeOutside};
 ghost use Rattle.chains.specs.Judge as judge;
+ghost use Rattle.chains.specs.United.{united};
 ghost use Rattle.chains.specs.Verdicts.{verdict_of};
 
+use crate::united::{listed, put_plan};
 use crate::{Status, Verdict};
 use catalogue::{Published, SourceFault};
 use mcs_reader::Id;
 use std::alloc::Global;
+use std::collections::BTreeSet;
 use supersede::Zone;
 
 /// Who gives verdicts over a source of published content.
@@ -73,5 +77,33 @@ pub trait Judge<P: Published> {
             statuses.push(self.verdict(alloc, source, zone, id)?.status())?;
         }
         Ok(statuses)
+    }
+
+    /// All that the chosen plans of some SYSMODs have, ascending, each once. A judge that can look at many at
+    /// once does so; otherwise one verdict is asked for after the other.
+    ///
+    /// # Errors
+    ///
+    /// Those of [`Judge::verdict`].
+    fn united(
+        &mut self,
+        alloc: Global,
+        source: &mut P,
+        zone: &Zone,
+        ids: &[Id],
+    ) -> Result<Vec<Id>, SourceFault>
+        ensures asks { MayAsk P.content_view Device source.old source.new result }
+        ensures united { IfOk result (λ found. Tells P.content_view source.old source.new
+            (λ content. is_right self.old content → found.items ≡ united content zone.now ids.now)) }
+        ensures ascend { IfOk result (λ found. Ascend found.items) }
+        ensures right { Tells P.content_view source.old source.new
+            (λ content. is_right self.old content → is_right self.new content) }
+    {
+        let mut found = BTreeSet::new(alloc);
+        for id in ids {
+            let verdict = self.verdict(alloc, source, zone, id)?;
+            put_plan(&mut found, &verdict)?;
+        }
+        Ok(listed(alloc, found)?)
     }
 }

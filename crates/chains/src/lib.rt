@@ -10,6 +10,7 @@
 //! - [`Listing`]: all that is catalogued, whatever the zone; [`listing_of`]: that of a source, read once
 //! - [`Survey`]: all verdicts of one zone; [`Survey::of`]: by a listing; [`survey_of`]: from a source
 //! - [`candidates_for`]: the candidates that give each of several SYSMODs
+//! - [`put_plan`], [`listed`]: what chosen plans have together, put into a set of ids and listed
 //! - [`touches`]: whether a publication may change a frame
 //! - [`good_is_planned`], [`verdicts_are_right`]: laws of the definitions
 //!
@@ -45,6 +46,7 @@ mod nodes;
 mod planning;
 mod surveying;
 mod touching;
+mod united;
 mod verdict;
 mod walks;
 mod whole;
@@ -58,5 +60,6 @@ pub use listing::{Listing, listing_of};
 pub use planning::{good, plan};
 pub use surveying::{Survey, survey_of};
 pub use touching::touches;
+pub use united::{listed, put_plan};
 pub use verdict::{Status, Verdict};
 pub use whole::Whole;

@@ -1,21 +1,23 @@
 //! All verdicts of one zone.
 ghost use Rattle.std.specs.Prelude.{◌≡◌, List, IfOk, map};
 ghost use Rattle.catalogue.specs.Content.{Content};
+ghost use Rattle.catalogue.specs.Ids.{Ascend};
 ghost use Rattle.catalogue.specs.View.{MayAsk, Tells};
 ghost use Rattle.catalogue.specs.declared.fault.SourceFault.TheVariants.{Device};
 ghost use Rattle.chains.specs.Judge as judge;
 ghost use Rattle.chains.specs.Sights.{IsListing};
 ghost use Rattle.chains.specs.Surveys.{IsSurvey, status_by};
+ghost use Rattle.chains.specs.United.{united};
 ghost use Rattle.chains.specs.Verdicts.{verdict_of};
 ghost use Rattle.zone_lists.specs.declared.zones.ZoneRow.{ZoneRow};
 
 use crate::cut::Cut;
-use crate::indices::{by_ids, index_of};
+use crate::indices::{by_ids, ids_at, index_of, put_indices};
 use crate::listing::{Listing, listing_of};
 use crate::{Status, Verdict};
 use catalogue::{Published, SourceFault};
 use mcs_reader::{Id, NoMemory};
-use requisites::{Resolution, is_marked, resolve, verdict_of_node};
+use requisites::{Resolution, chosen_plans, is_marked, resolve, verdict_of_node};
 use std::alloc::Global;
 use std::marker::Model;
 use supersede::Zone;
@@ -99,6 +101,22 @@ impl Survey {
         let good = is_marked(&self.resolution.good, index);
         let candidate = is_marked(&self.cut.nodes.candidates, index);
         status_by(good, candidate)
+    }
+
+    /// All that the chosen plans of some SYSMODs have, ascending, each once: one walk from all of them.
+    ///
+    /// # Errors
+    ///
+    /// `NoMemory` where memory ran out.
+    pub fn united(&self, alloc: Global, ids: &[Id]) -> Result<Vec<Id>, NoMemory>
+        ensures united { IfOk result (λ found. (content : Content) (rows : List ZoneRow)
+            → IsSurvey content rows self.now → found.items ≡ united content rows ids.now) }
+        ensures ascend { IfOk result (λ found. Ascend found.items) }
+    {
+        let mut starts = Vec::with_capacity(alloc, ids.len())?;
+        put_indices(&mut starts, &self.cut.members, 0, ids)?;
+        let plans = chosen_plans(alloc, &self.cut.nodes, &self.resolution, &starts)?;
+        ids_at(alloc, &self.cut.members, &plans)
     }
 }
 

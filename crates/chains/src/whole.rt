@@ -51,4 +51,15 @@ impl<P: Published> Judge<P> for Whole {
         let survey = survey_of(alloc, source, zone)?;
         Ok(survey.statuses(alloc, ids)?)
     }
+
+    fn united(
+        &mut self,
+        alloc: Global,
+        source: &mut P,
+        zone: &Zone,
+        ids: &[Id],
+    ) -> Result<Vec<Id>, SourceFault> {
+        let survey = survey_of(alloc, source, zone)?;
+        Ok(survey.united(alloc, ids)?)
+    }
 }

@@ -1,15 +1,16 @@
 -- Walks by picks, over nodes that are marked.
-use Rattle.std.proofs.Common.{◌≡◌, ◌↔◌, ◌∙◌, ℕ, ◌+◌, ◌<◌, ◌≤◌, List, [], ◌∷◌, ◌++◌, Bool, true, false, length, get_or, set, replicate, take, refl, sym, ap, subst, inl, inr, arith}
-use Rattle.std.specs.List.{Contains}
+use Rattle.std.proofs.Common.{◌≡◌, ◌↔◌, ◌∙◌, ◌⊎◌, ℕ, ◌+◌, ◌<◌, ◌≤◌, List, [], ◌∷◌, ◌++◌, Bool, true, false, cond, Option, length, get_or, set, replicate, take, refl, sym, ap, subst, inl, inr, arith}
+use Rattle.std.specs.List.{Contains, filter}
 use Rattle.std.specs.List.Sorted.{IsStrictlyIncreasing}
 use Rattle.std.proofs.lemmas.Bool.{cases_eq, cases_lt}
 use Rattle.std.proofs.lemmas.Grind.{common_steps}
 use Rattle.std.proofs.lemmas.List.{append-nil, append_assoc, get_or-replicate, get_or-set_other, get_or-set_same, get_or_append_left, get_or_past, get_or_push, length-append, length-set, take_all, take_more}
-use Rattle.std.proofs.lemmas.List.Elements.{Contains-append_cases, Contains-append_left, Contains-get_or, Contains-push, Contains-push_cases}
+use Rattle.std.proofs.lemmas.List.Elements.{Contains-append_cases, Contains-append_left, Contains-append_right, Contains-get_or, Contains-push, Contains-push_cases}
 use Rattle.requisites.specs.Marking.{AreChosenMarks, AreMarked, IsPicking}
 use Rattle.requisites.specs.Nodes.{IsMarked, mark_of, world}
 use Rattle.requisites.specs.Picks.{ArePicksFor}
-use Rattle.requisites.specs.World.{IsChosen, IsChosenPlan, IsGood, PicksFor}
+use Rattle.requisites.specs.Good.{AreGood}
+use Rattle.requisites.specs.World.{AreChosenPlans, IsChosen, IsChosenPlan, IsGood, PicksFor}
 use Rattle.requisites.specs.declared.nodes.Nodes.{Nodes}
 use Rattle.requisites.proofs.LeadsFacts.{leads_closed, leads_itself, leads_more}
 use Rattle.requisites.proofs.OrderFacts.{Takes, drawn_both, takes}
@@ -114,24 +115,65 @@ marked_all listed i a b x y end marked = let T : List ℕ → Type 0 = λ l. Are
 
 -- ---- the walk
 
-module _ (nodes : Nodes) (x : ℕ) where
-  pub picking_begins : (marks : List Bool) (order : List ℕ) → IsGood (world nodes) x
-      → AreMarked (x ∷ []) (replicate (length nodes.candidates.items) false) marks [] order → IsPicking nodes x marks order 0
-  picking_begins marks order good first = record {
-    begun = put x (first.whole x (Contains-push [] x) (let inside = good_inside nodes x good in omega (arith, inside, blank)));
+-- the good ones of some nodes, by their marks
+pub record AreGoodOnes (nodes : Nodes) (starts good : List ℕ) : Type 0 where
+  pub each : (x : ℕ) → Contains good x → Contains starts x × IsGood (world nodes) x
+  pub whole : (x : ℕ) → Contains starts x → IsGood (world nodes) x → Contains good x
+
+first_inside : (x : ℕ) (xs : List ℕ) → Contains (x ∷ xs) x
+first_inside x xs = Contains-append_left (x ∷ []) xs x (Contains-push [] x)
+
+rest_inside : (x y : ℕ) (xs : List ℕ) → Contains xs y → Contains (x ∷ xs) y
+rest_inside x y xs inside = Contains-append_right (x ∷ []) xs y inside
+
+inside_cases : (x y : ℕ) (xs : List ℕ) → Contains (x ∷ xs) y → (x ≡ y) ⊎ Contains xs y
+inside_cases x y xs inside = elim (Contains-append_cases (x ∷ []) xs y inside) [
+  | inl first ↦ inl (in_one x y first)
+  | inr later ↦ inr later
+]
+
+module _ (nodes : Nodes) (marks : List Bool) (givers : List (Option ℕ)) (are : AreGood nodes marks givers) where
+  pub good_ones : (starts : List ℕ) → AreGoodOnes nodes starts (filter (λ node. mark_of marks node) starts)
+  good_ones [] = record { each = λ x inside. absurd (none_inside x inside); whole = λ x inside is. absurd (none_inside x inside) }
+  good_ones (s ∷ starts) = go (good_ones starts) (mark_of marks s) refl where
+    go : AreGoodOnes nodes starts (filter (λ node. mark_of marks node) starts) → (b : Bool) → mark_of marks s ≡ b
+        → AreGoodOnes nodes (s ∷ starts) (cond b (s ∷ filter (λ node. mark_of marks node) starts) (filter (λ node. mark_of marks node) starts))
+    go rest true on = record {
+      each = λ x inside. elim (inside_cases s x (filter (λ node. mark_of marks node) starts) inside) [
+        | inl same ↦ (let P : ℕ → Type 0 = λ k. Contains (s ∷ starts) k × IsGood (world nodes) k in subst P same (first_inside s starts, are.marked s (record { is = on })))
+        | inr later ↦ (let found = rest.each x later in (rest_inside s x starts found.0, found.1))
+      ];
+      whole = λ x inside is. elim (inside_cases s x starts inside) [
+        | inl same ↦ (let P : ℕ → Type 0 = λ k. Contains (s ∷ filter (λ node. mark_of marks node) starts) k in subst P same (first_inside s (filter (λ node. mark_of marks node) starts)))
+        | inr later ↦ rest_inside s x (filter (λ node. mark_of marks node) starts) (rest.whole x later is)
+      ];
+    }
+    go rest false off = record {
+      each = λ x inside. (let found = rest.each x inside in (rest_inside s x starts found.0, found.1));
+      whole = λ x inside is. elim (inside_cases s x starts inside) [
+        | inl same ↦ absurd (
+            let P : ℕ → Type 0 = λ k. IsGood (world nodes) k in
+            let on : mark_of marks s ≡ true = (are.unmarked s (subst P (sym same) is)).is in
+            cc)
+        | inr later ↦ rest.whole x later is
+      ];
+    }
+
+module _ (nodes : Nodes) (starts : List ℕ) where
+  pub picking_begins : (good : List ℕ) (marks : List Bool) (order : List ℕ) → AreGoodOnes nodes starts good
+      → AreMarked good (replicate (length nodes.candidates.items) false) marks [] order → IsPicking nodes starts marks order 0
+  picking_begins good marks order are first = record {
+    begun = λ x inside is. put x (first.whole x (are.whole x inside is) (let within = good_inside nodes x is in omega (arith, within, blank)));
     put = put;
     marked = first.marked (λ q inside. absurd (none_inside q inside));
     followed = λ p z inside picks. absurd (none_inside p inside);
     chosen = λ q inside.
         (let P : List ℕ → Type 0 = λ l. Contains l q in
-        let Q : ℕ → Type 0 = λ k. IsChosen (world nodes) x k in
-        subst Q (in_one x q (first.drawn q (subst P first.goes_on inside))) (leads_itself (PicksFor (world nodes)) x));
+        let start = are.each q (first.drawn q (subst P first.goes_on inside)) in
+        record { start = q; listed = start.0; good = start.1; chosen = leads_itself (PicksFor (world nodes)) q });
     within = omega arith;
     len = first.len ∙ blank;
   } where
-    n : ℕ
-    n = length nodes.candidates.items
-
     blank : length (replicate (length nodes.candidates.items) false) ≡ length nodes.candidates.items
     blank = grind (arith, common_steps)
 
@@ -139,9 +181,9 @@ module _ (nodes : Nodes) (x : ℕ) where
     put = first.put (λ q is. absurd (no_marks (length nodes.candidates.items) q is))
 
   pub picking_goes_on : (marks marks' : List Bool) (order order' own : List ℕ) (at next : ℕ) → at < length order → next ≡ get_or order at next
-      → ArePicksFor nodes next own → AreMarked own marks marks' order order' → IsPicking nodes x marks order at → IsPicking nodes x marks' order' (at + 1)
+      → ArePicksFor nodes next own → AreMarked own marks marks' order order' → IsPicking nodes starts marks order at → IsPicking nodes starts marks' order' (at + 1)
   picking_goes_on marks marks' order order' own at next below is picks now was = record {
-    begun = on.kept x was.begun;
+    begun = λ x inside good. on.kept x (was.begun x inside good);
     put = put;
     marked = now.marked was.marked;
     followed = λ p z inside picks_for. elim (on.taken p inside) [
@@ -155,7 +197,9 @@ module _ (nodes : Nodes) (x : ℕ) where
         let L : List ℕ → Type 0 = λ l. Contains l q in
         elim (Contains-append_cases order now.more q (subst L now.goes_on inside)) [
           | inl before ↦ was.chosen q before
-          | inr later ↦ leads_more (was.chosen next on.here) (picks.picked q (now.drawn q later))
+          | inr later ↦ (
+              let by = was.chosen next on.here in
+              record { start = by.start; listed = by.listed; good = by.good; chosen = leads_more by.chosen (picks.picked q (now.drawn q later)) })
         ]);
     within = on.within;
     len = now.len ∙ was.len;
@@ -166,24 +210,34 @@ module _ (nodes : Nodes) (x : ℕ) where
     on : Takes order order' at next
     on = takes order order' now.more now.goes_on at next below is
 
-  pub picking_ends : (marks : List Bool) (order : List ℕ) (at : ℕ) → length order ≤ at → IsPicking nodes x marks order at → AreChosenMarks nodes x marks
+  pub picking_ends : (marks : List Bool) (order : List ℕ) (at : ℕ) → length order ≤ at → IsPicking nodes starts marks order at → AreChosenMarks nodes starts marks
   picking_ends marks order at whole was = record {
     chosen = λ q is. was.chosen q (was.put q is);
-    whole = λ q chosen. was.marked q (leads_closed (λ p. Contains order p) step was.begun chosen);
+    whole = λ q by. was.marked q (leads_closed (λ p. Contains order p) step (was.begun by.start by.listed by.good) by.chosen);
   } where
     step : (p z : ℕ) → Contains order p → PicksFor (world nodes) p z → Contains order z
     step p z here picks_for =
         let Q : List ℕ → Type 0 = λ l. Contains l p in
         was.followed p z (subst Q (sym (take_all at order whole)) here) picks_for
 
-  -- the marked nodes are the chosen plan
-  pub plan_marked : (marks : List Bool) (plan : List ℕ) → IsGood (world nodes) x → AreChosenMarks nodes x marks
-      → ((p : ℕ) → Contains plan p ↔ IsMarked marks p) → IsChosenPlan (world nodes) x plan
-  plan_marked marks plan good chosen are = record {
-    good = good;
+  -- the marked nodes are the chosen plans
+  pub plans_marked : (marks : List Bool) (plans : List ℕ) → AreChosenMarks nodes starts marks
+      → ((p : ℕ) → Contains plans p ↔ IsMarked marks p) → AreChosenPlans (world nodes) starts plans
+  plans_marked marks plans chosen are = record {
     chosen = λ y inside. chosen.chosen y ((are y).0 inside);
     whole = λ y is. (are y).1 (chosen.whole y is);
   }
+
+-- those of one good node are its chosen plan
+pub plan_of_one : (nodes : Nodes) (x : ℕ) (plan : List ℕ) → IsGood (world nodes) x → AreChosenPlans (world nodes) (x ∷ []) plan → IsChosenPlan (world nodes) x plan
+plan_of_one nodes x plan good are = record {
+  good = good;
+  chosen = λ y inside. (
+      let by = are.chosen y inside in
+      let P : ℕ → Type 0 = λ k. IsChosen (world nodes) k y in
+      subst P (sym (in_one x by.start by.listed)) by.chosen);
+  whole = λ y leads. are.whole y (record { start = x; listed = Contains-push [] x; good = good; chosen = leads });
+}
 
 -- ---- the marked nodes, ascending
 

@@ -1,7 +1,7 @@
 -- No part of what is promised: private contracts cite it. What a walk by picks has marked so far.
 use Rattle.std.specs.Prelude.{◌≡◌, ◌<◌, ◌≤◌, ◌++◌, ℕ, Bool, List, length, Contains, take}
 use Rattle.requisites.specs.Nodes.{IsMarked, world}
-use Rattle.requisites.specs.World.{IsChosen, PicksFor}
+use Rattle.requisites.specs.World.{IsChosenByAny, IsGood, PicksFor}
 use Rattle.requisites.specs.declared.nodes.Nodes.{Nodes}
 
 -- each node of a row is marked now; those that had no mark are put to the order, and nothing else is
@@ -15,17 +15,17 @@ pub record AreMarked (row : List ℕ) (marks marks' : List Bool) (order order' :
   pub stays : (q : ℕ) → IsMarked marks q → IsMarked marks' q
   pub len : length marks' ≡ length marks
 
--- the order has x and what picks lead to from there; of those before a node of it all picks are in it
-pub record IsPicking (nodes : Nodes) (x : ℕ) (marks : List Bool) (order : List ℕ) (at : ℕ) : Type 0 where
-  pub begun : Contains order x
+-- the order has the good ones of some nodes, and what picks lead to from there; of those before a node of it all picks are in it
+pub record IsPicking (nodes : Nodes) (starts : List ℕ) (marks : List Bool) (order : List ℕ) (at : ℕ) : Type 0 where
+  pub begun : (x : ℕ) → Contains starts x → IsGood (world nodes) x → Contains order x
   pub put : (q : ℕ) → IsMarked marks q → Contains order q
   pub marked : (q : ℕ) → Contains order q → IsMarked marks q
   pub followed : (p z : ℕ) → Contains (take at order) p → PicksFor (world nodes) p z → Contains order z
-  pub chosen : (q : ℕ) → Contains order q → IsChosen (world nodes) x q
+  pub chosen : (q : ℕ) → Contains order q → IsChosenByAny (world nodes) starts q
   pub within : at ≤ length order
   pub len : length marks ≡ length nodes.candidates.items
 
--- just what is chosen for x is marked
-pub record AreChosenMarks (nodes : Nodes) (x : ℕ) (marks : List Bool) : Type 0 where
-  pub chosen : (q : ℕ) → IsMarked marks q → IsChosen (world nodes) x q
-  pub whole : (q : ℕ) → IsChosen (world nodes) x q → IsMarked marks q
+-- just what is chosen for a good one of some nodes is marked
+pub record AreChosenMarks (nodes : Nodes) (starts : List ℕ) (marks : List Bool) : Type 0 where
+  pub chosen : (q : ℕ) → IsMarked marks q → IsChosenByAny (world nodes) starts q
+  pub whole : (q : ℕ) → IsChosenByAny (world nodes) starts q → IsMarked marks q

@@ -69,6 +69,18 @@ pub record IsChosenPlan {A : Type 0} (W : World A) (x : A) (members : List A) : 
   pub chosen : (y : A) → Contains members y → IsChosen W x y
   pub whole : (y : A) → IsChosen W x y → Contains members y
 
+-- in the chosen plan of a good one of some ids
+pub record IsChosenByAny {A : Type 0} (W : World A) (starts : List A) (y : A) : Type 0 where
+  pub start : A
+  pub listed : Contains starts start
+  pub good : IsGood W start
+  pub chosen : IsChosen W start y
+
+-- what the chosen plans of the good ones of some ids have together, as a list in any order
+pub record AreChosenPlans {A : Type 0} (W : World A) (starts members : List A) : Type 0 where
+  pub chosen : (y : A) → Contains members y → IsChosenByAny W starts y
+  pub whole : (y : A) → IsChosenByAny W starts y → Contains members y
+
 -- held: a candidate that isn't good, and its blocked need
 pub record IsHeldFor {A : Type 0} (W : World A) (x r : A) : Type 0 where
   pub candidate : W.Candidate x

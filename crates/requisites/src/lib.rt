@@ -4,6 +4,7 @@
 //! - [`Nodes`]: what a zone and the catalogue say of each node; [`Rows`]: for each node a row of nodes
 //! - [`resolve`]: which nodes some plan holds, and what gives what, as a [`Resolution`]
 //! - [`verdict_of_node`]: a node's chosen plan or its blocked need, as a [`Verdict`]
+//! - [`chosen_plans`]: what the chosen plans of several nodes have together
 //! - [`least_sources`]: for each node the least marked one that leads to it
 //! - [`turned`]: for each node those in whose rows it stands
 //! - [`is_marked`]: whether a node is marked
@@ -23,6 +24,7 @@
 #![tactic(auto)]
 
 mod cascade;
+mod chosen;
 mod good;
 mod marking;
 mod nodes;
@@ -32,6 +34,7 @@ mod rows;
 mod sources;
 mod verdict;
 
+pub use chosen::chosen_plans;
 pub use good::{Resolution, resolve};
 pub use nodes::{Nodes, is_marked};
 pub use reversed::turned;

@@ -13,6 +13,7 @@ use Rattle.requisites.specs.World.{IsChosen, IsGood, IsGoodGiver, IsPick, PicksF
 use Rattle.requisites.proofs.LeadsFacts.{leads_closed, leads_itself, leads_more}
 use Rattle.chains.specs.Candidates.{candidates_unless_there}
 use Rattle.chains.specs.Judge.{status_of}
+use Rattle.chains.specs.United.{plan_by, plan_in, united}
 use Rattle.chains.specs.Verdicts.{Judged, good, held, is_good, lack, verdict_of}
 use Rattle.chains.specs.Worlds.{IsVerdict, world_of}
 use Rattle.chains.specs.declared.verdict.Status.TheVariants as status
@@ -20,30 +21,10 @@ use Rattle.chains.proofs.GoodFacts.{candidate_inside, good_found, good_from}
 use Rattle.chains.proofs.OrderFacts.{find_least}
 use Rattle.chains.proofs.SearchFacts.{both_true, first_inside, first_true, inside_cases, kept_from, kept_inside, none_inside, rest_inside, second_true}
 use Rattle.chains.proofs.StatusFacts.{candidate_gives, find_none, find_some, not_good}
+use Rattle.chains.proofs.UnitedFacts.{flat_from, flat_inside}
 use Rattle.chains.proofs.VerdictFacts.{found_verdict}
 use Rattle.zone_plans.specs.Graphs.{givers_or, known_givers}
-use Rattle.zone_plans.specs.Members.{IsPlanned, plan_by, plan_in, united}
-
--- ---- lists of lists
-
-pub record IsFrom {A B : Type 0} (f : A → List B) (xs : List A) (y : B) : Type 0 where
-  pub from : A
-  pub listed : Contains xs from
-  pub has : Contains (f from) y
-
-pub flat_from : {A B : Type 0} (f : A → List B) (xs : List A) (y : B) → Contains (flat_map f xs) y → IsFrom f xs y
-flat_from f [] y inside = absurd (none_inside y inside)
-flat_from f (x ∷ xs) y inside = elim (Contains-append_cases (f x) (flat_map f xs) y inside) [
-  | inl first ↦ record { from = x; listed = first_inside x xs; has = first }
-  | inr later ↦ (let rest = flat_from f xs y later in record { from = rest.from; listed = rest_inside x rest.from xs rest.listed; has = rest.has })
-]
-
-pub flat_inside : {A B : Type 0} (f : A → List B) (xs : List A) (x : A) (y : B) → Contains xs x → Contains (f x) y → Contains (flat_map f xs) y
-flat_inside f [] x y listed has = absurd (none_inside x listed)
-flat_inside {A} {B} f (z ∷ zs) x y listed has = elim (inside_cases z x zs listed) [
-  | inl same ↦ (let P : A → Type 0 = λ w. Contains (f w) y in Contains-append_left (f z) (flat_map f zs) y (subst P (sym same) has))
-  | inr later ↦ Contains-append_right (f z) (flat_map f zs) y (flat_inside f zs x y later has)
-]
+use Rattle.zone_plans.specs.Members.{IsPlanned}
 
 module _ (content : Content) (rows : List ZoneRow) where
   -- ---- good ids and their picks

@@ -27,15 +27,17 @@ use Rattle.chains.specs.Judge.{status_of}
 use Rattle.chains.specs.Verdicts.{verdict_of}
 use Rattle.chains.specs.Worlds.{world_of}
 use Rattle.chains.specs.declared.verdict.Status.TheVariants as status
+use Rattle.chains.specs.United.{united}
 use Rattle.chains.proofs.AnswerFacts.{index_is}
 use Rattle.chains.proofs.IndexFacts.{at_inside, inside_at}
 use Rattle.chains.proofs.PartFacts.{at_map}
 use Rattle.chains.proofs.SearchFacts.{any_at, any_from, both_true, first_inside, first_true, map_from, map_inside, none_inside, rest_inside, second_true}
+use Rattle.chains.proofs.UnitedFacts.{flat_from, flat_inside}
 use Rattle.zone_plans.specs.Graphs.{AreGiven, AreReachedFrom, AreStartsOf, ReadingLists, ids_of_steps, known_givers, list_at, needs_at, reading_of}
-use Rattle.zone_plans.specs.Members.{AreStepsAfter, AreZoneSteps, HasCause, IsGivenBy, IsPlanned, NeedsMember, joined, needs_id, outdoes, united}
+use Rattle.zone_plans.specs.Members.{AreStepsAfter, AreZoneSteps, HasCause, IsGivenBy, IsPlanned, NeedsMember, joined, needs_id, outdoes}
 use Rattle.zone_plans.proofs.OutdoneFacts.{outdone_is}
 use Rattle.zone_plans.proofs.ValueFacts.{ByIndex, steps_are}
-use Rattle.zone_plans.proofs.PlannedFacts.{answer_for, answer_has, answer_says, chosen_in_united, flat_from, flat_inside, gives_itself, gives_joined, known_has, known_says, member_candidate, need_given, planned}
+use Rattle.zone_plans.proofs.PlannedFacts.{answer_for, answer_has, answer_says, chosen_in_united, gives_itself, gives_joined, known_has, known_says, member_candidate, need_given, planned}
 
 -- ---- steps by id
 

@@ -20,8 +20,9 @@ use Rattle.install_order.proofs.RingFacts.{leads_joined}
 use Rattle.chains.specs.Cuts.{id_at}
 use Rattle.chains.proofs.IndexFacts.{one_index}
 use Rattle.chains.proofs.SearchFacts.{any_at, any_from, both_true, either_true, first_true, inside_cases, left_true, none_inside, right_true, second_true}
+use Rattle.chains.specs.United.{united}
 use Rattle.zone_plans.specs.Graphs.{ids_of_steps}
-use Rattle.zone_plans.specs.Members.{caused_in, is_needed, left_of, needed_within, needs_id, outdoes, united, zone_steps_of}
+use Rattle.zone_plans.specs.Members.{caused_in, is_needed, left_of, needed_within, needs_id, outdoes, zone_steps_of}
 use Rattle.zone_plans.proofs.OutdoneFacts.{bool_same}
 
 -- ---- lists

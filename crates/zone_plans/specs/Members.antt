@@ -5,27 +5,14 @@ use Rattle.std.specs.List.{flat_map, list_any}
 use Rattle.std.specs.Ordering.{is_lt}
 use Rattle.zone_lists.specs.declared.zones.ZoneRow.{ZoneRow}
 use Rattle.catalogue.specs.Content.{Content}
-use Rattle.catalogue.specs.Ids.{id_cmp, in_order, same_id}
+use Rattle.catalogue.specs.Ids.{id_cmp, same_id}
 use Rattle.supersede.specs.Giving.{gives, is_there, needs_in}
 use Rattle.supersede.specs.Leading.{Gives, IsThere}
 use Rattle.requisites.specs.Leads.{Leads}
 use Rattle.requisites.specs.World.{IsPlan}
 use Rattle.install_order.specs.Steps.{steps_of}
-use Rattle.chains.specs.Verdicts.{Judged, good, held, lack, verdict_of}
+use Rattle.chains.specs.United.{plan_in, united}
 use Rattle.chains.specs.Worlds.{world_of}
-
--- the chosen plan of a verdict
-abbrev pub plan_by : Judged → List (List ℕ)
-plan_by (good plan) = plan
-plan_by (held need) = []
-plan_by lack = []
-
-abbrev pub plan_in : Content → List ZoneRow → List ℕ → List (List ℕ)
-plan_in content rows id = plan_by (verdict_of content rows id)
-
--- all that the chosen plans of some SYSMODs have, ascending
-abbrev pub united : Content → List ZoneRow → List (List ℕ) → List (List ℕ)
-united content rows chosen = in_order (flat_map (plan_in content rows) chosen)
 
 -- the ids of all steps
 abbrev pub joined : List (List (List ℕ)) → List (List ℕ)

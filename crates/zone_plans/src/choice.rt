@@ -5,14 +5,13 @@ ghost use Rattle.std.specs.List.{slice_get};
 ghost use Rattle.mcs_reader.specs.declared.id.Id.{Id};
 ghost use Rattle.zone_lists.specs.declared.zones.ZoneRow.{ZoneRow};
 ghost use Rattle.catalogue.specs.Content.{Content};
-ghost use Rattle.catalogue.specs.Ids.{Ascend, in_order, same_id};
+ghost use Rattle.catalogue.specs.Ids.{Ascend, in_order, put_among, same_id};
 ghost use Rattle.supersede.specs.Reach.{has};
 ghost use Rattle.chains.specs.declared.verdict.Status.TheVariants.{Lack};
 ghost use Rattle.zone_plans.specs.Choices.{choice, greatest_of, last_of, of_status, or_all, received_or_all, same_status};
 ghost use Rattle.zone_plans.specs.Graphs.{AreKnown, MayPlace, is_given_by, lists_of, not_given};
 
-use crate::united::put_all;
-use chains::Status;
+use chains::{Status, listed};
 use faults::NoMemory;
 use mcs_reader::Id;
 use report_holds::{HoldResolvers, Resolver};
@@ -214,12 +213,14 @@ fn ordered(alloc: Global, ids: &[Id]) -> Result<Vec<Id>, NoMemory>
     listed(alloc, found)
 }
 
-// The ids of a set, in order.
-pub(crate) fn listed(alloc: Global, ids: BTreeSet<Id>) -> Result<Vec<Id>, NoMemory>
-    ensures ids { IfOk result (λ list. list.items ≡ ids.keys) }
-    ensures ascend { IfOk result (λ list. Ascend list.items) }
+/// Puts ids among others, in order.
+pub(crate) fn put_all(found: &mut BTreeSet<Id>, ids: &[Id]) -> Result<(), NoMemory>
+    ensures { OnOk result (found.new.keys ≡ put_among found.old.keys ids.now) }
 {
-    ids.into_iter().collect(alloc)
+    for id in ids {
+        found.insert(*id)?;
+    }
+    Ok(())
 }
 
 /// Whether an id stands among others.

@@ -31,7 +31,6 @@ mod plan;
 mod reading;
 mod report_plans;
 mod steps;
-mod united;
 
 pub use holds::ChosenResolver;
 pub use plan::{ZonePlan, zone_plan};

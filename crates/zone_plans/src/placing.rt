@@ -10,11 +10,11 @@ ghost use Rattle.report_holds.specs.Holds.{AreTold, HoldLists};
 ghost use Rattle.zone_plans.specs.Graphs.{AreKnown, MayPlace};
 ghost use Rattle.zone_plans.specs.Plans as Plans;
 
-use crate::choice::{choice, listed};
+use crate::choice::choice;
 use crate::giving::givers_of_all;
 use crate::holds::ChosenResolver;
 use catalogue::{Published, SourceFault};
-use chains::Status;
+use chains::{Status, listed};
 use faults::NoMemory;
 use mcs_reader::Id;
 use report_holds::{HoldOn, HoldResolvers, Resolver};

@@ -15,7 +15,6 @@ use crate::holds::ChosenResolver;
 use crate::placing::{Placed, PlacedHolds, chosen_in, place_all, placed_holds, resolvers_of};
 use crate::reading::{needs_of_all, readings};
 use crate::steps::{Steps, zone_steps};
-use crate::united::united;
 use blocked_needs::{BlockedNeed, blocked_needs};
 use catalogue::{Published, SourceFault};
 use chains::{Judge, candidates_for};
@@ -158,7 +157,7 @@ fn steps_for<P: Published, J: Judge<P>>(
     ensures right { Tells P.content_view source.old source.new
         (λ content. J.is_right judge.old content → J.is_right judge.new content) }
 {
-    let ids = united(alloc, source, judge, zone, chosen)?;
+    let ids = judge.united(alloc, source, zone, chosen)?;
     let readings = readings(alloc, source, zone, &ids)?;
     let asked = needs_of_all(alloc, &readings)?;
     let answers = candidates_for(alloc, source, zone, &asked)?;

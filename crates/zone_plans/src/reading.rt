@@ -7,9 +7,9 @@ ghost use Rattle.supersede.specs.Giving.{needs_where};
 ghost use Rattle.chains.specs.Sights.{reasons_in};
 ghost use Rattle.zone_plans.specs.Graphs.{all_needs, reading_from, reading_of};
 
-use crate::choice::listed;
-use crate::united::put_all;
+use crate::choice::put_all;
 use catalogue::{CondNeed, Published, SourceFault, Sysmod};
+use chains::listed;
 use faults::NoMemory;
 use holddata::{Hold, Kind};
 use mcs_reader::Id;

@@ -1,8 +1,8 @@
 use Rattle.std.proofs.Common.{◌∙◌, ◌++◌, ◌∷◌, [], get_or, take, ap, arith}
 use Rattle.requisites.proofs.PickFacts.{picked_none, picked_more, picked_skip, picked_step, picked_listed, picked_left}
 use Rattle.requisites.proofs.TestFacts.{from_none}
-use Rattle.requisites.proofs.verdict.put_picks.Goals as goal
-use Rattle.requisites.proofs.verdict.put_picks.Goals.{in-Some+in_ok-push, in_default}
+use Rattle.requisites.proofs.chosen.put_picks.Goals as goal
+use Rattle.requisites.proofs.chosen.put_picks.Goals.{in-Some+in_ok-push, in_default}
 
 pub loop-need-init : goal.loop-need-init
 loop-need-init c = picked_left c.args.nodes.now [] [] c.clear.new.self.items c.clear.ensures.items (picked_none c.args.nodes.now)

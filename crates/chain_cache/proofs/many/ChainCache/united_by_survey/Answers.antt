@@ -1,0 +1,10 @@
+use Rattle.std.proofs.Common.{subst, sym}
+use Rattle.catalogue.proofs.SourceFacts.{told_so}
+use Rattle.chain_cache.specs.Cache.{AreSurveys, CacheLists}
+use Rattle.chain_cache.proofs.many.ChainCache.united_by_survey.Goals as goal
+
+pub returns-clause-united : goal.returns-clause-united
+returns-clause-united g c =
+    told_so c.in_ok-read_listing.ensures.right (λ content right were.
+    let P : CacheLists → Type 0 = λ cache. AreSurveys content cache.surveys in
+    c.in_ok-found.ensures.united content c.args.zone.now (c.in_ok-survey.ensures content (right (subst P (sym c.self.view_is) were.surveys))))

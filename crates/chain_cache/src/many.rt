@@ -1,0 +1,136 @@
+//! Answers on many SYSMODs at once.
+ghost use Rattle.std.specs.Prelude.{◌≡◌, ℕ, IfOk, IfSome, map, take};
+ghost use Rattle.catalogue.specs.Ids.{Ascend};
+ghost use Rattle.catalogue.specs.View.{MayAsk, Tells};
+ghost use Rattle.catalogue.specs.declared.fault.SourceFault.TheVariants.{Device};
+ghost use Rattle.chain_cache.specs.Cache.{AreFew, AreFilled, IsRightFor, KeepsFrames};
+ghost use Rattle.chains.specs.Judge as judge;
+ghost use Rattle.chains.specs.United.{united};
+ghost use Rattle.chains.specs.Verdicts.{verdict_of};
+
+use crate::ChainCache;
+use crate::cache::NODES_MOST;
+use catalogue::{Published, SourceFault};
+use chains::{Status, listed, put_plan};
+use mcs_reader::Id;
+use std::alloc::Global;
+use std::collections::BTreeSet;
+use supersede::Zone;
+
+// How many nodes more the frames of several SYSMODs may have for each of them.
+const NODES_EACH: usize = 8;
+
+impl ChainCache {
+    /// For each SYSMOD which verdict it is, by a survey of the zone, which is kept.
+    pub(crate) fn statuses_by_survey<P: Published>(
+        &mut self,
+        alloc: Global,
+        source: &mut P,
+        zone: &Zone,
+        ids: &[Id],
+    ) -> Result<Vec<Status>, SourceFault>
+        ensures asks { MayAsk P.content_view Device source.old source.new result }
+        ensures statuses { IfOk result (λ statuses. Tells P.content_view source.old source.new
+            (λ content. IsRightFor self.old content
+            → statuses.items ≡ map (λ id. judge.status_of (verdict_of content zone.now id)) ids.now)) }
+        ensures right { Tells P.content_view source.old source.new
+            (λ content. IsRightFor self.old content → IsRightFor self.new content) }
+        ensures frames { KeepsFrames self.old self.new }
+        ensures few { AreFew self.new.surveys }
+    {
+        self.surveys.read_listing(alloc, source)?;
+        let survey = self.surveys.survey(alloc, zone)?;
+        let statuses = survey.statuses(alloc, ids)?;
+        self.surveys.keep(zone, survey)?;
+        Ok(statuses)
+    }
+
+    /// The same from frames, where all of them together are small.
+    pub(crate) fn statuses_by_frames<P: Published>(
+        &mut self,
+        alloc: Global,
+        source: &mut P,
+        zone: &Zone,
+        ids: &[Id],
+    ) -> Result<Option<Vec<Status>>, SourceFault>
+        ensures asks { MayAsk P.content_view Device source.old source.new result }
+        ensures statuses { IfOk result (λ found. IfSome found
+            (λ statuses. Tells P.content_view source.old source.new
+            (λ content. IsRightFor self.old content
+            → statuses.items ≡ map (λ id. judge.status_of (verdict_of content zone.now id)) ids.now))) }
+        ensures right { Tells P.content_view source.old source.new
+            (λ content. IsRightFor self.old content → IsRightFor self.new content) }
+        ensures filled { (n : ℕ) × AreFilled (take n ids.now) self.old self.new }
+    {
+        let mut statuses = Vec::with_capacity(alloc, ids.len())?;
+        let mut room = NODES_MOST;
+        for id in ids {
+            let is_first = self.fill_small(alloc, source, id, room)?;
+            if !is_first {
+                return Ok(None);
+            }
+            room = room
+                .saturating_sub(self.first_len())
+                .saturating_add(NODES_EACH);
+            statuses.push(self.first_verdict(alloc, zone, id)?.status())?;
+        }
+        Ok(Some(statuses))
+    }
+
+    /// All that the chosen plans of some SYSMODs have, ascending, by a survey of the zone, which is kept.
+    pub(crate) fn united_by_survey<P: Published>(
+        &mut self,
+        alloc: Global,
+        source: &mut P,
+        zone: &Zone,
+        ids: &[Id],
+    ) -> Result<Vec<Id>, SourceFault>
+        ensures asks { MayAsk P.content_view Device source.old source.new result }
+        ensures united { IfOk result (λ found. Tells P.content_view source.old source.new
+            (λ content. IsRightFor self.old content → found.items ≡ united content zone.now ids.now)) }
+        ensures ascend { IfOk result (λ found. Ascend found.items) }
+        ensures right { Tells P.content_view source.old source.new
+            (λ content. IsRightFor self.old content → IsRightFor self.new content) }
+        ensures frames { KeepsFrames self.old self.new }
+        ensures few { AreFew self.new.surveys }
+    {
+        self.surveys.read_listing(alloc, source)?;
+        let survey = self.surveys.survey(alloc, zone)?;
+        let found = survey.united(alloc, ids)?;
+        self.surveys.keep(zone, survey)?;
+        Ok(found)
+    }
+
+    /// The same from frames, where all of them together are small.
+    pub(crate) fn united_by_frames<P: Published>(
+        &mut self,
+        alloc: Global,
+        source: &mut P,
+        zone: &Zone,
+        ids: &[Id],
+    ) -> Result<Option<Vec<Id>>, SourceFault>
+        ensures asks { MayAsk P.content_view Device source.old source.new result }
+        ensures united { IfOk result (λ answer. IfSome answer
+            (λ found. Tells P.content_view source.old source.new
+            (λ content. IsRightFor self.old content → found.items ≡ united content zone.now ids.now))) }
+        ensures ascend { IfOk result (λ answer. IfSome answer (λ found. Ascend found.items)) }
+        ensures right { Tells P.content_view source.old source.new
+            (λ content. IsRightFor self.old content → IsRightFor self.new content) }
+        ensures filled { (n : ℕ) × AreFilled (take n ids.now) self.old self.new }
+    {
+        let mut found = BTreeSet::new(alloc);
+        let mut room = NODES_MOST;
+        for id in ids {
+            let stands_first = self.fill_small(alloc, source, id, room)?;
+            if !stands_first {
+                return Ok(None);
+            }
+            room = room
+                .saturating_sub(self.first_len())
+                .saturating_add(NODES_EACH);
+            let verdict = self.first_verdict(alloc, zone, id)?;
+            put_plan(&mut found, &verdict)?;
+        }
+        Ok(Some(listed(alloc, found)?))
+    }
+}
