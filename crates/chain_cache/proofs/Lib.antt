@@ -1,4 +1,5 @@
 pub mod EntryFacts
 pub mod FillFacts
 pub mod SurveyFacts
+pub mod UnitedFacts
 pub mod DropFacts

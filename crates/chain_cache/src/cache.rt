@@ -213,7 +213,12 @@ impl ChainCache {
     }
 
     /// The verdict from the frame that stands first.
-    pub(crate) fn first_verdict(&self, alloc: Global, zone: &Zone, id: &Id) -> Result<Verdict, NoMemory>
+    pub(crate) fn first_verdict(
+        &self,
+        alloc: Global,
+        zone: &Zone,
+        id: &Id,
+    ) -> Result<Verdict, NoMemory>
         requires { IsSome (slice_get self.now.entries 0) }
         ensures { IfOk result (λ verdict. (frame : FrameLists) (content : Content)
             → slice_get self.now.entries 0 ≡ Some (id.now, frame) → IsFrame content id.now frame

@@ -12,8 +12,8 @@ returns-in-Some-clause-united g c =
           c.in_ok-united.ensures.united content c.args.zone.now (right.surveys.each _ (subst P c.self.view_is c.in-Some.ensures));
     }
 
-pub returns-in_err-united-2-clause-few : goal.returns-in_err-united-2-clause-few
-returns-in_err-united-2-clause-few g c =
+pub returns-in_err-found-clause-few : goal.returns-in_err-found-clause-few
+returns-in_err-found-clause-few g c =
     let filled = c.united_by_frames.ensures.filled in
     subst AreFew (sym (all_filled_keep (take filled.0 c.args.ids.now) c.args.self.now c.united_by_frames.new.self filled.1 ∙ ap (λ cache. cache.surveys) (sym c.self.view_is))) c.self.invariant
 

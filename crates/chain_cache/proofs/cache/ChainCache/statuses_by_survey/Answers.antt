@@ -1,7 +1,7 @@
 use Rattle.std.proofs.Common.{subst, sym}
 use Rattle.catalogue.proofs.SourceFacts.{told_so}
 use Rattle.chain_cache.specs.Cache.{AreSurveys, CacheLists}
-use Rattle.chain_cache.proofs.many.ChainCache.statuses_by_survey.Goals as goal
+use Rattle.chain_cache.proofs.cache.ChainCache.statuses_by_survey.Goals as goal
 
 pub returns-clause-statuses : goal.returns-clause-statuses
 returns-clause-statuses g c =

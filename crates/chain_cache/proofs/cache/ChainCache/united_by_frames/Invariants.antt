@@ -1,17 +1,16 @@
-use Rattle.std.proofs.Common.{◌≡◌, map, take}
+use Rattle.std.proofs.Common.{◌≡◌, take}
 use Rattle.catalogue.specs.View.{Tells}
 use Rattle.supersede.proofs.TellingFacts.{HasTold}
-use Rattle.chains.specs.Judge.{status_of}
-use Rattle.chains.specs.Verdicts.{verdict_of}
+use Rattle.chains.specs.United.{united}
 use Rattle.chain_cache.specs.Cache.{AreFilled, IsRightFor}
-use Rattle.chain_cache.proofs.many.ChainCache.statuses_by_frames.Given as goal
+use Rattle.chain_cache.proofs.cache.ChainCache.united_by_frames.Given as goal
 
 abbrev pub invariant-loop-id : goal.invariant-loop-id
 invariant-loop-id g l =
     let view = g.P.Published.content_view in
     record {
       has_told : HasTold view l.fn.source l.source
-          (λ content. IsRightFor l.fn.self content → l.statuses.items ≡ map (λ id. status_of (verdict_of content l.zone id)) (take l.id-index l.ids));
+          (λ content. IsRightFor l.fn.self content → l.found.keys ≡ united content l.zone (take l.id-index l.ids));
       right : Tells view l.fn.source l.source (λ content. IsRightFor l.fn.self content → IsRightFor l.self content);
       filled : AreFilled (take l.id-index l.ids) l.fn.self l.self;
     }

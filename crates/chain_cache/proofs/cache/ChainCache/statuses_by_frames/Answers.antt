@@ -5,7 +5,7 @@ use Rattle.chains.specs.Verdicts.{verdict_of}
 use Rattle.chains.proofs.IndexFacts.{made_more}
 use Rattle.chain_cache.proofs.EntryFacts.{first_inside}
 use Rattle.chain_cache.proofs.FillFacts.{filled_on}
-use Rattle.chain_cache.proofs.many.ChainCache.statuses_by_frames.Goals as goal
+use Rattle.chain_cache.proofs.cache.ChainCache.statuses_by_frames.Goals as goal
 
 pub loop-id-preserved : goal.loop-id-preserved
 loop-id-preserved g c =
