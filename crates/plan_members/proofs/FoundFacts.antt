@@ -20,10 +20,11 @@ use Rattle.chains.specs.Worlds.{world_of}
 use Rattle.chains.proofs.IndexFacts.{at_inside, get_any}
 use Rattle.chains.proofs.PartFacts.{at_map}
 use Rattle.chains.proofs.SearchFacts.{any_from, kept_from, kept_inside, map_inside}
+use Rattle.chains.proofs.UnitedFacts.{flat_inside}
 use Rattle.zone_plans.specs.Members.{joined, needs_id}
 use Rattle.zone_plans.specs.declared.holds.ChosenResolver.{ChosenResolver}
 use Rattle.zone_plans.proofs.GraphFacts.{has_from}
-use Rattle.zone_plans.proofs.PlannedFacts.{answer_has, answer_says, flat_inside}
+use Rattle.zone_plans.proofs.PlannedFacts.{answer_has, answer_says}
 use Rattle.plan_members.specs.Found.{AreFound, FoundLists, IsTold, ReadingLists, absent_givers, all_needs, gives_one, holds_at, is_needed_at, no_resolver, nothing_read, or_none, others_at, picked, places, reading_at, reading_of, resolver_at, resolvers_in}
 use Rattle.plan_members.specs.Members.{MemberLists, holds_for, member_at, needed_by_of}
 use Rattle.plan_members.proofs.PlaceFacts.{filter_twice, places_kept, places_same}
