@@ -58,6 +58,12 @@ impl Cached {
         Ok(self.cache.statuses(alloc, &mut self.lists, zone, &ids)?)
     }
 
+    // What the chosen plans of all that is catalogued have together.
+    fn united(&mut self, alloc: Global, zone: &Zone) -> Result<Vec<Id>, Fail> {
+        let ids = self.lists.ids()?;
+        Ok(self.cache.united(alloc, &mut self.lists, zone, &ids)?)
+    }
+
     // The ids of the frames that are kept, in their order.
     fn kept(&self, alloc: Global) -> Result<String, Fail> {
         let mut text = String::new(alloc);

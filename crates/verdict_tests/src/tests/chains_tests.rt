@@ -71,6 +71,19 @@ fn assert_statuses<P: Debug + Drop>(
     assert_equal_at(case, together.as_slice(), each.as_slice())
 }
 
+// Whether what the chosen plans of ids have together, found at once, is that of their verdicts, in a case.
+fn assert_united<P: Debug + Drop>(
+    case: P,
+    alloc: Global,
+    lists: &mut ListPublished,
+    zone: &Zone,
+    ids: &[Id],
+) -> Result<(), Fail> {
+    let together = Whole::new().united(alloc, lists, zone, ids)?;
+    let each = OneByOne.united(alloc, lists, zone, ids)?;
+    assert_equal_at(case, together.as_slice(), each.as_slice())
+}
+
 // The verdict from a frame alone, in print.
 fn planned(alloc: Global, frame: &Frame, zone: &Zone, id: &Id) -> Result<String, Fail> {
     let verdict = plan(alloc, frame, zone, id)?;

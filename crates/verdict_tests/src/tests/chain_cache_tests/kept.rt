@@ -137,6 +137,24 @@ fn assert_all_good(alloc: Global, cached: &mut Cached, count: u32) -> Result<(),
     assert_equal_at(count, (are_good, statuses.len()), (true, count as usize))
 }
 
+// The chosen plans of all SYSMODs of a ring have the ring together.
+fn assert_united(alloc: Global, cached: &mut Cached, count: u32) -> Result<(), Fail> {
+    let all = cached.lists.ids()?;
+    let united = cached.united(alloc, &zone_of(alloc, ZONE)?)?;
+    assert_equal_at(count, united.as_slice(), all.as_slice())
+}
+
+#[test]
+fn plans_of_a_ring_are_found_together(rt: HostRuntime) -> Result<(), Fail> {
+    for (count, built) in &RINGS {
+        let mut cached = ring(rt.alloc(), 16, *count, RandomState::new(&rt)?)?;
+        assert_united(rt.alloc(), &mut cached, *count)?;
+        assert_equal_at(count, cached.built(), *built)?;
+        assert_united(rt.alloc(), &mut cached, *count)?;
+    }
+    Ok(())
+}
+
 #[test]
 fn a_report_over_large_frames_builds_none(rt: HostRuntime) -> Result<(), Fail> {
     for (count, built) in &RINGS {

@@ -141,7 +141,20 @@ fn are_statuses(alloc: Global, cached: &mut Cached, zone: &Zone) -> Result<bool,
     Ok(given.as_slice() == whole.as_slice())
 }
 
-// Whether frames, verdicts and statuses are as over the whole catalogue, in each of some zones.
+// What the chosen plans of all that is catalogued have together, over the whole catalogue.
+fn united(alloc: Global, lists: &mut ListPublished, zone: &Zone) -> Result<Vec<Id>, Fail> {
+    let ids = lists.ids()?;
+    Ok(Whole::new().united(alloc, lists, zone, &ids)?)
+}
+
+// Whether the cache finds the same.
+fn are_united(alloc: Global, cached: &mut Cached, zone: &Zone) -> Result<bool, Fail> {
+    let given = cached.united(alloc, zone)?;
+    let whole = united(alloc, &mut cached.lists, zone)?;
+    Ok(given.as_slice() == whole.as_slice())
+}
+
+// Whether frames, verdicts, statuses and plans are as over the whole catalogue, in each of some zones.
 fn is_as_whole(
     alloc: Global,
     draws: &mut Draws,
@@ -151,7 +164,8 @@ fn is_as_whole(
     for zone in zones {
         let is_right = are_as_built(alloc, cached)?
             && are_verdicts(alloc, draws, cached, zone)?
-            && are_statuses(alloc, cached, zone)?;
+            && are_statuses(alloc, cached, zone)?
+            && are_united(alloc, cached, zone)?;
         if !is_right {
             return Ok(false);
         }

@@ -1,5 +1,5 @@
 //! Verdicts on small contents that are drawn at random, beside a plain slow body that tries every set of ids.
-use super::{assert_as_whole, assert_judged, assert_statuses};
+use super::{assert_as_whole, assert_judged, assert_statuses, assert_united};
 use crate::tests::content::published;
 use crate::tests::print::{id_of, zone_of};
 use catalogue::ListPublished;
@@ -356,14 +356,16 @@ fn assert_verdicts(
     Ok(())
 }
 
-// Statuses that are asked for together, and verdicts from a frame alone, are the same.
+// Statuses and plans that are asked for together, and verdicts from a frame alone, are the same.
 fn assert_other_ways(
     alloc: Global,
     content: u32,
     lists: &mut ListPublished,
     zone: &Zone,
 ) -> Result<(), Fail> {
-    assert_statuses(content, alloc, lists, zone, &drawn_ids(alloc)?)?;
+    let ids = drawn_ids(alloc)?;
+    assert_statuses(content, alloc, lists, zone, &ids)?;
+    assert_united(content, alloc, lists, zone, &ids)?;
     assert_as_whole(content, alloc, lists, zone, &drawn_id(alloc, content & 7)?)
 }
 

@@ -1,5 +1,5 @@
 //! Worked verdicts.
-use super::{assert_as_whole, assert_judged, assert_statuses};
+use super::{assert_as_whole, assert_judged, assert_statuses, assert_united};
 use crate::tests::content::published_with_base;
 use crate::tests::print::{id_of, zone_of};
 use catalogue::ListPublished;
@@ -118,6 +118,7 @@ fn assert_verdict(
 ) -> Result<(), Fail> {
     assert_judged("the whole catalogue", alloc, lists, zone, id, text)?;
     assert_statuses(id, alloc, lists, zone, &[id])?;
+    assert_united(id, alloc, lists, zone, &[id])?;
     assert_as_whole(id, alloc, lists, zone, &id)
 }
 
