@@ -4,6 +4,7 @@ ghost use Rattle.std.specs.Prelude.{◌≤◌};
 use super::Cached;
 use crate::tests::print::{id_of, ids_in, zone_of};
 use crate::tests::sequence::sequence;
+use catalogue::Published;
 use chains::Status;
 use std::alloc::Global;
 use std::fmt::Write;
