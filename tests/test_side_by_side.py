@@ -162,6 +162,11 @@ def ends(desk):
         reader = Reader(connection)
         check("the last request is answered", reader.reply().startswith(b"HTTP/1.1 200 "))
         same("and none behind it", reader.reply(), b"")
+    with connect(desk.port) as connection:
+        connection.sendall(request("GET", "/zones", NORTH, is_last=True) + b"x" * 100000)
+        reader = Reader(connection)
+        check("no reply is lost where a client sends on", reader.reply().startswith(b"HTTP/1.1 200 "))
+        same("and its end comes without a reset", reader.reply(), b"")
     body = request("POST", "/publish", PUBLISHER, 1, b"x" * 3000000)
     for sent in (b"", ASKED[:9], ASKED, ASKED + ASKED[:9], body[:5000], ASKED * 5000):
         connection = connect(desk.port)
