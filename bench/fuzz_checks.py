@@ -16,6 +16,8 @@ from fuzz_desks import PUBLISHER, list_of_callers
 
 # A request with the bytes of its reply; of a tail, with all that was written behind the replies before it.
 Told = namedtuple("Told", "item reply")
+# The same, and whether its connection ends with it.
+Row = namedtuple("Row", "item reply ends")
 REPLY = re.compile(rb"HTTP/1\.1 (\d{3}) [A-Za-z ]+\r\n(?:[a-z-]+: [^\r\n]*\r\n)*?content-length: (\d+)\r\n(?:[a-z-]+: [^\r\n]*\r\n)*\r\n")
 STATUSES = {200, 400, 401, 403, 404, 405, 409, 411, 413, 422, 431}
 
@@ -110,6 +112,11 @@ class Life:
         self.process.stdout.close()
         self.process.stderr.close()
 
+    def connect(self):
+        connection = socket.create_connection(("127.0.0.1", self.port), timeout=90)
+        connection.setsockopt(socket.IPPROTO_TCP, socket.TCP_NODELAY, 1)
+        return connection
+
     def see_end(self):
         try:
             output, errors = self.process.communicate(timeout=60)
@@ -120,8 +127,7 @@ class Life:
 
     def exchange(self, sent, dice=None):
         """Sends a connection's bytes, and gives all that is written to it."""
-        with socket.create_connection(("127.0.0.1", self.port), timeout=90) as connection:
-            connection.setsockopt(socket.IPPROTO_TCP, socket.TCP_NODELAY, 1)
+        with self.connect() as connection:
             try:
                 for piece in pieces(sent, dice):
                     connection.sendall(piece)
@@ -137,6 +143,53 @@ class Life:
             except OSError as fault:
                 raise Difference("a connection ended with %r" % fault)
             return written
+
+
+class Lane:
+    """A connection that is open beside others, with the requests that it has to carry."""
+
+    def __init__(self, connection):
+        self.connection, self.due, self.sent = connection, [], 0
+
+    def send_some(self, dice):
+        """Sends a piece of the next request, but never all of it. What ends its connection comes at once."""
+        if self.due and not self.due[0].ends and len(self.due[0].item.sent) > self.sent + 1:
+            self.send_up_to(dice.randrange(self.sent + 1, len(self.due[0].item.sent)))
+
+    def send_up_to(self, end):
+        self.connection.sendall(self.due[0].item.sent[self.sent : end])
+        self.sent = end
+
+    def exchange(self):
+        """Sends what is left of the next request, and gives what is written then."""
+        row = self.due[0]
+        try:
+            self.send_up_to(len(row.item.sent))
+            if row.ends:
+                self.connection.shutdown(socket.SHUT_WR)
+        except OSError:
+            pass  # the desk may have ended the connection
+        self.due.pop(0)
+        self.sent = 0
+        return self.read(None if row.ends else len(row.reply))
+
+    def end(self):
+        """What is written once the client has ended its side."""
+        self.connection.shutdown(socket.SHUT_WR)
+        return self.read(None)
+
+    def read(self, count):
+        """So many bytes, or all until the end."""
+        written = b""
+        try:
+            while count is None or len(written) < count:
+                piece = self.connection.recv(1 << 16)
+                if not piece:
+                    break
+                written += piece
+        except OSError as fault:
+            raise Difference("a connection ended with %r" % fault)
+        return written
 
 
 def pieces(sent, dice):
@@ -207,6 +260,7 @@ class Checks:
             if client != PUBLISHER:
                 yield "the publisher and %s alone" % client, lambda: self.alone({PUBLISHER, client})
         yield "the plain desk", self.plain
+        yield "requests in connections that are open at once", self.beside
 
     def plain(self):
         """What is told is what a desk in plain Python tells."""
@@ -252,6 +306,37 @@ class Checks:
                 connections.append([])
         got = self.runner.replay(self.desk.tokens, [sent_by(items) for items in connections])
         see_same(got, wanted)
+
+    def beside(self):
+        """The same requests, over connections that are all open at once, each request of any caller over any of them. Pieces of
+        several come mixed. The last byte of one comes once the one before it has its reply, so that their order is known."""
+        rows = [Row(*each, bool(each.item.tail) or b"\r\nconnection: close\r\n" in each.reply)
+                for connection in self.told for each in connection]
+        places, open_ones, count = [], [], 0
+        for row in rows:
+            if not open_ones or self.dice.random() < 0.1:
+                open_ones.append(count)
+                count += 1
+            place = self.dice.choice(open_ones)
+            places.append(place)
+            if row.ends:
+                open_ones.remove(place)
+        with Life(self.runner.program, self.runner.store(self.desk.tokens), max(count, 1), ()) as desk:
+            lanes = [Lane(desk.connect()) for _ in range(max(count, 1))]
+            for place, row in zip(places, rows):
+                lanes[place].due.append(row)
+            for place, row in zip(places, rows):
+                for lane in self.dice.sample(lanes, min(len(lanes), 3)):
+                    lane.send_some(self.dice)
+                see_same(lanes[place].exchange(), row.reply)
+                if row.ends:
+                    lanes[place].connection.close()
+                    lanes[place] = Lane(None)
+            for lane in lanes:
+                if lane.connection:
+                    see_same(lane.end(), b"")
+                    lane.connection.close()
+            desk.see_end()
 
     def repeated(self):
         """Between connections each caller sends its last change again, or another one under its number, or a number that is

@@ -14,6 +14,7 @@ import sqlite3
 import subprocess
 import sys
 import tempfile
+import threading
 
 HERE = os.path.dirname(os.path.abspath(__file__))
 HEAD = re.compile(rb"(?:GET|PUT|POST|DELETE) [^\n]*HTTP/1\.[01]\r?\n(?:[^\r\n]+\r?\n)*")
@@ -26,6 +27,7 @@ class Truth:
 
     seen_by = None
     is_over_lists = False
+    is_beside = False  # whether it lies where several connections are open
 
     def __init__(self, tokens, words, life):
         self.tokens, self.words, self.life = tokens, words, life
@@ -168,8 +170,20 @@ class ForgetsOverLists(Truth):
         return reply.replace(b'"status":"GOOD"', b'"status":"HELD"') if self.words[0] == "16" else reply
 
 
+class Mixes(Truth):
+    """Where several connections are open, one gets the reply that another one got before it."""
+
+    seen_by = "open at once"
+    is_beside = True
+    last = b""
+
+    def written(self, reply, open_ones=1):
+        last, self.last = self.last, reply
+        return last if open_ones > 1 and last else reply
+
+
 LIES_OVER_LISTS = [KnowsLists, ForgetsOverLists]
-LIES = [Leaks, ActsAgain, ForgetsInSmallCache, ForgetsAtStart, CutsHeads, HasNoRoom, CountsClients, KnowsTheStore, CountsRequests, IsWrong]
+LIES = [Leaks, ActsAgain, ForgetsInSmallCache, ForgetsAtStart, CutsHeads, HasNoRoom, CountsClients, KnowsTheStore, CountsRequests, IsWrong, Mixes]
 
 
 def replay(lie, program, words):
@@ -200,6 +214,8 @@ def serve(lie, program, words):
         desk = subprocess.Popen([program, *words], stdout=subprocess.PIPE, preexec_fn=end_with_parent)
         desk.stdout.readline()
         print("LISTENING 127.0.0.1:%d" % port, flush=True)
+        if lie.is_beside:
+            return serve_beside(lie, listener, behind, count) or desk.wait()
         for _ in range(count):
             client, _ = listener.accept()
             taken, first = b"", None
@@ -215,6 +231,32 @@ def serve(lie, program, words):
             client.sendall(lie.written(reply))
             client.close()
         return desk.wait()
+
+
+def serve_beside(lie, listener, behind, count):
+    """Hands on what comes as it comes, over connections that are open at once."""
+    open_ones, ends = [], []
+
+    def back(client, desk):
+        while piece := desk.recv(1 << 16):
+            client.sendall(lie.written(piece, len(open_ones)))
+        open_ones.remove(client)
+        client.shutdown(socket.SHUT_WR)
+
+    def on(client, desk):
+        while piece := client.recv(1 << 16):
+            desk.sendall(piece)
+        desk.shutdown(socket.SHUT_WR)
+
+    for _ in range(count):
+        client, _ = listener.accept()
+        desk = socket.create_connection(("127.0.0.1", behind))
+        open_ones.append(client)
+        for end in (on, back):
+            ends.append(threading.Thread(target=end, args=(client, desk), daemon=True))
+            ends[-1].start()
+    for end in ends:
+        end.join(10)
 
 
 def tell(name, program, words):
@@ -248,6 +290,9 @@ def main():
                 out.write('#!/bin/sh\nexec %s %s --as %s %s "$@"\n' % (sys.executable, os.path.abspath(__file__), lie.__name__, behind))
             os.chmod(liar, 0o755)
             words = [program, "--lists", liar] if lie.is_over_lists else [liar]
+            # the plain desk sees each of them; and in front of all but one stands a proxy of one connection at a time
+            for check in ("plain desk", Mixes.seen_by):
+                words += ["--skip", check] if check not in lie.seen_by else []
             done = subprocess.run(
                 [sys.executable, os.path.join(HERE, "fuzz.py"), *words, "--desks", "60", "--seconds", "600", "--failures", "1"],
                 capture_output=True, text=True)
