@@ -1,5 +1,5 @@
 //! Verdicts on nodes: worked cases, and hard shapes at length.
-use requisites::{NoMemory, Nodes, Rows, Verdict, resolve, verdict_of_node};
+use requisites::{NoMemory, Nodes, Rows, Verdict, chosen_plans, resolve, verdict_of_node};
 use std::alloc::Global;
 use std::test::Fail;
 use testing::assert_equal_at;
@@ -102,6 +102,40 @@ fn the_blocked_need_is_the_least_that_nothing_good_gives(rt: HostRuntime) -> Res
     assert_held(alloc, &nodes, 0, 3)?;
     assert!(rt; matches!(verdict(alloc, &nodes, 3)?, Verdict::Lack));
     Ok(())
+}
+
+// What the chosen plans of some nodes have together.
+fn assert_plans(
+    alloc: Global,
+    nodes: &Nodes,
+    starts: &[usize],
+    wanted: &[usize],
+) -> Result<(), Fail> {
+    let resolution = resolve(alloc, nodes)?;
+    let plans = chosen_plans(alloc, nodes, &resolution, starts)?;
+    assert_equal_at(starts, plans.as_slice(), wanted)
+}
+
+#[test]
+fn plans_of_the_good_ones_come_together(rt: HostRuntime) -> Result<(), Fail> {
+    let alloc = rt.alloc();
+    // 0 and 1 need 4, and 4 needs 5; 2 needs what is no node
+    let nodes = nodes(alloc, 6, &[(0, 4), (1, 4), (4, 5), (2, 9)], &[])?;
+    assert_plans(alloc, &nodes, &[], &[])?;
+    assert_plans(alloc, &nodes, &[2, 9], &[])?;
+    assert_plans(alloc, &nodes, &[1, 2, 0, 1], &[0, 1, 4, 5])?;
+    assert_plans(alloc, &nodes, &[5, 3], &[3, 5])
+}
+
+#[test]
+fn plans_of_all_nodes_at_length(rt: HostRuntime) -> Result<(), Fail> {
+    let alloc = rt.alloc();
+    let nodes = nodes(alloc, LONG, &to_last(alloc)?, &[])?;
+    let mut all = Vec::with_capacity(alloc, LONG)?;
+    for node in 0..LONG {
+        all.push(node)?;
+    }
+    assert_plans(alloc, &nodes, &all, &all)
 }
 
 // Links from each node to the next, and what the last needs or supersedes.
