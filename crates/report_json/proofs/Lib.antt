@@ -1,0 +1,5 @@
+pub mod JsonFacts
+pub mod HoldFacts
+pub mod RowFacts
+pub mod DateFacts
+mod Examples

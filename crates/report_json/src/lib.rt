@@ -1,0 +1,24 @@
+//! Reports, the list of zones and the counts of what is published as JSON.
+//!
+//! - [`err_json`]: the exception SYSMOD report on a zone
+//! - [`missing_json`]: the missing fix report on a zone
+//! - [`zones_json`]: a client's zones
+//! - [`published_json`]: how much is published
+//!
+//! ```
+//! use report_json::published_json;
+//! let text = published_json(alloc, 7, 4)?;
+//! assert!(rt; text.as_slice() == b"{\"holds\":4,\"sysmods\":7}");
+//! ```
+#![tactic(auto)]
+
+mod dates;
+mod fields;
+mod lists;
+mod rows;
+mod search;
+mod sysmods;
+mod texts;
+
+pub use lists::{published_json, zones_json};
+pub use texts::{err_json, missing_json};
