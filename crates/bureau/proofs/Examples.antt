@@ -4,13 +4,14 @@ use Rattle.std.specs.Prelude.{Some, None, codes, replicate}
 use Rattle.std.specs.Fmt.{digits}
 use Rattle.zone_lists.specs.declared.zones.ZoneState.TheVariants.{Applied}
 use Rattle.catalogue.specs.Content.{nothing}
+use Rattle.report_json.specs.Json.{err_json_of, missing_json_of, published_json_of, zones_json_of}
 use Rattle.bureau_store.specs.Effect.{zone_dropped}
 use Rattle.bureau_store.specs.Tables.{ZoneTable, Zones}
 use Rattle.bureau_store.specs.declared.caller.Caller.TheVariants.{Publisher, Client}
-use Rattle.bureau.specs.Call.{Call, publish, drop_zone, list_zones, err_sysmods, err_plan_json, missing_plan, counts}
-use Rattle.bureau.specs.Outcome.{Answer, Outcome, accepted, answered, has_room, in_turn, outcome, plain}
+use Rattle.bureau.specs.Call.{Call, publish, drop_zone, list_zones, list_zones_json, err_sysmods, err_sysmods_json, missing_fix_json, err_plan_json, missing_plan, counts, counts_json}
+use Rattle.bureau.specs.Outcome.{Answer, Outcome, accepted, answered, as_json, has_room, in_turn, outcome, plain}
 use Rattle.bureau.specs.Own.{Asked, Opening, own_answer}
-use Rattle.bureau.specs.Texts.{counts_text}
+use Rattle.bureau.specs.Texts.{counts_json_text, counts_text}
 use Rattle.bureau.specs.View.{View}
 
 -- a zone with one SYSMOD
@@ -37,6 +38,9 @@ client_publishes = refl
 
 pub publisher_lists_zones : outcome publisher list_zones ≡ answered (plain 403 (codes "NOT ALLOWED\n"))
 publisher_lists_zones = refl
+
+pub publisher_lists_zones_as_json : outcome publisher list_zones_json ≡ answered (plain 403 (codes "NOT ALLOWED\n"))
+publisher_lists_zones_as_json = refl
 
 pub publisher_asks_for_a_plan : outcome publisher (missing_plan (codes "TGT1   ")) ≡ answered (plain 403 (codes "NOT ALLOWED\n"))
 publisher_asks_for_a_plan = refl
@@ -80,12 +84,28 @@ zone_dropped_now = refl
 pub report_on_no_zone : outcome alpha (err_sysmods (codes "TGT9   ")) ≡ answered (plain 404 (codes "NOT FOUND\n"))
 report_on_no_zone = refl
 
+pub report_as_json_on_no_zone : outcome alpha (err_sysmods_json (codes "TGT9   ")) ≡ answered (plain 404 (codes "NOT FOUND\n"))
+report_as_json_on_no_zone = refl
+
+pub missing_fixes_as_json_on_no_zone : outcome alpha (missing_fix_json (codes "TGT9   ")) ≡ answered (plain 404 (codes "NOT FOUND\n"))
+missing_fixes_as_json_on_no_zone = refl
+
 pub plan_on_no_zone : outcome alpha (err_plan_json (codes "TGT9   ")) ≡ answered (plain 404 (codes "NOT FOUND\n"))
 plan_on_no_zone = refl
 
 pub zones_listed : outcome alpha list_zones ≡ answered (plain 200 (codes "ZONE     SYSMODS\nTGT1     1\nROWS 1\n"))
 unfolding digits
 zones_listed = refl
+
+pub zones_listed_as_json : outcome alpha list_zones_json ≡ answered (as_json (zones_json_of ((codes "TGT1   ", 1) ∷ [])))
+zones_listed_as_json = refl
+
+-- reports where nothing is published
+pub nothing_held_as_json : outcome alpha (err_sysmods_json (codes "TGT1   ")) ≡ answered (as_json (err_json_of nothing (codes "TGT1   ") [] []))
+nothing_held_as_json = refl
+
+pub nothing_missing_as_json : outcome alpha (missing_fix_json (codes "TGT1   ")) ≡ answered (as_json (missing_json_of nothing (codes "TGT1   ") [] []))
+nothing_missing_as_json = refl
 
 -- a client may have 64 zones; one of them may be put again
 abbrev zones_of : ℕ → Zones
@@ -105,8 +125,14 @@ pub counts_of_nothing : counts_text nothing ≡ codes "PUBLISHED SYSMODS 0 HOLDS
 unfolding digits
 counts_of_nothing = refl
 
+pub counts_of_nothing_as_json : counts_json_text nothing ≡ published_json_of 0 0
+counts_of_nothing_as_json = refl
+
 pub both_may_count : outcome alpha counts ≡ outcome publisher counts
 both_may_count = refl
+
+pub both_may_count_as_json : outcome alpha counts_json ≡ outcome publisher counts_json
+both_may_count_as_json = refl
 
 -- ---- the own answer: no tables, only the calls that came, the latest first
 

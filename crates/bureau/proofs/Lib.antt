@@ -8,6 +8,7 @@ pub mod PublicationFacts
 pub mod ShownFacts
 pub mod ChangeFacts
 pub mod QuestionFacts
+pub mod RowsFacts
 pub mod CommitFacts
 pub mod AnswerFacts
 pub mod RepeatFacts

@@ -5,12 +5,12 @@ use Rattle.bureau_store.specs.Effect.{Effect, publication, zone_put, zone_droppe
 use Rattle.bureau_store.specs.Tables.{LastChange, ZoneTable, Zones, zone_named}
 use Rattle.bureau_store.specs.declared.caller.Caller.{Caller}
 use Rattle.bureau_store.specs.declared.caller.Caller.TheVariants.{Publisher, Client}
-use Rattle.bureau.specs.Call.{Call, publish, put_zone, drop_zone, put_received, put_patterns, list_zones, err_sysmods, missing_fix, err_plan, err_plan_json, missing_plan, missing_plan_json, chain, counts}
+use Rattle.bureau.specs.Call.{Call, publish, put_zone, drop_zone, put_received, put_patterns, list_zones, list_zones_json, err_sysmods, err_sysmods_json, missing_fix, missing_fix_json, err_plan, err_plan_json, missing_plan, missing_plan_json, chain, counts, counts_json}
 use Rattle.bureau_store.specs.Store.{greatest_number}
 use Rattle.bureau.specs.Outcome.{Outcome, answered, accepted, as_json, bad_number, by_number, forbidden, gap, has_room, in_turn, may_ask, of_zone, outcome, outcome_allowed, put_of_zone, refused, said, stale, told}
 use Rattle.bureau.specs.View.{View}
 use Rattle.bureau.specs.Bodies.{changes_in, ids_in, patterns_in, rows_in}
-use Rattle.bureau.specs.Texts.{chain_text, err_plan_json_text, err_plan_text, err_report, missing_plan_json_text, missing_plan_text, missing_report, patterns_text, publication_text, received_text, zone_dropped_text, zone_put_text}
+use Rattle.bureau.specs.Texts.{chain_text, err_json_text, err_plan_json_text, err_plan_text, err_report, missing_json_text, missing_plan_json_text, missing_plan_text, missing_report, patterns_text, publication_text, received_text, zone_dropped_text, zone_put_text}
 
 -- who may make a change, and that patterns are those of a zone that is there
 abbrev pub IsPossible : Zones → Caller → Effect → Type 0
@@ -56,14 +56,18 @@ asked view Publisher (drop_zone number zone) = refl
 asked view Publisher (put_received number body) = refl
 asked view Publisher (put_patterns number zone body) = refl
 asked view Publisher list_zones = refl
+asked view Publisher list_zones_json = refl
 asked view Publisher (err_sysmods zone) = refl
+asked view Publisher (err_sysmods_json zone) = refl
 asked view Publisher (missing_fix zone) = refl
+asked view Publisher (missing_fix_json zone) = refl
 asked view Publisher (err_plan zone) = refl
 asked view Publisher (err_plan_json zone) = refl
 asked view Publisher (missing_plan zone) = refl
 asked view Publisher (missing_plan_json zone) = refl
 asked view Publisher (chain zone sysmod) = refl
 asked view Publisher counts = refl
+asked view Publisher counts_json = refl
 asked view (Client name) (publish number body) = refl
 asked view (Client name) (put_zone number zone body) =
     turned view.zones (Client name) view.last number (put_of_zone view.zones zone body)
@@ -83,8 +87,13 @@ asked view (Client name) (put_patterns number zone body) =
     (λ table found. reads view.zones (Client name) (patterns_in body) (λ patterns. accepted (patterns_put zone patterns) (patterns_text zone patterns))
     (λ patterns. ap (λ (o : Option ZoneTable). is_some o) found)))
 asked view (Client name) list_zones = refl
+asked view (Client name) list_zones_json = refl
 asked view (Client name) (err_sysmods zone) = finds view.zones (Client name) (zone_named zone view.zones) (λ table. told (err_report view.content zone table view.received)) (λ table found. refl)
+asked view (Client name) (err_sysmods_json zone) =
+    finds view.zones (Client name) (zone_named zone view.zones) (λ table. answered (as_json (err_json_text view.content zone table view.received))) (λ table found. refl)
 asked view (Client name) (missing_fix zone) = finds view.zones (Client name) (zone_named zone view.zones) (λ table. told (missing_report view.content zone table view.received)) (λ table found. refl)
+asked view (Client name) (missing_fix_json zone) =
+    finds view.zones (Client name) (zone_named zone view.zones) (λ table. answered (as_json (missing_json_text view.content zone table view.received))) (λ table found. refl)
 asked view (Client name) (err_plan zone) = finds view.zones (Client name) (zone_named zone view.zones) (λ table. told (err_plan_text view.content zone table view.received)) (λ table found. refl)
 asked view (Client name) (err_plan_json zone) =
     finds view.zones (Client name) (zone_named zone view.zones) (λ table. answered (as_json (err_plan_json_text view.content zone table view.received))) (λ table found. refl)
@@ -94,6 +103,7 @@ asked view (Client name) (missing_plan_json zone) =
 asked view (Client name) (chain zone sysmod) =
     finds view.zones (Client name) (zone_named zone view.zones) (λ table. answered (record { status = 200; json = true; body = chain_text view.content zone table sysmod })) (λ table found. refl)
 asked view (Client name) counts = refl
+asked view (Client name) counts_json = refl
 
 pub proper : (view : View) (call : Call) (caller : Caller) → view.caller ≡ caller → IsProper view.zones caller (outcome view call)
 proper view call caller is =

@@ -19,7 +19,7 @@ use Rattle.bureau.specs.Texts.{chain_text, chain_text_from, zone_fields, zones_t
 use Rattle.bureau.specs.Wanted.{err_answer_from, err_call, missing_answer_from, missing_call}
 use Rattle.bureau.specs.declared.reply.Reply.{Reply}
 use Rattle.bureau.specs.declared.wanted.Wanted.{Wanted}
-use Rattle.bureau.specs.declared.wanted.Wanted.TheVariants.{Report, Plan, PlanJson}
+use Rattle.bureau.specs.declared.wanted.Wanted.TheVariants.{Report, ReportJson, Plan, PlanJson}
 use Rattle.columns.specs.Columns.{text_of as text_in}
 
 -- what one call tells, and then another, is told by both together
@@ -69,6 +69,8 @@ pub err_told : (wanted : Wanted) (client zone : List ℕ) (this : Tables) (recei
     → IsReplyTo (Client client) (err_call wanted zone) this reply
 err_told Report client zone this received rows installed holds reply there has held same is =
     err_parts this.content (zone_named zone (this.zones client)) received (this.received client) rows installed holds (err_answer_from Report this.content zone) reply there has held same is
+err_told ReportJson client zone this received rows installed holds reply there has held same is =
+    err_parts this.content (zone_named zone (this.zones client)) received (this.received client) rows installed holds (err_answer_from ReportJson this.content zone) reply there has held same is
 err_told Plan client zone this received rows installed holds reply there has held same is =
     err_parts this.content (zone_named zone (this.zones client)) received (this.received client) rows installed holds (err_answer_from Plan this.content zone) reply there has held same is
 err_told PlanJson client zone this received rows installed holds reply there has held same is =
@@ -78,6 +80,7 @@ pub err_not_found : (wanted : Wanted) (client zone : List ℕ) (this : Tables) (
     → None ≡ option_map (λ (table : ZoneTable). table.rows) (zone_named zone (this.zones client)) → reply_as reply ≡ not_found
     → IsReplyTo (Client client) (err_call wanted zone) this reply
 err_not_found Report client zone this reply missing is = no_rows (zone_named zone (this.zones client)) _ reply missing is
+err_not_found ReportJson client zone this reply missing is = no_rows (zone_named zone (this.zones client)) _ reply missing is
 err_not_found Plan client zone this reply missing is = no_rows (zone_named zone (this.zones client)) _ reply missing is
 err_not_found PlanJson client zone this reply missing is = no_rows (zone_named zone (this.zones client)) _ reply missing is
 
@@ -100,6 +103,8 @@ pub missing_told : (wanted : Wanted) (client zone : List ℕ) (this : Tables) (r
     → IsReplyTo (Client client) (missing_call wanted zone) this reply
 missing_told Report client zone this received patterns rows installed holds reply there has asked held same is =
     missing_parts this.content (zone_named zone (this.zones client)) received (this.received client) patterns rows installed holds (missing_answer_from Report this.content zone) reply there has asked held same is
+missing_told ReportJson client zone this received patterns rows installed holds reply there has asked held same is =
+    missing_parts this.content (zone_named zone (this.zones client)) received (this.received client) patterns rows installed holds (missing_answer_from ReportJson this.content zone) reply there has asked held same is
 missing_told Plan client zone this received patterns rows installed holds reply there has asked held same is =
     missing_parts this.content (zone_named zone (this.zones client)) received (this.received client) patterns rows installed holds (missing_answer_from Plan this.content zone) reply there has asked held same is
 missing_told PlanJson client zone this received patterns rows installed holds reply there has asked held same is =
@@ -109,6 +114,7 @@ pub missing_not_found : (wanted : Wanted) (client zone : List ℕ) (this : Table
     → None ≡ option_map (λ (table : ZoneTable). table.rows) (zone_named zone (this.zones client)) → reply_as reply ≡ not_found
     → IsReplyTo (Client client) (missing_call wanted zone) this reply
 missing_not_found Report client zone this reply missing is = no_rows (zone_named zone (this.zones client)) _ reply missing is
+missing_not_found ReportJson client zone this reply missing is = no_rows (zone_named zone (this.zones client)) _ reply missing is
 missing_not_found Plan client zone this reply missing is = no_rows (zone_named zone (this.zones client)) _ reply missing is
 missing_not_found PlanJson client zone this reply missing is = no_rows (zone_named zone (this.zones client)) _ reply missing is
 

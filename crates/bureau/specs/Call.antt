@@ -9,11 +9,15 @@ pub data Call : Type 0 where
   put_received : Option ℕ → List ℕ → Call
   put_patterns : Option ℕ → List ℕ → List ℕ → Call
   list_zones : Call
+  list_zones_json : Call
   err_sysmods : List ℕ → Call
+  err_sysmods_json : List ℕ → Call
   missing_fix : List ℕ → Call
+  missing_fix_json : List ℕ → Call
   err_plan : List ℕ → Call
   err_plan_json : List ℕ → Call
   missing_plan : List ℕ → Call
   missing_plan_json : List ℕ → Call
   chain : List ℕ → List ℕ → Call
   counts : Call
+  counts_json : Call

@@ -15,6 +15,7 @@ pub mod Parts
 pub mod Reading
 pub mod Repeat
 pub mod Replies
+pub mod RowsFound
 pub mod Runs
 pub mod Texts
 pub mod View

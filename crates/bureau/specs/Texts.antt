@@ -14,6 +14,7 @@ use Rattle.reports.specs.ChainText.{chain_text_of}
 use Rattle.reports.specs.ErrRows.{err_rows_of}
 use Rattle.reports.specs.MissingRows.{missing_rows_of}
 use Rattle.reports.specs.ReportText.{err_text_of, missing_text_of}
+use Rattle.report_json.specs.Json.{err_json_of, missing_json_of, published_json_of, zones_json_of}
 use Rattle.plan_reports.specs.Replies.{err_plan_json_of, err_plan_text_of, missing_plan_json_of, missing_plan_text_of}
 use Rattle.bureau_store.specs.Held.{held_in}
 use Rattle.bureau_store.specs.Tables.{ZoneTable, Zones}
@@ -40,10 +41,13 @@ publication_text changes =
     ++ codes " HOLDS " ++ decimal (count_by is_put changes)
     ++ codes " RELEASES " ++ decimal (count_by is_release changes) ++ codes "\n"
 
--- how much is published
+-- how much is published, in print and as JSON
 abbrev pub counts_text : Content → List ℕ
 counts_text content =
     codes "PUBLISHED SYSMODS " ++ decimal (length content.sysmods) ++ codes " HOLDS " ++ decimal (length content.holds) ++ codes "\n"
+
+abbrev pub counts_json_text : Content → List ℕ
+counts_json_text content = published_json_of (length content.sysmods) (length content.holds)
 
 abbrev pub zone_put_text : List ℕ → List ZoneRow → List ℕ
 zone_put_text zone rows = codes "ZONE " ++ text_of zone ++ codes " ROWS " ++ decimal (length rows) ++ codes "\n"
@@ -68,6 +72,10 @@ zone_fields zone = text_of zone.0 ∷ decimal zone.1 ∷ []
 abbrev pub zones_text : Zones → List ℕ
 zones_text zones = text_in zone_columns None (map (λ zone. zone_fields (zone.0, length zone.1.rows)) zones)
 
+-- the same zones as JSON
+abbrev pub zones_json_text : Zones → List ℕ
+zones_json_text zones = zones_json_of (map (λ zone. (zone.0, length zone.1.rows)) zones)
+
 -- the exception SYSMOD report on a zone, from its rows and the holds that are read for it
 abbrev pub err_report_from : Content → List ℕ → List ZoneRow → List (List ℕ) → List Hold → List ℕ
 err_report_from content zone rows received holds = err_text_of zone (err_rows_of content rows received holds)
@@ -76,6 +84,13 @@ err_report_from content zone rows received holds = err_text_of zone (err_rows_of
 abbrev pub err_report : Content → List ℕ → ZoneTable → List (List ℕ) → List ℕ
 err_report content zone table received =
     err_report_from content zone table.rows received (held_in content table.rows ErrorHold)
+
+-- the same report as JSON
+abbrev pub err_json_from : Content → List ℕ → List ZoneRow → List (List ℕ) → List Hold → List ℕ
+err_json_from content zone rows received holds = err_json_of content zone holds (err_rows_of content rows received holds)
+
+abbrev pub err_json_text : Content → List ℕ → ZoneTable → List (List ℕ) → List ℕ
+err_json_text content zone table received = err_json_from content zone table.rows received (held_in content table.rows ErrorHold)
 
 -- the missing fix report on a zone, from its rows and patterns and the holds that are read for it
 abbrev pub missing_report_from : Content → List ℕ → List ZoneRow → List (List ℕ) → List (List ℕ) → List Hold → List ℕ
@@ -86,6 +101,15 @@ missing_report_from content zone rows received patterns holds =
 abbrev pub missing_report : Content → List ℕ → ZoneTable → List (List ℕ) → List ℕ
 missing_report content zone table received =
     missing_report_from content zone table.rows received table.patterns (held_in content table.rows FixcatHold)
+
+-- the same report as JSON
+abbrev pub missing_json_from : Content → List ℕ → List ZoneRow → List (List ℕ) → List (List ℕ) → List Hold → List ℕ
+missing_json_from content zone rows received patterns holds =
+    missing_json_of content zone holds (missing_rows_of content rows received patterns holds)
+
+abbrev pub missing_json_text : Content → List ℕ → ZoneTable → List (List ℕ) → List ℕ
+missing_json_text content zone table received =
+    missing_json_from content zone table.rows received table.patterns (held_in content table.rows FixcatHold)
 
 -- the plan for the exception SYSMOD report on a zone, in print and as JSON
 abbrev pub err_plan_text : Content → List ℕ → ZoneTable → List (List ℕ) → List ℕ

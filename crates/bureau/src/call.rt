@@ -46,15 +46,27 @@ pub enum Call<'a> {
         /// The patterns, as CSV.
         body: &'a [u8],
     },
-    /// A client asks which zones it has.
+    /// A client asks which zones it has, in print.
     ListZones,
-    /// A client asks for the exception SYSMOD report on a zone.
+    /// A client asks which zones it has, as JSON.
+    ListZonesJson,
+    /// A client asks for the exception SYSMOD report on a zone, in print.
     ErrSysmods {
         /// The zone's name.
         zone: Id,
     },
-    /// A client asks for the missing fix report on a zone.
+    /// A client asks for the exception SYSMOD report on a zone, as JSON.
+    ErrSysmodsJson {
+        /// The zone's name.
+        zone: Id,
+    },
+    /// A client asks for the missing fix report on a zone, in print.
     MissingFix {
+        /// The zone's name.
+        zone: Id,
+    },
+    /// A client asks for the missing fix report on a zone, as JSON.
+    MissingFixJson {
         /// The zone's name.
         zone: Id,
     },
@@ -85,6 +97,8 @@ pub enum Call<'a> {
         /// The SYSMOD.
         sysmod: Id,
     },
-    /// Any caller asks how much is published.
+    /// Any caller asks how much is published, in print.
     Counts,
+    /// Any caller asks how much is published, as JSON.
+    CountsJson,
 }

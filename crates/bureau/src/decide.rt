@@ -9,7 +9,9 @@ ghost use Rattle.bureau.specs.Outcome.{may_ask};
 
 use crate::changes::{drop_zone, publish, put_patterns, put_received, put_zone};
 use crate::outcome::{NoRoom, Outcome};
-use crate::questions::{chain, counts, err_answer, list_zones, missing_answer};
+use crate::questions::{
+    chain, counts, counts_json, err_answer, list_zones, list_zones_json, missing_answer,
+};
 use crate::wanted::Wanted;
 use crate::{Call, Reply};
 use bureau_store::{Caller, Store};
@@ -57,7 +59,8 @@ fn decide_for_publisher<S: Store>(
 {
     match *call {
         Call::Publish { number, body } => publish(alloc, store, number, body),
-        Call::Counts => Ok(Outcome::Answered(counts(alloc, store)?)),
+        Call::Counts => reply_alone(counts(alloc, store)),
+        Call::CountsJson => reply_alone(counts_json(alloc, store)),
         _ => Ok(Outcome::Answered(Reply::forbidden(alloc)?)),
     }
 }
@@ -91,9 +94,13 @@ fn decide_for_client<S: Store, J: Judge<S>>(
         Call::PutPatterns { number, zone, body } => {
             put_patterns(alloc, store, client, number, &zone, body)
         }
-        Call::ListZones => Ok(Outcome::Answered(list_zones(alloc, store, client)?)),
+        Call::ListZones => reply_alone(list_zones(alloc, store, client)),
+        Call::ListZonesJson => reply_alone(list_zones_json(alloc, store, client)),
         Call::ErrSysmods { zone } => {
             reply_alone(err_answer(alloc, store, judge, client, &zone, Wanted::Report))
+        }
+        Call::ErrSysmodsJson { zone } => {
+            reply_alone(err_answer(alloc, store, judge, client, &zone, Wanted::ReportJson))
         }
         Call::ErrPlan { zone } => {
             reply_alone(err_answer(alloc, store, judge, client, &zone, Wanted::Plan))
@@ -104,6 +111,9 @@ fn decide_for_client<S: Store, J: Judge<S>>(
         Call::MissingFix { zone } => {
             reply_alone(missing_answer(alloc, store, judge, client, &zone, Wanted::Report))
         }
+        Call::MissingFixJson { zone } => {
+            reply_alone(missing_answer(alloc, store, judge, client, &zone, Wanted::ReportJson))
+        }
         Call::MissingPlan { zone } => {
             reply_alone(missing_answer(alloc, store, judge, client, &zone, Wanted::Plan))
         }
@@ -113,7 +123,8 @@ fn decide_for_client<S: Store, J: Judge<S>>(
         Call::Chain { zone, sysmod } => {
             reply_alone(chain(alloc, store, judge, client, &zone, &sysmod))
         }
-        Call::Counts => Ok(Outcome::Answered(counts(alloc, store)?)),
+        Call::Counts => reply_alone(counts(alloc, store)),
+        Call::CountsJson => reply_alone(counts_json(alloc, store)),
     }
 }
 

@@ -4,6 +4,7 @@
 //! - [`Call`]: what a caller asks
 //! - [`isolation`]: each caller's answers are those of a bureau that no other client uses
 //! - [`repeats`]: a change acts once, however often it is sent
+//! - [`rows_have_holds`]: each row of a report has its hold
 //! - [`Reply`]: an answer: its status and its [`Body`]
 //!
 //! `specs/` says what the bureau is: begin with its `Outcome`, what comes of a call over what one
@@ -42,6 +43,6 @@ mod wanted;
 
 pub use bureau::Bureau;
 pub use call::Call;
-pub use law::{isolation, repeats};
+pub use law::{isolation, repeats, rows_have_holds};
 use mcs_reader::NoMemory;
 pub use reply::{Body, Reply};

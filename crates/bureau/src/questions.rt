@@ -1,5 +1,6 @@
 //! The answers to questions. They change nothing.
 ghost use Rattle.std.specs.Prelude.{◌≡◌, IfOk};
+ghost use Rattle.holddata.specs.HoldBook.{IsInKeyOrder};
 ghost use Rattle.catalogue.specs.View.{Tells};
 ghost use Rattle.catalogue.specs.Ids.{Ascend};
 ghost use Rattle.bureau_store.specs.Caller.{IsProper};
@@ -9,7 +10,7 @@ ghost use Rattle.bureau.specs.Outcome.{as_json, plain};
 ghost use Rattle.bureau.specs.Outcomes.{IsReplyTo};
 ghost use Rattle.bureau.specs.Reading.{HasRead, MayRead};
 ghost use Rattle.bureau.specs.Replies.{reply_as};
-ghost use Rattle.bureau.specs.Texts.{chain_text_from, counts_text, err_report_from, missing_report_from};
+ghost use Rattle.bureau.specs.Texts.{chain_text_from, counts_json_text, counts_text, err_json_from, err_report_from, missing_json_from, missing_report_from};
 ghost use Rattle.bureau.specs.Wanted.{err_answer_from, err_call, missing_answer_from, missing_call};
 
 use crate::Reply;
@@ -22,12 +23,13 @@ use chains::Judge;
 use holddata::{Hold, Kind};
 use mcs_reader::Id;
 use plan_reports::{err_plan_json, err_plan_text, missing_plan_json, missing_plan_text};
+use report_json::{err_json, missing_json, published_json, zones_json};
 use reports::{err_rows, err_text, missing_rows, missing_text, plan_json};
 use std::alloc::Global;
 use supersede::Zone;
 use zone_lists::Pattern;
 
-/// How much is published.
+/// How much is published, in print.
 pub(crate) fn counts<S: Store>(alloc: Global, store: &mut S) -> Result<Reply, NoRoom>
     ensures reads { HasRead S.tables_view store.old store.new result }
     ensures reply { IfOk result (λ reply. Tells S.tables_view store.old store.new
@@ -37,7 +39,17 @@ pub(crate) fn counts<S: Store>(alloc: Global, store: &mut S) -> Result<Reply, No
     Ok(Reply::text(counts_line(alloc, sysmods, holds)?))
 }
 
-/// Which zones a client has.
+/// How much is published, as JSON.
+pub(crate) fn counts_json<S: Store>(alloc: Global, store: &mut S) -> Result<Reply, NoRoom>
+    ensures reads { HasRead S.tables_view store.old store.new result }
+    ensures reply { IfOk result (λ reply. Tells S.tables_view store.old store.new
+        (λ this. reply_as reply ≡ as_json (counts_json_text this.content))) }
+{
+    let (sysmods, holds) = store.counts()?;
+    Ok(Reply::json(published_json(alloc, sysmods, holds)?))
+}
+
+/// Which zones a client has, in print.
 pub(crate) fn list_zones<S: Store>(
     alloc: Global,
     store: &mut S,
@@ -50,6 +62,21 @@ pub(crate) fn list_zones<S: Store>(
 {
     let zones = store.zones(client)?;
     Ok(Reply::text(zones_table(alloc, &zones)?))
+}
+
+/// Which zones a client has, as JSON.
+pub(crate) fn list_zones_json<S: Store>(
+    alloc: Global,
+    store: &mut S,
+    client: &Id,
+) -> Result<Reply, NoRoom>
+    requires { IsProper (Client client.now) }
+    ensures reads { HasRead S.tables_view store.old store.new result }
+    ensures reply { IfOk result (λ reply. Tells S.tables_view store.old store.new
+        (λ this. IsReplyTo (Client client.now) call.list_zones_json this reply)) }
+{
+    let zones = store.zones(client)?;
+    Ok(Reply::json(zones_json(alloc, &zones)?))
 }
 
 /// The exception SYSMOD report on a zone, or the plan for it.
@@ -144,7 +171,8 @@ fn err_reply<P: Published, J: Judge<P>>(
     holds: &[Hold],
     wanted: Wanted,
 ) -> Result<Reply, NoRoom>
-    requires { Ascend received.now }
+    requires received { Ascend received.now }
+    requires holds { IsInKeyOrder holds.now }
     ensures reads { MayRead P.content_view source.old source.new result }
     ensures reply { IfOk result (λ reply. Tells P.content_view source.old source.new
         (λ content. J.is_right judge.old content → reply_as reply
@@ -154,6 +182,9 @@ fn err_reply<P: Published, J: Judge<P>>(
 {
     match wanted {
         Wanted::Report => err_report(alloc, source, judge, zone, installed, received, holds),
+        Wanted::ReportJson => {
+            err_report_json(alloc, source, judge, zone, installed, received, holds)
+        }
         Wanted::Plan => {
             let text = err_plan_text(alloc, source, judge, installed, received, holds, zone)?;
             Ok(Reply::text(text))
@@ -187,6 +218,30 @@ fn err_report<P: Published, J: Judge<P>>(
     Ok(Reply::text(err_text(alloc, zone, &rows)?))
 }
 
+// The same report as JSON.
+fn err_report_json<P: Published, J: Judge<P>>(
+    alloc: Global,
+    source: &mut P,
+    judge: &mut J,
+    zone: &Id,
+    installed: &Zone,
+    received: &[Id],
+    holds: &[Hold],
+) -> Result<Reply, NoRoom>
+    requires received { Ascend received.now }
+    requires holds { IsInKeyOrder holds.now }
+    ensures reads { MayRead P.content_view source.old source.new result }
+    ensures reply { IfOk result (λ reply. Tells P.content_view source.old source.new
+        (λ content. J.is_right judge.old content → reply_as reply
+        ≡ as_json (err_json_from content zone.now installed.now received.now holds.now))) }
+    ensures right { Tells P.content_view source.old source.new
+        (λ content. J.is_right judge.old content → J.is_right judge.new content) }
+{
+    let rows = err_rows(alloc, source, judge, installed, received, holds)?;
+    let text = err_json(alloc, source, zone, holds, &rows)?;
+    Ok(Reply::json(text))
+}
+
 // What is missing: the report, or the plan for it.
 fn missing_reply<P: Published, J: Judge<P>>(
     alloc: Global,
@@ -199,7 +254,8 @@ fn missing_reply<P: Published, J: Judge<P>>(
     holds: &[Hold],
     wanted: Wanted,
 ) -> Result<Reply, NoRoom>
-    requires { Ascend received.now }
+    requires received { Ascend received.now }
+    requires holds { IsInKeyOrder holds.now }
     ensures reads { MayRead P.content_view source.old source.new result }
     ensures reply { IfOk result (λ reply. Tells P.content_view source.old source.new
         (λ content. J.is_right judge.old content → reply_as reply
@@ -209,6 +265,9 @@ fn missing_reply<P: Published, J: Judge<P>>(
 {
     match wanted {
         Wanted::Report => missing_report(
+            alloc, source, judge, zone, installed, received, patterns, holds,
+        ),
+        Wanted::ReportJson => missing_report_json(
             alloc, source, judge, zone, installed, received, patterns, holds,
         ),
         Wanted::Plan => {
@@ -248,6 +307,32 @@ fn missing_report<P: Published, J: Judge<P>>(
 {
     let rows = missing_rows(alloc, source, judge, installed, received, patterns, holds)?;
     Ok(Reply::text(missing_text(alloc, zone, &rows)?))
+}
+
+// The same report as JSON.
+fn missing_report_json<P: Published, J: Judge<P>>(
+    alloc: Global,
+    source: &mut P,
+    judge: &mut J,
+    zone: &Id,
+    installed: &Zone,
+    received: &[Id],
+    patterns: &[Pattern],
+    holds: &[Hold],
+) -> Result<Reply, NoRoom>
+    requires received { Ascend received.now }
+    requires holds { IsInKeyOrder holds.now }
+    ensures reads { MayRead P.content_view source.old source.new result }
+    ensures reply { IfOk result (λ reply. Tells P.content_view source.old source.new
+        (λ content. J.is_right judge.old content → reply_as reply
+        ≡ as_json
+        (missing_json_from content zone.now installed.now received.now patterns.now holds.now))) }
+    ensures right { Tells P.content_view source.old source.new
+        (λ content. J.is_right judge.old content → J.is_right judge.new content) }
+{
+    let rows = missing_rows(alloc, source, judge, installed, received, patterns, holds)?;
+    let text = missing_json(alloc, source, zone, holds, &rows)?;
+    Ok(Reply::json(text))
 }
 
 // The verdict on a SYSMOD.

@@ -106,3 +106,15 @@ small_letters_are_no_id = refl
 pub nowhere : asked (codes "GET") (codes "/zones/") ≡ Err NotFound
 unfolding routes table with_route matchit_on_literals
 nowhere = refl
+
+pub zones_as_json : asked (codes "GET") (codes "/zones.json") ≡ Ok action.ListZonesJson
+unfolding routes table with_route matchit_on_literals
+zones_as_json = refl
+
+pub report_as_json : asked (codes "GET") (codes "/zones/ZONES/errsysmods.json") ≡ Ok (action.ErrSysmodsJson (codes "ZONES  "))
+unfolding routes table with_route matchit_on_literals percent_encoding_on_literals
+report_as_json = refl
+
+pub no_json_of_a_zone : asked (codes "PUT") (codes "/zones/TGT1.json") ≡ Err NotFound
+unfolding routes table with_route matchit_on_literals percent_encoding_on_literals
+no_json_of_a_zone = refl

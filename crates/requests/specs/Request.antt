@@ -82,13 +82,17 @@ sysmod_in path = id_in (before slash (after slash (after slash (after slash (aft
 abbrev pub action_at : Operation → List ℕ → Option Action
 action_at Operation.Publish path = Some Action.Publish
 action_at Operation.Counts path = Some Action.Counts
+action_at Operation.CountsJson path = Some Action.CountsJson
 action_at Operation.ListZones path = Some Action.ListZones
+action_at Operation.ListZonesJson path = Some Action.ListZonesJson
 action_at Operation.PutReceived path = Some Action.PutReceived
 action_at Operation.PutZone path = option_map Action.PutZone (zone_in path)
 action_at Operation.DropZone path = option_map Action.DropZone (zone_in path)
 action_at Operation.PutPatterns path = option_map Action.PutPatterns (zone_in path)
 action_at Operation.ErrSysmods path = option_map Action.ErrSysmods (zone_in path)
+action_at Operation.ErrSysmodsJson path = option_map Action.ErrSysmodsJson (zone_in path)
 action_at Operation.MissingFix path = option_map Action.MissingFix (zone_in path)
+action_at Operation.MissingFixJson path = option_map Action.MissingFixJson (zone_in path)
 action_at Operation.ErrPlan path = option_map Action.ErrPlan (zone_in path)
 action_at Operation.ErrPlanJson path = option_map Action.ErrPlanJson (zone_in path)
 action_at Operation.MissingPlan path = option_map Action.MissingPlan (zone_in path)

@@ -17,12 +17,16 @@ unfoldable pub table : List (List ℕ × Resource)
 table =
     (codes "/publish", Resource.Publication)
     ∷ (codes "/published", Resource.Catalogue)
+    ∷ (codes "/published.json", Resource.CatalogueJson)
     ∷ (codes "/zones", Resource.Zones)
+    ∷ (codes "/zones.json", Resource.ZonesJson)
     ∷ (codes "/zones/{zone}", Resource.Zone)
     ∷ (codes "/zones/{zone}/categories", Resource.Patterns)
     ∷ (codes "/received", Resource.Received)
     ∷ (codes "/zones/{zone}/errsysmods", Resource.ErrSysmods)
+    ∷ (codes "/zones/{zone}/errsysmods.json", Resource.ErrSysmodsJson)
     ∷ (codes "/zones/{zone}/missingfix", Resource.MissingFix)
+    ∷ (codes "/zones/{zone}/missingfix.json", Resource.MissingFixJson)
     ∷ (codes "/zones/{zone}/errsysmods/plan", Resource.ErrPlan)
     ∷ (codes "/zones/{zone}/errsysmods/plan.json", Resource.ErrPlanJson)
     ∷ (codes "/zones/{zone}/missingfix/plan", Resource.MissingPlan)
@@ -54,12 +58,16 @@ resource_at path = option_map (λ route. route.value) (first routes path)
 abbrev pub methods_of : Resource → List (List ℕ × Operation)
 methods_of Resource.Publication = (codes "POST", Operation.Publish) ∷ []
 methods_of Resource.Catalogue = (codes "GET", Operation.Counts) ∷ []
+methods_of Resource.CatalogueJson = (codes "GET", Operation.CountsJson) ∷ []
 methods_of Resource.Zones = (codes "GET", Operation.ListZones) ∷ []
+methods_of Resource.ZonesJson = (codes "GET", Operation.ListZonesJson) ∷ []
 methods_of Resource.Zone = (codes "DELETE", Operation.DropZone) ∷ (codes "PUT", Operation.PutZone) ∷ []
 methods_of Resource.Patterns = (codes "PUT", Operation.PutPatterns) ∷ []
 methods_of Resource.Received = (codes "PUT", Operation.PutReceived) ∷ []
 methods_of Resource.ErrSysmods = (codes "GET", Operation.ErrSysmods) ∷ []
+methods_of Resource.ErrSysmodsJson = (codes "GET", Operation.ErrSysmodsJson) ∷ []
 methods_of Resource.MissingFix = (codes "GET", Operation.MissingFix) ∷ []
+methods_of Resource.MissingFixJson = (codes "GET", Operation.MissingFixJson) ∷ []
 methods_of Resource.ErrPlan = (codes "GET", Operation.ErrPlan) ∷ []
 methods_of Resource.ErrPlanJson = (codes "GET", Operation.ErrPlanJson) ∷ []
 methods_of Resource.MissingPlan = (codes "GET", Operation.MissingPlan) ∷ []

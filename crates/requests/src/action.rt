@@ -14,10 +14,14 @@ use percent_encoding::percent_decode;
 pub enum Action {
     /// Publishes the statements in the body.
     Publish,
-    /// Tells how much is published.
+    /// Tells how much is published, in print.
     Counts,
-    /// Lists the caller's zones.
+    /// Tells how much is published, as JSON.
+    CountsJson,
+    /// Lists the caller's zones, in print.
     ListZones,
+    /// Lists the caller's zones, as JSON.
+    ListZonesJson,
     /// Puts the zone in the body in place of this one.
     PutZone(Id),
     /// Takes this zone away.
@@ -26,10 +30,14 @@ pub enum Action {
     PutPatterns(Id),
     /// Puts the received SYSMODs in the body in place of the caller's.
     PutReceived,
-    /// Reports the exception SYSMODs of this zone.
+    /// Reports the exception SYSMODs of this zone, in print.
     ErrSysmods(Id),
-    /// Reports the missing fixes of this zone.
+    /// Reports the exception SYSMODs of this zone, as JSON.
+    ErrSysmodsJson(Id),
+    /// Reports the missing fixes of this zone, in print.
     MissingFix(Id),
+    /// Reports the missing fixes of this zone, as JSON.
+    MissingFixJson(Id),
     /// Plans what resolves the exception SYSMODs of this zone, in print.
     ErrPlan(Id),
     /// Plans what resolves the exception SYSMODs of this zone, as JSON.
@@ -49,13 +57,17 @@ pub(crate) fn action_at(operation: Operation, path: &[u8]) -> Option<Action>
     match operation {
         Operation::Publish => Some(Action::Publish),
         Operation::Counts => Some(Action::Counts),
+        Operation::CountsJson => Some(Action::CountsJson),
         Operation::ListZones => Some(Action::ListZones),
+        Operation::ListZonesJson => Some(Action::ListZonesJson),
         Operation::PutReceived => Some(Action::PutReceived),
         Operation::PutZone => Some(Action::PutZone(zone_in(path)?)),
         Operation::DropZone => Some(Action::DropZone(zone_in(path)?)),
         Operation::PutPatterns => Some(Action::PutPatterns(zone_in(path)?)),
         Operation::ErrSysmods => Some(Action::ErrSysmods(zone_in(path)?)),
+        Operation::ErrSysmodsJson => Some(Action::ErrSysmodsJson(zone_in(path)?)),
         Operation::MissingFix => Some(Action::MissingFix(zone_in(path)?)),
+        Operation::MissingFixJson => Some(Action::MissingFixJson(zone_in(path)?)),
         Operation::ErrPlan => Some(Action::ErrPlan(zone_in(path)?)),
         Operation::ErrPlanJson => Some(Action::ErrPlanJson(zone_in(path)?)),
         Operation::MissingPlan => Some(Action::MissingPlan(zone_in(path)?)),

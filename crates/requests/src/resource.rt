@@ -9,8 +9,12 @@ pub enum Resource {
     Publication,
     /// `/published`
     Catalogue,
+    /// `/published.json`
+    CatalogueJson,
     /// `/zones`
     Zones,
+    /// `/zones.json`
+    ZonesJson,
     /// `/zones/{zone}`
     Zone,
     /// `/zones/{zone}/categories`
@@ -19,8 +23,12 @@ pub enum Resource {
     Received,
     /// `/zones/{zone}/errsysmods`
     ErrSysmods,
+    /// `/zones/{zone}/errsysmods.json`
+    ErrSysmodsJson,
     /// `/zones/{zone}/missingfix`
     MissingFix,
+    /// `/zones/{zone}/missingfix.json`
+    MissingFixJson,
     /// `/zones/{zone}/errsysmods/plan`
     ErrPlan,
     /// `/zones/{zone}/errsysmods/plan.json`
@@ -38,13 +46,17 @@ pub enum Resource {
 pub(crate) enum Operation {
     Publish,
     Counts,
+    CountsJson,
     ListZones,
+    ListZonesJson,
     PutZone,
     DropZone,
     PutPatterns,
     PutReceived,
     ErrSysmods,
+    ErrSysmodsJson,
     MissingFix,
+    MissingFixJson,
     ErrPlan,
     ErrPlanJson,
     MissingPlan,
@@ -61,13 +73,17 @@ impl Resource {
         match self {
             Resource::Publication => only(method, b"POST", Operation::Publish),
             Resource::Catalogue => only(method, b"GET", Operation::Counts),
+            Resource::CatalogueJson => only(method, b"GET", Operation::CountsJson),
             Resource::Zones => only(method, b"GET", Operation::ListZones),
+            Resource::ZonesJson => only(method, b"GET", Operation::ListZonesJson),
             Resource::Zone if method == b"DELETE".as_slice() => Some(Operation::DropZone),
             Resource::Zone => only(method, b"PUT", Operation::PutZone),
             Resource::Patterns => only(method, b"PUT", Operation::PutPatterns),
             Resource::Received => only(method, b"PUT", Operation::PutReceived),
             Resource::ErrSysmods => only(method, b"GET", Operation::ErrSysmods),
+            Resource::ErrSysmodsJson => only(method, b"GET", Operation::ErrSysmodsJson),
             Resource::MissingFix => only(method, b"GET", Operation::MissingFix),
+            Resource::MissingFixJson => only(method, b"GET", Operation::MissingFixJson),
             Resource::ErrPlan => only(method, b"GET", Operation::ErrPlan),
             Resource::ErrPlanJson => only(method, b"GET", Operation::ErrPlanJson),
             Resource::MissingPlan => only(method, b"GET", Operation::MissingPlan),
@@ -86,9 +102,13 @@ impl Resource {
             Resource::Zone => b"DELETE, PUT",
             Resource::Patterns | Resource::Received => b"PUT",
             Resource::Catalogue
+            | Resource::CatalogueJson
             | Resource::Zones
+            | Resource::ZonesJson
             | Resource::ErrSysmods
+            | Resource::ErrSysmodsJson
             | Resource::MissingFix
+            | Resource::MissingFixJson
             | Resource::ErrPlan
             | Resource::ErrPlanJson
             | Resource::MissingPlan

@@ -7,6 +7,30 @@ use faults::NoMemory;
 use matchit::Router;
 use std::alloc::Global;
 
+// The paths, each with what it names.
+static PATHS: [(&str, Resource); 17] = [
+    ("/publish", Resource::Publication),
+    ("/published", Resource::Catalogue),
+    ("/published.json", Resource::CatalogueJson),
+    ("/zones", Resource::Zones),
+    ("/zones.json", Resource::ZonesJson),
+    ("/zones/{zone}", Resource::Zone),
+    ("/zones/{zone}/categories", Resource::Patterns),
+    ("/received", Resource::Received),
+    ("/zones/{zone}/errsysmods", Resource::ErrSysmods),
+    ("/zones/{zone}/errsysmods.json", Resource::ErrSysmodsJson),
+    ("/zones/{zone}/missingfix", Resource::MissingFix),
+    ("/zones/{zone}/missingfix.json", Resource::MissingFixJson),
+    ("/zones/{zone}/errsysmods/plan", Resource::ErrPlan),
+    ("/zones/{zone}/errsysmods/plan.json", Resource::ErrPlanJson),
+    ("/zones/{zone}/missingfix/plan", Resource::MissingPlan),
+    (
+        "/zones/{zone}/missingfix/plan.json",
+        Resource::MissingPlanJson,
+    ),
+    ("/zones/{zone}/chains/{sysmod}", Resource::Chain),
+];
+
 /// The paths of the bureau, as `matchit` matches them: before anything in them is decoded.
 #[derive(Drop)]
 pub struct Routes {
@@ -18,47 +42,9 @@ impl Routes {
     /// All paths.
     pub fn new(alloc: Global) -> Result<Routes, NoMemory> {
         let mut router = Router::new(alloc);
-        put(&mut router, "/publish", Resource::Publication)?;
-        put(&mut router, "/published", Resource::Catalogue)?;
-        put(&mut router, "/zones", Resource::Zones)?;
-        put(&mut router, "/zones/{zone}", Resource::Zone)?;
-        put(&mut router, "/zones/{zone}/categories", Resource::Patterns)?;
-        put(&mut router, "/received", Resource::Received)?;
-        put(
-            &mut router,
-            "/zones/{zone}/errsysmods",
-            Resource::ErrSysmods,
-        )?;
-        put(
-            &mut router,
-            "/zones/{zone}/missingfix",
-            Resource::MissingFix,
-        )?;
-        put(
-            &mut router,
-            "/zones/{zone}/errsysmods/plan",
-            Resource::ErrPlan,
-        )?;
-        put(
-            &mut router,
-            "/zones/{zone}/errsysmods/plan.json",
-            Resource::ErrPlanJson,
-        )?;
-        put(
-            &mut router,
-            "/zones/{zone}/missingfix/plan",
-            Resource::MissingPlan,
-        )?;
-        put(
-            &mut router,
-            "/zones/{zone}/missingfix/plan.json",
-            Resource::MissingPlanJson,
-        )?;
-        put(
-            &mut router,
-            "/zones/{zone}/chains/{sysmod}",
-            Resource::Chain,
-        )?;
+        for (path, resource) in &PATHS {
+            put(&mut router, path, *resource)?;
+        }
         Ok(Routes { router })
     }
 

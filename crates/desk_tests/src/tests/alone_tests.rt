@@ -111,11 +111,33 @@ impl Drawn {
                 sysmod: self.sysmod,
             },
             7 | 8 => Call::ErrSysmods { zone },
+            9 => self.plan(),
+            10 => self.json(),
             _ => Call::PutZone {
                 number,
                 zone,
                 body: self.body_of(&ZONE_BODIES),
             },
+        }
+    }
+
+    fn plan(&self) -> Call<'static> {
+        let zone = self.zone;
+        match self.body.checked_rem(4) {
+            Some(0) => Call::ErrPlan { zone },
+            Some(1) => Call::MissingPlan { zone },
+            Some(2) => Call::MissingPlanJson { zone },
+            _ => Call::ErrPlanJson { zone },
+        }
+    }
+
+    fn json(&self) -> Call<'static> {
+        let zone = self.zone;
+        match self.body.checked_rem(4) {
+            Some(0) => Call::ListZonesJson,
+            Some(1) => Call::CountsJson,
+            Some(2) => Call::MissingFixJson { zone },
+            _ => Call::ErrSysmodsJson { zone },
         }
     }
 
@@ -126,7 +148,7 @@ impl Drawn {
     }
 
     fn is_change(&self) -> bool {
-        self.caller == 0 || matches!(self.kind, 3 | 4 | 5 | 9 | 10)
+        self.caller == 0 || matches!(self.kind, 3 | 4 | 5 | 11 | 12)
     }
 }
 
@@ -152,7 +174,7 @@ fn drawn_id(draws: &mut Draws, texts: &[&[u8]]) -> Checked<Id> {
 // A call is drawn. The callers' last accepted changes have these numbers.
 fn drawn_call(draws: &mut Draws, last: &[u64; 4]) -> Checked<Drawn> {
     let caller = draws.below(4) as usize;
-    let kind = draws.below(11);
+    let kind = draws.below(13);
     let number = drawn_number(draws, last.get(caller).copied().unwrap_or(0));
     Ok(Drawn {
         caller,

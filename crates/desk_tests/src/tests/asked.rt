@@ -51,10 +51,18 @@ pub(crate) enum Ask {
     PutReceived(u64, &'static [u8]),
     PutPatterns(u64, &'static [u8], &'static [u8]),
     ListZones,
+    ListZonesJson,
     ErrSysmods(&'static [u8]),
+    ErrSysmodsJson(&'static [u8]),
     MissingFix(&'static [u8]),
+    MissingFixJson(&'static [u8]),
+    ErrPlan(&'static [u8]),
+    ErrPlanJson(&'static [u8]),
+    MissingPlan(&'static [u8]),
+    MissingPlanJson(&'static [u8]),
     Chain(&'static [u8], &'static [u8]),
     Counts,
+    CountsJson,
 }
 
 impl Ask {
@@ -68,10 +76,18 @@ impl Ask {
             Ask::PutReceived(number, body) => put_received(number, body),
             Ask::PutPatterns(number, zone, body) => put_patterns(number, Id::new(zone)?, body),
             Ask::ListZones => Call::ListZones,
+            Ask::ListZonesJson => Call::ListZonesJson,
             Ask::ErrSysmods(zone) => report(Id::new(zone)?),
+            Ask::ErrSysmodsJson(zone) => report_json(Id::new(zone)?),
             Ask::MissingFix(zone) => missing(Id::new(zone)?),
+            Ask::MissingFixJson(zone) => missing_json(Id::new(zone)?),
+            Ask::ErrPlan(zone) => err_plan(Id::new(zone)?),
+            Ask::ErrPlanJson(zone) => err_plan_json(Id::new(zone)?),
+            Ask::MissingPlan(zone) => missing_plan(Id::new(zone)?),
+            Ask::MissingPlanJson(zone) => missing_plan_json(Id::new(zone)?),
             Ask::Chain(zone, sysmod) => chain(Id::new(zone)?, Id::new(sysmod)?),
             Ask::Counts => Call::Counts,
+            Ask::CountsJson => Call::CountsJson,
         })
     }
 }
@@ -118,8 +134,32 @@ pub(crate) fn report(zone: Id) -> Call<'static> {
     Call::ErrSysmods { zone }
 }
 
+fn report_json(zone: Id) -> Call<'static> {
+    Call::ErrSysmodsJson { zone }
+}
+
 fn missing(zone: Id) -> Call<'static> {
     Call::MissingFix { zone }
+}
+
+fn missing_json(zone: Id) -> Call<'static> {
+    Call::MissingFixJson { zone }
+}
+
+fn err_plan(zone: Id) -> Call<'static> {
+    Call::ErrPlan { zone }
+}
+
+fn err_plan_json(zone: Id) -> Call<'static> {
+    Call::ErrPlanJson { zone }
+}
+
+fn missing_plan(zone: Id) -> Call<'static> {
+    Call::MissingPlan { zone }
+}
+
+fn missing_plan_json(zone: Id) -> Call<'static> {
+    Call::MissingPlanJson { zone }
 }
 
 pub(crate) fn chain(zone: Id, sysmod: Id) -> Call<'static> {

@@ -127,7 +127,7 @@ fn failures_of(rt: &impl Abort, alloc: Global, asked: &Asked) -> Result<u64, Fai
 
 // Each call, by one who may ask it, and is answered 200 where nothing fails.
 #[rattlefmt::skip]
-static CALLS: [Asked; 11] = [
+static CALLS: [Asked; 19] = [
     (PUBLISHER, Ask::Publish(2, SUPERSEDING)),
     (ALPHA, Ask::PutZone(3, b"TGT1", FUNCTION)),
     (ALPHA, Ask::PutZone(3, b"TGT2", FUNCTION)),
@@ -135,9 +135,17 @@ static CALLS: [Asked; 11] = [
     (ALPHA, Ask::PutReceived(3, b"SYSMOD\nUA10002\n")),
     (ALPHA, Ask::PutPatterns(3, b"TGT1", b"CATEGORY\nIBM.Device\n")),
     (PUBLISHER, Ask::Counts),
+    (PUBLISHER, Ask::CountsJson),
     (ALPHA, Ask::ListZones),
+    (ALPHA, Ask::ListZonesJson),
     (ALPHA, Ask::ErrSysmods(b"TGT1")),
+    (ALPHA, Ask::ErrSysmodsJson(b"TGT1")),
     (ALPHA, Ask::MissingFix(b"TGT1")),
+    (ALPHA, Ask::MissingFixJson(b"TGT1")),
+    (ALPHA, Ask::ErrPlan(b"TGT1")),
+    (ALPHA, Ask::ErrPlanJson(b"TGT1")),
+    (ALPHA, Ask::MissingPlan(b"TGT1")),
+    (ALPHA, Ask::MissingPlanJson(b"TGT1")),
     (ALPHA, Ask::Chain(b"TGT1", b"UA10002")),
 ];
 

@@ -51,10 +51,49 @@ HBB7790  UA10001  AA20009  - NONE - -      -        -
 ROWS 2
 ";
 
+const HELD_AND_NONE_JSON: &str = "{\"report\":\"errsysmods\",\"rows\":[\
+{\"class\":\"PE\",\"date\":\"2012-02-14\",\"fmid\":\"HBB7790\",\"reason\":\"AA20002\",\
+\"received\":false,\"resolver\":\"UA10002\",\"status\":\"HELD\",\"sysmod\":\"UA10001\"},\
+{\"class\":null,\"date\":null,\"fmid\":\"HBB7790\",\"reason\":\"AA20009\",\
+\"received\":null,\"resolver\":null,\"status\":null,\"sysmod\":\"UA10001\"}],\
+\"sysmods\":[{\"fmids\":[\"HBB7790\"],\"sysmod\":\"UA10001\"}],\"zone\":\"TGT1\"}";
+
+const HELD_PLAN: &str = "EXCEPTION SYSMOD PLAN FOR ZONE TGT1
+STEP     SYSMOD   RECEIVED FMID
+ROWS 0
+CAUSES
+SYSMOD   FOR      REASON   NEEDED BY
+ROWS 0
+HOLDS TO HEED
+SYSMOD   KIND     REASON
+ROWS 0
+HOLDS WITHOUT GOOD OR HELD RESOLVER
+SYSMOD   REASON
+UA10001  AA20009
+ROWS 1
+HOLDS WITH HELD RESOLVERS
+SYSMOD   REASON   RESOLVER
+UA10001  AA20002  UA10002
+ROWS 1
+BLOCKED NEEDS
+SYSMOD   NEED     GIVER
+UA10002  AA30003  - NOT PUBLISHED -
+ROWS 1
+";
+
+const ZONE_PLAN: &str = "{\"blocked\":[],\"held\":[],\"members\":[\
+{\"fmids\":[\"HBB7790\"],\"holds\":[{\"reason\":\"AA20002\",\"sysmod\":\"UA10001\"}],\"id\":\"UA10002\",\
+\"needed_by\":[\"UA10004\"],\"received\":false,\"step\":1,\"system\":[],\"user\":[]},\
+{\"fmids\":[\"HBB7790\"],\"holds\":[],\"id\":\"UA10004\",\
+\"needed_by\":[\"UA10002\"],\"received\":false,\"step\":1,\"system\":[],\"user\":[]}],\
+\"report\":\"errsysmods\",\
+\"resolved\":[{\"reason\":\"AA20002\",\"resolver\":\"UA10002\",\"sysmod\":\"UA10001\"}],\
+\"unresolved\":[{\"reason\":\"AA20009\",\"sysmod\":\"UA10001\"}],\"zone\":\"TGT1\"}";
+
 /// A pair of which each needs the other, a SYSMOD that is held until its reason is given, and one that is
-/// not known.
+/// not known; and the plan for the zone while it is held, and once it is not.
 #[rattlefmt::skip]
-pub(crate) static VERDICTS: [Row; 10] = [
+pub(crate) static VERDICTS: [Row; 13] = [
     (PUBLISHER, Ask::Publish(1, BASE), 200, BASE_ACCEPTED),
     (ALPHA, Ask::PutZone(1, b"TGT1", BOTH), 200, "ZONE TGT1 ROWS 2\n"),
     (PUBLISHER, Ask::Publish(2, HELD_GIVER), 200, HELD_ACCEPTED),
@@ -63,8 +102,11 @@ pub(crate) static VERDICTS: [Row; 10] = [
     (ALPHA, Ask::Chain(b"TGT1", b"UA10002"), 200, BLOCKED),
     (ALPHA, Ask::Chain(b"TGT1", b"UA99999"), 200, LACKED),
     (ALPHA, Ask::ErrSysmods(b"TGT1"), 200, HELD_AND_NONE),
+    (ALPHA, Ask::ErrSysmodsJson(b"TGT1"), 200, HELD_AND_NONE_JSON),
+    (ALPHA, Ask::ErrPlan(b"TGT1"), 200, HELD_PLAN),
     (PUBLISHER, Ask::Publish(3, GIVER), 200, ONE_ACCEPTED),
     (ALPHA, Ask::Chain(b"TGT1", b"UA10002"), 200, GIVEN_PLAN),
+    (ALPHA, Ask::ErrPlanJson(b"TGT1"), 200, ZONE_PLAN),
 ];
 
 /// One SYSMOD in the two zones of [`super::worked::TWO_ZONES`], and the hold that its installer has to heed.

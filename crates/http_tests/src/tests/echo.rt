@@ -41,16 +41,17 @@ impl Answering for Echo {
     }
 
     fn told(&mut self, _caller: &Caller, call: &Call<'_>) -> Reply {
-        let (status, text) = match *call {
-            Call::Publish { number: None, .. } => (400, b"BAD NUMBER\n".as_slice()),
-            Call::Publish { body, .. } => (200, body),
-            Call::Counts => (200, b"PUBLISHED SYSMODS 0 HOLDS 0\n".as_slice()),
-            _ => (403, b"NOT ALLOWED\n".as_slice()),
+        let (status, json, text) = match *call {
+            Call::Publish { number: None, .. } => (400, false, b"BAD NUMBER\n".as_slice()),
+            Call::Publish { body, .. } => (200, false, body),
+            Call::Counts => (200, false, b"PUBLISHED SYSMODS 0 HOLDS 0\n".as_slice()),
+            Call::CountsJson => (200, true, b"{\"holds\":0,\"sysmods\":0}".as_slice()),
+            _ => (403, false, b"NOT ALLOWED\n".as_slice()),
         };
         match Vec::from_slice(self.alloc, text) {
             Ok(bytes) => Reply {
                 status,
-                json: false,
+                json,
                 body: Body::from_vec(bytes),
             },
             Err(_) => Reply::no_room(self.alloc),

@@ -18,6 +18,9 @@ type Row = (
 const COUNTS: &[u8] =
     b"HTTP/1.1 200 OK\r\ncontent-type: text/plain\r\ncontent-length: 28\r\n\r\nPUBLISHED SYSMODS 0 HOLDS 0\n";
 
+const COUNTS_JSON: &[u8] =
+    b"HTTP/1.1 200 OK\r\ncontent-type: application/json\r\ncontent-length: 23\r\n\r\n{\"holds\":0,\"sysmods\":0}";
+
 const BARE: &[u8] =
     b"HTTP/1.1 405 Method Not Allowed\r\ncontent-type: text/plain\r\ncontent-length: 19\r\nallow: GET\r\n\r\n";
 
@@ -30,8 +33,9 @@ const CLOSED: &[u8] =
 const NOT_FOUND: &[u8] =
     b"HTTP/1.1 404 Not Found\r\ncontent-type: text/plain\r\ncontent-length: 10\r\n\r\nNOT FOUND\n";
 
-static ROWS: [Row; 12] = [
+static ROWS: [Row; 14] = [
     (b"GET /published", TOKEN, b"", false, COUNTS),
+    (b"GET /published.json", TOKEN, b"", false, COUNTS_JSON),
     (b"GET /published", TOKEN, b"", true, CLOSED),
     (b"GET /published", b"", b"", true, UNKNOWN),
     (
@@ -49,6 +53,7 @@ static ROWS: [Row; 12] = [
         UNKNOWN,
     ),
     (b"HEAD /published", TOKEN, b"", false, BARE),
+    (b"HEAD /zones/TGT1/missingfix.json", TOKEN, b"", false, BARE),
     (b"GET /nowhere", TOKEN, b"", false, NOT_FOUND),
     (
         b"PUT /zones/tgt1",

@@ -101,7 +101,7 @@ fn length_of(alloc: Global, first: &[u8], lines: &[u8]) -> Result<Result<u64, Re
 
 // A request, and why its path is refused.
 #[rattlefmt::skip]
-static REFUSED_PATHS: [(&[u8], Refusal); 9] = [
+static REFUSED_PATHS: [(&[u8], Refusal); 22] = [
     (b"GET /zones/tgt1/errsysmods", Refusal::NotFound),
     (b"GET /zones/TGT1%2Ferrsysmods", Refusal::MethodNotAllowed(Resource::Zone)),
     (b"GET /zones/TGT1/errsysmods/plan.jso", Refusal::NotFound),
@@ -111,6 +111,19 @@ static REFUSED_PATHS: [(&[u8], Refusal); 9] = [
     (b"DELETE /published", Refusal::MethodNotAllowed(Resource::Catalogue)),
     (b"HEAD /published", Refusal::MethodNotAllowed(Resource::Catalogue)),
     (b"get /zones", Refusal::MethodNotAllowed(Resource::Zones)),
+    (b"POST /published.json", Refusal::MethodNotAllowed(Resource::CatalogueJson)),
+    (b"PUT /zones.json", Refusal::MethodNotAllowed(Resource::ZonesJson)),
+    (b"HEAD /zones/TGT1/errsysmods.json", Refusal::MethodNotAllowed(Resource::ErrSysmodsJson)),
+    (b"DELETE /zones/TGT1/missingfix.json", Refusal::MethodNotAllowed(Resource::MissingFixJson)),
+    (b"GET /zones/tgt1/errsysmods.json", Refusal::NotFound),
+    (b"GET /zones/TGT1/missingfix.jso", Refusal::NotFound),
+    (b"GET /zones/TGT1/errsysmods.JSON", Refusal::NotFound),
+    (b"GET /zones/TGT1/errsysmods%2Ejson", Refusal::NotFound),
+    (b"GET /zones/TGT1/errsysmods.json/plan", Refusal::NotFound),
+    (b"GET /publish.json", Refusal::NotFound),
+    (b"GET /zones/TGT1.json", Refusal::MethodNotAllowed(Resource::Zone)),
+    (b"PUT /zones/TGT1.json", Refusal::NotFound),
+    (b"GET /zones/TGT1.json/errsysmods.json", Refusal::NotFound),
 ];
 
 #[test]
@@ -118,13 +131,8 @@ fn paths_are_matched_before_they_are_decoded(rt: HostRuntime) -> Result<(), Fail
     let routes = Routes::new(rt.alloc())?;
     assert_asks_without_id(rt.alloc(), &routes)?;
     assert_asks_of(rt.alloc(), &routes, id(b"TGT1")?, id(b"UA10002")?)?;
-    let signs = Action::MissingFix(id(b"#@$")?);
-    assert_asks(
-        rt.alloc(),
-        &routes,
-        b"GET /zones/%23%40$/missingfix",
-        Ok(signs),
-    )?;
+    assert_asks_of_signs(rt.alloc(), &routes, id(b"#@$")?)?;
+    assert_asks_of_zones(rt.alloc(), &routes, id(b"ZONES")?)?;
     for &(first, refusal) in &REFUSED_PATHS {
         assert_asks(rt.alloc(), &routes, first, Err(refusal))?;
     }
@@ -135,8 +143,57 @@ fn paths_are_matched_before_they_are_decoded(rt: HostRuntime) -> Result<(), Fail
 fn assert_asks_without_id(alloc: Global, routes: &Routes) -> Result<(), Fail> {
     assert_asks(alloc, routes, b"POST /publish", Ok(Action::Publish))?;
     assert_asks(alloc, routes, b"GET /published", Ok(Action::Counts))?;
+    assert_asks(
+        alloc,
+        routes,
+        b"GET /published.json",
+        Ok(Action::CountsJson),
+    )?;
     assert_asks(alloc, routes, b"GET /zones", Ok(Action::ListZones))?;
+    assert_asks(
+        alloc,
+        routes,
+        b"GET /zones.json?x=1",
+        Ok(Action::ListZonesJson),
+    )?;
     assert_asks(alloc, routes, b"PUT /received", Ok(Action::PutReceived))
+}
+
+// What is asked of a zone of signs, as they are and in escapes.
+fn assert_asks_of_signs(alloc: Global, routes: &Routes, zone: Id) -> Result<(), Fail> {
+    let rows: [(&[u8], Action); 3] = [
+        (b"GET /zones/%23%40$/missingfix", Action::MissingFix(zone)),
+        (
+            b"GET /zones/%23@%24/missingfix.json",
+            Action::MissingFixJson(zone),
+        ),
+        (
+            b"GET /zones/%23%40$/errsysmods.json",
+            Action::ErrSysmodsJson(zone),
+        ),
+    ];
+    assert_each_asks(alloc, routes, &rows)
+}
+
+// What is asked of a zone that is named as the list of zones is.
+fn assert_asks_of_zones(alloc: Global, routes: &Routes, zone: Id) -> Result<(), Fail> {
+    let rows: [(&[u8], Action); 3] = [
+        (b"GET /zones.json", Action::ListZonesJson),
+        (b"PUT /zones/ZONES", Action::PutZone(zone)),
+        (
+            b"GET /zones/ZONES/errsysmods.json",
+            Action::ErrSysmodsJson(zone),
+        ),
+    ];
+    assert_each_asks(alloc, routes, &rows)
+}
+
+// Each of these requests without a body asks for this.
+fn assert_each_asks(alloc: Global, routes: &Routes, rows: &[(&[u8], Action)]) -> Result<(), Fail> {
+    for &(first, action) in rows {
+        assert_asks(alloc, routes, first, Ok(action))?;
+    }
+    Ok(())
 }
 
 // What is asked of the zone TGT1 and the SYSMOD UA10002.
@@ -156,6 +213,7 @@ fn assert_asks_of(alloc: Global, routes: &Routes, zone: Id, sysmod: Id) -> Resul
     )?;
     let missing = Action::MissingFix(zone);
     assert_asks(alloc, routes, b"GET /zones/TGT1/missingfix", Ok(missing))?;
+    assert_asks_for_json(alloc, routes, zone)?;
     assert_asks_for_plans(alloc, routes, zone)?;
     let chain = Action::Chain(zone, sysmod);
     assert_asks(
@@ -164,6 +222,25 @@ fn assert_asks_of(alloc: Global, routes: &Routes, zone: Id, sysmod: Id) -> Resul
         b"GET /zones/TGT1/chains/UA%3100%302",
         Ok(chain),
     )
+}
+
+// The reports that are asked of a zone as JSON.
+fn assert_asks_for_json(alloc: Global, routes: &Routes, zone: Id) -> Result<(), Fail> {
+    let rows: [(&[u8], Action); 3] = [
+        (
+            b"GET /zones/TGT1/errsysmods.json",
+            Action::ErrSysmodsJson(zone),
+        ),
+        (
+            b"GET /zones/TGT1/missingfix.json",
+            Action::MissingFixJson(zone),
+        ),
+        (
+            b"GET /zones/TGT%31/missingfix.json?plan.json",
+            Action::MissingFixJson(zone),
+        ),
+    ];
+    assert_each_asks(alloc, routes, &rows)
 }
 
 // The plans that are asked of a zone.
@@ -183,10 +260,7 @@ fn assert_asks_for_plans(alloc: Global, routes: &Routes, zone: Id) -> Result<(),
             Action::MissingPlanJson(zone),
         ),
     ];
-    for (first, action) in rows {
-        assert_asks(alloc, routes, first, Ok(action))?;
-    }
-    Ok(())
+    assert_each_asks(alloc, routes, &rows)
 }
 
 // A request without a body asks for this, or is refused so.

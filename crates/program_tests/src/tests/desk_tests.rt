@@ -141,6 +141,44 @@ static REQUESTS: [Exchange; 15] = [
     ((ALPHA, "GET /published", "", ""), ("", "", "")),
 ];
 
+// The report with one resolver, as JSON; a report without rows, and its plan.
+const ONE_RESOLVER_JSON: &str =
+    "{\"report\":\"errsysmods\",\"rows\":[{\"class\":\"PE\",\"date\":\"2012-02-14\",\
+\"fmid\":\"HBB7790\",\"reason\":\"AA20002\",\"received\":false,\"resolver\":\"UA10002\",\"status\":\"GOOD\",\
+\"sysmod\":\"UA10001\"}],\"sysmods\":[{\"fmids\":[\"HBB7790\"],\"sysmod\":\"UA10001\"}],\"zone\":\"TGT1\"}";
+
+const NONE_MISSING_JSON: &str =
+    "{\"holds\":[],\"report\":\"missingfix\",\"rows\":[],\"sysmods\":[],\"zone\":\"TGT1\"}";
+
+const NO_PLAN_JSON: &str = "{\"blocked\":[],\"held\":[],\"members\":[],\"report\":\"missingfix\",\
+\"resolved\":[],\"unresolved\":[],\"zone\":\"TGT1\"}";
+
+// What asks for JSON, after the first two requests of the script.
+static JSON_REQUESTS: [Exchange; 7] = [
+    (
+        (ALPHA, "GET /zones.json", "", ""),
+        (OK, "", "{\"zones\":[{\"sysmods\":2,\"zone\":\"TGT1\"}]}"),
+    ),
+    (
+        (PUBLISHER, "GET /published.json", "", ""),
+        (OK, "", "{\"holds\":1,\"sysmods\":3}"),
+    ),
+    (
+        (ALPHA, "GET /zones/TGT1/errsysmods.json", "", ""),
+        (OK, "", ONE_RESOLVER_JSON),
+    ),
+    (
+        (ALPHA, "GET /zones/TGT1/missingfix.json", "", ""),
+        (OK, "", NONE_MISSING_JSON),
+    ),
+    (
+        (ALPHA, "GET /zones/TGT1/missingfix/plan.json", "", ""),
+        (OK, "", NO_PLAN_JSON),
+    ),
+    ((BETA, "GET /zones/TGT1/missingfix.json", "", ""), NOT_FOUND),
+    ((ALPHA, "PUT /zones.json", "", ""), ONLY_GET),
+];
+
 // A connection for each of the requests.
 fn connections(alloc: Global, exchanges: &[Exchange]) -> Result<Vec<Vec<u8>>, Fail> {
     let mut files = Vec::new(alloc);
@@ -285,6 +323,11 @@ fn script_cut_after_every_byte(rt: HostRuntime) -> Result<(), Fail> {
 #[test]
 fn requests_cut_after_every_byte(rt: HostRuntime) -> Result<(), Fail> {
     cut_anywhere(rt.alloc(), keys_of(&rt)?, &SCRIPT[..2], &REQUESTS)
+}
+
+#[test]
+fn requests_for_json_cut_after_every_byte(rt: HostRuntime) -> Result<(), Fail> {
+    cut_anywhere(rt.alloc(), keys_of(&rt)?, &SCRIPT[..2], &JSON_REQUESTS)
 }
 
 #[test]

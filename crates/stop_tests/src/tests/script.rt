@@ -103,6 +103,22 @@ fn missing(zone: Id) -> Call<'static> {
     Call::MissingFix { zone }
 }
 
+fn report_json(zone: Id) -> Call<'static> {
+    Call::ErrSysmodsJson { zone }
+}
+
+fn missing_json(zone: Id) -> Call<'static> {
+    Call::MissingFixJson { zone }
+}
+
+fn err_plan(zone: Id) -> Call<'static> {
+    Call::ErrPlan { zone }
+}
+
+fn missing_plan(zone: Id) -> Call<'static> {
+    Call::MissingPlanJson { zone }
+}
+
 /// Two publications, a zone of the same name of each of two clients, the other kinds of changes, and what they ask.
 pub(crate) fn script(alloc: Global, zone: Id, sysmod: Id) -> Checked<Vec<Told>> {
     let (other, _) = conditional()?;
@@ -145,6 +161,12 @@ pub(crate) fn questions(alloc: Global, zone: Id, sysmod: Id) -> Checked<Vec<Aske
         (ALPHA, chain(zone, sysmod)),
         (ALPHA, chain(other, requiring)),
         (ALPHA, missing(zone)),
+        (ALPHA, report_json(zone)),
+        (ALPHA, missing_json(zone)),
+        (ALPHA, Call::ListZonesJson),
+        (ALPHA, Call::CountsJson),
+        (ALPHA, err_plan(zone)),
+        (ALPHA, missing_plan(zone)),
         (BETA, Call::ListZones),
         (BETA, report(zone)),
         (BETA, chain(zone, sysmod)),

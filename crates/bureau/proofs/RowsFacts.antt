@@ -1,0 +1,56 @@
+-- The rows of both reports on a zone have their holds.
+use Rattle.std.proofs.Common.{◌≡◌, ◌==◌, ◌&&◌, true, Bool, List, ℕ, refl}
+use Rattle.std.proofs.lemmas.List.Elements.{filter_passes}
+use Rattle.holddata.specs.HoldBook.{IsInKeyOrder}
+use Rattle.holddata.specs.HoldKey.{kind_order}
+use Rattle.holddata.specs.declared.hold.Hold.{Hold}
+use Rattle.holddata.specs.declared.key.Kind.{Kind}
+use Rattle.holddata.specs.declared.key.Kind.TheVariants.{ErrorHold, SystemHold, UserHold, FixcatHold}
+use Rattle.zone_lists.specs.Installed.{is_installed}
+use Rattle.zone_lists.specs.declared.zones.ZoneRow.{ZoneRow}
+use Rattle.catalogue.specs.Content.{Content, IsInOrder}
+use Rattle.catalogue.proofs.BookFacts.{filtered_in_order}
+use Rattle.chains.proofs.SearchFacts.{second_true}
+use Rattle.report_json.specs.Found.{AreOfKind}
+use Rattle.report_json.proofs.RowFacts.{err_rows_have, missing_rows_have}
+use Rattle.bureau_store.specs.Held.{held_in}
+use Rattle.bureau_store.specs.Tables.{ZoneTable}
+use Rattle.bureau.specs.RowsFound.{RowsHaveHolds}
+
+-- a kind with the order of another is that kind
+same_kind : (one other : Kind) → (kind_order one == kind_order other) ≡ true → one ≡ other
+same_kind ErrorHold ErrorHold same = refl
+same_kind ErrorHold SystemHold same = absurd (cc same)
+same_kind ErrorHold UserHold same = absurd (cc same)
+same_kind ErrorHold FixcatHold same = absurd (cc same)
+same_kind SystemHold ErrorHold same = absurd (cc same)
+same_kind SystemHold SystemHold same = refl
+same_kind SystemHold UserHold same = absurd (cc same)
+same_kind SystemHold FixcatHold same = absurd (cc same)
+same_kind UserHold ErrorHold same = absurd (cc same)
+same_kind UserHold SystemHold same = absurd (cc same)
+same_kind UserHold UserHold same = refl
+same_kind UserHold FixcatHold same = absurd (cc same)
+same_kind FixcatHold ErrorHold same = absurd (cc same)
+same_kind FixcatHold SystemHold same = absurd (cc same)
+same_kind FixcatHold UserHold same = absurd (cc same)
+same_kind FixcatHold FixcatHold same = refl
+
+module _ (content : Content) (rows : List ZoneRow) (kind : Kind) where
+  -- whether a report begins with a hold
+  abbrev is_held : Hold → Bool
+  is_held hold = is_installed rows hold.key.sysmod && (kind_order hold.key.kind == kind_order kind)
+
+  held_are : AreOfKind kind (held_in content rows kind)
+  held_are = λ k d within. same_kind _ kind (second_true _ _ (filter_passes is_held content.holds k d within))
+
+  held_ascend : IsInOrder content → IsInKeyOrder (held_in content rows kind)
+  held_ascend in_order = filtered_in_order is_held content.holds in_order.holds
+
+pub rows_have : (content : Content) (table : ZoneTable) (received : List (List ℕ)) → IsInOrder content → RowsHaveHolds content table received
+rows_have content table received in_order = record {
+  errors = err_rows_have content table.rows received (held_in content table.rows ErrorHold)
+      (held_ascend content table.rows ErrorHold in_order) (held_are content table.rows ErrorHold);
+  missing = missing_rows_have content table.rows received table.patterns (held_in content table.rows FixcatHold)
+      (held_ascend content table.rows FixcatHold in_order) (held_are content table.rows FixcatHold);
+}
