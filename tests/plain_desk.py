@@ -3,6 +3,7 @@
 It was written from the rules alone, beside the program. It has no cache, no frames and no store; a plan is found by leaving out
 what is in none. The fuzzer compares the program with it.
 """
+import datetime
 import json
 from urllib.parse import unquote_to_bytes
 
@@ -12,12 +13,16 @@ MOST = 9223372036854775807
 ROUTES = [
     (("publish",), {b"POST": "publish"}),
     (("published",), {b"GET": "counts"}),
+    (("published.json",), {b"GET": "counts_json"}),
     (("zones",), {b"GET": "list_zones"}),
+    (("zones.json",), {b"GET": "list_zones_json"}),
     (("zones", None), {b"DELETE": "drop_zone", b"PUT": "put_zone"}),
     (("zones", None, "categories"), {b"PUT": "put_patterns"}),
     (("received",), {b"PUT": "put_received"}),
     (("zones", None, "errsysmods"), {b"GET": "err_report"}),
+    (("zones", None, "errsysmods.json"), {b"GET": "err_report_json"}),
     (("zones", None, "missingfix"), {b"GET": "missing_report"}),
+    (("zones", None, "missingfix.json"), {b"GET": "missing_report_json"}),
     (("zones", None, "errsysmods", "plan"), {b"GET": "err_plan"}),
     (("zones", None, "errsysmods", "plan.json"), {b"GET": "err_plan_json"}),
     (("zones", None, "missingfix", "plan"), {b"GET": "missing_plan"}),
@@ -25,11 +30,13 @@ ROUTES = [
     (("zones", None, "chains", None), {b"GET": "chain"}),
 ]
 CHANGES = {"publish", "put_zone", "drop_zone", "put_patterns", "put_received"}
-JSON = {"chain", "err_plan_json", "missing_plan_json"}
+OF_ALL = {"counts", "counts_json"}  # who may ask these: the publisher too
+OF_NO_ZONE = OF_ALL | {"list_zones", "list_zones_json"}
 REASONS = {200: "OK", 400: "Bad Request", 401: "Unauthorized", 403: "Forbidden", 404: "Not Found", 405: "Method Not Allowed",
            409: "Conflict", 411: "Length Required", 413: "Payload Too Large", 422: "Unprocessable Entity",
            431: "Request Header Fields Too Large"}
 ERROR, SYSTEM, USER, FIXCAT = range(4)
+OF_RESOLVER = [("RESOLVER", 9, "resolver"), ("STATUS", 7, "status"), ("RECEIVED", 9, "received")]
 
 
 class Refused(Exception):
@@ -84,13 +91,14 @@ class PlainDesk:
         if not all(is_id(each) for each in captured):
             raise Refused(404, "NOT FOUND\n")
         call = methods[method]
-        if (call == "publish") != (caller == "PUBLISH") and not (call == "counts"):
+        if (call == "publish") != (caller == "PUBLISH") and call not in OF_ALL:
             raise Refused(403, "NOT ALLOWED\n")
         if call in CHANGES:
             return self.change(caller, call, captured, headers, body), "text/plain"
-        if call not in ("counts", "list_zones") and captured[0] not in self.zones[caller]:
+        if call not in OF_NO_ZONE and captured[0] not in self.zones[caller]:
             raise Refused(404, "NOT FOUND\n")
-        return getattr(self, call)(caller, *captured), "application/json" if call in JSON else "text/plain"
+        is_json = call == "chain" or call.endswith("_json")
+        return getattr(self, call)(caller, *captured), "application/json" if is_json else "text/plain"
 
     # ---- changes
 
@@ -155,28 +163,68 @@ class PlainDesk:
     def counts(self, _):
         return "PUBLISHED SYSMODS %d HOLDS %d\n" % (len(self.catalogue), len(self.book))
 
+    def counts_json(self, _):
+        return compact({"holds": len(self.book), "sysmods": len(self.catalogue)})
+
     def list_zones(self, caller):
-        zones = self.zones[caller]
-        rows = ["%-9s%d\n" % (name.decode(), len(zones[name].rows)) for name in sorted(zones, key=ordered)]
+        rows = ["%-9s%d\n" % row for row in self.sizes(caller)]
         return "%-9sSYSMODS\n" % "ZONE" + "".join(rows) + "ROWS %d\n" % len(rows)
 
+    def list_zones_json(self, caller):
+        return compact({"zones": [{"sysmods": count, "zone": zone} for zone, count in self.sizes(caller)]})
+
+    def sizes(self, caller):
+        """The zones in order, each with how many SYSMODs it has."""
+        zones = self.zones[caller]
+        return [(name.decode(), len(zones[name].rows)) for name in sorted(zones, key=ordered)]
+
+    # ---- reports
+
     def err_report(self, caller, name):
-        rows = []
-        for (sysmod, reason), hold, resolvers in self.err_holds(self.zones[caller][name]):
-            for resolver, shown in self.shown(caller, resolvers):
-                fmid, css = hold.get(b"FMID", b""), hold.get(b"CLASS", b"-")
-                rows.append(((ordered(fmid), ordered(sysmod), ordered(reason)), (fmid or b"-", sysmod, reason, *resolver, *shown, css)))
-        return report("EXCEPTION SYSMOD REPORT FOR ZONE ", name, "%-9s%-9s%-9s%-9s%-7s%-9s%s\n",
-                      ("FMID", "SYSMOD", "REASON", "RESOLVER", "STATUS", "RECEIVED", "CLASS"), rows)
+        columns = [("FMID", 9, "fmid"), ("SYSMOD", 9, "sysmod"), ("REASON", 9, "reason"), *OF_RESOLVER, ("CLASS", 0, "class")]
+        return report("EXCEPTION SYSMOD REPORT FOR ZONE ", name, columns, self.err_rows(caller, name))
+
+    def err_report_json(self, caller, name):
+        rows = self.err_rows(caller, name)
+        return compact({"report": "errsysmods", "rows": rows, "sysmods": self.held_sysmods(rows), "zone": name.decode()})
 
     def missing_report(self, caller, name):
+        columns = [("CATEGORY", 66, "category"), ("FMID", 9, "sysmod"), ("REASON", 9, "reason"), *OF_RESOLVER]
+        return report("MISSING FIX REPORT FOR ZONE ", name, columns, self.missing_rows(caller, name))
+
+    def missing_report_json(self, caller, name):
+        rows, holds = self.missing_rows(caller, name), []
+        for sysmod, reason in sorted({(row["sysmod"], row["reason"]) for row in rows}):
+            hold = self.book[sysmod.encode(), FIXCAT, reason.encode()]
+            categories = [each.decode() for each in hold[b"CATEGORY"]]
+            holds.append({"categories": categories, "fmid": text(hold.get(b"FMID")), "reason": reason, "sysmod": sysmod})
+        told = {"holds": holds, "report": "missingfix", "rows": rows, "sysmods": self.held_sysmods(rows), "zone": name.decode()}
+        return compact(told)
+
+    def err_rows(self, caller, name):
+        """The rows of a report in its order, as JSON has them. The columns of the text are among it."""
         rows = []
-        for (sysmod, reason), categories, resolvers in self.missing_holds(self.zones[caller][name]):
+        for key, hold, resolvers in self.err_holds(self.zones[caller][name]):
+            rows += self.rows_of(caller, key, hold, resolvers, fmid=text(hold.get(b"FMID")))
+        return sorted(rows, key=lambda row: (row["fmid"] or "", row["sysmod"], row["reason"]))
+
+    def missing_rows(self, caller, name):
+        rows = []
+        for key, hold, categories, resolvers in self.missing_holds(self.zones[caller][name]):
             for category in categories:
-                for resolver, shown in self.shown(caller, resolvers):
-                    rows.append(((category, ordered(sysmod), ordered(reason)), (category, sysmod, reason, *resolver, *shown)))
-        return report("MISSING FIX REPORT FOR ZONE ", name, "%-66s%-9s%-9s%-9s%-7s%s\n",
-                      ("CATEGORY", "FMID", "REASON", "RESOLVER", "STATUS", "RECEIVED"), rows)
+                rows += self.rows_of(caller, key, hold, resolvers, category=category.decode())
+        return sorted(rows, key=lambda row: (row["category"], row["sysmod"], row["reason"]))
+
+    def rows_of(self, caller, key, hold, resolvers, **more):
+        """A row of a hold for each of its resolvers, or one for none."""
+        said = {"class": text(hold.get(b"CLASS")), "date": day(hold.get(b"DATE")), "reason": text(key[1]), "sysmod": text(key[0]), **more}
+        shown = [{"received": y in self.received[caller], "resolver": text(y), "status": text(resolvers[y])} for y in sorted(resolvers, key=ordered)]
+        return [{**said, **each} for each in shown or [{"received": None, "resolver": None, "status": None}]]
+
+    def held_sysmods(self, rows):
+        """The held SYSMODs of rows, each once, with their functions."""
+        held = [(sysmod, self.catalogue.get(sysmod.encode())) for sysmod in sorted({row["sysmod"] for row in rows})]
+        return [{"fmids": record and [text(fmid) for fmid in sorted(record[b"FMID"], key=ordered)], "sysmod": sysmod} for sysmod, record in held]
 
     def err_holds(self, zone):
         """The ERROR holds on what is installed, each with what resolves it and its status."""
@@ -186,7 +234,7 @@ class PlainDesk:
                 yield (sysmod, reason), hold, {y: status(y in good) for y in self.givers(reason) if self.candidate(zone, y)}
 
     def missing_holds(self, zone):
-        """The FIXCAT holds on what is installed, each with the categories that are asked for, and what resolves it."""
+        """The FIXCAT holds on what is installed, each with those of its categories that are asked for, and what resolves it."""
         good = self.good(zone)
         for (sysmod, kind, reason), hold in self.book.items():
             named = hold.get(b"RESOLVER")
@@ -198,12 +246,7 @@ class PlainDesk:
                 resolvers.setdefault(named, b"LACK")
             categories = [each for each in hold[b"CATEGORY"] if any(matches(pattern, each) for pattern in zone.patterns)]
             if categories:
-                yield (sysmod, reason), categories, resolvers
-
-    def shown(self, caller, resolvers):
-        if not resolvers:
-            return [((b"- NONE -",), (b"-", b"-"))]
-        return [((y,), (resolvers[y], b"YES" if y in self.received[caller] else b"NO")) for y in sorted(resolvers, key=ordered)]
+                yield (sysmod, reason), hold, categories, resolvers
 
     def chain(self, caller, name, sysmod):
         zone = self.zones[caller][name]
@@ -238,7 +281,7 @@ class PlainDesk:
     def zone_plan(self, caller, name, zone, report, holds):
         """What is to be installed so that each hold with a GOOD resolver is resolved, and what becomes of the others."""
         good, resolved, held, unresolved = self.good(zone), [], [], []
-        for (sysmod, reason), _, resolvers in sorted(holds, key=lambda one: [ordered(each) for each in one[0]]):
+        for (sysmod, reason), *_, resolvers in sorted(holds, key=lambda one: [ordered(each) for each in one[0]]):
             hold = {"reason": reason.decode(), "sysmod": sysmod.decode()}
             if best := self.chosen(caller, b"GOOD", resolvers):
                 resolved.append(dict(hold, resolver=best.decode()))
@@ -403,9 +446,29 @@ def matches(pattern, category):
     return category.startswith(pattern[:-1]) if pattern.endswith(b"*") else pattern == category
 
 
-def report(title, name, form, heading, rows):
-    rows = [form % tuple(field.decode() for field in row) for _, row in sorted(rows, key=lambda row: row[0])]
-    return title + name.decode() + "\n" + form % heading + "".join(rows) + "ROWS %d\n" % len(rows)
+def report(title, name, columns, rows):
+    headings, widths, keys = zip(*columns)
+    return table(title + name.decode(), widths[:-1], headings, [[shown(row[key], key) for key in keys] for row in rows])
+
+
+def shown(field, key):
+    """A field of a row in print."""
+    if field is None:
+        return "- NONE -" if key == "resolver" else "-"
+    return {True: "YES", False: "NO"}.get(field, field)
+
+
+def text(name):
+    return None if name is None else name.decode()
+
+
+def day(date):
+    """The date of a hold as YYYY-MM-DD. Its years are 1970 to 2069. None where it has none, or where its year has no such day."""
+    if date is None:
+        return None
+    year = int(date[:2]) + (2000 if int(date[:2]) < 70 else 1900)
+    found = datetime.date(year, 1, 1) + datetime.timedelta(int(date[2:]) - 1)
+    return found.isoformat() if found.year == year else None
 
 
 def reply(status, body, more="", close=False, kind="text/plain", is_bare=False):

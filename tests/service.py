@@ -1,4 +1,6 @@
 """What the tests of the service share: a desk on a port, the client, and the count of what passed."""
+import atexit
+import http.client
 import os
 import re
 import shutil
@@ -37,8 +39,6 @@ def finish(name):
 
 def folder():
     """A folder that is gone when the test ends."""
-    import atexit
-
     made = tempfile.mkdtemp(prefix="bureau-tests-")
     atexit.register(shutil.rmtree, made, True)
     return made
@@ -63,6 +63,7 @@ class Desk:
     def __init__(self, callers, port=0):
         command = command_of(callers, port)
         self.process = subprocess.Popen(command, stdout=subprocess.PIPE, text=True)
+        atexit.register(self.end)  # also where the test fails before it ends the desk
         line = self.process.stdout.readline()
         if not line.startswith("LISTENING "):
             sys.exit("the desk does not start: %r" % line)
@@ -73,6 +74,19 @@ class Desk:
     def ask(self, method, path, token, number=None, body=None):
         """The status and the body of a reply, without the client under test."""
         return exchange(self.url, method, path, token, number, body)
+
+    def reply(self, method, path, headers, body=None):
+        """The status, the headers and the body of the reply to a request with these headers and no others."""
+        connection = http.client.HTTPConnection("127.0.0.1", self.port, timeout=120)
+        try:
+            connection.putrequest(method, path, skip_host=True, skip_accept_encoding=True)
+            for name, value in headers:
+                connection.putheader(name, str(value))
+            connection.endheaders(body)
+            reply = connection.getresponse()
+            return reply.status, {name.lower(): value for name, value in reply.getheaders()}, reply.read()
+        finally:
+            connection.close()
 
     def last(self, token):
         """The number of a caller's last accepted change."""

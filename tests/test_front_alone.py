@@ -81,11 +81,12 @@ def of_the_publisher(front, one, two):
     same("nothing of it reached a desk", one.requests + two.requests, [])
     for number, desk in ((1, one), (2, two)):
         ask(front, "POST", "/desk/%d/publish" % number, PUBLISHER, b"++PTF(UJ1).\n")
-        ask(front, "GET", "/desk/%d/published" % number, PUBLISHER)
+        for path in ("published", "published.json"):
+            ask(front, "GET", "/desk/%d/%s" % (number, path), PUBLISHER)
         same(
             "the path of desk %d" % number,
             [first for first, _, _ in desk.requests],
-            ["POST /publish HTTP/1.1", "GET /published HTTP/1.1"],
+            ["POST /publish HTTP/1.1", "GET /published HTTP/1.1", "GET /published.json HTTP/1.1"],
         )
 
 

@@ -122,10 +122,10 @@ def everything():
     asked = [("GET", "/published", token, None, None) for token in TOKENS.values()]
     for name in ("ALPHA", "BETA"):
         token = TOKENS[name]
-        asked.append(("GET", "/zones", token, None, None))
+        asked += [("GET", "/zones", token, None, None), ("GET", "/zones.json", token, None, None)]
         for zone in ZONES:
-            plans = ("errsysmods/plan", "missingfix/plan.json")
-            for part in ("errsysmods", "missingfix", *plans, "chains/" + dice.choice(IDS), "chains/" + dice.choice(IDS)):
+            others = ("errsysmods.json", "missingfix.json", "errsysmods/plan", "missingfix/plan.json")
+            for part in ("errsysmods", "missingfix", *others, "chains/" + dice.choice(IDS), "chains/" + dice.choice(IDS)):
                 asked.append(("GET", "/zones/%s/%s" % (zone, part), token, None, None))
     for name, token in TOKENS.items():
         asked.append(("POST", "/publish", token, FAR, b"") if name == "PUBLISH" else ("PUT", "/received", token, FAR, b"SYSMOD\n"))
