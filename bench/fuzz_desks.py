@@ -20,8 +20,9 @@ APARS = ["AA1", "AA2", "AA3", "AA4"]
 IDS = FUNCTIONS + PTFS + APARS
 ZONES = ["TGT1", "TGT2", "T#3", "TGT4"]
 STATES = ["APPLIED", "APPLIED", "ACCEPTED", "SUPERSEDED"]
-CATEGORIES = ["IBM.Device.Server", "IBM.Device", "IBM.Function.HealthChecker", "Other", "X"]
-PATTERNS = ["*", "IBM.*", "ibm.device.*", "IBM.Device", "OTHER", "X*", "Nobody.*"]
+CATEGORIES = ["IBM.Device.Server", "IBM.Device", "IBM.Function.HealthChecker", "Other", "X", r'Say"it\now']
+PATTERNS = ["*", "IBM.*", "ibm.device.*", "IBM.Device", "OTHER", "X*", "Nobody.*", 'say"*']
+DATES = [12045, 12045, 12045, 25366, 24366, 70001, 69365, 60]  # the fourth is no day of its year
 FAR = 9223372036854775807
 BAD_STATEMENTS = [
     b"++VER(Z038).\n",
@@ -62,7 +63,8 @@ class Drawing:
         self.closing = False  # whether the next request ends its connection
 
     def desk(self):
-        connections = [[self.next_change(name, self.sure)] for name in self.tokens if self.dice.random() < 0.7]
+        connections = [self.reported()] if self.dice.random() < 0.5 else []
+        connections += [[self.next_change(name, self.sure)] for name in self.tokens if self.dice.random() < 0.7]
         connections += [self.connection() for _ in range(self.dice.randint(4, 12))]
         return Desk(self.seed, self.tokens, connections)
 
@@ -92,19 +94,37 @@ class Drawing:
             return self.changes(caller)
         return [self.question(caller)]
 
+    def reported(self):
+        """What reports have rows of: many holds, and for each client a zone with patterns, and what it received."""
+        dice, items = self.dice, []
+        text = self.statements().decode() + "".join(self.hold() for _ in range(dice.randint(10, 30)))
+        items.append(self.next_change(PUBLISHER, lambda _: ("POST", "/publish", text.encode())))
+        for client in self.clients:
+            zone = dice.choice(ZONES)
+            self.zones[client].add(zone)
+            path = "/zones/" + escaped(zone)
+            rows = ["%s,%s" % (name, dice.choice(STATES)) for name in FUNCTIONS[:1] + dice.sample(PTFS, 4)]
+            for path, header, rows in (
+                (path, "SYSMOD,STATE", rows),
+                (path + "/categories", "CATEGORY", dice.sample(PATTERNS, 3)),
+                ("/received", "SYSMOD", dice.sample(PTFS, 4)),
+            ):
+                items.append(self.next_change(client, lambda _: ("PUT", path, self.records(header, rows))))
+        return items
+
     # ---- questions
 
     def question(self, caller):
         if caller == PUBLISHER and self.dice.random() < 0.9:
-            return self.whole(caller, "GET", "/published")
+            return self.whole(caller, "GET", self.dice.choice(["/published", "/published.json"]))
         return self.whole(caller, "GET", self.path_of_question(caller))
 
     def path_of_question(self, caller):
         known = sorted(self.zones.get(caller, ()))
         zone = "/zones/" + escaped(self.dice.choice(known if known and self.dice.random() < 0.9 else ZONES))
         return self.dice.choice(
-            ["/published", "/zones", zone + "/errsysmods", zone + "/missingfix"]
-            + [zone + report + plan for report in ("/errsysmods", "/missingfix") for plan in ("/plan", "/plan.json")]
+            ["/published", "/published.json", "/zones", "/zones.json"]
+            + [zone + report + form for report in ("/errsysmods", "/missingfix") for form in ("", ".json", "/plan", "/plan.json")]
             + [zone + "/chains/" + escaped(self.dice.choice(IDS)) for _ in range(4)]
         )
 
@@ -114,9 +134,11 @@ class Drawing:
         if turn < 0.3:
             return Item(None, self.request("GET", path, self.dice.choice(["nobody-token", "short", "", None])), False, 0)
         if turn < 0.5:
-            return self.whole(caller, self.dice.choice(["DELETE", "HEAD", "PATCH", "PUT"]), "/published", body=b"")
+            path = self.dice.choice(["/published", "/published.json", "/zones.json"])
+            return self.whole(caller, self.dice.choice(["DELETE", "HEAD", "PATCH", "PUT"]), path, body=b"")
         if turn < 0.7:
-            return self.whole(caller, "GET", self.dice.choice(["/", "/zone", "/zones/", "/zones/a/errsysmods", "/zones/%41%42/errsysmods"]))
+            nowhere = ["/", "/zone", "/zones/", "/zones/TGT1.json", "/zones/a/errsysmods.json"]
+            return self.whole(caller, "GET", self.dice.choice(nowhere + ["/zones/a/errsysmods", "/zones/%41%42/errsysmods"]))
         if turn < 0.85 and caller != PUBLISHER:
             return self.whole(caller, "POST", "/publish", "1", self.statements())
         return self.whole(caller, "GET", path + "?x=/zones", more=["x-more: " + "y" * self.dice.randrange(300)])
@@ -141,7 +163,10 @@ class Drawing:
         number = self.dice.choice([last, last, last - 1, last + 2, 0, FAR, FAR + 1, "", "x", "1 1", None, "9" * 20])
         if number == last + 1:
             number = last + 2
+        zones = set(self.zones.get(caller, ()))
         method, path, body = self.sure(caller)
+        if caller != PUBLISHER:
+            self.zones[caller] = zones  # it is not accepted, so no zone comes of it
         return [self.whole(caller, method, path, None if number is None else str(number), body)]
 
     def next_change(self, caller, draw):
@@ -227,7 +252,7 @@ class Drawing:
                 dice.choice(IDS), dice.choice(["ERROR", "ERR", "SYSTEM", "USER", "FIXCAT"]), dice.choice(APARS))
         kind = dice.choice(["ERROR", "ERROR", "ERROR", "SYSTEM", "SYS", "USER", "FIXCAT", "FIXCAT"])
         reason = dice.choice(APARS + PTFS[:3]) if kind in ("ERROR", "FIXCAT") else dice.choice(["IPL", "ACTION", "DOC"])
-        words = ["FMID(%s)" % FUNCTIONS[0], "CLASS(%s)" % dice.choice(["PE", "HIPER"]), "DATE(%d)" % dice.choice([12045, 25366]),
+        words = ["FMID(%s)" % FUNCTIONS[0], "CLASS(%s)" % dice.choice(["PE", "HIPER"]), "DATE(%05d)" % dice.choice(DATES),
                  "COMMENT(SEE (2.1). /* TOO)"]
         words = [word for word in words if dice.random() < 0.6]
         if kind == "FIXCAT":

@@ -150,6 +150,15 @@ class IsWrong(Truth):
                       rb'content-length: 46\r\n\r\n{"status":"LACK","sysmod":"UA\1","zone":"TGT\2"}', reply)
 
 
+class TellsAnotherDay(Truth):
+    """A hold is a day older in the JSON of a report, always and to all."""
+
+    seen_by = "the plain desk"
+
+    def written(self, reply):
+        return reply.replace(b'"date":"2012-02-14"', b'"date":"2012-02-13"')
+
+
 class KnowsLists(Truth):
     """Lists tell another number than SQL."""
 
@@ -183,7 +192,8 @@ class Mixes(Truth):
 
 
 LIES_OVER_LISTS = [KnowsLists, ForgetsOverLists]
-LIES = [Leaks, ActsAgain, ForgetsInSmallCache, ForgetsAtStart, CutsHeads, HasNoRoom, CountsClients, KnowsTheStore, CountsRequests, IsWrong, Mixes]
+LIES = [Leaks, ActsAgain, ForgetsInSmallCache, ForgetsAtStart, CutsHeads, HasNoRoom, CountsClients, KnowsTheStore, CountsRequests, IsWrong,
+        TellsAnotherDay, Mixes]
 
 
 def replay(lie, program, words):

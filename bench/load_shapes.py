@@ -1,4 +1,6 @@
 """The shapes of load.py: what is sent, and the replies that follow from how a shape was made."""
+from json import dumps
+
 PUBLISHER, ALPHA, BETA = "publisher-token", "alpha-token", "beta-token"
 TOKENS = {"PUBLISH": PUBLISHER, "ALPHA": ALPHA, "BETA": BETA}
 FULL, LISTED = 40000, 20000  # the most rows of a zone, and ids of a received list
@@ -63,21 +65,42 @@ class Shape:
     def chain(self, token, zone, name, answer):
         self.ask("GET /zones/%s/chains/%s" % (zone, name), token, '{%s,"sysmod":"%s","zone":"%s"}' % (answer, name, zone), json=True)
 
-    def err_report(self, token, zone, rows):
+    def err_report(self, token, zone, rows, fmids=None, dates=None):
+        """A report, and then its JSON. FMIDs are those of the held SYSMODs that are published, dates those of holds by their reasons."""
         heading = ERR % ("FMID", "SYSMOD", "REASON", "RESOLVER", "STATUS", "RECEIVED", "CLASS")
         text = "EXCEPTION SYSMOD REPORT FOR ZONE %s\n%s%sROWS %d\n" % (zone, heading, "".join(ERR % row for row in rows), len(rows))
         self.ask("GET /zones/%s/errsysmods" % zone, token, text)
+        names = ("fmid", "sysmod", "reason", "resolver", "status", "received", "class")
+        rows = [{**fields(names, row), "date": (dates or {}).get(row[2])} for row in rows]
+        self.ask_json(token, zone, {"report": "errsysmods", "rows": rows}, fmids)
 
     def missing_report(self, token, zone, rows):
+        """A report, and then its JSON. Each hold has the categories of its rows and no others, the FMID HBB7790, no class and no date."""
         heading = MISSING % ("CATEGORY", "FMID", "REASON", "RESOLVER", "STATUS", "RECEIVED")
         text = "MISSING FIX REPORT FOR ZONE %s\n%s%sROWS %d\n" % (zone, heading, "".join(MISSING % row for row in rows), len(rows))
         self.ask("GET /zones/%s/missingfix" % zone, token, text)
+        names = ("category", "sysmod", "reason", "resolver", "status", "received")
+        rows, holds = [{**fields(names, row), "class": None, "date": None} for row in rows], {}
+        for row in rows:
+            holds.setdefault((row["sysmod"], row["reason"]), set()).add(row["category"])
+        holds = [{"categories": sorted(holds[key]), "fmid": "HBB7790", "reason": key[1], "sysmod": key[0]} for key in sorted(holds)]
+        self.ask_json(token, zone, {"holds": holds, "report": "missingfix", "rows": rows}, None)
+
+    def ask_json(self, token, zone, told, fmids):
+        held_ones = sorted({row["sysmod"] for row in told["rows"]})
+        told.update(sysmods=[{"fmids": (fmids or {"HBB7790": []}).get(name), "sysmod": name} for name in held_ones], zone=zone)
+        self.ask("GET /zones/%s/%s.json" % (zone, told["report"]), token, dumps(told, separators=(",", ":"), sort_keys=True), json=True)
 
     def sent(self):
         return [b"".join(sent for sent, _ in connection) for connection in self.connections]
 
     def wanted(self):
         return b"".join(wanted for connection in self.connections for _, wanted in connection)
+
+
+def fields(names, row):
+    """A row of a text as JSON has it."""
+    return {name: {"-": None, "YES": True, "NO": False}.get(field, field) for name, field in zip(names, row)}
 
 
 def reply(status, body, close=False, json=False):
@@ -125,7 +148,7 @@ def worked():
     shape.chain(ALPHA, "TGT1", "N0001", held("N0002"))
     rows = [("HBB7790", "UA10001", "AA20002", "UA10002", "GOOD", "NO", "PE")]
     rows += [("HBB7790", "UA10001", "S0001", name, "GOOD", "NO", "-") for name in row]
-    shape.err_report(ALPHA, "TGT1", rows)
+    shape.err_report(ALPHA, "TGT1", rows, {"UA10001": ["HBB7790"]}, {"AA20002": "2012-02-14"})
     shape.put_zone(ALPHA, "TGT3", ["T%06d" % place for place in range(FULL)])
     shape.put_received(ALPHA, ["T%06d" % place for place in range(LISTED)])
     shape.put_patterns(ALPHA, "TGT3", ["IBM.Category.%02d.*" % place for place in range(64)])
@@ -264,6 +287,7 @@ def full_zones():
         shape.put_zone(ALPHA, zone, ids)
     text = "%-9sSYSMODS\n" % "ZONE" + "".join("%-9s%d\n" % (zone, FULL) for zone in zones) + "ROWS 64\n"
     shape.ask("GET /zones", ALPHA, text)
+    shape.ask("GET /zones.json", ALPHA, '{"zones":[%s]}' % ",".join('{"sysmods":%d,"zone":"%s"}' % (FULL, zone) for zone in zones), json=True)
     shape.ask("PUT /zones/MORE", ALPHA, "FAULT 61\n", 65, "SYSMOD,STATE\n", status=422)
     shape.ask("PUT /zones/TGT00", ALPHA, "FAULT 37\n", 65, "SYSMOD,STATE\n" + "".join("Z%06d,APPLIED\n" % place for place in range(FULL + 1)), status=422)
     shape.put_zone(ALPHA, "TGT63", ids[:1])
@@ -300,6 +324,7 @@ def largest_publication():
         size, count = size + len(text), count + 1
     shape.publish("".join(parts), count + 1, holds)
     shape.ask("GET /published", PUBLISHER, "PUBLISHED SYSMODS %d HOLDS %d\n" % (count + 1, holds))
+    shape.ask("GET /published.json", PUBLISHER, '{"holds":%d,"sysmods":%d}' % (holds, count + 1), json=True)
     shape.put_zone(ALPHA, "TGT1", ["HBB7790"])
     shape.chain(ALPHA, "TGT1", "U000049", held("U000048"))
     return shape

@@ -54,10 +54,12 @@ SCRIPT = [
     request("GET /zones/TGT1/errsysmods", ALPHA),
     request("GET /zones/TGT1/chains/UA10002", ALPHA),
 ]
-QUESTIONS = [request("GET /published", PUBLISHER)] + [
+ASKED = ["", "/TGT1/errsysmods", "/TGT1/missingfix"]
+ASKED += [path + ".json" for path in ASKED] + ["/TGT1/chains/" + name for name in ("UA10001", "UA10002", "UA10005", "UA10020", "AA20002")]
+QUESTIONS = [request("GET /published", PUBLISHER), request("GET /published.json", PUBLISHER)] + [
     request("GET /zones" + path, token)
     for token in (ALPHA, BETA)
-    for path in ["", "/TGT1/errsysmods", "/TGT1/missingfix"] + ["/TGT1/chains/" + name for name in ("UA10001", "UA10002", "UA10005", "UA10020", "AA20002")]
+    for path in ASKED
 ] + [request("PUT /received", token, 1 << 62, b"SYSMOD\n") for token in (ALPHA, BETA)]
 AGAIN = [sent for sent in SCRIPT if not sent.startswith(b"GET ")]
 

@@ -19,6 +19,7 @@ from load_shapes import ALPHA, BASE, BETA, PUBLISHER, TOKENS, list_of_callers
 RESET = struct.pack("ii", 1, 0)
 MOST_MORE = 1024  # kB
 QUESTIONS = ["/zones", "/published", "/zones/TGT1/errsysmods", "/zones/TGT1/missingfix", "/zones/TGT1/chains/UA10002", "/nothing"]
+QUESTIONS += [path + ".json" for path in QUESTIONS[:4]]
 
 
 def request(first, token, number=None, body=None):
@@ -77,7 +78,7 @@ def replies(written):
 def requests(desk, count):
     """Questions of all kinds, 5,000 in a connection."""
     for _ in range(max(1, count // 5000)):
-        sent = b"".join(request("GET " + QUESTIONS[place % len(QUESTIONS)], (ALPHA, BETA)[place // 6 % 2]) for place in range(min(count, 5000)))
+        sent = b"".join(request("GET " + QUESTIONS[place % len(QUESTIONS)], (ALPHA, BETA)[place // len(QUESTIONS) % 2]) for place in range(min(count, 5000)))
         assert replies(desk.exchange(sent)) == min(count, 5000)
 
 
