@@ -6,6 +6,7 @@ use Rattle.std.specs.List.{Contains, cons_option, filter_map, find, flat_map}
 use Rattle.std.specs.Map.{lookup}
 use Rattle.std.proofs.lemmas.List.Elements.{Contains-append_cases, Contains-append_left, Contains-append_right}
 use Rattle.std.proofs.lemmas.List.{length-map}
+use Rattle.lemmas.proofs.ListFacts.{first_inside, flat_from, flat_inside, inside_cases, kept_from, made_from, map_found, none_inside, rest_inside}
 use Rattle.zone_lists.specs.declared.zones.ZoneRow.{ZoneRow}
 use Rattle.catalogue.specs.Content.{Content, ids_of}
 use Rattle.std.specs.List.Sorted.{IsStrictlySortedBy}
@@ -26,13 +27,12 @@ use Rattle.chains.specs.Worlds.{IsVerdict, world_of}
 use Rattle.chains.specs.declared.verdict.Status.TheVariants as status
 use Rattle.chains.proofs.GoodFacts.{candidate_inside}
 use Rattle.chains.proofs.OrderFacts.{ascending_same, find_inside}
-use Rattle.chains.proofs.SearchFacts.{first_inside, inside_cases, kept_from, none_inside, rest_inside}
 use Rattle.chains.proofs.StatusFacts.{find_some}
 use Rattle.chains.proofs.VerdictFacts.{found_verdict}
 use Rattle.blocked_needs.specs.Blocked.{AreBlockedNeeds, HasRow, IsRightRow, blocked_at, blocked_by, giver_of, is_published, next_by, next_of, waits_within}
 use Rattle.blocked_needs.specs.Seen.{AreSeen, IsComeTo, IsNext, entry_of}
 use Rattle.blocked_needs.specs.declared.blocked.BlockedNeed.{BlockedNeed}
-use Rattle.blocked_needs.proofs.ListFacts.{entry_inside, filter_map_map, flat_from, flat_inside, made_from, map_found, put_entry, put_first, put_from, put_rest}
+use Rattle.blocked_needs.proofs.ListFacts.{entry_inside, filter_map_map, put_entry, put_first, put_from, put_rest}
 
 module _ (content : Content) (rows : List ZoneRow) where
   -- ---- what blocks one

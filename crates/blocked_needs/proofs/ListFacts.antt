@@ -3,32 +3,32 @@ use Rattle.std.proofs.Common.{◌≡◌, ◌∙◌, ◌⊎◌, ◌<◌, ◌+◌,
 use Rattle.std.specs.BTreeMap.{insert_entry, is_at}
 use Rattle.std.specs.BTreeSet.{insert_key}
 use Rattle.std.specs.Cmp.Lexicographic.{nat_list_eq_equiv}
-use Rattle.std.specs.List.{Contains, cons_option, filter_map, find, flat_map, list_any}
+use Rattle.std.specs.List.{Contains, cons_option, filter_map, find, list_any}
 use Rattle.std.specs.Map.{lookup}
 use Rattle.std.specs.Ordering.{match_ordering, is_eq}
 use Rattle.std.specs.declared.cmp.Ordering.{Ordering}
 use Rattle.std.specs.declared.cmp.Ordering.TheVariants.{Less, Equal, Greater}
 use Rattle.std.proofs.lemmas.List.{take_more}
-use Rattle.std.proofs.lemmas.List.Elements.{Contains-append_cases, Contains-append_left, Contains-append_right}
 use Rattle.std.proofs.lemmas.Map.Views.{Contains-from_any, list_any-from_Contains}
+use Rattle.std.proofs.lemmas.Bool.{or_right, or_left, or_cases}
+use Rattle.lemmas.proofs.ListFacts.{filter_map_push, first_inside, rest_inside}
 use Rattle.catalogue.specs.Ids.{id_cmp, same_id}
 use Rattle.catalogue.proofs.IdFacts.{any_insert, exact_ids, itself, one_id, same_is}
-use Rattle.chains.proofs.SearchFacts.{either_true, first_inside, inside_cases, left_true, none_inside, rest_inside, right_true}
 
 -- ---- one id put where it belongs
 
 pub put_first : (ids : List (List ℕ)) (k : List ℕ) → Contains (insert_key id_cmp ids k) k
 put_first ids k =
-    Contains-from_any {eq = same_id} one_id k (insert_key id_cmp ids k) (any_insert (same_id k) ids k ∙ left_true (same_id k k) (list_any (same_id k) ids) (itself k))
+    Contains-from_any {eq = same_id} one_id k (insert_key id_cmp ids k) (any_insert (same_id k) ids k ∙ or_left (same_id k k) (list_any (same_id k) ids) (itself k))
 
 pub put_rest : (ids : List (List ℕ)) (k x : List ℕ) → Contains ids x → Contains (insert_key id_cmp ids k) x
 put_rest ids k x inside =
     Contains-from_any {eq = same_id} one_id x (insert_key id_cmp ids k)
-    (any_insert (same_id x) ids k ∙ right_true (same_id x k) (list_any (same_id x) ids) (list_any-from_Contains {eq = same_id} nat_list_eq_equiv x ids inside))
+    (any_insert (same_id x) ids k ∙ or_right (same_id x k) (list_any (same_id x) ids) (list_any-from_Contains {eq = same_id} nat_list_eq_equiv x ids inside))
 
 pub put_from : (ids : List (List ℕ)) (k x : List ℕ) → Contains (insert_key id_cmp ids k) x → (k ≡ x) ⊎ Contains ids x
 put_from ids k x inside =
-    elim (either_true (same_id x k) (list_any (same_id x) ids) (sym (any_insert (same_id x) ids k) ∙ list_any-from_Contains {eq = same_id} nat_list_eq_equiv x (insert_key id_cmp ids k) inside)) [
+    elim (or_cases (same_id x k) (list_any (same_id x) ids) (sym (any_insert (same_id x) ids k) ∙ list_any-from_Contains {eq = same_id} nat_list_eq_equiv x (insert_key id_cmp ids k) inside)) [
       | inl same ↦ inl (sym (one_id x k same))
       | inr later ↦ inr (Contains-from_any {eq = same_id} one_id x ids later)
     ]
@@ -54,75 +54,15 @@ entry_inside {X} f (x ∷ xs) k h = go (is_eq (id_cmp k x)) refl (λ (rest : is_
 
 -- ---- what is made of some elements
 
-pub map_found : {A B : Type 0} (f : A → Option B) (xs : List A) (x : A) (y : B) → Contains xs x → f x ≡ Some y → Contains (filter_map f xs) y
-map_found f [] x y inside e = absurd (none_inside x inside)
-map_found {A} {B} f (z ∷ zs) x y inside e = elim (inside_cases z x zs inside) [
-  | inl same ↦ (let P : A → Type 0 = λ w. f w ≡ Some y in now (f z) (subst P (sym same) e))
-  | inr later ↦ more (f z) (map_found f zs x y later e)
-] where
-  now : (o : Option B) → o ≡ Some y → Contains (cons_option o (filter_map f zs)) y
-  now None e = absurd (cc)
-  now (Some w) e = let same : w ≡ y = (cc) in let P : B → Type 0 = λ v. Contains (w ∷ filter_map f zs) v in subst P same (first_inside w (filter_map f zs))
-
-  more : (o : Option B) → Contains (filter_map f zs) y → Contains (cons_option o (filter_map f zs)) y
-  more None inside = inside
-  more (Some w) inside = rest_inside w y (filter_map f zs) inside
-
-pub record IsMade {A B : Type 0} (f : A → Option B) (xs : List A) (y : B) : Type 0 where
-  pub from : A
-  pub member : Contains xs from
-  pub is : f from ≡ Some y
-
-pub made_from : {A B : Type 0} (f : A → Option B) (xs : List A) (y : B) → Contains (filter_map f xs) y → IsMade f xs y
-made_from f [] y inside = absurd (none_inside y inside)
-made_from {A} {B} f (z ∷ zs) y inside = go (f z) refl (λ (rest : Contains (filter_map f zs) y). made_from f zs y rest) inside where
-  later : IsMade f zs y → IsMade f (z ∷ zs) y
-  later made = record { from = made.from; member = rest_inside z made.from zs made.member; is = made.is }
-
-  go : (o : Option B) → f z ≡ o → (Contains (filter_map f zs) y → IsMade f zs y) → Contains (cons_option o (filter_map f zs)) y → IsMade f (z ∷ zs) y
-  go None e further inside = later (further inside)
-  go (Some w) e further inside = elim (inside_cases w y (filter_map f zs) inside) [
-    | inl same ↦ record { from = z; member = first_inside z zs; is = e ∙ ap Some same }
-    | inr rest ↦ later (further rest)
-  ]
-
 -- what is made of what is made
 pub filter_map_map : {A B C : Type 0} (g : A → B) (f : B → Option C) (xs : List A) → filter_map f (map g xs) ≡ filter_map (λ x. f (g x)) xs
 filter_map_map g f [] = refl
 filter_map_map g f (x ∷ xs) = ap (cons_option (f (g x))) (filter_map_map g f xs)
 
-pub filter_map_push : {X Y : Type 0} (f : X → Option Y) (xs : List X) (x : X) → filter_map f xs ++ cons_option (f x) [] ≡ filter_map f (xs ++ x ∷ [])
-filter_map_push f [] x = refl
-filter_map_push {X} {Y} f (y ∷ ys) x = go (f y) (filter_map_push f ys x) where
-  go : (o : Option Y) → filter_map f ys ++ cons_option (f x) [] ≡ filter_map f (ys ++ x ∷ []) → cons_option o (filter_map f ys) ++ cons_option (f x) [] ≡ cons_option o (filter_map f (ys ++ x ∷ []))
-  go None rest = rest
-  go (Some z) rest = ap (λ l. z ∷ l) rest
-
 pub filter_map_more : {X Y : Type 0} (f : X → Option Y) (xs : List X) (i : ℕ) (x : X) (old new : List Y) → i < length xs → x ≡ get_or xs i x → old ≡ filter_map f (take i xs) → new ≡ old ++ cons_option (f x) [] → new ≡ filter_map f (take (i + 1) xs)
 filter_map_more f xs i x old new below at was now =
     now ∙ ap (λ l. l ++ cons_option (f x) []) was ∙ filter_map_push f (take i xs) x
     ∙ ap (filter_map f) (sym (take_more xs i x below ∙ ap (λ z. take i xs ++ z ∷ []) (sym at)))
-
--- ---- lists of lists
-
-pub flat_inside : {A B : Type 0} (f : A → List B) (xs : List A) (x : A) (y : B) → Contains xs x → Contains (f x) y → Contains (flat_map f xs) y
-flat_inside f [] x y inside own = absurd (none_inside x inside)
-flat_inside {A} {B} f (z ∷ zs) x y inside own = elim (inside_cases z x zs inside) [
-  | inl same ↦ (let P : A → Type 0 = λ w. Contains (f w) y in Contains-append_left (f z) (flat_map f zs) y (subst P (sym same) own))
-  | inr later ↦ Contains-append_right (f z) (flat_map f zs) y (flat_inside f zs x y later own)
-]
-
-pub record IsFrom {A B : Type 0} (f : A → List B) (xs : List A) (y : B) : Type 0 where
-  pub from : A
-  pub listed : Contains xs from
-  pub has : Contains (f from) y
-
-pub flat_from : {A B : Type 0} (f : A → List B) (xs : List A) (y : B) → Contains (flat_map f xs) y → IsFrom f xs y
-flat_from f [] y inside = absurd (none_inside y inside)
-flat_from f (x ∷ xs) y inside = elim (Contains-append_cases (f x) (flat_map f xs) y inside) [
-  | inl first ↦ record { from = x; listed = first_inside x xs; has = first }
-  | inr later ↦ (let rest = flat_from f xs y later in record { from = rest.from; listed = rest_inside x rest.from xs rest.listed; has = rest.has })
-]
 
 -- ---- the first that passes
 

@@ -8,11 +8,12 @@ use Rattle.std.specs.Option.{option_map}
 use Rattle.std.specs.Str.{bytes_eq}
 use Rattle.std.proofs.lemmas.List.{map-append, reverse-append}
 use Rattle.std.proofs.lemmas.List.Elements.{filter-append}
+use Rattle.supersede.proofs.GivingFacts.{same_self}
 use Rattle.bureau_store.specs.Caller.{is_caller}
-use Rattle.catalogue.specs.Content.{Content, IsInOrder}
+use Rattle.catalogue.specs.Content.{Content}
 use Rattle.catalogue.specs.Publication.{after}
 use Rattle.catalogue.specs.declared.change.Change.{Change}
-use Rattle.catalogue.proofs.PublicationFacts.{after_only}
+use Rattle.catalogue.proofs.PublicationFacts.{after_none}
 use Rattle.bureau_store.specs.Effect.{Effect, publication, zone_put, zone_dropped, received_put, patterns_put, at_client, content_after, received_after, tables_after, zones_after}
 use Rattle.bureau_store.specs.Tables.{AreInOrder, LastChange, Tables, ZoneTable, Zones, name_order, patterns_of, zone_named}
 use Rattle.bureau_store.specs.declared.caller.Caller.{Caller}
@@ -24,7 +25,7 @@ use Rattle.bureau.specs.Own.{Accepted, Asked, Opening, accepted_in, change_of, c
 use Rattle.bureau.specs.View.{View, view_of}
 use Rattle.bureau.proofs.FoundFacts.{found_again, found_same}
 use Rattle.bureau.proofs.LeftFacts.{AreKept, IsOfZone, content_more, kept_more, last_more, received_more, zones_more}
-use Rattle.bureau.proofs.NamesFacts.{own_name, same_caller}
+use Rattle.bureau.proofs.NamesFacts.{same_caller}
 use Rattle.bureau.proofs.ProperFacts.{IsPossible, IsProper, proper}
 
 -- the tables as the publisher and the viewer see them are what the accepted changes of the own history left
@@ -127,7 +128,7 @@ module _ (viewer : Caller) (opening : Opening) (changes : List Accepted) (now : 
       there = of_zone (zones_left opening changes) effect (subst (λ zones. IsPossible zones (Client client) effect) (sym (agrees.zones client is)) possible)
 
       at_own : {A : Type 0} (f : A → A) (old : List ℕ → A) (name : List ℕ) → viewer ≡ Client name → at_client (Client client) f old name ≡ f (old name)
-      at_own f old name viewed = ap (λ (b : Bool). if b then f (old name) else old name) (subst (λ c. is_caller (Client client) c ≡ true) (sym is ∙ viewed) (own_name client))
+      at_own f old name viewed = ap (λ (b : Bool). if b then f (old name) else old name) (subst (λ c. is_caller (Client client) c ≡ true) (sym is ∙ viewed) (same_self client))
 
   -- by another client
   by_other : (client : List ℕ) → is_caller (Client client) viewer ≡ false → Agrees viewer opening changes now → IsPossible (now.zones client) (Client client) effect
@@ -164,7 +165,7 @@ who viewer Publisher false is = cc
 who viewer (Client client) true is = inr (same_caller (Client client) viewer is)
 who viewer (Client client) false is = (client, refl, is)
 
-view_caller : (caller : Caller) (tables : Tables) → (view_of caller tables).caller ≡ caller
+pub view_caller : (caller : Caller) (tables : Tables) → (view_of caller tables).caller ≡ caller
 view_caller Publisher tables = refl
 view_caller (Client name) tables = refl
 
@@ -311,10 +312,6 @@ none_added l = ap (λ n. record { number = n; reply = l.reply }) (add-zero l.num
 sorted_none : IsStrictlySortedBy name_order []
 unfolding IsStrictlySortedBy
 sorted_none = tt
-
-after_none : (content : Content) → IsInOrder content → after content [] ≡ content
-after_none content ordered =
-    sym (after_only content [] content ordered (record { in_order = ordered; records = λ id. refl; holds = λ key. refl }))
 
 pub agrees_at_first : (viewer : Caller) (tables : Tables) → AreInOrder tables → Agrees viewer (opening_of viewer tables) [] tables
 agrees_at_first Publisher tables ordered = record {

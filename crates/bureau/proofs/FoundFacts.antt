@@ -12,9 +12,10 @@ use Rattle.std.specs.Str.{bytes_eq}
 use Rattle.std.specs.declared.cmp.Ordering.{Ordering}
 use Rattle.std.specs.declared.cmp.Ordering.TheVariants.{Less, Equal, Greater}
 use Rattle.std.proofs.lemmas.Map.Keys.{sorted_head, sorted_tail}
+use Rattle.supersede.proofs.GivingFacts.{same_self}
 use Rattle.bureau_store.specs.Tables.{name_order}
 use Rattle.bureau.specs.Own.{found}
-use Rattle.bureau.proofs.NamesFacts.{all_apart, apart_by_order, apart_turned, below_all, equal_name, own_name, same_name}
+use Rattle.bureau.proofs.NamesFacts.{all_apart, apart_by_order, apart_turned, below_all, equal_name, same_name}
 
 module _ {A : Type 0} where
   pub found_some : (at : List ℕ → Option A) (k : List ℕ) (ks : List (List ℕ)) (a : A) → at k ≡ Some a → found at (k ∷ ks) ≡ (k, a) ∷ found at ks
@@ -105,7 +106,7 @@ module _ {A : Type 0} where
           ∙ sym (found_apart at at2 k xs same (all_apart k xs (subst (λ n. AllByRecursion (λ y. name_order n y ≡ Less) xs) (sym (equal_name k x equal)) (sorted_head name_order x xs sorted))))
           ∙ sym (found_none at2 x xs (ap at2 (sym (equal_name k x equal)) ∙ is))
       by rest Equal equal (Some a) some =
-          ap (λ b. cond b (found at xs) ((x, a) ∷ remove_entry (bytes_eq k) (found at xs))) (subst (λ n. bytes_eq k n ≡ true) (equal_name k x equal) (own_name k))
+          ap (λ b. cond b (found at xs) ((x, a) ∷ remove_entry (bytes_eq k) (found at xs))) (subst (λ n. bytes_eq k n ≡ true) (equal_name k x equal) (same_self k))
           ∙ sym (found_apart at at2 k xs same (all_apart k xs (subst (λ n. AllByRecursion (λ y. name_order n y ≡ Less) xs) (sym (equal_name k x equal)) (sorted_head name_order x xs sorted))))
           ∙ sym (found_none at2 x xs (ap at2 (sym (equal_name k x equal)) ∙ is))
       by rest Greater greater None none =
@@ -138,7 +139,7 @@ module _ {A : Type 0} where
   pub found_again : (es : List (List ℕ × A)) → IsStrictlySortedBy name_order (keys_of es) → found (λ name. lookup (bytes_eq name) es) (keys_of es) ≡ es
   found_again [] sorted = refl
   found_again (e ∷ es) sorted =
-      found_some (λ name. lookup (bytes_eq name) (e ∷ es)) e.0 (keys_of es) e.1 (ap (λ b. cond b (Some e.1) (lookup (bytes_eq e.0) es)) (own_name e.0))
+      found_some (λ name. lookup (bytes_eq name) (e ∷ es)) e.0 (keys_of es) e.1 (ap (λ b. cond b (Some e.1) (lookup (bytes_eq e.0) es)) (same_self e.0))
       ∙ ap (λ rest. e ∷ rest)
       (found_apart (λ name. lookup (bytes_eq name) es) (λ name. lookup (bytes_eq name) (e ∷ es)) e.0 (keys_of es)
       (λ q apart. ap (λ b. cond b (Some e.1) (lookup (bytes_eq q) es)) (apart_turned e.0 q apart))

@@ -16,7 +16,7 @@ not_asked : (caller : Caller) (call_by : CallBy) (this : Tables) → call_by.cal
 not_asked Publisher call_by this is not_allowed = rw (is, rw is at not_allowed) refl
 not_asked (Client name) call_by this is not_allowed = rw (is, rw is at not_allowed) refl
 
-not_503 : ◌≡◌ {A = ℕ} 200 503 → ⊥
+pub not_503 : ◌≡◌ {A = ℕ} 200 503 → ⊥
 not_503 same = omega (arith, same)
 
 -- what tells nothing from the tables leaves them

@@ -1,12 +1,14 @@
 -- What some accepted changes left, and what one more leaves.
-use Rattle.std.proofs.Common.{◌≡◌, ℕ, ◌+◌, ◌||◌, Bool, true, false, cond, List, [], ◌∷◌, ◌++◌, length, refl, sym, ◌∙◌, ap, arith, append-nil}
+use Rattle.std.proofs.Common.{◌≡◌, ℕ, ◌+◌, Bool, true, false, cond, List, [], ◌∷◌, ◌++◌, length, refl, sym, ◌∙◌, ap, arith, append-nil}
 use Rattle.std.specs.Prelude.{Option, Some, None, is_some, unwrap_or, if◌then◌else◌}
 use Rattle.std.specs.BTreeSet.{insert_key}
 use Rattle.std.specs.List.{list_any}
 use Rattle.std.specs.List.Sorted.{IsStrictlySortedBy}
 use Rattle.std.specs.Option.{option_map}
 use Rattle.std.specs.Str.{bytes_eq}
+use Rattle.std.proofs.lemmas.Bool.{or_parts}
 use Rattle.zone_lists.specs.declared.zones.ZoneRow.{ZoneRow}
+use Rattle.supersede.proofs.GivingFacts.{same_self}
 use Rattle.bureau_store.specs.Caller.{is_caller}
 use Rattle.catalogue.specs.Publication.{after}
 use Rattle.catalogue.proofs.PublicationFacts.{after_joined}
@@ -15,7 +17,7 @@ use Rattle.bureau_store.specs.Tables.{ZoneTable, Zones, name_order, patterns_of,
 use Rattle.bureau_store.specs.declared.caller.Caller.{Caller}
 use Rattle.bureau.specs.Own.{Accepted, Opening, changes_by, content_left, kept_reply, last_left, names_known, opening_last, patterns_left, publications, published_in, received_left, rows_left, with_name, zone_left, zone_of, zones_left}
 use Rattle.bureau.proofs.FoundFacts.{found_dropped, found_put, lookup_found}
-use Rattle.bureau.proofs.NamesFacts.{any_insert, apart_turned, own_name, same_name, sorted_insert}
+use Rattle.bureau.proofs.NamesFacts.{any_insert, apart_turned, same_name, sorted_insert}
 
 -- ---- numbers and kept replies
 
@@ -107,11 +109,11 @@ apart_patterns opening changes q name patterns apart = ap (λ (b : Bool). unwrap
 
 own_rows : (opening : Opening) (changes : List Accepted) (name : List ℕ) (rows : Option (List ZoneRow))
     → unwrap_or (if bytes_eq name name then Some rows else None) (rows_left opening changes name) ≡ rows
-own_rows opening changes name rows = ap (λ (b : Bool). unwrap_or (if b then Some rows else None) (rows_left opening changes name)) (own_name name)
+own_rows opening changes name rows = ap (λ (b : Bool). unwrap_or (if b then Some rows else None) (rows_left opening changes name)) (same_self name)
 
 own_patterns : (opening : Opening) (changes : List Accepted) (name : List ℕ) (patterns : List (List ℕ))
     → unwrap_or (if bytes_eq name name then Some patterns else None) (patterns_left opening changes name) ≡ patterns
-own_patterns opening changes name patterns = ap (λ (b : Bool). unwrap_or (if b then Some patterns else None) (patterns_left opening changes name)) (own_name name)
+own_patterns opening changes name patterns = ap (λ (b : Bool). unwrap_or (if b then Some patterns else None) (patterns_left opening changes name)) (same_self name)
 
 -- that patterns are put to a zone that is there
 abbrev pub IsOfZone : Zones → Effect → Type 0
@@ -144,11 +146,6 @@ zones_more opening change changes kept = by change.effect
         ∙ ap (λ patterns. Some (record { rows = rows_of (zone_named name (zones_left opening changes)); patterns = patterns })) (own_patterns opening changes name patterns))
         (λ q apart. ap (λ patterns. option_map (λ rows. record { rows = rows; patterns = patterns }) (rows_left opening changes q)) (apart_patterns opening changes q name patterns apart)))
 
--- neither of two
-neither : (a b : Bool) → (a || b) ≡ false → (a ≡ false) × (b ≡ false)
-neither true b h = cc
-neither false b h = (refl, h)
-
 pub kept_more : (opening : Opening) (change : Accepted) (changes : List Accepted) → AreKept opening changes → IsOfZone (zones_left opening changes) change.effect
     → AreKept opening (change ∷ changes)
 kept_more opening change changes kept there = record {
@@ -166,7 +163,7 @@ kept_more opening change changes kept there = record {
 
     apart : (name other : List ℕ) → list_any (bytes_eq name) (insert_key name_order (names_known opening changes) other) ≡ false
         → (bytes_eq name other ≡ false) × (list_any (bytes_eq name) (names_known opening changes) ≡ false)
-    apart name other h = neither (bytes_eq name other) (list_any (bytes_eq name) (names_known opening changes)) (sym (any_insert (bytes_eq name) (names_known opening changes) other) ∙ h)
+    apart name other h = or_parts (bytes_eq name other) (list_any (bytes_eq name) (names_known opening changes)) (sym (any_insert (bytes_eq name) (names_known opening changes) other) ∙ h)
 
     unknown : (name : List ℕ) (effect : Effect) → list_any (bytes_eq name) (with_name (zone_of effect) (names_known opening changes)) ≡ false → rows_left opening (by_effect change effect ∷ changes) name ≡ None
     unknown name (publication more) h = kept.unknown name h

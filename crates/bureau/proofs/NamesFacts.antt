@@ -12,6 +12,7 @@ use Rattle.std.proofs.lemmas.Map.Lookups.{exact_bytes}
 use Rattle.std.proofs.lemmas.Map.Text.{is_eq-slice_cmp}
 use Rattle.std.proofs.lemmas.Slice.Eq.{bytes_eq-Decides}
 use Rattle.holddata.proofs.InsertFacts as keys
+use Rattle.supersede.proofs.GivingFacts.{same_self}
 use Rattle.bureau_store.specs.Caller.{is_caller}
 use Rattle.bureau_store.specs.Tables.{name_order}
 use Rattle.bureau_store.specs.declared.caller.Caller.{Caller}
@@ -20,15 +21,12 @@ use Rattle.bureau_store.specs.declared.caller.Caller.TheVariants.{Publisher, Cli
 pub same_name : (a b : List ℕ) → bytes_eq a b ≡ true → a ≡ b
 same_name a b = (bytes_eq-Decides a b).0
 
-pub own_name : (a : List ℕ) → bytes_eq a a ≡ true
-own_name a = (bytes_eq-Decides a a).1 refl
-
 pub apart_turned : (a b : List ℕ) → bytes_eq a b ≡ false → bytes_eq b a ≡ false
 apart_turned a b h = by (bytes_eq b a) refl
   where
     by : (t : Bool) → bytes_eq b a ≡ t → bytes_eq b a ≡ false
     by false is = is
-    by true is = cc (h, subst (λ x. bytes_eq x b ≡ true) (same_name b a is) (own_name b))
+    by true is = cc (h, subst (λ x. bytes_eq x b ≡ true) (same_name b a is) (same_self b))
 
 pub same_caller : (a b : Caller) → is_caller a b ≡ true → a ≡ b
 same_caller Publisher Publisher h = refl
@@ -38,7 +36,7 @@ same_caller (Client a) (Client b) h = ap (λ n. Client n) (same_name a b h)
 
 pub own_caller : (a : Caller) → is_caller a a ≡ true
 own_caller Publisher = refl
-own_caller (Client a) = own_name a
+own_caller (Client a) = same_self a
 
 -- ---- names in order
 

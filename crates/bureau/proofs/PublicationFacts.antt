@@ -1,6 +1,6 @@
 -- What a body publishes, while it is read.
 use Rattle.std.proofs.Common.{◌≡◌, inl, inr, ℕ, false, List, [], ◌∷◌, refl, sym, ◌∙◌, ap, subst, map}
-use Rattle.std.specs.Prelude.{Option, Some, None, Result, Ok, Err, IfErr, IsErrAnd, MatchOption, is_some}
+use Rattle.std.specs.Prelude.{Result, Ok, Err, IfErr, IsErrAnd, is_some}
 use Rattle.std.specs.List.{fold}
 use Rattle.faults.specs.FaultText.{text_of}
 use Rattle.faults.specs.Refusal.{IsRefusal}
@@ -79,8 +79,3 @@ passed_on (Err any) whole fault is told = subst (IsTold whole) (sym is) told
 -- nothing is left
 pub ended_with : (begun : Begun) (whole left : Read) (changes : List Change) → left ≡ Ok [] → published_from begun left ≡ published_from nothing_begun whole → changes ≡ changes_in begun → published_by whole ≡ Ok changes
 ended_with begun whole left changes ended is all = sym (published_whole whole) ∙ sym is ∙ ap (published_from begun) ended ∙ ap (λ cs. Ok cs) (sym all)
-
--- what holds where nothing is found
-pub where_none : {A : Type 0} (P : Type 0) (Q : A → Type 0) (found : Option A) → ((a : A) → found ≡ Some a → ⊥) → MatchOption found P Q → P
-where_none P Q None never is = is
-where_none P Q (Some a) never is = absurd (never a refl)

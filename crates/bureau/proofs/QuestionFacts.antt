@@ -1,6 +1,6 @@
 -- The answers to questions, from what is read on the way.
 use Rattle.std.proofs.Common.{◌≡◌, ℕ, List, [], sym, ◌∙◌, ap}
-use Rattle.std.specs.Prelude.{Option, Some, None, Result, Ok, Err, IfOk, map}
+use Rattle.std.specs.Prelude.{Option, Some, None, map}
 use Rattle.std.specs.Option.{option_map}
 use Rattle.std.proofs.lemmas.Simd.{map-map}
 use Rattle.holddata.specs.declared.hold.Hold.{Hold}
@@ -27,11 +27,6 @@ module _ {Source Held : Type 0} {view : View Source Held} where
   pub told_then : {a b c : Source} {Fact Other : Held → Type 0} → Keeps view a b → Keeps view b c
       → Tells view a b Fact → Tells view b c Other → Tells view a c (λ this. Fact this × Other this)
   told_then first second fact other = told_both (told_sooner fact second) (told_later first second other)
-
--- what follows for an answer
-pub so_ok : {T E : Type 0} {P Q : T → Type 0} (result : Result T E) → IfOk result P → ((t : T) → P t → Q t) → IfOk result Q
-so_ok (Ok t) is so = so t is
-so_ok (Err e) is so = tt
 
 -- the list of zones in print
 pub zones_printed : (zones : Zones) (counted : List (List ℕ × ℕ)) → counted ≡ map counted_as zones → text_in zone_columns None (map zone_fields counted) ≡ zones_text zones

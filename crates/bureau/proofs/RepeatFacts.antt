@@ -16,6 +16,7 @@ use Rattle.bureau.specs.Outcome.{Answer, Outcome, answered, accepted, answer_of,
 use Rattle.bureau.specs.Repeat.{ActsOnce, GoesStale, IsChange, IsLater, IsRunWithout, KeepsReply, StaysStale, number_of}
 use Rattle.bureau.specs.View.{View, view_of}
 use Rattle.bureau.proofs.NamesFacts.{own_caller, same_caller}
+use Rattle.bureau.proofs.AgreesFacts.{view_caller}
 
 -- ---- what comes of a change in its turn
 
@@ -69,10 +70,6 @@ allowed_in_turn view (missing_plan_json zone) n e = absurd (cc)
 allowed_in_turn view (chain zone sysmod) n e = absurd (cc)
 allowed_in_turn view counts n e = absurd (cc)
 allowed_in_turn view counts_json n e = absurd (cc)
-
-view_caller : (caller : Caller) (tables : Tables) → (view_of caller tables).caller ≡ caller
-view_caller Publisher tables = refl
-view_caller (Client name) tables = refl
 
 view_last : (caller : Caller) (tables : Tables) → (view_of caller tables).last ≡ tables.last caller
 view_last Publisher tables = refl
@@ -257,7 +254,7 @@ kept_by_run : (P : Tables → Type 0) → ((old new : Tables) (call_by : CallBy)
 kept_by_run P step old new [] run p = subst P (sym run) p
 kept_by_run P step old new (call_by ∷ calls) run p = kept_by_run P step run.0 new calls run.2 (step old run.0 call_by run.1 p)
 
-split_run : (before rest : List CallBy) (old new : Tables) → IsRun old (before ++ rest) new → (at : Tables) × IsRun old before at × IsRun at rest new
+pub split_run : (before rest : List CallBy) (old new : Tables) → IsRun old (before ++ rest) new → (at : Tables) × IsRun old before at × IsRun at rest new
 split_run [] rest old new run = (old, refl, run)
 split_run (call_by ∷ before) rest old new run =
     let more = split_run before rest run.0 new run.2 in (more.0, (run.0, run.1, more.1), more.2)
@@ -442,7 +439,7 @@ again_leaves old new again n reply (inr made) is range taken = by taken
     by (inr last) =
         made.1 ∙ ap (λ o. tables_left again.caller o old) (turned.is ∙ ranged (old.last again.caller) n turned.change range ∙ again_taken (old.last again.caller) n turned.change last.0)
 
-run_join : (a b c : Tables) (xs ys : List CallBy) → IsRun a xs b → IsRun b ys c → IsRun a (xs ++ ys) c
+pub run_join : (a b c : Tables) (xs ys : List CallBy) → IsRun a xs b → IsRun b ys c → IsRun a (xs ++ ys) c
 run_join a b c [] ys first more = subst (λ (t : Tables). IsRun t ys c) first more
 run_join a b c (x ∷ xs) ys first more = (first.0, first.1, run_join first.0 b c xs ys first.2 more)
 

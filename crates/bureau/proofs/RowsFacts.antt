@@ -1,6 +1,7 @@
 -- The rows of both reports on a zone have their holds.
 use Rattle.std.proofs.Common.{◌≡◌, ◌==◌, ◌&&◌, true, Bool, List, ℕ, refl}
 use Rattle.std.proofs.lemmas.List.Elements.{filter_passes}
+use Rattle.lemmas.proofs.ListFacts.{second_true}
 use Rattle.holddata.specs.HoldBook.{IsInKeyOrder}
 use Rattle.holddata.specs.HoldKey.{kind_order}
 use Rattle.holddata.specs.declared.hold.Hold.{Hold}
@@ -10,7 +11,6 @@ use Rattle.zone_lists.specs.Installed.{is_installed}
 use Rattle.zone_lists.specs.declared.zones.ZoneRow.{ZoneRow}
 use Rattle.catalogue.specs.Content.{Content, IsInOrder}
 use Rattle.catalogue.proofs.BookFacts.{filtered_in_order}
-use Rattle.chains.proofs.SearchFacts.{second_true}
 use Rattle.report_json.specs.Found.{AreOfKind}
 use Rattle.report_json.proofs.RowFacts.{err_rows_have, missing_rows_have}
 use Rattle.bureau_store.specs.Held.{held_in}

@@ -1,4 +1,4 @@
-//! The bureau.
+//! The bureau that all callers share: a store and a judge, and what each call of it tells.
 ghost use Rattle.std.specs.Prelude.{◌≡◌, length, All, IfOk, IfSome, OnErr};
 ghost use Rattle.catalogue.specs.View.{Goes, Tells};
 ghost use Rattle.bureau_store.specs.Caller.{IsProper, caller_with};

@@ -1,4 +1,4 @@
-//! What a caller asks.
+//! Calls: what a caller may ask of the bureau, with the number and the body of a change.
 use mcs_reader::Id;
 
 /// A call: what a caller asks of the bureau.

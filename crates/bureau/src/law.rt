@@ -29,9 +29,9 @@ pub fn isolation()
 
 /// Isolation over several runs, between which the bureau may get other callers, whatever calls come in them.
 ///
-/// `alone`: to each caller who stays it is as if nothing had happened. Its answers, other than 503, are those of a bureau
-/// that received the publisher's calls and that caller's alone. `newcomer`: a client who is new finds what is published, and
-/// nothing of its own, whoever had its name before.
+/// `alone`: to each caller who stays it is as if nothing had happened. Its answers, other than 503, are those of a
+/// bureau that received the publisher's calls and that caller's alone. `newcomer`: a client who is new finds what
+/// is published, and nothing of its own, whoever had its name before.
 pub fn other_callers()
     ensures alone { (opening closing : Tables) (stages : List Stage) →
         AreInOrder opening → IsCourse opening stages closing → IsAloneWhereItStays opening stages }

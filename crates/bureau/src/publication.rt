@@ -1,4 +1,4 @@
-//! Reading a publication.
+//! From the bytes of a publication to its changes, one statement at a time.
 ghost use Rattle.std.specs.Prelude.{◌≡◌, Ok, IfOk, IfErr};
 ghost use Rattle.catalogue.specs.Reading.{changes_in};
 ghost use Rattle.catalogue.specs.declared.fault.CatFault.TheVariants.{Memory};

@@ -1,4 +1,4 @@
-//! What the bureau answers.
+//! Replies: a status, and a body that is plain text or JSON.
 ghost use Rattle.std.specs.Prelude.{◌≡◌, [], IfOk};
 ghost use Rattle.bureau.specs.Outcome.{as_json, forbidden, gap, no_room, not_found, plain};
 ghost use Rattle.bureau.specs.Replies.{reply_as};

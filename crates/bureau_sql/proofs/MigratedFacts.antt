@@ -218,7 +218,7 @@ left_untouched old held mid new fault sooner is_open survives at_held later keep
 
 -- ---- a file that was made one of version 2 is ours
 
-after_is_ours : (before after : Database) → IsOfVersion1 before → HoldsAll (version_rows 2) (held_by_version_1 before) after → IsOurs after
+pub after_is_ours : (before after : Database) → IsOfVersion1 before → HoldsAll (version_rows 2) (held_by_version_1 before) after → IsOurs after
 after_is_ours before after was is = record {
   schema = is.known.schema;
   rows = record {

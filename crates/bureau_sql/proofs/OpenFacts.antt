@@ -3,6 +3,7 @@ use Rattle.std.proofs.Common.{◌≡◌, ◌⊎◌, ◌≢◌, ◌+◌, ◌<◌,
 use Rattle.std.specs.List.{AllByRecursion, Contains}
 use Rattle.std.specs.Prelude.{◌∷◌, Option, codes, unwrap_or}
 use Rattle.std.proofs.lemmas.Bool.{cases_Bool}
+use Rattle.lemmas.proofs.ListFacts.{first_inside, inside_cases, none_inside, rest_inside}
 use Rattle.bureau_store.specs.Store.{IsOfRead}
 use Rattle.bureau_store.specs.declared.fault.StoreFault.{StoreFault}
 use Rattle.bureau_store.specs.declared.fault.StoreFault.TheVariants.{Device, Memory, Shape, Size, Version}
@@ -22,7 +23,6 @@ use Rattle.sql_state.specs.Ours.{AreOurs, IsOurs, held_by}
 use Rattle.sql_state.specs.Reading.{HasFailed, OnlyReads}
 use Rattle.sql_reads.specs.Version.{MeansNothing, Withholds, WithholdsVersion}
 use Rattle.sql_tables.specs.Stored.{tables_of}
-use Rattle.sql_tables.proofs.MemberFacts.{cases_in, first_in, none_in, rest_in}
 use Rattle.sql_texts.specs.Meaning.{MakesTable, Reads}
 use Rattle.sql_texts.specs.Reads as read
 use Rattle.sql_texts.specs.Schema.{bureau, bureau_1, sysmod_cond}
@@ -204,17 +204,17 @@ all_asked schema (one ∷ more) (text ∷ texts) asked all = ((text.now, asked.0
 
 one_not_asked : (schema : Schema) (what : List Asked) (texts : List (Bor (List ℕ))) → AreAskedBy what texts → (text : Bor (List ℕ)) → Contains texts text
     → (IsOneStatement schema text.now → ⊥) → (one : Asked) × Contains what one × CannotAsk schema one
-one_not_asked schema [] [] asked text inside none = absurd (none_in text inside)
+one_not_asked schema [] [] asked text inside none = absurd (none_inside text inside)
 one_not_asked schema [] (first ∷ texts) asked text inside none = absurd asked
 one_not_asked schema (one ∷ more) [] asked text inside none = absurd asked
-one_not_asked schema (one ∷ more) (first ∷ texts) asked text inside none = elim (cases_in first text texts inside) [
-  | inl same ↦ (one, first_in one more, (text.now, subst (λ (t : Bor (List ℕ)). IsAskedBy one t.now) same asked.0, none))
-  | inr later ↦ let it = one_not_asked schema more texts asked.1 text later none in (it.0, rest_in one it.0 more it.1, it.2)
+one_not_asked schema (one ∷ more) (first ∷ texts) asked text inside none = elim (inside_cases first text texts inside) [
+  | inl same ↦ (one, first_inside one more, (text.now, subst (λ (t : Bor (List ℕ)). IsAskedBy one t.now) same asked.0, none))
+  | inr later ↦ let it = one_not_asked schema more texts asked.1 text later none in (it.0, rest_inside one it.0 more it.1, it.2)
 ]
 
 all_in : {X : Type 0} (P : X → Type 0) (xs : List X) → AllByRecursion P xs → (x : X) → Contains xs x → P x
-all_in P [] all x inside = absurd (none_in x inside)
-all_in P (y ∷ ys) all x inside = elim (cases_in y x ys inside) [ inl same ↦ subst P same all.0 | inr later ↦ all_in P ys all.1 x later ]
+all_in P [] all x inside = absurd (none_inside x inside)
+all_in P (y ∷ ys) all x inside = elim (inside_cases y x ys inside) [ inl same ↦ subst P same all.0 | inr later ↦ all_in P ys all.1 x later ]
 
 -- one of the texts is no statement, so one of the tables lacks, and the tables are the bureau's of no version
 table_lacks : (texts : List (Bor (List ℕ))) → AreAskedBy of_tables texts → AllByRecursion (λ text. IsOneStatement bureau text.now) texts

@@ -11,6 +11,7 @@ use Rattle.std.specs.Str.{bytes_eq}
 use Rattle.std.proofs.Math.Seq.{drop-cons}
 use Rattle.std.proofs.lemmas.List.Folds.{list_any-append}
 use Rattle.std.proofs.lemmas.Map.Text.{is_eq-slice_cmp}
+use Rattle.std.proofs.Math.Bool.{and-false}
 use Rattle.catalogue.specs.Ids.{same_id}
 use Rattle.catalogue.proofs.IdFacts.{one_id}
 use Rattle.bureau_store.specs.Kept.{KnowsNames}
@@ -72,10 +73,6 @@ any_only others (row ∷ rows) name =
     kept : List CallerRow
     kept = filter (λ row. not (has_name others row.name)) rows
 
-    off : (b : Bool) → (b && false) ≡ false
-    off true = refl
-    off false = refl
-
     by : (new : Bool) → not (has_name others row.name) ≡ new → (same : Bool) → same_id row.name name ≡ same
         → list_any (λ one. same_id one name) (map (λ (row : CallerRow). row.name) kept) ≡ is_only_in others rows name
         → list_any (λ one. same_id one name) (map (λ (row : CallerRow). row.name) (cond new (row ∷ kept) kept)) ≡ ((same || has_name rows name) && not (has_name others name))
@@ -84,7 +81,7 @@ any_only others (row ∷ rows) name =
     by true is false at later = ap (λ b. b || list_any (λ one. same_id one name) (map (λ (row : CallerRow). row.name) kept)) at ∙ later
     by false is true at later =
         let none : not (has_name others name) ≡ false = ap (λ n. not (has_name others n)) (sym (one_id row.name name at)) ∙ is in
-        later ∙ ap (λ b. has_name rows name && b) none ∙ off (has_name rows name) ∙ sym none
+        later ∙ ap (λ b. has_name rows name && b) none ∙ and-false (has_name rows name) ∙ sym none
     by false is false at later = later
 
 -- the names that are listed are those that come or go

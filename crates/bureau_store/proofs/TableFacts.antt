@@ -17,6 +17,7 @@ use Rattle.std.proofs.lemmas.Bool.{cases_Bool as tested}
 use Rattle.std.proofs.lemmas.Cmp.{nat_list_eq_equiv}
 use Rattle.std.proofs.lemmas.Map.Text.{is_eq-slice_cmp}
 use Rattle.std.proofs.lemmas.Slice.Eq.{bytes_eq-Decides}
+use Rattle.lemmas.proofs.TestFacts.{equal_is}
 use Rattle.zone_lists.specs.ZoneList.{RowsAscend}
 use Rattle.zone_lists.specs.declared.zones.ZoneRow.{ZoneRow}
 use Rattle.bureau_store.specs.Caller.{caller_named}
@@ -112,11 +113,6 @@ module _ {Key X : Type 0} (order : Key → Key → Ordering) (test : Key → Boo
             ∙ apart (test e.0) (test key) value e.1 (lookup test es) (λ there here. let equal : order key e.0 ≡ Equal = same key e.0 here there in not_both (order key e.0) equal at)
       ] refl
 
-is_equal : (o : Ordering) → is_eq o ≡ true → o ≡ Equal
-is_equal Less h = absurd (cc h)
-is_equal Equal h = refl
-is_equal Greater h = absurd (cc h)
-
 -- one more caller before those that are known
 module _ {Text : Type 0} (text_of : Text → List ℕ) (token : List ℕ) where
   abbrev in_order_of : Text → Text → Ordering
@@ -132,7 +128,7 @@ module _ {Text : Type 0} (text_of : Text → List ℕ) (token : List ℕ) where
   alike a b at = ap (λ text. is_at (slice_cmp nat_cmp token) text) ((bytes_eq-Decides (text_of a) (text_of b)).0 (sym (is_eq-slice_cmp (text_of a) (text_of b)) ∙ ap is_eq at))
 
   same_text : (a b : Text) → is_it a ≡ true → is_it b ≡ true → in_order_of a b ≡ Equal
-  same_text a b at_a at_b = is_equal (in_order_of a b) (is_eq-slice_cmp (text_of a) (text_of b) ∙ (bytes_eq-Decides (text_of a) (text_of b)).1 (sym (is_token a at_a) ∙ is_token b at_b))
+  same_text a b at_a at_b = equal_is (in_order_of a b) (is_eq-slice_cmp (text_of a) (text_of b) ∙ (bytes_eq-Decides (text_of a) (text_of b)).1 (sym (is_token a at_a) ∙ is_token b at_b))
 
 found_first : (b : Bool) (row : CallerRow) (rest : Option CallerRow) → cond b (Some (caller_named row.name)) (option_map (λ row. caller_named row.name) rest) ≡ option_map (λ row. caller_named row.name) (cond b (Some row) rest)
 found_first true row rest = refl

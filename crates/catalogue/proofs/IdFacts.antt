@@ -86,12 +86,12 @@ in_order_has ids id = (
 
 -- ---- whether ids ascend
 
-lower : (o : Ordering) → true ≡ is_lt o → o ≡ Less
+pub lower : (o : Ordering) → true ≡ is_lt o → o ≡ Less
 lower Less h = refl
 lower Equal h = cc
 lower Greater h = cc
 
-not_lower : (o : Ordering) → false ≡ is_lt o → o ≡ Less → ⊥
+pub not_lower : (o : Ordering) → false ≡ is_lt o → o ≡ Less → ⊥
 not_lower Less h e = let f : false ≡ true = h in cc
 not_lower Equal h e = cc
 not_lower Greater h e = cc

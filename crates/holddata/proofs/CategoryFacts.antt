@@ -58,7 +58,7 @@ in_order_allowed texts h =
 
 -- ---- texts that ascend are in order already
 
-less_by : (o : Ordering) → is_lt o ≡ true → o ≡ Less
+pub less_by : (o : Ordering) → is_lt o ≡ true → o ≡ Less
 less_by Less h = refl
 less_by Equal h = cc
 less_by Greater h = cc

@@ -1,8 +1,9 @@
 //! What a hold is known by.
 ghost use Rattle.std.specs.Prelude.{◌≡◌};
-ghost use Rattle.holddata.specs.HoldKey.{kind_name};
+ghost use Rattle.holddata.specs.HoldKey.{key_cmp, kind_name, kind_order};
 
 use mcs_reader::Id;
+use std::cmp::Ordering;
 
 /// Why a SYSMOD is held (IBM z/OS SMP/E Reference, `++HOLD`).
 #[derive(Clone, Copy, Debug, PartialEq, Eq, Hash)]
@@ -29,6 +30,18 @@ impl Kind {
             Kind::FixcatHold => "FIXCAT",
         }
     }
+
+    // The kind's place in the order of kinds, from 0.
+    fn order(self) -> u8
+        ensures { result ≡ kind_order self }
+    {
+        match self {
+            Kind::ErrorHold => 0,
+            Kind::SystemHold => 1,
+            Kind::UserHold => 2,
+            Kind::FixcatHold => 3,
+        }
+    }
 }
 
 /// What a hold is known by. A book has its holds in the order of SYSMOD, kind and reason.
@@ -40,4 +53,14 @@ pub struct HoldKey {
     pub kind: Kind,
     /// Why: of an ERROR or FIXCAT hold the APAR, of the others a word.
     pub reason: Id,
+}
+
+/// How a key stands to another in the order of a book: by SYSMOD, then by kind, then by reason. It takes no memory.
+pub fn key_cmp(a: &HoldKey, b: &HoldKey) -> Ordering
+    ensures { result ≡ key_cmp a.now b.now }
+{
+    a.sysmod
+        .cmp(&b.sysmod)
+        .then(a.kind.order().cmp(&b.kind.order()))
+        .then(a.reason.cmp(&b.reason))
 }

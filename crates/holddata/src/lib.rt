@@ -8,7 +8,7 @@
 //! - [`HoldBook`]: takes changes one by one or many at a time, and gives its holds by key, by SYSMOD, in key order,
 //!   and as text; [`SortKey`]: its order
 //! - [`book_left`]: the book that a list of changes leaves; [`book_text_left`]: its text
-//! - [`Hold`], [`HoldKey`]: a hold, and what it is known by; [`Kind`], [`Date`], [`Categories`]: parts of it;
+//! - [`Hold`], [`HoldKey`]: a hold, and what it is known by; [`key_cmp`]: the order of keys; [`Kind`], [`Date`], [`Categories`]: parts of it;
 //!   [`join_with_commas`]: texts with commas between
 //! - [`NoMemory`]: memory ran out
 //!
@@ -48,7 +48,7 @@ pub use date::Date;
 pub use fault::HoldFault;
 pub use faults::NoMemory;
 pub use hold::{Hold, HoldChange};
-pub use key::{HoldKey, Kind};
+pub use key::{HoldKey, Kind, key_cmp};
 pub use last::book_text_left;
 pub use operands::sole_value;
 pub use reading::{change, changes};

@@ -1,49 +1,18 @@
 -- Members that are left, and those that stand in for the others.
-use Rattle.std.proofs.Common.{◌≡◌, ◌⊎◌, ◌&&◌, ◌||◌, ℕ, ◌+◌, ◌<◌, ◌≤◌, Bool, true, false, List, [], ◌∷◌, map, length, get_or, refl, sym, ◌∙◌, ap, subst, inl, inr, arith}
+use Rattle.std.proofs.Common.{◌≡◌, ◌⊎◌, ◌||◌, ℕ, ◌<◌, ◌≤◌, Bool, true, false, List, [], ◌∷◌, refl, sym, ◌∙◌, subst, inl, inr, arith}
 use Rattle.std.specs.Prelude.{◌==◌, nat_lt, not}
 use Rattle.std.specs.List.{Contains, list_any, range_with_len}
-use Rattle.std.proofs.lemmas.Bool.{cases_Bool, cases_eq, cases_lt}
+use Rattle.std.proofs.lemmas.Bool.{cases_eq, cases_lt, and_parts, not-true, and_from, false_from_ne_true, not_from_false}
 use Rattle.std.proofs.lemmas.Bool.Decides.{nat_tests}
-use Rattle.std.proofs.lemmas.List.Folds.{Any-from_list_any, list_any-from_Any}
 use Rattle.std.proofs.lemmas.List.FromFn.{get_or-map-range_with_len, length-map-range_with_len}
+use Rattle.lemmas.proofs.ListFacts.{any_at, any_from, inside_cases}
 use Rattle.requisites.specs.Leads.{Leads}
 use Rattle.requisites.specs.Nodes.{IsMarked, Links, mark_of, row}
 use Rattle.requisites.proofs.LeadsFacts.{leads_itself, leads_more}
 use Rattle.requisites.proofs.SourceFacts.{marked_inside}
-use Rattle.install_order.specs.Left.{AreGivers, AreLeft, HasStandIn, IsGiven, is_outdone, left_in, outdoes}
-use Rattle.install_order.proofs.ListFacts.{in_cases, range_has}
+use Rattle.install_order.specs.Left.{AreGivers, AreLeft, is_outdone, left_in, outdoes}
+use Rattle.install_order.proofs.ListFacts.{range_has}
 use Rattle.install_order.proofs.ReadFacts.{none_in}
-
-pub any_at : {A : Type 0} (p : A → Bool) (xs : List A) (x : A) → Contains xs x → p x ≡ true → list_any p xs ≡ true
-any_at p xs x inside h = list_any-from_Any p xs (inside.0, x, inside.1, inside.2, h)
-
-pub record Passes {A : Type 0} (p : A → Bool) (xs : List A) : Type 0 where
-  pub element : A
-  pub member : Contains xs element
-  pub passes : p element ≡ true
-
-pub any_from : {A : Type 0} (p : A → Bool) (xs : List A) → list_any p xs ≡ true → Passes p xs
-any_from p xs h = let found = Any-from_list_any p xs h in record { element = found.1; member = (found.0, found.2, found.3); passes = found.4 }
-
-both_from : (a b : Bool) → (a && b) ≡ true → (a ≡ true) × (b ≡ true)
-both_from true b h = (refl, h)
-both_from false b h = absurd (cc)
-
-from_both : (a b : Bool) → a ≡ true → b ≡ true → (a && b) ≡ true
-from_both true b h k = k
-from_both false b h k = absurd (cc)
-
-is_false : (b : Bool) → (b ≡ true → ⊥) → b ≡ false
-is_false true none = absurd (none refl)
-is_false false none = refl
-
-is_not : (b : Bool) → b ≡ false → not b ≡ true
-is_not true e = absurd (cc)
-is_not false e = refl
-
-not_is : (b : Bool) → not b ≡ true → b ≡ false
-not_is true e = absurd (cc)
-not_is false e = refl
 
 test_is : (x y : ℕ) → (x == y) ≡ true → x ≡ y
 test_is x y e = grind (arith, nat_tests)
@@ -82,10 +51,10 @@ it_has xs p h = let found = any_from (λ r. r == p) xs h in let P : ℕ → Type
 
 outdoes_so : (givers : List (List ℕ)) (p q : ℕ) → Contains (row givers p) q → outdoes givers p q ≡ true → Outdoes givers p q
 outdoes_so givers p q gives h =
-    let both = both_from (not (q == p)) (nat_lt p q || not (has (row givers q) p)) h in
+    let both = and_parts (not (q == p)) (nat_lt p q || not (has (row givers q) p)) h in
     record {
       gives = gives;
-      is_other = λ same. (let on = is_test q p same in let off = not_is (q == p) both.0 in cc);
+      is_other = λ same. (let on = is_test q p same in let off = not-true (q == p) both.0 in cc);
       greater = λ back. greater (nat_lt p q) refl (has (row givers q) p) (has_it (row givers q) p back) both.1;
     }
   where
@@ -96,7 +65,7 @@ outdoes_so givers p q gives h =
 
 so_outdoes : (givers : List (List ℕ)) (p q : ℕ) → Outdoes givers p q → outdoes givers p q ≡ true
 so_outdoes givers p q o =
-    from_both (not (q == p)) (nat_lt p q || not (has (row givers q) p)) (is_not (q == p) (is_false (q == p) (λ on. o.is_other (test_is q p on))))
+    and_from (not (q == p)) (nat_lt p q || not (has (row givers q) p)) (not_from_false (q == p) (false_from_ne_true (q == p) (λ on. o.is_other (test_is q p on))))
     (either (has (row givers q) p) refl)
   where
     left_or : (b c : Bool) → b ≡ true → (b || c) ≡ true
@@ -109,7 +78,7 @@ so_outdoes givers p q o =
 
     either : (c : Bool) → has (row givers q) p ≡ c → (nat_lt p q || not (has (row givers q) p)) ≡ true
     either true e = left_or (nat_lt p q) (not (has (row givers q) p)) (is_less p q (o.greater (it_has (row givers q) p e)))
-    either false e = right_or (nat_lt p q) (not (has (row givers q) p)) (is_not (has (row givers q) p) e)
+    either false e = right_or (nat_lt p q) (not (has (row givers q) p)) (not_from_false (has (row givers q) p) e)
 
 pub outdone_so : (givers : List (List ℕ)) (p : ℕ) → is_outdone givers p ≡ true → (q : ℕ) × Outdoes givers p q
 outdone_so givers p h = let found = any_from (outdoes givers p) (row givers p) h in (found.element, outdoes_so givers p found.element found.member found.passes)
@@ -163,7 +132,7 @@ module _ (givers : List (List ℕ)) (n : ℕ) (are : AreGivers givers n) where
           top = below.top;
           inside = below.inside;
           above = below.above;
-          alone = λ x listed o. elim (in_cases y x ys listed) [
+          alone = λ x listed o. elim (inside_cases y x ys listed) [
             | inl same ↦ (let P : ℕ → Type 0 = λ k. Outdoes givers below.top k in none (subst P (sym same) o))
             | inr later ↦ below.alone x later o
           ];
@@ -175,7 +144,7 @@ module _ (givers : List (List ℕ)) (n : ℕ) (are : AreGivers givers n) where
         top = further.top;
         inside = further.inside;
         above = inr (over (above_both p below.top y below.above more) further.above);
-        alone = λ x listed o. elim (in_cases y x ys listed) [
+        alone = λ x listed o. elim (inside_cases y x ys listed) [
           | inl same ↦
               (let P : ℕ → Type 0 = λ k. Outdoes givers further.top k in
               let round : Outdoes givers y y = above_both y further.top y further.above (subst P (sym same) o) in
@@ -195,7 +164,7 @@ module _ (givers : List (List ℕ)) (n : ℕ) (are : AreGivers givers n) where
   marked_not : (p : ℕ) → IsMarked (left_in givers n) p → is_outdone givers p ≡ false
   marked_not p marked =
       let len = length-map-range_with_len (λ p. not (is_outdone givers p)) 0 n in
-      not_is (is_outdone givers p) (sym (mark_at p (omega (arith, marked_inside (left_in givers n) p marked, len))) ∙ marked.is)
+      not-true (is_outdone givers p) (sym (mark_at p (omega (arith, marked_inside (left_in givers n) p marked, len))) ∙ marked.is)
 
   no_other : (p q : ℕ) → IsMarked (left_in givers n) p → Outdoes givers p q → ⊥
   no_other p q marked o = let on = so_outdone givers p q o in let off = marked_not p marked in cc
@@ -213,12 +182,12 @@ module _ (givers : List (List ℕ)) (n : ℕ) (are : AreGivers givers n) where
     ];
     stands_in = λ p inside.
         let top = tops (range_with_len 0 n) p inside in
-        let none : is_outdone givers top.top ≡ false = is_false (is_outdone givers top.top) (λ on.
+        let none : is_outdone givers top.top ≡ false = false_from_ne_true (is_outdone givers top.top) (λ on.
         let by = outdone_so givers top.top on in
         top.alone by.0 (range_has 0 n by.0 (omega arith) (omega (arith, are.within top.top by.0 by.1.gives))) by.1) in
         record {
           stand_in = top.top;
-          marked = record { is = mark_at top.top top.inside ∙ is_not (is_outdone givers top.top) none };
+          marked = record { is = mark_at top.top top.inside ∙ not_from_false (is_outdone givers top.top) none };
           leads = up p top.top top.inside top.above;
         };
   } where

@@ -1,20 +1,18 @@
 -- The levels of rings, each by those before it.
-use Rattle.std.proofs.Common.{◌≡◌, ◌≢◌, ℕ, zero, suc, ◌+◌, ◌<◌, ◌≤◌, max, List, [], ◌∷◌, ◌++◌, Option, Some, None, length, get_or, set, take, refl, sym, ◌∙◌, subst, inl, inr, arith, append_assoc}
+use Rattle.std.proofs.Common.{◌≡◌, ℕ, zero, suc, ◌+◌, ◌<◌, ◌≤◌, max, List, [], ◌∷◌, ◌++◌, Option, Some, None, length, get_or, set, take, refl, sym, ◌∙◌, subst, inl, inr, arith, append_assoc}
 use Rattle.std.specs.Prelude.{◌⊎◌}
 use Rattle.std.specs.List.{Contains}
 use Rattle.std.proofs.lemmas.Bool.{cases_eq, cases_lt}
 use Rattle.std.proofs.lemmas.Grind.{common_steps}
 use Rattle.std.proofs.lemmas.List.{get_or_past, get_or-set_same, get_or-set_other, length-set}
 use Rattle.std.proofs.lemmas.List.Elements.{Contains-append_left, Contains-get_or, Contains-push, Contains-push_cases}
-use Rattle.requisites.specs.Leads.{Leads}
 use Rattle.requisites.specs.Nodes.{Links, row}
 use Rattle.requisites.proofs.LeadsFacts.{leads_more}
-use Rattle.install_order.specs.Levels.{AreCounted, AreLevelled, AreLevels, AreLevelsBelow, Falls, HasLast, IsBelow, IsBelowRing, IsJustAbove, IsLevelOf, IsSet, Rests, level_of, raise}
+use Rattle.install_order.specs.Levels.{AreCounted, AreLevelled, AreLevels, AreLevelsBelow, Falls, HasLast, IsBelow, IsBelowRing, IsJustAbove, IsLevelOf, Rests, level_of, raise}
 use Rattle.install_order.specs.Rings.{AreRingsAfter, IsNextRing}
 use Rattle.install_order.specs.Steps.{StandsIn}
 use Rattle.install_order.proofs.PutFacts.{stands_before, stands_cases, stands_last}
 use Rattle.install_order.proofs.ReadFacts.{in_one, max_is, none_in, read_more}
-use Rattle.install_order.proofs.RingFacts.{leads_joined}
 
 -- ---- just above a row
 

@@ -5,9 +5,8 @@ use Rattle.std.proofs.lemmas.Bool.{cases_eq}
 use Rattle.std.proofs.lemmas.Grind.{common_steps}
 use Rattle.std.proofs.lemmas.List.{take_all, take_more, get_or-set_same, get_or-set_other}
 use Rattle.std.proofs.lemmas.List.Elements.{Contains-append_left, Contains-push, Contains-push_cases}
-use Rattle.requisites.specs.Good.{marked_count}
 use Rattle.requisites.specs.Leads.{Leads}
-use Rattle.requisites.specs.Nodes.{IsMarked, Links, mark_of, row}
+use Rattle.requisites.specs.Nodes.{IsMarked, Links, mark_of}
 use Rattle.install_order.proofs.RingFacts.{leads_joined}
 use Rattle.requisites.proofs.SourceFacts.{marked_inside}
 use Rattle.requisites.proofs.SweepFacts.{count_falls, mark_left, mark_stays}

@@ -1,15 +1,16 @@
 -- By their levels nodes stand in the steps in which they are installed.
-use Rattle.std.proofs.Common.{◌≡◌, ◌⊎◌, ◌||◌, ℕ, zero, suc, ◌+◌, ◌-◌, ◌<◌, ◌≤◌, Bool, true, false, List, [], ◌∷◌, ◌++◌, Option, Some, None, map, length, eqb, ltb, refl, sym, ◌∙◌, ap, subst, inl, inr, arith}
+use Rattle.std.proofs.Common.{◌≡◌, ◌||◌, ℕ, zero, suc, ◌+◌, ◌-◌, ◌<◌, ◌≤◌, Bool, true, false, List, [], ◌∷◌, Option, Some, None, map, length, refl, sym, ◌∙◌, ap, subst, inl, inr, arith}
 use Rattle.std.specs.Prelude.{◌==◌, nat_lt, not}
-use Rattle.std.specs.List.{Contains, filter, list_all, range_with_len}
+use Rattle.std.specs.List.{Contains, filter, range_with_len}
 use Rattle.std.specs.List.Sorted.{IsStrictlyIncreasing}
-use Rattle.std.proofs.lemmas.Bool.{cases_Bool, cases_eq, cases_lt}
+use Rattle.std.proofs.lemmas.Bool.{cases_eq, cases_lt}
 use Rattle.std.proofs.lemmas.Bool.Decides.{nat_tests}
 use Rattle.std.proofs.lemmas.List.{get_or_past}
 use Rattle.std.proofs.lemmas.List.Elements.{filter_agree}
 use Rattle.std.proofs.lemmas.List.Filters.{length-filter_both}
 use Rattle.std.proofs.lemmas.List.FromFn.{get_or-range_with_len, length-range_with_len, map-range_with_len_more}
 use Rattle.std.proofs.lemmas.List.Kept.{IsStrictlyIncreasing-filter}
+use Rattle.lemmas.proofs.ListFacts.{all_at, all_from, first_inside, kept_from, kept_inside, map_from, map_inside}
 use Rattle.requisites.specs.Leads.{Leads}
 use Rattle.requisites.specs.Nodes.{IsMarked, Links, mark_of}
 use Rattle.requisites.proofs.LeadsFacts.{leads_closed, leads_itself}
@@ -17,7 +18,7 @@ use Rattle.requisites.proofs.SourceFacts.{marked_inside}
 use Rattle.install_order.specs.Levels.{AreCounted, AreLevels, AreRows, Falls, has_level, level_of, nodes_with}
 use Rattle.install_order.specs.Rings.{AreRings, AreRingsAfter}
 use Rattle.install_order.specs.Steps.{AreInOrder, AreNext, AreSteps, IsNext, IsTestOf, StandsIn, marked_in, may_come, steps_of}
-use Rattle.install_order.proofs.ListFacts.{all_at, all_from, filter_twice, first_in, in_range, kept_from, kept_in, map_from, map_in, range_has}
+use Rattle.install_order.proofs.ListFacts.{filter_twice, in_range, range_has}
 use Rattle.install_order.proofs.ReadFacts.{none_in}
 use Rattle.install_order.proofs.RingFacts.{leads_joined}
 
@@ -102,7 +103,7 @@ module _ (needs : List (List ℕ)) (members : List Bool) (levels : List (Option 
 
   in_left : (k p level : ℕ) → level_of levels p ≡ Some level → k ≤ level → Contains (left_from k) p
   in_left k p level is less =
-      kept_in (λ p. at_least k (level_of levels p)) (range_with_len 0 (length levels)) p (range_has 0 (length levels) p (omega arith) (omega (arith, inside p level is))) (test_from k level (level_of levels p) is less)
+      kept_inside (λ p. at_least k (level_of levels p)) (range_with_len 0 (length levels)) p (range_has 0 (length levels) p (omega arith) (omega (arith, inside p level is))) (test_from k level (level_of levels p) is less)
 
   from_left : (k p : ℕ) → Contains (left_from k) p → IsFrom k (level_of levels p)
   from_left k p member = from_test k (level_of levels p) (kept_from (λ p. at_least k (level_of levels p)) (range_with_len 0 (length levels)) p member).passes
@@ -198,7 +199,7 @@ module _ (needs : List (List ℕ)) (members : List Bool) (levels : List (Option 
 
       none_left : (xs : List ℕ) → ((p : ℕ) → Contains xs p → ⊥) → xs ≡ []
       none_left [] none = refl
-      none_left (x ∷ xs) none = absurd (none x (first_in x xs))
+      none_left (x ∷ xs) none = absurd (none x (first_inside x xs))
 
       nothing_left : (k : ℕ) → count ≤ k → left_from k ≡ []
       nothing_left k past = none_left (left_from k) (λ p member. let from = from_left k p member in let low = counted.above p from.level from.is in let high = from.from in omega arith)
@@ -220,7 +221,7 @@ module _ (needs : List (List ℕ)) (members : List Bool) (levels : List (Option 
       fewer k less =
           let node = has_node k less in
           let both = length-filter_both (may_come leads (left_from k)) (λ p. not (may_come leads (left_from k) p)) (λ x. refl) (left_from k) in
-          let here : Contains (filter (may_come leads (left_from k)) (left_from k)) node.0 = kept_in (may_come leads (left_from k)) (left_from k) node.0 (in_left k node.0 k node.1 (omega arith)) (comes k node.0 node.1) in
+          let here : Contains (filter (may_come leads (left_from k)) (left_from k)) node.0 = kept_inside (may_come leads (left_from k)) (left_from k) node.0 (in_left k node.0 k node.1 (omega arith)) (comes k node.0 node.1) in
           let some = member_len (filter (may_come leads (left_from k)) (left_from k)) node.0 here in
           let same : length (filter (λ p. not (may_come leads (left_from k) p)) (left_from k)) ≡ length (left_from (k + 1)) = ap length (rest_is k) in
           omega arith
@@ -274,7 +275,7 @@ module _ (needs : List (List ℕ)) (members : List Bool) (levels : List (Option 
     in_row k p member = has_it (level_of levels p) k (kept_from (λ p. has_level (level_of levels p) k) (range_with_len 0 (length levels)) p member).passes
 
     row_has : (k p : ℕ) → level_of levels p ≡ Some k → Contains (nodes_with levels (length levels) k) p
-    row_has k p is = kept_in (λ p. has_level (level_of levels p) k) (range_with_len 0 (length levels)) p (range_has 0 (length levels) p (omega arith) (omega (arith, inside p k is))) (it_has (level_of levels p) k is)
+    row_has k p is = kept_inside (λ p. has_level (level_of levels p) k) (range_with_len 0 (length levels)) p (range_has 0 (length levels) p (omega arith) (omega (arith, inside p k is))) (it_has (level_of levels p) k is)
 
     record StandsBelow (k p : ℕ) : Type 0 where
       level : ℕ
@@ -285,13 +286,13 @@ module _ (needs : List (List ℕ)) (members : List Bool) (levels : List (Option 
     stands_below k p stands =
         let image = map_from (nodes_with levels (length levels)) (range_with_len 0 k) stands.step stands.listed in
         let P : List ℕ → Type 0 = λ l. Contains l p in
-        let bound = in_range 0 k image.of image.member in
-        record { level = image.of; is = in_row image.of p (subst P (sym image.is) stands.member); below = omega (arith, bound.1) }
+        let bound = in_range 0 k image.from image.member in
+        record { level = image.from; is = in_row image.from p (subst P (sym image.is) stands.member); below = omega (arith, bound.1) }
 
     below_stands : (k p level : ℕ) → level_of levels p ≡ Some level → level < k → StandsIn (rows_to k) p
     below_stands k p level is less = record {
       step = nodes_with levels (length levels) level;
-      listed = map_in (nodes_with levels (length levels)) (range_with_len 0 k) level (range_has 0 k level (omega arith) (omega arith));
+      listed = map_inside (nodes_with levels (length levels)) (range_with_len 0 k) level (range_has 0 k level (omega arith) (omega arith));
       member = row_has level p is;
     }
 

@@ -1,5 +1,5 @@
 -- No part of what is promised: private contracts cite it. How many steps come before each node.
-use Rattle.std.specs.Prelude.{◌≡◌, ◌<◌, ◌≤◌, ◌⊎◌, ◌++◌, ◌==◌, ℕ, suc, List, [], ◌∷◌, Bool, Option, Some, None, false, filter, length, map, max, ◌+◌, Contains, slice_index_or}
+use Rattle.std.specs.Prelude.{◌≡◌, ◌<◌, ◌⊎◌, ◌++◌, ◌==◌, ℕ, suc, List, [], ◌∷◌, Bool, Option, Some, None, false, filter, length, map, max, ◌+◌, Contains, slice_index_or}
 use Rattle.std.specs.Global.{Vec}
 use Rattle.std.specs.List.{range_with_len}
 use Rattle.requisites.specs.Leads.{Leads}

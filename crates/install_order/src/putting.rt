@@ -1,5 +1,5 @@
 //! Rings in the order in which they can be installed.
-ghost use Rattle.std.specs.Prelude.{◌≡◌, ◌<◌, ℕ, Contains, IfOk, OnOk, length};
+ghost use Rattle.std.specs.Prelude.{◌<◌, ℕ, Contains, IfOk, OnOk, length};
 ghost use Rattle.std.specs.Bool.{OnFalse, OnTrue};
 ghost use Rattle.requisites.specs.Good.{marked_count};
 ghost use Rattle.requisites.specs.Nodes.{AreReversed, IsMarked, row};

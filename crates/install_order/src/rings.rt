@@ -1,7 +1,7 @@
 //! Nodes that need one another.
-ghost use Rattle.std.specs.Prelude.{◌≡◌, ◌↔◌, ℕ, Contains, IfNone, IfOk, IfSome, length, Some};
+ghost use Rattle.std.specs.Prelude.{ℕ, IfNone, IfOk, IfSome, length, Some};
 ghost use Rattle.std.specs.Bool.{OnFalse, OnTrue};
-ghost use Rattle.requisites.specs.Nodes.{AreReversed, IsMarked};
+ghost use Rattle.requisites.specs.Nodes.{AreReversed};
 ghost use Rattle.requisites.specs.Sources.{HasSource};
 ghost use Rattle.install_order.specs.Rings.{AreReached, IsAnyLeft, IsGreatestRoot, IsOnly, IsReached, IsRing, IsRoot};
 

@@ -1,5 +1,5 @@
 //! How the nodes of a ring are tied: by needs that lead to each from the first of the ring, and back.
-ghost use Rattle.std.specs.Prelude.{◌≡◌, ◌++◌, [], ◌∷◌, ℕ, Contains, IfOk, OnOk, length};
+ghost use Rattle.std.specs.Prelude.{◌≡◌, ℕ, Contains, IfOk, OnOk, length};
 ghost use Rattle.std.specs.Bool.{OnTrue};
 ghost use Rattle.requisites.specs.Nodes.{row};
 ghost use Rattle.install_order.specs.Rings.{AreTied, AreWithin, IsTied};

@@ -3,6 +3,7 @@
 use Rattle.std.proofs.Common.{◌≡◌, ℕ, zero, suc, ◌==◌, ◌≤◌, not, Bool, true, false, cond, List, [], ◌∷◌, ◌++◌, length, Option, Some, None, refl, sym, ◌∙◌, ap, subst, arith, append_assoc, append-nil, length-append}
 use Rattle.std.proofs.lemmas.Bool.Decides.{nat_tests}
 use Rattle.std.specs.List.{list_all}
+use Rattle.std.proofs.lemmas.Bool.{and_parts}
 use Rattle.mcs_reader.specs.Byte.{is_blank, is_name_byte, line_end}
 use Rattle.mcs_reader.specs.Line.{begins_statement}
 use Rattle.mcs_reader.specs.Verb.{Head, spell_head, IsHead, verb_named, begins_with}
@@ -14,7 +15,7 @@ use Rattle.mcs_reader.specs.declared.statement.Verb.{Verb}
 use Rattle.mcs_reader.proofs.DecomposeFacts.{decomposed}
 use Rattle.mcs_reader.proofs.RowFacts.{IsLine-head}
 use Rattle.mcs_reader.specs.Run.{run, after_run}
-use Rattle.mcs_reader.proofs.RunFacts.{run-append-after_run, all-run, begins_with-after_run, begins_with-front, and_parts, IsLines, IsLines-after, first_line, in_line, begins_statement-line}
+use Rattle.mcs_reader.proofs.RunFacts.{run-append-after_run, all-run, begins_with-after_run, begins_with-front, IsLines, IsLines-after, first_line, in_line, begins_statement-line}
 
 -- what a text ends in after its row: nothing, or a statement that something stops
 pub data Ending : Type 0 where

@@ -1,11 +1,12 @@
 -- What padding does to an id's text, and what such a text is made of.
-use Rattle.std.proofs.Common.{◌≡◌, ℕ, zero, suc, ◌+◌, ◌-◌, ◌<◌, ◌≤◌, ◌==◌, ◌&&◌, ◌⊎◌, ◌∙◌, Bool, true, false, not, cond, if◌then◌else◌, List, [], ◌∷◌, ◌++◌, length, take, drop, replicate, refl, ap, arith, Some, None, codes}
+use Rattle.std.proofs.Common.{◌≡◌, ℕ, zero, suc, ◌+◌, ◌-◌, ◌<◌, ◌≤◌, ◌==◌, ◌⊎◌, ◌∙◌, true, false, not, cond, if◌then◌else◌, List, [], ◌∷◌, ◌++◌, length, take, drop, replicate, refl, ap, arith, Some, None, codes}
 use Rattle.std.specs.List.{list_all, prefix_len, take_while}
 use Rattle.std.specs.Str.{IsAscii}
 use Rattle.std.proofs.lemmas.Bool.Decides.{nat_tests}
 use Rattle.std.proofs.lemmas.List.{drop-replicate, length-append, length-replicate}
 use Rattle.std.proofs.lemmas.List.Sums.{take_while-cons, prefix_len-le-length}
 use Rattle.std.proofs.lemmas.Str.Ascii.{IsAscii-nil, IsAscii-cons}
+use Rattle.std.proofs.lemmas.Bool.{and_parts}
 use Rattle.mcs_reader.specs.Id.{id_of, is_id_byte, is_id_text, padded, text_of, IsId}
 
 id_byte-no_blank : (b : ℕ) → is_id_byte b ≡ true → (b == 32) ≡ false
@@ -13,10 +14,6 @@ id_byte-no_blank b allowed = grind (arith, nat_tests)
 
 id_byte-ascii : (b : ℕ) → is_id_byte b ≡ true → b < 128
 id_byte-ascii b allowed = grind (arith, nat_tests)
-
-pub both : (x y : Bool) → (x && y) ≡ true → (x ≡ true) × (y ≡ true)
-both true y h = (refl, h)
-both false y h = absurd (cc)
 
 pub id_byte_below : (b : ℕ) → is_id_byte b ≡ true → b < 256
 id_byte_below b allowed = grind (arith, nat_tests)
@@ -34,7 +31,7 @@ id_bytes t allowed = grind (arith, nat_tests)
 ascii_id_bytes : (t : List ℕ) → list_all is_id_byte t ≡ true → IsAscii t
 ascii_id_bytes [] allowed = IsAscii-nil
 ascii_id_bytes (b ∷ t) allowed =
-    let parts = both (is_id_byte b) (list_all is_id_byte t) allowed in
+    let parts = and_parts (is_id_byte b) (list_all is_id_byte t) allowed in
     IsAscii-cons b t (id_byte-ascii b parts.0) (ascii_id_bytes t parts.1)
 
 pub ascii_id_text : (t : List ℕ) → is_id_text t ≡ true → IsAscii t
@@ -61,7 +58,7 @@ text_of-blanks (suc n) = refl
 text_of-append_blanks : (t : List ℕ) (n : ℕ) → list_all is_id_byte t ≡ true → text_of (t ++ replicate n 32) ≡ t
 text_of-append_blanks [] n allowed = text_of-blanks n
 text_of-append_blanks (b ∷ t) n allowed =
-    let parts = both (is_id_byte b) (list_all is_id_byte t) allowed in
+    let parts = and_parts (is_id_byte b) (list_all is_id_byte t) allowed in
     rw (id_byte-no_blank b parts.0) (ap (λ s. b ∷ s) (text_of-append_blanks t n parts.1))
 
 -- a text that is written over seven blanks

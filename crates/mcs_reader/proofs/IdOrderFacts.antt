@@ -6,8 +6,9 @@ use Rattle.std.specs.declared.cmp.Ordering.TheVariants.{Less, Equal, Greater}
 use Rattle.std.specs.Ordering.{nat_cmp, ordering_then, MatchOrdering}
 use Rattle.std.specs.Cmp.{nat_cmp_is, ranks}
 use Rattle.std.specs.Cmp.Lexicographic.{slice_cmp}
+use Rattle.std.proofs.lemmas.Bool.{and_parts}
 use Rattle.mcs_reader.specs.Id.{is_id_byte, is_id_text, number, padded, text_of, IsId}
-use Rattle.mcs_reader.proofs.IdFacts.{both, id_bytes, id_byte_below, id_len}
+use Rattle.mcs_reader.proofs.IdFacts.{id_bytes, id_byte_below, id_len}
 
 then_again : (a b c : Ordering) → ordering_then (ordering_then a b) c ≡ ordering_then a (ordering_then b c)
 then_again Less b c = refl
@@ -44,7 +45,7 @@ numbers_order m n (x ∷ xs) (y ∷ ys) e p q =
 
 below : (bs : List ℕ) → list_all is_id_byte bs ≡ true → AllByRecursion (λ b. b < 256) bs
 below [] h = tt
-below (b ∷ bs) h = let parts = both (is_id_byte b) (list_all is_id_byte bs) h in (id_byte_below b parts.0, below bs parts.1)
+below (b ∷ bs) h = let parts = and_parts (is_id_byte b) (list_all is_id_byte bs) h in (id_byte_below b parts.0, below bs parts.1)
 
 blanks_below : (n : ℕ) → AllByRecursion (λ b. b < 256) (replicate n 32)
 blanks_below zero = tt

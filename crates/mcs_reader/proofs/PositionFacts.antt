@@ -1,6 +1,7 @@
 -- What a position in a line's rest says of the position in the text.
 use Rattle.std.proofs.Common.{◌≡◌, ℕ, suc, ◌+◌, Bool, true, false, cond, List, [], ◌∷◌, ◌++◌, length, take, drop, Option, Some, None, option_map, refl, sym, ◌∙◌, ap, subst, arith, append_assoc, length-append}
 use Rattle.std.specs.List.{list_all, prefix_len}
+use Rattle.std.proofs.lemmas.Bool.{and_parts}
 use Rattle.mcs_reader.specs.Byte.{is_blank, is_name_byte, line_end}
 use Rattle.mcs_reader.specs.Line.{line_ends, begins_statement}
 use Rattle.mcs_reader.specs.Pieces.{is_value_byte}
@@ -9,7 +10,7 @@ use Rattle.mcs_reader.specs.Run.{run, after_run}
 use Rattle.mcs_reader.specs.Segment.{IsLine}
 use Rattle.mcs_reader.specs.Verb.{verb_named}
 use Rattle.mcs_reader.specs.declared.statement.Verb.{Verb}
-use Rattle.mcs_reader.proofs.RunFacts.{run-append-after_run, and_parts, in_line, line_ends-append, line_ends-line, begins_statement-line}
+use Rattle.mcs_reader.proofs.RunFacts.{run-append-after_run, in_line, line_ends-append, line_ends-line, begins_statement-line}
 
 one_more : (n : ℕ) → 1 + n ≡ suc n
 one_more n = omega arith

@@ -1,6 +1,7 @@
 -- Lists of COMMENT: the machine finds the parenthesis that closes one.
 use Rattle.std.proofs.Common.{◌≡◌, ℕ, zero, suc, ◌==◌, ◌||◌, ◌⊎◌, inl, inr, Bool, true, false, cond, List, [], ◌∷◌, ◌++◌, Ok, Err, refl, sym, ◌∙◌, ap, arith, append_assoc, append-nil}
 use Rattle.std.proofs.lemmas.Bool.Decides.{nat_tests}
+use Rattle.std.proofs.lemmas.Bool.{or_parts}
 use Rattle.mcs_reader.specs.Raw.{Raw, raw_end, raw_byte, raw_nested, is_parenthesis, spell_raw, IsRaw, spell_raw_open, AllRaw}
 use Rattle.mcs_reader.specs.Scan.{after_raw}
 
@@ -14,17 +15,13 @@ raw-close depth text = refl
 pub raw-close_last : (text : List ℕ) → after_raw zero (41 ∷ text) ≡ Ok text
 raw-close_last text = refl
 
-neither_is : (x y : Bool) → (x || y) ≡ false → (x ≡ false) × (y ≡ false)
-neither_is true y h = absurd (cc)
-neither_is false y h = (refl, h)
-
 pub raw-byte : (depth b : ℕ) (text : List ℕ) → is_parenthesis b ≡ false → after_raw depth (b ∷ text) ≡ after_raw depth text
 raw-byte zero b text is =
-    let parts = neither_is (b == 40) (b == 41) is in
+    let parts = or_parts (b == 40) (b == 41) is in
     ap (λ t. cond t (after_raw 1 text) (cond (b == 41) (Ok text) (after_raw zero text))) parts.0
     ∙ ap (λ t. cond t (Ok text) (after_raw zero text)) parts.1
 raw-byte (suc depth) b text is =
-    let parts = neither_is (b == 40) (b == 41) is in
+    let parts = or_parts (b == 40) (b == 41) is in
     ap (λ t. cond t (after_raw (suc (suc depth)) text) (cond (b == 41) (after_raw depth text) (after_raw (suc depth) text))) parts.0
     ∙ ap (λ t. cond t (after_raw depth text) (after_raw (suc depth) text)) parts.1
 

@@ -2,6 +2,7 @@
 use Rattle.std.proofs.Common.{◌≡◌, ℕ, ◌+◌, ◌==◌, ◌&&◌, not, Bool, true, false, cond, List, [], ◌∷◌, ◌++◌, refl, ◌∙◌, ap, subst, arith}
 use Rattle.std.proofs.lemmas.Bool.Decides.{nat_tests}
 use Rattle.std.specs.List.{list_all}
+use Rattle.std.proofs.lemmas.Bool.{and_parts}
 use Rattle.mcs_reader.specs.Byte.{line_end}
 use Rattle.mcs_reader.specs.Line.{line_ends, begins_statement}
 use Rattle.mcs_reader.specs.Verb.{begins_with}
@@ -30,10 +31,6 @@ begins_with-after_run test (b ∷ text) = by_test (test b) refl (begins_with-aft
   by_test : (t : Bool) → test b ≡ t → begins_with test (after_run test text) ≡ false → begins_with test (cond t (after_run test text) (b ∷ text)) ≡ false
   by_test true e after = after
   by_test false e after = e
-
-pub and_parts : (x y : Bool) → (x && y) ≡ true → (x ≡ true) × (y ≡ true)
-and_parts true y h = (refl, h)
-and_parts false y h = absurd (cc)
 
 pub run_is : (test : ℕ → Bool) (front text : List ℕ) → list_all test front ≡ true → begins_with test text ≡ false → run test (front ++ text) ≡ front
 run_is test [] [] all ends = refl

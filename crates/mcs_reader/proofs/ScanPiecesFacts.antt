@@ -1,6 +1,7 @@
 -- What the machine finds in the pieces of a statement and of a list.
 use Rattle.std.proofs.Common.{◌≡◌, ℕ, zero, suc, ◌==◌, ◌&&◌, Bool, true, false, cond, List, [], ◌∷◌, ◌++◌, length, Option, Some, None, option_map, Ok, Err, refl, sym, ◌∙◌, ap, append_assoc, append-nil}
 use Rattle.std.specs.List.{list_all}
+use Rattle.std.proofs.lemmas.Bool.{and_parts}
 use Rattle.mcs_reader.specs.Byte.{is_name_byte, belongs_to_value}
 use Rattle.mcs_reader.specs.Comment.{begins_comment, somewhere, IsCommentText}
 use Rattle.mcs_reader.specs.declared.byte.ByteRole.TheVariants.{Gap, Name, Other}
@@ -16,7 +17,7 @@ use Rattle.mcs_reader.proofs.ScanFacts.{pass-front, passed, scan-gap, scan-comme
 use Rattle.mcs_reader.proofs.RoleFacts.{both, role_of-name, not_name, first_of_word, role_of-40, role_of-41, role_of-43, role_of-46}
 use Rattle.mcs_reader.proofs.CommentFacts.{here_of, plain, value_run_is, after_comment-ends, after_comment-open}
 use Rattle.mcs_reader.proofs.RawFacts.{after_raw-ends, after_raw-open}
-use Rattle.mcs_reader.proofs.RunFacts.{run_is, and_parts}
+use Rattle.mcs_reader.proofs.RunFacts.{run_is}
 
 abbrev pub begins_name : List ℕ → Bool
 begins_name text = begins_with is_name_byte text

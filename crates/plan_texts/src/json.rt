@@ -1,4 +1,4 @@
-//! A plan as JSON.
+//! The plan for a report as compact JSON.
 ghost use Rattle.std.specs.Prelude.{◌≡◌, IfOk, false, map};
 ghost use Rattle.serde_json.specs.View.{items_of, items_view, view};
 ghost use Rattle.serde_json.specs.Written.{compact_text, has_float};

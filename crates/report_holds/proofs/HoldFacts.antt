@@ -3,7 +3,7 @@ use Rattle.std.proofs.Common.{◌≡◌, ◌∙◌, ◌&&◌, ◌||◌, ◌+◌,
 use Rattle.std.specs.BTreeMap.{insert_entry, is_at}
 use Rattle.std.specs.BTreeSet.{insert_key}
 use Rattle.std.specs.Cmp.{IsTotalOrder}
-use Rattle.std.specs.List.{AllByRecursion, cons_option, filter_map, fold, list_any}
+use Rattle.std.specs.List.{AllByRecursion, cons_option, fold, list_any}
 use Rattle.std.specs.List.Sorted.{IsStrictlySortedBy}
 use Rattle.std.specs.Map.{lookup, remove_entry}
 use Rattle.std.specs.Ordering.{is_eq, match_ordering, ordering_then}
@@ -14,10 +14,13 @@ use Rattle.std.proofs.lemmas.List.{append-nil, map-append, take_more}
 use Rattle.std.proofs.lemmas.List.Sums.{fold-append}
 use Rattle.std.proofs.lemmas.Map.Keys.{sorted_head, sorted_tail}
 use Rattle.std.proofs.lemmas.Map.Lookups.{CmpEqualImpliesEq}
+use Rattle.std.proofs.lemmas.Bool.{and_from}
+use Rattle.lemmas.proofs.ListFacts.{filter_map_push}
+use Rattle.lemmas.proofs.TestFacts.{equal_is}
 use Rattle.holddata.proofs.InsertFacts.{all_below, any_puts, sorted_puts}
+use Rattle.holddata.proofs.KeyFacts.{then_eq}
 use Rattle.catalogue.specs.Ids.{id_cmp, same_id}
 use Rattle.catalogue.proofs.IdFacts.{exact_ids, ids_total, itself, same_back, same_is}
-use Rattle.chains.proofs.SearchFacts.{both_true}
 use Rattle.report_holds.specs.Holds.{HoldLists, entries_of, hold_cmp, hold_in, hold_or, holds_in, resolvers_in, same_hold, with_resolver}
 use Rattle.report_holds.specs.declared.holds.HoldOn.{HoldOn}
 use Rattle.report_holds.specs.declared.holds.HoldRow.{HoldRow}
@@ -36,22 +39,12 @@ exact_holds a b e = go (id_cmp a.sysmod b.sysmod) refl e where
   go Equal is e =
       ap (λ s. record { sysmod = s; reason = a.reason }) (exact_ids a.sysmod b.sysmod is) ∙ ap (λ r. record { sysmod = b.sysmod; reason = r }) (exact_ids a.reason b.reason e)
 
-both_equal : (a b : Ordering) → is_eq (ordering_then a b) ≡ (is_eq a && is_eq b)
-both_equal Less b = refl
-both_equal Equal b = refl
-both_equal Greater b = refl
-
 -- one hold is known by its order
 pub same_hold_is : (a b : HoldOn) → same_hold a b ≡ is_eq (hold_cmp b a)
 same_hold_is a b =
     ap (λ x. x && same_id a.reason b.reason) (same_back a.sysmod b.sysmod ∙ same_is b.sysmod a.sysmod)
     ∙ ap (λ x. is_eq (id_cmp b.sysmod a.sysmod) && x) (same_back a.reason b.reason ∙ same_is b.reason a.reason)
-    ∙ sym (both_equal (id_cmp b.sysmod a.sysmod) (id_cmp b.reason a.reason))
-
-equal_is : (o : Ordering) → is_eq o ≡ true → o ≡ Equal
-equal_is Less e = absurd (cc e)
-equal_is Equal e = refl
-equal_is Greater e = absurd (cc e)
+    ∙ sym (then_eq (id_cmp b.sysmod a.sysmod) (id_cmp b.reason a.reason))
 
 -- ---- entries under their keys
 
@@ -114,13 +107,6 @@ module _ {X : Type 0} where
 
 -- ---- one more row
 
-filter_map_push : {X Y : Type 0} (f : X → Option Y) (xs : List X) (x : X) → filter_map f xs ++ cons_option (f x) [] ≡ filter_map f (xs ++ x ∷ [])
-filter_map_push f [] x = refl
-filter_map_push {X} {Y} f (y ∷ ys) x = go (f y) (filter_map_push f ys x) where
-  go : (o : Option Y) → filter_map f ys ++ cons_option (f x) [] ≡ filter_map f (ys ++ x ∷ []) → cons_option o (filter_map f ys) ++ cons_option (f x) [] ≡ cons_option o (filter_map f (ys ++ x ∷ []))
-  go None rest = rest
-  go (Some z) rest = ap (λ l. z ∷ l) rest
-
 module _ (rows : List HoldRow) (row : HoldRow) where
   one_more : holds_in (rows ++ row ∷ []) ≡ insert_key hold_cmp (holds_in rows) row.hold
   one_more =
@@ -137,14 +123,14 @@ module _ (rows : List HoldRow) (row : HoldRow) where
   other_stays : (hold : HoldOn) → is_eq (hold_cmp row.hold hold) ≡ false → hold_in rows hold ≡ hold_in (rows ++ row ∷ []) hold
   other_stays hold apart =
       let off : same_hold row.hold hold ≡ false = ap (λ b. b && same_id row.hold.reason hold.reason) (same_is row.hold.sysmod hold.sysmod) ∙ ap (λ b. is_eq (id_cmp row.hold.sysmod hold.sysmod) && b) (same_is row.hold.reason hold.reason)
-      ∙ sym (both_equal (id_cmp row.hold.sysmod hold.sysmod) (id_cmp row.hold.reason hold.reason)) ∙ apart in
+      ∙ sym (then_eq (id_cmp row.hold.sysmod hold.sysmod) (id_cmp row.hold.reason hold.reason)) ∙ apart in
       let P : Bool → Type 0 = λ b. resolvers_in rows hold ++ cons_option (cond b row.resolver None) [] ≡ resolvers_in rows hold in
       ap (λ l. record { sysmod = hold.sysmod; reason = hold.reason; resolvers = l }) (sym (subst P (sym off) (append-nil (resolvers_in rows hold))) ∙ sym (more_resolvers hold))
 
   -- the one that it names has one more resolver
   own_more : with_resolver (hold_in rows row.hold) row.resolver ≡ hold_in (rows ++ row ∷ []) row.hold
   own_more =
-      let on : same_hold row.hold row.hold ≡ true = both_true (same_id row.hold.sysmod row.hold.sysmod) (same_id row.hold.reason row.hold.reason) (itself row.hold.sysmod) (itself row.hold.reason) in
+      let on : same_hold row.hold row.hold ≡ true = and_from (same_id row.hold.sysmod row.hold.sysmod) (same_id row.hold.reason row.hold.reason) (itself row.hold.sysmod) (itself row.hold.reason) in
       let P : Bool → Type 0 = λ b. resolvers_in rows row.hold ++ cons_option row.resolver [] ≡ resolvers_in rows row.hold ++ cons_option (cond b row.resolver None) [] in
       ap (λ l. record { sysmod = row.hold.sysmod; reason = row.hold.reason; resolvers = l }) (subst P (sym on) refl ∙ sym (more_resolvers row.hold))
 

@@ -1,14 +1,13 @@
 -- What is said of the resolvers of a report's holds is so.
-use Rattle.std.proofs.Common.{◌≡◌, ◌∙◌, ℕ, List, [], ◌∷◌, Bool, true, false, cond, Option, Some, None, map, refl, sym, ap, subst, inl, inr}
-use Rattle.std.specs.List.{Contains, cons_option, filter_map, flat_map}
+use Rattle.std.proofs.Common.{◌≡◌, ℕ, List, Bool, true, false, cond, Option, Some, None, map, refl, sym, subst}
+use Rattle.std.specs.List.{Contains}
 use Rattle.std.specs.Option.{option_map}
-use Rattle.std.proofs.lemmas.List.Elements.{Contains-append_cases}
+use Rattle.lemmas.proofs.ListFacts.{flat_from, made_from, map_from}
 use Rattle.zone_lists.specs.declared.zones.ZoneRow.{ZoneRow}
 use Rattle.catalogue.specs.Content.{Content}
 use Rattle.holddata.specs.declared.hold.Hold.{Hold}
 use Rattle.chains.specs.Judge.{status_of}
 use Rattle.chains.specs.Verdicts.{verdict_of}
-use Rattle.chains.proofs.SearchFacts.{first_inside, inside_cases, map_from, none_inside, rest_inside}
 use Rattle.reports.specs.ErrRows.{err_row, err_rows_of, err_rows_of_hold}
 use Rattle.reports.specs.MissingRows.{missing_row, missing_rows_of, missing_rows_of_category}
 use Rattle.reports.specs.Resolvers.{is_received, status_in}
@@ -18,38 +17,6 @@ use Rattle.report_holds.specs.Holds.{AreTold, HoldLists, hold_in, holds_in, hold
 use Rattle.report_holds.specs.Rows.{err_hold_row, err_holds_of, missing_hold_row, missing_holds_of, resolver_by}
 use Rattle.report_holds.specs.declared.holds.HoldRow.{HoldRow}
 use Rattle.report_holds.specs.declared.holds.Resolver.{Resolver}
-
--- ---- lists
-
-record IsMade {A B : Type 0} (f : A → Option B) (xs : List A) (y : B) : Type 0 where
-  from : A
-  member : Contains xs from
-  is : f from ≡ Some y
-
-made_from : {A B : Type 0} (f : A → Option B) (xs : List A) (y : B) → Contains (filter_map f xs) y → IsMade f xs y
-made_from f [] y inside = absurd (none_inside y inside)
-made_from {A} {B} f (z ∷ zs) y inside = go (f z) refl (λ (rest : Contains (filter_map f zs) y). made_from f zs y rest) inside where
-  later : IsMade f zs y → IsMade f (z ∷ zs) y
-  later made = record { from = made.from; member = rest_inside z made.from zs made.member; is = made.is }
-
-  go : (o : Option B) → f z ≡ o → (Contains (filter_map f zs) y → IsMade f zs y) → Contains (cons_option o (filter_map f zs)) y → IsMade f (z ∷ zs) y
-  go None e further inside = later (further inside)
-  go (Some w) e further inside = elim (inside_cases w y (filter_map f zs) inside) [
-    | inl same ↦ record { from = z; member = first_inside z zs; is = e ∙ ap Some same }
-    | inr rest ↦ later (further rest)
-  ]
-
-record IsFrom {A B : Type 0} (f : A → List B) (xs : List A) (y : B) : Type 0 where
-  from : A
-  listed : Contains xs from
-  has : Contains (f from) y
-
-flat_from : {A B : Type 0} (f : A → List B) (xs : List A) (y : B) → Contains (flat_map f xs) y → IsFrom f xs y
-flat_from f [] y inside = absurd (none_inside y inside)
-flat_from f (x ∷ xs) y inside = elim (Contains-append_cases (f x) (flat_map f xs) y inside) [
-  | inl first ↦ record { from = x; listed = first_inside x xs; has = first }
-  | inr later ↦ (let rest = flat_from f xs y later in record { from = rest.from; listed = rest_inside x rest.from xs rest.listed; has = rest.has })
-]
 
 -- ---- what is said of resolvers
 

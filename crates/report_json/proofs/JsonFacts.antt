@@ -1,52 +1,22 @@
 -- Values and the data that they stand for.
-use Rattle.std.proofs.Common.{◌≡◌, ◌∙◌, ◌||◌, ◌+◌, ◌<◌, ℕ, Bool, List, [], ◌∷◌, ◌++◌, false, Option, Some, None, length, get_or, take, map, refl, sym, ap}
-use Rattle.std.proofs.lemmas.List.{map-append, take_more}
-use Rattle.mcs_reader.specs.Id.{text_of}
-use Rattle.serde_json.specs.Data.{Data, item, string}
-use Rattle.serde_json.specs.View.{items_of, items_view, view}
+use Rattle.std.proofs.Common.{◌≡◌, ℕ, Bool, List, false, Option, Some, None, map, refl}
+use Rattle.serde_json.specs.View.{items_of}
 use Rattle.serde_json.specs.Written.{has_float, items_have_float}
-use Rattle.serde_json.specs.declared.value.Value.{Value}
 use Rattle.holddata.specs.HoldBook.{hold_under}
 use Rattle.holddata.specs.declared.hold.Hold.{Hold}
 use Rattle.catalogue.specs.Content.{Content, record_of}
 use Rattle.catalogue.specs.declared.sysmod.Sysmod.{Sysmod}
 use Rattle.chains.specs.declared.verdict.Status.{Status}
-use Rattle.reports.specs.ChainText.{texts}
 use Rattle.reports.specs.declared.rows.ErrRow.{ErrRow}
 use Rattle.reports.specs.declared.rows.MissingRow.{MissingRow}
+use Rattle.reports.proofs.ChainFacts.{items_plain, texts_plain}
+pub use Rattle.reports.proofs.ChainFacts.{value_more}
 use Rattle.report_holds.specs.Holds.{HoldLists}
 use Rattle.report_holds.specs.Rows.{missing_holds_of}
 use Rattle.report_json.specs.Dates.{date_data, day_data}
 use Rattle.report_json.specs.Json.{categories_of, category_data, class_of, dated_of, err_data, err_data_with, err_key, err_report_data, err_sysmods_in, fix_key, fmid_of, fmids_data, hold_data, hold_data_with, id_data, missing_data, missing_data_with, missing_report_data, missing_sysmods_in, received_data, status_data, sysmod_data, sysmod_data_with, zone_data, zones_data}
 
--- ---- one more value
-
-pub value_more : {X : Type 0} (f : X → Data) (xs : List X) (i : ℕ) (x : X) (old new : List Value) (value : Value) → i < length xs → x ≡ get_or xs i x
-    → map view old ≡ map f (take i xs) → view value ≡ f x → new ≡ old ++ value ∷ [] → map view new ≡ map f (take (i + 1) xs)
-value_more f xs i x old new value below at was is now =
-    ap (map view) now
-    ∙ map-append view old (value ∷ [])
-    ∙ ap (λ l. l ++ view value ∷ []) was
-    ∙ ap (λ v. map f (take i xs) ++ v ∷ []) is
-    ∙ sym (map-append f (take i xs) (x ∷ []))
-    ∙ ap (map f) (sym (take_more xs i x below ∙ ap (λ z. take i xs ++ z ∷ []) (sym at)))
-
-texts_are : (ids : List (List ℕ)) → items_of (map (λ id. string (text_of id)) ids) ≡ texts ids
-texts_are [] = refl
-texts_are (id ∷ ids) = ap (item (string (text_of id))) (texts_are ids)
-
-pub texts_by : (values : List Value) (ids : List (List ℕ)) → map view values ≡ map (λ id. string (text_of id)) ids → items_view values ≡ texts ids
-texts_by values ids are = ap items_of are ∙ texts_are ids
-
 -- ---- no number is a float
-
-texts_plain : (ids : List (List ℕ)) → items_have_float (texts ids) ≡ false
-texts_plain [] = refl
-texts_plain (id ∷ ids) = texts_plain ids
-
-items_plain : {X : Type 0} (f : X → Data) → ((x : X) → has_float (f x) ≡ false) → (xs : List X) → items_have_float (items_of (map f xs)) ≡ false
-items_plain f plain [] = refl
-items_plain f plain (x ∷ xs) = ap (λ b. b || items_have_float (items_of (map f xs))) (plain x) ∙ items_plain f plain xs
 
 id_plain : (id : Option (List ℕ)) → has_float (id_data id) ≡ false
 id_plain None = refl

@@ -1,12 +1,14 @@
 -- Each row of a report has its hold.
-use Rattle.std.proofs.Common.{◌≡◌, ◌∙◌, ◌⊎◌, ℕ, true, List, [], ◌∷◌, Some, refl, sym, ap, subst, inl, inr}
+use Rattle.std.proofs.Common.{◌≡◌, ◌∙◌, ◌⊎◌, ℕ, List, [], ◌∷◌, Some, refl, sym, ap, subst, inl, inr}
 use Rattle.std.specs.BTreeSet.{insert_key}
 use Rattle.std.specs.List.{All, Contains, flat_map, fold, list_any}
 use Rattle.std.specs.Option.{is_some}
-use Rattle.std.specs.Ordering.{is_eq, match_ordering}
+use Rattle.std.specs.Ordering.{match_ordering}
 use Rattle.std.specs.declared.cmp.Ordering.{Ordering}
 use Rattle.std.specs.declared.cmp.Ordering.TheVariants.{Less, Equal, Greater}
-use Rattle.std.proofs.lemmas.List.Elements.{All-contains, Contains-append_cases, Contains-get_or}
+use Rattle.std.proofs.lemmas.List.Elements.{All-contains, Contains-get_or}
+use Rattle.lemmas.proofs.ListFacts.{first_inside, flat_from, inside_cases, kept_from, map_from, none_inside, rest_inside}
+use Rattle.lemmas.proofs.TestFacts.{equal_is}
 use Rattle.holddata.specs.HoldBook.{IsInKeyOrder, hold_under}
 use Rattle.holddata.specs.HoldKey.{key_cmp}
 use Rattle.holddata.specs.declared.hold.Hold.{Hold}
@@ -15,7 +17,6 @@ use Rattle.holddata.specs.declared.key.Kind.{Kind}
 use Rattle.holddata.specs.declared.key.Kind.TheVariants.{ErrorHold, FixcatHold}
 use Rattle.holddata.proofs.KeyFacts.{itself, same_is}
 use Rattle.zone_lists.specs.Pattern.{does_match}
-use Rattle.chains.proofs.SearchFacts.{first_inside, inside_cases, kept_from, map_from, none_inside, rest_inside}
 use Rattle.reports.specs.ErrRows.{by_fmid, err_row, err_rows_of, err_rows_of_hold, hold_cmp}
 use Rattle.reports.specs.MissingRows.{Missing, by_category, categories_asked, missing_cmp, missing_row, missing_rows_of, missing_rows_of_category}
 use Rattle.reports.specs.declared.rows.ErrRow.{ErrRow}
@@ -55,27 +56,10 @@ puts_from {K} cmp ks (x ∷ xs) y inside = elim (puts_from cmp (insert_key cmp k
 sorted_from : {K : Type 0} (cmp : K → K → Ordering) (xs : List K) (y : K) → Contains (fold (insert_key cmp) [] xs) y → Contains xs y
 sorted_from cmp xs y inside = elim (puts_from cmp [] xs y inside) [ inl none ↦ absurd (none_inside y none) | inr is ↦ is ]
 
-record IsFrom {A B : Type 0} (f : A → List B) (xs : List A) (y : B) : Type 0 where
-  from : A
-  listed : Contains xs from
-  has : Contains (f from) y
-
-flat_from : {A B : Type 0} (f : A → List B) (xs : List A) (y : B) → Contains (flat_map f xs) y → IsFrom f xs y
-flat_from f [] y inside = absurd (none_inside y inside)
-flat_from f (x ∷ xs) y inside = elim (Contains-append_cases (f x) (flat_map f xs) y inside) [
-  | inl first ↦ record { from = x; listed = first_inside x xs; has = first }
-  | inr later ↦ (let rest = flat_from f xs y later in record { from = rest.from; listed = rest_inside x rest.from xs rest.listed; has = rest.has })
-]
-
 -- ---- a hold under its key
 
-equal_by : (o : Ordering) → is_eq o ≡ true → o ≡ Equal
-equal_by Less is = absurd (cc is)
-equal_by Equal is = refl
-equal_by Greater is = absurd (cc is)
-
 own_key : (key : HoldKey) → key_cmp key key ≡ Equal
-own_key key = equal_by (key_cmp key key) (same_is key key ∙ itself key)
+own_key key = equal_is (key_cmp key key) (same_is key key ∙ itself key)
 
 under_own : (holds : List Hold) (hold : Hold) → IsInKeyOrder holds → Contains holds hold → hold_under holds hold.key ≡ Some hold
 under_own holds hold ascend inside =

@@ -8,7 +8,7 @@
 //! ```
 //! use report_json::published_json;
 //! let text = published_json(alloc, 7, 4)?;
-//! assert!(rt; text.as_slice() == b"{\"holds\":4,\"sysmods\":7}");
+//! assert!(rt; text.as_slice() == b"{\"holds\":4,\"sysmods\":7}".as_slice());
 //! ```
 #![tactic(auto)]
 

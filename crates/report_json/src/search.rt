@@ -3,10 +3,9 @@ ghost use Rattle.std.specs.Prelude.{◌≡◌, length};
 ghost use Rattle.std.specs.List.Sorted.{IsBinarySearchResult, IsSearchInRange};
 ghost use Rattle.std.specs.Option.{option_copied};
 ghost use Rattle.holddata.specs.HoldBook.{IsInKeyOrder, hold_under};
-ghost use Rattle.holddata.specs.HoldKey.{key_cmp, kind_order};
+ghost use Rattle.holddata.specs.HoldKey.{key_cmp};
 
-use holddata::{Hold, HoldKey, Kind};
-use std::cmp::Ordering;
+use holddata::{Hold, HoldKey, key_cmp};
 
 /// The hold under a key. It is found by halves, and takes no memory.
 pub(crate) fn hold_under<'a>(holds: &'a [Hold], key: &HoldKey) -> Option<&'a Hold>
@@ -25,24 +24,4 @@ fn hold_index(holds: &[Hold], key: &HoldKey) -> Result<usize, usize>
     ensures found { IsBinarySearchResult (λ hold. key_cmp hold.key key.now) holds.now result }
 {
     holds.binary_search_by(|hold| key_cmp(&hold.key, key))
-}
-
-fn key_cmp(a: &HoldKey, b: &HoldKey) -> Ordering
-    ensures { result ≡ key_cmp a.now b.now }
-{
-    a.sysmod
-        .cmp(&b.sysmod)
-        .then(kind_order(a.kind).cmp(&kind_order(b.kind)))
-        .then(a.reason.cmp(&b.reason))
-}
-
-fn kind_order(kind: Kind) -> u8
-    ensures { result ≡ kind_order kind }
-{
-    match kind {
-        Kind::ErrorHold => 0,
-        Kind::SystemHold => 1,
-        Kind::UserHold => 2,
-        Kind::FixcatHold => 3,
-    }
 }

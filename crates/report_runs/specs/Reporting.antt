@@ -1,7 +1,7 @@
 -- What a report from files makes of its inputs.
-use Rattle.std.specs.Prelude.{◌≡◌, ◌⊎◌, ◌++◌, ℕ, List, Option, Some, None, Result, Ok, Err, IsSome, codes, decimal, map, option_map, slice_get, string_bytes}
+use Rattle.std.specs.Prelude.{◌≡◌, ◌⊎◌, ◌++◌, ℕ, List, Option, Some, None, Result, Ok, Err, IsSome, codes, map, option_map, slice_get, string_bytes}
 use Rattle.std.specs.Io.KnownBytes.{Appends, Keeps}
-use Rattle.faults.specs.FaultText.{place_text, text_of}
+use Rattle.faults.specs.FaultText.{text_of}
 use Rattle.faults.specs.declared.any.AnyFault.{AnyFault}
 use Rattle.file_reports.specs.Inputs.{Inputs, IsFirstFault, IsGiven, Refused, Said}
 use Rattle.file_reports.specs.Lists.{inputs_of}
@@ -10,6 +10,7 @@ use Rattle.file_reports.specs.declared.fault.Input.{Input}
 use Rattle.file_reports.specs.declared.fault.Input.TheVariants.{Zone, Categories, Received, Publication}
 use Rattle.file_reports.specs.declared.fault.InputFault.{InputFault}
 use Rattle.transfer.specs.Transfer.{AppendsFront}
+use Rattle.run_parts.specs.Outputs.{line_in}
 use Rattle.run_parts.specs.ProgramFault.{of_program, status_of}
 use Rattle.run_parts.specs.declared.fault.ProgramFault.TheVariants.{NotWritten}
 use Rattle.run_parts.specs.declared.report_files.ReportFiles.{ReportFiles}
@@ -47,10 +48,6 @@ name_of files (Publication index) = slice_get (map string_bytes files.publicatio
 -- each input that is given stands in a file that has a name
 abbrev pub AreNamed : ReportFiles → Inputs → Type 0
 AreNamed files inputs = (input : Input) → IsGiven inputs input → IsSome (name_of files input)
-
--- the line of a fault, with the file that it is in
-abbrev pub line_in : AnyFault → List ℕ → List ℕ
-line_in fault name = codes "FAULT " ++ decimal fault.number ++ place_text fault.place ++ codes " " ++ name ++ codes "\n"
 
 -- what standard error gets of a fault: its line with the name of the file that it is in, or without one, where it is in none
 abbrev pub IsToldOf : ReportFiles → AnyFault → Option Input → Option (List ℕ) → Option (List ℕ) → Type 0

@@ -1,15 +1,14 @@
 //! `errsysmods`, `missingfix` and `chain`: reports from files, with no desk.
-ghost use Rattle.std.specs.Prelude.{◌≡◌, ◌-◌, ◌++◌, codes, length, map, option_map, string_bytes, take, IfErr, IfOk, IsSome, None, Ok, Some};
+ghost use Rattle.std.specs.Prelude.{◌≡◌, ◌++◌, codes, map, option_map, string_bytes, IfErr, IfOk, IsSome, None, Ok, Some};
 ghost use Rattle.file_reports.specs.Inputs.{IsOutOfMemory, IsFirstFault};
-ghost use Rattle.transfer.specs.Transfer.{AppendsFront};
 ghost use Rattle.file_reports.specs.Lists.{inputs_of};
-ghost use Rattle.report_runs.specs.Reporting.{AreNamed, HasName, IsReportOutput, IsReportRun, IsToldOf, input_fault_in, line_in, made_of, name_of};
+ghost use Rattle.report_runs.specs.Reporting.{AreNamed, HasName, IsReportOutput, IsReportRun, IsToldOf, input_fault_in, made_of, name_of};
 
 use catalogue::SourceFault;
 use faults::AnyFault;
 use file_reports::{Input, InputFault, Lists, chain_report, err_report, missing_report};
 use mcs_reader::Id;
-use run_parts::{ReportFiles, exit_status, report, tell, write_text};
+use run_parts::{ReportFiles, exit_status, report, tell_in, write_text};
 use std::alloc::Global;
 use std::io::{self, Write};
 
@@ -129,24 +128,6 @@ fn tell_fault<E: Write>(errors: &mut E, files: &ReportFiles, told: InputFault) -
         None => report(errors, told.fault),
         Some(input) => tell_in(errors, told.fault, name_in(files, input)),
     }
-}
-
-// Tells a fault in the file of this name. It takes no memory.
-fn tell_in<E: Write>(errors: &mut E, fault: AnyFault, name: &str) -> io::Result<()>
-    ensures { AppendsFront (E.contents errors.old) (E.contents errors.new) (line_in fault name.now) }
-{
-    let line = fault.text();
-    tell(errors, without_end(line.as_str().as_bytes()))?;
-    tell(errors, b" ")?;
-    tell(errors, name.as_bytes())?;
-    tell(errors, b"\n")
-}
-
-// A line without its last byte.
-fn without_end(line: &[u8]) -> &[u8]
-    ensures { result.now ≡ take (length line.now - 1) line.now }
-{
-    &line[..line.len().saturating_sub(1)]
 }
 
 // The name of the file that an input stands in.

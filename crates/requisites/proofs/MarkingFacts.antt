@@ -1,11 +1,11 @@
 -- Walks by picks, over nodes that are marked.
-use Rattle.std.proofs.Common.{◌≡◌, ◌↔◌, ◌∙◌, ◌⊎◌, ℕ, ◌+◌, ◌<◌, ◌≤◌, List, [], ◌∷◌, ◌++◌, Bool, true, false, cond, Option, length, get_or, set, replicate, take, refl, sym, ap, subst, inl, inr, arith}
+use Rattle.std.proofs.Common.{◌≡◌, ◌↔◌, ◌∙◌, ℕ, ◌+◌, ◌<◌, ◌≤◌, List, [], ◌∷◌, ◌++◌, Bool, true, false, cond, Option, length, get_or, set, replicate, take, refl, sym, ap, subst, inl, inr, arith}
 use Rattle.std.specs.List.{Contains, filter}
 use Rattle.std.specs.List.Sorted.{IsStrictlyIncreasing}
 use Rattle.std.proofs.lemmas.Bool.{cases_eq, cases_lt}
 use Rattle.std.proofs.lemmas.Grind.{common_steps}
 use Rattle.std.proofs.lemmas.List.{append-nil, append_assoc, get_or-replicate, get_or-set_other, get_or-set_same, get_or_append_left, get_or_past, get_or_push, length-append, length-set, take_all, take_more}
-use Rattle.std.proofs.lemmas.List.Elements.{Contains-append_cases, Contains-append_left, Contains-append_right, Contains-get_or, Contains-push, Contains-push_cases}
+use Rattle.std.proofs.lemmas.List.Elements.{Contains-append_cases, Contains-append_left, Contains-get_or, Contains-push, Contains-push_cases}
 use Rattle.requisites.specs.Marking.{AreChosenMarks, AreMarked, IsPicking}
 use Rattle.requisites.specs.Nodes.{IsMarked, mark_of, world}
 use Rattle.requisites.specs.Picks.{ArePicksFor}
@@ -14,13 +14,12 @@ use Rattle.requisites.specs.World.{AreChosenPlans, IsChosen, IsChosenPlan, IsGoo
 use Rattle.requisites.specs.declared.nodes.Nodes.{Nodes}
 use Rattle.requisites.proofs.LeadsFacts.{leads_closed, leads_itself, leads_more}
 use Rattle.requisites.proofs.OrderFacts.{Takes, drawn_both, takes}
+use Rattle.requisites.proofs.PlanFacts.{contains_cases, contains_first, contains_rest}
+use Rattle.requisites.proofs.SpreadFacts.{in_one}
 use Rattle.requisites.proofs.VerdictFacts.{good_inside, good_of_pick}
 
 none_inside : (x : ℕ) → Contains [] x → ⊥
 none_inside x inside = omega (arith, inside.1)
-
-in_one : (p q : ℕ) → Contains (p ∷ []) q → p ≡ q
-in_one p q inside = elim (Contains-push_cases [] p q inside) [ inl none ↦ absurd (none_inside q none) | inr same ↦ same ]
 
 no_marks : (len p : ℕ) → IsMarked (replicate len false) p → ⊥
 no_marks len p marked = let on : mark_of (replicate len false) p ≡ true = marked.is in let off = never in cc where
@@ -120,18 +119,6 @@ pub record AreGoodOnes (nodes : Nodes) (starts good : List ℕ) : Type 0 where
   pub each : (x : ℕ) → Contains good x → Contains starts x × IsGood (world nodes) x
   pub whole : (x : ℕ) → Contains starts x → IsGood (world nodes) x → Contains good x
 
-first_inside : (x : ℕ) (xs : List ℕ) → Contains (x ∷ xs) x
-first_inside x xs = Contains-append_left (x ∷ []) xs x (Contains-push [] x)
-
-rest_inside : (x y : ℕ) (xs : List ℕ) → Contains xs y → Contains (x ∷ xs) y
-rest_inside x y xs inside = Contains-append_right (x ∷ []) xs y inside
-
-inside_cases : (x y : ℕ) (xs : List ℕ) → Contains (x ∷ xs) y → (x ≡ y) ⊎ Contains xs y
-inside_cases x y xs inside = elim (Contains-append_cases (x ∷ []) xs y inside) [
-  | inl first ↦ inl (in_one x y first)
-  | inr later ↦ inr later
-]
-
 module _ (nodes : Nodes) (marks : List Bool) (givers : List (Option ℕ)) (are : AreGood nodes marks givers) where
   pub good_ones : (starts : List ℕ) → AreGoodOnes nodes starts (filter (λ node. mark_of marks node) starts)
   good_ones [] = record { each = λ x inside. absurd (none_inside x inside); whole = λ x inside is. absurd (none_inside x inside) }
@@ -139,18 +126,18 @@ module _ (nodes : Nodes) (marks : List Bool) (givers : List (Option ℕ)) (are :
     go : AreGoodOnes nodes starts (filter (λ node. mark_of marks node) starts) → (b : Bool) → mark_of marks s ≡ b
         → AreGoodOnes nodes (s ∷ starts) (cond b (s ∷ filter (λ node. mark_of marks node) starts) (filter (λ node. mark_of marks node) starts))
     go rest true on = record {
-      each = λ x inside. elim (inside_cases s x (filter (λ node. mark_of marks node) starts) inside) [
-        | inl same ↦ (let P : ℕ → Type 0 = λ k. Contains (s ∷ starts) k × IsGood (world nodes) k in subst P same (first_inside s starts, are.marked s (record { is = on })))
-        | inr later ↦ (let found = rest.each x later in (rest_inside s x starts found.0, found.1))
+      each = λ x inside. elim (contains_cases s x (filter (λ node. mark_of marks node) starts) inside) [
+        | inl same ↦ (let P : ℕ → Type 0 = λ k. Contains (s ∷ starts) k × IsGood (world nodes) k in subst P same (contains_first s starts, are.marked s (record { is = on })))
+        | inr later ↦ (let found = rest.each x later in (contains_rest s x starts found.0, found.1))
       ];
-      whole = λ x inside is. elim (inside_cases s x starts inside) [
-        | inl same ↦ (let P : ℕ → Type 0 = λ k. Contains (s ∷ filter (λ node. mark_of marks node) starts) k in subst P same (first_inside s (filter (λ node. mark_of marks node) starts)))
-        | inr later ↦ rest_inside s x (filter (λ node. mark_of marks node) starts) (rest.whole x later is)
+      whole = λ x inside is. elim (contains_cases s x starts inside) [
+        | inl same ↦ (let P : ℕ → Type 0 = λ k. Contains (s ∷ filter (λ node. mark_of marks node) starts) k in subst P same (contains_first s (filter (λ node. mark_of marks node) starts)))
+        | inr later ↦ contains_rest s x (filter (λ node. mark_of marks node) starts) (rest.whole x later is)
       ];
     }
     go rest false off = record {
-      each = λ x inside. (let found = rest.each x inside in (rest_inside s x starts found.0, found.1));
-      whole = λ x inside is. elim (inside_cases s x starts inside) [
+      each = λ x inside. (let found = rest.each x inside in (contains_rest s x starts found.0, found.1));
+      whole = λ x inside is. elim (contains_cases s x starts inside) [
         | inl same ↦ absurd (
             let P : ℕ → Type 0 = λ k. IsGood (world nodes) k in
             let on : mark_of marks s ≡ true = (are.unmarked s (subst P (sym same) is)).is in

@@ -17,13 +17,13 @@ marked_from [] k = []
 marked_from (true ∷ marks) k = k ∷ marked_from marks (k + 1)
 marked_from (false ∷ marks) k = marked_from marks (k + 1)
 
-contains_first : (k : ℕ) (rest : List ℕ) → Contains (k ∷ rest) k
+pub contains_first : (k : ℕ) (rest : List ℕ) → Contains (k ∷ rest) k
 contains_first k rest = Contains-append_left (k ∷ []) rest k (Contains-push [] k)
 
-contains_rest : (k q : ℕ) (rest : List ℕ) → Contains rest q → Contains (k ∷ rest) q
+pub contains_rest : (k q : ℕ) (rest : List ℕ) → Contains rest q → Contains (k ∷ rest) q
 contains_rest k q rest inside = Contains-append_right (k ∷ []) rest q inside
 
-contains_cases : (k q : ℕ) (rest : List ℕ) → Contains (k ∷ rest) q → (k ≡ q) ⊎ Contains rest q
+pub contains_cases : (k q : ℕ) (rest : List ℕ) → Contains (k ∷ rest) q → (k ≡ q) ⊎ Contains rest q
 contains_cases k q rest inside = elim (Contains-append_cases (k ∷ []) rest q inside) [
   | inl first ↦ elim (Contains-push_cases [] k q first) [ inl none ↦ absurd (omega (arith, none.1)) | inr e ↦ inl e ]
   | inr later ↦ inr later

@@ -6,7 +6,7 @@ use Rattle.std.specs.FinMap.{int_cmp-IsAntisymmetric}
 use Rattle.std.specs.Ordering.{int_cmp, is_eq}
 use Rattle.std.specs.declared.cmp.Ordering.{Ordering}
 use Rattle.std.specs.declared.cmp.Ordering.TheVariants.{Less, Equal, Greater}
-use Rattle.std.proofs.lemmas.Bool.{and_parts}
+use Rattle.std.proofs.lemmas.Bool.{and_parts, not-true}
 use Rattle.sqlite.specs.Effect.{Database, IsDatabase}
 use Rattle.sqlite.specs.Table.{Table}
 use Rattle.sqlite.specs.Tree.{Trees, rowid}
@@ -32,6 +32,7 @@ use Rattle.sql_tables.specs.Whole.{HaveOwnKeys, IsWhole}
 use Rattle.sql_texts.specs.Found.{shown}
 use Rattle.sql_texts.specs.Schema as made
 use Rattle.sql_texts.specs.Schema.{bureau, tables}
+use Rattle.sql_reads.proofs.LengthFacts.{all_two}
 use Rattle.sql_checks.specs.Kept.{AreKept, IsHeadRow, IsHoldRow, IsSysmodRow, IsZoneRow}
 use Rattle.sql_checks.specs.declared.table.StoreTable.TheVariants.{Caller, Sysmod, SysmodSup, SysmodCond, HoldRow, ZoneHead, ZoneRow}
 use Rattle.sql_checks.proofs.KeyFacts.{IsPlain, agree_one, agree_three, agree_two, own_keys, plain_id, plain_kind}
@@ -39,10 +40,6 @@ use Rattle.sql_checks.proofs.RowFacts.{caller_of, condition_of, head_of, hold_of
 use Rattle.sql_checks.proofs.TypedFacts.{AreRequired, full}
 
 -- ---- all of some rows
-
-both : {X : Type 0} (P Q R : X → Type 0) → ((x : X) → P x → Q x → R x) → (xs : List X) → AllByRecursion P xs → AllByRecursion Q xs → AllByRecursion R xs
-both P Q R step [] first second = tt
-both P Q R step (x ∷ xs) first second = (step x first.0 second.0, both P Q R step xs first.1 second.1)
 
 later : (P : Row → Type 0) (rows : List Row) → AllByRecursion P (columns_of rows) → AllByRecursion (λ row. P (drop 1 row)) rows
 later P [] all = tt
@@ -60,10 +57,6 @@ full_rows columns required computed (row ∷ rows) typed present =
 all_listed : {X : Type 0} (test : X → Bool) (xs : List X) → list_all test xs ≡ true → AllByRecursion (λ x. test x ≡ true) xs
 all_listed test [] h = tt
 all_listed test (x ∷ xs) h = let parts = and_parts (test x) (list_all test xs) h in (parts.0, all_listed test xs parts.1)
-
-no_clash : (b : Bool) → not b ≡ true → b ≡ false
-no_clash true h = cc
-no_clash false h = refl
 
 -- ---- the version
 
@@ -149,7 +142,7 @@ module _ (trees : Trees) (sound : IsSound bureau trees) (numbered : AreNumbered 
       → AllByRecursion (λ row. clashes plain (1 ∷ []) (trees 6) row ≡ false) rows
   free_sysmods [] h = tt
   free_sysmods (row ∷ rows) h = (
-    no_clash (clashes plain (1 ∷ []) (trees 6) row) (all_listed (λ i. not (guards i made.sysmod && clashes i.order i.columns (trees 6) row)) made.indexes h.0).1.1.1.0,
+    not-true (clashes plain (1 ∷ []) (trees 6) row) (all_listed (λ i. not (guards i made.sysmod && clashes i.order i.columns (trees 6) row)) made.indexes h.0).1.1.1.0,
     free_sysmods rows h.1,
   )
 
@@ -157,7 +150,7 @@ module _ (trees : Trees) (sound : IsSound bureau trees) (numbered : AreNumbered 
       → AllByRecursion (λ row. clashes plain (1 ∷ 2 ∷ 3 ∷ []) (trees 11) row ≡ false) rows
   free_holds [] h = tt
   free_holds (row ∷ rows) h = (
-    no_clash (clashes plain (1 ∷ 2 ∷ 3 ∷ []) (trees 11) row)
+    not-true (clashes plain (1 ∷ 2 ∷ 3 ∷ []) (trees 11) row)
         (all_listed (λ i. not (guards i made.hold_row && clashes i.order i.columns (trees 11) row)) made.indexes h.0).1.1.1.1.1.1.0,
     free_holds rows h.1,
   )
@@ -166,7 +159,7 @@ module _ (trees : Trees) (sound : IsSound bureau trees) (numbered : AreNumbered 
       → AllByRecursion (λ row. clashes plain (1 ∷ 2 ∷ []) (trees 13) row ≡ false) rows
   free_heads [] h = tt
   free_heads (row ∷ rows) h = (
-    no_clash (clashes plain (1 ∷ 2 ∷ []) (trees 13) row)
+    not-true (clashes plain (1 ∷ 2 ∷ []) (trees 13) row)
         (all_listed (λ i. not (guards i made.zone_head && clashes i.order i.columns (trees 13) row)) made.indexes h.0).1.1.1.1.1.1.1.0,
     free_heads rows h.1,
   )
@@ -175,7 +168,7 @@ module _ (trees : Trees) (sound : IsSound bureau trees) (numbered : AreNumbered 
       → AllByRecursion (λ row. clashes plain (1 ∷ 2 ∷ 3 ∷ []) (trees 15) row ≡ false) rows
   free_zone_rows [] h = tt
   free_zone_rows (row ∷ rows) h = (
-    no_clash (clashes plain (1 ∷ 2 ∷ 3 ∷ []) (trees 15) row)
+    not-true (clashes plain (1 ∷ 2 ∷ 3 ∷ []) (trees 15) row)
         (all_listed (λ i. not (guards i made.zone_row && clashes i.order i.columns (trees 15) row)) made.indexes h.0).1.1.1.1.1.1.1.1.0,
     free_zone_rows rows h.1,
   )
@@ -187,7 +180,7 @@ module _ (trees : Trees) (sound : IsSound bureau trees) (numbered : AreNumbered 
   sysmod_keys : HaveOwnKeys 1 (columns_of (trees 6))
   sysmod_keys =
       own_keys 1 (1 ∷ []) (λ row. IsPlain (column (drop 1 row) 0)) (λ a b keyed. agree_one a b (moved a 0 keyed)) (trees 6) numbered.1.1.1.0
-      (later (λ row. IsPlain (column row 0)) (trees 6) (both IsSysmodRow (λ row. length row ≡ 5) (λ row. IsPlain (column row 0))
+      (later (λ row. IsPlain (column row 0)) (trees 6) (all_two IsSysmodRow (λ row. length row ≡ 5) (λ row. IsPlain (column row 0))
       (λ row is n. let it = record_of row is n in plain_id (column row 0) it.0.id (ap (λ r. column r 0) it.2)) (columns_of (trees 6)) (kept Sysmod) full_sysmods))
       (free_sysmods (trees 6) unique.1.1.1.0)
 
@@ -195,7 +188,7 @@ module _ (trees : Trees) (sound : IsSound bureau trees) (numbered : AreNumbered 
   hold_keys =
       own_keys 3 (1 ∷ 2 ∷ 3 ∷ []) (λ row. IsPlain (column (drop 1 row) 0) × IsPlain (column (drop 1 row) 1) × IsPlain (column (drop 1 row) 2)) (λ a b keyed. agree_three a b (moved a 0 keyed.0) (moved a 1 keyed.1) (moved a 2 keyed.2)) (trees 11) numbered.1.1.1.1.1.0
       (later (λ row. IsPlain (column row 0) × IsPlain (column row 1) × IsPlain (column row 2)) (trees 11)
-      (both IsHoldRow (λ row. length row ≡ 8) (λ row. IsPlain (column row 0) × IsPlain (column row 1) × IsPlain (column row 2))
+      (all_two IsHoldRow (λ row. length row ≡ 8) (λ row. IsPlain (column row 0) × IsPlain (column row 1) × IsPlain (column row 2))
       (λ row is n. let it = hold_of row is n in (
         plain_id (column row 0) it.0.key.sysmod (ap (λ r. column r 0) it.2),
         plain_kind (column row 1) it.0.key.kind (ap (λ r. column r 1) it.2),
@@ -207,7 +200,7 @@ module _ (trees : Trees) (sound : IsSound bureau trees) (numbered : AreNumbered 
   head_keys =
       own_keys 2 (1 ∷ 2 ∷ []) (λ row. IsPlain (column (drop 1 row) 0) × IsPlain (column (drop 1 row) 1)) (λ a b keyed. agree_two a b (moved a 0 keyed.0) (moved a 1 keyed.1)) (trees 13) numbered.1.1.1.1.1.1.0
       (later (λ row. IsPlain (column row 0) × IsPlain (column row 1)) (trees 13)
-      (both IsHeadRow (λ row. length row ≡ 3) (λ row. IsPlain (column row 0) × IsPlain (column row 1))
+      (all_two IsHeadRow (λ row. length row ≡ 3) (λ row. IsPlain (column row 0) × IsPlain (column row 1))
       (λ row is n. let it = head_of row is n in (
         plain_id (column row 0) it.0.client (ap (λ r. column r 0) it.2),
         plain_id (column row 1) it.0.zone (ap (λ r. column r 1) it.2),
@@ -218,7 +211,7 @@ module _ (trees : Trees) (sound : IsSound bureau trees) (numbered : AreNumbered 
   row_keys =
       own_keys 3 (1 ∷ 2 ∷ 3 ∷ []) (λ row. IsPlain (column (drop 1 row) 0) × IsPlain (column (drop 1 row) 1) × IsPlain (column (drop 1 row) 2)) (λ a b keyed. agree_three a b (moved a 0 keyed.0) (moved a 1 keyed.1) (moved a 2 keyed.2)) (trees 15) numbered.1.1.1.1.1.1.1.0
       (later (λ row. IsPlain (column row 0) × IsPlain (column row 1) × IsPlain (column row 2)) (trees 15)
-      (both IsZoneRow (λ row. length row ≡ 4) (λ row. IsPlain (column row 0) × IsPlain (column row 1) × IsPlain (column row 2))
+      (all_two IsZoneRow (λ row. length row ≡ 4) (λ row. IsPlain (column row 0) × IsPlain (column row 1) × IsPlain (column row 2))
       (λ row is n. let it = zone_sysmod_of row is n in (
         plain_id (column row 0) it.0.client (ap (λ r. column r 0) it.2),
         plain_id (column row 1) it.0.zone (ap (λ r. column r 1) it.2),
@@ -228,16 +221,16 @@ module _ (trees : Trees) (sound : IsSound bureau trees) (numbered : AreNumbered 
 
   pub whole : IsWhole (stored_in trees)
   whole = record {
-    callers = both _ _ _ caller_of (columns_of (trees 1)) (kept Caller) full_callers;
-    sysmods = both _ _ _ record_of (columns_of (trees 6)) (kept Sysmod) full_sysmods;
+    callers = all_two _ _ _ caller_of (columns_of (trees 1)) (kept Caller) full_callers;
+    sysmods = all_two _ _ _ record_of (columns_of (trees 6)) (kept Sysmod) full_sysmods;
     sysmod_keys = sysmod_keys;
-    sups = both _ _ _ member_of (columns_of (trees 8)) (kept SysmodSup) full_sups;
-    conds = both _ _ _ condition_of (columns_of (trees 19)) (kept SysmodCond) full_conds;
-    holds = both _ _ _ hold_of (columns_of (trees 11)) (kept HoldRow) full_holds;
+    sups = all_two _ _ _ member_of (columns_of (trees 8)) (kept SysmodSup) full_sups;
+    conds = all_two _ _ _ condition_of (columns_of (trees 19)) (kept SysmodCond) full_conds;
+    holds = all_two _ _ _ hold_of (columns_of (trees 11)) (kept HoldRow) full_holds;
     hold_keys = hold_keys;
-    heads = both _ _ _ head_of (columns_of (trees 13)) (kept ZoneHead) full_heads;
+    heads = all_two _ _ _ head_of (columns_of (trees 13)) (kept ZoneHead) full_heads;
     head_keys = head_keys;
-    rows = both _ _ _ zone_sysmod_of (columns_of (trees 15)) (kept ZoneRow) full_zone_rows;
+    rows = all_two _ _ _ zone_sysmod_of (columns_of (trees 15)) (kept ZoneRow) full_zone_rows;
     row_keys = row_keys;
   }
 

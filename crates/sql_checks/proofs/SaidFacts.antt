@@ -9,7 +9,7 @@ use Rattle.holddata.specs.Date.{is_date}
 use Rattle.holddata.specs.declared.key.Kind.{Kind}
 use Rattle.holddata.specs.declared.key.Kind.TheVariants.{ErrorHold, SystemHold, UserHold, FixcatHold}
 use Rattle.mcs_reader.specs.Id.{IsId, id_of, is_id_text, padded, text_of}
-use Rattle.mcs_reader.proofs.IdFacts.{id_over_blanks, padded_over_blanks, text_over_blanks}
+use Rattle.mcs_reader.proofs.IdFacts.{id_over_blanks, padded_over_blanks}
 use Rattle.catalogue.specs.declared.sysmod.SysmodKind.{SysmodKind}
 use Rattle.catalogue.specs.declared.sysmod.SysmodKind.TheVariants.{Func, Ptf, Apar, Usermod}
 use Rattle.zone_lists.specs.Pattern.{is_pattern}
@@ -19,11 +19,9 @@ use Rattle.sqlite_value.specs.declared.value.Value.{Value}
 use Rattle.sqlite_value.specs.declared.value.Value.TheVariants.{Null, Int, Real, Text, Blob}
 use Rattle.sql_tables.specs.Fit.{AreIds}
 use Rattle.sql_tables.specs.Values.{bytes_in, categories_in, categories_of, date_in, date_value, hold_kind_in, hold_kind_value, id_in, id_value, ids_in, ids_of, ids_value, number_in, optional_id_in, optional_id_value, parts_of, patterns_in, patterns_of, state_in, state_value, sysmod_kind_in, sysmod_kind_value, texts_in, texts_value, with_number}
+use Rattle.sql_state.proofs.TextFacts.{text_again}
 
 -- ---- ids
-
-text_again : (t : List ℕ) → is_id_text t ≡ true → text_of (padded t) ≡ t
-text_again t is = ap text_of (sym (padded_over_blanks t)) ∙ text_over_blanks t t is refl
 
 id_padded : (t : List ℕ) → is_id_text t ≡ true → IsId (padded t)
 id_padded t is = subst IsId (padded_over_blanks t) (id_over_blanks t t is refl)

@@ -1,11 +1,11 @@
 -- What is told of the rows that a text shows, of those that stand in the table.
-use Rattle.std.proofs.Common.{◌≡◌, ◌↔◌, ℕ, arith, inl, inr, suc, Bool, List, [], ◌∷◌, drop, refl, sym, ◌∙◌, ap, subst, IsTrue, Ok, Err, Result, None, Some}
+use Rattle.std.proofs.Common.{◌≡◌, ◌↔◌, ℕ, suc, Bool, List, [], ◌∷◌, drop, refl, sym, ◌∙◌, ap, subst, IsTrue, Ok, Err, Result, None, Some}
 use Rattle.std.specs.Prelude.{codes, filter, map, Option, Vec, IfOk, pos}
 use Rattle.std.specs.declared.alloc.Global.{Global}
-use Rattle.std.specs.List.{AllByRecursion, Contains}
+use Rattle.std.specs.List.{AllByRecursion}
 use Rattle.std.specs.List.Sorted.{IsPermutation}
 use Rattle.std.proofs.lemmas.List.Elements.{All-from_recursion, recursion_from_All}
-use Rattle.std.proofs.lemmas.List.Sorted.{All-permutation, Contains-permutation, IsPermutation-sym, length_permutation}
+use Rattle.std.proofs.lemmas.List.Sorted.{All-permutation, IsPermutation-sym}
 use Rattle.sqlite.specs.Effect.{Database, IsDatabase}
 use Rattle.sqlite.specs.Query.{IsAnswer}
 use Rattle.sqlite.specs.State.{State}
@@ -16,7 +16,6 @@ use Rattle.sql_reads.specs.Answering.{Answers}
 use Rattle.sql_reads.specs.Version.{version_in}
 use Rattle.sql_state.proofs.StopFacts.{no_read, read_on, was_clean}
 use Rattle.sql_state.specs.Ours.{held_by}
-use Rattle.sql_tables.proofs.MemberFacts.{cases_in, first_in, none_in}
 use Rattle.sql_tables.proofs.TreeFacts.{shown_after}
 use Rattle.sql_tables.specs.InTrees.{columns_of, stored_in}
 use Rattle.sql_tables.specs.Stored.{Stored}
@@ -26,6 +25,7 @@ use Rattle.sql_texts.specs.Found.{passes, shown}
 use Rattle.sql_texts.specs.Meaning.{Reads}
 use Rattle.sql_texts.specs.Reads as read
 use Rattle.sql_texts.specs.Schema.{bureau}
+use Rattle.sql_reads.proofs.VersionFacts.{one_again}
 use Rattle.sql_checks.proofs.SaidFacts.{number_said}
 use Rattle.sql_checks.proofs.OursFacts.{ours}
 use Rattle.sql_checks.specs.Checked.{Finds, IsFound, IsRowSeen, IsSeen, Looks, TellsVersion2, WrongIn}
@@ -148,13 +148,6 @@ pub refused_rows : {A Fault : Type 0} (text : List ℕ) (old new : State) (other
 refused_rows text old new other Fact result answers = record { reads = answers.reads; is_open = tt; told = tt }
 
 -- ---- the version
-
-one_again : (row : Row) (rows : List Row) → IsPermutation (row ∷ []) rows → rows ≡ row ∷ []
-one_again row [] permuted = absurd (omega (arith, length_permutation (row ∷ []) [] permuted))
-one_again row (other ∷ []) permuted =
-    let here : Contains (row ∷ []) other = Contains-permutation (other ∷ []) (row ∷ []) other (IsPermutation-sym (row ∷ []) (other ∷ []) permuted) (first_in other []) in
-    elim (cases_in row other [] here) [ inl e ↦ ap (λ it. it ∷ []) (sym e) | inr e ↦ absurd (none_in other e) ]
-one_again row (other ∷ more ∷ rows) permuted = absurd (omega (arith, length_permutation (row ∷ []) (other ∷ more ∷ rows) permuted))
 
 -- the one row that is shown is the version alone
 version_alone : (rows : List Row) (row : Row) → map (shown (2 ∷ [])) rows ≡ row ∷ [] → number_in (column row 0) ≡ Some 2 → row ≡ Int (pos 2) ∷ []

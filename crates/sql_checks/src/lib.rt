@@ -1,14 +1,15 @@
 //! Whether a database holds what the bureau writes.
 //!
 //! - [`check`]: looks a connection's database through; [`Finding`]: what is found
-//! - [`store_tally`]: how much a store and some callers have; [`StoreTally`], [`CallerLine`]; [`tally_text`]: the text that tells it
+//! - [`store_tally`]: how much a store and some callers have; [`StoreTally`], [`CallerLine`]; [`tally_text`]: the
+//!   text that tells it
 //! - [`StoreTable`]: a table whose rows are looked through
 //! - [`is_store_schema`]: whether tables and indexes are those of version 2, made as the bureau makes them
 //! - [`law`]: what a connection keeps to by itself
 //!
-//! `specs/` says what a row keeps to (`Kept`), what a check tells (`Checked`), and why it is refused (`Refused`). Where a
-//! database is found to be whole, it is the bureau's own (`IsOurs` of `sql_state`), which is what all that is promised of a
-//! store begins with.
+//! `specs/` says what a row keeps to (`Kept`), what a check tells (`Checked`), and why it is refused (`Refused`).
+//! Where a database is found to be whole, it is the bureau's own (`IsOurs` of `sql_state`), which is what all that
+//! is promised of a store begins with.
 #![tactic(auto)]
 
 mod checking;

@@ -29,8 +29,8 @@ const COLUMNS: [Column; 4] = [
     },
 ];
 
-/// How much a store has, in columns: a title with the version and how many callers, SYSMODs and holds there are, and a row
-/// for each caller with its zones, the rows of all of them, and the number of its last change.
+/// How much a store has, in columns: a title with the version and how many callers, SYSMODs and holds there are,
+/// and a row for each caller with its zones, the rows of all of them, and the number of its last change.
 ///
 /// # Errors
 ///

@@ -4,6 +4,8 @@ use Rattle.std.specs.Prelude.{filter, flat_map, is_some, map, drop, Option}
 use Rattle.std.specs.List.{Contains, filter_map, list_any}
 use Rattle.std.specs.List.Sorted.{IsStrictlySortedBy}
 use Rattle.std.specs.Ordering.{is_eq, is_lt}
+use Rattle.std.proofs.lemmas.Bool.{and_parts, and_from}
+use Rattle.lemmas.proofs.ListFacts.{any_at, flat_inside, kept_inside, map_found, map_inside}
 use Rattle.mcs_reader.specs.Id.{IsId, text_of}
 use Rattle.holddata.specs.HoldBook.{IsInKeyOrder}
 use Rattle.holddata.specs.HoldKey.{kind_order}
@@ -46,8 +48,8 @@ use Rattle.sql_tables.proofs.ValueFacts.{id_again, named_value, state_again}
 use Rattle.sql_texts.specs.Found.{pairs_shown, passes_with}
 use Rattle.sql_texts.specs.Reads as read
 use Rattle.sql_texts.proofs.AnswerFacts.{join_answer, same_text}
-use Rattle.sql_reads.proofs.JoinFacts.{both, both_back, join_said}
-use Rattle.sql_reads.proofs.MemberFacts.{all_of, any_from, any_to, filtered, joined_from, joined_to, made_from, made_to, one_key, passed, read_from, read_to}
+use Rattle.sql_reads.proofs.JoinFacts.{join_said}
+use Rattle.sql_reads.proofs.MemberFacts.{all_of, any_from, filtered, joined_from, made_from, one_key, read_from}
 use Rattle.sql_state.proofs.TextFacts.{text_named}
 
 -- ---- how the database compares
@@ -92,7 +94,7 @@ id_compared id value is text same = ap (λ t. is_true (binary (Compare Eq Binary
 -- a row of a client's zone is that of a SYSMOD there
 sysmod_there : (client zone : List ℕ) (row : Row) → (p : ZoneSysmod) × IsZoneSysmod p × (row ≡ row_of_zone_sysmod p) → is_of_both client zone row ≡ true → (r : ZoneRow) × IsId r.sysmod × (row ≡ zone_row client zone r)
 sysmod_there client zone row (p, fit, is) h =
-    let parts = both _ _ (ap (is_of_both client zone) (sym is) ∙ h) in
+    let parts = and_parts _ _ (ap (is_of_both client zone) (sym is) ∙ h) in
     let first : p.client ≡ client = one_id p.client client (sym (named_value p.client client fit.0) ∙ parts.0) in
     let second : p.zone ≡ zone = one_id p.zone zone (sym (named_value p.zone zone fit.1) ∙ parts.1) in
     (p.row, fit.2, is ∙ ap (λ n. zone_row n p.zone p.row) first ∙ ap (λ n. zone_row client n p.row) second)
@@ -116,8 +118,8 @@ module _ (rows : List Row) (client zone : List ℕ) (is_client : IsId client) (i
 
   row_to : (r : ZoneRow) → IsId r.sysmod → Contains rows (zone_row client zone r) → Contains stored_rows r
   row_to r is inside =
-      read_to (λ row. zone_row_found (shown (2 ∷ 3 ∷ []) row)) (filter (is_of_both client zone) rows) (zone_row client zone r) r
-      (passed (is_of_both client zone) rows (zone_row client zone r) inside (made_here client zone is_client is_zone (id_value r.sysmod ∷ state_value r.state ∷ [])))
+      map_found (λ row. zone_row_found (shown (2 ∷ 3 ∷ []) row)) (filter (is_of_both client zone) rows) (zone_row client zone r) r
+      (kept_inside (is_of_both client zone) rows (zone_row client zone r) inside (made_here client zone is_client is_zone (id_value r.sysmod ∷ state_value r.state ∷ [])))
       (sysmod_said client zone r is)
 
   -- the first row of a SYSMOD is the one that it has
@@ -151,13 +153,13 @@ module _ (rows : List Row) (client zone : List ℕ) (is_client : IsId client) (i
   installed_from id h =
       let it = any_from (λ (r : ZoneRow). same_id r.sysmod id && is_installed_state r.state) (zone_rows_of rows client zone) h in
       let row = row_from it.0 (zone_from it.0 it.1) in
-      let parts = both _ _ it.2 in
+      let parts = and_parts _ _ it.2 in
       (it.0, row.1, row.0, one_id it.0.sysmod id parts.0, parts.1)
 
   pub installed_to : (id : List ℕ) (r : ZoneRow) → IsId r.sysmod → Contains rows (zone_row client zone r) → r.sysmod ≡ id → is_installed_state r.state ≡ true → is_installed (zone_rows_of rows client zone) id ≡ true
   installed_to id r is inside same state =
-      any_to (λ (x : ZoneRow). same_id x.sysmod id && is_installed_state x.state) (zone_rows_of rows client zone) r (zone_to r (row_to r is inside))
-      (both_back _ _ (ap (λ s. same_id s id) same ∙ itself id) state)
+      any_at (λ (x : ZoneRow). same_id x.sysmod id && is_installed_state x.state) (zone_rows_of rows client zone) r (zone_to r (row_to r is inside))
+      (and_from _ _ (ap (λ s. same_id s id) same ∙ itself id) state)
 
 -- ---- the holds
 
@@ -216,32 +218,32 @@ module _ (trees : Trees) (client zone : List ℕ) (kind : Kind) (is_client : IsI
       let z = joined_from (λ first. pairs_shown params tests project first (trees 11)) (trees 15) row.0 row.1 in
       let made = made_from (λ second. eval_all project (params ∷ z.0 ∷ second ∷ [])) (filter (passes_with params tests z.0) (trees 11)) row.0 z.2 in
       let h = filtered (passes_with params tests z.0) (trees 11) made.0 made.1 in
-      let here : Contains held_rows (drop 1 made.0) = made_to (drop 1) (trees 11) made.0 h.0 in
-      let there : Contains rows_of_zones (drop 1 z.0) = made_to (drop 1) (trees 15) z.0 z.1 in
+      let here : Contains held_rows (drop 1 made.0) = map_inside (drop 1) (trees 11) made.0 h.0 in
+      let there : Contains rows_of_zones (drop 1 z.0) = map_inside (drop 1) (trees 15) z.0 z.1 in
       let p = all_of (λ x. (p : ZoneSysmod) × IsZoneSysmod p × (x ≡ row_of_zone_sysmod p)) rows_of_zones (drop 1 z.0) whole.rows there in
       let k = all_of (λ x. (k : Hold) × IsHold k × (x ≡ hold_row k)) held_rows (drop 1 made.0) whole.holds here in
       let read_again : hold_found (drop 1 made.0) ≡ Some hold = sym (shown_hold z.0 made.0) ∙ ap hold_found made.2 ∙ row.2 in
       let e : Some k.0 ≡ Some hold = sym (hold_again k.0 k.1) ∙ ap hold_found (sym k.2) ∙ read_again in
       let same : k.0 ≡ hold = cc in
-      let a = both _ _ (sym (together z.0 made.0 p.0 k.0 p.1 k.1 p.2 k.2) ∙ h.1) in
-      let b = both _ _ a.1 in
-      let c = both _ _ b.1 in
-      let d = both _ _ c.1 in
-      let f = both _ _ d.1 in
+      let a = and_parts _ _ (sym (together z.0 made.0 p.0 k.0 p.1 k.1 p.2 k.2) ∙ h.1) in
+      let b = and_parts _ _ a.1 in
+      let c = and_parts _ _ b.1 in
+      let d = and_parts _ _ c.1 in
+      let f = and_parts _ _ d.1 in
       let of_client : p.0.client ≡ client = one_id p.0.client client b.0 in
       let of_zone : p.0.zone ≡ zone = one_id p.0.zone zone c.0 in
       let stands : Contains rows_of_zones (zone_row client zone p.0.row) =
       subst (Contains rows_of_zones) (p.2 ∙ ap (λ n. zone_row n p.0.zone p.0.row) of_client ∙ ap (λ n. zone_row client n p.0.row) of_zone) there in
       let named : p.0.row.sysmod ≡ hold.key.sysmod = sym (one_id k.0.key.sysmod p.0.row.sysmod a.0) ∙ ap (λ (x : Hold). x.key.sysmod) same in (
-        read_to hold_found held_rows (drop 1 made.0) hold here read_again,
-        both_back _ _
+        map_found hold_found held_rows (drop 1 made.0) hold here read_again,
+        and_from _ _
             (installed_to rows_of_zones client zone is_client is_zone whole.rows whole.row_keys hold.key.sysmod p.0.row p.1.2 stands named d.0)
             (ap (λ (x : Hold). kind_order x.key.kind == kind_order kind) (sym same) ∙ f.0),
       )
 
   held_so : (hold : Hold) → Contains (filter_map hold_found held_rows) hold → asked hold.key ≡ true → Contains (filter_map hold_found joined) hold
   held_so hold inside at =
-      let parts = both _ _ at in
+      let parts = and_parts _ _ at in
       let row = read_from hold_found held_rows hold inside in
       let k = all_of (λ x. (k : Hold) × IsHold k × (x ≡ hold_row k)) held_rows row.0 whole.holds row.1 in
       let e : Some k.0 ≡ Some hold = sym (hold_again k.0 k.1) ∙ ap hold_found (sym k.2) ∙ row.2 in
@@ -251,11 +253,11 @@ module _ (trees : Trees) (client zone : List ℕ) (kind : Kind) (is_client : IsI
       let h = made_from (drop 1) (trees 11) row.0 row.1 in
       let passes : passes_with params tests z.0 h.0 ≡ true =
       together z.0 h.0 (record { client = client; zone = zone; row = r.0 }) k.0 (is_client, is_zone, r.1) k.1 z.2 (h.2 ∙ k.2)
-      ∙ both_back _ _ (ap (same_id k.0.key.sysmod) (r.3 ∙ ap (λ (x : Hold). x.key.sysmod) (sym same)) ∙ itself k.0.key.sysmod)
-      (both_back _ _ (itself client) (both_back _ _ (itself zone) (both_back _ _ r.4 (both_back _ _ (ap (λ (x : Hold). kind_order x.key.kind == kind_order kind) same ∙ parts.1) refl)))) in
-      read_to hold_found joined (eval_all project (params ∷ z.0 ∷ h.0 ∷ [])) hold
-      (joined_to (λ first. pairs_shown params tests project first (trees 11)) (trees 15) z.0 (eval_all project (params ∷ z.0 ∷ h.0 ∷ [])) z.1
-      (made_to (λ second. eval_all project (params ∷ z.0 ∷ second ∷ [])) (filter (passes_with params tests z.0) (trees 11)) h.0 (passed (passes_with params tests z.0) (trees 11) h.0 h.1 passes)))
+      ∙ and_from _ _ (ap (same_id k.0.key.sysmod) (r.3 ∙ ap (λ (x : Hold). x.key.sysmod) (sym same)) ∙ itself k.0.key.sysmod)
+      (and_from _ _ (itself client) (and_from _ _ (itself zone) (and_from _ _ r.4 (and_from _ _ (ap (λ (x : Hold). kind_order x.key.kind == kind_order kind) same ∙ parts.1) refl)))) in
+      map_found hold_found joined (eval_all project (params ∷ z.0 ∷ h.0 ∷ [])) hold
+      (flat_inside (λ first. pairs_shown params tests project first (trees 11)) (trees 15) z.0 (eval_all project (params ∷ z.0 ∷ h.0 ∷ [])) z.1
+      (map_inside (λ second. eval_all project (params ∷ z.0 ∷ second ∷ [])) (filter (passes_with params tests z.0) (trees 11)) h.0 (kept_inside (passes_with params tests z.0) (trees 11) h.0 h.1 passes)))
       (shown_hold z.0 h.0 ∙ ap hold_found h.2 ∙ row.2)
 
   pub held_told : (rows : List Row) (found : List Hold) → IsInKeyOrder found → IsAnswer read.held_in trees (Text (text_of client) ∷ Text (text_of zone) ∷ hold_kind_value kind ∷ []) rows

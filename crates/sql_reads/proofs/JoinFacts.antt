@@ -1,9 +1,11 @@
 -- What is found of rows of two tables: the SYSMODs that supersede one, and the holds on what is installed in a zone.
-use Rattle.std.proofs.Common.{◌≡◌, ℕ, Bool, true, false, ◌&&◌, List, [], ◌∷◌, refl, sym, ◌∙◌, ap, subst, Some, None}
+use Rattle.std.proofs.Common.{◌≡◌, ℕ, true, false, ◌&&◌, List, [], ◌∷◌, refl, sym, ◌∙◌, ap, subst, Some, None}
 use Rattle.std.specs.Prelude.{filter, flat_map, map, drop, reverse, Option, option_map, option_and_then, unwrap_or}
 use Rattle.std.specs.List.{Contains, filter_map, list_any}
 use Rattle.std.specs.List.Sorted.{IsPermutation}
 use Rattle.std.proofs.lemmas.List.Sorted.{Contains-permutation, IsPermutation-map, IsPermutation-reverse, IsPermutation-sym}
+use Rattle.std.proofs.lemmas.Bool.{and_parts, and_from}
+use Rattle.lemmas.proofs.ListFacts.{any_at, flat_inside, kept_inside, map_found, map_inside}
 use Rattle.mcs_reader.specs.Id.{IsId, text_of}
 use Rattle.catalogue.specs.Content as content
 use Rattle.catalogue.specs.Content.{sup_names, superseders}
@@ -38,16 +40,9 @@ use Rattle.sql_texts.specs.Found.{pairs_shown, passes_with}
 use Rattle.sql_texts.specs.Reads as read
 use Rattle.sql_texts.proofs.AnswerFacts.{join_answer}
 use Rattle.sql_reads.proofs.ClientFacts.{all_said}
-use Rattle.sql_reads.proofs.MemberFacts.{all_of, any_from, any_to, filtered, joined_from, joined_to, made_from, made_to, passed, read_from, read_to}
+use Rattle.sql_reads.proofs.MemberFacts.{all_of, any_from, filtered, joined_from, made_from, read_from}
 use Rattle.sql_reads.proofs.PublishedFacts.{sysmods_ids}
 use Rattle.sql_state.proofs.TextFacts.{text_given}
-
-pub both : (a b : Bool) → (a && b) ≡ true → (a ≡ true) × (b ≡ true)
-both true b h = (refl, h)
-both false b h = absurd (cc)
-
-pub both_back : (a b : Bool) → a ≡ true → b ≡ true → (a && b) ≡ true
-both_back a b h k = ap (λ x. x && b) h ∙ k
 
 -- what the rows of a join say
 pub join_said : {A : Type 0} (read : Row → Option A) (rows joined : List Row) (found : List A) → IsPermutation joined rows → map Some found ≡ map read rows
@@ -142,7 +137,7 @@ module _ (trees : Trees) (id : List ℕ) (is : IsId id) (whole : IsWhole (stored
   -- the record of an id that a row has
   row_record : (s : Row) (x : List ℕ) → Contains sysmods s → id_in (column s 0) ≡ Some x → (c : Sysmod) × Contains (catalogue_of all) c × (c.id ≡ x)
   row_record s x inside at =
-      let listed : Contains (content.ids_in all) x = subst (λ ids. Contains ids x) (sym (sysmods_ids beside sysmods whole.sysmods)) (read_to (λ row. id_in (column row 0)) sysmods s x inside at) in
+      let listed : Contains (content.ids_in all) x = subst (λ ids. Contains ids x) (sym (sysmods_ids beside sysmods whole.sysmods)) (map_found (λ row. id_in (column row 0)) sysmods s x inside at) in
       made_from (λ (c : Sysmod). c.id) (catalogue_of all) x (subst (λ ids. Contains ids x) (sym (catalogue_ids all)) ((in_order_has (content.ids_in all) x).1 listed))
 
   names_any : (name : List ℕ) → list_any (same_id id) (sup_of sups name) ≡ list_any (same_id id) (filter_map (λ row. id_in (column row 1)) (filter (is_of name) sups))
@@ -160,26 +155,26 @@ module _ (trees : Trees) (id : List ℕ) (is : IsId id) (whole : IsWhole (stored
       let p = joined_from (λ first. pairs_shown params tests (col 1 1 ∷ []) first (trees 6)) (trees 8) row.0 row.1 in
       let made = made_from (λ second. eval_all (col 1 1 ∷ []) (params ∷ p.0 ∷ second ∷ [])) (filter (passes_with params tests p.0) (trees 6)) row.0 p.2 in
       let s = filtered (passes_with params tests p.0) (trees 6) made.0 made.1 in
-      let there : Contains sups (drop 1 p.0) = made_to (drop 1) (trees 8) p.0 p.1 in
+      let there : Contains sups (drop 1 p.0) = map_inside (drop 1) (trees 8) p.0 p.1 in
       let m = all_of (λ r. (m : Listed (List ℕ)) × IsMember m × (r ≡ member_row m)) sups (drop 1 p.0) whole.sups there in
-      let tests_pass = both _ _ (sym (together p.0 made.0 m.0 m.1 m.2) ∙ s.1) in
-      let names = both _ _ tests_pass.1 in
+      let tests_pass = and_parts _ _ (sym (together p.0 made.0 m.0 m.1 m.2) ∙ s.1) in
+      let names = and_parts _ _ tests_pass.1 in
       let own : id_in (column (drop 1 p.0) 0) ≡ Some m.0.id = ap (λ r. id_in (column r 0)) m.2 ∙ id_again m.0.id m.1.0 in
       let shown : id_in (column p.0 1) ≡ Some x = ap (λ r. id_in (column r 0)) made.2 ∙ row.2 in
       let e : Some m.0.id ≡ Some x = sym own ∙ ap id_in (column_after p.0 0) ∙ shown in
       let same : m.0.id ≡ x = cc in
-      let c = row_record (drop 1 made.0) m.0.id (made_to (drop 1) (trees 6) made.0 s.0) (named_is m.0.id (column (drop 1 made.0) 0) tests_pass.0) in
+      let c = row_record (drop 1 made.0) m.0.id (map_inside (drop 1) (trees 6) made.0 s.0) (named_is m.0.id (column (drop 1 made.0) 0) tests_pass.0) in
       let its = record_row c.0 c.1 in
       let second : id_in (column (drop 1 p.0) 1) ≡ Some m.0.one = ap (λ r. id_in (column r 1)) m.2 ∙ id_again m.0.one m.1.1 in
       let is_member : Some m.0.one ≡ Some id = sym second ∙ named_is id (column (drop 1 p.0) 1) names.0 in
       let member : m.0.one ≡ id = cc in
       let of_c : is_of c.0.id (drop 1 p.0) ≡ true = is_named_so c.0.id (column (drop 1 p.0) 0) (own ∙ ap Some (sym c.2)) in
       let listed : Contains (filter_map (λ r. id_in (column r 1)) (filter (is_of c.0.id) sups)) m.0.one =
-      read_to (λ r. id_in (column r 1)) (filter (is_of c.0.id) sups) (drop 1 p.0) m.0.one (passed (is_of c.0.id) sups (drop 1 p.0) there of_c) second in
+      map_found (λ r. id_in (column r 1)) (filter (is_of c.0.id) sups) (drop 1 p.0) m.0.one (kept_inside (is_of c.0.id) sups (drop 1 p.0) there of_c) second in
       let superseding : sup_names id c.0 ≡ true =
-      ap (list_any (same_id id)) its.3 ∙ names_any c.0.id ∙ any_to (same_id id) (filter_map (λ r. id_in (column r 1)) (filter (is_of c.0.id) sups)) m.0.one listed (ap (same_id id) member ∙ itself id) in
+      ap (list_any (same_id id)) its.3 ∙ names_any c.0.id ∙ any_at (same_id id) (filter_map (λ r. id_in (column r 1)) (filter (is_of c.0.id) sups)) m.0.one listed (ap (same_id id) member ∙ itself id) in
       subst (Contains (superseders (tables_of (stored_in trees)).content id)) (c.2 ∙ same)
-      (made_to (λ (s : Sysmod). s.id) (filter (sup_names id) (catalogue_of all)) c.0 (passed (sup_names id) (catalogue_of all) c.0 c.1 superseding))
+      (map_inside (λ (s : Sysmod). s.id) (filter (sup_names id) (catalogue_of all)) c.0 (kept_inside (sup_names id) (catalogue_of all) c.0 c.1 superseding))
 
   so_found : (x : List ℕ) → Contains (superseders (tables_of (stored_in trees)).content id) x → Contains (filter_map first_id joined) x
   so_found x inside =
@@ -200,12 +195,12 @@ module _ (trees : Trees) (id : List ℕ) (is : IsId id) (whole : IsWhole (stored
       let second : is_named id (column (drop 1 p_there.0) 1) ≡ true =
       ap (λ r. is_named id (column r 1)) p_there.2 ∙ is_named_so id (column row.0 1) (row.2 ∙ ap Some (sym (one_id id k.0 k.2))) in
       let passes : passes_with params tests p_there.0 s_there.0 ≡ true =
-      together p_there.0 s_there.0 m.0 m.1 (p_there.2 ∙ m.2) ∙ both_back _ _ first (both_back _ _ second refl) in
+      together p_there.0 s_there.0 m.0 m.1 (p_there.2 ∙ m.2) ∙ and_from _ _ first (and_from _ _ second refl) in
       let at : id_in (column p_there.0 1) ≡ Some x = ap id_in (sym (column_after p_there.0 0)) ∙ ap (λ r. id_in (column r 0)) p_there.2 ∙ own ∙ ap Some (same ∙ c.2) in
-      read_to first_id joined (column p_there.0 1 ∷ []) x
-      (joined_to (λ first. pairs_shown params tests (col 1 1 ∷ []) first (trees 6)) (trees 8) p_there.0 (column p_there.0 1 ∷ []) p_there.1
-      (made_to (λ second. eval_all (col 1 1 ∷ []) (params ∷ p_there.0 ∷ second ∷ [])) (filter (passes_with params tests p_there.0) (trees 6)) s_there.0
-      (passed (passes_with params tests p_there.0) (trees 6) s_there.0 s_there.1 passes)))
+      map_found first_id joined (column p_there.0 1 ∷ []) x
+      (flat_inside (λ first. pairs_shown params tests (col 1 1 ∷ []) first (trees 6)) (trees 8) p_there.0 (column p_there.0 1 ∷ []) p_there.1
+      (map_inside (λ second. eval_all (col 1 1 ∷ []) (params ∷ p_there.0 ∷ second ∷ [])) (filter (passes_with params tests p_there.0) (trees 6)) s_there.0
+      (kept_inside (passes_with params tests p_there.0) (trees 6) s_there.0 s_there.1 passes)))
       at
 
   pub superseders_told : (rows : List Row) (found : List (List ℕ)) → Ascend found → IsAnswer read.superseders trees (Text (text_of id) ∷ []) rows

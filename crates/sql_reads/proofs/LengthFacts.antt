@@ -9,6 +9,8 @@ use Rattle.std.specs.declared.cmp.Ordering.TheVariants.{Less, Equal, Greater}
 use Rattle.std.proofs.lemmas.List.{length-map}
 use Rattle.std.proofs.lemmas.List.Sorted.{Contains-permutation, IsPermutation-reverse}
 use Rattle.std.proofs.lemmas.Map.Lookups.{CmpEqualImpliesEq}
+use Rattle.std.proofs.lemmas.Bool.{and_parts}
+use Rattle.lemmas.proofs.ListFacts.{first_inside, rest_inside}
 use Rattle.mcs_reader.specs.Id.{IsId}
 use Rattle.holddata.specs.HoldBook.{book_of, keys_named}
 use Rattle.holddata.specs.HoldChange.{hold_left}
@@ -30,12 +32,11 @@ use Rattle.sql_tables.specs.Stored.{beside_of, Stored, is_named, is_of, is_of_bo
 use Rattle.sql_tables.specs.Values.{hold_kind_value, id_in, id_value, state_value, texts_value}
 use Rattle.sql_tables.specs.Whole.{AreRowsOf, HaveOwnKeys, Head, IsHead, IsWhole, IsZoneSysmod, ZoneSysmod, row_of_head, row_of_zone_sysmod}
 use Rattle.sql_tables.proofs.ContentFacts.{key_itself, last_under, left_put}
-use Rattle.sql_tables.proofs.MemberFacts.{first_in, none_found, rest_in}
+use Rattle.sql_tables.proofs.MemberFacts.{none_found}
 use Rattle.sql_tables.proofs.RecordFacts.{catalogue_ids}
 use Rattle.sql_tables.proofs.RowFacts.{hold_again}
 use Rattle.sql_tables.proofs.ValueFacts.{id_again, named_value, state_again}
 use Rattle.sql_tables.proofs.WholeFacts.{own_filtered}
-use Rattle.sql_reads.proofs.JoinFacts.{both}
 use Rattle.sql_reads.proofs.PublishedFacts.{sysmods_ids}
 
 -- ---- keys put in order
@@ -44,7 +45,7 @@ abbrev pub AreApart : {K : Type 0} → List K → Type 0
 AreApart [] = Unit {0}
 AreApart (k ∷ ks) = AllByRecursion (λ other. k ≢ other) ks × AreApart ks
 
-all_two : {A : Type 0} (P Q R : A → Type 0) → ((a : A) → P a → Q a → R a) → (xs : List A) → AllByRecursion P xs → AllByRecursion Q xs → AllByRecursion R xs
+pub all_two : {A : Type 0} (P Q R : A → Type 0) → ((a : A) → P a → Q a → R a) → (xs : List A) → AllByRecursion P xs → AllByRecursion Q xs → AllByRecursion R xs
 all_two P Q R step [] p q = tt
 all_two P Q R step (x ∷ xs) p q = (step x p.0 q.0, all_two P Q R step xs p.1 q.1)
 
@@ -146,7 +147,7 @@ in_order_rows_length rows apart =
     each : (some : List ZoneRow) → ((row : ZoneRow) → Contains some row → Contains rows row)
         → AllByRecursion (λ id. is_some (find (λ (r : ZoneRow). same_id r.sysmod id) rows) ≡ true) (map (λ (r : ZoneRow). r.sysmod) some)
     each [] inside = tt
-    each (row ∷ some) inside = (found row (inside row (first_in row some)), each some (λ r h. inside r (rest_in row r some h)))
+    each (row ∷ some) inside = (found row (inside row (first_inside row some)), each some (λ r h. inside r (rest_inside row r some h)))
 
 -- ---- records
 
@@ -229,7 +230,7 @@ module _ (stored : Stored) (whole : IsWhole stored) where
         by : (b : Bool) → is_of_both client zone row ≡ b → AllByRecursion IsZoneRow (filter (is_of_both client zone) rows) → (p : ZoneSysmod) × IsZoneSysmod p × (row ≡ row_of_zone_sysmod p)
             → AllByRecursion IsZoneRow (cond b (row ∷ filter (is_of_both client zone) rows) (filter (is_of_both client zone) rows))
         by true at rest (p, fit, is) =
-            let named = both (is_named client (id_value p.client)) (is_named zone (id_value p.zone)) (ap (is_of_both client zone) (sym is) ∙ at) in
+            let named = and_parts (is_named client (id_value p.client)) (is_named zone (id_value p.zone)) (ap (is_of_both client zone) (sym is) ∙ at) in
             let of : p.client ≡ client = one_id p.client client (sym (named_value p.client client fit.0) ∙ named.0) in
             let inside : p.zone ≡ zone = one_id p.zone zone (sym (named_value p.zone zone fit.1) ∙ named.1) in
             ((p.row, fit.2, is ∙ ap₂ (λ c z. zone_row c z p.row) of inside), rest)
@@ -300,7 +301,7 @@ book_length holds apart = kept_length (hold_left (map Put holds)) (keys_named (m
     each : (ds : List Hold) → ((d : Hold) → Contains ds d → Contains holds d) → AllByRecursion (λ key. is_some (hold_left (map Put holds) key) ≡ true) (keys_named (map Put ds))
     each [] inside = tt
     each (d ∷ ds) inside =
-        insert_all key_cmp exact_keys (λ key. is_some (hold_left (map Put holds) key) ≡ true) (keys_named (map Put ds)) d.key (left d (inside d (first_in d ds))) (each ds (λ x h. inside x (rest_in d x ds h)))
+        insert_all key_cmp exact_keys (λ key. is_some (hold_left (map Put holds) key) ≡ true) (keys_named (map Put ds)) d.key (left d (inside d (first_inside d ds))) (each ds (λ x h. inside x (rest_inside d x ds h)))
 
 -- as many holds as rows
 pub holds_length : (stored : Stored) → IsWhole stored → length (tables_of stored).content.holds ≡ length stored.holds

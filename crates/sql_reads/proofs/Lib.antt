@@ -4,7 +4,7 @@ mod ClientFacts
 mod CountFacts
 mod HeldFacts
 mod JoinFacts
-mod LengthFacts
+pub mod LengthFacts
 mod MemberFacts
 mod OrderFacts
 mod ProperFacts
@@ -12,5 +12,5 @@ mod PublishedFacts
 mod QuietFacts
 mod TableFacts
 mod TallyFacts
-mod VersionFacts
+pub mod VersionFacts
 mod ZoneFacts

@@ -9,18 +9,9 @@ use Rattle.std.specs.List.{IsAllAdjacentAnswer}
 use Rattle.std.specs.List.Sorted.{IsStrictlySortedBy}
 use Rattle.std.specs.Ordering.{is_lt}
 use Rattle.std.specs.declared.cmp.Ordering.{Ordering}
-use Rattle.std.specs.declared.cmp.Ordering.TheVariants.{Less, Equal, Greater}
+use Rattle.std.specs.declared.cmp.Ordering.TheVariants.{Less}
 use Rattle.std.proofs.lemmas.Map.Keys.{Less-from_sorted, sorted_from_all_adjacent}
-
-lower : (o : Ordering) → true ≡ is_lt o → o ≡ Less
-lower Less h = refl
-lower Equal h = cc
-lower Greater h = cc
-
-not_lower : (o : Ordering) → false ≡ is_lt o → o ≡ Less → ⊥
-not_lower Less h e = let f : false ≡ true = h in cc
-not_lower Equal h e = cc
-not_lower Greater h e = cc
+use Rattle.catalogue.proofs.IdFacts.{lower, not_lower}
 
 module _ {X K : Type 0} (cmp : K → K → Ordering) (total : IsTotalOrder cmp) (key : X → K) where
   -- what has keys ascends by them just if each key is below the next

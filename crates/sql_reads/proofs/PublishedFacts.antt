@@ -4,6 +4,7 @@ use Rattle.std.specs.Prelude.{filter, map, Option, option_map, option_and_then, 
 use Rattle.std.specs.List.{Contains, cons_option, filter_map}
 use Rattle.std.specs.List.Sorted.{IsPermutation}
 use Rattle.std.proofs.lemmas.List.Sorted.{Contains-permutation, IsPermutation-sym}
+use Rattle.lemmas.proofs.ListFacts.{kept_inside, map_found}
 use Rattle.mcs_reader.specs.Id.{IsId, text_of}
 use Rattle.holddata.specs.HoldBook.{IsInKeyOrder}
 use Rattle.holddata.specs.declared.hold.Hold.{Hold}
@@ -35,7 +36,7 @@ use Rattle.sql_texts.specs.Found.{shown}
 use Rattle.sql_texts.specs.Reads as read
 use Rattle.sql_reads.specs.Answering.{one_of}
 use Rattle.sql_reads.proofs.ClientFacts.{table_said}
-use Rattle.sql_reads.proofs.MemberFacts.{filtered, passed, read_from, read_to}
+use Rattle.sql_reads.proofs.MemberFacts.{filtered, read_from}
 use Rattle.sql_reads.proofs.TableFacts.{filter_true, one_case, one_passes, table_found}
 use Rattle.sql_state.proofs.TextFacts.{of_given}
 
@@ -133,10 +134,10 @@ holds_told trees id rows found is ordered answer said =
         let it = read_from hold_found (filter (is_of id) holds) hold
         (Contains-permutation found (filter_map hold_found (filter (is_of id) holds)) hold (IsPermutation-sym (filter_map hold_found (filter (is_of id) holds)) found permuted) inside) in
         let row = filtered (is_of id) holds it.0 it.1 in
-        (read_to hold_found holds it.0 hold row.0 it.2, sym (hold_of id it.0 hold it.2) ∙ row.1)
+        (map_found hold_found holds it.0 hold row.0 it.2, sym (hold_of id it.0 hold it.2) ∙ row.1)
 
     back : (hold : Hold) → Contains (filter_map hold_found holds) hold → same_id id hold.key.sysmod ≡ true → Contains found hold
     back hold inside at =
         let it = read_from hold_found holds hold inside in
         Contains-permutation (filter_map hold_found (filter (is_of id) holds)) found hold permuted
-        (read_to hold_found (filter (is_of id) holds) it.0 hold (passed (is_of id) holds it.0 it.1 (hold_of id it.0 hold it.2 ∙ at)) it.2)
+        (map_found hold_found (filter (is_of id) holds) it.0 hold (kept_inside (is_of id) holds it.0 it.1 (hold_of id it.0 hold it.2 ∙ at)) it.2)

@@ -1,22 +1,24 @@
 -- What a text shows of one table, as rows without their rowids; and the one row that it shows.
 use Rattle.std.proofs.Common.{◌≡◌, ◌⊎◌, ℕ, suc, Bool, true, false, cond, length, drop, List, [], ◌∷◌, refl, sym, ◌∙◌, ap, subst, arith, inl, inr, Ok, Err, Result, Some, None}
-use Rattle.std.specs.Prelude.{filter, is_some, map, Option, option_map, Vec, IfOk}
+use Rattle.std.specs.Prelude.{filter, map, Option, option_map, Vec, IfOk}
 use Rattle.std.specs.declared.alloc.Global.{Global}
 use Rattle.std.specs.List.{AllByRecursion, Contains}
 use Rattle.std.specs.List.Sorted.{IsPermutation}
 use Rattle.std.proofs.lemmas.List.Sorted.{Contains-permutation, IsPermutation-sym, length_permutation}
+use Rattle.std.proofs.lemmas.List.{length-map}
 use Rattle.sqlite.specs.Query.{IsAnswer, Query}
 use Rattle.sqlite.specs.State.{State}
 use Rattle.sqlite.specs.Term.{Term}
 use Rattle.sqlite.specs.Tree.{Trees}
 use Rattle.sqlite_value.specs.Order.{Row}
+use Rattle.lemmas.proofs.ListFacts.{first_inside, inside_cases, none_inside}
+use Rattle.lemmas.proofs.ResultFacts.{ok_both}
 use Rattle.sql_state.specs.Ours.{IsOurs, held_by}
 use Rattle.sql_state.specs.Reading.{Finds}
 use Rattle.sql_state.proofs.StopFacts.{read_on, was_clean}
 use Rattle.sql_tables.specs.InTrees.{columns_of}
 use Rattle.sql_tables.specs.Stored.{Stored, first}
 use Rattle.sql_tables.specs.Whole.{IsWhole}
-use Rattle.sql_tables.proofs.MemberFacts.{cases_in, first_in, none_in}
 use Rattle.sql_tables.proofs.TreeFacts.{filter_after, shown_after}
 use Rattle.sql_texts.specs.Found.{passes, shown}
 use Rattle.sql_texts.specs.Meaning.{Reads}
@@ -24,10 +26,6 @@ use Rattle.sql_texts.specs.Reads.{from_table}
 use Rattle.sql_texts.specs.Schema.{bureau}
 use Rattle.sql_texts.proofs.AnswerFacts.{table_answer}
 use Rattle.sql_reads.specs.Answering.{Answers, one_of}
-
-if_both : {A Fault : Type 0} (P Q : A → Type 0) (result : Result A Fault) → IfOk result P → IfOk result Q → IfOk result (λ a. P a × Q a)
-if_both P Q (Ok a) p q = (p, q)
-if_both P Q (Err e) p q = tt
 
 -- ---- from an answer to what is found
 
@@ -49,7 +47,7 @@ module _ {A Fault : Type 0} (text : List ℕ) (params asked : Row) (same_params 
       → (result : Result A Fault) (Said Also : A → Type 0) → IfOk result Said → IfOk result Also → (Fact : Stored → A → Type 0)
       → (IsOurs old.committed → IsAnswer query old.committed.trees asked seen → (a : A) → Said a → Also a → Fact (held_by old.committed) a) → Finds old new result Fact
   finds_of_two rows seen same answers result Said Also said also Fact law =
-      finds rows seen same answers result (λ a. Said a × Also a) (if_both Said Also result said also) Fact (λ ours answer a both. law ours answer a both.0 both.1)
+      finds rows seen same answers result (λ a. Said a × Also a) (ok_both Said Also result said also) Fact (λ ours answer a both. law ours answer a both.0 both.1)
 
 -- the rows of an answer are what is found
 pub finds_rows : {Fault : Type 0} (text : List ℕ) (params asked : Row) → params ≡ asked → (old new : State) (query : Query) (names : List (List ℕ)) (parameters : ℕ) → Reads bureau text query names parameters
@@ -133,11 +131,6 @@ kept_alike p q (row ∷ rows) all = ap (λ b. cond b (row ∷ filter p rows) (fi
 
 -- ---- one row
 
--- where there is no first row, there is none
-pub none_first : (rows : List Row) → is_some (first rows) ≡ false → rows ≡ []
-none_first [] h = refl
-none_first (row ∷ rows) h = cc
-
 -- the one row that a filter keeps passes its test
 pub one_passes : (test : Row → Bool) (rows : List Row) (x : Row) → filter test rows ≡ x ∷ [] → test x ≡ true
 one_passes test [] x h = cc
@@ -155,10 +148,6 @@ no_rows : (xs : List Row) → length xs ≡ 0 → xs ≡ []
 no_rows [] h = refl
 no_rows (x ∷ xs) h = absurd (omega (arith, h))
 
-map_length : {A B : Type 0} (f : A → B) (xs : List A) → length (map f xs) ≡ length xs
-map_length f [] = refl
-map_length f (x ∷ xs) = ap suc (map_length f xs)
-
 module _ {A : Type 0} (read : Row → Option A) (f : Row → Row) where
   -- no row is shown, or the one that there is
   abbrev pub IsOne : List Row → Option A → Type 0
@@ -166,12 +155,12 @@ module _ {A : Type 0} (read : Row → Option A) (f : Row → Row) where
 
   pub one_case : (xs rows : List Row) (found : Option A) → IsPermutation (map f xs) rows → one_of read rows ≡ Some found → IsOne xs found
   one_case xs [] found permuted h =
-      let none : length xs ≡ 0 = sym (map_length f xs) ∙ sym (length_permutation (map f xs) [] permuted) in
+      let none : length xs ≡ 0 = sym (length-map xs f) ∙ sym (length_permutation (map f xs) [] permuted) in
       let e : None ≡ found = cc in inl (no_rows xs none, sym e)
   one_case [] (row ∷ []) found permuted h = absurd (omega (arith, length_permutation (map f []) (row ∷ []) permuted))
   one_case (x ∷ []) (row ∷ []) found permuted h =
-      let here : Contains (f x ∷ []) row = Contains-permutation (row ∷ []) (f x ∷ []) row (IsPermutation-sym (f x ∷ []) (row ∷ []) permuted) (first_in row []) in
-      let same : f x ≡ row = elim (cases_in (f x) row [] here) [ inl e ↦ e | inr e ↦ absurd (none_in row e) ] in
+      let here : Contains (f x ∷ []) row = Contains-permutation (row ∷ []) (f x ∷ []) row (IsPermutation-sym (f x ∷ []) (row ∷ []) permuted) (first_inside row []) in
+      let same : f x ≡ row = elim (inside_cases (f x) row [] here) [ inl e ↦ e | inr e ↦ absurd (none_inside row e) ] in
       let its = said (read row) found h in
       inr (x, refl, its.0, ap read same ∙ its.1, its.2)
   one_case (x ∷ y ∷ xs) (row ∷ []) found permuted h = absurd (omega (arith, length_permutation (map f (x ∷ y ∷ xs)) (row ∷ []) permuted))

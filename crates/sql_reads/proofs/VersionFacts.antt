@@ -10,7 +10,7 @@ use Rattle.sqlite.specs.Query.{IsAnswer}
 use Rattle.sqlite.specs.Tree.{Trees}
 use Rattle.sqlite.specs.declared.types.Value.TheVariants.{Int}
 use Rattle.sqlite_value.specs.Order.{Row}
-use Rattle.sql_tables.proofs.MemberFacts.{cases_in, first_in, none_in}
+use Rattle.lemmas.proofs.ListFacts.{first_inside, inside_cases, none_inside}
 use Rattle.sql_texts.specs.Meaning.{Reads}
 use Rattle.sql_texts.specs.Reads as read
 use Rattle.sql_texts.specs.Found.{passes, shown}
@@ -28,11 +28,11 @@ version_told text old new rows seen reads same answers told is clean =
     record { text = text; asks = reads; rows = rows.items; shown = answers.shown clean; told = is ∙ ap version_in same }
 
 -- a list of one is in no other order
-one_again : (row : Row) (rows : List Row) → IsPermutation (row ∷ []) rows → rows ≡ row ∷ []
+pub one_again : (row : Row) (rows : List Row) → IsPermutation (row ∷ []) rows → rows ≡ row ∷ []
 one_again row [] permuted = absurd (omega (arith, length_permutation (row ∷ []) [] permuted))
 one_again row (other ∷ []) permuted =
-    let here : Contains (row ∷ []) other = Contains-permutation (other ∷ []) (row ∷ []) other (IsPermutation-sym (row ∷ []) (other ∷ []) permuted) (first_in other []) in
-    elim (cases_in row other [] here) [ inl e ↦ ap (λ it. it ∷ []) (sym e) | inr e ↦ absurd (none_in other e) ]
+    let here : Contains (row ∷ []) other = Contains-permutation (other ∷ []) (row ∷ []) other (IsPermutation-sym (row ∷ []) (other ∷ []) permuted) (first_inside other []) in
+    elim (inside_cases row other [] here) [ inl e ↦ ap (λ it. it ∷ []) (sym e) | inr e ↦ absurd (none_inside other e) ]
 one_again row (other ∷ more ∷ rows) permuted = absurd (omega (arith, length_permutation (row ∷ []) (other ∷ more ∷ rows) permuted))
 
 version_is : (version : ℕ) (trees : Trees) (rows : List Row) → trees 0 ≡ version_rows version → IsAnswer read.version trees [] rows → version_in rows ≡ Some version

@@ -6,6 +6,7 @@ use Rattle.std.specs.List.Sorted.{IsPermutation}
 use Rattle.std.proofs.lemmas.Bool.Decides.{nat_tests}
 use Rattle.std.proofs.lemmas.List.{length-map}
 use Rattle.std.proofs.lemmas.List.Sorted.{Contains-permutation, IsPermutation-map, IsPermutation-sym}
+use Rattle.lemmas.proofs.ListFacts.{first_inside, map_found, map_inside, rest_inside}
 use Rattle.mcs_reader.specs.Id.{IsId, text_of}
 use Rattle.catalogue.specs.Ids.{Ascend}
 use Rattle.catalogue.proofs.IdFacts.{one_id}
@@ -24,7 +25,6 @@ use Rattle.sql_tables.specs.InTrees.{columns_of, stored_in}
 use Rattle.sql_tables.specs.Stored.{is_of, is_of_both, names_of, tables_of, zone_of, zone_rows_of}
 use Rattle.sql_tables.specs.Values.{id_in, id_value}
 use Rattle.sql_tables.specs.Whole.{Head, IsHead, IsWhole, row_of_head}
-use Rattle.sql_tables.proofs.MemberFacts.{first_in, rest_in}
 use Rattle.sql_tables.proofs.RecordFacts.{ids_read}
 use Rattle.sql_tables.proofs.TreeFacts.{column_after, filter_after}
 use Rattle.sql_tables.proofs.ValueFacts.{id_again, named_value}
@@ -34,7 +34,7 @@ use Rattle.sql_texts.specs.Reads.{in_the_zone, is_given, most_rows}
 use Rattle.sql_reads.specs.ZoneCounts.{with_count, zone_counted}
 use Rattle.sql_reads.proofs.ClientFacts.{map_map}
 use Rattle.sql_reads.proofs.LengthFacts.{zone_rows_length}
-use Rattle.sql_reads.proofs.MemberFacts.{all_of, filtered, made_from, made_to, read_from, read_to}
+use Rattle.sql_reads.proofs.MemberFacts.{all_of, filtered, made_from, read_from}
 use Rattle.sql_state.proofs.TextFacts.{both_given, of_given}
 
 -- how many rows of the other table are of the zone of a head
@@ -149,7 +149,7 @@ module _ (trees : Trees) (client : List ℕ) (is : IsId client) (whole : IsWhole
   head_written : (head : Row) → Contains heads head → (zone : List ℕ) × IsId zone × (column head 1 ≡ Text (text_of client)) × (column head 2 ≡ Text (text_of zone))
   head_written head inside =
       let here = filtered (passes params (is_given 1 0 ∷ [])) (trees 13) head inside in
-      let it = all_of (λ row. (x : Head) × IsHead x × (row ≡ row_of_head x)) (columns_of (trees 13)) (drop 1 head) whole.heads (made_to (drop 1) (trees 13) head here.0) in
+      let it = all_of (λ row. (x : Head) × IsHead x × (row ≡ row_of_head x)) (columns_of (trees 13)) (drop 1 head) whole.heads (map_inside (drop 1) (trees 13) head here.0) in
       let of : it.0.client ≡ client = one_id it.0.client client (sym (named_value it.0.client client it.1.0) ∙ ap (is_of client) (sym it.2) ∙ sym (of_given client is head) ∙ here.1) in (
         it.0.zone,
         it.1.1,
@@ -180,12 +180,12 @@ module _ (trees : Trees) (client : List ℕ) (is : IsId client) (whole : IsWhole
     from_head : (zone : List ℕ × ℕ) → Contains found zone → (head : Row) × Contains heads head × (told head ≡ Some zone)
     from_head zone inside =
         made_from told heads (Some zone)
-        (Contains-permutation (map Some found) (map told heads) (Some zone) (IsPermutation-sym (map told heads) (map Some found) all_told) (made_to Some found zone inside))
+        (Contains-permutation (map Some found) (map told heads) (Some zone) (IsPermutation-sym (map told heads) (map Some found) all_told) (map_inside Some found zone inside))
 
     -- and of each head one is found
     to_zone : (head : Row) → Contains heads head → (zone : List ℕ × ℕ) × Contains found zone × (Some zone ≡ told head)
     to_zone head inside =
-        made_from Some found (told head) (Contains-permutation (map told heads) (map Some found) (told head) all_told (made_to told heads head inside))
+        made_from Some found (told head) (Contains-permutation (map told heads) (map Some found) (told head) all_told (map_inside told heads head inside))
 
     abbrev named_heads : List (List ℕ)
     named_heads = filter_map (λ row. id_in (column row 1)) (filter (is_of client) (columns_of (trees 13)))
@@ -198,22 +198,22 @@ module _ (trees : Trees) (client : List ℕ) (is : IsId client) (whole : IsWhole
         let e : Some id ≡ Some zone.0.0 =
         sym row.2 ∙ ap (λ r. id_in (column r 1)) (sym head.2) ∙ ap id_in (column_after head.0 1) ∙ (head_told head.0 zone.0 head.1 (sym zone.2)).0 in
         let same : zone.0.0 ≡ id = cc in
-        subst (Contains (map (λ z. z.0) found)) same (made_to (λ (z : List ℕ × ℕ). z.0) found zone.0 zone.1)
+        subst (Contains (map (λ z. z.0) found)) same (map_inside (λ (z : List ℕ × ℕ). z.0) found zone.0 zone.1)
 
     only_named : (id : List ℕ) → Contains (map (λ zone. zone.0) found) id → Contains named_heads id
     only_named id inside =
         let zone = made_from (λ (z : List ℕ × ℕ). z.0) found id inside in
         let head = from_head zone.0 zone.1 in
-        read_to (λ row. id_in (column row 1)) (filter (is_of client) (columns_of (trees 13))) (drop 1 head.0) id
-        (subst (λ rs. Contains rs (drop 1 head.0)) columns_of_heads (made_to (drop 1) heads head.0 head.1))
+        map_found (λ row. id_in (column row 1)) (filter (is_of client) (columns_of (trees 13))) (drop 1 head.0) id
+        (subst (λ rs. Contains rs (drop 1 head.0)) columns_of_heads (map_inside (drop 1) heads head.0 head.1))
         (ap id_in (column_after head.0 1) ∙ (head_told head.0 zone.0 head.1 head.2).0 ∙ ap Some zone.2)
 
     -- each zone that is found has its count
     all_sized : (some : List (List ℕ × ℕ)) → ((zone : List ℕ × ℕ) → Contains some zone → Contains found zone) → some ≡ map sized (map (λ zone. zone.0) some)
     all_sized [] inside = refl
     all_sized (zone ∷ some) inside =
-        let head = from_head zone (inside zone (first_in zone some)) in
-        ap₂ (λ z zs. z ∷ zs) (head_told head.0 zone head.1 head.2).1 (all_sized some (λ z h. inside z (rest_in zone z some h)))
+        let head = from_head zone (inside zone (first_inside zone some)) in
+        ap₂ (λ z zs. z ∷ zs) (head_told head.0 zone head.1 head.2).1 (all_sized some (λ z h. inside z (rest_inside zone z some h)))
 
     pub zones_told : found ≡ map (λ (zone : List ℕ × ZoneTable). (zone.0, length zone.1.rows)) ((tables_of (stored_in trees)).zones client)
     zones_told =

@@ -1,11 +1,9 @@
 //! What the rows of an answer say.
 ghost use Rattle.std.specs.Prelude.{◌≡◌, ◌<◌, ◌↔◌, [], map, option_map, unwrap_or, is_some, Some, IfOk, IfSome, IsTrue};
-ghost use Rattle.std.specs.Ordering.{is_lt};
 ghost use Rattle.sqlite_value.specs.Order as order;
 ghost use Rattle.bureau_store.specs.Caller.{IsProper, caller_named, is_publisher};
 ghost use Rattle.bureau_store.specs.Tables.{NamesAscend, PatternsAscend, no_change};
 ghost use Rattle.holddata.specs.HoldBook.{IsInKeyOrder};
-ghost use Rattle.holddata.specs.HoldKey.{key_cmp, kind_order};
 ghost use Rattle.catalogue.specs.Conditional.{CondsAscend};
 ghost use Rattle.catalogue.specs.Ids.{Ascend};
 ghost use Rattle.zone_lists.specs.ZoneList.{RowsAscend};
@@ -17,7 +15,7 @@ ghost use Rattle.sql_tables.specs.Values as value;
 use crate::ReadFault;
 use bureau_store::{Caller, CallerRow};
 use catalogue::{CondNeed, CondNeeds, Ids, Sysmod};
-use holddata::{Hold, HoldKey, Kind};
+use holddata::{Hold, key_cmp};
 use mcs_reader::Id;
 use sql_tables::{
     caller_in, change_in, cond_in, count_in, hold_in, id_row_in, ids_row_in, patterns_row_in,
@@ -325,28 +323,5 @@ fn each_hold(alloc: Global, rows: &[Row]) -> Result<Vec<Hold>, ReadFault>
 fn holds_ascend(holds: &[Hold]) -> bool
     ensures { IsTrue result ↔ IsInKeyOrder holds.now }
 {
-    holds.is_sorted_by(|hold, next| is_below(&hold.key, &next.key))
-}
-
-// By SYSMOD, then by kind, then by reason.
-fn is_below(key: &HoldKey, next: &HoldKey) -> bool
-    ensures { result ≡ is_lt (key_cmp key.now next.now) }
-{
-    let kinds = kind_order(key.kind).cmp(&kind_order(next.kind));
-    let reasons = key.reason.cmp(&next.reason);
-    key.sysmod
-        .cmp(&next.sysmod)
-        .then(kinds.then(reasons))
-        .is_lt()
-}
-
-fn kind_order(kind: Kind) -> u8
-    ensures { result ≡ kind_order kind }
-{
-    match kind {
-        Kind::ErrorHold => 0,
-        Kind::SystemHold => 1,
-        Kind::UserHold => 2,
-        Kind::FixcatHold => 3,
-    }
+    holds.is_sorted_by(|hold, next| key_cmp(&hold.key, &next.key).is_lt())
 }

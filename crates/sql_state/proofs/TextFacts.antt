@@ -4,6 +4,7 @@ use Rattle.std.specs.Prelude.{drop, Some, None, option_map, unwrap_or}
 use Rattle.std.specs.Str.{bytes_eq}
 use Rattle.std.proofs.Math.Bool.{and-true}
 use Rattle.std.proofs.lemmas.Bool.{both_ways, false_from_ne_true}
+use Rattle.lemmas.proofs.TestFacts.{same_test}
 use Rattle.mcs_reader.specs.Id.{IsId, is_id_text, padded, text_of}
 use Rattle.mcs_reader.proofs.IdFacts.{padded_over_blanks, text_over_blanks}
 use Rattle.catalogue.proofs.IdFacts.{itself, one_id}
@@ -21,13 +22,7 @@ use Rattle.sql_tables.proofs.TreeFacts.{column_after}
 use Rattle.sql_tables.specs.Stored.{is_named, is_of, is_of_both}
 use Rattle.sql_tables.specs.Values.{id_value}
 
--- two tests that pass together are one
-same_test : (a b : Bool) → (a ≡ true → b ≡ true) → (b ≡ true → a ≡ true) → a ≡ b
-same_test true b there back = sym (there refl)
-same_test false true there back = back refl
-same_test false false there back = refl
-
-text_again : (t : List ℕ) → is_id_text t ≡ true → text_of (padded t) ≡ t
+pub text_again : (t : List ℕ) → is_id_text t ≡ true → text_of (padded t) ≡ t
 text_again t is = ap text_of (sym (padded_over_blanks t)) ∙ text_over_blanks t t is refl
 
 -- a value is the text of an id just if it names the id

@@ -3,6 +3,7 @@ use Rattle.std.proofs.Common.{◌≡◌, ℕ, Bool, true, false, cond, ◌&&◌,
 use Rattle.std.specs.Prelude.{filter, map, Option, Some, None, option_map, unwrap_or}
 use Rattle.std.specs.List.{AllByRecursion, filter_map, cons_option, list_any}
 use Rattle.std.proofs.lemmas.Bool.{and_parts}
+use Rattle.std.proofs.Math.Bool.{and-false}
 use Rattle.mcs_reader.specs.Id.{IsId}
 use Rattle.zone_lists.specs.declared.zones.ZoneRow.{ZoneRow}
 use Rattle.catalogue.specs.Ids.{same_id}
@@ -33,11 +34,7 @@ zones_apart client other zone next apart row at =
 pub names_apart : (client zone next : List ℕ) → same_id zone next ≡ false → (row : Row) → is_of_both client zone row ≡ true → is_of_both client next row ≡ false
 names_apart client zone next apart row at =
     ap (λ b. is_of client row && b) (named_apart zone next (column row 1) apart (and_parts (is_of client row) (is_named zone (column row 1)) at).1)
-    ∙ off (is_of client row)
-  where
-    off : (b : Bool) → (b && false) ≡ false
-    off true = refl
-    off false = refl
+    ∙ and-false (is_of client row)
 
 -- a row that is made is of its client and its zone, and of no other
 module _ (client zone : List ℕ) (is_client : IsId client) (is_zone : IsId zone) (more : List Value) where

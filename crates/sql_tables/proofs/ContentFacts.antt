@@ -10,6 +10,7 @@ use Rattle.std.specs.Option.{option_or}
 use Rattle.std.proofs.lemmas.List.{reverse-append}
 use Rattle.std.proofs.lemmas.List.Folds.{find-append}
 use Rattle.std.proofs.lemmas.Map.Lookups.{CmpEqualImpliesEq}
+use Rattle.std.proofs.Math.Bool.{and-false}
 use Rattle.mcs_reader.specs.Id.{IsId}
 use Rattle.holddata.specs.HoldBook.{book_of, hold_under}
 use Rattle.holddata.specs.HoldChange.{hold_left, hold_put, names}
@@ -232,17 +233,13 @@ left_put holds key = ap (option_and_then hold_put) (found_put holds key) ∙ by 
 key_is : (key : HoldKey) (row : Row) → is_under key row ≡ unwrap_or (option_map (λ found. is_same_key found key) (key_found row)) false
 key_is key row = by (id_in (column row 0)) (hold_kind_in (column row 1)) (id_in (column row 2))
   where
-    off : (b : Bool) → (b && false) ≡ false
-    off true = refl
-    off false = refl
-
     by : (a : Option (List ℕ)) (b : Option Kind) (c : Option (List ℕ))
         → (unwrap_or (option_map (λ found. same_id found key.sysmod) a) false
         && (unwrap_or (option_map (λ found. is_same_kind found key.kind) b) false && unwrap_or (option_map (λ found. same_id found key.reason) c) false))
         ≡ unwrap_or (option_map (λ (found : HoldKey). is_same_key found key) (with a (λ sysmod. with b (λ kind. option_map (λ reason. record { sysmod = sysmod; kind = kind; reason = reason }) c)))) false
     by None b c = refl
-    by (Some sysmod) None c = off (same_id sysmod key.sysmod)
-    by (Some sysmod) (Some kind) None = ap (λ x. same_id sysmod key.sysmod && x) (off (is_same_kind kind key.kind)) ∙ off (same_id sysmod key.sysmod)
+    by (Some sysmod) None c = and-false (same_id sysmod key.sysmod)
+    by (Some sysmod) (Some kind) None = ap (λ x. same_id sysmod key.sysmod && x) (and-false (is_same_kind kind key.kind)) ∙ and-false (same_id sysmod key.sysmod)
     by (Some sysmod) (Some kind) (Some reason) = refl
 
 -- a hold that is read has the key of its row

@@ -1,29 +1,14 @@
 -- Lists in ascending order are known by their members.
-use Rattle.std.proofs.Common.{◌≡◌, ◌⊎◌, ℕ, Bool, true, false, cond, List, [], ◌∷◌, refl, sym, ◌∙◌, ap, subst, inl, inr, arith}
+use Rattle.std.proofs.Common.{◌≡◌, ◌⊎◌, ℕ, Bool, true, false, cond, List, [], ◌∷◌, refl, sym, ◌∙◌, ap, subst, inl, inr}
 use Rattle.std.specs.Prelude.{find, map, Option, Some, None}
 use Rattle.std.specs.List.{AllByRecursion, Contains}
 use Rattle.std.specs.List.Sorted.{IsPermutation, IsStrictlySortedBy}
 use Rattle.std.specs.declared.cmp.Ordering.TheVariants.{Less}
-use Rattle.std.proofs.lemmas.List.Elements.{Contains-append_cases, Contains-append_left, Contains-append_right, Contains-push, Contains-push_cases}
 use Rattle.std.proofs.lemmas.List.Sorted.{Contains-permutation, IsPermutation-sym}
+use Rattle.lemmas.proofs.ListFacts.{first_inside, inside_cases, none_inside, rest_inside}
 use Rattle.catalogue.specs.Ids.{id_cmp, same_id}
 use Rattle.catalogue.proofs.IdFacts.{apart, itself, one_id}
 use Rattle.sql_tables.proofs.OrderFacts.{KeysAscend, by_key, by_key_ascends, by_key_with, same_by_key, with_key}
-
-pub none_in : {A : Type 0} (x : A) → Contains [] x → ⊥
-none_in x inside = omega (arith, inside.1)
-
-pub first_in : {A : Type 0} (x : A) (xs : List A) → Contains (x ∷ xs) x
-first_in x xs = Contains-append_left (x ∷ []) xs x (Contains-push [] x)
-
-pub rest_in : {A : Type 0} (x y : A) (xs : List A) → Contains xs y → Contains (x ∷ xs) y
-rest_in x y xs inside = Contains-append_right (x ∷ []) xs y inside
-
-pub cases_in : {A : Type 0} (x y : A) (xs : List A) → Contains (x ∷ xs) y → (x ≡ y) ⊎ Contains xs y
-cases_in x y xs inside = elim (Contains-append_cases (x ∷ []) xs y inside) [
-  | inl first ↦ elim (Contains-push_cases [] x y first) [ inl none ↦ absurd (none_in y none) | inr e ↦ inl e ]
-  | inr later ↦ inr later
-]
 
 -- what is found is a member
 pub found_in : {A : Type 0} (test : A → Bool) (xs : List A) (x : A) → find test xs ≡ Some x → Contains xs x × (test x ≡ true)
@@ -31,13 +16,13 @@ found_in test [] x h = cc
 found_in test (y ∷ ys) x h = by (test y) refl (found_in test ys x) h
   where
     by : (b : Bool) → test y ≡ b → (find test ys ≡ Some x → Contains ys x × (test x ≡ true)) → cond b (Some y) (find test ys) ≡ Some x → Contains (y ∷ ys) x × (test x ≡ true)
-    by true at rest e = (let same : y ≡ x = cc in (subst (λ z. Contains (y ∷ ys) z) same (first_in y ys), ap test (sym same) ∙ at))
-    by false at rest e = (let later = rest e in (rest_in y x ys later.0, later.1))
+    by true at rest e = (let same : y ≡ x = cc in (subst (λ z. Contains (y ∷ ys) z) same (first_inside y ys), ap test (sym same) ∙ at))
+    by false at rest e = (let later = rest e in (rest_inside y x ys later.0, later.1))
 
 -- where nothing is found, no member passes
 pub none_found : {A : Type 0} (test : A → Bool) (xs : List A) → find test xs ≡ None → (x : A) → Contains xs x → test x ≡ true → ⊥
-none_found test [] h x inside passes = none_in x inside
-none_found test (y ∷ ys) h x inside passes = by (test y) refl h (none_found test ys) (cases_in y x ys inside)
+none_found test [] h x inside passes = none_inside x inside
+none_found test (y ∷ ys) h x inside passes = by (test y) refl h (none_found test ys) (inside_cases y x ys inside)
   where
     by : (b : Bool) → test y ≡ b → cond b (Some y) (find test ys) ≡ None → (find test ys ≡ None → (z : _) → Contains ys z → test z ≡ true → ⊥) → (y ≡ x) ⊎ Contains ys x → ⊥
     by true at e rest cases = cc
@@ -46,8 +31,8 @@ none_found test (y ∷ ys) h x inside passes = by (test y) refl h (none_found te
 
 module _ {X : Type 0} (key : X → List ℕ) where
   all_at : (P : List ℕ → Type 0) (xs : List X) → AllByRecursion P (map key xs) → (x : X) → Contains xs x → P (key x)
-  all_at P [] all x inside = absurd (none_in x inside)
-  all_at P (y ∷ ys) all x inside = elim (cases_in y x ys inside) [
+  all_at P [] all x inside = absurd (none_inside x inside)
+  all_at P (y ∷ ys) all x inside = elim (inside_cases y x ys inside) [
     | inl same ↦ subst (λ z. P (key z)) same all.0
     | inr later ↦ all_at P ys all.1 x later
   ]
@@ -55,8 +40,8 @@ module _ {X : Type 0} (key : X → List ℕ) where
   -- each member of a list that ascends is found under its key
   pub member_with : (xs : List X) → KeysAscend key xs → (x : X) → Contains xs x → with_key key xs (key x) ≡ Some x
   unfolding IsStrictlySortedBy
-  member_with [] h x inside = absurd (none_in x inside)
-  member_with (y ∷ ys) h x inside = elim (cases_in y x ys inside) [
+  member_with [] h x inside = absurd (none_inside x inside)
+  member_with (y ∷ ys) h x inside = elim (inside_cases y x ys inside) [
     | inl same ↦ subst (λ z. with_key key (y ∷ ys) (key z) ≡ Some z) same (ap (λ b. cond b (Some y) (with_key key ys (key y))) (itself (key y)))
     | inr later ↦ ap (λ b. cond b (Some y) (with_key key ys (key x))) (apart (key y) (key x) (all_at (λ k. id_cmp (key y) k ≡ Less) ys h.0 x later)) ∙ member_with ys h.1 x later
   ]

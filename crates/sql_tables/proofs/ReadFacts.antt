@@ -6,6 +6,7 @@ use Rattle.std.specs.List.Sorted.{IsPermutation, IsStrictlySortedBy}
 use Rattle.std.specs.Ordering.{is_eq}
 use Rattle.std.specs.declared.cmp.Ordering.TheVariants.{Less}
 use Rattle.std.proofs.lemmas.List.Sorted.{Contains-permutation, IsPermutation-reverse, IsPermutation-sym}
+use Rattle.lemmas.proofs.ListFacts.{inside_cases, none_inside}
 use Rattle.catalogue.proofs.BookFacts.{filtered_in_order, own_book, own_left}
 use Rattle.holddata.specs.HoldBook.{IsInKeyOrder, book_of, hold_under, keys_in}
 use Rattle.holddata.specs.HoldKey.{is_same_key, key_cmp}
@@ -19,7 +20,7 @@ use Rattle.zone_lists.specs.declared.zones.ZoneRow.{ZoneRow}
 use Rattle.sqlite_value.specs.Order.{Row}
 use Rattle.sql_tables.specs.Stored.{rows_as_stored, zone_rows_of}
 use Rattle.sql_tables.proofs.ContentFacts.{key_itself, last_under, left_put}
-use Rattle.sql_tables.proofs.MemberFacts.{cases_in, found_in, none_found, none_in, read_in_order}
+use Rattle.sql_tables.proofs.MemberFacts.{found_in, none_found, read_in_order}
 
 -- the rows of a zone
 pub zone_rows_read : (rows : List Row) (client zone : List ℕ) (found : List ZoneRow) → RowsAscend found → IsPermutation (rows_as_stored rows client zone) found
@@ -31,16 +32,16 @@ zone_rows_read rows client zone found ascend permuted = read_in_order (λ row. r
 -- a hold of a book in order is found under its key
 member_under : (book : List Hold) → IsInKeyOrder book → (hold : Hold) → Contains book hold → hold_under book hold.key ≡ Some hold
 unfolding IsStrictlySortedBy
-member_under [] h hold inside = absurd (none_in hold inside)
-member_under (first ∷ book) h hold inside = elim (cases_in first hold book inside) [
+member_under [] h hold inside = absurd (none_inside hold inside)
+member_under (first ∷ book) h hold inside = elim (inside_cases first hold book inside) [
   | inl same ↦ subst (λ (x : Hold). hold_under (first ∷ book) x.key ≡ Some x) same (ap (λ b. cond b (Some first) (hold_under book first.key)) (key_itself first.key))
   | inr later ↦ ap (λ b. cond b (Some first) (hold_under book hold.key))
       (turned_same hold.key first.key ∙ sym (same_is first.key hold.key) ∙ ap is_eq (all_at book h.0 hold later)) ∙ member_under book h.1 hold later
 ]
   where
     all_at : (holds : List Hold) → AllByRecursion (λ k. key_cmp first.key k ≡ Less) (keys_in holds) → (x : Hold) → Contains holds x → key_cmp first.key x.key ≡ Less
-    all_at [] all x inside = absurd (none_in x inside)
-    all_at (y ∷ ys) all x inside = elim (cases_in y x ys inside) [
+    all_at [] all x inside = absurd (none_inside x inside)
+    all_at (y ∷ ys) all x inside = elim (inside_cases y x ys inside) [
       | inl same ↦ subst (λ (z : Hold). key_cmp first.key z.key ≡ Less) same all.0
       | inr later ↦ all_at ys all.1 x later
     ]

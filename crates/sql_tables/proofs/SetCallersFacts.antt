@@ -10,6 +10,7 @@ use Rattle.std.proofs.lemmas.List.{length-map}
 use Rattle.std.proofs.lemmas.List.Recursion.{is_count_by}
 use Rattle.std.proofs.lemmas.List.Sorted.{Contains-permutation, IsPermutation-sym, sum_by-IsPermutation}
 use Rattle.std.proofs.lemmas.List.Sums.{length-filter, sum_by-cons}
+use Rattle.lemmas.proofs.ListFacts.{inside_cases, none_inside}
 use Rattle.mcs_reader.specs.Id.{IsId}
 use Rattle.catalogue.specs.Ids.{id_cmp, in_order, same_id}
 use Rattle.catalogue.proofs.IdFacts.{apart, itself, one_id, same_back}
@@ -30,7 +31,7 @@ use Rattle.sql_tables.specs.Values.{id_in, ids_in}
 use Rattle.sql_tables.proofs.ChangeFacts.{callers_again}
 use Rattle.sql_tables.proofs.ClientFacts.{of_apart}
 use Rattle.sql_tables.proofs.ListFacts.{filter_other, filter_same}
-use Rattle.sql_tables.proofs.MemberFacts.{cases_in, found_in, none_found, none_in}
+use Rattle.sql_tables.proofs.MemberFacts.{found_in, none_found}
 use Rattle.sql_tables.proofs.ValueFacts.{named_apart}
 use Rattle.sql_tables.proofs.ZoneFacts.{same_zones}
 
@@ -111,13 +112,13 @@ content_stays (name ∷ names) stored = content_stays names (without_caller stor
 -- two of the rows with one name are one
 one_row : (rows : List CallerRow) → NamesAscend (map (λ (row : CallerRow). row.name) rows) → (a b : CallerRow) → Contains rows a → Contains rows b → a.name ≡ b.name → a ≡ b
 unfolding IsStrictlySortedBy
-one_row [] ascend a b in_a in_b same = absurd (none_in a in_a)
-one_row (row ∷ rows) ascend a b in_a in_b same = elim (cases_in row a rows in_a) [
-  | inl is_a ↦ elim (cases_in row b rows in_b) [
+one_row [] ascend a b in_a in_b same = absurd (none_inside a in_a)
+one_row (row ∷ rows) ascend a b in_a in_b same = elim (inside_cases row a rows in_a) [
+  | inl is_a ↦ elim (inside_cases row b rows in_b) [
     | inl is_b ↦ sym is_a ∙ is_b
     | inr later ↦ absurd (below rows ascend.0 b later (ap (λ (r : CallerRow). r.name) is_a ∙ same))
   ]
-  | inr earlier ↦ elim (cases_in row b rows in_b) [
+  | inr earlier ↦ elim (inside_cases row b rows in_b) [
     | inl is_b ↦ absurd (below rows ascend.0 a earlier (ap (λ (r : CallerRow). r.name) is_b ∙ sym same))
     | inr later ↦ one_row rows ascend.1 a b earlier later same
   ]
@@ -125,8 +126,8 @@ one_row (row ∷ rows) ascend a b in_a in_b same = elim (cases_in row a rows in_
   where
     below : (others : List CallerRow) → AllByRecursion (λ name. id_cmp row.name name ≡ Less) (map (λ (row : CallerRow). row.name) others) → (other : CallerRow) → Contains others other
         → row.name ≡ other.name → ⊥
-    below [] all other inside is = none_in other inside
-    below (next ∷ others) all other inside is = elim (cases_in next other others inside) [
+    below [] all other inside is = none_inside other inside
+    below (next ∷ others) all other inside is = elim (inside_cases next other others inside) [
       | inl here ↦
           (let less : id_cmp row.name other.name ≡ Less = subst (λ (r : CallerRow). id_cmp row.name r.name ≡ Less) here all.0 in
           let f : true ≡ false = sym (itself row.name) ∙ ap (same_id row.name) is ∙ apart row.name other.name less in cc)

@@ -4,6 +4,7 @@ use Rattle.std.specs.Prelude.{filter, fold, map, not, take, Some}
 use Rattle.std.specs.List.{AllByRecursion, list_any, list_all}
 use Rattle.std.specs.List.Sorted.{IsStrictlySortedBy}
 use Rattle.std.specs.declared.cmp.Ordering.TheVariants.{Less}
+use Rattle.lemmas.proofs.ListFacts.{all_append, all_so}
 use Rattle.mcs_reader.specs.Id.{IsId}
 use Rattle.holddata.specs.declared.hold.HoldChange.TheVariants.{Put, Release}
 use Rattle.holddata.specs.declared.key.HoldKey.{HoldKey}
@@ -40,18 +41,9 @@ all_filter P test (x ∷ xs) all = by (test x) (all_filter P test xs all.1)
     by true rest = (all.0, rest)
     by false rest = rest
 
-pub all_append : {X : Type 0} (P : X → Type 0) (xs ys : List X) → AllByRecursion P xs → AllByRecursion P ys → AllByRecursion P (xs ++ ys)
-all_append P [] ys first second = second
-all_append P (x ∷ xs) ys first second = (first.0, all_append P xs ys first.1 second)
-
 pub all_map : {X Y : Type 0} (P : Y → Type 0) (f : X → Y) (xs : List X) → AllByRecursion (λ x. P (f x)) xs → AllByRecursion P (map f xs)
 all_map P f [] all = tt
 all_map P f (x ∷ xs) all = (all.0, all_map P f xs all.1)
-
--- one fact of each from another
-pub all_from : {X : Type 0} (P Q : X → Type 0) → ((x : X) → P x → Q x) → (xs : List X) → AllByRecursion P xs → AllByRecursion Q xs
-all_from P Q step [] all = tt
-all_from P Q step (x ∷ xs) all = (step x all.0, all_from P Q step xs all.1)
 
 -- what a filter keeps passes its test
 all_kept : (P : Row → Type 0) (test : Row → Bool) → ((row : Row) → test row ≡ true → P row) → (rows : List Row) → AllByRecursion P (filter test rows)
@@ -90,7 +82,7 @@ own_appended columns (row ∷ rows) news own new differ = (
 differ_by : (columns : ℕ) (test : Row → Bool) → ((a b : Row) → take columns a ≡ take columns b → test a ≡ test b) → (row : Row) → test row ≡ false
     → (news : List Row) → AllByRecursion (λ new. test new ≡ true) news → AllByRecursion (λ new. take columns row ≢ take columns new) news
 differ_by columns test alike row fails news pass =
-    all_from (λ new. test new ≡ true) (λ new. take columns row ≢ take columns new) (λ new at same. let e : false ≡ true = sym fails ∙ alike row new same ∙ at in absurd (cc)) news pass
+    all_so (λ new. test new ≡ true) (λ new. take columns row ≢ take columns new) (λ new at same. let e : false ≡ true = sym fails ∙ alike row new same ∙ at in absurd (cc)) news pass
 
 own_replaced : (columns : ℕ) (test : Row → Bool) → ((a b : Row) → take columns a ≡ take columns b → test a ≡ test b) → (news rows : List Row)
     → AllByRecursion (λ new. test new ≡ true) news → HaveOwnKeys columns news → HaveOwnKeys columns rows → HaveOwnKeys columns (replaced test news rows)
@@ -215,7 +207,7 @@ module _ (client : List ℕ) (is_client : IsId client) where
       by true at = own
       by false at =
           own_appended 2 heads (head_row client zone [] ∷ []) own (tt, tt)
-          (all_from (λ row. is_of_both client zone row ≡ false) (λ row. AllByRecursion (λ new. take 2 row ≢ take 2 new) (head_row client zone [] ∷ []))
+          (all_so (λ row. is_of_both client zone row ≡ false) (λ row. AllByRecursion (λ new. take 2 row ≢ take 2 new) (head_row client zone [] ∷ []))
           (λ row fails. differ_by 2 (is_of_both client zone) (by_zone client zone) row fails (head_row client zone [] ∷ []) (made_here client zone is_client fit.0 (texts_value [] ∷ []), tt)) heads
           (none_pass (is_of_both client zone) heads at))
   heads_own (zone_dropped zone) heads fit own = own_replaced 2 (is_of_both client zone) (by_zone client zone) [] heads tt tt own

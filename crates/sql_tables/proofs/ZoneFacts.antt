@@ -101,7 +101,7 @@ rows_other client name zone (patterns_put put patterns) is fit other rows = refl
 abbrev table : List ZoneRow → List (List ℕ) → ZoneTable
 table rows patterns = record { rows = rows; patterns = patterns }
 
-nothing_first : (rows : List Row) → is_some (first rows) ≡ false → rows ≡ []
+pub nothing_first : (rows : List Row) → is_some (first rows) ≡ false → rows ≡ []
 nothing_first [] h = refl
 nothing_first (row ∷ rows) h = cc
 

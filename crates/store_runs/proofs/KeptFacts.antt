@@ -11,13 +11,12 @@ use Rattle.bureau_sql.proofs.FilesFacts.{earlier_found, store_found}
 use Rattle.bureau_sql.proofs.FoundedFacts.{ours_new, tables_new}
 use Rattle.bureau_sql.specs.Migrated.{AreMigrated}
 use Rattle.sql_state.specs.Earlier.{AreOfVersion1, IsOfVersion1, held_by_version_1}
-use Rattle.sql_state.specs.Ours.{AreOurs, IsOurs, version_rows}
+use Rattle.sql_state.specs.Ours.{AreOurs}
 use Rattle.sql_state.proofs.StopFacts.{was_clean}
 use Rattle.sql_tables.specs.InTrees.{stored_in}
 use Rattle.sql_tables.specs.Stored.{Stored, tables_of}
-use Rattle.sql_tables.specs.Whole.{IsWhole}
+use Rattle.bureau_sql.proofs.MigratedFacts.{after_is_ours}
 use Rattle.sql_writes.specs.Making.{IsOpened}
-use Rattle.sql_writes.specs.Migrating.{HoldsAll}
 use Rattle.sqlite_catalog.specs.Listing.{IsSound}
 use Rattle.sqlite_disk.specs.declared.Disk as disk
 use Rattle.sqlite_store.specs.FileStore.{view}
@@ -142,17 +141,6 @@ kept_made from source outcome (Closed last) used =
     made_closed from source used.found used.left used.finds used.used.0 used.used.2 last used.ends outcome used.used.1
 
 -- ---- migrate
-
-after_is_ours : (before after : Database) → IsOfVersion1 before → HoldsAll (version_rows 2) (held_by_version_1 before) after → IsOurs after
-after_is_ours before after was is = record {
-  schema = is.known.schema;
-  rows = record {
-    sound = subst (λ schema. IsSound schema after.trees) is.known.schema is.known.sound;
-    numbered = is.known.numbered;
-    version = is.version;
-    whole = subst IsWhole (sym is.held) was.rows.whole;
-  };
-}
 
 -- the rows of trees of version 1
 earlier_in : Database → Trees → Stored

@@ -26,11 +26,11 @@ use std::alloc::Global;
 use std::io::Write;
 use transfer::RETRIES;
 
-/// Gives the store in the database of a connection these callers, and no others, and prints how many there are and how many
-/// came and went. Returns the exit status, and the connection.
+/// Gives the store in the database of a connection these callers, and no others, and prints how many there are and
+/// how many came and went. Returns the exit status, and the connection.
 ///
-/// A fault is told on `errors` alone. Where the line can't be written (72), or memory runs out for it (74), the store has the
-/// callers.
+/// A fault is told on `errors` alone. Where the line can't be written (72), or memory runs out for it (74), the
+/// store has the callers.
 pub fn run_callers<S: Alter + Drop, W: Write, E: Write>(
     alloc: Global,
     conn: Connection<S>,
@@ -140,8 +140,8 @@ fn push_count(line: &mut Vec<u8>, word: &[u8], number: u64) -> Result<(), Progra
     Ok(())
 }
 
-/// Gives the store in the file `store` the callers that stand in the file `callers`. A file that isn't there is not made.
-/// Returns the exit status, and what is left of the store's files.
+/// Gives the store in the file `store` the callers that stand in the file `callers`. A file that isn't there is not
+/// made. Returns the exit status, and what is left of the store's files.
 ///
 /// A fault of the callers file is told before the store is opened.
 pub fn callers_file<S: Stores, D: Start, O: Write, E: Write>(

@@ -37,10 +37,11 @@ pub struct CheckFault {
     pub table: Option<StoreTable>,
 }
 
-/// Looks the store in the database of a connection through, and prints how much it has. Returns the exit status, and the
-/// connection, at rest.
+/// Looks the store in the database of a connection through, and prints how much it has. Returns the exit status,
+/// and the connection, at rest.
 ///
-/// Nothing is written to the database. A fault is told on `errors` alone, with the name of the table that has a wrong row.
+/// Nothing is written to the database. A fault is told on `errors` alone, with the name of the table that has a
+/// wrong row.
 pub fn run_check<S: Alter + Drop, W: Write, E: Write>(
     alloc: Global,
     conn: Connection<S>,
@@ -59,8 +60,8 @@ pub fn run_check<S: Alter + Drop, W: Write, E: Write>(
     (told_in(errors, outcome), conn)
 }
 
-/// The same of the store that a file has. A file that isn't there is not made. Returns the exit status, and what is left
-/// of the files.
+/// The same of the store that a file has. A file that isn't there is not made. Returns the exit status, and what is
+/// left of the files.
 pub fn check_file<S: Stores, D: Start, W: Write, E: Write>(
     surroundings: &S,
     alloc: Global,

@@ -128,8 +128,8 @@ pub fn of_store(fault: StoreFault) -> AnyFault
     AnyFault::from(fault)
 }
 
-/// Makes a store in the file `store`, with the callers that stand in the file `callers`. Returns the exit status, and what is
-/// left of the store's files.
+/// Makes a store in the file `store`, with the callers that stand in the file `callers`. Returns the exit status,
+/// and what is left of the store's files.
 ///
 /// A file that isn't there is made. Where it isn't, a fault of the callers file is told before.
 pub fn do_init<S: Stores, D: Start, O: Write, E: Write>(

@@ -16,8 +16,8 @@ pub enum Ended<D: Disk> {
 }
 
 impl<D: Disk + Drop> Ended<D> {
-    /// Copies the log into the database's file, as the last thing of a run. What is committed stays, whatever the device
-    /// answers. Both files are closed once the result is dropped.
+    /// Copies the log into the database's file, as the last thing of a run. What is committed stays, whatever the
+    /// device answers. Both files are closed once the result is dropped.
     pub fn close(self) -> Ended<D>
         ensures { IsCopiedEnd self result }
     {

@@ -2,10 +2,12 @@
 //! callers, or is looked through, and what its files hold wherever a run ends.
 //!
 //! - [`Stores`]: files, and connections to the databases in them
-//! - [`do_init`], [`migrate_file`], [`callers_file`]: `init`, `migrate` and `callers`, of stores by the names of their files
-//! - [`run_init`], [`run_open`], [`run_migrate`], [`run_callers`]: a store is made, opened, made one of version 2, or gets other
-//!   callers, over a connection
-//! - [`check_file`], [`run_check`]: `check`, by the name of a file or over a connection; [`CheckFault`]: why it ends with a fault
+//! - [`do_init`], [`migrate_file`], [`callers_file`]: `init`, `migrate` and `callers`, of stores by the names of
+//!   their files
+//! - [`run_init`], [`run_open`], [`run_migrate`], [`run_callers`]: a store is made, opened, made one of version 2,
+//!   or gets other callers, over a connection
+//! - [`check_file`], [`run_check`]: `check`, by the name of a file or over a connection; [`CheckFault`]: why it
+//!   ends with a fault
 //! - [`law`]: what an `init` that was stopped leaves, for the next run
 //! - [`callers_in`]: the callers of a callers file; [`of_store`]: what is told of a fault of a store
 //! - [`Ended`]: the files of a store, where a run ends; [`end`]: a connection is ended

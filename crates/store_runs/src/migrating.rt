@@ -91,8 +91,8 @@ fn migrate<S: Alter + Drop>(
     }
 }
 
-/// The same of the store that a file has. A file that isn't there is not made. Returns the exit status, and what is left
-/// of the files.
+/// The same of the store that a file has. A file that isn't there is not made. Returns the exit status, and what is
+/// left of the files.
 pub fn migrate_file<S: Stores, D: Start, W: Write, E: Write>(
     surroundings: &S,
     alloc: Global,

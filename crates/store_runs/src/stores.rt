@@ -20,9 +20,9 @@ pub trait Stores: Files {
     ///
     /// # Errors
     ///
-    /// `Shape` where the file isn't there and isn't to be made; `Memory` where memory ran out; `Device` where the name
-    /// is no file's, where the file may not be opened or another has it open, where a call on it failed, or where it is no
-    /// database, or one as long as a database may be. With it comes what is left of the files.
+    /// `Shape` where the file isn't there and isn't to be made; `Memory` where memory ran out; `Device` where the
+    /// name is no file's, where the file may not be opened or another has it open, where a call on it failed, or
+    /// where it is no database, or one as long as a database may be. With it comes what is left of the files.
     fn connect<D: Start>(
         &self,
         name: &str,

@@ -1,9 +1,9 @@
 -- What is there in a zone, by the givers of an id.
-use Rattle.std.proofs.Common.{◌≡◌, ◌⊎◌, ℕ, ◌&&◌, ◌||◌, ◌∙◌, Bool, true, false, List, [], ◌∷◌, filter, is_some, inl, inr, refl, sym, ap}
+use Rattle.std.proofs.Common.{◌≡◌, ◌⊎◌, ℕ, ◌&&◌, ◌||◌, ◌∙◌, Bool, true, List, [], ◌∷◌, filter, is_some, inl, inr, refl, sym, ap}
 use Rattle.std.specs.Cmp.{both_ways}
 use Rattle.std.specs.List.{find, list_any}
 use Rattle.std.specs.Str.{bytes_eq}
-use Rattle.std.proofs.lemmas.Bool.{cases_Bool}
+use Rattle.std.proofs.lemmas.Bool.{cases_Bool, and_parts}
 use Rattle.std.proofs.lemmas.Slice.Eq.{bytes_eq-Decides}
 use Rattle.zone_lists.specs.Installed.{is_installed, is_installed_state, is_listed}
 use Rattle.zone_lists.specs.declared.zones.ZoneRow.{ZoneRow}
@@ -15,12 +15,6 @@ use Rattle.supersede.specs.Giving.{gives, givers_of, is_there}
 abbrev pub In : {X : Type 0} → List X → X → Type 0
 In [] x = ⊥
 In (y ∷ ys) x = (y ≡ x) ⊎ In ys x
-
--- both parts of a test that holds
-pub both : (a b : Bool) → (a && b) ≡ true → (a ≡ true) × (b ≡ true)
-both true true h = (refl, refl)
-both true false h = absurd (cc h)
-both false b h = absurd (cc h)
 
 -- an element that passes makes a test of any hold, and one that holds has such an element
 pub any_has : {X : Type 0} → (p : X → Bool) (xs : List X) (x : X) → In xs x → p x ≡ true → list_any p xs ≡ true
@@ -79,14 +73,14 @@ by_givers content rows id =
     let giver = any_found (λ giver. is_installed rows giver) (givers_of content id) h in
     let gives_it = passed (λ giver. gives content giver id) (ids_of content) giver.one giver.among in
     let row = any_found (λ row. bytes_eq row.sysmod giver.one && is_installed_state row.state) rows giver.passes in
-    let parts = both (bytes_eq row.one.sysmod giver.one) (is_installed_state row.one.state) row.passes in
+    let parts = and_parts (bytes_eq row.one.sysmod giver.one) (is_installed_state row.one.state) row.passes in
     let is : row.one.sysmod ≡ giver.one = (bytes_eq-Decides row.one.sysmod giver.one).0 parts.0 in
     let it_gives : gives content row.one.sysmod id ≡ true = rw is gives_it in
     any_has (λ row. is_installed_state row.state && gives content row.sysmod id) rows row.one row.among (rw (parts.1, it_gives) refl)
     ) (λ h.
     let row = any_found (λ row. is_installed_state row.state && gives content row.sysmod id) rows h in
-    let parts = both (is_installed_state row.one.state) (gives content row.one.sysmod id) row.passes in
-    let is_known = both (is_some (record_of content row.one.sysmod)) _ parts.1 in
+    let parts = and_parts (is_installed_state row.one.state) (gives content row.one.sysmod id) row.passes in
+    let is_known = and_parts (is_some (record_of content row.one.sysmod)) _ parts.1 in
     let among = kept (λ giver. gives content giver id) (ids_of content) row.one.sysmod (catalogued content.sysmods row.one.sysmod is_known.0) parts.1 in
     any_has (λ giver. is_installed rows giver) (givers_of content id) row.one.sysmod among (
     any_has (λ r. bytes_eq r.sysmod row.one.sysmod && is_installed_state r.state) rows row.one row.among (rw (same_self row.one.sysmod, parts.0) refl)

@@ -4,7 +4,7 @@ use Rattle.std.specs.List.{Contains, find}
 use Rattle.std.specs.Option.{IsSomeAnd}
 use Rattle.std.specs.Str.{bytes_eq}
 use Rattle.std.proofs.Math.Bool.{or-true}
-use Rattle.std.proofs.lemmas.Bool.{cases_Bool}
+use Rattle.std.proofs.lemmas.Bool.{cases_Bool, and_parts}
 use Rattle.std.proofs.lemmas.List.{length-map}
 use Rattle.std.proofs.lemmas.Slice.Eq.{bytes_eq-Decides}
 use Rattle.zone_lists.specs.Installed.{is_installed_state, is_listed}
@@ -14,7 +14,7 @@ use Rattle.catalogue.specs.Content.{Content, Supersedes, ids_in, ids_of, is_of, 
 use Rattle.catalogue.specs.declared.sysmod.Sysmod.{Sysmod}
 use Rattle.supersede.specs.Giving.{gives, is_there, sup_of, supersedes_within}
 use Rattle.supersede.specs.Leading.{Gives, IsThere, IsWay}
-use Rattle.supersede.proofs.GivingFacts.{In, any_found, any_has, both, catalogued, same_self}
+use Rattle.supersede.proofs.GivingFacts.{In, any_found, any_has, catalogued, same_self}
 use Rattle.supersede.proofs.PathFacts.{AllSources, shorten}
 
 module _ (content : Content) where
@@ -78,7 +78,7 @@ module _ (content : Content) where
   pub gives_is : (giver id : List ℕ) → (gives content giver id ≡ true) ↔ Gives content giver id
   gives_is giver id = (
     λ h.
-        let parts = both (is_some (record_of content giver)) (supersedes_within content (length content.sysmods) giver id) h in
+        let parts = and_parts (is_some (record_of content giver)) (supersedes_within content (length content.sysmods) giver id) h in
         let way = way_found (length content.sysmods) giver id parts.1 in
         record { catalogued = contains_from_in (ids_of content) giver (catalogued content.sysmods giver parts.0); way = way.list; leads = way.leads },
     λ g.
@@ -100,7 +100,7 @@ there_is content rows id = (
     | inl listed ↦ inl listed
     | inr other ↦
         let row = any_found (λ row. is_installed_state row.state && gives content row.sysmod id) rows (rw other at h) in
-        let parts = both (is_installed_state row.one.state) (gives content row.one.sysmod id) row.passes in
+        let parts = and_parts (is_installed_state row.one.state) (gives content row.one.sysmod id) row.passes in
         inr (record {
           giver = row.one.sysmod;
           installed = any_has (λ r. bytes_eq r.sysmod row.one.sysmod && is_installed_state r.state) rows row.one row.among (rw (same_self row.one.sysmod, parts.0) refl);
@@ -111,7 +111,7 @@ there_is content rows id = (
     | inl listed ↦ rw listed refl
     | inr by ↦
         let row = any_found (λ r. bytes_eq r.sysmod by.giver && is_installed_state r.state) rows by.installed in
-        let parts = both (bytes_eq row.one.sysmod by.giver) (is_installed_state row.one.state) row.passes in
+        let parts = and_parts (bytes_eq row.one.sysmod by.giver) (is_installed_state row.one.state) row.passes in
         let is : row.one.sysmod ≡ by.giver = (bytes_eq-Decides row.one.sysmod by.giver).0 parts.0 in
         let it_gives : gives content row.one.sysmod id ≡ true = rw is ((gives_is content by.giver id).1 by.gives) in
         let any = any_has (λ r. is_installed_state r.state && gives content r.sysmod id) rows row.one row.among (rw (parts.1, it_gives) refl) in

@@ -1,5 +1,5 @@
 -- Gathering those that give an id.
-use Rattle.std.proofs.Common.{◌≡◌, ◌⊎◌, ◌↔◌, ℕ, zero, suc, ◌+◌, ◌<◌, ◌≤◌, ◌&&◌, ◌||◌, ◌∙◌, Bool, true, false, List, [], ◌∷◌, ◌++◌, length, filter, get_or, take, inl, inr, is_some, not, Some, None, refl, sym, ap, subst, arith}
+use Rattle.std.proofs.Common.{◌≡◌, ◌↔◌, ℕ, zero, suc, ◌+◌, ◌<◌, ◌≤◌, ◌&&◌, ◌||◌, ◌∙◌, Bool, true, false, List, [], ◌∷◌, ◌++◌, length, filter, get_or, take, inl, inr, is_some, not, Some, None, refl, sym, ap, subst, arith}
 use Rattle.std.specs.BTreeSet.{insert_key}
 use Rattle.std.specs.Cmp.{both_ways}
 use Rattle.std.specs.List.{AllByRecursion, Contains, find, list_any}
@@ -12,6 +12,7 @@ use Rattle.std.proofs.lemmas.List.Kept.{IsStrictlySortedBy-filter}
 use Rattle.std.proofs.lemmas.List.Sums.{fold-append}
 use Rattle.std.proofs.lemmas.Map.Views.{Contains-from_any, list_any-from_Contains}
 use Rattle.std.specs.Cmp.Lexicographic.{nat_list_eq_equiv}
+use Rattle.std.proofs.lemmas.Bool.{and_parts, or_right, or_left, or_cases}
 use Rattle.catalogue.specs.Content.{Content, ids_in, ids_of, is_of, record_of, superseders, Supersedes}
 use Rattle.catalogue.specs.Ids.{Ascend, id_cmp, put_among, same_id}
 use Rattle.catalogue.proofs.IdFacts.{any_insert, apart, exact_ids, fold_any, ids_total, itself, one_id, turned}
@@ -20,7 +21,6 @@ use Rattle.catalogue.specs.declared.sysmod.Sysmod.{Sysmod}
 use Rattle.supersede.specs.Giving.{gives, givers_of}
 use Rattle.supersede.specs.Leading.{Gives, IsWay}
 use Rattle.supersede.specs.Reach.{Alike, Continues, IsReach, Leads, has, is_other}
-use Rattle.supersede.proofs.GivingFacts.{both}
 use Rattle.supersede.proofs.LeadingFacts.{gives_is}
 
 -- ---- members of lists
@@ -30,17 +30,6 @@ has_from ids id h = list_any-from_Contains {eq = same_id} nat_list_eq_equiv id i
 
 pub has_to : (ids : List (List ℕ)) (id : List ℕ) → has ids id ≡ true → Contains ids id
 has_to ids id h = Contains-from_any {eq = same_id} one_id id ids h
-
-or_cases : (a b : Bool) → (a || b) ≡ true → (a ≡ true) ⊎ (b ≡ true)
-or_cases true b h = inl refl
-or_cases false b h = inr h
-
-or_left : (a b : Bool) → a ≡ true → (a || b) ≡ true
-or_left a b h = rw h refl
-
-or_right : (a b : Bool) → b ≡ true → (a || b) ≡ true
-or_right true b h = refl
-or_right false b h = h
 
 has_at : (ids : List (List ℕ)) (k : ℕ) (d : List ℕ) → k < length ids → has ids (get_or ids k d) ≡ true
 has_at [] k d within = absurd (omega arith)
@@ -225,14 +214,14 @@ reach_gives content catalogued keys id up_catalogued up_keys is reach =
     by : (giver : List ℕ) → (has keys giver && has catalogued giver) ≡ (has (ids_of content) giver && gives content giver id)
     by giver = both_ways _ _ (
         λ h.
-        let parts = both (has keys giver) (has catalogued giver) h in
+        let parts = and_parts (has keys giver) (has catalogued giver) h in
         let way = reach.leads giver parts.0 in
         let known : has (ids_of content) giver ≡ true = ap (λ ids. has ids giver) (sym is) ∙ parts.1 in
         let gives_it = (gives_is content giver id).1 (record { catalogued = has_to (ids_of content) giver known; way = way.way; leads = way.leads }) in
         rw (known, gives_it) refl
         ) (
         λ h.
-        let parts = both (has (ids_of content) giver) (gives content giver id) h in
+        let parts = and_parts (has (ids_of content) giver) (gives content giver id) h in
         let gives_it = (gives_is content giver id).0 parts.1 in
         let found = reach.whole giver (record { way = gives_it.way; leads = gives_it.leads }) in
         let known : has catalogued giver ≡ true = ap (λ ids. has ids giver) is ∙ parts.0 in
@@ -243,7 +232,7 @@ pub each_gives : (content : Content) (ids : List (List ℕ)) (id giver : List �
 each_gives content ids id giver are = (
   λ h.
       let stands = ap (λ list. has list giver) (sym are) ∙ has_from ids giver h in
-      let parts = both (has (ids_of content) giver) (gives content giver id) (sym (has_filter (λ other. gives content other id) (ids_of content) giver) ∙ stands) in
+      let parts = and_parts (has (ids_of content) giver) (gives content giver id) (sym (has_filter (λ other. gives content other id) (ids_of content) giver) ∙ stands) in
       (gives_is content giver id).0 parts.1,
   λ gives_it.
       let known = has_from (ids_of content) giver gives_it.catalogued in

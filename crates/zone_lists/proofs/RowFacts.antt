@@ -1,5 +1,5 @@
 -- The rows of a zone, and the map that keeps them.
-use Rattle.std.proofs.Common.{◌≡◌, ℕ, ◌∙◌, ◌↔◌, Some, ◌||◌, Bool, true, false, not, cond, List, [], ◌∷◌, ◌++◌, map, Some, Ok, inl, inr, refl, sym, ap}
+use Rattle.std.proofs.Common.{◌≡◌, ℕ, ◌∙◌, ◌↔◌, Some, ◌||◌, true, false, not, cond, List, [], ◌∷◌, ◌++◌, map, Some, Ok, inl, inr, refl, sym, ap}
 use Rattle.std.specs.BTreeMap.{insert_entry, is_at}
 use Rattle.std.specs.BTreeSet.{insert_key}
 use Rattle.std.specs.Cmp.Lexicographic.{slice_cmp}
@@ -11,7 +11,7 @@ use Rattle.std.specs.Str.{bytes_eq}
 use Rattle.std.specs.declared.cmp.Ordering.{Ordering}
 use Rattle.std.specs.declared.cmp.Ordering.TheVariants.{Less, Equal, Greater}
 use Rattle.std.proofs.Math.Bool.{or-false, or-true}
-use Rattle.std.proofs.lemmas.Bool.{cases_Bool as tested}
+use Rattle.std.proofs.lemmas.Bool.{cases_Bool as tested, not-false}
 use Rattle.std.proofs.lemmas.Cmp.{nat_list_eq_equiv}
 use Rattle.std.proofs.lemmas.List.Folds.{list_any-append}
 use Rattle.std.proofs.lemmas.Map.Text.{is_eq-slice_cmp}
@@ -41,17 +41,13 @@ same_state-is Accepted Superseded same = absurd (cc)
 same_state-is Superseded Applied same = absurd (cc)
 same_state-is Superseded Accepted same = absurd (cc)
 
-not_false : (b : Bool) → not b ≡ false → b ≡ true
-not_false true h = refl
-not_false false h = sym h
-
 -- a row put where it belongs, after a comparison of its SYSMOD with that of an entry
 row_put : (e : List ℕ × ZoneState) (es : List (List ℕ × ZoneState)) (row : ZoneRow) (o : Ordering) → has_other_state row.state (cond (is_eq o) (Some e.1) (state_at row.sysmod es)) ≡ false
     → (has_other_state row.state (state_at row.sysmod es) ≡ false → map row_of (insert_entry (slice_cmp nat_cmp) es row.sysmod row.state) ≡ insert_key row_order (map row_of es) row)
     → map row_of (match_ordering o ((row.sysmod, row.state) ∷ e ∷ es) ((e.0, row.state) ∷ es) (e ∷ insert_entry (slice_cmp nat_cmp) es row.sysmod row.state))
     ≡ match_ordering o (row ∷ row_of e ∷ map row_of es) (row_of e ∷ map row_of es) (row_of e ∷ insert_key row_order (map row_of es) row)
 row_put e es row Less same later = refl
-row_put e es row Equal same later = ap (λ state. row_of (e.0, state) ∷ map row_of es) (same_state-is row.state e.1 (not_false (same_state row.state e.1) same))
+row_put e es row Equal same later = ap (λ state. row_of (e.0, state) ∷ map row_of es) (same_state-is row.state e.1 (not-false (same_state row.state e.1) same))
 row_put e es row Greater same later = ap (λ rows. row_of e ∷ rows) (later same)
 
 -- a row whose SYSMOD has no other state in the map is put among the rows where it belongs
@@ -114,7 +110,7 @@ rows_exact a b at calm =
     let ids : bytes_eq a.sysmod b.sysmod ≡ true = sym (is_eq-slice_cmp a.sysmod b.sysmod) ∙ ap is_eq at in
     let states : not (same_state a.state b.state) ≡ false = rw ids at calm in
     ap (λ id. row_of (id, b.state)) (sym ((bytes_eq-Decides a.sysmod b.sysmod).0 ids))
-    ∙ ap (λ state. row_of (a.sysmod, state)) (sym (same_state-is a.state b.state (not_false (same_state a.state b.state) states)))
+    ∙ ap (λ state. row_of (a.sysmod, state)) (sym (same_state-is a.state b.state (not-false (same_state a.state b.state) states)))
 
 pub each_row : (records : List Record) (rows : List ZoneRow) → answer zone_list records ≡ Ok rows → (row : ZoneRow) → Contains rows row ↔ IsListed zone_list records row
 each_row records rows answers row = each zone_list rows_exact records rows answers row

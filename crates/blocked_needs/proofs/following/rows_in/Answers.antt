@@ -1,6 +1,6 @@
 use Rattle.std.proofs.Common.{◌∙◌, List, Option, ℕ, ap}
 use Rattle.std.specs.List.{filter_map}
-use Rattle.chains.proofs.IndexFacts.{ok_so}
+use Rattle.lemmas.proofs.ResultFacts.{ok_so}
 use Rattle.blocked_needs.specs.declared.blocked.BlockedNeed.{BlockedNeed}
 use Rattle.blocked_needs.proofs.ListFacts.{filter_map_map}
 use Rattle.blocked_needs.proofs.following.rows_in.Goals as goal

@@ -1,4 +1,4 @@
-use Rattle.std.proofs.Common.{◌≡◌, ◌∙◌, ◌++◌, ℕ, List, [], Option, ap, length, take, drop, subst, sym, arith}
+use Rattle.std.proofs.Common.{◌≡◌, ◌∙◌, ℕ, List, [], Option, ap, length, subst, sym, arith}
 use Rattle.install_order.specs.Levels.{AreLevels}
 use Rattle.install_order.specs.Rings.{AreRingsAfter}
 use Rattle.install_order.specs.Steps.{StandsIn}

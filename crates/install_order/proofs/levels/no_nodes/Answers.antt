@@ -1,4 +1,4 @@
-use Rattle.std.proofs.Common.{◌≡◌, ◌∙◌, ◌+◌, ℕ, List, [], ◌∷◌, ap, length, subst, sym, arith}
+use Rattle.std.proofs.Common.{◌≡◌, ◌∙◌, ℕ, List, [], ◌∷◌, ap, length, subst, sym, arith}
 use Rattle.requisites.specs.Nodes.{row}
 use Rattle.install_order.specs.Levels.{lists_in}
 use Rattle.std.proofs.lemmas.List.{length-append}

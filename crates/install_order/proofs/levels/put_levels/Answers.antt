@@ -1,4 +1,4 @@
-use Rattle.std.proofs.Common.{◌≡◌, ◌<◌, ℕ, List, [], ◌∙◌, length, get_or, sym, subst, arith}
+use Rattle.std.proofs.Common.{◌<◌, ℕ, List, [], length, get_or, subst, arith}
 use Rattle.install_order.specs.Levels.{AreLevelled, AreLevels, IsLevelOf}
 use Rattle.install_order.specs.Steps.{StandsIn}
 use Rattle.install_order.proofs.LevelFacts.{levels_begun, next_below, next_levels}

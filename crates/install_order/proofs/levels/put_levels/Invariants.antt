@@ -1,4 +1,4 @@
-use Rattle.std.proofs.Common.{◌≡◌, ℕ, ◌<◌, [], length, take}
+use Rattle.std.proofs.Common.{ℕ, ◌<◌, [], length, take}
 use Rattle.install_order.specs.Levels.{AreLevels, AreLevelsBelow}
 use Rattle.install_order.specs.Rings.{AreRingsAfter}
 use Rattle.install_order.specs.Steps.{StandsIn}

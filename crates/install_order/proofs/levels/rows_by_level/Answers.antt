@@ -1,4 +1,4 @@
-use Rattle.std.proofs.Common.{◌≡◌, ◌∙◌, List, ℕ, ap, length, sym, subst}
+use Rattle.std.proofs.Common.{◌∙◌, List, ℕ, ap, sym, subst}
 use Rattle.requisites.proofs.TestFacts.{ok_then}
 use Rattle.install_order.specs.Levels.{AreRows, lists_in}
 use Rattle.install_order.proofs.RowFacts.{lists_len, rows_are}

@@ -1,8 +1,8 @@
 use Rattle.std.proofs.Common.{◌∙◌, map, ap}
 use Rattle.std.proofs.lemmas.List.{take_all}
 use Rattle.serde_json.specs.View.{items_of}
+use Rattle.reports.proofs.ChainFacts.{value_more}
 use Rattle.plan_texts.specs.Json.{member_data}
-use Rattle.plan_texts.proofs.JsonFacts.{value_more}
 use Rattle.plan_texts.proofs.json.member_values.Goals as goal
 
 pub loop-member-preserved : goal.loop-member-preserved

@@ -1,6 +1,6 @@
 use Rattle.std.proofs.Common.{◌∙◌, ◌++◌, ◌∷◌, [], map, take, ap}
 use Rattle.std.proofs.lemmas.List.{take_all}
-use Rattle.chains.proofs.IndexFacts.{ok_so}
+use Rattle.lemmas.proofs.ResultFacts.{ok_so}
 use Rattle.report_holds.specs.Holds.{HoldLists, entries_of}
 use Rattle.report_holds.specs.declared.holds.HoldOn.{HoldOn}
 use Rattle.report_holds.specs.Rows.{err_hold_row}

@@ -1,7 +1,7 @@
 use Rattle.std.proofs.Common.{◌∙◌, ap}
 use Rattle.std.proofs.lemmas.List.{take_all}
 use Rattle.reports.specs.ChainText.{texts}
-use Rattle.report_json.proofs.JsonFacts.{texts_by}
+use Rattle.reports.proofs.ChainFacts.{texts_by}
 use Rattle.report_json.proofs.fields.text_values.Goals as goal
 
 pub returns : goal.returns

@@ -1,6 +1,6 @@
 use Rattle.std.proofs.Common.{◌∙◌, ap}
 use Rattle.serde_json.specs.Written.{compact_text, has_float}
-use Rattle.chains.proofs.IndexFacts.{ok_so}
+use Rattle.lemmas.proofs.ResultFacts.{ok_so}
 use Rattle.report_json.proofs.JsonFacts.{zones_plain}
 use Rattle.report_json.proofs.lists.zones_json.Goals as goal
 

@@ -7,7 +7,7 @@ use Rattle.sqlite_value.specs.Value.{owned}
 use Rattle.sqlite_value.specs.declared.value.Value.TheVariants.{Text}
 use Rattle.mcs_reader.specs.Id.{text_of}
 use Rattle.bureau_store.specs.Tables as tables
-use Rattle.bureau_store.specs.Tables.{no_change, zone_named}
+use Rattle.bureau_store.specs.Tables.{zone_named}
 use Rattle.sql_tables.specs.Stored.{tables_of}
 use Rattle.sql_tables.specs.Values.{patterns_in}
 use Rattle.sql_texts.specs.Reads as read

@@ -1,0 +1,3 @@
+pub mod ListFacts
+pub mod ResultFacts
+pub mod TestFacts
