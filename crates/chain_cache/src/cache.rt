@@ -17,7 +17,7 @@ ghost use Rattle.chains.specs.Verdicts.{verdict_of};
 use crate::dropping::drop_among;
 use crate::surveys::Surveys;
 use catalogue::{Published, SourceFault};
-use chains::{Frame, Judge, Status, Verdict, frame, frame_within, plan};
+use chains::{Frame, Judge, Status, Verdict, candidates_for, frame, frame_within, plan};
 use lru::{Iter, LruCache};
 use mcs_reader::{Id, NoMemory};
 use std::alloc::Global;
@@ -40,7 +40,7 @@ const FEW: usize = 256;
 ///
 /// A SYSMOD that reaches far has a large frame. So where a chain has more than 256 nodes, or a report many
 /// SYSMODs, the zone is looked over whole. What is catalogued is read once for that, whatever the zone; it and
-/// the surveys of up to 16 zones are kept until the next publication.
+/// the surveys of up to 16 zones are kept until the next publication. Candidates are found in it as long as it is kept.
 #[derive(Debug, Drop)]
 pub struct ChainCache {
     frames: Frames,
@@ -363,5 +363,16 @@ impl<P: Published> Judge<P> for ChainCache {
             Some(found) => Ok(found),
             None => self.united_by_survey(alloc, source, zone, ids),
         }
+    }
+
+    // From what is read of the catalogue, where that is kept, and else from the source.
+    fn candidates(
+        &self,
+        alloc: Global,
+        source: &mut P,
+        zone: &Zone,
+        ids: &[Id],
+    ) -> Result<Vec<Option<Vec<Id>>>, SourceFault> {
+        candidates_for(alloc, source, self.surveys.listing(), zone, ids)
     }
 }

@@ -4,6 +4,7 @@ ghost use Rattle.catalogue.specs.Content.{Content};
 ghost use Rattle.catalogue.specs.View.{MayAsk, Tells};
 ghost use Rattle.catalogue.specs.declared.fault.SourceFault.TheVariants.{Device};
 ghost use Rattle.chain_cache.specs.Cache.{AreFew, AreSurveys, ZoneSurvey, nothing_surveyed};
+ghost use Rattle.chains.specs.Sights.{IsAtHand};
 ghost use Rattle.chains.specs.Surveys.{IsSurvey};
 
 use catalogue::{Published, SourceFault};
@@ -82,6 +83,13 @@ impl Surveys {
             }
         }
         None
+    }
+
+    /// What is catalogued, if it is kept.
+    pub(crate) fn listing(&self) -> Option<&Listing>
+        ensures { (content : Content) → AreSurveys content self.now → IsAtHand content result }
+    {
+        self.listing.as_ref()
     }
 
     /// Reads what is catalogued, where it isn't kept, and keeps it.

@@ -5,6 +5,7 @@ use Rattle.std.specs.Cmp.{both_ways}
 use Rattle.std.specs.List.{Contains}
 use Rattle.std.specs.Str.{bytes_eq}
 use Rattle.std.proofs.lemmas.List.Kept.{IsStrictlySortedBy-filter}
+use Rattle.lemmas.proofs.ListFacts.{any_at, any_from, first_true, kept_from, kept_inside}
 use Rattle.zone_lists.specs.Installed.{is_installed, is_installed_state, is_listed}
 use Rattle.zone_lists.specs.declared.zones.ZoneRow.{ZoneRow}
 use Rattle.catalogue.specs.Content.{Content, IsInOrder, Supersedes, superseders}
@@ -24,7 +25,6 @@ use Rattle.chains.proofs.MadeCutFacts.{candidate_catalogued}
 use Rattle.chains.proofs.OrderFacts.{ascending_same}
 use Rattle.chains.proofs.PartFacts.{at_map}
 use Rattle.chains.proofs.IndexFacts.{at_inside, inside_at}
-use Rattle.chains.proofs.SearchFacts.{any_at, any_from, first_true, kept_from, kept_inside}
 
 -- ---- lists that lead the other way round
 

@@ -5,6 +5,7 @@ use Rattle.std.specs.List.{Contains}
 use Rattle.std.proofs.lemmas.Bool.{cases_eq}
 use Rattle.std.proofs.lemmas.List.{get_or-set_other, get_or-set_same, map-append, take_more}
 use Rattle.std.proofs.lemmas.List.Elements.{Contains-push_cases}
+use Rattle.lemmas.proofs.ListFacts.{first_inside, kept_from, kept_inside, map_from, map_inside}
 use Rattle.zone_lists.specs.declared.zones.ZoneRow.{ZoneRow}
 use Rattle.catalogue.specs.Content.{Content, IsInOrder}
 use Rattle.catalogue.specs.Ids.{Ascend, in_order}
@@ -20,7 +21,6 @@ use Rattle.chains.specs.Cuts.{id_at}
 use Rattle.chains.specs.Indices.{AreThere, IsAt, MarksAre, RowsAre}
 use Rattle.chains.proofs.AboveFacts.{candidates_found, leads_turned, marks_there}
 use Rattle.chains.proofs.IndexFacts.{inside_at, made_more, one_index}
-use Rattle.chains.proofs.SearchFacts.{first_inside, kept_from, kept_inside, map_from, map_inside}
 
 -- an id stands at one index alone
 pub index_is : (ids : List (List ℕ)) (id : List ℕ) (p q : ℕ) → Ascend ids → IsAt ids id p → IsAt ids id q → p ≡ q

@@ -2,11 +2,11 @@
 use Rattle.std.proofs.Common.{◌≡◌, ℕ, Bool, true, cond, List, [], ◌∷◌, ◌++◌, ap, subst, inl, inr}
 use Rattle.std.specs.List.{Contains, filter}
 use Rattle.std.proofs.lemmas.List.Elements.{Contains-append_cases, Contains-append_left, Contains-append_right}
+use Rattle.lemmas.proofs.ListFacts.{kept_from, map_from, map_inside}
 use Rattle.zone_lists.specs.Installed.{is_installed}
 use Rattle.zone_lists.specs.declared.zones.ZoneRow.{ZoneRow}
 use Rattle.catalogue.specs.declared.conditional.CondNeed.{CondNeed}
 use Rattle.supersede.specs.Giving.{each_need, needs_where}
-use Rattle.chains.proofs.SearchFacts.{kept_from, map_from, map_inside}
 
 -- what is needed in a zone is named
 pub where_named : (rows : List ZoneRow) (conds : List CondNeed) (need : List ℕ) → Contains (needs_where rows conds) need → Contains (each_need conds) need

@@ -3,12 +3,12 @@ use Rattle.std.proofs.Common.{◌≡◌, ◌<◌, ◌⊎◌, ℕ, zero, suc, ◌
 use Rattle.std.specs.List.{Contains, filter, list_any}
 use Rattle.std.proofs.lemmas.List.Elements.{Contains-append_left, Contains-push, Contains-push_cases}
 use Rattle.std.proofs.lemmas.Bool.{cases_lt}
+use Rattle.lemmas.proofs.ListFacts.{IsImage, any_at, any_from, kept_from, kept_inside, map_from, map_inside, none_inside}
 use Rattle.catalogue.specs.Ids.{same_id}
 use Rattle.catalogue.proofs.IdFacts.{itself, one_id}
 use Rattle.requisites.specs.Leads.{IsPath}
 use Rattle.requisites.specs.World.{IsChosen, IsChosenPlan, IsGivenIn, IsGood, IsGoodGiver, IsHeldFor, IsPick, PicksFor, World}
 use Rattle.chains.specs.Cuts.{IndexOf, IsCut, id_at}
-use Rattle.chains.proofs.SearchFacts.{IsImage, any_at, any_from, kept_from, kept_inside, map_from, map_inside, none_inside}
 
 -- the indices below n
 indices_below : ℕ → List ℕ

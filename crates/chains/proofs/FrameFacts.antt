@@ -4,6 +4,7 @@ use Rattle.std.specs.Prelude.{◌↔◌}
 use Rattle.std.specs.Bool.{OnFalse}
 use Rattle.std.specs.List.{Contains, find, list_any}
 use Rattle.std.proofs.lemmas.List.Kept.{IsStrictlySortedBy-filter}
+use Rattle.lemmas.proofs.ListFacts.{any_at, first_inside, inside_cases, kept_from, kept_inside, map_from, none_inside, rest_inside}
 use Rattle.catalogue.specs.Content.{Content, IsCatalogued, IsInOrder, Supersedes, error_reasons, ids_in, ids_of, is_of, record_of}
 use Rattle.catalogue.specs.Ids.{Ascend, id_cmp, in_order, same_id}
 use Rattle.catalogue.specs.Touched.{AgreeOutside}
@@ -21,7 +22,6 @@ use Rattle.chains.specs.Frames.{AreApart, FrameLists, FramesStay, IsFrame, Steps
 use Rattle.chains.specs.declared.frames.FrameNode.{FrameNode}
 use Rattle.chains.proofs.OrderFacts.{ascending_same}
 use Rattle.chains.proofs.IndexFacts.{at_inside}
-use Rattle.chains.proofs.SearchFacts.{any_at, first_inside, inside_cases, kept_from, kept_inside, map_from, none_inside, rest_inside}
 use Rattle.chains.proofs.WayFacts.{listed_record}
 
 -- ---- givers and records

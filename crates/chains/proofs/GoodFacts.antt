@@ -2,6 +2,8 @@
 use Rattle.std.proofs.Common.{◌≡◌, ℕ, ◌⊎◌, ◌&&◌, Bool, true, false, cond, map, List, [], ◌∷◌, Some, refl, sym, subst, inl, inr}
 use Rattle.std.specs.Prelude.{◌↔◌}
 use Rattle.std.specs.List.{Contains, filter, find, list_all, list_any}
+use Rattle.std.proofs.lemmas.Bool.{or_right, and_from, or_left, or_cases}
+use Rattle.lemmas.proofs.ListFacts.{all_at, all_from, any_at, any_from, first_inside, first_true, kept_from, kept_inside, rest_inside, second_true}
 use Rattle.zone_lists.specs.declared.zones.ZoneRow.{ZoneRow}
 use Rattle.zone_lists.specs.Installed.{is_installed}
 use Rattle.catalogue.specs.Content.{Content, ids_of, is_of}
@@ -14,7 +16,7 @@ use Rattle.supersede.proofs.LeadingFacts.{gives_is, there_is}
 use Rattle.requisites.specs.World.{IsGivenIn, IsGood, IsPlan}
 use Rattle.chains.specs.Verdicts.{candidates, is_good, is_met, is_plan, sublists}
 use Rattle.chains.specs.Worlds.{world_of}
-use Rattle.chains.proofs.SearchFacts.{all_at, all_from, any_at, any_from, both_true, either_true, filter_is_sublist, first_inside, first_true, kept_from, kept_inside, left_true, rest_inside, right_true, second_true, sublist_inside}
+use Rattle.chains.proofs.SearchFacts.{filter_is_sublist, sublist_inside}
 
 module _ (content : Content) (rows : List ZoneRow) where
   -- a list that is found to be a plan is one
@@ -24,7 +26,7 @@ module _ (content : Content) (rows : List ZoneRow) where
     needs_met = λ y r inside needs. met r (all_at (is_met content rows members) (needs_in content rows y) r (all_at (λ member. list_all (is_met content rows members) (needs_in content rows member)) members y found inside) needs);
   } where
     met : (r : List ℕ) → is_met content rows members r ≡ true → IsThere content rows r ⊎ IsGivenIn (world_of content rows) members r
-    met r h = elim (either_true (is_there content rows r) (list_any (λ member. gives content member r) members) h) [
+    met r h = elim (or_cases (is_there content rows r) (list_any (λ member. gives content member r) members) h) [
       | inl there ↦ inl ((there_is content rows r).0 there)
       | inr given ↦ (let giver = any_from (λ member. gives content member r) members given in inr (record { giver = giver.element; member = giver.member; gives = (gives_is content giver.element r).0 giver.passes }))
     ]
@@ -74,8 +76,8 @@ module _ (content : Content) (rows : List ZoneRow) where
     where
       met : (y r : List ℕ) → Contains (planned members) y → Contains (needs_in content rows y) r → is_met content rows (planned members) r ≡ true
       met y r inside needs = elim (plan.needs_met y r (planned_from members y inside) needs) [
-        | inl there ↦ left_true (is_there content rows r) (list_any (λ member. gives content member r) (planned members)) ((there_is content rows r).1 there)
-        | inr given ↦ right_true (is_there content rows r) (list_any (λ member. gives content member r) (planned members))
+        | inl there ↦ or_left (is_there content rows r) (list_any (λ member. gives content member r) (planned members)) ((there_is content rows r).1 there)
+        | inr given ↦ or_right (is_there content rows r) (list_any (λ member. gives content member r) (planned members))
             (any_at (λ (member : List ℕ). gives content member r) (planned members) given.giver (planned_inside members given.giver plan given.member) ((gives_is content given.giver r).1 given.gives))
       ]
 
@@ -87,7 +89,7 @@ module _ (content : Content) (rows : List ZoneRow) where
   good_found id good =
       any_at (λ (members : List (List ℕ)). list_any (same_id id) members && is_plan content rows members) (sublists (candidates content rows)) (planned good.members)
       (planned_sub good.members)
-      (both_true (list_any (same_id id) (planned good.members)) (is_plan content rows (planned good.members))
+      (and_from (list_any (same_id id) (planned good.members)) (is_plan content rows (planned good.members))
       (any_at (same_id id) (planned good.members) id (planned_inside good.members id good.plan good.member) (itself id))
       (planned_is_plan good.members good.plan))
 

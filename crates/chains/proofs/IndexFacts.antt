@@ -1,5 +1,5 @@
 -- Ids by their indices in a list that ascends.
-use Rattle.std.proofs.Common.{◌≡◌, ◌⊎◌, ◌∙◌, ℕ, zero, suc, ◌+◌, ◌<◌, ◌≤◌, Bool, true, false, List, [], ◌∷◌, ◌++◌, length, map, take, get_or, Option, Some, None, Result, Ok, Err, refl, sym, ap, subst, inl, inr, arith}
+use Rattle.std.proofs.Common.{◌≡◌, ◌⊎◌, ◌∙◌, ℕ, zero, suc, ◌+◌, ◌<◌, ◌≤◌, Bool, true, false, List, [], ◌∷◌, ◌++◌, length, map, take, get_or, Option, Some, None, refl, sym, ap, subst, inl, inr, arith}
 use Rattle.std.specs.List.{AllByRecursion, Contains, flat_map, list_any, slice_get}
 use Rattle.std.specs.List.Sorted.{IsStrictlySortedBy}
 use Rattle.std.specs.Ordering.{ordering_reverse}
@@ -8,10 +8,11 @@ use Rattle.std.proofs.lemmas.Bool.{cases_lt}
 use Rattle.std.proofs.lemmas.Grind.{common_steps}
 use Rattle.std.proofs.lemmas.List.{get_or-map, get_or_append_left, get_or_push, map-append, take_more}
 use Rattle.std.proofs.lemmas.List.Elements.{Contains-append_left, Contains-append_right, Contains-push, Contains-push_cases}
+use Rattle.lemmas.proofs.ListFacts.{any_at, inside_cases, none_inside}
 use Rattle.catalogue.specs.Ids.{Ascend, id_cmp, same_id}
 use Rattle.catalogue.proofs.IdFacts.{ids_total, itself}
 use Rattle.chains.specs.Cuts.{IndexOf, id_at}
-use Rattle.std.specs.Prelude.{◌↔◌, IfNone, IfOk, IfSome, is_some}
+use Rattle.std.specs.Prelude.{◌↔◌, IfNone, IfSome, is_some}
 use Rattle.supersede.specs.Reach.{has}
 use Rattle.zone_lists.specs.Installed.{is_installed, is_listed}
 use Rattle.zone_lists.specs.declared.zones.ZoneRow.{ZoneRow}
@@ -22,7 +23,6 @@ use Rattle.requisites.proofs.SourceFacts.{marked_inside}
 use Rattle.chains.specs.Indices.{AreSeen, AreIndicesOf, AreThere, InstalledAt, IsAt, IsThereAt, MarksAre, RowsAre, SeenAs}
 use Rattle.chains.specs.Sights.{IsSeen, Sight, all_needs, needs_seen}
 use Rattle.chains.proofs.OrderFacts.{not_above_itself, not_below_itself}
-use Rattle.chains.proofs.SearchFacts.{any_at, inside_cases, none_inside}
 
 -- ---- what stands at an index
 
@@ -260,17 +260,6 @@ there_from rows members supersedes installed marks sources are least there = rec
   source_at q at None e =
       let L : ℕ → Type 0 = λ n. Leads (Links supersedes n) at.source q in
       absurd (least.unreached q at.source e (record { is = are.each at.source at.within ∙ at.installed }) (subst L (sym are.len) at.leads))
-
--- what follows from a fact of an answer
-pub some_is : {X : Type 0} (P : X → Type 0) (found : Option X) (x : X) → found ≡ Some x → IfSome found P → P x
-some_is P None x is so = absurd cc
-some_is P (Some y) x is so =
-    let same : y ≡ x = cc is in
-    subst P same so
-
-pub ok_so : {X E : Type 0} {P Q : X → Type 0} (r : Result X E) → IfOk r P → ((x : X) → P x → Q x) → IfOk r Q
-ok_so (Ok x) p so = so x p
-ok_so (Err e) p so = tt
 
 -- ---- ids at indices
 

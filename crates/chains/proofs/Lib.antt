@@ -21,4 +21,5 @@ pub mod ClimbFacts
 pub mod AboveFacts
 pub mod WalkingFacts
 pub mod AnswerFacts
+pub mod SupersederFacts
 mod Examples

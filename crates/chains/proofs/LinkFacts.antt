@@ -7,6 +7,7 @@ use Rattle.std.specs.Ordering.{nat_cmp}
 use Rattle.std.specs.declared.cmp.Ordering.TheVariants.{Less}
 use Rattle.std.proofs.lemmas.Cmp.{ranked}
 use Rattle.std.proofs.lemmas.List.Kept.{IsStrictlySortedBy-filter}
+use Rattle.lemmas.proofs.ListFacts.{first_inside, kept_from, kept_inside, map_from, map_inside, rest_inside}
 use Rattle.catalogue.specs.Ids.{Ascend, id_cmp}
 use Rattle.requisites.specs.Leads.{Leads}
 use Rattle.requisites.proofs.LeadsFacts.{leads_closed}
@@ -16,7 +17,6 @@ use Rattle.chains.specs.Indices.{AreIndicesOf}
 use Rattle.chains.specs.declared.gathered.Gathered.{Gathered}
 use Rattle.chains.proofs.PartFacts.{at_map}
 use Rattle.chains.proofs.IndexFacts.{below_at}
-use Rattle.chains.proofs.SearchFacts.{first_inside, kept_from, kept_inside, map_from, map_inside, rest_inside}
 
 -- the indices of what was read of the id at an index
 pub indexed_here : (f : Gathered → List (List ℕ)) (all : List Gathered) (index : ℕ) (g : Gathered) (ids list : List (List ℕ)) (indices : List ℕ) → index < length all → g ≡ get_or all index g → list ≡ f g

@@ -2,6 +2,7 @@
 use Rattle.std.proofs.Common.{◌≡◌, ◌⊎◌, ◌∙◌, ℕ, ◌<◌, Bool, true, false, List, [], length, map, is_some, Option, Some, None, refl, sym, ap, subst, inl, inr, arith}
 use Rattle.std.specs.List.{Contains, flat_map, list_any}
 use Rattle.std.specs.Option.{IsSomeAnd}
+use Rattle.lemmas.proofs.ListFacts.{any_at, any_from, none_inside}
 use Rattle.zone_lists.specs.Installed.{is_installed}
 use Rattle.zone_lists.specs.declared.zones.ZoneRow.{ZoneRow}
 use Rattle.catalogue.specs.Content.{Content, Supersedes, ids_of, record_of}
@@ -18,7 +19,6 @@ use Rattle.chains.specs.Sights.{Sight, all_needs, needs_seen, sight_of}
 use Rattle.chains.specs.Worlds.{world_of}
 use Rattle.chains.proofs.ConditionalFacts.{may_be_needed}
 use Rattle.chains.proofs.IndexFacts.{inside_at, need_inside, order_down, order_up}
-use Rattle.chains.proofs.SearchFacts.{any_at, any_from, none_inside}
 use Rattle.chains.proofs.WayFacts.{AreWays, gives_at, listed_record, superseder_listed, there_at}
 
 -- a candidate is catalogued

@@ -4,6 +4,7 @@ use Rattle.std.specs.List.{AllByRecursion, Contains}
 use Rattle.std.specs.List.Sorted.{IsStrictlySortedBy}
 use Rattle.std.specs.declared.cmp.Ordering.TheVariants.{Less}
 use Rattle.std.proofs.lemmas.List.Kept.{AllPairs-from_increasing}
+use Rattle.lemmas.proofs.ListFacts.{first_inside, rest_inside}
 use Rattle.zone_lists.specs.declared.zones.ZoneRow.{ZoneRow}
 use Rattle.catalogue.specs.Content.{Content, ids_of}
 use Rattle.catalogue.specs.Ids.{Ascend, id_cmp}
@@ -26,7 +27,6 @@ use Rattle.chains.specs.declared.verdict.Status.TheVariants as status
 use Rattle.chains.proofs.CutFacts.{chosen_good, chosen_up, good_down, good_up, held_up}
 use Rattle.chains.proofs.MadeCutFacts.{candidate_catalogued}
 use Rattle.chains.proofs.IndexFacts.{below_at}
-use Rattle.chains.proofs.SearchFacts.{first_inside, rest_inside}
 use Rattle.chains.proofs.StatusFacts.{right_status}
 use Rattle.chains.proofs.VerdictFacts.{verdict_is}
 

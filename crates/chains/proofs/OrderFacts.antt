@@ -5,9 +5,9 @@ use Rattle.std.specs.List.Sorted.{IsStrictlySortedBy}
 use Rattle.std.specs.Ordering.{is_eq, ordering_reverse}
 use Rattle.std.specs.declared.cmp.Ordering.{Ordering}
 use Rattle.std.specs.declared.cmp.Ordering.TheVariants.{Less, Equal, Greater}
+use Rattle.lemmas.proofs.ListFacts.{first_inside, inside_cases, none_inside, rest_inside}
 use Rattle.catalogue.specs.Ids.{Ascend, id_cmp}
 use Rattle.catalogue.proofs.IdFacts.{exact_ids, ids_total, itself, same_is}
-use Rattle.chains.proofs.SearchFacts.{first_inside, inside_cases, none_inside, rest_inside}
 
 all_has : {A : Type 0} (P : A → Type 0) (xs : List A) → AllByRecursion P xs → (y : A) → Contains xs y → P y
 all_has P [] all y inside = absurd (none_inside y inside)

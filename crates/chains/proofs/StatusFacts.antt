@@ -4,6 +4,8 @@ use Rattle.std.proofs.Common.{◌≡◌, ℕ, zero, suc, ◌⊎◌, ◌&&◌, �
 use Rattle.std.specs.Prelude.{◌↔◌, is_none, is_some}
 use Rattle.std.specs.List.{Contains, filter, find, list_any}
 use Rattle.std.proofs.lemmas.List.Elements.{Contains-append_left, Contains-push, Contains-push_cases}
+use Rattle.std.proofs.lemmas.Bool.{and_from, or_left}
+use Rattle.lemmas.proofs.ListFacts.{any_at, first_true, kept_from, kept_inside, second_true}
 use Rattle.zone_lists.specs.declared.zones.ZoneRow.{ZoneRow}
 use Rattle.zone_lists.specs.Installed.{is_installed}
 use Rattle.catalogue.specs.Content.{Content, ids_of, record_of}
@@ -19,7 +21,6 @@ use Rattle.chains.specs.Verdicts.{Judged, blocked_need, candidates, chosen_plan,
 use Rattle.chains.specs.Worlds.{IsRightStatus, world_of}
 use Rattle.chains.specs.declared.verdict.Status.{Status}
 use Rattle.chains.specs.declared.verdict.Status.TheVariants as status
-use Rattle.chains.proofs.SearchFacts.{any_at, both_true, kept_from, kept_inside, left_true, first_true, second_true}
 use Rattle.chains.proofs.GoodFacts.{candidate_inside, good_found, good_from}
 
 -- what plain search passed over
@@ -57,14 +58,14 @@ true_unless_false false h = absurd (h refl)
 module _ (content : Content) (rows : List ZoneRow) where
   -- a candidate gives itself
   pub candidate_gives : (id : List ℕ) → is_candidate content rows id ≡ true → gives content id id ≡ true
-  candidate_gives id h = both_true (is_some (record_of content id)) (supersedes_within content (length content.sysmods) id id) (catalogued (record_of content id) h) (reaches (length content.sysmods)) where
+  candidate_gives id h = and_from (is_some (record_of content id)) (supersedes_within content (length content.sysmods) id id) (catalogued (record_of content id) h) (reaches (length content.sysmods)) where
     catalogued : (o : Option Sysmod) → list_any (λ fmid. is_installed rows fmid) (fmids_of o) ≡ true → is_some o ≡ true
     catalogued None h = absurd (cc)
     catalogued (Some sysmod) h = refl
 
     reaches : (n : ℕ) → supersedes_within content n id id ≡ true
     reaches zero = itself id
-    reaches (suc n) = left_true (same_id id id) (list_any (λ next. supersedes_within content n next id) (sup_of (record_of content id))) (itself id)
+    reaches (suc n) = or_left (same_id id id) (list_any (λ next. supersedes_within content n next id) (sup_of (record_of content id))) (itself id)
 
   -- all that is good
   goods : List (List ℕ)

@@ -1,9 +1,9 @@
 -- What is chosen for several nodes is what the chosen plans of their ids have together.
-use Rattle.std.proofs.Common.{◌≡◌, ◌<◌, ℕ, List, [], ◌∷◌, length, map, sym, subst, inl, inr, arith}
+use Rattle.std.proofs.Common.{◌≡◌, ◌<◌, ℕ, List, length, map, sym, subst, arith}
 use Rattle.std.specs.List.{Contains, flat_map}
 use Rattle.std.specs.List.Sorted.{IsStrictlyIncreasing}
-use Rattle.std.proofs.lemmas.List.Elements.{Contains-append_cases, Contains-append_left, Contains-append_right}
 use Rattle.std.proofs.lemmas.List.Kept.{AllPairs-from_increasing}
+use Rattle.lemmas.proofs.ListFacts.{flat_from, flat_inside, map_from, map_inside, none_inside}
 use Rattle.zone_lists.specs.declared.zones.ZoneRow.{ZoneRow}
 use Rattle.catalogue.specs.Content.{Content, ids_of}
 use Rattle.catalogue.specs.Ids.{Ascend}
@@ -22,29 +22,7 @@ use Rattle.chains.proofs.IndexFacts.{inside_at}
 use Rattle.chains.proofs.MadeCutFacts.{candidate_catalogued}
 use Rattle.chains.proofs.NodeVerdictFacts.{map_ascends}
 use Rattle.chains.proofs.OrderFacts.{ascending_same}
-use Rattle.chains.proofs.SearchFacts.{first_inside, inside_cases, map_from, map_inside, none_inside, rest_inside}
 use Rattle.chains.proofs.VerdictFacts.{found_verdict}
-
--- ---- lists of lists
-
-pub record IsFrom {A B : Type 0} (f : A → List B) (xs : List A) (y : B) : Type 0 where
-  pub from : A
-  pub listed : Contains xs from
-  pub has : Contains (f from) y
-
-pub flat_from : {A B : Type 0} (f : A → List B) (xs : List A) (y : B) → Contains (flat_map f xs) y → IsFrom f xs y
-flat_from f [] y inside = absurd (none_inside y inside)
-flat_from f (x ∷ xs) y inside = elim (Contains-append_cases (f x) (flat_map f xs) y inside) [
-  | inl first ↦ record { from = x; listed = first_inside x xs; has = first }
-  | inr later ↦ (let rest = flat_from f xs y later in record { from = rest.from; listed = rest_inside x rest.from xs rest.listed; has = rest.has })
-]
-
-pub flat_inside : {A B : Type 0} (f : A → List B) (xs : List A) (x : A) (y : B) → Contains xs x → Contains (f x) y → Contains (flat_map f xs) y
-flat_inside f [] x y listed has = absurd (none_inside x listed)
-flat_inside {A} {B} f (z ∷ zs) x y listed has = elim (inside_cases z x zs listed) [
-  | inl same ↦ (let P : A → Type 0 = λ w. Contains (f w) y in Contains-append_left (f z) (flat_map f zs) y (subst P (sym same) has))
-  | inr later ↦ Contains-append_right (f z) (flat_map f zs) y (flat_inside f zs x y later has)
-]
 
 -- ---- one chosen plan
 

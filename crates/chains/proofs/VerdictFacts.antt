@@ -1,10 +1,13 @@
 -- The verdict that plain search finds is the one that plans, picks and blocked needs say, and the only one.
 use Rattle.std.proofs.Common.{◌≡◌, ℕ, zero, suc, ◌≤◌, ◌&&◌, Bool, true, false, not, cond, List, [], ◌∷◌, length, Option, Some, None, refl, sym, ap, ◌∙◌, subst, inl, inr, arith}
 use Rattle.std.specs.Prelude.{is_none}
-use Rattle.std.specs.List.{Contains, cons_option, filter_map, find, list_any}
+use Rattle.std.specs.List.{Contains, filter_map, find, list_any}
 use Rattle.std.proofs.lemmas.List.{length-map}
 use Rattle.std.proofs.lemmas.List.Kept.{IsStrictlySortedBy-filter}
+use Rattle.std.proofs.lemmas.Bool.{or_right, and_from, or_left, or_cases}
+use Rattle.lemmas.proofs.ListFacts.{any_at, any_from, first_true, kept_from, kept_inside, made_from, map_found, second_true}
 use Rattle.zone_lists.specs.declared.zones.ZoneRow.{ZoneRow}
+use Rattle.zone_lists.proofs.EachFacts.{in_from_contains}
 use Rattle.catalogue.specs.Content.{Content, ids_of}
 use Rattle.catalogue.specs.Ids.{Ascend, id_cmp, in_order, same_id}
 use Rattle.catalogue.proofs.IdFacts.{in_order_ascends, in_order_has, itself, one_id}
@@ -17,49 +20,11 @@ use Rattle.requisites.specs.Leads.{IsPath, Leads}
 use Rattle.requisites.specs.World.{IsChosen, IsGood, IsGoodGiver, IsHeldFor, IsPick, PicksFor}
 use Rattle.chains.specs.Verdicts.{Judged, blocked_need, chosen_plan, good, held, held_for, is_good, lack, open_needs, pick_for, picked_within, verdict_of}
 use Rattle.chains.specs.Worlds.{IsVerdict, world_of}
-use Rattle.chains.proofs.SearchFacts.{any_at, any_from, both_true, either_true, first_inside, first_true, inside_cases, kept_from, kept_inside, left_true, none_inside, rest_inside, right_true, second_true}
 use Rattle.chains.proofs.GoodFacts.{candidate_inside, good_found, good_from}
 use Rattle.chains.proofs.StatusFacts.{candidate_gives, find_none, find_some, not_good, unblocked_good}
 use Rattle.chains.proofs.OrderFacts.{ascending_same, at_most_same, find_inside, find_least}
 
 -- ---- lists
-
-in_from : {X : Type 0} → (xs : List X) (x : X) → Contains xs x → In xs x
-in_from [] x h = absurd (none_inside x h)
-in_from (y ∷ ys) x h = elim (inside_cases y x ys h) [ inl same ↦ inl same | inr later ↦ inr (in_from ys x later) ]
-
--- what a test makes of a list, where it makes something
-map_found : {A B : Type 0} (f : A → Option B) (xs : List A) (x : A) (y : B) → Contains xs x → f x ≡ Some y → Contains (filter_map f xs) y
-map_found f [] x y inside e = absurd (none_inside x inside)
-map_found {A} {B} f (z ∷ zs) x y inside e = elim (inside_cases z x zs inside) [
-  | inl same ↦ (let P : A → Type 0 = λ w. f w ≡ Some y in now (f z) (subst P (sym same) e))
-  | inr later ↦ more (f z) (map_found f zs x y later e)
-] where
-  now : (o : Option B) → o ≡ Some y → Contains (cons_option o (filter_map f zs)) y
-  now None e = absurd (cc)
-  now (Some w) e = let same : w ≡ y = (cc) in let P : B → Type 0 = λ v. Contains (w ∷ filter_map f zs) v in subst P same (first_inside w (filter_map f zs))
-
-  more : (o : Option B) → Contains (filter_map f zs) y → Contains (cons_option o (filter_map f zs)) y
-  more None inside = inside
-  more (Some w) inside = rest_inside w y (filter_map f zs) inside
-
-record IsMade {A B : Type 0} (f : A → Option B) (xs : List A) (y : B) : Type 0 where
-  from : A
-  member : Contains xs from
-  is : f from ≡ Some y
-
-made_from : {A B : Type 0} (f : A → Option B) (xs : List A) (y : B) → Contains (filter_map f xs) y → IsMade f xs y
-made_from f [] y inside = absurd (none_inside y inside)
-made_from {A} {B} f (z ∷ zs) y inside = go (f z) refl (λ (rest : Contains (filter_map f zs) y). made_from f zs y rest) inside where
-  later : IsMade f zs y → IsMade f (z ∷ zs) y
-  later made = record { from = made.from; member = rest_inside z made.from zs made.member; is = made.is }
-
-  go : (o : Option B) → f z ≡ o → (Contains (filter_map f zs) y → IsMade f zs y) → Contains (cons_option o (filter_map f zs)) y → IsMade f (z ∷ zs) y
-  go None e further inside = later (further inside)
-  go (Some w) e further inside = elim (inside_cases w y (filter_map f zs) inside) [
-    | inl same ↦ record { from = z; member = first_inside z zs; is = e ∙ ap Some same }
-    | inr rest ↦ later (further rest)
-  ]
 
 module _ (content : Content) (rows : List ZoneRow) where
   -- ---- picks
@@ -67,8 +32,8 @@ module _ (content : Content) (rows : List ZoneRow) where
   good_listed : (id : List ℕ) → IsGood (world_of content rows) id → Contains (ids_of content) id
   good_listed id is = (kept_from (is_candidate content rows) (ids_of content) id (candidate_inside content rows id (is.plan.candidates id is.member))).member
 
-  giver_passes : (need z : List ℕ) → IsGoodGiver (world_of content rows) need z → (is_good content rows z && gives content z need) ≡ true
-  giver_passes need z giver = both_true (is_good content rows z) (gives content z need) (good_found content rows z giver.good) ((gives_is content z need).1 giver.gives)
+  pub giver_passes : (need z : List ℕ) → IsGoodGiver (world_of content rows) need z → (is_good content rows z && gives content z need) ≡ true
+  giver_passes need z giver = and_from (is_good content rows z) (gives content z need) (good_found content rows z giver.good) ((gives_is content z need).1 giver.gives)
 
   pick_by : Bool → List ℕ → Option (List ℕ)
   pick_by b need = cond b (Some need) (find (λ id. is_good content rows id && gives content id need) (in_order (ids_of content)))
@@ -102,7 +67,7 @@ module _ (content : Content) (rows : List ZoneRow) where
         cc
 
   -- a pick is a good id that gives the need
-  pick_gives : (need z : List ℕ) → IsPick (world_of content rows) need z → IsGoodGiver (world_of content rows) need z
+  pub pick_gives : (need z : List ℕ) → IsPick (world_of content rows) need z → IsGoodGiver (world_of content rows) need z
   pick_gives need z pick = elim pick [
     | inl same ↦ (let P : List ℕ → Type 0 = λ x. IsGoodGiver (world_of content rows) need x in subst P (sym same.1) (record {
       good = same.0;
@@ -166,7 +131,7 @@ module _ (content : Content) (rows : List ZoneRow) where
   path_from : (n : ℕ) (from to : List ℕ) → picked_within content rows n from to ≡ true → Leads (PicksFor (world_of content rows)) from to
   path_from zero from to h = record { list = []; path = one_id from to h }
   path_from (suc n) from to h =
-      elim (either_true (same_id from to) (list_any (λ next. picked_within content rows n next to) (filter_map (pick_for content rows) (open_needs content rows from))) h) [
+      elim (or_cases (same_id from to) (list_any (λ next. picked_within content rows n next to) (filter_map (pick_for content rows) (open_needs content rows from))) h) [
         | inl same ↦ record { list = []; path = one_id from to same }
         | inr further ↦ (
             let next = any_from (λ next. picked_within content rows n next to) (filter_map (pick_for content rows) (open_needs content rows from)) further in
@@ -177,17 +142,17 @@ module _ (content : Content) (rows : List ZoneRow) where
   path_found : (n : ℕ) (from : List ℕ) (list : List (List ℕ)) (to : List ℕ) → IsPath (PicksFor (world_of content rows)) from list to → length list ≤ n → picked_within content rows n from to ≡ true
   path_found zero from [] to same short = (let P : List ℕ → Type 0 = λ x. same_id from x ≡ true in subst P same (itself from))
   path_found (suc n) from [] to same short =
-      left_true (same_id from to) (list_any (λ next. picked_within content rows n next to) (filter_map (pick_for content rows) (open_needs content rows from)))
+      or_left (same_id from to) (list_any (λ next. picked_within content rows n next to) (filter_map (pick_for content rows) (open_needs content rows from)))
       (let P : List ℕ → Type 0 = λ x. same_id from x ≡ true in subst P same (itself from))
   path_found zero from (next ∷ later) to path short = absurd (omega (arith, short))
   path_found (suc n) from (next ∷ later) to path short =
-      right_true (same_id from to) (list_any (λ next. picked_within content rows n next to) (filter_map (pick_for content rows) (open_needs content rows from)))
+      or_right (same_id from to) (list_any (λ next. picked_within content rows n next to) (filter_map (pick_for content rows) (open_needs content rows from)))
       (any_at (λ (next : List ℕ). picked_within content rows n next to) (filter_map (pick_for content rows) (open_needs content rows from)) next (picks_found from next path.0)
       (path_found n next later to path.1 (omega (arith, short))))
 
   sources_listed : (from : List ℕ) (list : List (List ℕ)) (to : List ℕ) → IsGood (world_of content rows) from → IsPath (PicksFor (world_of content rows)) from list to → AllSources (In (ids_of content)) from list
   sources_listed from [] to is path = tt
-  sources_listed from (next ∷ later) to is path = (in_from (ids_of content) from (good_listed from is), sources_listed next later to (picked_is_good from next path.0) path.1)
+  sources_listed from (next ∷ later) to is path = (in_from_contains (ids_of content) from (good_listed from is), sources_listed next later to (picked_is_good from next path.0) path.1)
 
   path_good : (from : List ℕ) (list : List (List ℕ)) (to : List ℕ) → IsGood (world_of content rows) from → IsPath (PicksFor (world_of content rows)) from list to → IsGood (world_of content rows) to
   path_good from [] to is same = (let P : List ℕ → Type 0 = λ x. IsGood (world_of content rows) x in subst P same is)

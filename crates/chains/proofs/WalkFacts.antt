@@ -10,6 +10,7 @@ use Rattle.std.specs.declared.cmp.Ordering.{Ordering}
 use Rattle.std.specs.declared.cmp.Ordering.TheVariants.{Less, Equal, Greater}
 use Rattle.std.proofs.lemmas.List.{take-append-le, take_all, take_more}
 use Rattle.std.proofs.lemmas.List.Elements.{Contains-append_cases, Contains-append_left, Contains-append_right, Contains-push_cases}
+use Rattle.lemmas.proofs.ListFacts.{first_inside, inside_cases, none_inside, rest_inside}
 use Rattle.catalogue.specs.Content.{Content}
 use Rattle.catalogue.specs.Ids.{id_cmp}
 use Rattle.catalogue.proofs.IdFacts.{exact_ids}
@@ -19,7 +20,6 @@ use Rattle.chains.specs.FrameIndices.{IsAbove}
 use Rattle.requisites.proofs.LeadsFacts.{leads_closed, leads_itself, leads_more}
 use Rattle.chains.specs.Gathered.{AreNamed, AreRead, IsGathered, IsGathering, IsWalked, Names, gathered_of, named_by}
 use Rattle.chains.specs.declared.gathered.Gathered.{Gathered}
-use Rattle.chains.proofs.SearchFacts.{first_inside, inside_cases, none_inside, rest_inside}
 
 -- ---- walks
 

@@ -5,17 +5,15 @@ use Rattle.std.specs.List.{Contains}
 use Rattle.std.proofs.lemmas.Bool.{cases_eq}
 use Rattle.std.proofs.lemmas.List.{append-nil, get_or-set_other, get_or-set_same, length-set, take_all, take_more}
 use Rattle.std.proofs.lemmas.List.Elements.{Contains-append_cases, Contains-append_left, Contains-push}
+use Rattle.lemmas.proofs.ListFacts.{first_inside, none_inside}
 use Rattle.requisites.specs.Leads.{Leads}
 use Rattle.requisites.specs.Nodes.{Links, row}
 use Rattle.requisites.proofs.LeadsFacts.{leads_closed, leads_itself, leads_more}
 use Rattle.requisites.proofs.OrderFacts.{Takes, drawn_both, takes}
+use Rattle.requisites.proofs.SpreadFacts.{in_one}
 use Rattle.chains.specs.Climbs.{AreTaken, IsWalking}
-use Rattle.chains.proofs.SearchFacts.{first_inside, inside_cases, none_inside}
 
 -- ---- what a row gives
-
-in_one : (p q : ℕ) → Contains (p ∷ []) q → p ≡ q
-in_one p q inside = elim (inside_cases p q [] inside) [ inl same ↦ same | inr none ↦ absurd (none_inside q none) ]
 
 pub taken_none : (turn : ℕ) (seen order : List ℕ) → AreTaken turn [] seen seen order order
 taken_none turn seen order = record {

@@ -4,6 +4,7 @@ use Rattle.std.specs.Prelude.{◌↔◌}
 use Rattle.std.specs.List.{Contains, find}
 use Rattle.std.specs.Option.{IsSomeAnd}
 use Rattle.std.specs.Str.{bytes_eq}
+use Rattle.lemmas.proofs.ListFacts.{any_at, any_from, first_inside, first_true, rest_inside}
 use Rattle.zone_lists.specs.Installed.{is_installed, is_installed_state, is_listed}
 use Rattle.zone_lists.specs.declared.zones.ZoneRow.{ZoneRow}
 use Rattle.catalogue.specs.Content.{Content, Supersedes, ids_in, ids_of, is_of, record_of}
@@ -16,7 +17,6 @@ use Rattle.requisites.specs.Nodes.{IsMarked, Links, row}
 use Rattle.chains.specs.Cuts.{IndexOf, id_at}
 use Rattle.chains.specs.Indices.{AreThere, InstalledAt}
 use Rattle.chains.proofs.IndexFacts.{inside_at, one_index}
-use Rattle.chains.proofs.SearchFacts.{any_at, any_from, first_inside, first_true, rest_inside}
 
 -- what has a record is listed
 pub listed_record : (sysmods : List Sysmod) (id : List ℕ) → is_some (find (is_of id) sysmods) ≡ true → Contains (ids_in sysmods) id

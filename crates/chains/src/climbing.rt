@@ -1,17 +1,19 @@
 //! What supersedes some SYSMODs, directly or through others, read once.
 ghost use Rattle.std.specs.Prelude.{◌≡◌, ◌<◌, ℕ, List, Contains, IfOk, length, map};
 ghost use Rattle.std.specs.BTreeMap.{keys, values};
-ghost use Rattle.catalogue.specs.Content.{superseders};
+ghost use Rattle.catalogue.specs.Content.{ids_of, superseders};
 ghost use Rattle.catalogue.specs.Ids.{Ascend};
-ghost use Rattle.catalogue.specs.View.{IsOpen, MayAsk, Tells};
+ghost use Rattle.catalogue.specs.View.{MayAsk, Tells};
 ghost use Rattle.catalogue.specs.declared.fault.SourceFault.TheVariants.{Device};
 ghost use Rattle.requisites.specs.Nodes.{AreReversed};
 ghost use Rattle.chains.specs.Climbs.{AreAbove, AreListed};
 ghost use Rattle.chains.specs.FrameIndices.{AreIndexed};
+ghost use Rattle.chains.specs.Sights.{IsAtHand};
 
 use crate::found::{ids_found, next_unread};
 use crate::gathered::ascending;
 use crate::indices::put_indices;
+use crate::listing::Listing;
 use catalogue::{Ids, Published, SourceFault};
 use mcs_reader::{Id, NoMemory};
 use requisites::{Rows, turned};
@@ -27,24 +29,27 @@ pub(crate) struct Climb {
     pub(crate) below: Rows,
 }
 
-/// What supersedes these SYSMODs, directly or through others. Each SYSMOD is asked for once.
+/// What supersedes these SYSMODs, directly or through others: by a listing, where one is at hand, and else by the
+/// source, which is asked for each SYSMOD once.
 pub(crate) fn climb_from<P: Published>(
     alloc: Global,
     source: &mut P,
+    listing: Option<&Listing>,
     starts: &[Id],
 ) -> Result<Climb, SourceFault>
     ensures asks { MayAsk P.content_view Device source.old source.new result }
     ensures above { IfOk result (λ climb. Tells P.content_view source.old source.new
-        (λ content. AreAbove content climb.ids.items climb.above)) }
+        (λ content. IsAtHand content listing.entry → AreAbove content climb.ids.items climb.above)) }
+    ensures ordered { IfOk result (λ climb. Tells P.content_view source.old source.new
+        (λ content. IsAtHand content listing.entry
+        → (id : List ℕ) → Contains starts.now id → Ascend (ids_of content))) }
     ensures ascend { IfOk result (λ climb. Ascend climb.ids.items) }
     ensures starts { IfOk result
         (λ climb. (id : List ℕ) → Contains starts.now id → Contains climb.ids.items id) }
     ensures rows { IfOk result (λ climb. length climb.above ≡ length climb.ids.items) }
     ensures turned { IfOk result (λ climb. AreReversed climb.above (length climb.ids.items) climb.below) }
-    ensures standing { IfOk result (λ climb. (id : List ℕ) → Contains starts.now id
-        → IsOpen P.content_view source.new) }
 {
-    let found = superseders_of(alloc, source, starts)?;
+    let found = superseders_of(alloc, source, listing, starts)?;
     Ok(by_indices(alloc, found)?)
 }
 
@@ -52,29 +57,50 @@ pub(crate) fn climb_from<P: Published>(
 fn superseders_of<P: Published>(
     alloc: Global,
     source: &mut P,
+    listing: Option<&Listing>,
     starts: &[Id],
 ) -> Result<BTreeMap<Id, Ids>, SourceFault>
     ensures asks { MayAsk P.content_view Device source.old source.new result }
     ensures above { IfOk result (λ found. Tells P.content_view source.old source.new
-        (λ content. values found ≡ map (superseders content) (keys found))) }
+        (λ content. IsAtHand content listing.entry
+        → values found ≡ map (superseders content) (keys found))) }
+    ensures ordered { IfOk result (λ found. Tells P.content_view source.old source.new
+        (λ content. IsAtHand content listing.entry
+        → (id : List ℕ) → Contains (keys found) id → Ascend (ids_of content))) }
     ensures listed { IfOk result (λ found. AreListed (values found) (keys found)) }
     ensures starts { IfOk result
         (λ found. (id : List ℕ) → Contains starts.now id → Contains (keys found) id) }
-    ensures standing { IfOk result (λ found. (id : List ℕ) → Contains (keys found) id
-        → IsOpen P.content_view source.new) }
 {
     let mut found = BTreeMap::new(alloc);
     let mut order = Vec::from_slice(alloc, starts)?;
     let mut at = 0;
     while at < order.len() {
         let id = order[at];
-        let read = source.superseders(&id)?;
-        let above = ascending(read);
+        let above = direct_superseders(alloc, source, listing, &id)?;
         order.extend_from_slice(above.as_slice())?;
         found.insert(id, above)?;
         at = next_unread(&found, &order, at + 1);
     }
     Ok(found)
+}
+
+// What supersedes one directly.
+fn direct_superseders<P: Published>(
+    alloc: Global,
+    source: &mut P,
+    listing: Option<&Listing>,
+    id: &Id,
+) -> Result<Ids, SourceFault>
+    ensures asks { MayAsk P.content_view Device source.old source.new result }
+    ensures superseders { IfOk result (λ found. Tells P.content_view source.old source.new
+        (λ content. IsAtHand content listing.entry → found ≡ superseders content id.now)) }
+    ensures ordered { IfOk result (λ found. Tells P.content_view source.old source.new
+        (λ content. IsAtHand content listing.entry → Ascend (ids_of content))) }
+{
+    match listing {
+        Some(listing) => Ok(listing.superseders(alloc, id)?),
+        None => Ok(ascending(source.superseders(id)?)),
+    }
 }
 
 fn by_indices(alloc: Global, found: BTreeMap<Id, Ids>) -> Result<Climb, NoMemory>

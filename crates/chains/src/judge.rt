@@ -1,14 +1,16 @@
 //! Who gives verdicts.
-ghost use Rattle.std.specs.Prelude.{◌≡◌, IfOk, map};
+ghost use Rattle.std.specs.Prelude.{◌≡◌, IfOk, map, option_map};
 ghost use Rattle.catalogue.specs.Content.{Content, IsInOrder};
 ghost use Rattle.catalogue.specs.Ids.{Ascend};
 ghost use Rattle.catalogue.specs.View.{MayAsk, Tells};
 ghost use Rattle.catalogue.specs.declared.fault.SourceFault.TheVariants.{Device};
 ghost use Rattle.catalogue.specs.Touched.{AgreeOutside};
+ghost use Rattle.chains.specs.Candidates.{candidates_unless_there};
 ghost use Rattle.chains.specs.Judge as judge;
 ghost use Rattle.chains.specs.United.{united};
 ghost use Rattle.chains.specs.Verdicts.{verdict_of};
 
+use crate::candidates::candidates_for;
 use crate::united::{listed, put_plan};
 use crate::{Status, Verdict};
 use catalogue::{Published, SourceFault};
@@ -105,5 +107,26 @@ pub trait Judge<P: Published> {
             put_plan(&mut found, &verdict)?;
         }
         Ok(listed(alloc, found)?)
+    }
+
+    /// For each of some SYSMODs the candidates that give it, ascending, or `None` where it is there: what
+    /// [`candidates_for`] finds. A judge that keeps what is catalogued finds it there; otherwise the source is asked.
+    ///
+    /// # Errors
+    ///
+    /// Those of [`Judge::verdict`].
+    fn candidates(
+        &self,
+        alloc: Global,
+        source: &mut P,
+        zone: &Zone,
+        ids: &[Id],
+    ) -> Result<Vec<Option<Vec<Id>>>, SourceFault>
+        ensures asks { MayAsk P.content_view Device source.old source.new result }
+        ensures candidates { IfOk result (λ found. Tells P.content_view source.old source.new
+            (λ content. is_right self.now content → map (option_map (λ ids. ids.items)) found.items
+            ≡ map (candidates_unless_there content zone.now) ids.now)) }
+    {
+        candidates_for(alloc, source, None, zone, ids)
     }
 }

@@ -9,7 +9,7 @@
 //! - [`plan`], [`good`]: verdicts from a frame alone
 //! - [`Listing`]: all that is catalogued, whatever the zone; [`listing_of`]: that of a source, read once
 //! - [`Survey`]: all verdicts of one zone; [`Survey::of`]: by a listing; [`survey_of`]: from a source
-//! - [`candidates_for`]: the candidates that give each of several SYSMODs
+//! - [`candidates_for`]: the candidates that give each of several SYSMODs, by a listing or from a source
 //! - [`put_plan`], [`listed`]: what chosen plans have together, put into a set of ids and listed
 //! - [`touches`]: whether a publication may change a frame
 //! - [`good_is_planned`], [`verdicts_are_right`]: laws of the definitions
@@ -44,6 +44,7 @@ mod links;
 mod listing;
 mod nodes;
 mod planning;
+mod superseders;
 mod surveying;
 mod touching;
 mod united;

@@ -2,11 +2,16 @@
 ghost use Rattle.std.specs.Prelude.{◌≡◌, ◌++◌, length, IfOk, OnOk};
 ghost use Rattle.std.specs.List.{list_any};
 ghost use Rattle.zone_lists.specs.Installed.{is_installed};
+ghost use Rattle.catalogue.specs.Content.{Content, ids_of, superseders};
 ghost use Rattle.catalogue.specs.Ids.{Ascend};
 ghost use Rattle.catalogue.specs.View.{MayAsk, Tells};
 ghost use Rattle.catalogue.specs.declared.fault.SourceFault.TheVariants.{Device};
+ghost use Rattle.supersede.specs.Giving.{is_candidate};
 ghost use Rattle.chains.specs.Sights.{IsListing, reasons_in, sight_from, sight_of, unseen};
 
+use crate::gathered::ascending;
+use crate::indices::{ids_at, index_of, sort_each_once};
+use crate::superseders::Superseders;
 use catalogue::{CondNeed, CondNeeds, Ids, Published, SourceFault, Sysmod};
 use holddata::{Hold, Kind};
 use mcs_reader::{Id, NoMemory};
@@ -83,19 +88,23 @@ impl Entry {
 pub struct Listing {
     ids: Vec<Id>,
     entries: Vec<Entry>,
+    superseders: Superseders,
 }
 
 impl Model for Listing {
     ghost use Rattle.std.specs.Prelude.{◌≡◌, length};
     ghost use Rattle.catalogue.specs.Ids.{Ascend};
     ghost use Rattle.chains.specs.Sights.{ListingLists};
+    ghost use Rattle.chains.specs.Superseders.{AreTurned};
 
     ghost Value = { ListingLists };
 
     ghost view = { λ listing. record { ids = listing.ids.items; sights = listing.entries.items } };
 
     ghost invariant = { λ listing. Ascend listing.ids.items
-        × (length listing.entries.items ≡ length listing.ids.items) };
+        × (length listing.entries.items ≡ length listing.ids.items)
+        × AreTurned listing.entries.items
+        listing.superseders.superseded.items listing.superseders.above };
 }
 
 impl Listing {
@@ -114,6 +123,28 @@ impl Listing {
     {
         self.entries.as_slice()
     }
+
+    /// The SYSMODs whose SUP names an id, ascending.
+    pub(crate) fn superseders(&self, alloc: Global, id: &Id) -> Result<Ids, NoMemory>
+        ensures superseders { IfOk result (λ found. (content : Content) → IsListing content self.now
+            → found ≡ superseders content id.now) }
+        ensures ascend { (content : Content) → IsListing content self.now → Ascend (ids_of content) }
+    {
+        let mut found = ids_at(alloc, &self.ids, self.superseders.indices(id))?;
+        sort_each_once(&mut found)?;
+        Ok(ascending(found))
+    }
+
+    /// Whether an id is listed, and one of the functions that it is for is there.
+    pub(crate) fn is_candidate(&self, zone: &Zone, id: &Id) -> bool
+        ensures { (content : Content) → IsListing content self.now
+            → result ≡ is_candidate content zone.now id.now }
+    {
+        match index_of(&self.ids, id) {
+            Some(index) => self.entries[index].is_candidate(zone),
+            None => false,
+        }
+    }
 }
 
 /// All that is catalogued, read once.
@@ -131,7 +162,12 @@ pub fn listing_of<P: Published>(alloc: Global, source: &mut P) -> Result<Listing
     for id in &ids {
         entries.push(entry_of(alloc, source, id)?)?;
     }
-    Ok(Listing { ids, entries })
+    let superseders = Superseders::of(alloc, &entries)?;
+    Ok(Listing {
+        ids,
+        entries,
+        superseders,
+    })
 }
 
 fn entry_of<P: Published>(alloc: Global, source: &mut P, id: &Id) -> Result<Entry, SourceFault>

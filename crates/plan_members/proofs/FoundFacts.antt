@@ -4,11 +4,13 @@ use Rattle.std.specs.Prelude.{not}
 use Rattle.std.specs.List.{Contains, filter, flat_map, list_any}
 use Rattle.std.proofs.lemmas.List.{length-map}
 use Rattle.std.proofs.lemmas.List.Elements.{Contains-append_left, Contains-append_right}
+use Rattle.lemmas.proofs.ListFacts.{flat_inside, kept_from, kept_inside, map_inside}
+use Rattle.lemmas.proofs.TestFacts.{same_test}
 use Rattle.report_holds.specs.declared.holds.HoldOn.{HoldOn}
 use Rattle.zone_lists.specs.declared.zones.ZoneRow.{ZoneRow}
 use Rattle.catalogue.specs.Content.{Content, ids_of}
 use Rattle.catalogue.specs.Ids.{in_order, same_id}
-use Rattle.catalogue.proofs.IdFacts.{in_order_has, one_id}
+use Rattle.catalogue.proofs.IdFacts.{in_order_has}
 use Rattle.supersede.specs.Giving.{gives, givers_of, is_candidate, is_there, needs_in}
 use Rattle.supersede.specs.Reach.{has}
 use Rattle.supersede.proofs.LeadingFacts.{gives_is}
@@ -19,12 +21,10 @@ use Rattle.chains.specs.Cuts.{id_at}
 use Rattle.chains.specs.Worlds.{world_of}
 use Rattle.chains.proofs.IndexFacts.{at_inside, get_any}
 use Rattle.chains.proofs.PartFacts.{at_map}
-use Rattle.chains.proofs.SearchFacts.{any_from, kept_from, kept_inside, map_inside}
-use Rattle.chains.proofs.UnitedFacts.{flat_inside}
 use Rattle.zone_plans.specs.Members.{joined, needs_id}
 use Rattle.zone_plans.specs.declared.holds.ChosenResolver.{ChosenResolver}
-use Rattle.zone_plans.proofs.GraphFacts.{has_from}
 use Rattle.zone_plans.proofs.PlannedFacts.{answer_has, answer_says}
+use Rattle.zone_plans.proofs.GraphFacts.{has_from, has_to}
 use Rattle.plan_members.specs.Found.{AreFound, FoundLists, IsTold, ReadingLists, absent_givers, all_needs, gives_one, holds_at, is_needed_at, no_resolver, nothing_read, or_none, others_at, picked, places, reading_at, reading_of, resolver_at, resolvers_in}
 use Rattle.plan_members.specs.Members.{MemberLists, holds_for, member_at, needed_by_of}
 use Rattle.plan_members.proofs.PlaceFacts.{filter_twice, places_kept, places_same}
@@ -39,19 +39,6 @@ filter_alike : {X : Type 0} (p q : X → Bool) (xs : List X) → ((x : X) → p 
 filter_alike p q [] same = refl
 filter_alike p q (x ∷ xs) same =
     ap (λ b. cond b (x ∷ filter p xs) (filter p xs)) (same x) ∙ ap (λ l. cond (q x) (x ∷ l) l) (filter_alike p q xs same)
-
--- two tests that are true together are one
-both_ways : (a b : Bool) → (a ≡ true → b ≡ true) → (b ≡ true → a ≡ true) → a ≡ b
-both_ways true true on back = refl
-both_ways true false on back = sym (on refl)
-both_ways false true on back = back refl
-both_ways false false on back = refl
-
-listed_in : (ids : List (List ℕ)) (id : List ℕ) → has ids id ≡ true → Contains ids id
-listed_in ids id on =
-    let found = any_from (same_id id) ids on in
-    let P : List ℕ → Type 0 = λ x. Contains ids x in
-    subst P (sym (one_id id found.element found.passes)) found.member
 
 -- ---- what is asked for
 
@@ -85,8 +72,8 @@ module _ (content : Content) (rows : List ZoneRow) where
   -- what gives a resolver is all that does
   pub givers_are : (resolver id : List ℕ) → has (givers_of content resolver) id ≡ gives content id resolver
   givers_are resolver id =
-      both_ways (has (givers_of content resolver) id) (gives content id resolver)
-      (λ on. (kept_from (λ (giver : List ℕ). gives content giver resolver) (ids_of content) id (listed_in (givers_of content resolver) id on)).passes)
+      same_test (has (givers_of content resolver) id) (gives content id resolver)
+      (λ on. (kept_from (λ (giver : List ℕ). gives content giver resolver) (ids_of content) id (has_to (givers_of content resolver) id on)).passes)
       (λ on. has_from (givers_of content resolver) id (kept_inside (λ (giver : List ℕ). gives content giver resolver) (ids_of content) id ((gives_is content id resolver).0 on).catalogued on))
 
   -- for a candidate, what gives a need that isn't there is all that does
@@ -98,9 +85,9 @@ module _ (content : Content) (rows : List ZoneRow) where
     go : (b : Bool) → is_there content rows need ≡ b → has (or_none (cond b None (Some (filter (λ giver. is_candidate content rows giver) (givers_of content need))))) id ≡ (not b && gives content id need)
     go true there = refl
     go false absent =
-        both_ways (has (filter (λ giver. is_candidate content rows giver) (givers_of content need)) id) (gives content id need)
+        same_test (has (filter (λ giver. is_candidate content rows giver) (givers_of content need)) id) (gives content id need)
         (λ on. (gives_is content id need).1 ((answer_says content rows need (filter (λ giver. is_candidate content rows giver) (givers_of content need)) (ap (λ b. cond b None (Some (filter (λ giver. is_candidate content rows giver) (givers_of content need)))) absent)).each id
-        (listed_in (filter (λ giver. is_candidate content rows giver) (givers_of content need)) id on)))
+        (has_to (filter (λ giver. is_candidate content rows giver) (givers_of content need)) id on)))
         (λ on. has_from (filter (λ giver. is_candidate content rows giver) (givers_of content need)) id (answer_has content rows need id candidate ((gives_is content id need).0 on)))
 
   -- whether it gives one of the needs of another

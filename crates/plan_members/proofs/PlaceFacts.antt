@@ -8,6 +8,7 @@ use Rattle.std.proofs.lemmas.List.Elements.{filter-append, filter_map-append}
 use Rattle.std.proofs.lemmas.List.Folds.{list_any-append}
 use Rattle.std.proofs.lemmas.Option.{slice_get-get_or}
 use Rattle.std.proofs.Math.Seq.{get_or-append_seam}
+use Rattle.std.proofs.Math.Bool.{or-false}
 use Rattle.catalogue.specs.Ids.{Ascend, same_id}
 use Rattle.catalogue.proofs.IdFacts.{itself, one_id}
 use Rattle.supersede.specs.Reach.{has}
@@ -88,13 +89,9 @@ put_same test other ids place a b same put = record {
   each = λ q within. put.each q within ∙ ap (λ t. once t place (row a q)) (same (id_at ids q));
 }
 
-or_false : (b : Bool) → (b || false) ≡ b
-or_false true = refl
-or_false false = refl
-
 any_more : {X : Type 0} (p : X → Bool) (xs : List X) (i : ℕ) (x : X) → i < length xs → x ≡ get_or xs i x → (list_any p (take i xs) || p x) ≡ list_any p (take (i + 1) xs)
 any_more p xs i x below at =
-    ap (λ b. list_any p (take i xs) || b) (sym (or_false (p x)))
+    ap (λ b. list_any p (take i xs) || b) (sym (or-false (p x)))
     ∙ sym (list_any-append p (take i xs) (x ∷ []))
     ∙ ap (λ z. list_any p (take i xs ++ z ∷ [])) at
     ∙ ap (list_any p) (sym (take_more xs i x below))

@@ -1,4 +1,4 @@
-//! Ids in order.
+//! Which SYSMODs a plan has: members of its steps and chosen resolvers, ascending, each once.
 ghost use Rattle.std.specs.Prelude.{◌≡◌, IfOk, OnOk};
 ghost use Rattle.catalogue.specs.Ids.{Ascend, in_order, put_among};
 ghost use Rattle.zone_plans.specs.Members.{joined};

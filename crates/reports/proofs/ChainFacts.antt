@@ -1,8 +1,8 @@
 -- Values and the items that they stand for.
-use Rattle.std.proofs.Common.{◌+◌, ◌<◌, ◌++◌, length, take, get_or, ◌≡◌, ◌∙◌, ℕ, false, List, [], ◌∷◌, map, refl, sym, ap}
+use Rattle.std.proofs.Common.{◌+◌, ◌<◌, ◌++◌, ◌||◌, length, take, get_or, ◌≡◌, ◌∙◌, ℕ, false, List, [], ◌∷◌, map, refl, sym, ap}
 use Rattle.std.proofs.lemmas.List.{map-append, take_more}
 use Rattle.mcs_reader.specs.Id.{text_of}
-use Rattle.serde_json.specs.Data.{item, string}
+use Rattle.serde_json.specs.Data.{Data, item, string}
 use Rattle.serde_json.specs.View.{items_of, items_view, view}
 use Rattle.serde_json.specs.Written.{has_float, items_have_float}
 use Rattle.serde_json.specs.declared.value.Value.{Value}
@@ -11,7 +11,18 @@ use Rattle.holddata.specs.declared.key.Kind.TheVariants.{SystemHold, UserHold}
 use Rattle.chains.specs.Verdicts.{Judged, good, held, lack}
 use Rattle.reports.specs.ChainText.{chain_data, member_with, plan_items, plan_member, reasons_in, texts}
 
-texts_are : (ids : List (List ℕ)) → items_of (map (λ id. string (text_of id)) ids) ≡ texts ids
+-- one more value
+pub value_more : {X : Type 0} (f : X → Data) (xs : List X) (i : ℕ) (x : X) (old new : List Value) (value : Value) → i < length xs → x ≡ get_or xs i x
+    → map view old ≡ map f (take i xs) → view value ≡ f x → new ≡ old ++ value ∷ [] → map view new ≡ map f (take (i + 1) xs)
+value_more f xs i x old new value below at was is now =
+    ap (map view) now
+    ∙ map-append view old (value ∷ [])
+    ∙ ap (λ l. l ++ view value ∷ []) was
+    ∙ ap (λ v. map f (take i xs) ++ v ∷ []) is
+    ∙ sym (map-append f (take i xs) (x ∷ []))
+    ∙ ap (map f) (sym (take_more xs i x below ∙ ap (λ z. take i xs ++ z ∷ []) (sym at)))
+
+pub texts_are : (ids : List (List ℕ)) → items_of (map (λ id. string (text_of id)) ids) ≡ texts ids
 texts_are [] = refl
 texts_are (id ∷ ids) = ap (item (string (text_of id))) (texts_are ids)
 
@@ -25,7 +36,12 @@ plan_is content (id ∷ ids) = ap (item (plan_member content id)) (plan_is conte
 pub plan_by : (content : Content) (values : List Value) (ids : List (List ℕ)) → map view values ≡ map (plan_member content) ids → items_view values ≡ plan_items content ids
 plan_by content values ids are = ap items_of are ∙ plan_is content ids
 
-texts_plain : (ids : List (List ℕ)) → items_have_float (texts ids) ≡ false
+-- no number of some items is a float
+pub items_plain : {X : Type 0} (f : X → Data) → ((x : X) → has_float (f x) ≡ false) → (xs : List X) → items_have_float (items_of (map f xs)) ≡ false
+items_plain f plain [] = refl
+items_plain f plain (x ∷ xs) = ap (λ b. b || items_have_float (items_of (map f xs))) (plain x) ∙ items_plain f plain xs
+
+pub texts_plain : (ids : List (List ℕ)) → items_have_float (texts ids) ≡ false
 texts_plain [] = refl
 texts_plain (id ∷ ids) = texts_plain ids
 
@@ -46,10 +62,4 @@ pub plan_more : (content : Content) (plan : List (List ℕ)) (i : ℕ) (id : Lis
     → view value ≡ member_with id (holds_on content id)
     → new ≡ old ++ value ∷ []
     → map view new ≡ map (plan_member content) (take (i + 1) plan)
-plan_more content plan i id old new value below at was is now =
-    ap (map view) now
-    ∙ map-append view old (value ∷ [])
-    ∙ ap (λ xs. xs ++ view value ∷ []) was
-    ∙ ap (λ v. map (plan_member content) (take i plan) ++ v ∷ []) is
-    ∙ sym (map-append (plan_member content) (take i plan) (id ∷ []))
-    ∙ ap (map (plan_member content)) (sym (take_more plan i id below ∙ ap (λ x. take i plan ++ x ∷ []) (sym at)))
+plan_more content = value_more (plan_member content)

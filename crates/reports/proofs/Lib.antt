@@ -1,6 +1,6 @@
-mod ChainFacts
+pub mod ChainFacts
 mod ErrorFacts
 mod Examples
 mod MissingFacts
 mod OrderFacts
-mod ResolverFacts
+pub mod ResolverFacts

@@ -3,11 +3,12 @@ use Rattle.std.proofs.Common.{◌≡◌, ◌∙◌, ℕ, ◌+◌, ◌<◌, ◌||
 use Rattle.std.specs.BTreeSet.{insert_key}
 use Rattle.std.specs.List.{cons_option, flat_map, fold, list_any}
 use Rattle.std.specs.Option.{IfSome}
-use Rattle.std.proofs.lemmas.Bool.{cases_Bool}
+use Rattle.std.proofs.lemmas.Bool.{cases_Bool, or_right}
 use Rattle.std.proofs.lemmas.List.{map-append, take_more}
 use Rattle.std.proofs.lemmas.List.Elements.{filter-append}
 use Rattle.std.proofs.lemmas.List.Sums.{fold-append}
 use Rattle.std.specs.Borrow.{Bor}
+use Rattle.lemmas.proofs.ResultFacts.{if_some}
 use Rattle.mcs_reader.specs.Bytes.{bytes_of_each}
 use Rattle.holddata.specs.declared.hold.Hold.{Hold}
 use Rattle.zone_lists.specs.Pattern.{does_match}
@@ -22,8 +23,7 @@ use Rattle.reports.specs.MissingRows.{Missing, by_category, categories_asked, is
 use Rattle.reports.specs.Resolvers.{AreAmong, candidates_for, each_or_none, found_by, status_in, unless_there}
 use Rattle.reports.specs.declared.missing.MissingHeld.{MissingHeld}
 use Rattle.reports.specs.declared.rows.MissingRow.{MissingRow}
-use Rattle.reports.proofs.ErrorFacts.{map_fold, map_map, or_right}
-use Rattle.reports.proofs.ResolverFacts.{if_some}
+use Rattle.reports.proofs.ErrorFacts.{map_fold, map_map}
 
 -- ---- the categories that patterns match
 

@@ -1,18 +1,19 @@
 -- In which order the rows of the reports stand.
-use Rattle.std.proofs.Common.{◌≡◌, ◌∙◌, ℕ, List, [], ◌∷◌, ◌++◌, Option, Some, filter, map, not, refl, ap}
-use Rattle.std.specs.BTreeSet.{insert_key}
+use Rattle.std.proofs.Common.{◌≡◌, ℕ, List, [], ◌∷◌, ◌++◌, Option, Some, filter, map, not, refl}
 use Rattle.std.specs.Cmp.{IsTotalOrder}
 use Rattle.std.specs.Cmp.Lexicographic.{nat_list_cmp_total, options_total, slice_cmp}
-use Rattle.std.specs.List.{AllByRecursion, flat_map, fold}
+use Rattle.std.specs.List.{AllByRecursion, flat_map}
 use Rattle.std.specs.List.Sorted.{IsStrictlySortedBy}
 use Rattle.std.specs.Option.{option_cmp}
-use Rattle.std.specs.Ordering.{match_ordering, nat_cmp, ordering_reverse, ordering_then}
+use Rattle.std.specs.Ordering.{nat_cmp, ordering_reverse, ordering_then}
 use Rattle.std.specs.declared.cmp.Ordering.{Ordering}
 use Rattle.std.specs.declared.cmp.Ordering.TheVariants.{Less, Equal, Greater}
 use Rattle.std.proofs.lemmas.Cmp.{on_total, then_total}
 use Rattle.std.proofs.lemmas.List.Kept.{IsStrictlySortedBy-filter}
+use Rattle.lemmas.proofs.ListFacts.{all_append}
 use Rattle.holddata.specs.declared.hold.Hold.{Hold}
 use Rattle.zone_lists.specs.declared.zones.ZoneRow.{ZoneRow}
+use Rattle.holddata.proofs.InsertFacts.{sorted_puts}
 use Rattle.catalogue.specs.Content.{Content, IsInOrder, ids_of}
 use Rattle.catalogue.specs.Ids.{Ascend, id_cmp}
 use Rattle.catalogue.proofs.IdFacts.{ids_total, in_order_ascends}
@@ -24,44 +25,13 @@ use Rattle.reports.specs.Resolvers.{StandInOrder, candidates_for, each_or_none}
 -- ---- lists in order
 
 module _ {K : Type 0} where
-  all_both : (P Q : K → Type 0) → ((x : K) → P x → Q x) → (xs : List K) → AllByRecursion P xs → AllByRecursion Q xs
-  all_both P Q so [] h = tt
-  all_both P Q so (x ∷ xs) h = (so x h.0, all_both P Q so xs h.1)
-
-  all_joined : (P : K → Type 0) (xs ys : List K) → AllByRecursion P xs → AllByRecursion P ys → AllByRecursion P (xs ++ ys)
-  all_joined P [] ys h g = g
-  all_joined P (x ∷ xs) ys h g = (h.0, all_joined P xs ys h.1 g)
-
-  all_put : (cmp : K → K → Ordering) (P : K → Type 0) (xs : List K) (k : K) → AllByRecursion P xs → P k → AllByRecursion P (insert_key cmp xs k)
-  all_put cmp P [] k h p = (p, tt)
-  all_put cmp P (x ∷ xs) k h p = by (all_put cmp P xs k h.1 p) (cmp k x)
-    where
-      by : AllByRecursion P (insert_key cmp xs k) → (o : Ordering) → AllByRecursion P (match_ordering o (k ∷ x ∷ xs) (x ∷ xs) (x ∷ insert_key cmp xs k))
-      by rest Less = (p, h)
-      by rest Equal = h
-      by rest Greater = (h.0, rest)
-
-  put_sorted : {cmp : K → K → Ordering} → IsTotalOrder cmp → (xs : List K) (k : K) → IsStrictlySortedBy cmp xs → IsStrictlySortedBy cmp (insert_key cmp xs k)
-  unfolding IsStrictlySortedBy
-  put_sorted total [] k h = (tt, tt)
-  put_sorted {cmp} total (x ∷ xs) k h = by (put_sorted total xs k h.1) (cmp k x) refl
-    where
-      by : IsStrictlySortedBy cmp (insert_key cmp xs k) → (o : Ordering) → cmp k x ≡ o → IsStrictlySortedBy cmp (match_ordering o (k ∷ x ∷ xs) (x ∷ xs) (x ∷ insert_key cmp xs k))
-      by rest Less is = ((is, all_both (λ y. cmp x y ≡ Less) (λ y. cmp k y ≡ Less) (λ y less. total.trans k x y is less) xs h.0), h)
-      by rest Equal is = h
-      by rest Greater is = (all_put cmp (λ y. cmp x y ≡ Less) xs k h.0 (total.antisymm x k ∙ ap ordering_reverse is), rest)
-
-  pub fold_sorted : {cmp : K → K → Ordering} → IsTotalOrder cmp → (xs ks : List K) → IsStrictlySortedBy cmp xs → IsStrictlySortedBy cmp (fold (insert_key cmp) xs ks)
-  fold_sorted total xs [] h = h
-  fold_sorted {cmp} total xs (k ∷ ks) h = fold_sorted total (insert_key cmp xs k) ks (put_sorted total xs k h)
-
   pub none_sorted : (cmp : K → K → Ordering) → IsStrictlySortedBy cmp []
   unfolding IsStrictlySortedBy
   none_sorted cmp = tt
 
   joined_in_order : (Before : K → K → Type 0) (xs ys : List K) → StandInOrder Before xs → StandInOrder Before ys → AllByRecursion (λ x. AllByRecursion (Before x) ys) xs → StandInOrder Before (xs ++ ys)
   joined_in_order Before [] ys h g below = g
-  joined_in_order Before (x ∷ xs) ys h g below = (all_joined (Before x) xs ys h.0 below.0, joined_in_order Before xs ys h.1 g below.1)
+  joined_in_order Before (x ∷ xs) ys h g below = (all_append (Before x) xs ys h.0 below.0, joined_in_order Before xs ys h.1 g below.1)
 
 -- each of a list mapped, as each of the list
 all_mapped : {K L : Type 0} (P : L → Type 0) (f : K → L) (xs : List K) → ((x : K) → P (f x)) → AllByRecursion P (map f xs)
@@ -92,7 +62,7 @@ module _ {H R : Type 0} {before : H → H → Ordering} (Before : R → R → Ty
       both : (xs : List R) → AllByRecursion (λ x. AllByRecursion (Before x) (block g)) xs → AllByRecursion (λ x. AllByRecursion (Before x) (flat_map block hs)) xs
           → AllByRecursion (λ x. AllByRecursion (Before x) (block g ++ flat_map block hs)) xs
       both [] a b = tt
-      both (x ∷ xs) a b = (all_joined (Before x) (block g) (flat_map block hs) a.0 b.0, both xs a.1 b.1)
+      both (x ∷ xs) a b = (all_append (Before x) (block g) (flat_map block hs) a.0 b.0, both xs a.1 b.1)
 
   pub blocks_in_order : (hs : List H) → IsStrictlySortedBy before hs → StandInOrder Before (flat_map block hs)
   unfolding IsStrictlySortedBy
@@ -165,7 +135,7 @@ err_rows_ascend content rows received holds order =
     (named_sorted (candidates_for content rows hold.key.reason) (candidates_ascend content rows hold.key.reason order)))
     (of_two_holds content rows received)
     (filter (λ hold. not (is_there content rows hold.key.reason)) (by_fmid holds))
-    (IsStrictlySortedBy-filter hold_cmp (λ hold. not (is_there content rows hold.key.reason)) (by_fmid holds) (fold_sorted holds_total [] holds (none_sorted hold_cmp)))
+    (IsStrictlySortedBy-filter hold_cmp (λ hold. not (is_there content rows hold.key.reason)) (by_fmid holds) (sorted_puts hold_cmp holds_total [] holds (none_sorted hold_cmp)))
 
 -- ---- the missing fix report
 
@@ -209,7 +179,7 @@ missing_rows_ascend = record {
       (named_sorted (resolvers_of content rows missing.hold) (resolvers_ascend content rows missing.hold)))
       (of_two_missing content rows received)
       (filter (λ missing. is_missing content rows missing.hold) (by_category asked))
-      (IsStrictlySortedBy-filter missing_cmp (λ missing. is_missing content rows missing.hold) (by_category asked) (fold_sorted missing_total [] asked (none_sorted missing_cmp)));
+      (IsStrictlySortedBy-filter missing_cmp (λ missing. is_missing content rows missing.hold) (by_category asked) (sorted_puts missing_cmp missing_total [] asked (none_sorted missing_cmp)));
   resolvers = λ content rows received missing.
       mapped_in_order (λ row later. option_cmp id_cmp row.resolver later.resolver ≡ Less) (missing_row content rows received missing) (each_or_none (resolvers_of content rows missing.hold)) (λ a b less. less)
       (named_sorted (resolvers_of content rows missing.hold) (resolvers_ascend content rows missing.hold));

@@ -1,5 +1,5 @@
 -- What resolves a hold, one SYSMOD at a time.
-use Rattle.std.proofs.Common.{◌≡◌, ◌∙◌, ℕ, zero, suc, ◌+◌, ◌<◌, ◌≤◌, true, List, [], ◌∷◌, ◌++◌, Option, Some, None, filter_map, get_or, length, map, take, IfOk, OnOk, Result, Ok, Err, refl, sym, subst, ap, arith}
+use Rattle.std.proofs.Common.{◌≡◌, ◌∙◌, ℕ, zero, suc, ◌+◌, ◌<◌, ◌≤◌, true, List, [], ◌∷◌, ◌++◌, Option, Some, None, filter_map, get_or, length, map, take, OnOk, Result, refl, sym, subst, ap, arith}
 use Rattle.std.specs.BTreeSet.{insert_key}
 use Rattle.std.specs.List.{AllByRecursion, cons_option, flat_map, fold, slice_get}
 use Rattle.std.specs.Option.{IfSome}
@@ -9,11 +9,12 @@ use Rattle.std.proofs.lemmas.List.{append-nil, map-append, take_more}
 use Rattle.std.proofs.lemmas.List.Sums.{fold-append}
 use Rattle.std.proofs.lemmas.List.Elements.{filter_map-append}
 use Rattle.std.proofs.lemmas.List.Folds.{list_any-append}
+use Rattle.std.proofs.lemmas.Bool.{or_right}
 use Rattle.catalogue.specs.Ids.{id_cmp, in_order, put_among, same_id}
 use Rattle.supersede.specs.Reach.{has}
 use Rattle.catalogue.proofs.IdFacts.{in_order_any, itself}
 use Rattle.reports.specs.Resolvers.{each_or_none, found_by}
-use Rattle.reports.proofs.ErrorFacts.{has_more, map_map, or_right}
+use Rattle.reports.proofs.ErrorFacts.{has_more, map_map}
 
 -- what stands at an index of a list stands, mapped, at that index of the mapped list
 pub get_mapped : {X Y : Type 0} → (f : X → Y) (xs : List X) (k : ℕ) (x : X) → slice_get xs k ≡ Some x → slice_get (map f xs) k ≡ Some (f x)
@@ -32,10 +33,6 @@ pub each_put : {Found Done Fault : Type 0} → (result : Result Done Fault) (old
     → resolvers ≡ Some ids → put ≡ ids → 1 ≤ length ids → OnOk result (new ≡ old ++ map (λ resolver. found (Some resolver)) put) → OnOk result (new ≡ old ++ found_by found resolvers)
 each_put result old new found ids put resolvers is are some now =
     subst (λ last. OnOk result (new ≡ old ++ last)) (ap (map (λ resolver. found (Some resolver))) are ∙ each_is found ids some ∙ ap (found_by found) (sym is)) now
-
-pub if_some : {X : Type 0} (P : X → Type 0) (o : Option X) → ((x : X) → o ≡ Some x → P x) → IfSome o P
-if_some P None holds = tt
-if_some P (Some x) holds = holds x refl
 
 -- one more key is put among others, in order
 pub keys_more : {X K : Type 0} → (cmp : K → K → Ordering) (key : X → K) (xs : List X) (i : ℕ) (x : X) (old new : List K) → i < length xs → x ≡ get_or xs i x
@@ -121,15 +118,6 @@ pub get_unmapped : {X Y : Type 0} → (f : X → Y) (xs : List X) (k : ℕ) (y :
 get_unmapped f [] k y at = absurd (cc at)
 get_unmapped f (x ∷ xs) zero y at = (x, refl, cc at)
 get_unmapped f (x ∷ xs) (suc k) y at = get_unmapped f xs k y at
-
--- what an answer holds where it is one
-pub some_is : {X : Type 0} (P : X → Type 0) (o : Option X) (x : X) → o ≡ Some x → IfSome o P → P x
-some_is P None x is so = absurd (cc is)
-some_is P (Some y) x is so = let same : y ≡ x = cc is in subst P same so
-
-pub ok_so : {X E : Type 0} {P Q : X → Type 0} (r : Result X E) → IfOk r P → ((x : X) → P x → Q x) → IfOk r Q
-ok_so (Ok x) p so = so x p
-ok_so (Err e) p so = tt
 
 -- what was answered for ids, as the calls have it that ask and that read the answers
 pub answers_read : {X Y Answer : Type 0} (said : Answer → Y) (f : X → Y) (asked read : List X) (answers given : List Answer) → read ≡ asked → given ≡ answers

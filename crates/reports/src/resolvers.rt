@@ -13,7 +13,7 @@ ghost use Rattle.chains.specs.declared.verdict.Status.{Status};
 ghost use Rattle.reports.specs.Resolvers.{AreAmong, AreAnswers, all_found, found_by, row_by, status_in};
 
 use catalogue::{Published, SourceFault};
-use chains::{Judge, Status, candidates_for};
+use chains::{Judge, Status};
 use faults::NoMemory;
 use mcs_reader::Id;
 use std::alloc::Global;
@@ -83,7 +83,7 @@ pub(crate) fn rows_of<P: Published, J: Judge<P>, R: Drop, F: Resolved<R> + Drop,
         (λ content. J.is_right judge.old content → J.is_right judge.new content) }
 {
     let asked = asked_in(alloc, held)?;
-    let answers = candidates_for(alloc, source, zone, &asked)?;
+    let answers = judge.candidates(alloc, source, zone, &asked)?;
     let found = found_answered(alloc, held, &asked, &answers)?;
     let resolvers = resolvers_in(alloc, &found)?;
     let statuses = judge.statuses(alloc, source, zone, &resolvers)?;

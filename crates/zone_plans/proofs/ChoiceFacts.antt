@@ -1,23 +1,11 @@
 -- What is taken of lists, one after the other.
 use Rattle.std.proofs.Common.{◌≡◌, ◌∙◌, ◌||◌, ◌+◌, ◌<◌, ℕ, List, [], ◌∷◌, ◌++◌, Bool, true, false, cond, Option, length, get_or, take, map, refl, sym, ap}
 use Rattle.std.specs.BTreeSet.{insert_key}
-use Rattle.std.specs.List.{cons_option, filter, filter_map, flat_map, list_any}
-use Rattle.std.proofs.lemmas.List.{append-nil, map-append, take_more}
-use Rattle.std.proofs.lemmas.List.Concat.{flat_map-append}
+use Rattle.std.specs.List.{cons_option, filter, filter_map, list_any}
+use Rattle.std.proofs.lemmas.List.{map-append, take_more}
 use Rattle.std.proofs.lemmas.List.Sums.{fold-append}
+use Rattle.lemmas.proofs.ListFacts.{filter_map_push}
 use Rattle.catalogue.specs.Ids.{id_cmp, in_order, put_among}
-use Rattle.blocked_needs.proofs.ListFacts.{filter_map_push}
-
--- what one more names is put among what the others name
-pub named_more : {X : Type 0} → (names : X → List (List ℕ)) (xs : List X) (i : ℕ) (x : X) (old new : List (List ℕ)) → i < length xs → x ≡ get_or xs i x
-    → old ≡ in_order (flat_map names (take i xs)) → new ≡ put_among old (names x) → new ≡ in_order (flat_map names (take (i + 1) xs))
-named_more names xs i x old new below at was now =
-    now
-    ∙ ap (λ ids. put_among ids (names x)) was
-    ∙ sym (fold-append (insert_key id_cmp) [] (flat_map names (take i xs)) (names x))
-    ∙ ap (λ last. in_order (flat_map names (take i xs) ++ last)) (sym (append-nil (names x)))
-    ∙ ap in_order (sym (flat_map-append names (take i xs) (x ∷ [])))
-    ∙ ap (λ ys. in_order (flat_map names ys)) (sym (take_more xs i x below ∙ ap (λ z. take i xs ++ z ∷ []) (sym at)))
 
 -- one more answer is that of one more asked
 pub map_more : {X Y : Type 0} (f : X → Y) (xs : List X) (i : ℕ) (x : X) (y : Y) (old new : List Y) → i < length xs → x ≡ get_or xs i x

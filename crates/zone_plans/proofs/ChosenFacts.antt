@@ -3,6 +3,9 @@ use Rattle.std.proofs.Common.{◌≡◌, ◌∙◌, ◌⊎◌, ◌&&◌, ℕ, Li
 use Rattle.std.specs.Prelude.{not}
 use Rattle.std.specs.List.{Contains, filter, list_any}
 use Rattle.std.proofs.lemmas.Map.Views.{Contains-from_any}
+use Rattle.std.proofs.lemmas.Bool.{and_from}
+use Rattle.lemmas.proofs.ListFacts.{any_at, any_from, first_true, kept_from, map_from, second_true}
+use Rattle.lemmas.proofs.TestFacts.{same_test}
 use Rattle.zone_lists.specs.declared.zones.ZoneRow.{ZoneRow}
 use Rattle.catalogue.specs.Content.{Content}
 use Rattle.catalogue.specs.Ids.{in_order, same_id}
@@ -15,16 +18,14 @@ use Rattle.chains.specs.Verdicts.{Judged, good, held, lack, verdict_of}
 use Rattle.chains.specs.Worlds.{IsVerdict}
 use Rattle.chains.specs.declared.verdict.Status.{Status}
 use Rattle.chains.specs.declared.verdict.Status.TheVariants.{Good, Held, Lack}
-use Rattle.chains.proofs.SearchFacts.{any_at, any_from, both_true, first_true, kept_from, map_from, second_true}
 use Rattle.chains.proofs.VerdictFacts.{found_verdict}
 use Rattle.report_holds.specs.Holds.{HoldLists}
 use Rattle.report_holds.specs.declared.holds.Resolver.{Resolver}
 use Rattle.zone_plans.specs.Choices.{is_given, of_status, or_all, received_or_all, same_status}
 use Rattle.zone_plans.specs.Graphs.{MayPlace, is_given_by, known_givers, not_given}
-use Rattle.zone_plans.proofs.GraphFacts.{has_from}
-use Rattle.zone_plans.proofs.OutdoneFacts.{bool_same}
 use Rattle.zone_plans.proofs.PlannedFacts.{known_has, known_says}
 use Rattle.zone_plans.proofs.ValueFacts.{filter_on}
+use Rattle.zone_plans.proofs.GraphFacts.{has_from}
 
 or_all_inside : {A : Type 0} (kept all : List A) (x : A) → Contains (or_all kept all) x → Contains kept x ⊎ Contains all x
 or_all_inside [] all x inside = inr inside
@@ -95,18 +96,18 @@ module _ (content : Content) (rows : List ZoneRow) (known : List (List ℕ)) (st
       let among = among_of status hold in
       let listed : List ℕ → Bool = λ giver. not (same_id giver id) && has (in_order among) giver in
       let given : List ℕ → Bool = λ giver. not (same_id giver id) && gives content giver id in
-      bool_same (list_any listed (known_givers content rows id)) (list_any given among)
+      same_test (list_any listed (known_givers content rows id)) (list_any given among)
       (λ on.
       let found = any_from listed (known_givers content rows id) on in
       let has_it : has among found.element ≡ true = sym (in_order_any (same_id found.element) among) ∙ second_true (not (same_id found.element id)) (has (in_order among) found.element) found.passes in
       any_at given among found.element (Contains-from_any {eq = same_id} one_id found.element among has_it)
-      (both_true (not (same_id found.element id)) (gives content found.element id) (first_true (not (same_id found.element id)) (has (in_order among) found.element) found.passes)
+      (and_from (not (same_id found.element id)) (gives content found.element id) (first_true (not (same_id found.element id)) (has (in_order among) found.element) found.passes)
       ((gives_is content found.element id).1 (known_says content rows id found.element found.member))))
       (λ on.
       let found = any_from given among on in
       let gave = second_true (not (same_id found.element id)) (gives content found.element id) found.passes in
       any_at listed (known_givers content rows id) found.element (known_has content rows id found.element (applies found.element found.member) ((gives_is content found.element id).0 gave))
-      (both_true (not (same_id found.element id)) (has (in_order among) found.element) (first_true (not (same_id found.element id)) (gives content found.element id) found.passes)
+      (and_from (not (same_id found.element id)) (has (in_order among) found.element) (first_true (not (same_id found.element id)) (gives content found.element id) found.passes)
       (in_order_any (same_id found.element) among ∙ has_from among found.element found.member)))
 
   pub top_is : not_given (known_givers content rows) (in_order (among_of status hold)) (among_of status hold) ≡ filter (λ id. not (is_given content (among_of status hold) id)) (among_of status hold)

@@ -1,12 +1,13 @@
 -- Members by their indices.
 use Rattle.std.proofs.Common.{◌≡◌, ◌∙◌, ◌+◌, ◌<◌, ℕ, zero, suc, List, [], ◌∷◌, ◌++◌, Bool, true, false, Option, Some, None, length, get_or, take, map, refl, sym, ap, subst, inl, inr, arith}
 use Rattle.std.specs.Bool.{OnFalse, OnTrue}
-use Rattle.std.specs.List.{Contains, flat_map, slice_get}
+use Rattle.std.specs.List.{Contains, flat_map}
 use Rattle.std.proofs.lemmas.Bool.{cases_lt}
 use Rattle.std.proofs.lemmas.List.{get_or_past, take_more}
 use Rattle.std.proofs.lemmas.List.Elements.{Contains-append_cases, Contains-append_left, Contains-append_right, Contains-push, Contains-push_cases}
-use Rattle.catalogue.specs.Ids.{Ascend}
-use Rattle.catalogue.proofs.IdFacts.{in_order_has}
+use Rattle.lemmas.proofs.ListFacts.{any_at, any_from, first_inside}
+use Rattle.catalogue.specs.Ids.{Ascend, same_id}
+use Rattle.catalogue.proofs.IdFacts.{in_order_has, itself, one_id}
 use Rattle.supersede.specs.Reach.{has}
 use Rattle.requisites.specs.Nodes.{mark_of}
 use Rattle.requisites.specs.Sources.{HasSource, source_of}
@@ -16,13 +17,13 @@ use Rattle.chains.specs.Indices.{IsAt, MarksAre}
 use Rattle.chains.proofs.AnswerFacts.{index_is}
 use Rattle.chains.proofs.IndexFacts.{indexed_inside}
 use Rattle.chains.proofs.PartFacts.{at_map}
-use Rattle.chains.proofs.SearchFacts.{any_at, first_inside}
-use Rattle.catalogue.specs.Ids.{same_id}
-use Rattle.catalogue.proofs.IdFacts.{itself}
 use Rattle.zone_plans.specs.Graphs.{AreAnswered, AreGivenIndices, ArePushed, AreSourced, AreStarts, IsGivenIndex, IsLeftAmong, IsStart, ReadingLists, all_needs}
 
 pub has_from : (ids : List (List ℕ)) (id : List ℕ) → Contains ids id → has ids id ≡ true
 has_from ids id inside = any_at (same_id id) ids id inside (itself id)
+
+pub has_to : (ids : List (List ℕ)) (id : List ℕ) → has ids id ≡ true → Contains ids id
+has_to ids id h = let found = any_from (same_id id) ids h in let P : List ℕ → Type 0 = λ x. Contains ids x in subst P (sym (one_id id found.element found.passes)) found.member
 
 -- a mark is that of a fact
 pub record IsMarkOf (P : Type 0) (mark : Bool) : Type 0 where
@@ -176,18 +177,8 @@ given_more f ids left needs i need answer old new below at e a is =
 
 -- ---- lookups
 
-pub get_mapped : {X Y : Type 0} → (f : X → Y) (xs : List X) (k : ℕ) (x : X) → slice_get xs k ≡ Some x → slice_get (map f xs) k ≡ Some (f x)
-get_mapped f [] k x at = absurd (cc at)
-get_mapped f (y ∷ ys) zero x at = let is : y ≡ x = cc at in ap (λ z. Some (f z)) is
-get_mapped f (y ∷ ys) (suc k) x at = get_mapped f ys k x at
-
-pub get_unmapped : {X Y : Type 0} → (f : X → Y) (xs : List X) (k : ℕ) (y : Y) → slice_get (map f xs) k ≡ Some y → (x : X) × (slice_get xs k ≡ Some x) × (f x ≡ y)
-get_unmapped f [] k y at = absurd (cc at)
-get_unmapped f (x ∷ xs) zero y at = (x, refl, cc at)
-get_unmapped f (x ∷ xs) (suc k) y at = get_unmapped f xs k y at
-
 -- what a member needs is among all that is needed
-need_listed : (readings : List ReadingLists) (k : ℕ) (d : ReadingLists) (need : List ℕ) → k < length readings → Contains (get_or readings k d).needs need → Contains (flat_map (λ (r : ReadingLists). r.needs) readings) need
+pub need_listed : (readings : List ReadingLists) (k : ℕ) (d : ReadingLists) (need : List ℕ) → k < length readings → Contains (get_or readings k d).needs need → Contains (flat_map (λ (r : ReadingLists). r.needs) readings) need
 need_listed [] k d need below inside = absurd (omega arith)
 need_listed (r ∷ rs) zero d need below inside = Contains-append_left r.needs (flat_map (λ (r : ReadingLists). r.needs) rs) need inside
 need_listed (r ∷ rs) (suc k) d need below inside = Contains-append_right r.needs (flat_map (λ (r : ReadingLists). r.needs) rs) need (need_listed rs k d need (omega arith) inside)

@@ -1,9 +1,6 @@
 -- Starts, and what is reached from them.
-use Rattle.std.proofs.Common.{◌≡◌, ◌∙◌, ◌<◌, ℕ, List, [], Bool, true, false, Option, Some, None, length, get_or, map, refl, sym, ap, subst, arith}
-use Rattle.std.specs.List.{Contains}
+use Rattle.std.proofs.Common.{◌≡◌, ◌∙◌, ◌<◌, ℕ, List, [], Bool, false, Option, Some, None, length, get_or, map, refl, sym, ap, subst, arith}
 use Rattle.std.proofs.lemmas.List.{length-map}
-use Rattle.catalogue.specs.Ids.{same_id}
-use Rattle.catalogue.proofs.IdFacts.{one_id}
 use Rattle.supersede.specs.Reach.{has}
 use Rattle.requisites.specs.Leads.{Leads}
 use Rattle.requisites.specs.Nodes.{IsMarked, Links, mark_of}
@@ -14,12 +11,8 @@ use Rattle.install_order.specs.Steps.{AreInOrder, IsClosed}
 use Rattle.std.proofs.lemmas.List.Elements.{Contains-get_or}
 use Rattle.chains.specs.Cuts.{id_at}
 use Rattle.chains.proofs.PartFacts.{at_map}
-use Rattle.chains.proofs.SearchFacts.{any_from}
 use Rattle.zone_plans.specs.Graphs.{AreReachedFrom, AreSourced, AreStarts, AreStartsOf, AreWithin}
-use Rattle.zone_plans.proofs.GraphFacts.{has_from}
-
-has_to : (ids : List (List ℕ)) (id : List ℕ) → has ids id ≡ true → Contains ids id
-has_to ids id h = let found = any_from (same_id id) ids h in let P : List ℕ → Type 0 = λ x. Contains ids x in subst P (sym (one_id id found.element found.passes)) found.member
+use Rattle.zone_plans.proofs.GraphFacts.{has_from, has_to}
 
 sourced_by : (lists : List (List ℕ)) (marks : List Bool) (sources : List (Option ℕ)) (q m : ℕ) → AreLeastSources lists marks sources → IsMarked marks m → Leads (Links lists (length marks)) m q → (o : Option ℕ) → source_of sources q ≡ o → HasSource sources q
 sourced_by lists marks sources q m are marked leads None e = absurd (are.unreached q m e marked leads)

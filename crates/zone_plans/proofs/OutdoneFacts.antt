@@ -5,7 +5,10 @@ use Rattle.std.specs.List.{Contains, list_any}
 use Rattle.std.specs.Ordering.{is_lt}
 use Rattle.std.specs.declared.cmp.Ordering.{Ordering}
 use Rattle.std.specs.declared.cmp.Ordering.TheVariants.{Equal, Greater, Less}
-use Rattle.std.proofs.lemmas.Bool.{cases_eq}
+use Rattle.std.proofs.lemmas.Bool.{cases_eq, not-true, and_from, false_from_ne_true, not_from_false}
+use Rattle.lemmas.proofs.ListFacts.{any_at, any_from, first_true, second_true}
+use Rattle.lemmas.proofs.TestFacts.{same_test}
+use Rattle.holddata.proofs.CategoryFacts.{less_by}
 use Rattle.catalogue.specs.Content.{Content}
 use Rattle.catalogue.specs.Ids.{Ascend, id_cmp, same_id}
 use Rattle.catalogue.proofs.IdFacts.{itself, one_id}
@@ -18,13 +21,7 @@ use Rattle.install_order.proofs.LeftFacts.{Outdoes, outdone_so, so_outdone}
 use Rattle.chains.specs.Cuts.{id_at}
 use Rattle.chains.proofs.IndexFacts.{at_inside, below_at, inside_at, one_index, order_down}
 use Rattle.chains.proofs.OrderFacts.{not_below_itself}
-use Rattle.chains.proofs.SearchFacts.{any_at, any_from, both_true, first_true, second_true}
 use Rattle.zone_plans.specs.Members.{is_less, outdoes}
-
-lt_less : (o : Ordering) → is_lt o ≡ true → o ≡ Less
-lt_less Less e = refl
-lt_less Equal e = absurd (cc e)
-lt_less Greater e = absurd (cc e)
 
 less_lt : (o : Ordering) → o ≡ Less → is_lt o ≡ true
 less_lt Less e = refl
@@ -35,23 +32,6 @@ less_not : (o : Ordering) → o ≡ Less → o ≡ Greater → ⊥
 less_not Less e f = cc f
 less_not Equal e f = cc e
 less_not Greater e f = cc e
-
-is_false : (b : Bool) → (b ≡ true → ⊥) → b ≡ false
-is_false true none = absurd (none refl)
-is_false false none = refl
-
-is_not : (b : Bool) → b ≡ false → not b ≡ true
-is_not true e = absurd (cc)
-is_not false e = refl
-
-not_is : (b : Bool) → not b ≡ true → b ≡ false
-not_is true e = absurd (cc)
-not_is false e = refl
-
-pub bool_same : (b c : Bool) → (b ≡ true → c ≡ true) → (c ≡ true → b ≡ true) → b ≡ c
-bool_same true c on off = sym (on refl)
-bool_same false true on off = off refl
-bool_same false false on off = refl
 
 or_by : (b c : Bool) → (c ≡ true → b ≡ true) → (b || not c) ≡ true
 or_by true c then = refl
@@ -72,7 +52,7 @@ module _ (content : Content) (ids above : List (List ℕ)) (ascend : Ascend ids)
 
   at_less : (p q : ℕ) → p < length ids → q < length ids → is_less (id_at ids p) (id_at ids q) ≡ true → p < q
   at_less p q inside other h =
-      let less = lt_less (id_cmp (id_at ids p) (id_at ids q)) h in
+      let less = less_by (id_cmp (id_at ids p) (id_at ids q)) h in
       let at_most = order_down ids p q [] ascend inside (less_not (id_cmp (id_at ids p) (id_at ids q)) less) in
       elim (cases_eq p q) [
         | inl same ↦ (let P : ℕ → Type 0 = λ k. id_cmp (id_at ids p) (id_at ids k) ≡ Less in absurd (not_below_itself (id_at ids p) (subst P (sym same) less)))
@@ -82,9 +62,9 @@ module _ (content : Content) (ids above : List (List ℕ)) (ascend : Ascend ids)
   outdone_id : (p q : ℕ) → p < length ids → Outdoes above p q → outdoes content (id_at ids p) (id_at ids q) ≡ true
   outdone_id p q inside o =
       let other = within p q o.gives in
-      both_true (not (same_id (id_at ids q) (id_at ids p))) (gives content (id_at ids q) (id_at ids p) && (is_less (id_at ids p) (id_at ids q) || not (gives content (id_at ids p) (id_at ids q))))
-      (is_not (same_id (id_at ids q) (id_at ids p)) (is_false (same_id (id_at ids q) (id_at ids p)) (λ on. o.is_other (one_index ids q p [] ascend other inside (one_id (id_at ids q) (id_at ids p) on)))))
-      (both_true (gives content (id_at ids q) (id_at ids p)) (is_less (id_at ids p) (id_at ids q) || not (gives content (id_at ids p) (id_at ids q)))
+      and_from (not (same_id (id_at ids q) (id_at ids p))) (gives content (id_at ids q) (id_at ids p) && (is_less (id_at ids p) (id_at ids q) || not (gives content (id_at ids p) (id_at ids q))))
+      (not_from_false (same_id (id_at ids q) (id_at ids p)) (false_from_ne_true (same_id (id_at ids q) (id_at ids p)) (λ on. o.is_other (one_index ids q p [] ascend other inside (one_id (id_at ids q) (id_at ids p) on)))))
+      (and_from (gives content (id_at ids q) (id_at ids p)) (is_less (id_at ids p) (id_at ids q) || not (gives content (id_at ids p) (id_at ids q)))
       ((gives_is content (id_at ids q) (id_at ids p)).1 (given_at p q o.gives))
       (or_by (is_less (id_at ids p) (id_at ids q)) (gives content (id_at ids p) (id_at ids q))
       (λ back. less_at p q (o.greater (at_given q p other inside ((gives_is content (id_at ids p) (id_at ids q)).0 back))) other)))
@@ -98,7 +78,7 @@ module _ (content : Content) (ids above : List (List ℕ)) (ascend : Ascend ids)
       record {
         gives = at_given p q inside other ((gives_is content (id_at ids q) (id_at ids p)).0 gave);
         is_other = λ same.
-            let off = not_is (same_id (id_at ids q) (id_at ids p)) apart in
+            let off = not-true (same_id (id_at ids q) (id_at ids p)) apart in
             let P : ℕ → Type 0 = λ k. same_id (id_at ids q) (id_at ids k) ≡ true in
             let on : same_id (id_at ids q) (id_at ids p) ≡ true = subst P same (itself (id_at ids q)) in
             cc;
@@ -110,7 +90,7 @@ module _ (content : Content) (ids above : List (List ℕ)) (ascend : Ascend ids)
 
   pub outdone_is : (p : ℕ) → p < length ids → is_outdone above p ≡ list_any (outdoes content (id_at ids p)) ids
   outdone_is p inside =
-      bool_same (is_outdone above p) (list_any (outdoes content (id_at ids p)) ids)
+      same_test (is_outdone above p) (list_any (outdoes content (id_at ids p)) ids)
       (λ on.
       let by = outdone_so above p on in
       any_at (outdoes content (id_at ids p)) ids (id_at ids by.0) (at_inside ids by.0 (within p by.0 by.1.gives)) (outdone_id p by.0 inside by.1))

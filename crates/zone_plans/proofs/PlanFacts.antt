@@ -2,6 +2,7 @@
 use Rattle.std.proofs.Common.{◌≡◌, ◌∙◌, ℕ, zero, suc, ◌-◌, List, [], ◌∷◌, Option, Some, None, length, map, refl, sym, ap, subst}
 use Rattle.std.specs.Prelude.{IfSome, not}
 use Rattle.std.specs.List.{Contains, filter_map, slice_get}
+use Rattle.lemmas.proofs.ListFacts.{first_inside, kept_from, made_from, map_found, map_from, map_inside, rest_inside}
 use Rattle.zone_lists.specs.declared.zones.ZoneRow.{ZoneRow}
 use Rattle.catalogue.specs.Content.{Content}
 use Rattle.catalogue.specs.Ids.{in_order}
@@ -10,10 +11,8 @@ use Rattle.chains.specs.Judge.{status_of}
 use Rattle.chains.specs.Verdicts.{verdict_of}
 use Rattle.chains.specs.declared.verdict.Status.{Status}
 use Rattle.chains.specs.declared.verdict.Status.TheVariants.{Good, Held}
-use Rattle.chains.proofs.SearchFacts.{first_inside, kept_from, map_from, map_inside, rest_inside}
 use Rattle.report_holds.specs.Holds.{AreTold, HoldLists}
 use Rattle.zone_plans.specs.Choices.{choice, is_given, of_status, on_top, received_or_all, same_status}
-use Rattle.blocked_needs.proofs.ListFacts.{made_from, map_found}
 use Rattle.blocked_needs.specs.Blocked.{AreBlockedNeeds, blocked_needs_of}
 use Rattle.blocked_needs.specs.declared.blocked.BlockedNeed.{BlockedNeed}
 use Rattle.zone_plans.specs.Members.{AreZoneSteps, IsGivenBy, joined, zone_steps_of}

@@ -1,7 +1,7 @@
 -- What chosen plans have together is a plan.
 use Rattle.std.proofs.Common.{◌≡◌, ◌&&◌, ℕ, List, [], ◌∷◌, ◌++◌, Bool, true, false, cond, Option, Some, None, refl, sym, ap, subst, inl, inr}
 use Rattle.std.specs.List.{Contains, filter, find, flat_map}
-use Rattle.std.proofs.lemmas.List.Elements.{Contains-append_cases, Contains-append_left, Contains-append_right}
+use Rattle.lemmas.proofs.ListFacts.{first_true, flat_from, flat_inside, kept_from, kept_inside, second_true}
 use Rattle.zone_lists.specs.declared.zones.ZoneRow.{ZoneRow}
 use Rattle.catalogue.specs.Content.{Content, IsCatalogued, ids_of}
 use Rattle.catalogue.specs.Ids.{in_order}
@@ -17,12 +17,10 @@ use Rattle.chains.specs.United.{plan_by, plan_in, united}
 use Rattle.chains.specs.Verdicts.{Judged, good, held, is_good, lack, verdict_of}
 use Rattle.chains.specs.Worlds.{IsVerdict, world_of}
 use Rattle.chains.specs.declared.verdict.Status.TheVariants as status
-use Rattle.chains.proofs.GoodFacts.{candidate_inside, good_found, good_from}
+use Rattle.chains.proofs.GoodFacts.{candidate_inside, good_from}
 use Rattle.chains.proofs.OrderFacts.{find_least}
-use Rattle.chains.proofs.SearchFacts.{both_true, first_inside, first_true, inside_cases, kept_from, kept_inside, none_inside, rest_inside, second_true}
 use Rattle.chains.proofs.StatusFacts.{candidate_gives, find_none, find_some, not_good}
-use Rattle.chains.proofs.UnitedFacts.{flat_from, flat_inside}
-use Rattle.chains.proofs.VerdictFacts.{found_verdict}
+use Rattle.chains.proofs.VerdictFacts.{found_verdict, giver_passes, pick_gives}
 use Rattle.zone_plans.specs.Graphs.{givers_or, known_givers}
 use Rattle.zone_plans.specs.Members.{IsPlanned}
 
@@ -31,15 +29,6 @@ module _ (content : Content) (rows : List ZoneRow) where
 
   good_giver : (id : List ℕ) → IsGood (world_of content rows) id → IsGoodGiver (world_of content rows) id id
   good_giver id is = record { good = is; gives = (gives_is content id id).0 (candidate_gives content rows id (is.plan.candidates id is.member)) }
-
-  pick_gives : (need z : List ℕ) → IsPick (world_of content rows) need z → IsGoodGiver (world_of content rows) need z
-  pick_gives need z pick = elim pick [
-    | inl same ↦ (let P : List ℕ → Type 0 = λ x. IsGoodGiver (world_of content rows) need x in subst P (sym same.1) (good_giver need same.0))
-    | inr least ↦ least.1.holds
-  ]
-
-  giver_passes : (need z : List ℕ) → IsGoodGiver (world_of content rows) need z → (is_good content rows z && gives content z need) ≡ true
-  giver_passes need z giver = both_true (is_good content rows z) (gives content z need) (good_found content rows z giver.good) ((gives_is content z need).1 giver.gives)
 
   pub catalogued : (id : List ℕ) → is_candidate content rows id ≡ true → IsCatalogued content id
   catalogued id candidate = (kept_from (is_candidate content rows) (ids_of content) id (candidate_inside content rows id candidate)).member
@@ -55,7 +44,7 @@ module _ (content : Content) (rows : List ZoneRow) where
   found_pick : (need g : List ℕ) → IsGoodGiver (world_of content rows) need g → is_good content rows need ≡ false → (o : Option (List ℕ)) → find (λ id. is_good content rows id && gives content id need) (in_order (ids_of content)) ≡ o → HasPick need
   found_pick need g giver off None e =
       absurd (let no = find_none (λ (id : List ℕ). is_good content rows id && gives content id need) (in_order (ids_of content)) g e (good_listed g giver.good) in
-      let yes = giver_passes need g giver in cc)
+      let yes = giver_passes content rows need g giver in cc)
   found_pick need g giver off (Some z) e =
       let passes = (find_some (λ (id : List ℕ). is_good content rows id && gives content id need) (in_order (ids_of content)) z e).passes in
       record {
@@ -69,7 +58,7 @@ module _ (content : Content) (rows : List ZoneRow) where
             };
             least = λ y other above.
                 find_least (λ (id : List ℕ). is_good content rows id && gives content id need) (in_order (ids_of content)) z (in_order_ascends (ids_of content)) e y
-                (good_listed y other.good) (giver_passes need y other) above;
+                (good_listed y other.good) (giver_passes content rows need y other) above;
           },
         );
       }
@@ -81,7 +70,7 @@ module _ (content : Content) (rows : List ZoneRow) where
     go false off = found_pick need g giver off (find (λ id. is_good content rows id && gives content id need) (in_order (ids_of content))) refl
 
   pub chosen_is_good : (id y : List ℕ) → IsGood (world_of content rows) id → IsChosen (world_of content rows) id y → IsGood (world_of content rows) y
-  chosen_is_good id y is leads = leads_closed (λ z. IsGood (world_of content rows) z) (λ u v here step. (pick_gives step.need v step.pick).good) is leads
+  chosen_is_good id y is leads = leads_closed (λ z. IsGood (world_of content rows) z) (λ u v here step. (pick_gives content rows step.need v step.pick).good) is leads
 
   -- ---- one chosen plan
 
@@ -147,7 +136,7 @@ module _ (content : Content) (rows : List ZoneRow) where
               record {
                 giver = picked.id;
                 listed = in_united from.resolver picked.id from.is_chosen (plan.whole picked.id leads);
-                gives = (pick_gives need picked.id picked.pick).gives;
+                gives = (pick_gives content rows need picked.id picked.pick).gives;
               })
         ]
 

@@ -1,10 +1,11 @@
 -- The members of a plan, by index and by id.
-use Rattle.std.proofs.Common.{◌≡◌, ◌∙◌, ◌<◌, ◌⊎◌, ◌&&◌, ℕ, List, [], ◌∷◌, ◌++◌, Bool, true, false, Result, Ok, Err, length, get_or, map, refl, sym, ap, subst, inl, inr, arith}
-use Rattle.std.specs.Prelude.{IfOk, not}
+use Rattle.std.proofs.Common.{◌≡◌, ◌∙◌, ◌<◌, ◌⊎◌, ◌&&◌, ℕ, List, [], ◌∷◌, ◌++◌, Bool, true, false, length, get_or, map, refl, sym, ap, subst, inl, inr, arith}
+use Rattle.std.specs.Prelude.{not}
 use Rattle.std.specs.List.{Contains, filter, list_any}
 use Rattle.std.proofs.lemmas.List.FromFn.{get_or-map-range_with_len}
-use Rattle.std.proofs.lemmas.Bool.{cases_lt}
+use Rattle.std.proofs.lemmas.Bool.{cases_lt, and_from}
 use Rattle.std.proofs.lemmas.List.{get_or_past, length-map, map-append}
+use Rattle.lemmas.proofs.ListFacts.{any_at, any_from, first_inside, first_true, flat_from, flat_inside, map_from, map_inside, none_inside, rest_inside, second_true}
 use Rattle.zone_lists.specs.declared.zones.ZoneRow.{ZoneRow}
 use Rattle.catalogue.specs.Content.{Content}
 use Rattle.catalogue.specs.Ids.{Ascend}
@@ -31,8 +32,6 @@ use Rattle.chains.specs.United.{united}
 use Rattle.chains.proofs.AnswerFacts.{index_is}
 use Rattle.chains.proofs.IndexFacts.{at_inside, inside_at}
 use Rattle.chains.proofs.PartFacts.{at_map}
-use Rattle.chains.proofs.SearchFacts.{any_at, any_from, both_true, first_inside, first_true, map_from, map_inside, none_inside, rest_inside, second_true}
-use Rattle.chains.proofs.UnitedFacts.{flat_from, flat_inside}
 use Rattle.zone_plans.specs.Graphs.{AreGiven, AreReachedFrom, AreStartsOf, ReadingLists, ids_of_steps, known_givers, list_at, needs_at, reading_of}
 use Rattle.zone_plans.specs.Members.{AreStepsAfter, AreZoneSteps, HasCause, IsGivenBy, IsPlanned, NeedsMember, joined, needs_id, outdoes}
 use Rattle.zone_plans.proofs.OutdoneFacts.{outdone_is}
@@ -437,7 +436,7 @@ module _ (content : Content) (rows : List ZoneRow) (chosen ids : List (List ℕ)
       let is = need_link p q (left_inside p marked) link.listed in (
         is.marked,
         any_at (λ (need : List ℕ). not (is_there content rows need) && gives content (id_at ids q) need) (needs_in content rows (id_at ids p)) is.need is.needed
-            (both_true (not (is_there content rows is.need)) (gives content (id_at ids q) is.need) (absent_test is.need is.absent) ((gives_is content (id_at ids q) is.need).1 is.gives)),
+            (and_from (not (is_there content rows is.need)) (gives content (id_at ids q) is.need) (absent_test is.need is.absent) ((gives_is content (id_at ids q) is.need).1 is.gives)),
       )
 
   link : (p q : ℕ) → IsMarked left p → IsMarked left q → needs_id content rows (id_at ids p) (id_at ids q) ≡ true → Links needs (length members) p q
@@ -529,8 +528,3 @@ module _ (content : Content) (rows : List ZoneRow) (chosen ids : List (List ℕ)
         let same : q.index ≡ p.index = are_left.alone p.index q.index (member_left p.index p_member) (member_left q.index q_member) turned in
         sym q.is ∙ ap (id_at ids) same ∙ p.is;
   }
-
--- a result with two facts
-pub ok_both : {X E : Type 0} (P Q : X → Type 0) (r : Result X E) → IfOk r P → IfOk r Q → IfOk r (λ x. P x × Q x)
-ok_both P Q (Ok x) first second = (first, second)
-ok_both P Q (Err e) first second = tt

@@ -3,6 +3,9 @@ use Rattle.std.proofs.Common.{◌≡◌, ◌∙◌, ◌&&◌, ◌||◌, ℕ, zer
 use Rattle.std.specs.Prelude.{not}
 use Rattle.std.specs.List.{Contains, filter, list_all, list_any, range_with_len}
 use Rattle.std.proofs.lemmas.List.FromFn.{fill_by_all}
+use Rattle.std.proofs.lemmas.Bool.{or_right, and_from, or_left, or_cases}
+use Rattle.lemmas.proofs.ListFacts.{any_at, any_from, first_inside, first_true, inside_cases, kept_from, kept_inside, map_from, map_inside, none_inside, rest_inside, second_true}
+use Rattle.lemmas.proofs.TestFacts.{same_test}
 use Rattle.zone_lists.specs.declared.zones.ZoneRow.{ZoneRow}
 use Rattle.catalogue.specs.Content.{Content}
 use Rattle.catalogue.specs.Ids.{Ascend, same_id}
@@ -15,15 +18,13 @@ use Rattle.requisites.specs.Nodes.{IsMarked, Links, mark_of}
 use Rattle.requisites.proofs.LeadsFacts.{leads_closed, leads_itself, leads_more}
 use Rattle.requisites.proofs.SourceFacts.{marked_inside}
 use Rattle.install_order.specs.Steps.{AreSteps, marked_in, may_come, steps_of}
-use Rattle.install_order.proofs.ListFacts.{filter_twice, first_in, in_range, kept_from, kept_in, map_from, map_in, range_has, rest_in}
+use Rattle.install_order.proofs.ListFacts.{filter_twice, in_range, range_has}
 use Rattle.install_order.proofs.RingFacts.{leads_joined}
 use Rattle.chains.specs.Cuts.{id_at}
 use Rattle.chains.proofs.IndexFacts.{one_index}
-use Rattle.chains.proofs.SearchFacts.{any_at, any_from, both_true, either_true, first_true, inside_cases, left_true, none_inside, right_true, second_true}
 use Rattle.chains.specs.United.{united}
 use Rattle.zone_plans.specs.Graphs.{ids_of_steps}
 use Rattle.zone_plans.specs.Members.{caused_in, is_needed, left_of, needed_within, needs_id, outdoes, zone_steps_of}
-use Rattle.zone_plans.proofs.OutdoneFacts.{bool_same}
 
 -- ---- lists
 
@@ -38,8 +39,8 @@ map_filter {A} {B} g f (x ∷ xs) = go (f (g x)) (map_filter g f xs) where
 pub filter_on : {A : Type 0} (p q : A → Bool) (xs : List A) → ((x : A) → Contains xs x → p x ≡ q x) → filter p xs ≡ filter q xs
 filter_on p q [] same = refl
 filter_on {A} p q (x ∷ xs) same =
-    ap (λ b. cond b (x ∷ filter p xs) (filter p xs)) (same x (first_in x xs))
-    ∙ ap (λ l. cond (q x) (x ∷ l) l) (filter_on p q xs (λ y inside. same y (rest_in x y xs inside)))
+    ap (λ b. cond b (x ∷ filter p xs) (filter p xs)) (same x (first_inside x xs))
+    ∙ ap (λ l. cond (q x) (x ∷ l) l) (filter_on p q xs (λ y inside. same y (rest_inside x y xs inside)))
 
 all_map : {A B : Type 0} (g : A → B) (p : B → Bool) (xs : List A) → list_all p (map g xs) ≡ list_all (λ x. p (g x)) xs
 all_map g p [] = refl
@@ -114,7 +115,7 @@ module _ (content : Content) (rows : List ZoneRow) (chosen ids : List (List ℕ)
 
     has_name : (p : ℕ) → IsMarked marks p → Contains named (id_at ids p)
     has_name p marked =
-        map_in (id_at ids) (marked_in marks) p (kept_in (mark_of marks) (range_with_len 0 (length marks)) p (range_has 0 (length marks) p (omega arith) (omega (arith, marked_inside marks p marked))) marked.is)
+        map_inside (id_at ids) (marked_in marks) p (kept_inside (mark_of marks) (range_with_len 0 (length marks)) p (range_has 0 (length marks) p (omega arith) (omega (arith, marked_inside marks p marked))) marked.is)
 
     record IsNamed (id : List ℕ) : Type 0 where
       index : ℕ
@@ -124,7 +125,7 @@ module _ (content : Content) (rows : List ZoneRow) (chosen ids : List (List ℕ)
     named_is : (id : List ℕ) → Contains named id → IsNamed id
     named_is id inside =
         let image = map_from (id_at ids) (marked_in marks) id inside in
-        record { index = image.of; marked = record { is = (kept_from (mark_of marks) (range_with_len 0 (length marks)) image.of image.member).passes }; is = image.is }
+        record { index = image.from; marked = record { is = (kept_from (mark_of marks) (range_with_len 0 (length marks)) image.from image.member).passes }; is = image.is }
 
     record Step (from next : List ℕ) : Type 0 where
       inside : Contains named from
@@ -146,13 +147,13 @@ module _ (content : Content) (rows : List ZoneRow) (chosen ids : List (List ℕ)
     path_found : (n : ℕ) (from : List ℕ) (list : List (List ℕ)) (to : List ℕ) → IsPath Step from list to → length list ≤ n → needed_within content rows named n from to ≡ true
     path_found zero from [] to same short = (let P : List ℕ → Type 0 = λ x. same_id from x ≡ true in subst P same (itself from))
     path_found (suc n) from [] to same short =
-        left_true (same_id from to) (list_any (λ next. needs_id content rows from next && needed_within content rows named n next to) named)
+        or_left (same_id from to) (list_any (λ next. needs_id content rows from next && needed_within content rows named n next to) named)
         (let P : List ℕ → Type 0 = λ x. same_id from x ≡ true in subst P same (itself from))
     path_found zero from (next ∷ later) to path short = absurd (omega (arith, short))
     path_found (suc n) from (next ∷ later) to path short =
-        right_true (same_id from to) (list_any (λ next. needs_id content rows from next && needed_within content rows named n next to) named)
+        or_right (same_id from to) (list_any (λ next. needs_id content rows from next && needed_within content rows named n next to) named)
         (any_at (λ (next : List ℕ). needs_id content rows from next && needed_within content rows named n next to) named next path.0.next_inside
-        (both_true (needs_id content rows from next) (needed_within content rows named n next to) path.0.needed (path_found n next later to path.1 (omega (arith, short)))))
+        (and_from (needs_id content rows from next) (needed_within content rows named n next to) path.0.needed (path_found n next later to path.1 (omega (arith, short)))))
 
     -- where needs lead by index, they lead by id
     needed_if : (p q : ℕ) → IsMarked marks p → Leads (Links needs (length members)) p q → is_needed content rows named (id_at ids p) (id_at ids q) ≡ true
@@ -172,7 +173,7 @@ module _ (content : Content) (rows : List ZoneRow) (chosen ids : List (List ℕ)
     led_by : (n p : ℕ) (to : List ℕ) → IsMarked marks p → needed_within content rows named n (id_at ids p) to ≡ true → IsLed p to
     led_by zero p to marked h = record { index = p; marked = marked; is = one_id (id_at ids p) to h; leads = leads_itself (Links needs (length members)) p }
     led_by (suc n) p to marked h =
-        elim (either_true (same_id (id_at ids p) to) (list_any (λ next. needs_id content rows (id_at ids p) next && needed_within content rows named n next to) named) h) [
+        elim (or_cases (same_id (id_at ids p) to) (list_any (λ next. needs_id content rows (id_at ids p) next && needed_within content rows named n next to) named) h) [
           | inl same ↦ record { index = p; marked = marked; is = one_id (id_at ids p) to same; leads = leads_itself (Links needs (length members)) p }
           | inr further ↦
               (let next = any_from (λ (next : List ℕ). needs_id content rows (id_at ids p) next && needed_within content rows named n next to) named further in
@@ -229,13 +230,13 @@ module _ (content : Content) (rows : List ZoneRow) (chosen ids : List (List ℕ)
       let named = map (id_at ids) (marked_in left) in
       subst L left_ids
       (any_at (λ (start : List ℕ). list_any (gives content start) chosen && is_needed content rows named start (id_at ids p)) named (id_at ids from.0) (has_name left a.left_len keep_left left_closed from.0 from.1)
-      (both_true (list_any (gives content (id_at ids from.0)) chosen) (is_needed content rows named (id_at ids from.0) (id_at ids p)) from.2 (needed_if left a.left_len keep_left left_closed from.0 p from.1 from.3)))
+      (and_from (list_any (gives content (id_at ids from.0)) chosen) (is_needed content rows named (id_at ids from.0) (id_at ids p)) from.2 (needed_if left a.left_len keep_left left_closed from.0 p from.1 from.3)))
 
   member_is : (p : ℕ) → p < length ids → mark_of members p ≡ (not (list_any (outdoes content (id_at ids p)) ids) && is_caused (id_at ids p))
   member_is p within =
-      bool_same (mark_of members p) (not (list_any (outdoes content (id_at ids p)) ids) && is_caused (id_at ids p))
+      same_test (mark_of members p) (not (list_any (outdoes content (id_at ids p)) ids) && is_caused (id_at ids p))
       (λ on. let marked : IsMarked members p = record { is = on } in
-      both_true (not (list_any (outdoes content (id_at ids p)) ids)) (is_caused (id_at ids p)) (sym (a.left_is p within) ∙ (a.within p marked).is) (if_member p marked))
+      and_from (not (list_any (outdoes content (id_at ids p)) ids)) (is_caused (id_at ids p)) (sym (a.left_is p within) ∙ (a.within p marked).is) (if_member p marked))
       (λ on. let first = first_true (not (list_any (outdoes content (id_at ids p)) ids)) (is_caused (id_at ids p)) on in
       let second = second_true (not (list_any (outdoes content (id_at ids p)) ids)) (is_caused (id_at ids p)) on in
       (member_if p (record { is = a.left_is p within ∙ first }) second).is)

@@ -8,25 +8,27 @@ ghost use Rattle.zone_plans.specs.Graphs.{givers_or, known_givers, lists_of};
 
 use crate::graph::{Answer, answer_among};
 use catalogue::{Published, SourceFault};
-use chains::candidates_for;
+use chains::Judge;
 use faults::NoMemory;
 use mcs_reader::Id;
 use std::alloc::Global;
 use supersede::{Zone, givers};
 
 /// For each of some SYSMODs those that give it, itself or through others: all candidates that do, and maybe others.
-pub(crate) fn givers_of_all<P: Published>(
+pub(crate) fn givers_of_all<P: Published, J: Judge<P>>(
     alloc: Global,
     source: &mut P,
+    judge: &J,
     zone: &Zone,
     ids: &[Id],
 ) -> Result<Vec<Vec<Id>>, SourceFault>
     requires { Ascend ids.now }
     ensures asks { MayAsk P.content_view Device source.old source.new result }
     ensures givers { IfOk result (λ lists. Tells P.content_view source.old source.new
-        (λ content. lists_of lists.items ≡ map (known_givers content zone.now) ids.now)) }
+        (λ content. J.is_right judge.now content
+        → lists_of lists.items ≡ map (known_givers content zone.now) ids.now)) }
 {
-    let answers = candidates_for(alloc, source, zone, ids)?;
+    let answers = judge.candidates(alloc, source, zone, ids)?;
     givers_by(alloc, source, ids, &answers)
 }
 

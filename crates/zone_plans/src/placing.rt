@@ -14,7 +14,7 @@ use crate::choice::choice;
 use crate::giving::givers_of_all;
 use crate::holds::ChosenResolver;
 use catalogue::{Published, SourceFault};
-use chains::{Status, listed};
+use chains::{Judge, Status, listed};
 use faults::NoMemory;
 use mcs_reader::Id;
 use report_holds::{HoldOn, HoldResolvers, Resolver};
@@ -41,19 +41,20 @@ pub(crate) struct Placed {
 }
 
 /// What becomes of each hold, in their order. What gives the resolvers is asked for once, of all holds.
-pub(crate) fn place_all<P: Published>(
+pub(crate) fn place_all<P: Published, J: Judge<P>>(
     alloc: Global,
     source: &mut P,
+    judge: &J,
     zone: &Zone,
     holds: &[HoldResolvers],
 ) -> Result<Vec<Placed>, SourceFault>
     ensures asks { MayAsk P.content_view Device source.old source.new result }
     ensures placed { IfOk result (λ found. Tells P.content_view source.old source.new
-        (λ content. AreTold content zone.now holds.now
+        (λ content. J.is_right judge.now content → AreTold content zone.now holds.now
         → found.items ≡ map (Plans.placed content) holds.now)) }
 {
     let known = resolvers_named(alloc, holds)?;
-    let lists = givers_of_all(alloc, source, zone, &known)?;
+    let lists = givers_of_all(alloc, source, judge, zone, &known)?;
     Ok(placed_by(alloc, &known, &lists, holds)?)
 }
 

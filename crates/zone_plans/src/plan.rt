@@ -17,7 +17,7 @@ use crate::reading::{needs_of_all, readings};
 use crate::steps::{Steps, zone_steps};
 use blocked_needs::{BlockedNeed, blocked_needs};
 use catalogue::{Published, SourceFault};
-use chains::{Judge, candidates_for};
+use chains::Judge;
 use mcs_reader::Id;
 use report_holds::{HoldOn, HoldResolvers};
 use std::alloc::Global;
@@ -108,7 +108,7 @@ pub fn zone_plan<P: Published, J: Judge<P>>(
     ensures right { Tells P.content_view source.old source.new
         (λ content. J.is_right judge.old content → J.is_right judge.new content) }
 {
-    let placed = place_all(alloc, source, zone, holds)?;
+    let placed = place_all(alloc, source, judge, zone, holds)?;
     plan_for(alloc, source, judge, zone, &placed)
 }
 
@@ -160,7 +160,7 @@ fn steps_for<P: Published, J: Judge<P>>(
     let ids = judge.united(alloc, source, zone, chosen)?;
     let readings = readings(alloc, source, zone, &ids)?;
     let asked = needs_of_all(alloc, &readings)?;
-    let answers = candidates_for(alloc, source, zone, &asked)?;
-    let givers = givers_of_all(alloc, source, zone, &ids)?;
+    let answers = judge.candidates(alloc, source, zone, &asked)?;
+    let givers = givers_of_all(alloc, source, judge, zone, &ids)?;
     Ok(zone_steps(alloc, ids, &givers, &readings, &asked, &answers, chosen)?)
 }

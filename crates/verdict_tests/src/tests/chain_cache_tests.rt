@@ -1,4 +1,4 @@
-//! Which frames are kept and in what order, and that what is kept is what would be built.
+//! Which frames are kept and in what order, that what is kept is what would be built, and candidates by what is kept.
 ghost use Rattle.std.specs.Prelude.{◌≤◌};
 
 use super::content::changes_of;
@@ -12,6 +12,7 @@ use std::hash::RandomState;
 use std::test::Fail;
 use supersede::Zone;
 
+mod candidates;
 mod kept;
 mod random;
 

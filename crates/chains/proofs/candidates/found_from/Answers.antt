@@ -1,6 +1,7 @@
 use Rattle.std.proofs.Common.{◌∙◌, ◌<◌, List, ℕ, Option, Some, ap, filter, length, map, subst, sym}
 use Rattle.std.specs.Prelude.{◌↔◌}
 use Rattle.std.specs.List.{Contains}
+use Rattle.lemmas.proofs.ResultFacts.{some_is}
 use Rattle.catalogue.specs.Ids.{in_order}
 use Rattle.requisites.specs.Leads.{Leads}
 use Rattle.requisites.specs.Nodes.{Links, mark_of}
@@ -8,7 +9,6 @@ use Rattle.requisites.proofs.LeadsFacts.{leads_closed}
 use Rattle.chains.specs.Climbs.{AreFrom}
 use Rattle.chains.specs.Cuts.{id_at}
 use Rattle.chains.proofs.AnswerFacts.{marked_are}
-use Rattle.chains.proofs.IndexFacts.{some_is}
 use Rattle.chains.proofs.candidates.found_from.Goals as goal
 
 pub ids_marked-requires : goal.ids_marked-requires

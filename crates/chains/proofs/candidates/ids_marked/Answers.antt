@@ -1,7 +1,7 @@
 use Rattle.std.proofs.Common.{◌∙◌, List, ℕ, subst}
 use Rattle.std.specs.List.{Contains}
+use Rattle.lemmas.proofs.ListFacts.{kept_from}
 use Rattle.requisites.specs.Nodes.{mark_of}
-use Rattle.chains.proofs.SearchFacts.{kept_from}
 use Rattle.chains.proofs.candidates.ids_marked.Goals as goal
 
 pub ids_at-requires : goal.ids_at-requires

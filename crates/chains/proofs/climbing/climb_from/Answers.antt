@@ -7,14 +7,14 @@ use Rattle.chains.proofs.climbing.climb_from.Goals as goal
 
 pub returns-clause-above : goal.returns-clause-above
 returns-clause-above g c =
-    told_so c.in_ok-found.ensures.above (λ content says.
+    told_so c.in_ok-found.ensures.above (λ content says at_hand.
     are_above content c.in_ok-by_indices.field-0.ids.items (keys c.in_ok-found.found) (values c.in_ok-found.found) c.in_ok-by_indices.field-0.above
-    c.in_ok-by_indices.ensures.ids says c.in_ok-found.ensures.listed c.in_ok-by_indices.ensures.indexed)
+    c.in_ok-by_indices.ensures.ids (says at_hand) c.in_ok-found.ensures.listed c.in_ok-by_indices.ensures.indexed)
 
 pub returns-clause-starts : goal.returns-clause-starts
 returns-clause-starts g c = λ id inside.
     let P : List (List ℕ) → Type 0 = λ l. Contains l id in
     subst P (sym c.in_ok-by_indices.ensures.ids) (c.in_ok-found.ensures.starts id inside)
 
-pub returns-clause-standing : goal.returns-clause-standing
-returns-clause-standing g c = λ id inside. c.in_ok-found.ensures.standing id (c.in_ok-found.ensures.starts id inside)
+pub returns-clause-ordered : goal.returns-clause-ordered
+returns-clause-ordered g c = told_so c.in_ok-found.ensures.ordered (λ content ordered at_hand id inside. ordered at_hand id (c.in_ok-found.ensures.starts id inside))

@@ -1,7 +1,7 @@
 use Rattle.std.proofs.Common.{◌≡◌, ◌∙◌, ◌++◌, ◌+◌, ◌<◌, ℕ, List, length, get_or, ap, subst, rules}
 use Rattle.std.specs.BTreeMap.{keys, values}
 use Rattle.catalogue.specs.Content.{superseders}
-use Rattle.catalogue.proofs.SourceFacts.{no_fault}
+use Rattle.catalogue.proofs.SourceFacts.{no_fault, told_both, told_so}
 use Rattle.supersede.proofs.TellingFacts.{tells_on}
 use Rattle.chains.specs.Gathered.{AreRead}
 use Rattle.chains.proofs.ClimbFacts.{above_now, asked_now, listed_ends, listed_now, starts_stay}
@@ -17,15 +17,17 @@ loop-at-preserved g c =
     let is : id ≡ get_or order c.loop-at.at id = search rules in
     let old = c.loop-at.found.entries in
     let new = c.insert.new.self.entries in
-    let v = c.ascending-above.result in
+    let v = c.in_ok-above.above in
     let order' = c.extend_from_slice.new.self.items in
     let grows = c.in_ok-extend_from_slice.ensures.items ∙ ap (λ more. order ++ more) c.as_slice.ensures.value in
     let N : List (List ℕ) → Type 0 = λ l. AreRead (keys c.insert.new.self) l (c.loop-at.at + 1) → AreRead (keys c.insert.new.self) l c.next_unread-at.result in
-    let open_now = c.in_ok-read.ensures.asks.is_open (no_fault _) in
+    let asks = c.in_ok-above.ensures.asks in
+    let direct = told_both c.in_ok-above.ensures.superseders c.in_ok-above.ensures.ordered in
     record {
-      has_told = tells_on g.met.P.Published.lawful was.has_told c.in_ok-read.ensures.asks.keeps (λ standing. open_now) c.in_ok-read.ensures.superseders (λ content so_far told.
-          above_now old new id v c.in_ok-insert.ensures.entries (superseders content) (c.ascending-above.ensures ∙ told) so_far);
-      standing = λ y inside. open_now;
+      has_told = tells_on g.met.P.Published.lawful was.has_told asks.keeps (asks.stays_open (no_fault _)) direct (λ content so_far told at_hand. (
+        above_now old new id v c.in_ok-insert.ensures.entries (superseders content) (told.0 at_hand) (so_far at_hand).0,
+        λ y inside. told.1 at_hand,
+      ));
       begun = starts_stay c.args.starts.now order order' v grows was.begun;
       asked = subst N c.deref.ensures.value c.next_unread-at.ensures.read (asked_now old new id v c.in_ok-insert.ensures.entries order order' c.loop-at.at below is grows was.asked);
       listed = listed_now old new id v c.in_ok-insert.ensures.entries order order' grows was.listed;
@@ -38,3 +40,9 @@ returns-clause-listed g c =
 pub returns-clause-starts : goal.returns-clause-starts
 returns-clause-starts g c = λ id inside.
     all_asked (keys c.loop-at.found) c.loop-at.order.items c.loop-at.at (search rules) c.loop-at.invariant.asked id (c.loop-at.invariant.begun id inside)
+
+pub returns-clause-above : goal.returns-clause-above
+returns-clause-above g c = told_so c.loop-at.invariant.has_told.told (λ content told at_hand. (told at_hand).0)
+
+pub returns-clause-ordered : goal.returns-clause-ordered
+returns-clause-ordered g c = told_so c.loop-at.invariant.has_told.told (λ content told at_hand. (told at_hand).1)

@@ -1,7 +1,8 @@
 use Rattle.std.proofs.Common.{Bool, List, Option, length, subst, ℕ}
+use Rattle.lemmas.proofs.ResultFacts.{ok_so}
 use Rattle.requisites.specs.Sources.{AreLeastSources, HasSource}
 use Rattle.chains.specs.Indices.{IsThereAt, MarksAre}
-use Rattle.chains.proofs.IndexFacts.{ok_so, there_from}
+use Rattle.chains.proofs.IndexFacts.{there_from}
 use Rattle.chains.proofs.cut.there_marks.Goals as goal
 
 pub returns : goal.returns

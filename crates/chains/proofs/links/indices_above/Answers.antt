@@ -2,8 +2,8 @@ use Rattle.std.proofs.Common.{◌≡◌, ◌<◌, ◌∙◌, List, ℕ, length, 
 use Rattle.std.specs.List.{Contains}
 use Rattle.std.specs.Ordering.{nat_cmp}
 use Rattle.std.proofs.lemmas.Map.Lookups.{exact_unsigned}
+use Rattle.lemmas.proofs.ResultFacts.{ok_so}
 use Rattle.chains.specs.FrameIndices.{IsAbove}
-use Rattle.chains.proofs.IndexFacts.{ok_so}
 use Rattle.chains.proofs.WalkFacts.{above_reads, set_found, walk_passes, walk_whole}
 use Rattle.chains.proofs.links.indices_above.Goals as goal
 

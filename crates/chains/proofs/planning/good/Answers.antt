@@ -1,10 +1,10 @@
 use Rattle.std.proofs.Common.{◌∙◌, ◌≡◌, ◌<◌, Bool, List, ap, length, subst, sym, ℕ}
 use Rattle.std.specs.List.{filter}
+use Rattle.lemmas.proofs.ResultFacts.{ok_so}
 use Rattle.requisites.specs.Nodes.{mark_of}
 use Rattle.chains.specs.Cuts.{id_at}
 use Rattle.chains.specs.Frames.{ids_in}
 use Rattle.chains.specs.Verdicts.{is_good}
-use Rattle.chains.proofs.IndexFacts.{ok_so}
 use Rattle.chains.proofs.PlanFacts.{marks_good}
 use Rattle.chains.proofs.planning.good.Goals as goal
 

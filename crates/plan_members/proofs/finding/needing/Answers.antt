@@ -11,7 +11,7 @@ returns-clause-needing g c =
     c.in_ok-needing_rows.ensures (absent_givers content rows)
     (ap lists_of c.deref-3.ensures.value
     ∙ c.in_ok-lists.ensures
-    ∙ ap (map or_none) said
+    ∙ ap (map or_none) (said tt)
     ∙ absent_map content rows c.deref.result.now
     ∙ ap (map (absent_givers content rows)) (c.deref.ensures.value ∙ sym c.deref-2.ensures.value))
     (c.deref-2.ensures.value ∙ c.in_ok-needs.ensures.needs))

@@ -1,7 +1,7 @@
 use Rattle.std.proofs.Common.{◌∙◌, ◌<◌, List, [], ℕ, length, ap, arith}
 use Rattle.catalogue.specs.Ids.{put_among}
 use Rattle.chains.proofs.IndexFacts.{get_any}
-use Rattle.zone_plans.proofs.ChoiceFacts.{named_more}
+use Rattle.reports.proofs.ResolverFacts.{named_more}
 use Rattle.plan_members.proofs.listing.members_in.Goals as goal
 
 pub loop-index-preserved : goal.loop-index-preserved

@@ -1,8 +1,8 @@
 use Rattle.std.proofs.Common.{◌∙◌}
+use Rattle.lemmas.proofs.ResultFacts.{ok_so}
 use Rattle.catalogue.proofs.SourceFacts.{told_so}
 use Rattle.reports.proofs.ErrorFacts.{rows_are}
 use Rattle.reports.proofs.OrderFacts.{err_rows_ascend}
-use Rattle.reports.proofs.ResolverFacts.{ok_so}
 use Rattle.reports.proofs.errors.err_rows.Goals as goal
 
 pub returns-clause-rows : goal.returns-clause-rows

@@ -1,7 +1,7 @@
 use Rattle.std.proofs.Common.{◌≡◌, ◌∙◌, Some, ap, option_map, sym, true}
+use Rattle.lemmas.proofs.ResultFacts.{some_is}
 use Rattle.supersede.specs.Reach.{has}
 use Rattle.reports.specs.Resolvers.{is_received}
-use Rattle.reports.proofs.ResolverFacts.{some_is}
 use Rattle.reports.proofs.resolvers.row_told.Goals as goal
 
 pub returns-in-Some : goal.returns-in-Some

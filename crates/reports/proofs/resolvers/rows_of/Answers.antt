@@ -14,7 +14,7 @@ returns-clause-rows g c =
     let rows = c.args.zone.now in
     told_by_two (law.keeps _ _ c.in_ok-answers.ensures.asks.keeps) (law.keeps _ _ c.in_ok-statuses.ensures.asks.keeps) c.in_ok-answers.ensures.candidates c.in_ok-statuses.ensures.statuses (λ content are told right.
     let status = status_in content rows in
-    let answered = answers_read (option_map (λ ids. ids.items)) (candidates_unless_there content rows) _ _ _ _ (c.deref-2.ensures.value ∙ sym c.deref.ensures.value) c.deref-3.ensures.value are in
+    let answered = answers_read (option_map (λ ids. ids.items)) (candidates_unless_there content rows) _ _ _ _ (c.deref-2.ensures.value ∙ sym c.deref.ensures.value) c.deref-3.ensures.value (are right) in
     c.in_ok-rows_told.ensures status
     (c.deref-7.ensures.value ∙ told right ∙ ap (map status) (c.deref-5.ensures.value ∙ sym c.deref-6.ensures.value))
     (c.deref-6.ensures.value ∙ c.in_ok-resolvers.ensures.resolvers ∙ ap (λ founds. in_order (filter_map found.resolver_of founds)) c.deref-4.ensures.value)

@@ -127,8 +127,9 @@ fn ring(alloc: Global, capacity: u32, count: u32, keys: RandomState) -> Result<C
     Ok(cached)
 }
 
-// How many SYSMODs a ring has, and how many frames are put where each of them is a candidate of one report. Those of the last
-// two reports would have more nodes in all than a report may have, and there are more candidates than a report may have.
+// How many SYSMODs a ring has, and how many frames are put where each of them is a candidate of one report. Those
+// of the last two reports would have more nodes in all than a report may have, and there are more candidates than a
+// report may have.
 static RINGS: [(u32, u64); 4] = [(1, 1), (12, 12), (256, 1), (257, 0)];
 
 // Each SYSMOD of a ring is good in a report.

@@ -4,7 +4,7 @@ use super::Cached;
 use crate::tests::chains_tests::judged;
 use crate::tests::print::{id_of, zone_of};
 use catalogue::{Ids, ListPublished, Published};
-use chains::{Frame, Judge, Status, Whole, frame};
+use chains::{Frame, Judge, Status, Whole, candidates_for, frame, listing_of};
 use mcs_reader::Id;
 use std::alloc::Global;
 use std::fmt::Write;
@@ -154,7 +154,24 @@ fn are_united(alloc: Global, cached: &mut Cached, zone: &Zone) -> Result<bool, F
     Ok(given.as_slice() == whole.as_slice())
 }
 
-// Whether frames, verdicts, statuses and plans are as over the whole catalogue, in each of some zones.
+fn all_ids(alloc: Global) -> Result<Vec<Id>, Fail> {
+    let mut ids = Vec::new(alloc);
+    for number in 0..IDS {
+        ids.push(id_by_number(alloc, number)?)?;
+    }
+    Ok(ids)
+}
+
+// Whether a listing has the candidates that the source has.
+fn are_candidates(alloc: Global, lists: &mut ListPublished, zone: &Zone) -> Result<bool, Fail> {
+    let ids = all_ids(alloc)?;
+    let listing = listing_of(alloc, lists)?;
+    let listed = candidates_for(alloc, lists, Some(&listing), zone, &ids)?;
+    let read = candidates_for(alloc, lists, None, zone, &ids)?;
+    Ok(listed.as_slice() == read.as_slice())
+}
+
+// Whether frames, verdicts, statuses, plans and candidates are as over the whole catalogue, in each of some zones.
 fn is_as_whole(
     alloc: Global,
     draws: &mut Draws,
@@ -165,7 +182,8 @@ fn is_as_whole(
         let is_right = are_as_built(alloc, cached)?
             && are_verdicts(alloc, draws, cached, zone)?
             && are_statuses(alloc, cached, zone)?
-            && are_united(alloc, cached, zone)?;
+            && are_united(alloc, cached, zone)?
+            && are_candidates(alloc, &mut cached.lists, zone)?;
         if !is_right {
             return Ok(false);
         }

@@ -1,8 +1,8 @@
 use Rattle.std.proofs.Common.{◌≡◌, ◌∙◌, ℕ, List, true, map, sym, ap, subst}
 use Rattle.std.specs.List.{Contains}
+use Rattle.lemmas.proofs.ResultFacts.{ok_so}
 use Rattle.catalogue.specs.Ids.{in_order}
 use Rattle.supersede.specs.Reach.{has}
-use Rattle.chains.proofs.IndexFacts.{ok_so}
 use Rattle.zone_plans.specs.Choices.{greatest_of, of_status, or_all, received_or_all}
 use Rattle.zone_plans.specs.Graphs.{known_givers, not_given}
 use Rattle.report_holds.specs.declared.holds.Resolver.{Resolver}

@@ -2,9 +2,9 @@ use Rattle.std.proofs.Common.{◌∙◌, ◌&&◌, List, ℕ, Bool, sym, ap}
 use Rattle.std.specs.Prelude.{not}
 use Rattle.std.specs.List.{list_any}
 use Rattle.std.proofs.lemmas.List.{take_all}
+use Rattle.lemmas.proofs.ListFacts.{any_at}
 use Rattle.catalogue.specs.Ids.{same_id}
 use Rattle.supersede.specs.Reach.{has}
-use Rattle.chains.proofs.SearchFacts.{any_at}
 use Rattle.zone_plans.proofs.ChoiceFacts.{none_more}
 use Rattle.zone_plans.proofs.GraphFacts.{item_inside}
 use Rattle.zone_plans.proofs.choice.is_given_by.Goals as goal

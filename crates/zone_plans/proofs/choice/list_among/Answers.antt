@@ -2,7 +2,7 @@ use Rattle.std.proofs.Common.{◌∙◌, List, ℕ, ap}
 use Rattle.std.specs.Global.{Vec}
 use Rattle.std.specs.List.{slice_get}
 use Rattle.mcs_reader.specs.declared.id.Id.{Id}
-use Rattle.zone_plans.proofs.GraphFacts.{get_mapped, get_unmapped}
+use Rattle.reports.proofs.ResolverFacts.{get_unmapped, get_mapped}
 use Rattle.zone_plans.proofs.choice.list_among.Goals as goal
 
 pub returns-in-Some : goal.returns-in-Some

@@ -1,6 +1,6 @@
 use Rattle.std.proofs.Common.{◌∙◌, ap}
+use Rattle.lemmas.proofs.ResultFacts.{ok_so}
 use Rattle.catalogue.specs.Ids.{put_among}
-use Rattle.chains.proofs.IndexFacts.{ok_so}
 use Rattle.zone_plans.proofs.choice.ordered.Goals as goal
 
 pub returns-clause-ids : goal.returns-clause-ids

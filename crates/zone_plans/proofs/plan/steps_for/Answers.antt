@@ -15,11 +15,12 @@ returns-clause-steps g c =
     let three = law.keeps _ _ (law.on _ _ _ (law.on _ _ _ c.in_ok-ids.ensures.asks.keeps c.in_ok-readings.ensures.asks.keeps) c.in_ok-answers.ensures.asks.keeps) in
     let fourth = law.keeps _ _ c.in_ok-givers.ensures.asks.keeps in
     let rows = c.args.zone.now in
-    let read = told_both (told_sooner c.in_ok-ids.ensures.united second) (told_later first second c.in_ok-readings.ensures.readings) in
+    let read = told_both (told_sooner (told_both c.in_ok-ids.ensures.united c.in_ok-ids.ensures.right) second) (told_later first second c.in_ok-readings.ensures.readings) in
     told_by_two three fourth (told_both (told_sooner read third) (told_later both third c.in_ok-answers.ensures.candidates)) c.in_ok-givers.ensures.givers (λ content facts givers. λ right good.
-    let answers = facts.1 in
-    c.in_ok-zone_steps.ensures content rows (facts.0.0 right)
-    (ap lists_of c.deref-5.ensures.value ∙ givers ∙ ap (map (known_givers content rows)) c.deref-4.ensures.value)
+    let on = facts.0.0.1 right in
+    let answers = facts.1 on in
+    c.in_ok-zone_steps.ensures content rows (facts.0.0.0 right)
+    (ap lists_of c.deref-5.ensures.value ∙ givers on ∙ ap (map (known_givers content rows)) c.deref-4.ensures.value)
     (c.deref-6.ensures.value ∙ facts.0.1 ∙ ap (map (reading_of content rows)) c.deref.ensures.value)
     (c.deref-7.ensures.value ∙ c.in_ok-asked.ensures.needs ∙ ap all_needs (c.deref-2.ensures.value ∙ sym c.deref-6.ensures.value))
     (ap (map (option_map (λ ids. ids.items))) c.deref-8.ensures.value ∙ answers ∙ ap (map (candidates_unless_there content rows)) (c.deref-3.ensures.value ∙ sym c.deref-7.ensures.value))

@@ -1,6 +1,6 @@
 use Rattle.std.proofs.Common.{◌≡◌, ◌∙◌, List, Option, ℕ, length, subst, sym, ap}
+use Rattle.lemmas.proofs.ResultFacts.{ok_so}
 use Rattle.zone_plans.specs.Graphs.{AreSourced}
-use Rattle.chains.proofs.IndexFacts.{ok_so}
 use Rattle.zone_plans.proofs.MarkFacts.{members_by}
 use Rattle.zone_plans.proofs.steps.member_marks.Goals as goal
 

@@ -1,7 +1,7 @@
 use Rattle.std.proofs.Common.{List, Option, Bool, ℕ, subst}
+use Rattle.lemmas.proofs.ResultFacts.{ok_so}
 use Rattle.requisites.specs.Sources.{AreLeastSources}
 use Rattle.zone_plans.specs.Graphs.{AreStarts}
-use Rattle.chains.proofs.IndexFacts.{ok_so}
 use Rattle.zone_plans.proofs.MarkFacts.{starts_by}
 use Rattle.zone_plans.proofs.steps.start_marks.Goals as goal
 

@@ -3,15 +3,15 @@ use Rattle.std.specs.Prelude.{not}
 use Rattle.std.proofs.lemmas.List.FromFn.{length-map-range_with_len}
 use Rattle.std.specs.Global.{Vec}
 use Rattle.std.proofs.lemmas.List.{length-map}
+use Rattle.lemmas.proofs.ResultFacts.{ok_both, ok_so}
 use Rattle.mcs_reader.specs.declared.id.Id.{Id}
 use Rattle.chains.specs.Indices.{AreIndicesOf, RowsAre}
-use Rattle.chains.proofs.IndexFacts.{ok_so}
 use Rattle.chains.specs.Candidates.{candidates_unless_there}
 use Rattle.install_order.specs.Left.{is_outdone}
 use Rattle.install_order.specs.Steps.{AreInOrder, AreSteps, IsClosed}
 use Rattle.zone_plans.specs.Graphs.{AreGiven, AreReachedFrom, AreStartsOf, list_at, lists_of}
 use Rattle.zone_plans.proofs.MarkFacts.{reached_closed, within_by}
-use Rattle.zone_plans.proofs.StepFacts.{are_zone_steps, ok_both}
+use Rattle.zone_plans.proofs.StepFacts.{are_zone_steps}
 use Rattle.zone_plans.proofs.steps.step_rows.Goals as goal
 
 pub steps-requires : goal.steps-requires

@@ -1,7 +1,7 @@
 use Rattle.std.proofs.Common.{◌∙◌, ap, slice_get, subst, sym}
+use Rattle.lemmas.proofs.ResultFacts.{ok_so}
 use Rattle.requisites.proofs.LeadsFacts.{leads_itself}
 use Rattle.chains.specs.Frames.{FrameLists, IsFrame, StepsTo}
-use Rattle.chains.proofs.IndexFacts.{ok_so}
 use Rattle.chain_cache.proofs.EntryFacts.{same_value}
 use Rattle.chain_cache.proofs.cache.ChainCache.first_verdict.Goals as goal
 

@@ -1,10 +1,10 @@
 use Rattle.std.proofs.Common.{◌∙◌, ap, option_map, refl}
+use Rattle.lemmas.proofs.ResultFacts.{ok_so}
 use Rattle.catalogue.proofs.IdFacts.{itself}
 use Rattle.chains.specs.Candidates.{candidates_unless_there}
 use Rattle.reports.specs.MissingFound.{both_of}
 use Rattle.reports.specs.Resolvers.{unless_there}
 use Rattle.reports.proofs.MissingFacts.{resolver_among}
-use Rattle.reports.proofs.ResolverFacts.{ok_so}
 use Rattle.reports.proofs.missing.MissingHeldReportedMissingRow.answer.Goals as goal
 
 pub returns : goal.returns

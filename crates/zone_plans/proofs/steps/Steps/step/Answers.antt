@@ -1,8 +1,8 @@
 use Rattle.std.proofs.Common.{◌∙◌, ◌<◌, [], List, ℕ, get_or, length, map, sym, ap, subst, arith}
 use Rattle.std.specs.List.{Contains}
 use Rattle.std.proofs.lemmas.List.{length-map}
+use Rattle.lemmas.proofs.ResultFacts.{ok_so}
 use Rattle.chains.specs.Cuts.{id_at}
-use Rattle.chains.proofs.IndexFacts.{ok_so}
 use Rattle.chains.proofs.PartFacts.{at_map}
 use Rattle.zone_plans.proofs.steps.Steps.step.Goals as goal
 

@@ -1,0 +1,21 @@
+-- No part of what is promised: private contracts cite it. Who supersedes what, among all that is listed.
+use Rattle.std.specs.Prelude.{◌<◌, ◌↔◌, ℕ, List, Contains, length, slice_index_or}
+use Rattle.catalogue.specs.Ids.{Ascend}
+use Rattle.requisites.specs.Nodes.{row}
+use Rattle.chains.specs.Cuts.{id_at}
+use Rattle.chains.specs.Sights.{Sight, unseen}
+
+-- what is superseded by what is listed at an index
+abbrev pub superseded_at : List Sight → ℕ → List (List ℕ)
+superseded_at sights p = (slice_index_or sights p unseen).superseded
+
+-- what is listed at an index supersedes an id: its SUP names it
+pub record SupersedesAt (sights : List Sight) (p : ℕ) (id : List ℕ) : Type 0 where
+  pub within : p < length sights
+  pub named : Contains (superseded_at sights p) id
+
+-- all that is superseded, ascending, and for each of it the indices of what supersedes it
+pub record AreTurned (sights : List Sight) (superseded : List (List ℕ)) (above : List (List ℕ)) : Type 0 where
+  pub ascend : Ascend superseded
+  pub each : (q p : ℕ) → q < length superseded → Contains (row above q) p ↔ SupersedesAt sights p (id_at superseded q)
+  pub whole : (p : ℕ) (id : List ℕ) → SupersedesAt sights p id → Contains superseded id
