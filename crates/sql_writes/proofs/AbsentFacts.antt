@@ -87,6 +87,24 @@ module _ (places : List ℕ) (test : Row → Bool) (n : ℤ) (values : Row) (row
       → list_any (λ other. agree plain places other places (Int n ∷ values)) rows ≡ false
   none_agree_so alike none = none_agrees (every (λ other. agree plain places other places (Int n ∷ values) ≡ test (drop 1 other)) alike rows) none
 
+-- what a record supersedes, among any rows of its table
+pub unique_sup_in : (db : Trees) (rows : List Row) (id member : List ℕ) → IsId id → IsId member → list_any (is_of_both id member) (columns_of rows) ≡ false
+    → are_unique bureau.indexes (with_tree db 8 (put_row (Int (next_rowid rows) ∷ sup_row id member) rows)) schema.sysmod_sup ((Int (next_rowid rows) ∷ sup_row id member) ∷ []) ≡ true
+unique_sup_in db rows id member is is_member none =
+    ap (λ b. not (b || false) && true)
+    (unclashed (1 ∷ 2 ∷ []) rows (next_rowid rows) (sup_row id member)
+    (none_agree_so (1 ∷ 2 ∷ []) (is_of_both id member) (next_rowid rows) (sup_row id member) rows (λ other. agree_two (next_rowid rows) other id member [] is is_member) none))
+
+-- a row of a zone, among any rows of its table
+pub unique_zone_row_in : (db : Trees) (rows : List Row) (client zone sysmod : List ℕ) (rest : Row) → IsId client → IsId zone → IsId sysmod → list_any (is_of_three client zone sysmod) (columns_of rows) ≡ false
+    → are_unique bureau.indexes (with_tree db 15 (put_row (Int (next_rowid rows) ∷ id_value client ∷ id_value zone ∷ id_value sysmod ∷ rest) rows)) schema.zone_row
+    ((Int (next_rowid rows) ∷ id_value client ∷ id_value zone ∷ id_value sysmod ∷ rest) ∷ []) ≡ true
+unique_zone_row_in db rows client zone sysmod rest is is_zone is_sysmod none =
+    ap (λ b. not (b || false) && true)
+    (unclashed (1 ∷ 2 ∷ 3 ∷ []) rows (next_rowid rows) (id_value client ∷ id_value zone ∷ id_value sysmod ∷ rest)
+    (none_agree_so (1 ∷ 2 ∷ 3 ∷ []) (is_of_three client zone sysmod) (next_rowid rows) (id_value client ∷ id_value zone ∷ id_value sysmod ∷ rest) rows
+    (λ other. agree_three (next_rowid rows) other client zone sysmod rest is is_zone is_sysmod) none))
+
 -- ---- a new row keeps the keys of its table apart
 
 module _ (database : Database) (known : IsKnown database) where
@@ -116,10 +134,7 @@ module _ (database : Database) (known : IsKnown database) where
 
   pub unique_sup : (id member : List ℕ) → IsId id → IsId member → list_any (is_of_both id member) (columns_of (db 8)) ≡ false
       → are_unique bureau.indexes (with_tree db 8 (put_row (Int (next_rowid (db 8)) ∷ sup_row id member) (db 8))) schema.sysmod_sup ((Int (next_rowid (db 8)) ∷ sup_row id member) ∷ []) ≡ true
-  unique_sup id member is is_member none =
-      ap (λ b. not (b || false) && true)
-      (unclashed (1 ∷ 2 ∷ []) (db 8) (next_rowid (db 8)) (sup_row id member)
-      (none_agree_so (1 ∷ 2 ∷ []) (is_of_both id member) (next_rowid (db 8)) (sup_row id member) (db 8) (λ other. agree_two (next_rowid (db 8)) other id member [] is is_member) none))
+  unique_sup id member is is_member none = unique_sup_in db (db 8) id member is is_member none
 
   pub unique_head : (client zone : List ℕ) (rest : Row) → IsId client → IsId zone → list_any (is_of_both client zone) (columns_of (db 13)) ≡ false
       → are_unique bureau.indexes (with_tree db 13 (put_row (Int (next_rowid (db 13)) ∷ id_value client ∷ id_value zone ∷ rest) (db 13))) schema.zone_head
@@ -132,11 +147,7 @@ module _ (database : Database) (known : IsKnown database) where
   pub unique_zone_row : (client zone sysmod : List ℕ) (rest : Row) → IsId client → IsId zone → IsId sysmod → list_any (is_of_three client zone sysmod) (columns_of (db 15)) ≡ false
       → are_unique bureau.indexes (with_tree db 15 (put_row (Int (next_rowid (db 15)) ∷ id_value client ∷ id_value zone ∷ id_value sysmod ∷ rest) (db 15))) schema.zone_row
       ((Int (next_rowid (db 15)) ∷ id_value client ∷ id_value zone ∷ id_value sysmod ∷ rest) ∷ []) ≡ true
-  unique_zone_row client zone sysmod rest is is_zone is_sysmod none =
-      ap (λ b. not (b || false) && true)
-      (unclashed (1 ∷ 2 ∷ 3 ∷ []) (db 15) (next_rowid (db 15)) (id_value client ∷ id_value zone ∷ id_value sysmod ∷ rest)
-      (none_agree_so (1 ∷ 2 ∷ 3 ∷ []) (is_of_three client zone sysmod) (next_rowid (db 15)) (id_value client ∷ id_value zone ∷ id_value sysmod ∷ rest) (db 15)
-      (λ other. agree_three (next_rowid (db 15)) other client zone sysmod rest is is_zone is_sysmod) none))
+  unique_zone_row client zone sysmod rest is is_zone is_sysmod none = unique_zone_row_in db (db 15) client zone sysmod rest is is_zone is_sysmod none
 
   pub unique_cond : (id fmid need : List ℕ) → IsId id → IsId fmid → IsId need → list_any (is_of_three id fmid need) (columns_of (db 19)) ≡ false
       → are_unique bureau.indexes (with_tree db 19 (put_row (Int (next_rowid (db 19)) ∷ id_value id ∷ id_value fmid ∷ id_value need ∷ []) (db 19))) schema.sysmod_cond

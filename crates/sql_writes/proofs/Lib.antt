@@ -6,6 +6,7 @@ pub mod ComeFacts
 pub mod DefineFacts
 pub mod FittingFacts
 pub mod FoundFacts
+pub mod FourFacts
 pub mod ExcuseFacts
 pub mod GoneFacts
 pub mod KindFacts
@@ -13,6 +14,7 @@ pub mod LastFacts
 pub mod LeaveFacts
 pub mod LoadFacts
 pub mod MakeFacts
+pub mod ManyFacts
 pub mod MigrateFacts
 pub mod NewFacts
 pub mod NumberFacts
@@ -26,3 +28,4 @@ pub mod StatementFacts
 pub mod StepFacts
 pub mod StoredFacts
 pub mod TakeFacts
+pub mod ThreeFacts

@@ -39,7 +39,7 @@ module _ {X : Type 0} (first : Stored → Stored) (step : X → Stored → Store
   ended {A} {F} old new a i all h = subst (λ ys. Changes {Answer = A} {Fault = F} old new (Ok a) (come ys)) (take_all i xs all) h
 
 -- rows that come after those of a table
-in_turn : {X : Type 0} (make : X → Row) (rows : List Row) (xs : List X) (x : X) → (rows ++ map make xs) ++ map make (x ∷ []) ≡ rows ++ map make (xs ++ x ∷ [])
+pub in_turn : {X : Type 0} (make : X → Row) (rows : List Row) (xs : List X) (x : X) → (rows ++ map make xs) ++ map make (x ∷ []) ≡ rows ++ map make (xs ++ x ∷ [])
 in_turn make rows xs x = append_assoc rows (map make xs) (map make (x ∷ [])) ∙ ap (λ ys. rows ++ ys) (sym (map-append make xs (x ∷ [])))
 
 pub rows_turn : (client zone : List ℕ) → ComesInTurn (without_rows client zone) (λ row. with_rows client zone (row ∷ [])) (λ rows stored. with_rows client zone rows (without_rows client zone stored))

@@ -48,7 +48,7 @@ use Rattle.sql_writes.proofs.StepFacts.{comes_takes}
 text_is_few : (text : List ℕ) → is_id_text text ≡ true → length text ≤ 7
 text_is_few text is = grind (arith, nat_tests)
 
-few : (id : List ℕ) → IsId id → length (text_of id) ≤ 7
+pub few : (id : List ℕ) → IsId id → length (text_of id) ≤ 7
 few id is = text_is_few (text_of id) is.0
 
 short_enough : (text : List ℕ) → is_short text ≡ true → length text ≤ 300000000
@@ -66,7 +66,7 @@ sysmod_kind_low Ptf = omega arith
 sysmod_kind_low Apar = omega arith
 sysmod_kind_low Usermod = omega arith
 
-state_low : (state : ZoneState) → state_order state ≤ 2
+pub state_low : (state : ZoneState) → state_order state ≤ 2
 state_low Applied = omega arith
 state_low Accepted = omega arith
 state_low Superseded = omega arith

@@ -69,13 +69,13 @@ apart_from (table ∷ all) apart =
         let parts = and_parts (not (table.tree == other.tree)) (list_all (λ (it : Table). not (table.tree == it.tree)) others) all in
         ((λ same. false≢true (sym (ap not (eq-eqb table.tree other.tree same)) ∙ parts.0)), each others parts.1)
 
-trees_apart : IsAscending (λ a b. a.tree ≡ b.tree → ⊥) bureau.tables
+pub trees_apart : IsAscending (λ a b. a.tree ≡ b.tree → ⊥) bureau.tables
 trees_apart = apart_from tables refl
 
-here_it_is : (db : Trees) (tree : ℕ) (rows : List Row) → with_tree db tree rows tree ≡ rows
+pub here_it_is : (db : Trees) (tree : ℕ) (rows : List Row) → with_tree db tree rows tree ≡ rows
 here_it_is db tree rows = ap (λ b. cond b rows (db tree)) (eq-eqb tree tree refl)
 
-elsewhere : (db : Trees) (tree : ℕ) (rows : List Row) (t : ℕ) → t ≢ tree → with_tree db tree rows t ≡ db t
+pub elsewhere : (db : Trees) (tree : ℕ) (rows : List Row) (t : ℕ) → t ≢ tree → with_tree db tree rows t ≡ db t
 elsewhere db tree rows t other = ap (λ b. cond b rows (db t)) (ne_eqb t tree other)
 
 or_true : (b : Bool) → (b || true) ≡ true

@@ -62,10 +62,10 @@ on_table limit mode params db table_index P table out at h =
     subst (λ found. AtPlace (λ t. P (record { limit = limit; keys = mode.keys; schema = db.schema; table = t; params = params })) found out) at h
 
 -- no table here counts its rowids
-uncounted_rows : (task : Task) (mid next : Trees) (counter : Option Row) (top : _) → task.table.is_counted ≡ false → Counts task mid counter top (Ok next) → next ≡ mid
+pub uncounted_rows : (task : Task) (mid next : Trees) (counter : Option Row) (top : _) → task.table.is_counted ≡ false → Counts task mid counter top (Ok next) → next ≡ mid
 uncounted_rows task mid next counter top none h = same_value (rw none at h)
 
-chosen_for : (table : Table) (top : ℤ) → table.is_counted ≡ false → rowids_for table top ≡ Chosen
+pub chosen_for : (table : Table) (top : ℤ) → table.is_counted ≡ false → rowids_for table top ≡ Chosen
 chosen_for table top none = rw none
 
 -- ---- numbers stay what they are

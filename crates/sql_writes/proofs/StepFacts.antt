@@ -3,6 +3,7 @@ use Rattle.std.proofs.Common.{◌≡◌, ◌≤◌, ◌<◌, ◌+◌, ◌^◌, �
 use Rattle.std.specs.Prelude.{IfErr, IfOk, IsSome, slice_get}
 use Rattle.std.specs.List.{range_with_len}
 use Rattle.sqlite.specs.Cast.{cast_row}
+use Rattle.sqlite.specs.Command.{Command}
 use Rattle.sqlite.specs.Command.TheVariants.{Insert}
 use Rattle.sqlite.specs.Does.{Does}
 use Rattle.sqlite.specs.Edit.{next_rowid}
@@ -43,11 +44,11 @@ use Rattle.sql_writes.proofs.SoundFacts.{IsFitting, comes_soundly, deletion_stop
 use Rattle.sql_writes.proofs.StatementFacts.{deletes, inserts}
 
 -- the rules of the tables hold, and their rows are numbered
-keys_once : (database : Database) → IsKnown database → Keeps Unique bureau database.trees
+pub keys_once : (database : Database) → IsKnown database → Keeps Unique bureau database.trees
 keys_once database known = subst (λ s. Keeps Unique s database.trees) known.schema (known.sound.obeys.rules Unique)
 
 -- what is known of the tables and of what they hold
-abbrev From : ℕ → (Stored → Type 0) → Database → Type 0
+abbrev pub From : ℕ → (Stored → Type 0) → Database → Type 0
 From most Fits database = IsRoomy most database × Fits (held_by database)
 
 module _ (text : List ℕ) (old new : State) (result : Result (Unit {0}) Error) (table_index : ℕ) (table : Table) (at : slice_get tables table_index ≡ Some table)
@@ -108,13 +109,13 @@ mapped_alike f g [] = refl
 mapped_alike f g (x ∷ xs) = ap suc (mapped_alike f g xs)
 
 -- a statement is prepared
-pub prepared_takes : {A : Type 0} (text_of : A → List ℕ) (old new : State) (text : List ℕ) (table_index columns : ℕ) (result : Result A Error) → Means bureau text (insert_given table_index columns) columns
+pub prepared_takes : {A : Type 0} (text_of : A → List ℕ) (old new : State) (text : List ℕ) (command : Command) (parameters : ℕ) (result : Result A Error) → Means bureau text command parameters
     → (HasCleanDisk new → IfOk result (λ a. (text_of a ≡ text) × IsUnchanged old new))
     → (HasCleanDisk new → IfErr result (λ e. (params : Row) → IsNotRun old new text params e)) → Takes old new result 0 (λ stored. Unit {0})
-prepared_takes {A} text_of old new text table_index columns result means ok err = by result ok err
+prepared_takes {A} text_of old new text command parameters result means ok err = by result ok err
   where
     params : Row
-    params = map (λ k. Null) (range_with_len 1 columns)
+    params = map (λ k. Null) (range_with_len 1 parameters)
 
     by : (r : Result A Error) → (HasCleanDisk new → IfOk r (λ a. (text_of a ≡ text) × IsUnchanged old new)) → (HasCleanDisk new → IfErr r (λ e. (params : Row) → IsNotRun old new text params e))
         → Takes old new r 0 (λ stored. Unit {0})
@@ -124,7 +125,7 @@ prepared_takes {A} text_of old new text table_index columns result means ok err 
     }
     by (Err e) ok err = record {
       excused = λ most room clean inside from.
-          unrun old new text params (insert_given table_index columns) columns e (ap (λ s. understood s text) from.0.0.schema ∙ means.statement)
-          (mapped_alike (λ k. Null) parameter (range_with_len 1 columns)) (err clean params);
+          unrun old new text params command parameters e (ap (λ s. understood s text) from.0.0.schema ∙ means.statement)
+          (mapped_alike (λ k. Null) parameter (range_with_len 1 parameters)) (err clean params);
       numbers = tt;
     }

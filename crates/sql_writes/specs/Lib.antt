@@ -2,6 +2,7 @@ pub mod Altering
 pub mod Effects
 pub mod Excused
 pub mod Making
+pub mod Many
 pub mod Migrating
 pub mod Parts
 pub mod Room

@@ -6,8 +6,9 @@ ghost use Rattle.bureau_store.specs.Store.{greatest_number};
 ghost use Rattle.sql_tables.specs.Changes.{is_under};
 ghost use Rattle.sql_tables.specs.Fit.{IsHold};
 ghost use Rattle.sql_tables.specs.Stored.{is_of, is_of_both};
-ghost use Rattle.sql_writes.specs.Altering.{Alters, Inserts, RefusesExcused, TakesRoom, Turns};
+ghost use Rattle.sql_writes.specs.Altering.{Alters, Inserts, InsertsAlike, RefusesExcused, TakesRoom, Turns};
 ghost use Rattle.sql_writes.specs.Making.{AreFit, IsOpened};
+ghost use Rattle.sql_writes.specs.Many.{AreNewRows, AreNewSups};
 ghost use Rattle.bureau_store.specs.declared.caller.CallerRow.{CallerRow};
 ghost use Rattle.sql_writes.specs.Room.{are_short, are_short_ids, is_short, is_short_change};
 ghost use Rattle.sql_writes.specs.Parts.{is_of_three, with_callers, with_conds, with_head, with_hold, with_last, with_received, with_rows, with_sups, with_sysmod};
@@ -104,6 +105,33 @@ pub(crate) fn sup_row<S: Alter>(
     run_prepared(tx, statement, &[id_of(id), id_of(member)])
 }
 
+/// Four SYSMODs that a record supersedes, by the statement that inserts four rows into `SysmodSup`.
+pub(crate) fn four_sup_rows<S: Alter>(
+    tx: &mut Transaction<'_, S>,
+    statement: &Statement,
+    id: &Id,
+    first: &Id,
+    second: &Id,
+    third: &Id,
+    fourth: &Id,
+) -> Result<(), Error>
+    requires means { InsertsAlike S.Store tx.old.conn.now statement.now.text 4 1 1 4 }
+    ensures same { tx.new.conn.ghost_name ≡ tx.old.conn.ghost_name }
+    ensures changes { Alters S.Store tx.old.conn.now tx.new.conn.now result
+        (with_sups id.now (first.now ∷ second.now ∷ third.now ∷ fourth.now ∷ [])) }
+    ensures takes { TakesRoom S.Store tx.old.conn.now tx.new.conn.now result 4
+        (λ stored. AreNewSups id.now (first.now ∷ second.now ∷ third.now ∷ fourth.now ∷ []) stored.sups) }
+{
+    let params = [
+        id_of(id),
+        id_of(first),
+        id_of(second),
+        id_of(third),
+        id_of(fourth),
+    ];
+    run_prepared(tx, statement, &params)
+}
+
 /// What a record requires where a function is installed, by the statement that inserts into `SysmodCond`.
 pub(crate) fn cond_row<S: Alter>(
     tx: &mut Transaction<'_, S>,
@@ -187,6 +215,36 @@ pub(crate) fn zone_row<S: Alter>(
         id_of(zone),
         id_of(&row.sysmod),
         state_value(row.state),
+    ];
+    run_prepared(tx, statement, &params)
+}
+
+/// Three SYSMODs of a client's zone, by the statement that inserts three rows into `ZoneRow`.
+pub(crate) fn three_zone_rows<S: Alter>(
+    tx: &mut Transaction<'_, S>,
+    statement: &Statement,
+    client: &Id,
+    zone: &Id,
+    first: &ZoneRow,
+    second: &ZoneRow,
+    third: &ZoneRow,
+) -> Result<(), Error>
+    requires means { InsertsAlike S.Store tx.old.conn.now statement.now.text 7 2 2 3 }
+    ensures same { tx.new.conn.ghost_name ≡ tx.old.conn.ghost_name }
+    ensures changes { Alters S.Store tx.old.conn.now tx.new.conn.now result
+        (with_rows client.now zone.now (first.now ∷ second.now ∷ third.now ∷ [])) }
+    ensures takes { TakesRoom S.Store tx.old.conn.now tx.new.conn.now result 3
+        (λ stored. AreNewRows client.now zone.now (first.now ∷ second.now ∷ third.now ∷ []) stored.rows) }
+{
+    let params = [
+        id_of(client),
+        id_of(zone),
+        id_of(&first.sysmod),
+        state_value(first.state),
+        id_of(&second.sysmod),
+        state_value(second.state),
+        id_of(&third.sysmod),
+        state_value(third.state),
     ];
     run_prepared(tx, statement, &params)
 }

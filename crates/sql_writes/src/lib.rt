@@ -20,6 +20,7 @@ mod migration;
 mod publication;
 mod run;
 mod tables;
+mod texts;
 mod values;
 mod zone;
 

@@ -4,11 +4,11 @@ ghost use Rattle.std.specs.List.{AllByRecursion, list_all};
 ghost use Rattle.holddata.specs.declared.hold.HoldChange.TheVariants.{Put};
 ghost use Rattle.sql_tables.specs.Changes.{holds_changed, published};
 ghost use Rattle.sql_tables.specs.Fit.{IsFitChange, IsHold};
-ghost use Rattle.sql_writes.specs.Altering.{Alters, Inserts, TakesRoom};
+ghost use Rattle.sql_writes.specs.Altering.{Alters, Inserts, InsertsAlike, TakesRoom};
 ghost use Rattle.sql_writes.specs.Room.{are_short, is_short_change, rows_of_change};
 
 use crate::run::prepare;
-use crate::{delete, insert, load};
+use crate::{delete, insert, load, texts};
 use catalogue::Change;
 use holddata::{Hold, HoldChange};
 use sql_texts::write::TableById;
@@ -18,9 +18,11 @@ use std::alloc::Global;
 /// The statements that are prepared once for a publication.
 #[derive(Drop)]
 struct Prepared {
-    /// What inserts into `SysmodSup`.
-    sups: Statement,
-    /// What inserts into `SysmodCond`.
+    /// What inserts a row into `SysmodSup`.
+    one_sup: Statement,
+    /// What inserts four rows into it.
+    four_sups: Statement,
+    /// What inserts a row into `SysmodCond`.
     conds: Statement,
 }
 
@@ -43,7 +45,8 @@ fn put_change<S: Alter>(
     prepared: &Prepared,
     change: &Change,
 ) -> Result<(), Error>
-    requires sups { Inserts S.Store tx.old.conn.now prepared.now.sups.text 4 2 }
+    requires one_sup { Inserts S.Store tx.old.conn.now prepared.now.one_sup.text 4 2 }
+    requires four_sups { InsertsAlike S.Store tx.old.conn.now prepared.now.four_sups.text 4 1 1 4 }
     requires conds { Inserts S.Store tx.old.conn.now prepared.now.conds.text 9 3 }
     ensures same { tx.new.conn.ghost_name ≡ tx.old.conn.ghost_name }
     ensures changes { Alters S.Store tx.old.conn.now tx.new.conn.now result
@@ -56,7 +59,13 @@ fn put_change<S: Alter>(
         Change::Whole(sysmod) => {
             delete::by_id(tx, TableById::Sysmod, &sysmod.id)?;
             insert::sysmod(alloc, tx, sysmod)?;
-            load::superseded(tx, &prepared.sups, &sysmod.id, sysmod.sup.as_slice())?;
+            load::superseded(
+                tx,
+                &prepared.one_sup,
+                &prepared.four_sups,
+                &sysmod.id,
+                sysmod.sup.as_slice(),
+            )?;
             load::conditional(tx, &prepared.conds, &sysmod.id, sysmod.conds.as_slice())
         }
         Change::OfHold(HoldChange::Put(hold)) => put_hold(tx, hold),
@@ -77,9 +86,14 @@ pub(crate) fn put_changes<S: Alter>(
         → TakesRoom S.Store tx.old.conn.now tx.new.conn.now result
         (sum_by rows_of_change changes.now) (λ stored. Unit {0}) }
 {
-    let sups = prepare(tx, TableById::SysmodSup.insertion())?;
+    let one_sup = prepare(tx, TableById::SysmodSup.insertion())?;
+    let four_sups = prepare(tx, texts::four_sups())?;
     let conds = prepare(tx, TableById::SysmodCond.insertion())?;
-    let prepared = Prepared { sups, conds };
+    let prepared = Prepared {
+        one_sup,
+        four_sups,
+        conds,
+    };
     for change in changes {
         put_change(alloc, tx, &prepared, change)?;
     }

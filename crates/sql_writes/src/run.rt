@@ -1,11 +1,11 @@
 //! One statement of a transaction.
 ghost use Rattle.std.specs.Prelude.{◌≡◌, ℕ, IfOk};
+ghost use Rattle.sqlite.specs.Command.{Command};
 ghost use Rattle.sqlite.specs.Held.{state};
 ghost use Rattle.sqlite.specs.State.{HasCleanDisk};
 ghost use Rattle.sqlite.specs.Values.{bound};
 ghost use Rattle.sql_texts.specs.Meaning.{Means};
 ghost use Rattle.sql_texts.specs.Schema.{bureau};
-ghost use Rattle.sql_texts.specs.Writes.{insert_given};
 ghost use Rattle.sql_writes.specs.Altering.{Alters, TakesRoom};
 ghost use Rattle.sql_writes.specs.Running.{FailsInside, Ran};
 
@@ -34,8 +34,7 @@ pub(crate) fn prepare<S: Alter>(tx: &mut Transaction<'_, S>, text: &str) -> Resu
     ensures text { IfOk result (λ statement. HasCleanDisk (state S.Store tx.new.conn.now)
         → statement.text ≡ text.now) }
     ensures changes { Alters S.Store tx.old.conn.now tx.new.conn.now result (λ stored. stored) }
-    ensures takes { (table_index columns : ℕ)
-        → Means bureau text.now (insert_given table_index columns) columns
+    ensures takes { (command : Command) (parameters : ℕ) → Means bureau text.now command parameters
         → TakesRoom S.Store tx.old.conn.now tx.new.conn.now result 0 (λ stored. Unit {0}) }
 {
     tx.prepare(text)

@@ -202,7 +202,7 @@ fn assert_each(alloc: Global, rows: &[Row]) -> Result<(), Fail> {
     Ok(())
 }
 
-static OF_CLIENT: [Row; 7] = [
+static OF_CLIENT: [Row; 9] = [
     (
         1,
         Put::Zone(b"SYSMOD,STATE\nUA1,APPLIED\nUA2,SUPERSEDED\n"),
@@ -240,14 +240,25 @@ static OF_CLIENT: [Row; 7] = [
         "SELECT 1 FROM last_change WHERE caller = 'ALPHA' AND number = 7",
         1,
     ),
+    (
+        8,
+        Put::Zone(FIVE),
+        "SELECT 1 FROM zone_row WHERE state = 1",
+        2,
+    ),
+    (9, Put::Zone(FIVE), "SELECT 1 FROM zone_row", 5),
 ];
+
+// Three rows of a zone, which come at once, and two more.
+const FIVE: &[u8] =
+    b"SYSMOD,STATE\nUA1,APPLIED\nUA2,ACCEPTED\nUA3,APPLIED\nUA4,SUPERSEDED\nUA5,ACCEPTED\n";
 
 #[test]
 fn a_change_of_a_client_leaves_its_rows(rt: HostRuntime) -> Result<(), Fail> {
     assert_each(rt.alloc(), &OF_CLIENT)
 }
 
-static OF_PUBLISHER: [Row; 10] = [
+static OF_PUBLISHER: [Row; 12] = [
     (
         1,
         Put::Publication(PUBLISHED),
@@ -278,7 +289,24 @@ static OF_PUBLISHER: [Row; 10] = [
     (8, Put::Publication(b""), PAIRS, 0),
     (9, Put::Publication(PUBLISHED), PAIRS, 2),
     (10, Put::Publication(AGAIN), "SELECT 1 FROM sysmod_cond", 0),
+    (
+        11,
+        Put::Publication(NINE),
+        "SELECT 1 FROM sysmod_sup WHERE id = 'UA10001'",
+        9,
+    ),
+    (
+        12,
+        Put::Publication(b""),
+        "SELECT 1 FROM sysmod_sup WHERE member = 'AA20008'",
+        1,
+    ),
 ];
+
+// A PTF that supersedes twice four, which come at once, and one more.
+const NINE: &[u8] =
+    b"++PTF(UA10001).\n++VER(Z038) FMID(HBB7790) SUP(AA20001,AA20002,AA20003,AA20004,AA20005,\n\
+ AA20006,AA20007,AA20008,AA20009).\n";
 
 // What the PTF requires where a function is installed.
 const PAIRS: &str = "SELECT 1 FROM sysmod_cond WHERE id = 'UA10001' AND fmid = 'HXX0001'";

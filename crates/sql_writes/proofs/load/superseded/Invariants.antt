@@ -4,16 +4,15 @@ use Rattle.sqlite.specs.State.{HasCleanDisk}
 use Rattle.sqlite.specs.declared.error.Error.{Error}
 use Rattle.sql_state.specs.Writing.{Changes}
 use Rattle.sql_writes.specs.Parts.{with_sups, without_sups}
-use Rattle.std.specs.Prelude.{length}
 use Rattle.catalogue.specs.Ids.{Ascend}
 use Rattle.sql_tables.specs.Fit.{AreIds}
 use Rattle.sql_writes.specs.Excused.{Takes}
 use Rattle.sql_writes.proofs.load.superseded.Given as goal
 
-abbrev pub invariant-loop-member : goal.invariant-loop-member
-invariant-loop-member g l = record {
+abbrev pub invariant-loop-at : goal.invariant-loop-at
+invariant-loop-at g l = record {
   same : l.tx.conn.ghost_name ≡ l.fn.tx.conn.ghost_name;
-  changes : Changes {Answer = Unit {0}} {Fault = Error} (state g.S.Store l.fn.tx.conn.now) (state g.S.Store l.tx.conn.now) (Ok tt) (λ stored. with_sups l.id (take l.member-index l.members) (without_sups l.id stored));
-  takes : AreIds l.members → Ascend l.members → Takes {Answer = Unit {0}} (state g.S.Store l.fn.tx.conn.now) (state g.S.Store l.tx.conn.now) (Ok tt) (length (take l.member-index l.members)) (λ stored. Unit {0});
+  changes : Changes {Answer = Unit {0}} {Fault = Error} (state g.S.Store l.fn.tx.conn.now) (state g.S.Store l.tx.conn.now) (Ok tt) (λ stored. with_sups l.id (take l.at l.members) (without_sups l.id stored));
+  takes : AreIds l.members → Ascend l.members → Takes {Answer = Unit {0}} (state g.S.Store l.fn.tx.conn.now) (state g.S.Store l.tx.conn.now) (Ok tt) l.at (λ stored. Unit {0});
   clean : HasCleanDisk (state g.S.Store l.tx.conn.now) → HasCleanDisk (state g.S.Store l.fn.tx.conn.now);
 }

@@ -1,0 +1,18 @@
+use Rattle.std.proofs.Common.{◌≡◌, ◌*◌, Ok, take}
+use Rattle.sqlite.specs.Held.{state}
+use Rattle.sqlite.specs.State.{HasCleanDisk}
+use Rattle.sqlite.specs.declared.error.Error.{Error}
+use Rattle.sql_state.specs.Writing.{Changes}
+use Rattle.sql_writes.specs.Parts.{with_sups, without_sups}
+use Rattle.catalogue.specs.Ids.{Ascend}
+use Rattle.sql_tables.specs.Fit.{AreIds}
+use Rattle.sql_writes.specs.Excused.{Takes}
+use Rattle.sql_writes.proofs.load.by_fours.Given as goal
+
+abbrev pub invariant-loop-four : goal.invariant-loop-four
+invariant-loop-four g l = record {
+  same : l.tx.conn.ghost_name ≡ l.fn.tx.conn.ghost_name;
+  changes : Changes {Answer = Unit {0}} {Fault = Error} (state g.S.Store l.fn.tx.conn.now) (state g.S.Store l.tx.conn.now) (Ok tt) (λ stored. with_sups l.id (take (4 * l.four) l.members) (without_sups l.id stored));
+  takes : AreIds l.members → Ascend l.members → Takes {Answer = Unit {0}} (state g.S.Store l.fn.tx.conn.now) (state g.S.Store l.tx.conn.now) (Ok tt) (4 * l.four) (λ stored. Unit {0});
+  clean : HasCleanDisk (state g.S.Store l.tx.conn.now) → HasCleanDisk (state g.S.Store l.fn.tx.conn.now);
+}
