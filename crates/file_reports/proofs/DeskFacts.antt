@@ -10,6 +10,7 @@ use Rattle.zone_lists.specs.declared.zones.ZoneRow.{ZoneRow}
 use Rattle.catalogue.specs.Content.{Content}
 use Rattle.catalogue.specs.Publication.{content_of}
 use Rattle.catalogue.specs.declared.change.Change.{Change}
+use Rattle.supersede.proofs.GivingFacts.{same_self}
 use Rattle.bureau_store.specs.Effect.{Effect, publication, zone_put, received_put, patterns_put, content_after, received_after}
 use Rattle.bureau_store.specs.Store.{greatest_number}
 use Rattle.bureau_store.specs.Tables.{LastChange, ZoneTable, Zones, name_order, zone_named}
@@ -21,7 +22,7 @@ use Rattle.bureau.specs.Outcome.{Outcome, accepted, answered, answer_of, as_json
 use Rattle.bureau.specs.Own.{Accepted, Asked, accepted_in, change_of, content_left, found, last_left, names_known, own_answer, own_view, patterns_left, publications, received_left, rows_left, says_patterns, says_rows, zone_left, zones_left}
 use Rattle.bureau.specs.Texts.{chain_text, err_report, missing_report, patterns_text, publication_text, received_text, zone_put_text}
 use Rattle.bureau.proofs.LeftFacts.{AreKept, IsOfZone, content_more, kept_more, last_more, received_more, zone_is_left}
-use Rattle.bureau.proofs.NamesFacts.{own_caller, own_name}
+use Rattle.bureau.proofs.NamesFacts.{own_caller}
 use Rattle.file_reports.specs.Desk.{IsDesksAnswer, all_sent, asked, list_sent, lists_sent, new_desk, publications_sent}
 use Rattle.file_reports.specs.Inputs.{Inputs, Refused, Said, and_then, content_published, if_not_long, list_in, most_bytes, patterns_said, published_from, received_said, rows_said, said_by, said_in}
 use Rattle.file_reports.specs.Reports.{chain_text_said, err_text_said, missing_text_said, text_by, zone_said}
@@ -211,7 +212,7 @@ zone_taken client zone body history count all rows is says =
     subst (λ changes. Stands client zone changes (content_of all) 1 (Some rows) [] [])
     (sym (accepted_more history (Client client) (put_zone (Some 1) zone body) (zone_put zone rows) (zone_put_text zone rows) accepts))
     (subst (λ (found : Option (List ZoneRow)). Stands client zone (record { caller = Client client; effect = zone_put zone rows; reply = zone_put_text zone rows } ∷ changes) (content_of all) 1 found [] [])
-    (ap (λ (b : Bool). unwrap_or (if b then Some (Some rows) else None) None) (own_name zone)) after)
+    (ap (λ (b : Bool). unwrap_or (if b then Some (Some rows) else None) None) (same_self zone)) after)
 
 -- the patterns are put
 patterns_taken : (client zone body : List ℕ) (history : List Asked) (content : Content) (number : ℕ) (rows : List ZoneRow) (before patterns received : List (List ℕ))
@@ -229,7 +230,7 @@ patterns_taken client zone body history content number rows before patterns rece
     subst (λ changes. Stands client zone changes content (number + 1) (Some rows) patterns received)
     (sym (accepted_more history (Client client) (put_patterns (Some (number + 1)) zone body) (patterns_put zone patterns) (patterns_text zone patterns) accepts))
     (subst (λ (found : List (List ℕ)). Stands client zone (record { caller = Client client; effect = patterns_put zone patterns; reply = patterns_text zone patterns } ∷ changes) content (number + 1) (Some rows) found received)
-    (ap (λ (b : Bool). unwrap_or (if b then Some patterns else None) before) (own_name zone)) after)
+    (ap (λ (b : Bool). unwrap_or (if b then Some patterns else None) before) (same_self zone)) after)
 
 -- the received list is put
 received_taken : (client zone body : List ℕ) (history : List Asked) (content : Content) (number : ℕ) (rows : Option (List ZoneRow)) (patterns before received : List (List ℕ))

@@ -14,8 +14,8 @@ ghost use Rattle.file_reports.specs.declared.fault.Input.TheVariants as input;
 
 use crate::publications::content_in;
 use crate::{Input, InputFault};
-use catalogue::ListPublished;
 use faults::AnyFault;
+use flat_content::FlatContent;
 use mcs_reader::{Id, MOST_BYTES, McsFault};
 use std::alloc::Global;
 use supersede::Zone;
@@ -77,7 +77,7 @@ pub(crate) struct Read {
     pub(crate) installed: Zone,
     pub(crate) patterns: Vec<Pattern>,
     pub(crate) received: Vec<Id>,
-    pub(crate) content: ListPublished,
+    pub(crate) content: FlatContent,
 }
 
 /// Reads the lists, and then the publications in their order.

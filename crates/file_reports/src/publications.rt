@@ -1,8 +1,9 @@
 //! What publications leave, one after the other.
-ghost use Rattle.std.specs.Prelude.{◌≡◌, ◌++◌, Ok, IfOk, IfErr, OnOk, map};
+ghost use Rattle.std.specs.Prelude.{◌≡◌, ◌++◌, List, Ok, IfOk, IfErr, map};
 ghost use Rattle.catalogue.specs.Content.{IsInOrder};
 ghost use Rattle.catalogue.specs.Publication.{content_of};
 ghost use Rattle.catalogue.specs.Reading as reading;
+ghost use Rattle.catalogue.specs.declared.change.Change.{Change};
 ghost use Rattle.catalogue.specs.declared.fault.CatFault.TheVariants.{Memory};
 ghost use Rattle.faults.specs.declared.fault.Cause.TheVariants.{Machine};
 ghost use Rattle.bureau.specs.Bodies as body;
@@ -12,12 +13,14 @@ ghost use Rattle.file_reports.specs.Inputs.{IsFirstFault};
 ghost use Rattle.file_reports.specs.declared.fault.Input.TheVariants as input;
 
 use crate::{Input, InputFault};
-use catalogue::{CatFault, Change, ChangeReader, ListPublished, SourceFault, publication_operands};
+use catalogue::{CatFault, Change, ChangeReader, SourceFault, publication_operands};
 use faults::AnyFault;
+use flat_content::{FlatContent, Gathered};
 use mcs_reader::Statements;
 use std::alloc::Global;
 
-/// The content that publications leave where nothing was published before. Each is dropped once all are read.
+/// The content that publications leave where nothing was published before. Each is dropped once it is read, and its
+/// changes are taken over before the next one is read.
 ///
 /// # Errors
 ///
@@ -25,64 +28,50 @@ use std::alloc::Global;
 pub(crate) fn content_in(
     alloc: Global,
     publications: Vec<Vec<u8>>,
-) -> Result<ListPublished, InputFault>
+) -> Result<FlatContent, InputFault>
     ensures content { IfOk result (λ content.
         said.content_published (map (λ body. body.items) publications.items) ≡ Ok content) }
     ensures in_order { IfOk result IsInOrder }
     ensures fault { IfErr result
         (IsFirstFault (said.content_published (map (λ body. body.items) publications.items))) }
 {
-    let changes = all_changes(alloc, publications.as_slice())?;
-    drop(publications); // The content takes their room.
-    Ok(content_after(alloc, changes.as_slice())?)
-}
-
-// The content that changes leave.
-fn content_after(alloc: Global, changes: &[Change]) -> Result<ListPublished, SourceFault>
-    ensures content { IfOk result (λ content. content ≡ content_of changes.now) }
-    ensures in_order { IfOk result IsInOrder }
-    ensures fault { IfErr result (λ fault. fault ≡ SourceFault.Memory) }
-{
-    let mut content = ListPublished::new(alloc);
-    content.publish(changes)?;
-    Ok(content)
-}
-
-// What all publications publish, in their order.
-fn all_changes(alloc: Global, publications: &[Vec<u8>]) -> Result<Vec<Change>, InputFault>
-    ensures changes { IfOk result (λ changes.
-        said.published_from 0 (map (λ body. body.items) publications.now) ≡ Ok changes.items) }
-    ensures fault { IfErr result
-        (IsFirstFault (said.published_from 0 (map (λ body. body.items) publications.now))) }
-{
-    let mut changes = Vec::new(alloc);
-    for (index, publication) in publications.iter().enumerate() {
-        let mut more = changes_at(alloc, index, publication.as_slice())?;
-        append(&mut changes, &mut more)?;
+    let mut gathered = Gathered::new(alloc);
+    for (index, publication) in publications.into_iter().enumerate() {
+        let changes = changes_at(alloc, index, publication)?;
+        gathered = with(gathered, changes)?;
     }
-    Ok(changes)
+    Ok(finished_content(gathered)?)
 }
 
-// What the publication with this index publishes.
-fn changes_at(alloc: Global, index: usize, text: &[u8]) -> Result<Vec<Change>, InputFault>
+// What the publication with this index publishes. The publication is dropped.
+fn changes_at(alloc: Global, index: usize, text: Vec<u8>) -> Result<Vec<Change>, InputFault>
     ensures changes { IfOk result (λ changes.
-        said.said_in (input.Publication index) (body.changes_in text.now) ≡ Ok changes.items) }
+        said.said_in (input.Publication index) (body.changes_in text.items) ≡ Ok changes.items) }
     ensures fault { IfErr result
-        (IsFirstFault (said.said_in (input.Publication index) (body.changes_in text.now))) }
+        (IsFirstFault (said.said_in (input.Publication index) (body.changes_in text.items))) }
 {
-    match changes_in(alloc, text) {
+    match changes_in(alloc, text.as_slice()) {
         Ok(changes) => Ok(changes),
         Err(fault) => Err(InputFault::of(fault, Input::Publication(index))),
     }
 }
 
-// Puts changes after others.
-fn append(changes: &mut Vec<Change>, more: &mut Vec<Change>) -> Result<(), SourceFault>
-    ensures ok { OnOk result (changes.new.items ≡ changes.old.items ++ more.old.items) }
+// What was published so far, with more changes.
+fn with(gathered: Gathered, changes: Vec<Change>) -> Result<Gathered, SourceFault>
+    ensures content { IfOk result (λ now. (earlier : List Change) →
+        gathered ≡ content_of earlier → now ≡ content_of (earlier ++ changes.items)) }
     ensures fault { IfErr result (λ fault. fault ≡ SourceFault.Memory) }
 {
-    changes.append(more)?;
-    Ok(())
+    Ok(gathered.with(changes)?)
+}
+
+// The content of what was published.
+fn finished_content(gathered: Gathered) -> Result<FlatContent, SourceFault>
+    ensures content { IfOk result (λ content. content ≡ gathered) }
+    ensures in_order { IfOk result IsInOrder }
+    ensures fault { IfErr result (λ fault. fault ≡ SourceFault.Memory) }
+{
+    Ok(gathered.content()?)
 }
 
 // What the statements of a publication publish. No statement is kept. What stands after the first statement that has

@@ -18,8 +18,9 @@ ghost use Rattle.holddata.specs.declared.key.Kind.TheVariants.{ErrorHold, Fixcat
 use crate::InputFault;
 use crate::held::held_in;
 use crate::inputs::{Lists, Read, read_all};
-use catalogue::{ListPublished, SourceFault};
+use catalogue::SourceFault;
 use chains::{Judge, Verdict, Whole, frame_within, plan};
+use flat_content::FlatContent;
 use holddata::Kind;
 use mcs_reader::Id;
 use reports::{err_rows, err_text, missing_rows, missing_text, plan_json};
@@ -181,7 +182,7 @@ fn chain_text_in(alloc: Global, zone: &Id, sysmod: &Id, read: Read) -> Result<Ve
 // The verdict on a SYSMOD: from its frame, where that is small, or from all that is catalogued.
 fn verdict_in(
     alloc: Global,
-    content: &mut ListPublished,
+    content: &mut FlatContent,
     installed: &Zone,
     sysmod: &Id,
 ) -> Result<Verdict, SourceFault>

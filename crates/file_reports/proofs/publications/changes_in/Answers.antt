@@ -1,4 +1,5 @@
 use Rattle.std.proofs.Common.{◌≡◌, false, [], Ok, ◌∙◌, ap, sym, refl, subst, IsTrue}
+use Rattle.holddata.proofs.LastFacts.{where_none}
 use Rattle.bureau.specs.Bodies as Bodies
 use Rattle.mcs_reader.specs.McsFault as mcs
 use Rattle.mcs_reader.specs.ReadingOf.{reading_of}
@@ -6,7 +7,7 @@ use Rattle.mcs_reader.specs.Bytes.{bytes_of_each}
 use Rattle.holddata.specs.Asked.{are_among}
 use Rattle.catalogue.specs.Asked.{publication_operands}
 use Rattle.catalogue.specs.Reading.{nothing_begun}
-use Rattle.bureau.proofs.PublicationFacts.{ended_with, passed_on, published_asking, published_from, published_next, published_whole, refused_before, told_of_source, where_none}
+use Rattle.bureau.proofs.PublicationFacts.{ended_with, passed_on, published_asking, published_from, published_next, published_whole, refused_before, told_of_source}
 use Rattle.file_reports.proofs.publications.changes_in.Goals as goal
 
 pub returns-in_err-finish-in-Err-clause-fault : goal.returns-in_err-finish-in-Err-clause-fault

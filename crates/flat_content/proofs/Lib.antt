@@ -1,0 +1,3 @@
+pub mod GatherFacts
+pub mod HeadFacts
+pub mod LinkFacts

@@ -1,0 +1,101 @@
+//! What changes publish, one after the other.
+ghost use Rattle.std.specs.Prelude.{◌≡◌, ◌++◌, [], ◌∷◌, List, IfOk};
+ghost use Rattle.catalogue.specs.Content.{IsInOrder};
+ghost use Rattle.catalogue.specs.Publication.{content_of};
+ghost use Rattle.catalogue.specs.declared.change.Change.{Change};
+
+use crate::FlatContent;
+use crate::links::links_of;
+use crate::records::Records;
+use catalogue::{Change, NoMemory};
+use holddata::HoldBook;
+use std::alloc::Global;
+use std::marker::Model;
+
+/// What was published so far. A contract sees the content.
+#[derive(Drop)]
+pub struct Gathered {
+    records: Records,
+    book: HoldBook,
+}
+
+impl Model for Gathered {
+    ghost use Rattle.holddata.specs.HoldBook.{IsInKeyOrder};
+    ghost use Rattle.catalogue.specs.Content.{Content, ids_in};
+    ghost use Rattle.catalogue.specs.Ids.{Ascend};
+
+    ghost Value = { Content };
+
+    ghost view = { λ gathered. record { sysmods = gathered.records; holds = gathered.book } };
+
+    ghost invariant = { λ gathered. record {
+      ascend : Ascend (ids_in gathered.records);
+      in_key_order : IsInKeyOrder gathered.book;
+    } };
+}
+
+impl Gathered {
+    /// Nothing is published. It takes no memory.
+    pub fn new(alloc: Global) -> Self
+        ensures { result ≡ content_of [] }
+    {
+        Gathered {
+            records: Records::new(alloc),
+            book: HoldBook::new(alloc),
+        }
+    }
+
+    /// The same with more changes, in their order: a record in place of one with the same id, or a change to the holds.
+    /// They are taken over, not copied.
+    ///
+    /// # Errors
+    ///
+    /// `NoMemory` where memory ran out, or all lists of the records would have over 4,294,967,295 ids.
+    pub fn with(self, changes: Vec<Change>) -> Result<Self, NoMemory>
+        ensures { IfOk result (λ now. (earlier : List Change) →
+            self ≡ content_of earlier → now ≡ content_of (earlier ++ changes.items)) }
+    {
+        let mut gathered = self;
+        for change in changes {
+            gathered = gathered.with_one(change)?;
+        }
+        Ok(gathered)
+    }
+
+    // The same with one more change.
+    fn with_one(self, change: Change) -> Result<Self, NoMemory>
+        ensures { IfOk result (λ now. (earlier : List Change) →
+            self ≡ content_of earlier → now ≡ content_of (earlier ++ change ∷ [])) }
+    {
+        let Gathered { records, mut book } = self;
+        match change {
+            Change::Whole(sysmod) => Ok(Gathered {
+                records: records.with(sysmod)?,
+                book,
+            }),
+            Change::OfHold(change) => {
+                book.apply(change)?;
+                Ok(Gathered { records, book })
+            }
+        }
+    }
+
+    /// The content that was gathered.
+    ///
+    /// # Errors
+    ///
+    /// `NoMemory` where memory ran out.
+    pub fn content(self) -> Result<FlatContent, NoMemory>
+        ensures value { IfOk result (λ content. content ≡ self) }
+        ensures in_order { IfOk result IsInOrder }
+    {
+        let Gathered { records, book } = self;
+        let links = links_of(&records)?;
+        Ok(FlatContent {
+            alloc: records.alloc,
+            records,
+            links,
+            book,
+        })
+    }
+}

@@ -1,0 +1,60 @@
+//! Lists of ids, one after the other in one list.
+ghost use Rattle.std.specs.Prelude.{◌≡◌, IfOk, OnOk};
+ghost use Rattle.flat_content.specs.Spans.{IsIds, IsWithin, Keeps, ids_at};
+
+use catalogue::{Ids, NoMemory};
+use mcs_reader::Id;
+use std::alloc::Global;
+
+/// Where a list stands among all ids.
+#[derive(Clone, Copy, Debug)]
+pub(crate) struct Span {
+    start: u32,
+    end: u32,
+}
+
+/// Puts a list after all others.
+///
+/// # Errors
+///
+/// `NoMemory` where memory ran out, or there would be over 4,294,967,295 ids.
+pub(crate) fn put(names: &mut Vec<Id>, ids: &Ids) -> Result<Span, NoMemory>
+    ensures keeps { OnOk result (Keeps names.old.items names.new.items) }
+    ensures ids { IfOk result (λ span. ids_at names.new.items span ≡ ids.now) }
+    ensures is_ids { IfOk result (IsIds names.new.items) }
+{
+    let start = place(names.len())?;
+    names.extend_from_slice(ids.as_slice())?;
+    let end = place(names.len())?;
+    Ok(Span { start, end })
+}
+
+/// The ids that stand at a span.
+pub(crate) fn ids_in(names: &[Id], span: Span) -> &[Id]
+    requires { IsWithin names.now span }
+    ensures { result.now ≡ ids_at names.now span }
+{
+    &names[span.start as usize..span.end as usize]
+}
+
+/// The list that stands at a span.
+pub(crate) fn copied(alloc: Global, names: &[Id], span: Span) -> Result<Ids, NoMemory>
+    requires { IsIds names.now span }
+    ensures { IfOk result (λ ids. ids ≡ ids_at names.now span) }
+{
+    let list = Vec::from_slice(alloc, ids_in(names, span))?;
+    match Ids::from_ascending(list) {
+        Some(ids) => Ok(ids),
+        None => unreachable!(),
+    }
+}
+
+// A place among all ids.
+fn place(at: usize) -> Result<u32, NoMemory>
+    ensures { IfOk result (λ place. place ≡ at) }
+{
+    match u32::try_from(at) {
+        Ok(place) => Ok(place),
+        Err(_) => Err(NoMemory),
+    }
+}
